@@ -1,0 +1,74 @@
+-- Laws of runs and of their events, in the forms that loops and callers need.
+use Rattle.std.proofs.Common.{◌≡◌, ◌≢◌, ℕ, zero, suc, ◌+◌, ◌-◌, ◌<◌, ◌≤◌, List, [], ◌∷◌, ◌++◌, refl, ap, sym, ◌∙◌, zero-add, append_assoc, arith}
+use Rattle.machine_defs.specs.declared.guests.Status.{Status}
+use Rattle.machine_defs.specs.declared.guests.Status.TheVariants.{Running, Waiting, Stopped, Outside}
+use Rattle.machine_defs.specs.Machine.{Machine, Tried, Ended, Leaves, try}
+use Rattle.machine_defs.specs.Runs.{left_by, stepped, step, run, event_in, events_by, events}
+
+-- a run of no steps, and of more
+pub run_none : (m : Machine) (k : ℕ) → k ≤ 0 → run m k ≡ m
+unfolding run
+run_none m zero h = refl
+run_none m (suc k) h = absurd (omega arith)
+
+pub run_more : (m : Machine) (k : ℕ) → 0 < k → run m k ≡ run (step m) (k - 1)
+unfolding run
+run_more m zero h = absurd (omega arith)
+run_more m (suc k) h = let e : suc k - 1 ≡ k = omega arith in rw e refl
+
+pub events_none : (m : Machine) (k : ℕ) → k ≤ 0 → events m k ≡ []
+unfolding events
+events_none m zero h = refl
+events_none m (suc k) h = absurd (omega arith)
+
+pub events_more : (m : Machine) (k : ℕ) → 0 < k → events m k ≡ events_by m m.status ++ events (step m) (k - 1)
+unfolding events
+events_more m zero h = absurd (omega arith)
+events_more m (suc k) h = let e : suc k - 1 ≡ k = omega arith in rw e refl
+
+-- runs compose, and so do their events
+pub runs_compose : (m : Machine) (a b : ℕ) → run (run m a) b ≡ run m (a + b)
+unfolding run
+runs_compose m zero b = ap (run m) (sym (zero-add b))
+runs_compose m (suc a) b = let e : suc a + b ≡ suc (a + b) = omega arith in rw e (runs_compose (step m) a b)
+
+pub events_compose : (m : Machine) (a b : ℕ) → events m a ++ events (run m a) b ≡ events m (a + b)
+unfolding run events
+events_compose m zero b = ap (events m) (sym (zero-add b))
+events_compose m (suc a) b = let e : suc a + b ≡ suc (a + b) = omega arith in
+    rw (e, append_assoc) (ap (λ rest. events_by m m.status ++ rest) (events_compose (step m) a b))
+
+-- a step of a running machine is its try
+pub step_running : (m : Machine) → m.status ≡ Running → step m ≡ left_by m (try m)
+unfolding step
+step_running m h = rw h refl
+
+pub events_running : (m : Machine) → m.status ≡ Running → events_by m m.status ≡ event_in (try m)
+events_running m h = rw h refl
+
+-- a machine that does not go on stays as it is
+stays : (m : Machine) (s : Status) → s ≢ Running → stepped m s ≡ m
+stays m Running h = absurd (h refl)
+stays m Waiting h = refl
+stays m Stopped h = refl
+stays m Outside h = refl
+
+quiet : (m : Machine) (s : Status) → s ≢ Running → events_by m s ≡ []
+quiet m Running h = absurd (h refl)
+quiet m Waiting h = refl
+quiet m Stopped h = refl
+quiet m Outside h = refl
+
+pub step_idle : (m : Machine) → m.status ≢ Running → step m ≡ m
+unfolding step
+step_idle m h = stays m m.status h
+
+pub run_idle : (m : Machine) (k : ℕ) → m.status ≢ Running → run m k ≡ m
+unfolding run
+run_idle m zero h = refl
+run_idle m (suc k) h = rw (step_idle m h) (run_idle m k h)
+
+pub events_idle : (m : Machine) (k : ℕ) → m.status ≢ Running → events m k ≡ []
+unfolding events
+events_idle m zero h = refl
+events_idle m (suc k) h = rw (quiet m m.status h, step_idle m h) (events_idle m k h)

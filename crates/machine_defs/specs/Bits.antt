@@ -1,0 +1,14 @@
+-- Fields of words, sign extension, and arithmetic on 64 bits.
+use Rattle.std.specs.Prelude.{ℕ, ◌+◌, ◌-◌, ◌/◌, ◌%◌, ◌^◌, nat_lt, if◌then◌else◌}
+
+-- the n bits of a word from bit `low` on
+abbrev pub field : ℕ → ℕ → ℕ → ℕ
+field low n word = word / 2 ^ low % 2 ^ n
+
+-- a number of n bits, its sign bit repeated up to bit 63
+abbrev pub sign_extend : ℕ → ℕ → ℕ
+sign_extend n x = if nat_lt x (2 ^ (n - 1)) then x else x + (2 ^ 64 - 2 ^ n)
+
+-- the sum that 64 bits hold
+abbrev pub add64 : ℕ → ℕ → ℕ
+add64 x y = (x + y) % 2 ^ 64

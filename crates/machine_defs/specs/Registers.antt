@@ -1,0 +1,62 @@
+-- x registers and pc, and the state in which all registers are zero.
+use Rattle.std.specs.Prelude.{ℕ, List, Option, None, Bool, true, false, ◌==◌, replicate, slice_index, slice_set, if◌then◌else◌}
+use Rattle.machine_defs.specs.declared.modes.Mode.{Mode}
+use Rattle.machine_defs.specs.declared.registers.Regs.{Regs}
+use Rattle.machine_defs.specs.declared.registers.Bank.{Bank}
+use Rattle.machine_defs.specs.declared.registers.Csrs.{Csrs}
+use Rattle.machine_defs.specs.declared.registers.Interrupts.{Interrupts}
+use Rattle.machine_defs.specs.declared.registers.SupervisorStatus.{SupervisorStatus}
+use Rattle.machine_defs.specs.declared.registers.HypervisorStatus.{HypervisorStatus}
+use Rattle.machine_defs.specs.declared.registers.SupervisorRoot.TheVariants as supervisor_root
+use Rattle.machine_defs.specs.declared.registers.GuestRoot.TheVariants as guest_root
+use Rattle.machine_defs.specs.declared.registers.Virtual.{Virtual}
+
+-- the value of register n; x0 is 0 from the start, and never written
+abbrev pub read : Regs → ℕ → ℕ
+read regs n = slice_index regs.x n
+
+-- register rd becomes a value, if it is not x0, and pc the next address (Unprivileged ISA 20191213, 2.1)
+abbrev pub advanced : Regs → ℕ → ℕ → ℕ → Regs
+advanced regs rd value next = if rd == 0 then record regs { pc = next } else record { x = slice_set regs.x rd value; pc = next }
+
+-- all x registers zero, and pc
+abbrev pub regs_at : ℕ → Regs
+regs_at pc = record { x = replicate 32 0; pc = pc }
+
+abbrev pub clear_interrupts : Interrupts
+clear_interrupts = record { software = false; timer = false; external = false }
+
+abbrev pub clear_supervisor_status : SupervisorStatus
+clear_supervisor_status = record { sie = false; spie = false; spp = false; sum = false; mxr = false }
+
+abbrev pub clear_hypervisor_status : HypervisorStatus
+clear_hypervisor_status = record { gva = false; spv = false; spvp = false; hu = false; vtvm = false; vtw = false; vtsr = false }
+
+abbrev pub bank_at_reset : Bank
+bank_at_reset = record { status = clear_supervisor_status; tvec = 0; scratch = 0; epc = 0; cause = 0; tval = 0; atp = supervisor_root.Bare }
+
+unfoldable pub csrs_at_reset : Csrs
+csrs_at_reset = record {
+  hs = bank_at_reset;
+  vs = bank_at_reset;
+  sie = clear_interrupts;
+  sip = clear_interrupts;
+  scounteren_tm = false;
+  senvcfg_fiom = false;
+  hstatus = clear_hypervisor_status;
+  hedeleg = 0;
+  hideleg = clear_interrupts;
+  hie = clear_interrupts;
+  hvip = clear_interrupts;
+  hcounteren_tm = false;
+  henvcfg_fiom = false;
+  htimedelta = 0;
+  htval = 0;
+  htinst = 0;
+  hgatp = guest_root.Bare;
+  time = 0;
+}
+
+-- all registers zero but for pc, and no reservation
+abbrev pub virtual_at : Mode → ℕ → Virtual
+virtual_at mode pc = record { regs = regs_at pc; csrs = csrs_at_reset; mode = mode; reservation = None }

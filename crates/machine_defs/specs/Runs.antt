@@ -1,0 +1,62 @@
+-- Steps and runs of the lone machine, and the events of a run.
+use Rattle.std.specs.Prelude.{ℕ, zero, suc, ◌+◌, List, [], ◌∷◌, ◌++◌, Bool, true, false, count_by, sum_by}
+use Rattle.machine_defs.specs.declared.instructions.Event.{Event}
+use Rattle.machine_defs.specs.declared.instructions.Event.TheVariants.{Plain, EntersVs, Other}
+use Rattle.machine_defs.specs.declared.guests.Status.{Status}
+use Rattle.machine_defs.specs.declared.guests.Status.TheVariants.{Running, Waiting, Stopped, Outside}
+use Rattle.machine_defs.specs.Machine.{Machine, Tried, Ended, Leaves, try}
+
+-- what a try leaves
+abbrev pub left_by : Machine → Tried → Machine
+left_by m (Ended after event) = after
+left_by m Leaves = record m { status = Outside }
+
+-- one step, which a machine that does not go on does not make
+abbrev pub stepped : Machine → Status → Machine
+stepped m Running = left_by m (try m)
+stepped m Waiting = m
+stepped m Stopped = m
+stepped m Outside = m
+
+unfoldable pub step : Machine → Machine
+step m = stepped m m.status
+
+-- at most k steps
+unfoldable pub run : Machine → ℕ → Machine
+run m zero = m
+run m (suc k) = run (step m) k
+
+-- the event of the step that a try makes, if it makes one
+abbrev pub event_in : Tried → List Event
+event_in (Ended after event) = event ∷ []
+event_in Leaves = []
+
+abbrev pub events_by : Machine → Status → List Event
+events_by m Running = event_in (try m)
+events_by m Waiting = []
+events_by m Stopped = []
+events_by m Outside = []
+
+-- the events of the steps that a run of at most k makes, in order
+unfoldable pub events : Machine → ℕ → List Event
+events m zero = []
+events m (suc k) = events_by m m.status ++ events (step m) k
+
+-- whether a step was plain, and its pc and word where it was
+abbrev pub is_plain : Event → Bool
+is_plain (Plain pc word) = true
+is_plain EntersVs = false
+is_plain Other = false
+
+abbrev pub pc_and_word : Event → ℕ
+pc_and_word (Plain pc word) = pc + word
+pc_and_word EntersVs = 0
+pc_and_word Other = 0
+
+-- how many steps were plain
+abbrev pub plain_count : List Event → ℕ
+plain_count events = count_by is_plain events
+
+-- the sum of pc and word of the plain steps
+abbrev pub trace_of : List Event → ℕ
+trace_of events = sum_by pc_and_word events

@@ -1,0 +1,261 @@
+// The registers of a hart: x registers, pc, and the control and status registers with named bits.
+
+ghost use Rattle.std.specs.Prelude.{◌≡◌, ◌<◌};
+ghost use Rattle.machine_defs.specs.Bits.{field};
+ghost use Rattle.machine_defs.specs.Registers.{clear_interrupts, csrs_at_reset, bank_at_reset, clear_supervisor_status, clear_hypervisor_status, regs_at, virtual_at};
+
+use crate::modes::Mode;
+use std::marker::Model;
+
+/// The number of an x register, 0 to 31.
+#[derive(Clone, Copy, Debug, PartialEq, Eq)]
+pub struct Reg {
+    number: u8,
+}
+
+impl Model for Reg {
+    ghost use Rattle.std.specs.Prelude.{ℕ, ◌<◌};
+
+    ghost Value = { ℕ };
+
+    ghost view = { λ r. r.number };
+
+    ghost invariant = { λ r. r.number < 32 };
+
+    ghost inverse = { λ n. record { number = n } };
+}
+
+impl Reg {
+    /// The register that the five bits of `word` from bit `low` on name.
+    pub fn at(word: u32, low: u32) -> Reg
+        requires { low < 32 }
+        ensures { result ≡ field low 5 word }
+    {
+        Reg {
+            number: ((word >> low) & 31) as u8,
+        }
+    }
+
+    /// The register's number, as an index.
+    pub fn number(self) -> usize
+        ensures value { result ≡ self }
+        ensures small { result < 32 }
+    {
+        self.number as usize
+    }
+}
+
+/// x0 to x31 and pc. x0 is 0 and never written.
+#[derive(Clone, Copy, Debug, PartialEq, Eq)]
+pub struct Regs {
+    pub x: [u64; 32],
+    pub pc: u64,
+}
+
+impl Regs {
+    /// All x registers zero, and pc.
+    pub fn starting_at(pc: u64) -> Regs
+        ensures { result ≡ regs_at pc }
+    {
+        Regs { x: [0; 32], pc }
+    }
+}
+
+/// The writable bits of sstatus and vsstatus (Privileged Architecture 20211203, 4.1.1 and 8.2.10).
+#[derive(Clone, Copy, Debug, PartialEq, Eq)]
+pub struct SupervisorStatus {
+    pub sie: bool,
+    pub spie: bool,
+    pub spp: bool,
+    pub sum: bool,
+    pub mxr: bool,
+}
+
+impl SupervisorStatus {
+    /// All bits clear.
+    pub fn clear() -> SupervisorStatus
+        ensures { result ≡ clear_supervisor_status }
+    {
+        SupervisorStatus {
+            sie: false,
+            spie: false,
+            spp: false,
+            sum: false,
+            mxr: false,
+        }
+    }
+}
+
+/// The writable bits of hstatus (Privileged Architecture 20211203, 8.2.1).
+#[derive(Clone, Copy, Debug, PartialEq, Eq)]
+pub struct HypervisorStatus {
+    pub gva: bool,
+    pub spv: bool,
+    pub spvp: bool,
+    pub hu: bool,
+    pub vtvm: bool,
+    pub vtw: bool,
+    pub vtsr: bool,
+}
+
+impl HypervisorStatus {
+    /// All bits clear.
+    pub fn clear() -> HypervisorStatus
+        ensures { result ≡ clear_hypervisor_status }
+    {
+        HypervisorStatus {
+            gva: false,
+            spv: false,
+            spvp: false,
+            hu: false,
+            vtvm: false,
+            vtw: false,
+            vtsr: false,
+        }
+    }
+}
+
+/// A bit for each of the three interrupts of a level (Privileged Architecture 20211203, 4.1.3 and 8.2.3).
+#[derive(Clone, Copy, Debug, PartialEq, Eq)]
+pub struct Interrupts {
+    pub software: bool,
+    pub timer: bool,
+    pub external: bool,
+}
+
+impl Interrupts {
+    /// All bits clear.
+    pub fn clear() -> Interrupts
+        ensures { result ≡ clear_interrupts }
+    {
+        Interrupts {
+            software: false,
+            timer: false,
+            external: false,
+        }
+    }
+}
+
+/// satp or vsatp: the first-stage table, if any (Privileged Architecture 20211203, 4.1.11).
+#[derive(Clone, Copy, Debug, PartialEq, Eq)]
+pub enum SupervisorRoot {
+    Bare,
+    Sv39 { asid: u64, page: u64 },
+}
+
+/// hgatp: the second-stage table, if any (Privileged Architecture 20211203, 8.2.10).
+#[derive(Clone, Copy, Debug, PartialEq, Eq)]
+pub enum GuestRoot {
+    Bare,
+    Sv39x4 { vmid: u64, page: u64 },
+}
+
+/// The registers that HS and VS each have: those of the 1xx rows, and those of the 2xx rows that match.
+#[derive(Clone, Copy, Debug, PartialEq, Eq)]
+pub struct Bank {
+    pub status: SupervisorStatus,
+    pub tvec: u64,
+    pub scratch: u64,
+    pub epc: u64,
+    pub cause: u64,
+    pub tval: u64,
+    pub atp: SupervisorRoot,
+}
+
+impl Bank {
+    /// All registers zero.
+    pub fn at_reset() -> Bank
+        ensures { result ≡ bank_at_reset }
+    {
+        Bank {
+            status: SupervisorStatus::clear(),
+            tvec: 0,
+            scratch: 0,
+            epc: 0,
+            cause: 0,
+            tval: 0,
+            atp: SupervisorRoot::Bare,
+        }
+    }
+}
+
+/// The control and status registers of HS and VS (Privileged Architecture 20211203, 4.1 and 8.2).
+/// The owner sets `sip`'s timer and external bits and `time` before a step.
+#[derive(Clone, Copy, Debug, PartialEq, Eq)]
+pub struct Csrs {
+    /// sstatus to satp.
+    pub hs: Bank,
+    /// vsstatus to vsatp.
+    pub vs: Bank,
+    pub sie: Interrupts,
+    pub sip: Interrupts,
+    pub scounteren_tm: bool,
+    pub senvcfg_fiom: bool,
+    pub hstatus: HypervisorStatus,
+    /// Bit i is set where exception i of V = 1 goes to VS.
+    pub hedeleg: u64,
+    pub hideleg: Interrupts,
+    pub hie: Interrupts,
+    pub hvip: Interrupts,
+    pub hcounteren_tm: bool,
+    pub henvcfg_fiom: bool,
+    pub htimedelta: u64,
+    pub htval: u64,
+    pub htinst: u64,
+    pub hgatp: GuestRoot,
+    /// What a read of time shows with V = 0.
+    pub time: u64,
+}
+
+impl Csrs {
+    /// All registers zero.
+    #[tactic(auto, unfolding(crate::specs::Registers::csrs_at_reset))]
+    pub fn at_reset() -> Csrs
+        ensures { result ≡ csrs_at_reset }
+    {
+        Csrs {
+            hs: Bank::at_reset(),
+            vs: Bank::at_reset(),
+            sie: Interrupts::clear(),
+            sip: Interrupts::clear(),
+            scounteren_tm: false,
+            senvcfg_fiom: false,
+            hstatus: HypervisorStatus::clear(),
+            hedeleg: 0,
+            hideleg: Interrupts::clear(),
+            hie: Interrupts::clear(),
+            hvip: Interrupts::clear(),
+            hcounteren_tm: false,
+            henvcfg_fiom: false,
+            htimedelta: 0,
+            htval: 0,
+            htinst: 0,
+            hgatp: GuestRoot::Bare,
+            time: 0,
+        }
+    }
+}
+
+/// All of a machine that its instructions see beside memory: registers, mode, and the reservation of LR,
+/// a physical address and a width in bytes.
+#[derive(Clone, Copy, Debug, PartialEq, Eq)]
+pub struct Virtual {
+    pub regs: Regs,
+    pub csrs: Csrs,
+    pub mode: Mode,
+    pub reservation: Option<(u64, u8)>,
+}
+
+impl Virtual {
+    /// All registers zero, but for pc; no reservation.
+    pub fn starting_at(mode: Mode, pc: u64) -> Virtual
+        ensures { result ≡ virtual_at mode pc }
+    {
+        Virtual {
+            regs: Regs::starting_at(pc),
+            csrs: Csrs::at_reset(),
+            mode,
+            reservation: None,
+        }
+    }
+}

@@ -1,0 +1,8 @@
+-- What a tally tells.
+use Rattle.std.specs.Prelude.{ℕ}
+
+-- how often the hart was entered, how many steps it made, and the sum of pc and word of the plain ones
+pub record Counts : Type 0 where
+  pub entries : ℕ
+  pub taken : ℕ
+  pub trace : ℕ

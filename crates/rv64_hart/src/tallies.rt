@@ -1,0 +1,78 @@
+// The account of what the hart did.
+
+ghost use Rattle.std.specs.Prelude.{◌≡◌, ◌+◌, ◌%◌, ◌^◌, ◌<◌};
+ghost use Rattle.machine_defs.specs.Runs.{pc_and_word};
+
+use machine_defs::Event;
+use std::marker::Model;
+
+/// How often the hart was entered, how many steps it made, and the sum of pc and word of the plain ones,
+/// modulo 2^64. Only the hart raises them, and there is no way to copy or to set them back.
+#[derive(Debug, Drop)]
+pub struct Tally {
+    entries: u64,
+    taken: u64,
+    trace: u64,
+}
+
+impl Model for Tally {
+    ghost use Rattle.std.specs.Prelude.{◌^◌, ◌<◌};
+    ghost use Rattle.rv64_hart.specs.Counts.{Counts};
+
+    ghost Value = { Counts };
+
+    ghost view = { λ t. record { entries = t.entries; taken = t.taken; trace = t.trace } };
+
+    ghost invariant = { λ t. t.trace < 2 ^ 64 };
+}
+
+impl Tally {
+    /// All zeros.
+    pub fn new() -> Tally
+        ensures { result ≡ record { entries = 0; taken = 0; trace = 0 } }
+    {
+        Tally {
+            entries: 0,
+            taken: 0,
+            trace: 0,
+        }
+    }
+
+    pub fn entries(&self) -> u64
+        ensures { result ≡ self.now.entries }
+    {
+        self.entries
+    }
+
+    pub fn taken(&self) -> u64
+        ensures { result ≡ self.now.taken }
+    {
+        self.taken
+    }
+
+    pub fn trace(&self) -> u64
+        ensures trace { result ≡ self.now.trace }
+        ensures small { result < 2 ^ 64 }
+    {
+        self.trace
+    }
+
+    // The hart is entered.
+    pub(crate) fn enter(&mut self)
+        requires { self.old.entries < 2 ^ 62 }
+        ensures { self.new ≡ record self.old { entries = self.old.entries + 1 } }
+    {
+        self.entries += 1;
+    }
+
+    // The hart has made a step.
+    pub(crate) fn count(&mut self, event: &Event)
+        requires { self.old.taken < 2 ^ 62 }
+        ensures { self.new ≡ record self.old { taken = self.old.taken + 1; trace = (self.old.trace + pc_and_word event.now) % 2 ^ 64 } }
+    {
+        self.taken += 1;
+        if let Event::Plain { pc, word } = event {
+            self.trace = self.trace.wrapping_add(pc.wrapping_add(*word as u64));
+        }
+    }
+}
