@@ -1,8 +1,8 @@
 -- Laws of runs and of their events, in the forms that loops and callers need.
-use Rattle.std.proofs.Common.{◌≡◌, ◌≢◌, ℕ, zero, suc, ◌+◌, ◌-◌, ◌<◌, ◌≤◌, List, [], ◌∷◌, ◌++◌, refl, ap, sym, ◌∙◌, zero-add, append_assoc, arith}
+use Rattle.std.proofs.Common.{◌≡◌, ◌≢◌, ℕ, zero, suc, ◌+◌, ◌-◌, ◌<◌, ◌≤◌, [], ◌++◌, refl, ap, sym, zero-add, append_assoc, arith}
 use Rattle.machine_defs.specs.declared.guests.Status.{Status}
 use Rattle.machine_defs.specs.declared.guests.Status.TheVariants.{Running, Waiting, Stopped, Outside}
-use Rattle.machine_defs.specs.Machine.{Machine, Tried, Ended, Leaves, try}
+use Rattle.machine_defs.specs.Machine.{Machine, try}
 use Rattle.machine_defs.specs.Runs.{left_by, stepped, step, run, event_in, events_by, events}
 
 -- a run of no steps, and of more
@@ -72,3 +72,10 @@ pub events_idle : (m : Machine) (k : ℕ) → m.status ≢ Running → events m 
 unfolding events
 events_idle m zero h = refl
 events_idle m (suc k) h = rw (quiet m m.status h, step_idle m h) (events_idle m k h)
+
+-- the rest of a run of k after i tries
+pub run_next : (m : Machine) (k i : ℕ) → i < k → run m (k - i) ≡ run (step m) (k - (i + 1))
+run_next m k i h = let e : k - i - 1 ≡ k - (i + 1) = omega arith in let some : 0 < k - i = omega arith in rw (run_more m (k - i) some, e) refl
+
+pub events_next : (m : Machine) (k i : ℕ) → i < k → events m (k - i) ≡ events_by m m.status ++ events (step m) (k - (i + 1))
+events_next m k i h = let e : k - i - 1 ≡ k - (i + 1) = omega arith in let some : 0 < k - i = omega arith in rw (events_more m (k - i) some, e) refl

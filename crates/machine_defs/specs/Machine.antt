@@ -1,17 +1,17 @@
 -- The lone machine of a guest, its start, and one step of it.
-use Rattle.std.specs.Prelude.{ℕ, ◌+◌, ◌-◌, ◌*◌, ◌%◌, ◌^◌, List, [], ◌∷◌, ◌++◌, Option, Some, None, ◌==◌, length, nat_lt, if◌then◌else◌}
+use Rattle.std.specs.Prelude.{ℕ, ◌+◌, ◌-◌, ◌*◌, ◌%◌, ◌^◌, List, [], ◌∷◌, ◌++◌, ◌==◌, length, nat_lt, if◌then◌else◌}
 use Rattle.machine_defs.specs.declared.instructions.Event.{Event}
 use Rattle.machine_defs.specs.declared.instructions.Event.TheVariants.{Other}
 use Rattle.machine_defs.specs.declared.guests.Entry.{Entry}
 use Rattle.machine_defs.specs.declared.guests.GuestSpec.{GuestSpec}
 use Rattle.machine_defs.specs.declared.guests.Status.{Status}
-use Rattle.machine_defs.specs.declared.guests.Status.TheVariants.{Running, Waiting, Stopped, Outside}
+use Rattle.machine_defs.specs.declared.guests.Status.TheVariants.{Running, Stopped}
 use Rattle.machine_defs.specs.declared.modes.Mode.TheVariants.{HS}
 use Rattle.machine_defs.specs.declared.registers.Virtual.{Virtual}
 use Rattle.machine_defs.specs.Bits.{add64}
 use Rattle.machine_defs.specs.Core.{Outcome, Done, Trapped, Stuck, Called, core}
 use Rattle.machine_defs.specs.Memory.{ram_base, block_size, loaded, bare, reading_of, written}
-use Rattle.machine_defs.specs.Registers.{read, advanced, virtual_at}
+use Rattle.machine_defs.specs.Registers.{read, advanced, a0, a7, virtual_at}
 
 -- a list of cached second-stage translations, oldest first, for one value of hgatp
 pub record Space : Type 0 where
@@ -57,12 +57,12 @@ ticked m = record m { clock = m.clock + 1; steps = m.steps + 1 }
 
 -- a0 gets an answer, and pc goes on
 abbrev pub answered : Machine → ℕ → Machine
-answered m value = record m { virt = record m.virt { regs = advanced m.virt.regs 10 value (add64 m.virt.regs.pc 4) } }
+answered m value = record m { virt = record m.virt { regs = advanced m.virt.regs a0 value (add64 m.virt.regs.pc 4) } }
 
 -- call 1: the low byte of a0 goes to the console, if it has room
 abbrev pub put : Machine → Machine
 put m = if nat_lt (length m.console) m.console_room
-    then answered (record m { console = m.console ++ (read m.virt.regs 10 % 256) ∷ [] }) 0
+    then answered (record m { console = m.console ++ (read m.virt.regs a0 % 256) ∷ [] }) 0
     else answered m (2 ^ 64 - 1)
 
 -- call 8: the machine stops
@@ -88,7 +88,7 @@ abbrev pub concluded : Machine → Outcome → Tried
 concluded m (Done virt write event) = Ended (ticked (record m { virt = virt; ram = written ram_base write m.ram })) event
 concluded m (Trapped cause tval) = Leaves
 concluded m (Stuck address kind access va) = Leaves
-concluded m Called = environment m (read m.virt.regs 17)
+concluded m Called = environment m (read m.virt.regs a7)
 
 -- one try: one instruction on the machine's own RAM
 unfoldable pub try : Machine → Tried

@@ -1,5 +1,5 @@
 -- Memory: a base address and a list of bytes, read and written little endian.
-use Rattle.std.specs.Prelude.{ℕ, ◌+◌, ◌-◌, ◌*◌, ◌&&◌, List, ◌++◌, Option, Some, None, length, take, drop, replicate, nat_lt, nat_le, if◌then◌else◌}
+use Rattle.std.specs.Prelude.{ℕ, ◌+◌, ◌-◌, ◌&&◌, List, ◌++◌, Option, Some, None, length, take, drop, replicate, nat_lt, nat_le, if◌then◌else◌}
 use Rattle.byteorder.specs.Endian.{little_number, little_bytes}
 use Rattle.machine_defs.specs.declared.modes.Access.{Access}
 

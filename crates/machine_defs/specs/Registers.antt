@@ -1,5 +1,5 @@
 -- x registers and pc, and the state in which all registers are zero.
-use Rattle.std.specs.Prelude.{ℕ, List, Option, None, Bool, true, false, ◌==◌, replicate, slice_index, slice_set, if◌then◌else◌}
+use Rattle.std.specs.Prelude.{ℕ, None, false, ◌==◌, replicate, slice_index, slice_set, if◌then◌else◌}
 use Rattle.machine_defs.specs.declared.modes.Mode.{Mode}
 use Rattle.machine_defs.specs.declared.registers.Regs.{Regs}
 use Rattle.machine_defs.specs.declared.registers.Bank.{Bank}
@@ -18,6 +18,13 @@ read regs n = slice_index regs.x n
 -- register rd becomes a value, if it is not x0, and pc the next address (Unprivileged ISA 20191213, 2.1)
 abbrev pub advanced : Regs → ℕ → ℕ → ℕ → Regs
 advanced regs rd value next = if rd == 0 then record regs { pc = next } else record { x = slice_set regs.x rd value; pc = next }
+
+-- the registers with an argument and the answer of a call of the environment, a0, and with its number, a7
+abbrev pub a0 : ℕ
+a0 = 10
+
+abbrev pub a7 : ℕ
+a7 = 17
 
 -- all x registers zero, and pc
 abbrev pub regs_at : ℕ → Regs

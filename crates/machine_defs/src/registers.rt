@@ -2,7 +2,7 @@
 
 ghost use Rattle.std.specs.Prelude.{◌≡◌, ◌<◌};
 ghost use Rattle.machine_defs.specs.Bits.{field};
-ghost use Rattle.machine_defs.specs.Registers.{clear_interrupts, csrs_at_reset, bank_at_reset, clear_supervisor_status, clear_hypervisor_status, regs_at, virtual_at};
+ghost use Rattle.machine_defs.specs.Registers.{read, advanced, clear_interrupts, csrs_at_reset, bank_at_reset, clear_supervisor_status, clear_hypervisor_status, regs_at, virtual_at};
 
 use crate::modes::Mode;
 use std::marker::Model;
@@ -36,6 +36,14 @@ impl Reg {
         }
     }
 
+    /// The register of this number.
+    pub fn new(number: u8) -> Reg
+        requires { number < 32 }
+        ensures { result ≡ number }
+    {
+        Reg { number }
+    }
+
     /// The register's number, as an index.
     pub fn number(self) -> usize
         ensures value { result ≡ self }
@@ -58,6 +66,23 @@ impl Regs {
         ensures { result ≡ regs_at pc }
     {
         Regs { x: [0; 32], pc }
+    }
+
+    /// The value of a register.
+    pub fn read(&self, register: Reg) -> u64
+        ensures { result ≡ read self.now register }
+    {
+        self.x[register.number()]
+    }
+
+    /// Sets register `rd` to `value`, unless it is x0, and pc to `next`.
+    pub fn advance(&mut self, rd: Reg, value: u64, next: u64)
+        ensures { self.new ≡ advanced self.old rd value next }
+    {
+        if rd.number() != 0 {
+            self.x[rd.number()] = value;
+        }
+        self.pc = next;
     }
 }
 

@@ -1,6 +1,5 @@
 -- Runs of the hart, a step at a time.
 use Rattle.std.proofs.Common.{◌≡◌, ℕ, zero, suc, ◌+◌, ◌≤◌, Option, Some, Bool, refl, arith}
-use Rattle.std.specs.Prelude.{option_and_then}
 use Rattle.rv64_hart.specs.Steps.{Progress, one_more, hart_steps}
 
 -- no steps

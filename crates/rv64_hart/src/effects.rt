@@ -1,9 +1,8 @@
-// What an instruction asks for, and what it does to the registers.
+// What an instruction asks for, and what it is to the account.
 
 ghost use Rattle.std.specs.Prelude.{◌≡◌};
 ghost use Rattle.machine_defs.specs.Instructions.{is_system, jump, meaning};
 ghost use Rattle.machine_defs.specs.Core.{event_of};
-ghost use Rattle.machine_defs.specs.Registers.{advanced, read};
 
 use machine_defs::{Effect, Event, INSTRUCTION_MISALIGNED, Op, Reg, Regs};
 
@@ -16,7 +15,7 @@ pub fn effect_of(op: &Op, regs: &Regs) -> Effect
     match *op {
         Op::Addi { rd, rs1, immediate } => Effect::Sets {
             rd,
-            value: read(regs, rs1).wrapping_add(immediate),
+            value: regs.read(rs1).wrapping_add(immediate),
             next,
         },
         Op::Lui { rd, immediate } => Effect::Sets {
@@ -44,22 +43,6 @@ fn jump(rd: Reg, next: u64, target: u64) -> Effect
             tval: target,
         }
     }
-}
-
-fn read(regs: &Regs, register: Reg) -> u64
-    ensures { result ≡ read regs.now register }
-{
-    regs.x[register.number()]
-}
-
-/// Sets register `rd` to `value`, unless it is x0, and pc to `next`.
-pub fn advance(regs: &mut Regs, rd: Reg, value: u64, next: u64)
-    ensures { regs.new ≡ advanced regs.old rd value next }
-{
-    if rd.number() != 0 {
-        regs.x[rd.number()] = value;
-    }
-    regs.pc = next;
 }
 
 /// What a step that made the instruction of this word at this pc was.

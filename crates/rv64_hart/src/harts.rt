@@ -12,7 +12,7 @@ ghost use Rattle.rv64_hart.specs.Loans.{LendsState};
 ghost use Rattle.rv64_hart.specs.Steps.{Exits, hart_end, hart_step, hart_steps, one_more, progress, trap_of, is_vs_trap, IsWhy};
 
 use crate::decoding::decode;
-use crate::effects::{advance, effect_of, event_of};
+use crate::effects::{effect_of, event_of};
 use crate::memory::PhysMem;
 use crate::tallies::Tally;
 use machine_defs::{
@@ -206,7 +206,7 @@ fn apply(state: &mut HartState, word: u32, effect: Effect) -> Ending
     match effect {
         Effect::Sets { rd, value, next } => {
             let event = event_of(state.regs.pc, word);
-            advance(&mut state.regs, rd, value, next);
+            state.regs.advance(rd, value, next);
             Ending::Made(event)
         }
         Effect::Raises { cause, tval } => Ending::NotMade(trap_of(cause, tval)),

@@ -1,0 +1,11 @@
+-- What a guest may ask for.
+use Rattle.std.specs.Prelude.{ℕ, ◌*◌, ◌≤◌, length}
+use Rattle.machine_defs.specs.declared.guests.GuestSpec.{GuestSpec}
+use Rattle.machine_defs.specs.Memory.{block_size}
+
+-- a guest within the limits of a configuration, whose image fits
+pub record IsWithinLimits (guest : GuestSpec) : Type 0 where
+  pub some_block : 1 ≤ guest.blocks
+  pub blocks : guest.blocks ≤ 32
+  pub console : guest.console ≤ 1048576
+  pub image : length guest.image ≤ guest.blocks * block_size

@@ -1,0 +1,6 @@
+// The guests on the hart: a turn of steps for a guest, which are the steps of its lone machine.
+#![tactic(auto)]
+
+mod hosts;
+
+pub use hosts::{FRAMES_PER_BLOCK, Host};
