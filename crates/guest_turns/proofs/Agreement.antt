@@ -1,11 +1,10 @@
 -- The hart's step and the lone machine's are one instruction of one core.
-use Rattle.std.proofs.Common.{◌≡◌, ◌≢◌, ℕ, ◌+◌, ◌%◌, ◌^◌, List, Option, Some, None, Bool, true, false, refl, ap, sym, ◌∙◌, arith, cond}
+use Rattle.std.proofs.Common.{◌≡◌, ℕ, ◌%◌, Option, Some, None, true, false, refl, cond}
 use Rattle.std.specs.Prelude.{◌==◌}
 use Rattle.machine_defs.specs.declared.instructions.Op.{Op}
 use Rattle.machine_defs.specs.declared.instructions.Op.TheVariants.{Addi, Lui, Jal, Ecall}
 use Rattle.machine_defs.specs.declared.instructions.Effect.{Effect}
 use Rattle.machine_defs.specs.declared.instructions.Effect.TheVariants.{Sets, Raises, Calls}
-use Rattle.machine_defs.specs.declared.instructions.Event.{Event}
 use Rattle.machine_defs.specs.declared.modes.Mode.{Mode}
 use Rattle.machine_defs.specs.declared.modes.Mode.TheVariants.{HS, U, VS, VU}
 use Rattle.machine_defs.specs.declared.modes.Access.TheVariants.{Fetch}
@@ -15,7 +14,7 @@ use Rattle.machine_defs.specs.declared.registers.Virtual.{Virtual}
 use Rattle.machine_defs.specs.Core.{Outcome, Done, Trapped, Stuck, Called, called, done, decoded, fetched, core}
 use Rattle.machine_defs.specs.Instructions.{op_of, jump, meaning}
 use Rattle.machine_defs.specs.Memory.{Reading, SecondStage}
-use Rattle.guest_turns.specs.Following.{lone, hosted}
+use Rattle.guest_turns.specs.Following.{hosted}
 
 -- what an instruction is on the hart, by what it is to the lone machine in HS
 abbrev pub Alike : Outcome → Outcome → Type 0

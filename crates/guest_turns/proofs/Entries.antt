@@ -1,6 +1,6 @@
 -- What one entry of the hart for one step is to the lone machine.
-use Rattle.std.specs.Prelude.{◌==◌, option_and_then, count_by, sum_by}
-use Rattle.std.proofs.Common.{cond, ◌≡◌, ℕ, zero, suc, ◌+◌, ◌%◌, ◌^◌, ◌<◌, ◌≤◌, List, [], ◌∷◌, Option, Some, None, Bool, true, false, refl, ap, sym, subst, ◌∙◌, length, arith}
+use Rattle.std.specs.Prelude.{◌==◌}
+use Rattle.std.proofs.Common.{cond, ◌≡◌, ℕ, zero, suc, ◌+◌, ◌%◌, ◌^◌, ◌<◌, ◌≤◌, List, [], ◌∷◌, Option, Some, None, true, false, refl, ap, sym, subst, length, arith}
 use Rattle.machine_defs.specs.declared.instructions.Event.{Event}
 use Rattle.machine_defs.specs.declared.instructions.Event.TheVariants.{Plain, EntersVs, Other}
 use Rattle.machine_defs.specs.declared.modes.Access.{Access}
@@ -13,7 +13,7 @@ use Rattle.machine_defs.specs.Core.{Outcome, Done, Trapped, Stuck, Called, core}
 use Rattle.machine_defs.specs.Machine.{Machine, Tried, Ended, Leaves, ticked, put, stopped, environment, concluded, try}
 use Rattle.machine_defs.proofs.Running.{step_running, events_running}
 use Rattle.machine_defs.specs.Registers.{read, a7}
-use Rattle.machine_defs.specs.Runs.{step, left_by, event_in, events_by, is_plain, pc_and_word, plain_count, trace_of}
+use Rattle.machine_defs.specs.Runs.{step, left_by, event_in, events_by, pc_and_word, plain_count, trace_of}
 use Rattle.machine_defs.specs.Memory.{ram_base, bare, reading_of, written}
 use Rattle.rv64_hart.specs.declared.harts.TheConstants.{MACHINE_BASE}
 use Rattle.rv64_hart.specs.declared.harts.Why.{Why}

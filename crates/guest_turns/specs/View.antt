@@ -1,5 +1,5 @@
 -- A host, as the lone machine of its guest.
-use Rattle.std.specs.Prelude.{◌≡◌, ℕ, ◌+◌, ◌-◌, ◌^◌, ◌≤◌, [], length, vec_capacity}
+use Rattle.std.specs.Prelude.{◌≡◌, ◌+◌, ◌-◌, ◌^◌, ◌≤◌, [], length, vec_capacity}
 use Rattle.machine_defs.specs.declared.modes.Mode.TheVariants.{VS}
 use Rattle.machine_defs.specs.Machine.{Machine}
 use Rattle.guest_turns.specs.declared.hosts.Host.TheInside.{Inside}

@@ -52,7 +52,8 @@ impl Host {
     #[tactic(auto, unfolding(machine_defs::specs::Machine::start))]
     pub fn boot(alloc: Global, guest: GuestSpec) -> Result<Host, AllocError>
         requires { IsWithinLimits guest }
-        ensures { IfOk result (λ host. host ≡ start guest) }
+        ensures start { IfOk result (λ host. host ≡ start guest) }
+        ensures fresh { IfOk result (λ host. host.steps ≡ 0) }
     {
         let memory = loaded_memory(alloc, guest.blocks, guest.image.as_slice())?;
         let console = Vec::with_capacity(alloc, guest.console as usize)?;

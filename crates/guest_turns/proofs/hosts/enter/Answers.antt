@@ -1,6 +1,6 @@
 use Rattle.guest_turns.proofs.Entries.{followed, kept_mode, taken_of}
 use Rattle.guest_turns.proofs.hosts.enter.Goals as goal
-use Rattle.std.proofs.Common.{refl, ap, ◌∙◌, ◌+◌}
+use Rattle.std.proofs.Common.{refl}
 
 pub returns-clause-follows : goal.returns-clause-follows
 returns-clause-follows c = λ m virt ram. rw c.trap_in.ensures (followed m _ _ _ _ _ _ c.run-stop.result.taken c.run-stop.result.why

@@ -1,5 +1,4 @@
 use Rattle.std.proofs.Common.{refl}
-use Rattle.guest_turns.specs.Following.{Follows}
 use Rattle.guest_turns.specs.View.{machine_of}
 use Rattle.guest_turns.proofs.Entries.{step_made, step_handed, trace_handed}
 use Rattle.guest_turns.proofs.hosts.Host.step.Goals as goal

@@ -1,4 +1,4 @@
-use Rattle.std.proofs.Common.{◌≡◌, ◌+◌, ◌-◌, ◌%◌, ◌^◌, ◌<◌, ◌≤◌}
+use Rattle.std.proofs.Common.{◌≡◌, ◌+◌, ◌-◌, ◌%◌, ◌^◌, ◌≤◌}
 use Rattle.machine_defs.specs.declared.guests.Status.TheVariants.{Running}
 use Rattle.machine_defs.specs.Runs.{run, events, plain_count, trace_of}
 use Rattle.guest_turns.proofs.hosts.Host.turn.Given as goal

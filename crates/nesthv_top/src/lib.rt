@@ -1,0 +1,12 @@
+// The top call: a command's words, the files that it names, and the report that it writes.
+#![tactic(auto)]
+
+mod commands;
+mod ends;
+mod lines;
+mod loading;
+mod obeying;
+mod running;
+mod top;
+
+pub use top::nesthv;

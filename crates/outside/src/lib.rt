@@ -1,0 +1,25 @@
+//! What a program reads from and writes to: named files and streams of bytes, real ones and ones in memory.
+#![tactic(auto)]
+
+pub use clean_sinks::CleanSink;
+pub use clean_stores::CleanStore;
+pub use file_stores::FileStore;
+pub use list_sinks::ListSink;
+pub use map_stores::{Asked, MapStore};
+pub use sinks::{Sink, SinkFault};
+pub use std_sinks::StdSink;
+pub use stores::{Store, StoreFault};
+pub use words::Word;
+
+mod clean_sinks;
+mod clean_stores;
+mod file_stores;
+mod list_sinks;
+mod map_stores;
+mod named;
+mod sinks;
+mod std_sinks;
+mod stores;
+#[cfg(test)]
+mod tests;
+mod words;

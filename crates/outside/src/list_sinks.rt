@@ -1,0 +1,126 @@
+ghost use Rattle.std.specs.Prelude.{◌≡◌, ◌≤◌, ◌∷◌, [], ◌++◌, is_ok, OnOk, OnErr, IfOk};
+ghost use Rattle.outside.specs.Pieces.{Puts};
+
+use crate::sinks::{Sink, SinkFault};
+use std::alloc::{AllocError, Global};
+use std::marker::Model;
+
+/// A put that is to fail: its number, and how many bytes it still takes.
+#[derive(Clone, Copy, Debug, PartialEq, Eq)]
+struct Failure {
+    call: u64,
+    takes: usize,
+}
+
+impl Model for Failure {
+    ghost use Rattle.std.specs.Prelude.{ℕ};
+
+    ghost Value = { ℕ × ℕ };
+
+    ghost view = { λ f. (f.call, f.takes) };
+
+    ghost inverse = { λ f. record { call = f.0; takes = f.1 } };
+}
+
+/// A sink that keeps its bytes, in memory that it takes when it is made.
+#[derive(Debug, Drop)]
+pub struct ListSink {
+    bytes: Vec<u8>,
+    room: usize,
+    failing: Vec<Failure>,
+    puts: u64,
+    faults: u64,
+}
+
+impl Model for ListSink {
+    ghost use Rattle.std.specs.Prelude.{◌≤◌, vec_len, vec_capacity};
+    ghost use Rattle.outside.specs.ListSinks.{SinkState};
+
+    ghost Value = { SinkState };
+
+    ghost view = { λ s. record {
+      bytes = s.bytes.items;
+      room = s.room;
+      failing = s.failing.items;
+      puts = s.puts;
+      faults = s.faults;
+    } };
+
+    ghost invariant = { λ s. (vec_len s.bytes ≤ s.room) × (s.room ≤ vec_capacity s.bytes) };
+}
+
+impl ListSink {
+    ghost use Rattle.outside.specs.ListSinks.{empty_sink, failure_of};
+
+    pub fn new(alloc: Global, room: usize) -> Result<ListSink, AllocError>
+        ensures { IfOk result (λ s. s ≡ empty_sink room) }
+    {
+        Ok(ListSink {
+            bytes: Vec::with_capacity(alloc, room)?,
+            room,
+            failing: Vec::new(alloc),
+            puts: 0,
+            faults: 0,
+        })
+    }
+
+    /// Lets the put with this number fail once it has taken so many bytes. The first put has number 1.
+    pub fn fail_at(&mut self, call: u64, takes: usize) -> Result<(), AllocError>
+        ensures ok { OnOk result
+            (self.new ≡ record self.old { failing = self.old.failing ++ (call, takes) ∷ [] }) }
+        ensures err { OnErr result (self.new ≡ self.old) }
+    {
+        self.failing.push(Failure { call, takes })?;
+        Ok(())
+    }
+
+    /// The bytes taken so far.
+    pub fn bytes(&self) -> &[u8]
+        ensures { result.now ≡ self.now.bytes }
+    {
+        self.bytes.as_slice()
+    }
+
+    pub fn faults(&self) -> u64
+        ensures { result ≡ self.now.faults }
+    {
+        self.faults
+    }
+
+    fn failure(&self) -> Option<usize>
+        ensures { result ≡ failure_of self.now }
+    {
+        let call = self.puts.saturating_add(1);
+        self.failing
+            .iter()
+            .find(|f| f.call == call)
+            .map(|f| f.takes)
+    }
+}
+
+impl Sink for ListSink {
+    ghost use Rattle.outside.specs.ListSinks.{after, is_taken};
+
+    ghost stands_for = { λ s bytes. s.bytes ≡ bytes };
+
+    ghost faults = { λ s. s.faults };
+
+    fn put(&mut self, piece: &[u8]) -> Result<(), SinkFault>
+        ensures bytes { Puts (λ s bytes. s.bytes ≡ bytes) self.old self.new (is_ok result) piece.now }
+        ensures count { self.old.faults ≤ self.new.faults }
+        ensures answer { is_ok result ≡ is_taken self.old piece.now }
+        ensures leaves { self.new ≡ after self.old piece.now }
+    {
+        let left = self.room - self.bytes.len();
+        let failure = self.failure();
+        let taken = failure.unwrap_or(piece.len()).min(piece.len()).min(left);
+        self.bytes.extend_from_slice(&piece[..taken]).unwrap();
+        self.puts = self.puts.saturating_add(1);
+        if failure.is_none() && piece.len() <= left {
+            Ok(())
+        } else {
+            self.faults = self.faults.saturating_add(1);
+            Err(SinkFault::Failed)
+        }
+    }
+}

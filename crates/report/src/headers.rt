@@ -1,0 +1,40 @@
+ghost use Rattle.std.specs.Prelude.{◌≡◌, ◌≤◌, ◌++◌, length, codes};
+ghost use Rattle.machine_defs.specs.Report.{header, status_word};
+
+use arrayvec::ArrayVec;
+use itoa::Buffer;
+use machine_defs::Status;
+
+fn word(status: Status) -> &'static [u8]
+    ensures { result.now ≡ status_word status }
+{
+    match status {
+        Status::Running => b"running",
+        Status::Waiting => b"waiting",
+        Status::Stopped => b"stopped",
+        Status::Outside => b"outside",
+    }
+}
+
+/// The line that heads a section, with its line feed. At most 101 bytes: a name of 32, a word of 7, two numbers of
+/// 20 digits, and 22 bytes between them.
+#[tactic(auto, unfolding(machine_defs::specs::Report::header))]
+pub fn header_line(name: &[u8], status: Status, steps: u64, bytes: u64) -> ArrayVec<u8, 128>
+    requires { length name.now ≤ 32 }
+    ensures { result.items ≡ header name.now status steps bytes ++ codes "\n" }
+{
+    let mut digits = Buffer::new();
+    let mut line = ArrayVec::new();
+    line.try_extend_from_slice(b"guest ").unwrap();
+    line.try_extend_from_slice(name).unwrap();
+    line.try_extend_from_slice(b" ").unwrap();
+    line.try_extend_from_slice(word(status)).unwrap();
+    line.try_extend_from_slice(b" steps ").unwrap();
+    line.try_extend_from_slice(digits.format(steps).as_bytes())
+        .unwrap();
+    line.try_extend_from_slice(b" bytes ").unwrap();
+    line.try_extend_from_slice(digits.format(bytes).as_bytes())
+        .unwrap();
+    line.try_extend_from_slice(b"\n").unwrap();
+    line
+}

@@ -1,0 +1,9 @@
+//! A guest's section in the report: one header line, the console's bytes, and a line feed.
+#![tactic(auto)]
+
+pub use sections::{GuestLine, section};
+
+mod headers;
+mod sections;
+#[cfg(test)]
+mod tests;

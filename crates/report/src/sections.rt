@@ -1,0 +1,50 @@
+ghost use Rattle.std.specs.Prelude.{◌≡◌, ◌≤◌, ◌++◌, length, is_ok, OnErr};
+ghost use Rattle.machine_defs.specs.Report.{section_text};
+ghost use Rattle.outside.specs.Faults.{Rose};
+ghost use Rattle.outside.specs.Pieces.{Puts};
+
+use crate::headers::header_line;
+use machine_defs::{Name, Status};
+use outside::{Sink, SinkFault};
+
+/// What a section's header names.
+#[derive(Clone, Copy, Debug)]
+pub struct GuestLine<'a> {
+    pub name: &'a Name,
+    pub status: Status,
+    pub steps: u64,
+}
+
+// Puts one piece and, unless that is empty, another.
+#[tactic(auto, using(outside::proofs::Pieces::puts_then))]
+fn put_both<S: Sink>(first: &[u8], second: &[u8], out: &mut S) -> Result<(), SinkFault>
+    ensures bytes { Puts S.stands_for out.old out.new (is_ok result) (first.now ++ second.now) }
+    ensures cause { OnErr result (Rose (S.faults out.old) (S.faults out.new)) }
+    ensures count { S.faults out.old ≤ S.faults out.new }
+    ensures stays { S.made_with out.new ≡ S.made_with out.old }
+{
+    match out.put(first) {
+        Ok(()) if second.is_empty() => Ok(()),
+        Ok(()) => out.put(second),
+        Err(e) => Err(e),
+    }
+}
+
+/// Puts a guest's section into a sink: one put for the header with its line feed, one for the console unless that
+/// is empty, and one for the last line feed. Takes no memory.
+#[tactic(auto, using(outside::proofs::Pieces::puts_then))]
+pub fn section<S: Sink>(line: &GuestLine, console: &[u8], out: &mut S) -> Result<(), SinkFault>
+    requires { length line.now.name.now ≤ 32 }
+    ensures bytes { Puts S.stands_for out.old out.new (is_ok result)
+        (section_text line.now.name.now line.now.status line.now.steps console.now) }
+    ensures cause { OnErr result (Rose (S.faults out.old) (S.faults out.new)) }
+    ensures count { S.faults out.old ≤ S.faults out.new }
+    ensures stays { S.made_with out.new ≡ S.made_with out.old }
+{
+    let bytes = console.len() as u64;
+    let header = header_line(line.name.as_slice(), line.status, line.steps, bytes);
+    match put_both(header.as_slice(), console, out) {
+        Ok(()) => out.put(b"\n"),
+        Err(e) => Err(e),
+    }
+}

@@ -1,0 +1,4 @@
+pub mod Items
+pub mod Keys
+pub mod Limits
+pub mod Texts

@@ -1,0 +1,4 @@
+pub mod Accept
+pub mod Kept
+pub mod Seen
+pub mod Settings
