@@ -1,21 +1,21 @@
 -- What one entry of the hart for one step is to the lone machine.
 use Rattle.std.specs.Prelude.{◌==◌}
 use Rattle.std.proofs.Common.{cond, ◌≡◌, ℕ, zero, suc, ◌+◌, ◌%◌, ◌^◌, ◌<◌, ◌≤◌, List, [], ◌∷◌, Option, Some, None, true, false, refl, ap, sym, subst, length, arith}
-use Rattle.machine_defs.specs.declared.instructions.Event.{Event}
-use Rattle.machine_defs.specs.declared.instructions.Event.TheVariants.{Plain, EntersVs, Other}
-use Rattle.machine_defs.specs.declared.modes.Access.{Access}
-use Rattle.machine_defs.specs.declared.modes.Access.TheVariants.{Fetch, Load, Store, ExecLoad, Implicit}
-use Rattle.machine_defs.specs.declared.modes.Mode.TheVariants.{HS, VS}
-use Rattle.machine_defs.specs.declared.modes.Trap.{Trap}
-use Rattle.machine_defs.specs.declared.modes.TheConstants.{ECALL_FROM_VS}
-use Rattle.machine_defs.specs.declared.registers.Virtual.{Virtual}
+use Rattle.machine_defs.specs.declared.events.Event.{Event}
+use Rattle.machine_defs.specs.declared.events.Event.TheVariants.{Plain, EntersVs, Other}
+use Rattle.arch_defs.specs.declared.modes.Access.{Access}
+use Rattle.arch_defs.specs.declared.modes.Access.TheVariants.{Fetch, Load, Store, ExecLoad, Implicit}
+use Rattle.arch_defs.specs.declared.modes.Mode.TheVariants.{HS, VS}
+use Rattle.arch_defs.specs.declared.modes.Trap.{Trap}
+use Rattle.arch_defs.specs.declared.modes.TheConstants.{ECALL_FROM_VS}
+use Rattle.arch_defs.specs.declared.registers.Virtual.{Virtual}
 use Rattle.machine_defs.specs.Core.{Outcome, Done, Trapped, Stuck, Called, core}
 use Rattle.machine_defs.specs.Machine.{Machine, Tried, Ended, Leaves, ticked, put, stopped, environment, concluded, try}
 use Rattle.machine_defs.proofs.Running.{step_running, events_running}
-use Rattle.machine_defs.specs.Registers.{read, a7}
+use Rattle.arch_defs.specs.Registers.{read, a7}
 use Rattle.machine_defs.specs.Runs.{step, left_by, event_in, events_by, pc_and_word, plain_count, trace_of}
-use Rattle.machine_defs.specs.Memory.{ram_base, bare, reading_of, written}
-use Rattle.rv64_hart.specs.declared.harts.TheConstants.{MACHINE_BASE}
+use Rattle.arch_defs.specs.Memory.{ram_base, bare, reading_of, written}
+use Rattle.rv64_hart.specs.declared.steps.TheConstants.{MACHINE_BASE}
 use Rattle.rv64_hart.specs.declared.harts.Why.{Why}
 use Rattle.rv64_hart.specs.declared.harts.Why.TheVariants.{Limit, Exit, VsTrap}
 use Rattle.rv64_hart.specs.Counts.{IsRaisedBy}

@@ -1,7 +1,7 @@
 -- Turns, a step at a time.
 use Rattle.std.proofs.Common.{cond, ◌≡◌, ◌+◌, List, ◌++◌}
 use Rattle.std.proofs.lemmas.List.Sums.{sum_by-append}
-use Rattle.machine_defs.specs.declared.instructions.Event.{Event}
+use Rattle.machine_defs.specs.declared.events.Event.{Event}
 use Rattle.machine_defs.specs.Runs.{is_plain, pc_and_word, plain_count, trace_of}
 use Rattle.machine_defs.proofs.Running.{run_none, run_next, run_idle, events_none, events_next, events_idle}
 

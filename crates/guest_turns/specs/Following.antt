@@ -1,14 +1,14 @@
 -- How a lone machine follows from one entry of the hart.
 use Rattle.std.specs.Prelude.{◌≡◌, ℕ, ◌≤◌, List, Option, Some, None, ◌==◌, if◌then◌else◌}
-use Rattle.machine_defs.specs.declared.modes.Mode.TheVariants.{HS, VS}
-use Rattle.machine_defs.specs.declared.modes.Trap.{Trap}
-use Rattle.machine_defs.specs.declared.modes.TheConstants.{ECALL_FROM_VS}
-use Rattle.machine_defs.specs.declared.registers.Virtual.{Virtual}
+use Rattle.arch_defs.specs.declared.modes.Mode.TheVariants.{HS, VS}
+use Rattle.arch_defs.specs.declared.modes.Trap.{Trap}
+use Rattle.arch_defs.specs.declared.modes.TheConstants.{ECALL_FROM_VS}
+use Rattle.arch_defs.specs.declared.registers.Virtual.{Virtual}
 use Rattle.rv64_hart.specs.declared.harts.Why.{Why}
 use Rattle.rv64_hart.specs.declared.harts.Why.TheVariants.{Limit, Exit, VsTrap}
 use Rattle.rv64_hart.specs.Counts.{IsRaisedBy}
 use Rattle.machine_defs.specs.Machine.{Machine, Tried, Leaves, ticked, environment, try}
-use Rattle.machine_defs.specs.Registers.{read, a7}
+use Rattle.arch_defs.specs.Registers.{read, a7}
 use Rattle.machine_defs.specs.Runs.{left_by, event_in, plain_count, trace_of}
 
 -- the state of the hart as the lone machine's: the hart's VS stands for the guest's HS

@@ -1,7 +1,7 @@
 -- What a guest may ask for.
 use Rattle.std.specs.Prelude.{◌*◌, ◌≤◌, length}
 use Rattle.machine_defs.specs.declared.guests.GuestSpec.{GuestSpec}
-use Rattle.machine_defs.specs.Memory.{block_size}
+use Rattle.arch_defs.specs.Memory.{block_size}
 
 -- a guest within the limits of a configuration, whose image fits
 pub record IsWithinLimits (guest : GuestSpec) : Type 0 where

@@ -1,6 +1,6 @@
 -- A host, as the lone machine of its guest.
 use Rattle.std.specs.Prelude.{◌≡◌, ◌+◌, ◌-◌, ◌^◌, ◌≤◌, [], length, vec_capacity}
-use Rattle.machine_defs.specs.declared.modes.Mode.TheVariants.{VS}
+use Rattle.arch_defs.specs.declared.modes.Mode.TheVariants.{VS}
 use Rattle.machine_defs.specs.Machine.{Machine}
 use Rattle.guest_turns.specs.declared.hosts.Host.TheInside.{Inside}
 use Rattle.guest_turns.specs.Following.{lone}

@@ -1,18 +1,19 @@
 // The host of a guest.
 
 ghost use Rattle.std.specs.Prelude.{◌≡◌, ◌≢◌, ◌+◌, ◌*◌, ◌^◌, ◌<◌, ◌≤◌, length, IfOk};
-ghost use Rattle.machine_defs.specs.declared.modes.Mode.TheVariants.{VS};
+ghost use Rattle.arch_defs.specs.declared.modes.Mode.TheVariants.{VS};
 ghost use Rattle.machine_defs.specs.declared.guests.Status.TheVariants.{Running};
-ghost use Rattle.machine_defs.specs.Bits.{add64};
+ghost use Rattle.arch_defs.specs.Bits.{add64};
 ghost use Rattle.machine_defs.specs.Machine.{Machine, start, ticked, put, answered, stopped};
-ghost use Rattle.machine_defs.specs.Memory.{block_size, loaded};
-ghost use Rattle.machine_defs.specs.Registers.{advanced, a0};
+ghost use Rattle.arch_defs.specs.Memory.{block_size, loaded};
+ghost use Rattle.arch_defs.specs.Registers.{advanced, a0};
 ghost use Rattle.machine_defs.specs.Runs.{left_by, run, step, events, events_by, plain_count, trace_of};
 ghost use Rattle.guest_turns.specs.Following.{lone, answered_by, Follows, steps_in, trap_in};
 ghost use Rattle.rv64_hart.specs.Counts.{IsRaisedBy};
 ghost use Rattle.guest_turns.specs.Limits.{IsWithinLimits};
 
-use machine_defs::{ECALL_FROM_VS, GuestSpec, Inputs, Mode, Reg, Status, Trap, Virtual};
+use arch_defs::{ECALL_FROM_VS, Mode, Reg, Trap, Virtual};
+use machine_defs::{GuestSpec, Inputs, Status};
 use rv64_hart::{Hart, MACHINE_BASE, PhysMem, Tally, Why};
 use std::alloc::{AllocError, Global};
 use std::marker::Model;
@@ -208,7 +209,7 @@ impl Host {
 }
 
 // A guest's RAM: its image, and zeros after it.
-#[tactic(auto, using(machine_defs::proofs::Images::length_zeros, machine_defs::proofs::Images::pasted_zeros))]
+#[tactic(auto, using(arch_defs::proofs::Images::length_zeros, arch_defs::proofs::Images::pasted_zeros))]
 fn loaded_memory(alloc: Global, blocks: u64, image: &[u8]) -> Result<PhysMem, AllocError>
     requires some_block { 1 ≤ blocks }
     requires blocks { blocks ≤ 32 }

@@ -1,20 +1,25 @@
 -- One instruction, for a lone machine and for the hart alike: a function of the registers, of what memory gives at a
 -- physical address, and of the second stage. Each link takes the result of the one before.
-use Rattle.std.specs.Prelude.{ℕ, ◌%◌, Option, Some, None, ◌==◌, if◌then◌else◌}
-use Rattle.machine_defs.specs.declared.instructions.Op.{Op}
-use Rattle.machine_defs.specs.declared.instructions.Effect.{Effect}
-use Rattle.machine_defs.specs.declared.instructions.Effect.TheVariants.{Sets, Raises, Calls}
-use Rattle.machine_defs.specs.declared.instructions.Event.{Event}
-use Rattle.machine_defs.specs.declared.instructions.Event.TheVariants.{Plain, Other}
-use Rattle.machine_defs.specs.declared.modes.Access.{Access}
-use Rattle.machine_defs.specs.declared.modes.Access.TheVariants.{Fetch}
-use Rattle.machine_defs.specs.declared.modes.Mode.{Mode}
-use Rattle.machine_defs.specs.declared.modes.Mode.TheVariants.{HS, U, VS, VU}
-use Rattle.machine_defs.specs.declared.modes.TheConstants.{INSTRUCTION_MISALIGNED, ILLEGAL_INSTRUCTION, ECALL_FROM_USER, ECALL_FROM_VS}
-use Rattle.machine_defs.specs.declared.registers.Virtual.{Virtual}
-use Rattle.machine_defs.specs.Memory.{Reading, SecondStage, Write}
-use Rattle.machine_defs.specs.Registers.{advanced}
-use Rattle.machine_defs.specs.Instructions.{op_of, is_system, meaning}
+use Rattle.std.specs.Prelude.{ℕ, ◌%◌, Bool, true, false, ◌&&◌, Option, Some, None, ◌==◌, if◌then◌else◌}
+use Rattle.arch_defs.specs.declared.modes.Access.{Access}
+use Rattle.arch_defs.specs.declared.modes.Access.TheVariants.{Fetch, Load, Store}
+use Rattle.arch_defs.specs.declared.modes.Mode.{Mode}
+use Rattle.arch_defs.specs.declared.modes.Mode.TheVariants.{HS, U, VS, VU}
+use Rattle.arch_defs.specs.declared.modes.TheConstants.{INSTRUCTION_MISALIGNED, ILLEGAL_INSTRUCTION, LOAD_MISALIGNED, STORE_MISALIGNED, ECALL_FROM_USER, ECALL_FROM_VS}
+use Rattle.arch_defs.specs.declared.registers.Virtual.{Virtual}
+use Rattle.arch_defs.specs.declared.widths.Width.{Width}
+use Rattle.arch_defs.specs.Memory.{Reading, SecondStage, Write}
+use Rattle.arch_defs.specs.Registers.{advanced}
+use Rattle.arch_defs.specs.Widths.{bytes_in, extended}
+use Rattle.op_defs.specs.declared.ops.AmoOp.{AmoOp}
+use Rattle.op_defs.specs.declared.ops.Op.{Op}
+use Rattle.op_defs.specs.declared.ops.Effect.{Effect}
+use Rattle.op_defs.specs.declared.ops.Effect.TheVariants.{Sets, Raises, Loads, Stores, Reserves, StoresReserved, Modifies, Calls, Privileged}
+use Rattle.op_defs.specs.Arithmetic.{amo}
+use Rattle.op_defs.specs.Meaning.{meaning, next}
+use Rattle.op_defs.specs.Table.{op_of, is_system}
+use Rattle.machine_defs.specs.declared.events.Event.{Event}
+use Rattle.machine_defs.specs.declared.events.Event.TheVariants.{Plain, Other}
 
 -- how an instruction ends
 pub data Outcome : Type 0 where
@@ -31,6 +36,18 @@ pub data Outcome : Type 0 where
 abbrev pub event_of : ℕ → ℕ → Event
 event_of pc word = if is_system word then Other else Plain pc word
 
+-- a register is set, and pc goes on
+abbrev pub sets : Virtual → ℕ → ℕ → Virtual
+sets state rd value = record state { regs = advanced state.regs rd value (next state.regs) }
+
+-- what is reserved after an instruction
+abbrev pub reserving : Virtual → Option (ℕ × ℕ) → Virtual
+reserving state place = record state { reservation = place }
+
+-- a write of the low bytes of a value
+abbrev pub write : ℕ → Width → ℕ → Option Write
+write place width value = Some (record { place = place; width = bytes_in width; value = value })
+
 -- a call of the environment, by mode (Privileged Architecture 20211203, 3.3.1 and 8.6)
 abbrev pub called : Mode → Outcome
 called HS = Called
@@ -38,25 +55,76 @@ called U = Trapped ECALL_FROM_USER 0
 called VS = Trapped ECALL_FROM_VS 0
 called VU = Trapped ECALL_FROM_USER 0
 
--- what an instruction's effect does
-abbrev pub done : Virtual → ℕ → Effect → Outcome
-done state word (Sets rd value next) =
-    Done (record state { regs = advanced state.regs rd value next }) None (event_of state.regs.pc word)
-done state word (Raises cause tval) = Trapped cause tval
-done state word Calls = called state.mode
+-- an access at an address that is a multiple of its width, which is tested first
+abbrev pub aligned : ℕ → Width → ℕ → Outcome → Outcome
+aligned address width cause access = if address % bytes_in width == 0 then access else Trapped cause address
+
+-- a load at a physical address, if it has one
+abbrev pub loaded_at : Reading → Virtual → ℕ → Width → Bool → ℕ → ℕ → Option ℕ → Outcome
+loaded_at reading state word width signed rd address (Some place) =
+    Done (sets state rd (extended width signed (reading place (bytes_in width)))) None (event_of state.regs.pc word)
+loaded_at reading state word width signed rd address None = Stuck address Load Load address
+
+-- a store
+abbrev pub stored_at : Virtual → ℕ → Width → ℕ → ℕ → Option ℕ → Outcome
+stored_at state word width value address (Some place) = Done (sets state 0 0) (write place width value) (event_of state.regs.pc word)
+stored_at state word width value address None = Stuck address Store Store address
+
+-- LR reserves its physical address and width (Unprivileged ISA 20191213, 8.2)
+abbrev pub reserved_at : Reading → Virtual → ℕ → Width → ℕ → ℕ → Option ℕ → Outcome
+reserved_at reading state word width rd address (Some place) =
+    Done (reserving (sets state rd (extended width true (reading place (bytes_in width)))) (Some (place, bytes_in width))) None (event_of state.regs.pc word)
+reserved_at reading state word width rd address None = Stuck address Load Load address
+
+-- whether this place is reserved for this width
+abbrev pub is_reserved : Option (ℕ × ℕ) → ℕ → Width → Bool
+is_reserved (Some (place, bytes)) at width = place == at && bytes == bytes_in width
+is_reserved None at width = false
+
+-- SC stores and gives 0 where the place is reserved, else it gives 1; it ends the reservation
+abbrev pub attempted : Virtual → ℕ → Width → ℕ → ℕ → ℕ → Bool → Outcome
+attempted state word width value rd place true = Done (reserving (sets state rd 0) None) (write place width value) (event_of state.regs.pc word)
+attempted state word width value rd place false = Done (reserving (sets state rd 1) None) None (event_of state.regs.pc word)
+
+abbrev pub attempted_at : Virtual → ℕ → Width → ℕ → ℕ → ℕ → Option ℕ → Outcome
+attempted_at state word width value rd address (Some place) = attempted state word width value rd place (is_reserved state.reservation place width)
+attempted_at state word width value rd address None = Stuck address Store Store address
+
+-- an atomic memory operation (8.4)
+abbrev pub modified_at : Reading → Virtual → ℕ → AmoOp → Width → ℕ → ℕ → ℕ → Option ℕ → Outcome
+modified_at reading state word op width operand rd address (Some place) =
+    Done (sets state rd (extended width true (reading place (bytes_in width)))) (write place width (amo op width (reading place (bytes_in width)) operand)) (event_of state.regs.pc word)
+modified_at reading state word op width operand rd address None = Stuck address Store Store address
+
+-- what an instruction's effect does; what needs a privilege check is not built so far
+abbrev pub done : SecondStage → Reading → Virtual → ℕ → Effect → Outcome
+done second reading state word (Sets rd value next) = Done (record state { regs = advanced state.regs rd value next }) None (event_of state.regs.pc word)
+done second reading state word (Raises cause tval) = Trapped cause tval
+done second reading state word (Loads address width signed rd) =
+    aligned address width LOAD_MISALIGNED (loaded_at reading state word width signed rd address (second address Load))
+done second reading state word (Stores address width value) =
+    aligned address width STORE_MISALIGNED (stored_at state word width value address (second address Store))
+done second reading state word (Reserves address width rd) =
+    aligned address width LOAD_MISALIGNED (reserved_at reading state word width rd address (second address Load))
+done second reading state word (StoresReserved address width value rd) =
+    aligned address width STORE_MISALIGNED (attempted_at state word width value rd address (second address Store))
+done second reading state word (Modifies op address width operand rd) =
+    aligned address width STORE_MISALIGNED (modified_at reading state word op width operand rd address (second address Store))
+done second reading state word Calls = called state.mode
+done second reading state word Privileged = Trapped ILLEGAL_INSTRUCTION word
 
 -- the instruction that was decoded from a word; a word that is none is illegal
-abbrev pub decoded : Virtual → ℕ → Option Op → Outcome
-decoded state word (Some op) = done state word (meaning op state.regs)
-decoded state word None = Trapped ILLEGAL_INSTRUCTION word
+abbrev pub decoded : SecondStage → Reading → Virtual → ℕ → Option Op → Outcome
+decoded second reading state word (Some op) = done second reading state word (meaning op state.regs)
+decoded second reading state word None = Trapped ILLEGAL_INSTRUCTION word
 
 -- the word at the physical address of pc, if it has one
-abbrev pub fetched : Reading → Virtual → Option ℕ → Outcome
-fetched reading state (Some place) = decoded state (reading place 4) (op_of (reading place 4))
-fetched reading state None = Stuck state.regs.pc Fetch Fetch state.regs.pc
+abbrev pub fetched : SecondStage → Reading → Virtual → Option ℕ → Outcome
+fetched second reading state (Some place) = decoded second reading state (reading place 4) (op_of (reading place 4))
+fetched second reading state None = Stuck state.regs.pc Fetch Fetch state.regs.pc
 
 -- one instruction; pc is a multiple of 4 in every state that a run reaches
 unfoldable pub core : SecondStage → Reading → Virtual → Outcome
 core second reading state =
-    if state.regs.pc % 4 == 0 then fetched reading state (second state.regs.pc Fetch)
+    if state.regs.pc % 4 == 0 then fetched second reading state (second state.regs.pc Fetch)
     else Trapped INSTRUCTION_MISALIGNED state.regs.pc

@@ -1,9 +1,5 @@
-pub mod Bits
 pub mod Core
-pub mod Instructions
 pub mod Laws
 pub mod Machine
-pub mod Memory
-pub mod Registers
 pub mod Report
 pub mod Runs

@@ -1,17 +1,17 @@
 -- The lone machine of a guest, its start, and one step of it.
 use Rattle.std.specs.Prelude.{ℕ, ◌+◌, ◌-◌, ◌*◌, ◌%◌, ◌^◌, List, [], ◌∷◌, ◌++◌, ◌==◌, length, nat_lt, if◌then◌else◌}
-use Rattle.machine_defs.specs.declared.instructions.Event.{Event}
-use Rattle.machine_defs.specs.declared.instructions.Event.TheVariants.{Other}
-use Rattle.machine_defs.specs.declared.guests.Entry.{Entry}
+use Rattle.machine_defs.specs.declared.events.Event.{Event}
+use Rattle.machine_defs.specs.declared.events.Event.TheVariants.{Other}
+use Rattle.arch_defs.specs.declared.entries.Entry.{Entry}
 use Rattle.machine_defs.specs.declared.guests.GuestSpec.{GuestSpec}
 use Rattle.machine_defs.specs.declared.guests.Status.{Status}
 use Rattle.machine_defs.specs.declared.guests.Status.TheVariants.{Running, Stopped}
-use Rattle.machine_defs.specs.declared.modes.Mode.TheVariants.{HS}
-use Rattle.machine_defs.specs.declared.registers.Virtual.{Virtual}
-use Rattle.machine_defs.specs.Bits.{add64}
+use Rattle.arch_defs.specs.declared.modes.Mode.TheVariants.{HS}
+use Rattle.arch_defs.specs.declared.registers.Virtual.{Virtual}
+use Rattle.arch_defs.specs.Bits.{add64}
 use Rattle.machine_defs.specs.Core.{Outcome, Done, Trapped, Stuck, Called, core}
-use Rattle.machine_defs.specs.Memory.{ram_base, block_size, loaded, bare, reading_of, written}
-use Rattle.machine_defs.specs.Registers.{read, advanced, a0, a7, virtual_at}
+use Rattle.arch_defs.specs.Memory.{ram_base, block_size, loaded, bare, reading_of, written}
+use Rattle.arch_defs.specs.Registers.{read, advanced, a0, a7, virtual_at}
 
 -- a list of cached second-stage translations, oldest first, for one value of hgatp
 pub record Space : Type 0 where

@@ -1,7 +1,7 @@
 -- Steps and runs of the lone machine, and the events of a run.
 use Rattle.std.specs.Prelude.{ℕ, zero, suc, ◌+◌, List, [], ◌∷◌, ◌++◌, Bool, true, false, count_by, sum_by}
-use Rattle.machine_defs.specs.declared.instructions.Event.{Event}
-use Rattle.machine_defs.specs.declared.instructions.Event.TheVariants.{Plain, EntersVs, Other}
+use Rattle.machine_defs.specs.declared.events.Event.{Event}
+use Rattle.machine_defs.specs.declared.events.Event.TheVariants.{Plain, EntersVs, Other}
 use Rattle.machine_defs.specs.declared.guests.Status.{Status}
 use Rattle.machine_defs.specs.declared.guests.Status.TheVariants.{Running, Waiting, Stopped, Outside}
 use Rattle.machine_defs.specs.Machine.{Machine, Tried, Ended, Leaves, try}

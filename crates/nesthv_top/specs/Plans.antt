@@ -1,11 +1,11 @@
 -- What a command does with the files: the guest that it runs, for how many steps, and the report.
 use Rattle.std.specs.Prelude.{ℕ, ◌+◌, ◌*◌, List, [], Option, Some, None, length, nat_le, unwrap_or, option_and_then, if◌then◌else◌}
 use Rattle.machine_defs.specs.declared.guests.GuestSpec.{GuestSpec}
-use Rattle.machine_defs.specs.Memory.{block_size}
+use Rattle.arch_defs.specs.Memory.{block_size}
 use Rattle.machine_defs.specs.Machine.{start}
 use Rattle.machine_defs.specs.Report.{section}
 use Rattle.machine_defs.specs.Runs.{events}
-use Rattle.machine_defs.specs.declared.instructions.Event.{Event}
+use Rattle.machine_defs.specs.declared.events.Event.{Event}
 use Rattle.outside.specs.Files.{Files, read_of}
 use Rattle.run_config.specs.Accept.{accept}
 use Rattle.run_config.specs.Settings.{Settings}

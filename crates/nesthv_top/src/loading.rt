@@ -1,7 +1,7 @@
 // From a configuration's name to the job that it describes.
 
 ghost use Rattle.std.specs.Prelude.{◌≡◌, ◌+◌, ◌*◌, ◌≤◌, ℕ, List, [], ◌∷◌, ◌++◌, Some, None, Option, option_map, length, IfOk};
-ghost use Rattle.machine_defs.specs.Memory.{block_size};
+ghost use Rattle.arch_defs.specs.Memory.{block_size};
 ghost use Rattle.outside.specs.Faults.{Rose};
 ghost use Rattle.outside.specs.Files.{Files};
 ghost use Rattle.run_config.specs.Accept.{accept};

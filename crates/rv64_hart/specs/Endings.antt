@@ -1,9 +1,9 @@
 -- What the steps inside a run of the hart answer.
 use Rattle.std.specs.Prelude.{ℕ, List, Option, Some, None, Bool, true, false, ⊤}
-use Rattle.machine_defs.specs.declared.modes.Trap.{Trap}
-use Rattle.machine_defs.specs.declared.registers.Virtual.{Virtual}
-use Rattle.rv64_hart.specs.declared.harts.Ending.{Ending}
-use Rattle.rv64_hart.specs.declared.harts.Ending.TheVariants.{Made, NotMade}
+use Rattle.arch_defs.specs.declared.modes.Trap.{Trap}
+use Rattle.arch_defs.specs.declared.registers.Virtual.{Virtual}
+use Rattle.rv64_hart.specs.declared.steps.Ending.{Ending}
+use Rattle.rv64_hart.specs.declared.steps.Ending.TheVariants.{Made, NotMade}
 use Rattle.rv64_hart.specs.declared.harts.Counted.{Counted}
 use Rattle.rv64_hart.specs.declared.harts.Counted.TheVariants.{GoesOn, EnteredVs, Stops}
 use Rattle.rv64_hart.specs.Steps.{HartEnd, Goes, Exits, Progress}

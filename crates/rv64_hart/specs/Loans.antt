@@ -1,7 +1,7 @@
 -- The loan of a hart's state.
 use Rattle.std.specs.Borrow.{Lends, MutBor, Fml}
-use Rattle.machine_defs.specs.declared.registers.Virtual.{Virtual}
-use Rattle.machine_defs.specs.contracts.registers.Virtual.{the_row as state_row}
+use Rattle.arch_defs.specs.declared.registers.Virtual.{Virtual}
+use Rattle.arch_defs.specs.contracts.registers.Virtual.{the_row as state_row}
 use Rattle.rv64_hart.specs.declared.harts.Hart.{Hart}
 use Rattle.rv64_hart.specs.contracts.harts.Hart.{the_row}
 

@@ -1,17 +1,17 @@
 -- Steps of the hart, which always has V = 1.
 use Rattle.std.specs.Prelude.{ℕ, zero, suc, ◌+◌, ◌%◌, ◌^◌, ◌<◌, ◌≡◌, List, Option, Some, None, Bool, true, false, ◌&&◌, ⊤, length, option_and_then, if◌then◌else◌, ◌==◌, [], ◌∷◌}
 use Rattle.std.specs.List.{list_any}
-use Rattle.machine_defs.specs.declared.instructions.Event.{Event}
-use Rattle.machine_defs.specs.declared.instructions.Event.TheVariants.{Plain, EntersVs, Other}
-use Rattle.machine_defs.specs.declared.modes.Access.{Access}
-use Rattle.machine_defs.specs.declared.modes.Access.TheVariants.{Fetch, Load, Store, ExecLoad, Implicit}
-use Rattle.machine_defs.specs.declared.modes.Trap.{Trap}
-use Rattle.machine_defs.specs.declared.modes.TheConstants.{INSTRUCTION_ACCESS_FAULT, LOAD_ACCESS_FAULT, STORE_ACCESS_FAULT, ECALL_FROM_HS}
-use Rattle.machine_defs.specs.declared.registers.Virtual.{Virtual}
+use Rattle.machine_defs.specs.declared.events.Event.{Event}
+use Rattle.machine_defs.specs.declared.events.Event.TheVariants.{Plain, EntersVs, Other}
+use Rattle.arch_defs.specs.declared.modes.Access.{Access}
+use Rattle.arch_defs.specs.declared.modes.Access.TheVariants.{Fetch, Load, Store, ExecLoad, Implicit}
+use Rattle.arch_defs.specs.declared.modes.Trap.{Trap}
+use Rattle.arch_defs.specs.declared.modes.TheConstants.{INSTRUCTION_ACCESS_FAULT, LOAD_ACCESS_FAULT, STORE_ACCESS_FAULT, ECALL_FROM_HS}
+use Rattle.arch_defs.specs.declared.registers.Virtual.{Virtual}
 use Rattle.machine_defs.specs.Core.{Outcome, Done, Trapped, Stuck, Called, core}
-use Rattle.machine_defs.specs.Memory.{bare, reading_of, written}
+use Rattle.arch_defs.specs.Memory.{bare, reading_of, written}
 use Rattle.machine_defs.specs.Runs.{pc_and_word}
-use Rattle.rv64_hart.specs.declared.harts.TheConstants.{MACHINE_BASE}
+use Rattle.rv64_hart.specs.declared.steps.TheConstants.{MACHINE_BASE}
 use Rattle.rv64_hart.specs.declared.harts.Why.{Why}
 use Rattle.rv64_hart.specs.declared.harts.Why.TheVariants.{Limit, Exit, VsTrap}
 

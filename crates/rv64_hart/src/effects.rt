@@ -1,30 +1,154 @@
 // What an instruction asks for, and what it is to the account.
 
 ghost use Rattle.std.specs.Prelude.{◌≡◌};
-ghost use Rattle.machine_defs.specs.Instructions.{is_system, jump, meaning};
+ghost use Rattle.op_defs.specs.declared.ops.Effect.TheVariants.{Sets, Raises};
+ghost use Rattle.op_defs.specs.Meaning.{address_at, branch, even, holds, jump, meaning};
+ghost use Rattle.op_defs.specs.Table.{is_system};
 ghost use Rattle.machine_defs.specs.Core.{event_of};
 
-use machine_defs::{Effect, Event, INSTRUCTION_MISALIGNED, Op, Reg, Regs};
+use arch_defs::{BREAKPOINT, INSTRUCTION_MISALIGNED, Reg, Regs};
+use int_ops::{alu, word_alu};
+use machine_defs::Event;
+use op_defs::{Effect, Op, Test};
 
 /// What an instruction asks for.
-#[tactic(auto, unfolding(machine_defs::specs::Instructions::meaning))]
+#[tactic(auto, unfolding(op_defs::specs::Meaning::meaning))]
 pub fn effect_of(op: &Op, regs: &Regs) -> Effect
     ensures { result ≡ meaning op.now regs.now }
 {
     let next = regs.pc.wrapping_add(4);
     match *op {
-        Op::Addi { rd, rs1, immediate } => Effect::Sets {
-            rd,
-            value: regs.read(rs1).wrapping_add(immediate),
-            next,
-        },
-        Op::Lui { rd, immediate } => Effect::Sets {
-            rd,
-            value: immediate,
-            next,
-        },
+        Op::Lui { rd, immediate } => set(rd, immediate, next),
+        Op::Auipc { rd, immediate } => set(rd, regs.pc.wrapping_add(immediate), next),
         Op::Jal { rd, offset } => jump(rd, next, regs.pc.wrapping_add(offset)),
+        Op::Jalr { rd, rs1, offset } => jump(rd, next, even(address_at(regs, rs1, offset))),
+        Op::Branch {
+            test,
+            rs1,
+            rs2,
+            offset,
+        } => {
+            branch(
+                holds(test, regs.read(rs1), regs.read(rs2)),
+                next,
+                regs.pc.wrapping_add(offset),
+            )
+        }
+        Op::Load {
+            width,
+            signed,
+            rd,
+            rs1,
+            offset,
+        } => Effect::Loads {
+            address: address_at(regs, rs1, offset),
+            width,
+            signed,
+            rd,
+        },
+        Op::Store {
+            width,
+            rs1,
+            rs2,
+            offset,
+        } => Effect::Stores {
+            address: address_at(regs, rs1, offset),
+            width,
+            value: regs.read(rs2),
+        },
+        Op::AluImmediate {
+            op,
+            rd,
+            rs1,
+            immediate,
+        } => set(rd, alu(op, regs.read(rs1), immediate), next),
+        Op::Alu { op, rd, rs1, rs2 } => set(rd, alu(op, regs.read(rs1), regs.read(rs2)), next),
+        Op::WordImmediate {
+            op,
+            rd,
+            rs1,
+            immediate,
+        } => set(rd, word_alu(op, regs.read(rs1), immediate), next),
+        Op::Word { op, rd, rs1, rs2 } => set(
+            rd,
+            word_alu(op, regs.read(rs1), regs.read(rs2)),
+            next,
+        ),
+        Op::Fence | Op::FenceI => set(Reg::new(0), 0, next),
+        Op::LoadReserved { width, rd, rs1 } => Effect::Reserves {
+            address: regs.read(rs1),
+            width,
+            rd,
+        },
+        Op::StoreConditional {
+            width,
+            rd,
+            rs1,
+            rs2,
+        } => Effect::StoresReserved {
+            address: regs.read(rs1),
+            width,
+            value: regs.read(rs2),
+            rd,
+        },
+        Op::Amo {
+            op,
+            width,
+            rd,
+            rs1,
+            rs2,
+        } => Effect::Modifies {
+            op,
+            address: regs.read(rs1),
+            width,
+            operand: regs.read(rs2),
+            rd,
+        },
         Op::Ecall => Effect::Calls,
+        Op::Ebreak => Effect::Raises {
+            cause: BREAKPOINT,
+            tval: regs.pc,
+        },
+        Op::Sret
+        | Op::Wfi
+        | Op::Csr { .. }
+        | Op::SfenceVma { .. }
+        | Op::HfenceVvma { .. }
+        | Op::HfenceGvma { .. }
+        | Op::GuestLoad { .. }
+        | Op::GuestFetch { .. }
+        | Op::GuestStore { .. } => Effect::Privileged,
+    }
+}
+
+fn set(rd: Reg, value: u64, next: u64) -> Effect
+    ensures { result ≡ Sets rd value next }
+{
+    Effect::Sets { rd, value, next }
+}
+
+fn address_at(regs: &Regs, rs1: Reg, offset: u64) -> u64
+    ensures { result ≡ address_at regs.now rs1 offset }
+{
+    regs.read(rs1).wrapping_add(offset)
+}
+
+fn even(address: u64) -> u64
+    ensures { result ≡ even address }
+{
+    address - address % 2
+}
+
+fn holds(test: Test, a: u64, b: u64) -> bool
+    ensures { result ≡ holds test a b }
+{
+    match test {
+        Test::Eq => a == b,
+        Test::Ne => a != b,
+        Test::Lt => a.cast_signed() < b.cast_signed(),
+        Test::Ge => a.cast_signed() >= b.cast_signed(),
+        Test::Ltu => a < b,
+        Test::Geu => a >= b,
     }
 }
 
@@ -32,21 +156,35 @@ fn jump(rd: Reg, next: u64, target: u64) -> Effect
     ensures { result ≡ jump rd next target }
 {
     if target % 4 == 0 {
-        Effect::Sets {
-            rd,
-            value: next,
-            next: target,
-        }
+        set(rd, next, target)
     } else {
-        Effect::Raises {
-            cause: INSTRUCTION_MISALIGNED,
-            tval: target,
-        }
+        misaligned(target)
+    }
+}
+
+fn branch(taken: bool, next: u64, target: u64) -> Effect
+    ensures { result ≡ branch taken next target }
+{
+    if !taken {
+        set(Reg::new(0), 0, next)
+    } else if target % 4 == 0 {
+        set(Reg::new(0), 0, target)
+    } else {
+        misaligned(target)
+    }
+}
+
+fn misaligned(target: u64) -> Effect
+    ensures { result ≡ Raises INSTRUCTION_MISALIGNED target }
+{
+    Effect::Raises {
+        cause: INSTRUCTION_MISALIGNED,
+        tval: target,
     }
 }
 
 /// What a step that made the instruction of this word at this pc was.
-#[tactic(auto, unfolding(machine_defs::specs::Instructions::is_system))]
+#[tactic(auto, unfolding(op_defs::specs::Table::is_system))]
 pub fn event_of(pc: u64, word: u32) -> Event
     ensures { result ≡ event_of pc word }
 {

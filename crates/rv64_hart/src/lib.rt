@@ -1,12 +1,14 @@
 // The hart on which all guests run, with V = 1 over machine memory, and the account of what it did.
 #![tactic(auto)]
 
-mod decoding;
+mod accesses;
 mod effects;
 mod harts;
 mod memory;
+mod steps;
 mod tallies;
 
-pub use harts::{Hart, HartState, MACHINE_BASE, Stop, Why};
+pub use harts::{Hart, HartState, Stop, Why};
 pub use memory::{FRAME_SIZE, PhysMem};
+pub use steps::MACHINE_BASE;
 pub use tallies::Tally;

@@ -1,7 +1,8 @@
 // Machine memory.
 
-ghost use Rattle.std.specs.Prelude.{◌≡◌, ℕ, ◌+◌, ◌*◌, ◌%◌, ◌<◌, ◌≤◌, ◌⊎◌, length, IfOk};
-ghost use Rattle.machine_defs.specs.Memory.{load, pasted, zeros};
+ghost use Rattle.std.specs.Prelude.{◌≡◌, ℕ, ◌+◌, ◌*◌, ◌%◌, ◌<◌, ◌≤◌, ◌⊎◌, length, take, IfOk};
+ghost use Rattle.byteorder.specs.Endian.{little_bytes};
+ghost use Rattle.arch_defs.specs.Memory.{load, pasted, zeros};
 ghost use Rattle.rv64_hart.specs.declared.memory.TheConstants.{FRAME_SIZE};
 
 use byteorder::{ByteOrder, LittleEndian};
@@ -29,7 +30,7 @@ impl Model for PhysMem {
 
 impl PhysMem {
     /// So many frames of zeros.
-    #[tactic(auto, unfolding(machine_defs::specs::Memory::zeros))]
+    #[tactic(auto, unfolding(arch_defs::specs::Memory::zeros))]
     pub fn new(alloc: Global, frames: u64) -> Result<PhysMem, AllocError>
         requires some { 1 ≤ frames }
         requires most { frames ≤ 131072 }
@@ -49,22 +50,40 @@ impl PhysMem {
         self.bytes.len() as u64
     }
 
-    /// The number of `width` bytes at a place, little endian.
+    /// The number of `width` bytes at a place that is a multiple of it, little endian.
+    #[tactic(auto, using(crate::proofs::Places::fits))]
     pub fn load(&self, at: u64, width: u8) -> u64
         requires width { (width ≡ 1) ⊎ (width ≡ 2) ⊎ (width ≡ 4) ⊎ (width ≡ 8) }
-        requires inside { at + width ≤ length self.now }
+        requires inside { at < length self.now }
         requires aligned { at % width ≡ 0 }
         ensures { result ≡ load self.now at width }
     {
         number(&self.bytes[at as usize..], width)
     }
 
-    /// The word of four bytes at a place, little endian.
+    /// The word of four bytes at a place that is a multiple of 4, little endian.
     pub fn load_word(&self, at: u64) -> u32
-        requires { at + 4 ≤ length self.now }
+        requires inside { at < length self.now }
+        requires aligned { at % 4 ≡ 0 }
         ensures { result ≡ load self.now at 4 }
     {
         LittleEndian::read_u32(&self.bytes[at as usize..])
+    }
+
+    /// Writes the low `width` bytes of a value at a place that is a multiple of it, little endian.
+    #[tactic(auto, using(crate::proofs::Places::fits))]
+    pub fn store(&mut self, at: u64, width: u8, value: u64)
+        requires width { (width ≡ 1) ⊎ (width ≡ 2) ⊎ (width ≡ 4) ⊎ (width ≡ 8) }
+        requires inside { at < length self.old }
+        requires aligned { at % width ≡ 0 }
+        ensures { self.new ≡ pasted self.old at (little_bytes width value) }
+    {
+        let piece = bytes_of(value);
+        paste(
+            self.bytes.as_mut_slice(),
+            at as usize,
+            &piece[..width as usize],
+        );
     }
 
     /// Lays bytes over those from a place on.
@@ -88,6 +107,17 @@ fn number(bytes: &[u8], width: u8) -> u64
         4 => LittleEndian::read_u32(bytes) as u64,
         _ => LittleEndian::read_u64(bytes),
     }
+}
+
+// The eight bytes of a value, the lowest first.
+#[tactic(auto, using(crate::proofs::Places::fronts))]
+fn bytes_of(value: u64) -> [u8; 8]
+    ensures bytes { result ≡ little_bytes 8 value }
+    ensures fronts { (n : ℕ) → n ≤ 8 → take n result ≡ little_bytes n value }
+{
+    let mut bytes = [0u8; 8];
+    LittleEndian::write_u64(&mut bytes, value);
+    bytes
 }
 
 // Lays a piece over the bytes from a place on.

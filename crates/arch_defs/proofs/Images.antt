@@ -1,7 +1,7 @@
 -- Memory with an image in it.
 use Rattle.std.proofs.Common.{◌≡◌, ℕ, List, length, refl, zero-add}
 use Rattle.std.proofs.lemmas.List.{length-replicate, drop-replicate}
-use Rattle.machine_defs.specs.Memory.{zeros, loaded, pasted}
+use Rattle.arch_defs.specs.Memory.{zeros, loaded, pasted}
 
 pub length_zeros : (n : ℕ) → length (zeros n) ≡ n
 unfolding zeros

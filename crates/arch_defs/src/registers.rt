@@ -1,8 +1,8 @@
 // The registers of a hart: x registers, pc, and the control and status registers with named bits.
 
 ghost use Rattle.std.specs.Prelude.{◌≡◌, ◌<◌};
-ghost use Rattle.machine_defs.specs.Bits.{field};
-ghost use Rattle.machine_defs.specs.Registers.{read, advanced, clear_interrupts, csrs_at_reset, bank_at_reset, clear_supervisor_status, clear_hypervisor_status, regs_at, virtual_at};
+ghost use Rattle.arch_defs.specs.Bits.{field};
+ghost use Rattle.arch_defs.specs.Registers.{read, advanced, clear_interrupts, csrs_at_reset, bank_at_reset, clear_supervisor_status, clear_hypervisor_status, regs_at, virtual_at};
 
 use crate::modes::Mode;
 use std::marker::Model;

@@ -1,7 +1,7 @@
 -- Memory: a base address and a list of bytes, read and written little endian.
 use Rattle.std.specs.Prelude.{ℕ, ◌+◌, ◌-◌, ◌&&◌, List, ◌++◌, Option, Some, None, length, take, drop, replicate, nat_lt, nat_le, if◌then◌else◌}
 use Rattle.byteorder.specs.Endian.{little_number, little_bytes}
-use Rattle.machine_defs.specs.declared.modes.Access.{Access}
+use Rattle.arch_defs.specs.declared.modes.Access.{Access}
 
 -- where a lone machine's RAM begins
 abbrev pub ram_base : ℕ

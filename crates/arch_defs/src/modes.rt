@@ -47,8 +47,17 @@ pub const INSTRUCTION_ACCESS_FAULT: u64 = 1;
 /// Illegal instruction.
 pub const ILLEGAL_INSTRUCTION: u64 = 2;
 
+/// Breakpoint.
+pub const BREAKPOINT: u64 = 3;
+
+/// Load address misaligned.
+pub const LOAD_MISALIGNED: u64 = 4;
+
 /// Load access fault.
 pub const LOAD_ACCESS_FAULT: u64 = 5;
+
+/// Store or AMO address misaligned.
+pub const STORE_MISALIGNED: u64 = 6;
 
 /// Store or AMO access fault.
 pub const STORE_ACCESS_FAULT: u64 = 7;

@@ -1,15 +1,15 @@
 -- x registers and pc, and the state in which all registers are zero.
 use Rattle.std.specs.Prelude.{ℕ, None, false, ◌==◌, replicate, slice_index, slice_set, if◌then◌else◌}
-use Rattle.machine_defs.specs.declared.modes.Mode.{Mode}
-use Rattle.machine_defs.specs.declared.registers.Regs.{Regs}
-use Rattle.machine_defs.specs.declared.registers.Bank.{Bank}
-use Rattle.machine_defs.specs.declared.registers.Csrs.{Csrs}
-use Rattle.machine_defs.specs.declared.registers.Interrupts.{Interrupts}
-use Rattle.machine_defs.specs.declared.registers.SupervisorStatus.{SupervisorStatus}
-use Rattle.machine_defs.specs.declared.registers.HypervisorStatus.{HypervisorStatus}
-use Rattle.machine_defs.specs.declared.registers.SupervisorRoot.TheVariants as supervisor_root
-use Rattle.machine_defs.specs.declared.registers.GuestRoot.TheVariants as guest_root
-use Rattle.machine_defs.specs.declared.registers.Virtual.{Virtual}
+use Rattle.arch_defs.specs.declared.modes.Mode.{Mode}
+use Rattle.arch_defs.specs.declared.registers.Regs.{Regs}
+use Rattle.arch_defs.specs.declared.registers.Bank.{Bank}
+use Rattle.arch_defs.specs.declared.registers.Csrs.{Csrs}
+use Rattle.arch_defs.specs.declared.registers.Interrupts.{Interrupts}
+use Rattle.arch_defs.specs.declared.registers.SupervisorStatus.{SupervisorStatus}
+use Rattle.arch_defs.specs.declared.registers.HypervisorStatus.{HypervisorStatus}
+use Rattle.arch_defs.specs.declared.registers.SupervisorRoot.TheVariants as supervisor_root
+use Rattle.arch_defs.specs.declared.registers.GuestRoot.TheVariants as guest_root
+use Rattle.arch_defs.specs.declared.registers.Virtual.{Virtual}
 
 -- the value of register n; x0 is 0 from the start, and never written
 abbrev pub read : Regs → ℕ → ℕ

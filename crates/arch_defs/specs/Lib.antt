@@ -1,0 +1,4 @@
+pub mod Bits
+pub mod Memory
+pub mod Registers
+pub mod Widths

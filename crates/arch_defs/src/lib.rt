@@ -1,0 +1,19 @@
+// The state that the architecture defines: privilege modes, traps, registers, widths, and memory as bytes.
+#![tactic(auto)]
+
+mod entries;
+mod modes;
+mod registers;
+mod widths;
+
+pub use entries::Entry;
+pub use modes::{
+    Access, BREAKPOINT, ECALL_FROM_HS, ECALL_FROM_USER, ECALL_FROM_VS, ILLEGAL_INSTRUCTION,
+    INSTRUCTION_ACCESS_FAULT, INSTRUCTION_MISALIGNED, LOAD_ACCESS_FAULT, LOAD_MISALIGNED, Mode,
+    STORE_ACCESS_FAULT, STORE_MISALIGNED, Trap,
+};
+pub use registers::{
+    Bank, Csrs, GuestRoot, HypervisorStatus, Interrupts, Reg, Regs, SupervisorRoot,
+    SupervisorStatus, Virtual,
+};
+pub use widths::{Width, extend};

@@ -1,0 +1,4 @@
+pub mod Arithmetic
+pub mod Fields
+pub mod Meaning
+pub mod Table

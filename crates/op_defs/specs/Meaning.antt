@@ -1,0 +1,74 @@
+-- What each instruction asks for, read off the registers (Unprivileged ISA 20191213, 2.4 to 2.8, 3, 5, 7 and 8).
+use Rattle.std.specs.Prelude.{ℕ, ◌-◌, ◌%◌, Bool, true, false, ◌==◌, nat_lt, int_lt, not, if◌then◌else◌}
+use Rattle.arch_defs.specs.declared.modes.TheConstants.{INSTRUCTION_MISALIGNED, BREAKPOINT}
+use Rattle.arch_defs.specs.declared.registers.Regs.{Regs}
+use Rattle.arch_defs.specs.declared.widths.Width.TheVariants.{Double}
+use Rattle.arch_defs.specs.Bits.{add64}
+use Rattle.arch_defs.specs.Registers.{read}
+use Rattle.op_defs.specs.declared.ops.Op.{Op}
+use Rattle.op_defs.specs.declared.ops.Op.TheVariants as op
+use Rattle.op_defs.specs.declared.ops.Test.{Test}
+use Rattle.op_defs.specs.declared.ops.Test.TheVariants.{Eq, Ne, Lt, Ge, Ltu, Geu}
+use Rattle.op_defs.specs.declared.ops.Effect.{Effect}
+use Rattle.op_defs.specs.declared.ops.Effect.TheVariants.{Sets, Raises, Loads, Stores, Reserves, StoresReserved, Modifies, Calls, Privileged}
+use Rattle.op_defs.specs.Arithmetic.{signed, alu, word_alu}
+
+-- the address of the next instruction
+abbrev pub next : Regs → ℕ
+next regs = add64 regs.pc 4
+
+-- the address that a load, store or jump by register has
+abbrev pub address_at : Regs → ℕ → ℕ → ℕ
+address_at regs rs1 offset = add64 (read regs rs1) offset
+
+-- the same with its lowest bit clear (2.5)
+abbrev pub even : ℕ → ℕ
+even address = address - address % 2
+
+-- whether a branch is taken
+abbrev pub holds : Test → ℕ → ℕ → Bool
+holds Eq a b = a == b
+holds Ne a b = not (a == b)
+holds Lt a b = int_lt (signed a) (signed b)
+holds Ge a b = not (int_lt (signed a) (signed b))
+holds Ltu a b = nat_lt a b
+holds Geu a b = not (nat_lt a b)
+
+-- a jump, which leaves the next pc in rd; a target that is no multiple of 4 is an exception at the jump (2.5)
+abbrev pub jump : ℕ → ℕ → ℕ → Effect
+jump rd next target = if target % 4 == 0 then Sets rd next target else Raises INSTRUCTION_MISALIGNED target
+
+-- a branch that is taken or not; x0 stands for no register
+abbrev pub branch : Bool → ℕ → ℕ → Effect
+branch true next target = if target % 4 == 0 then Sets 0 0 target else Raises INSTRUCTION_MISALIGNED target
+branch false next target = Sets 0 0 next
+
+-- what an instruction asks for; what needs a privilege check is not built so far
+unfoldable pub meaning : Op → Regs → Effect
+meaning (op.Lui rd immediate) regs = Sets rd immediate (next regs)
+meaning (op.Auipc rd immediate) regs = Sets rd (add64 regs.pc immediate) (next regs)
+meaning (op.Jal rd offset) regs = jump rd (next regs) (add64 regs.pc offset)
+meaning (op.Jalr rd rs1 offset) regs = jump rd (next regs) (even (address_at regs rs1 offset))
+meaning (op.Branch test rs1 rs2 offset) regs = branch (holds test (read regs rs1) (read regs rs2)) (next regs) (add64 regs.pc offset)
+meaning (op.Load width signed rd rs1 offset) regs = Loads (address_at regs rs1 offset) width signed rd
+meaning (op.Store width rs1 rs2 offset) regs = Stores (address_at regs rs1 offset) width (read regs rs2)
+meaning (op.AluImmediate o rd rs1 immediate) regs = Sets rd (alu o (read regs rs1) immediate) (next regs)
+meaning (op.Alu o rd rs1 rs2) regs = Sets rd (alu o (read regs rs1) (read regs rs2)) (next regs)
+meaning (op.WordImmediate o rd rs1 immediate) regs = Sets rd (word_alu o (read regs rs1) immediate) (next regs)
+meaning (op.Word o rd rs1 rs2) regs = Sets rd (word_alu o (read regs rs1) (read regs rs2)) (next regs)
+meaning op.Fence regs = Sets 0 0 (next regs)
+meaning op.FenceI regs = Sets 0 0 (next regs)
+meaning (op.LoadReserved width rd rs1) regs = Reserves (read regs rs1) width rd
+meaning (op.StoreConditional width rd rs1 rs2) regs = StoresReserved (read regs rs1) width (read regs rs2) rd
+meaning (op.Amo o width rd rs1 rs2) regs = Modifies o (read regs rs1) width (read regs rs2) rd
+meaning op.Ecall regs = Calls
+meaning op.Ebreak regs = Raises BREAKPOINT regs.pc
+meaning op.Sret regs = Privileged
+meaning op.Wfi regs = Privileged
+meaning (op.Csr o source rd number) regs = Privileged
+meaning (op.SfenceVma rs1 rs2) regs = Privileged
+meaning (op.HfenceVvma rs1 rs2) regs = Privileged
+meaning (op.HfenceGvma rs1 rs2) regs = Privileged
+meaning (op.GuestLoad width signed rd rs1) regs = Privileged
+meaning (op.GuestFetch width rd rs1) regs = Privileged
+meaning (op.GuestStore width rs1 rs2) regs = Privileged

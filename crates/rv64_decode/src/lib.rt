@@ -1,0 +1,10 @@
+// From a word to the instruction that it is.
+#![tactic(auto)]
+
+mod atomics;
+mod decoding;
+mod fields;
+mod registers;
+mod systems;
+
+pub use decoding::decode;
