@@ -38,7 +38,7 @@ pub struct Trap {
     pub implicit: bool,
 }
 
-/// Instruction address misaligned (Privileged Architecture 20211203, table 8.5, as all codes here).
+/// Instruction address misaligned (Privileged Architecture 20211203, 8.6.1, as all codes here).
 pub const INSTRUCTION_MISALIGNED: u64 = 0;
 
 /// Instruction access fault.

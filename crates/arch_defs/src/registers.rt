@@ -86,7 +86,7 @@ impl Regs {
     }
 }
 
-/// The writable bits of sstatus and vsstatus (Privileged Architecture 20211203, 4.1.1 and 8.2.10).
+/// The writable bits of sstatus and vsstatus (Privileged Architecture 20211203, 4.1.1 and 8.2.11).
 #[derive(Clone, Copy, Debug, PartialEq, Eq)]
 pub struct SupervisorStatus {
     pub sie: bool,
@@ -205,7 +205,7 @@ impl Bank {
 }
 
 /// The control and status registers of HS and VS (Privileged Architecture 20211203, 4.1 and 8.2).
-/// The owner sets `sip`'s timer and external bits and `time` before a step.
+/// `sip`'s timer and external bits and `time` are the owner's to set before a step.
 #[derive(Clone, Copy, Debug, PartialEq, Eq)]
 pub struct Csrs {
     /// sstatus to satp.

@@ -19,7 +19,7 @@ use Rattle.op_defs.specs.declared.ops.Effect.{Effect}
 use Rattle.op_defs.specs.declared.ops.Effect.TheVariants.{Sets, Raises, Loads, Stores, Reserves, StoresReserved, Modifies, Calls, Privileged}
 use Rattle.op_defs.specs.Meaning.{branch, holds, jump, meaning, next}
 use Rattle.op_defs.specs.Table.{op_of}
-use Rattle.machine_defs.specs.Core.{Outcome, Done, Trapped, Stuck, Called, called, aligned, loaded_at, stored_at, reserved_at, attempted, attempted_at, is_reserved, modified_at, done, decoded, fetched, core}
+use Rattle.machine_defs.specs.Core.{Outcome, Done, Trapped, Stuck, Called, called_from, aligned, loaded_at, stored_at, reserved_at, attempted, attempted_at, is_reserved, modified_at, executed, decoded, fetched, core}
 use Rattle.guest_turns.specs.Following.{hosted}
 
 -- what an instruction is on the hart, by what it is to the lone machine in HS
@@ -73,7 +73,7 @@ meaning_is_no_call (op.GuestLoad width signed rd rs1) regs = tt
 meaning_is_no_call (op.GuestFetch width rd rs1) regs = tt
 meaning_is_no_call (op.GuestStore width rs1 rs2) regs = tt
 
-called_alike : (state : Virtual) (mode : Mode) → mode ≡ HS → Alike (called mode) (called VS)
+called_alike : (state : Virtual) (mode : Mode) → mode ≡ HS → Alike (called_from mode) (called_from VS)
 called_alike state HS e = refl
 called_alike state U e = cc
 called_alike state VS e = cc
@@ -115,7 +115,7 @@ modified_alike reading state word o width operand rd address (Some place) hs = (
 modified_alike reading state word o width operand rd address None hs = refl
 
 done_alike : (second : SecondStage) (reading : Reading) (state : Virtual) (word : ℕ) (effect : Effect) → state.mode ≡ HS → IsNoCall effect
-    → Alike (done second reading state word effect) (done second reading (hosted state) word effect)
+    → Alike (executed second reading state word effect) (executed second reading (hosted state) word effect)
 done_alike second reading state word (Sets rd value next) hs fine = (refl, hs)
 done_alike second reading state word (Raises cause tval) hs fine = (refl, fine)
 done_alike second reading state word (Loads address width signed rd) hs fine =

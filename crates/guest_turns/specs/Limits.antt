@@ -1,10 +1,10 @@
--- What a guest may ask for.
+-- What a host can boot.
 use Rattle.std.specs.Prelude.{◌*◌, ◌≤◌, length}
 use Rattle.machine_defs.specs.declared.guests.GuestSpec.{GuestSpec}
 use Rattle.arch_defs.specs.Memory.{block_size}
 
--- a guest within the limits of a configuration, whose image fits
-pub record IsWithinLimits (guest : GuestSpec) : Type 0 where
+-- a guest whose blocks and console are within the limits, and whose image fits
+pub record IsBootable (guest : GuestSpec) : Type 0 where
   pub some_block : 1 ≤ guest.blocks
   pub blocks : guest.blocks ≤ 32
   pub console : guest.console ≤ 1048576

@@ -10,7 +10,7 @@ ghost use Rattle.arch_defs.specs.Registers.{advanced, a0};
 ghost use Rattle.machine_defs.specs.Runs.{left_by, run, step, events, events_by, plain_count, trace_of};
 ghost use Rattle.guest_turns.specs.Following.{lone, answered_by, Follows, steps_in, trap_in};
 ghost use Rattle.rv64_hart.specs.Counts.{IsRaisedBy};
-ghost use Rattle.guest_turns.specs.Limits.{IsWithinLimits};
+ghost use Rattle.guest_turns.specs.Limits.{IsBootable};
 
 use arch_defs::{ECALL_FROM_VS, Mode, Reg, Trap, Virtual};
 use machine_defs::{GuestSpec, Inputs, Status};
@@ -52,7 +52,7 @@ impl Host {
     /// The guest's machine at its start.
     #[tactic(auto, unfolding(machine_defs::specs::Machine::start))]
     pub fn boot(alloc: Global, guest: GuestSpec) -> Result<Host, AllocError>
-        requires { IsWithinLimits guest }
+        requires { IsBootable guest }
         ensures start { IfOk result (λ host. host ≡ start guest) }
         ensures fresh { IfOk result (λ host. host.steps ≡ 0) }
     {
@@ -87,11 +87,12 @@ impl Host {
         ensures most { result ≤ k }
         ensures fewer { result < k → self.new.status ≢ Running }
 
-        // The account of the hart: it is entered once a step and made each plain step.
+        // The account of the hart: it makes each plain step, and no more steps than the machine.
+        ensures entries_grow { tally.old.entries ≤ tally.new.entries }
         ensures entries_least { 0 < result → tally.old.entries < tally.new.entries }
         ensures entries_most { tally.new.entries ≤ tally.old.entries + k }
         ensures taken_least { tally.old.taken + plain_count (events self.old k) ≤ tally.new.taken }
-        ensures taken_most { tally.new.taken ≤ tally.old.taken + k }
+        ensures taken_most { tally.new.taken ≤ tally.old.taken + result }
         ensures trace { IsRaisedBy (trace_of (events self.old k)) tally.old.trace tally.new.trace }
     {
         let before = self.steps();
@@ -137,7 +138,7 @@ impl Host {
         ensures counts { self.new.status ≡ Running → self.new.steps ≡ self.old.steps + 1 }
         ensures entries { tally.new.entries ≡ tally.old.entries + 1 }
         ensures taken_least { tally.old.taken + plain_count (events_by self.old self.old.status) ≤ tally.new.taken }
-        ensures taken_most { tally.new.taken ≤ tally.old.taken + 1 }
+        ensures taken_most { tally.new.taken + self.old.steps ≤ tally.old.taken + self.new.steps }
         ensures trace { IsRaisedBy (trace_of (events_by self.old self.old.status)) tally.old.trace tally.new.trace }
     {
         match enter(&mut self.hart, &mut self.memory, tally) {

@@ -49,11 +49,11 @@ abbrev pub write : ℕ → Width → ℕ → Option Write
 write place width value = Some (record { place = place; width = bytes_in width; value = value })
 
 -- a call of the environment, by mode (Privileged Architecture 20211203, 3.3.1 and 8.6)
-abbrev pub called : Mode → Outcome
-called HS = Called
-called U = Trapped ECALL_FROM_USER 0
-called VS = Trapped ECALL_FROM_VS 0
-called VU = Trapped ECALL_FROM_USER 0
+abbrev pub called_from : Mode → Outcome
+called_from HS = Called
+called_from U = Trapped ECALL_FROM_USER 0
+called_from VS = Trapped ECALL_FROM_VS 0
+called_from VU = Trapped ECALL_FROM_USER 0
 
 -- an access at an address that is a multiple of its width, which is tested first
 abbrev pub aligned : ℕ → Width → ℕ → Outcome → Outcome
@@ -97,25 +97,25 @@ modified_at reading state word op width operand rd address (Some place) =
 modified_at reading state word op width operand rd address None = Stuck address Store Store address
 
 -- what an instruction's effect does; what needs a privilege check is not built so far
-abbrev pub done : SecondStage → Reading → Virtual → ℕ → Effect → Outcome
-done second reading state word (Sets rd value next) = Done (record state { regs = advanced state.regs rd value next }) None (event_of state.regs.pc word)
-done second reading state word (Raises cause tval) = Trapped cause tval
-done second reading state word (Loads address width signed rd) =
+abbrev pub executed : SecondStage → Reading → Virtual → ℕ → Effect → Outcome
+executed second reading state word (Sets rd value next) = Done (record state { regs = advanced state.regs rd value next }) None (event_of state.regs.pc word)
+executed second reading state word (Raises cause tval) = Trapped cause tval
+executed second reading state word (Loads address width signed rd) =
     aligned address width LOAD_MISALIGNED (loaded_at reading state word width signed rd address (second address Load))
-done second reading state word (Stores address width value) =
+executed second reading state word (Stores address width value) =
     aligned address width STORE_MISALIGNED (stored_at state word width value address (second address Store))
-done second reading state word (Reserves address width rd) =
+executed second reading state word (Reserves address width rd) =
     aligned address width LOAD_MISALIGNED (reserved_at reading state word width rd address (second address Load))
-done second reading state word (StoresReserved address width value rd) =
+executed second reading state word (StoresReserved address width value rd) =
     aligned address width STORE_MISALIGNED (attempted_at state word width value rd address (second address Store))
-done second reading state word (Modifies op address width operand rd) =
+executed second reading state word (Modifies op address width operand rd) =
     aligned address width STORE_MISALIGNED (modified_at reading state word op width operand rd address (second address Store))
-done second reading state word Calls = called state.mode
-done second reading state word Privileged = Trapped ILLEGAL_INSTRUCTION word
+executed second reading state word Calls = called_from state.mode
+executed second reading state word Privileged = Trapped ILLEGAL_INSTRUCTION word
 
 -- the instruction that was decoded from a word; a word that is none is illegal
 abbrev pub decoded : SecondStage → Reading → Virtual → ℕ → Option Op → Outcome
-decoded second reading state word (Some op) = done second reading state word (meaning op state.regs)
+decoded second reading state word (Some op) = executed second reading state word (meaning op state.regs)
 decoded second reading state word None = Trapped ILLEGAL_INSTRUCTION word
 
 -- the word at the physical address of pc, if it has one
@@ -123,7 +123,7 @@ abbrev pub fetched : SecondStage → Reading → Virtual → Option ℕ → Outc
 fetched second reading state (Some place) = decoded second reading state (reading place 4) (op_of (reading place 4))
 fetched second reading state None = Stuck state.regs.pc Fetch Fetch state.regs.pc
 
--- one instruction; pc is a multiple of 4 in every state that a run reaches
+-- one instruction; pc is a multiple of 4 from the start on, since a jump to another target is an exception at the jump
 unfoldable pub core : SecondStage → Reading → Virtual → Outcome
 core second reading state =
     if state.regs.pc % 4 == 0 then fetched second reading state (second state.regs.pc Fetch)

@@ -1,13 +1,15 @@
 -- The reads of a command, one after the other.
-use Rattle.std.proofs.Common.{◌≡◌, ℕ, zero, suc, ◌≤◌, List, [], ◌∷◌, ◌++◌, Option, Some, None, take, refl, ap, sym, subst, append_assoc, length, arith}
+use Rattle.std.proofs.Common.{IsSome, option_and_then, ◌≡◌, ℕ, zero, suc, ◌≤◌, List, [], ◌∷◌, ◌++◌, Option, Some, None, take, refl, ap, sym, subst, append_assoc, length, arith}
 use Rattle.outside.specs.Asks.{Ask}
+use Rattle.outside.specs.Files.{Files}
+use Rattle.run_config.specs.Accept.{accept}
 use Rattle.run_config.specs.Settings.{Settings}
 use Rattle.nesthv_top.specs.declared.ends.LoadEnd.{LoadEnd}
 use Rattle.nesthv_top.specs.declared.ends.LoadEnd.TheVariants.{Refused, ReadFault, NoMemory}
 use Rattle.nesthv_top.specs.Ends.{RefusesOnly, made_by, added_by, IfFailed, IfWanting}
-use Rattle.nesthv_top.specs.Plans.{image_most}
-use Rattle.nesthv_top.specs.Reads.{ask, image_asks, failed_at}
-use Rattle.nesthv_top.specs.Statuses.{AskedMore, IsFailedRead}
+use Rattle.nesthv_top.specs.Plans.{Plan, config_most, image_most, content, planned, planned_by}
+use Rattle.nesthv_top.specs.Reads.{ask, config_asks, image_asks, failed_at}
+use Rattle.nesthv_top.specs.Statuses.{AskedMore, IsFailedRead, IsWanting}
 
 -- what was asked after two steps
 asked_then : (xs ys : List Ask) (before between after : Option (List Ask)) → AskedMore xs before between → AskedMore ys between after → AskedMore (xs ++ ys) before after
@@ -67,6 +69,28 @@ pub failed_made : (n n' : ℕ) (reads : List Ask) (before after : Option (List A
 failed_made n n' reads before after e (some, number) asked =
     subst (λ k. IsFailedRead k reads before after) e (record { some = some; number = number; asked = asked })
 
-pub first_made : (n n' : ℕ) (reads : List Ask) (before after : Option (List Ask)) → n ≡ n'
-    → AskedMore (take n reads) before after → AskedMore (take n' reads) before after
-first_made n n' reads before after e asked = subst (λ k. AskedMore (take k reads) before after) e asked
+pub read_number : (n n' : ℕ) → n ≡ n' → (1 ≤ n) × (n ≤ 2) → (1 ≤ n') × (n' ≤ 2)
+read_number n n' e bounds = subst (λ k. (1 ≤ k) × (k ≤ 2)) e bounds
+
+pub wanting_made : (n n' : ℕ) (plan : Option Plan) (reads : List Ask) (before after : Option (List Ask)) → n ≡ n'
+    → (n ≤ length reads) × (n ≡ 2 → IsSome plan) → AskedMore (take n reads) before after → IsWanting n' plan reads before after
+wanting_made n n' plan reads before after e (number, late) asked =
+    subst (λ k. IsWanting k plan reads before after) e (record { number = number; late = late; asked = asked })
+
+-- where there is a plan, both reads were to be made
+two_asks : (files : Files) (read : Ask) (settings : Option Settings) (plan : Plan) → option_and_then (planned_by files) settings ≡ Some plan
+    → 2 ≤ length (read ∷ image_asks settings)
+two_asks files read (Some settings) plan e = omega arith
+two_asks files read None plan e = cc
+
+pub both_asked : (files : Files) (name : List ℕ) (plan : Plan) → planned files name ≡ Some plan → 2 ≤ length (config_asks files name)
+unfolding planned
+both_asked files name plan e = two_asks files (ask name config_most) (accept (content files name config_most)) plan e
+
+-- and memory that is wanting after them
+pub wanting_late : (files : Files) (name : List ℕ) (plan : Plan) (before after : Option (List Ask)) → planned files name ≡ Some plan
+    → AskedMore (config_asks files name) before after → IsWanting 2 (planned files name) (config_asks files name) before after
+wanting_late files name plan before after e asked = record {
+    number = both_asked files name plan e;
+    late = λ _. subst IsSome (sym e) refl;
+    asked = whole_reads (ask name config_most) (accept (content files name config_most)) before after asked }

@@ -1,6 +1,6 @@
 -- The command and the plan that the program's own values stand for.
 use Rattle.std.specs.Prelude.{◌≡◌, ◌*◌, ◌^◌, ◌≤◌, length}
-use Rattle.guest_turns.specs.Limits.{IsWithinLimits}
+use Rattle.guest_turns.specs.Limits.{IsBootable}
 use Rattle.nesthv_top.specs.declared.commands.Request.{Request}
 use Rattle.nesthv_top.specs.declared.commands.Request.TheVariants as request
 use Rattle.nesthv_top.specs.declared.ends.Job.{Job}
@@ -15,7 +15,7 @@ plan_in job = record { guest = job.guest; steps = job.quantum * job.rounds }
 
 -- a job that an accepted configuration gives
 pub record IsJob (job : Job) : Type 0 where
-  pub guest : IsWithinLimits job.guest
+  pub guest : IsBootable job.guest
   pub same_name : job.name ≡ job.guest.name
   pub short_name : length job.name ≤ 32
   pub short_turn : job.quantum ≤ 2 ^ 32

@@ -1,6 +1,6 @@
 // From a configuration's name to the job that it describes.
 
-ghost use Rattle.std.specs.Prelude.{◌≡◌, ◌+◌, ◌*◌, ◌≤◌, ℕ, List, [], ◌∷◌, ◌++◌, Some, None, Option, option_map, length, IfOk};
+ghost use Rattle.std.specs.Prelude.{◌≡◌, ◌+◌, ◌*◌, ◌≤◌, ℕ, List, [], ◌∷◌, ◌++◌, Some, None, Option, option_map, length, IfOk, IsSome};
 ghost use Rattle.arch_defs.specs.Memory.{block_size};
 ghost use Rattle.outside.specs.Faults.{Rose};
 ghost use Rattle.outside.specs.Files.{Files};
@@ -33,6 +33,9 @@ pub fn load<S: Store>(alloc: Global, name: &str, store: &mut S) -> Result<Job, L
     ensures stays { S.files store.new ≡ S.files store.old }
     ensures cause { IfReadFault result (λ _. Rose (S.faults store.old) (S.faults store.new)) }
     ensures number { (files : Files) → S.files store.old ≡ Some files → IfReadFault result (λ n. (1 ≤ n) × (n ≤ length (config_asks files name.now))) }
+    ensures first_or_second { IfReadFault result (λ n. (1 ≤ n) × (n ≤ 2)) }
+    ensures wanting { (files : Files) → S.files store.old ≡ Some files
+        → IfNoMemory result (λ n. (n ≤ length (config_asks files name.now)) × (n ≡ 2 → IsSome (planned files name.now))) }
     ensures count { S.faults store.old ≤ S.faults store.new }
 {
     let config = match read_config(alloc, name, store) {

@@ -9,7 +9,7 @@ ghost use Rattle.rv64_hart.specs.Counts.{IsRaisedBy};
 ghost use Rattle.nesthv_top.specs.Commands.{command_of};
 ghost use Rattle.nesthv_top.specs.Plans.{Plan, planned, plan_of, report_of, steps_of, events_of};
 ghost use Rattle.nesthv_top.specs.Reads.{config_asks, asks_of};
-ghost use Rattle.nesthv_top.specs.Statuses.{status_of, IsAsked};
+ghost use Rattle.nesthv_top.specs.Statuses.{status_of, IsAsked, IfReadFault};
 
 use crate::commands::{Request, request_of};
 use crate::ends::{Ended, LoadEnd, RunEnd};
@@ -35,6 +35,7 @@ pub fn obey<S: Store, O: Sink>(
     ensures refuses { (files : Files) → S.files store.old ≡ Some files → command_of words.now ≢ None → plan_of files (command_of words.now) ≡ None
         → (status_of result ≡ 2) ⊎ (status_of result ≡ 3) ⊎ (status_of result ≡ 5) }
     ensures read_fault { status_of result ≡ 3 → Rose (S.faults store.old) (S.faults store.new) }
+    ensures read_number { IfReadFault result (λ n. (1 ≤ n) × (n ≤ 2)) }
     ensures write_fault { status_of result ≡ 4 → Rose (O.faults out.old) (O.faults out.new) }
 
     ensures complete { (files : Files) → S.files store.old ≡ Some files → IsSome (plan_of files (command_of words.now))
@@ -48,7 +49,7 @@ pub fn obey<S: Store, O: Sink>(
     ensures nothing { status_of result ≢ 0 → status_of result ≢ 4 → out.new ≡ out.old }
 
     ensures asked { (files : Files) → S.files store.old ≡ Some files
-        → IsAsked result (asks_of files (command_of words.now)) (S.asked store.old) (S.asked store.new) }
+        → IsAsked result (plan_of files (command_of words.now)) (asks_of files (command_of words.now)) (S.asked store.old) (S.asked store.new) }
     ensures files { S.files store.new ≡ S.files store.old }
     ensures store_count { S.faults store.old ≤ S.faults store.new }
     ensures out_count { O.faults out.old ≤ O.faults out.new }
@@ -58,6 +59,9 @@ pub fn obey<S: Store, O: Sink>(
         → tally.new.entries ≤ tally.old.entries + steps_of (plan_of files (command_of words.now)) }
     ensures taken_most { (files : Files) → S.files store.old ≡ Some files
         → tally.new.taken ≤ tally.old.taken + steps_of (plan_of files (command_of words.now)) }
+    ensures idle { status_of result ≢ 0 → status_of result ≢ 4 → tally.new ≡ tally.old }
+    ensures entries_grow { tally.old.entries ≤ tally.new.entries }
+    ensures taken_grow { tally.old.taken ≤ tally.new.taken }
     ensures entries_bound { tally.new.entries ≤ tally.old.entries + 2 ^ 52 }
     ensures taken_bound { tally.new.taken ≤ tally.old.taken + 2 ^ 52 }
     ensures taken_least { (files : Files) → S.files store.old ≡ Some files → status_of result ≡ 0
@@ -87,6 +91,7 @@ fn run_configuration<S: Store, O: Sink>(
     ensures refuses { (files : Files) → S.files store.old ≡ Some files → planned files config.now ≡ None
         → (status_of result ≡ 2) ⊎ (status_of result ≡ 3) ⊎ (status_of result ≡ 5) }
     ensures read_fault { status_of result ≡ 3 → Rose (S.faults store.old) (S.faults store.new) }
+    ensures read_number { IfReadFault result (λ n. (1 ≤ n) × (n ≤ 2)) }
     ensures write_fault { status_of result ≡ 4 → Rose (O.faults out.old) (O.faults out.new) }
 
     ensures complete { (files : Files) → S.files store.old ≡ Some files → IsSome (planned files config.now)
@@ -99,7 +104,7 @@ fn run_configuration<S: Store, O: Sink>(
         → IsSomeAnd (planned files config.now) (λ plan. Puts O.stands_for out.old out.new false (report_of plan)) }
     ensures nothing { status_of result ≢ 0 → status_of result ≢ 4 → out.new ≡ out.old }
 
-    ensures asked { (files : Files) → S.files store.old ≡ Some files → IsAsked result (config_asks files config.now) (S.asked store.old) (S.asked store.new) }
+    ensures asked { (files : Files) → S.files store.old ≡ Some files → IsAsked result (planned files config.now) (config_asks files config.now) (S.asked store.old) (S.asked store.new) }
     ensures files { S.files store.new ≡ S.files store.old }
     ensures store_count { S.faults store.old ≤ S.faults store.new }
     ensures out_count { O.faults out.old ≤ O.faults out.new }
@@ -107,6 +112,9 @@ fn run_configuration<S: Store, O: Sink>(
 
     ensures entries_most { (files : Files) → S.files store.old ≡ Some files → tally.new.entries ≤ tally.old.entries + steps_of (planned files config.now) }
     ensures taken_most { (files : Files) → S.files store.old ≡ Some files → tally.new.taken ≤ tally.old.taken + steps_of (planned files config.now) }
+    ensures idle { status_of result ≢ 0 → status_of result ≢ 4 → tally.new ≡ tally.old }
+    ensures entries_grow { tally.old.entries ≤ tally.new.entries }
+    ensures taken_grow { tally.old.taken ≤ tally.new.taken }
     ensures entries_bound { tally.new.entries ≤ tally.old.entries + 2 ^ 52 }
     ensures taken_bound { tally.new.taken ≤ tally.old.taken + 2 ^ 52 }
     ensures taken_least { (files : Files) → S.files store.old ≡ Some files → status_of result ≡ 0

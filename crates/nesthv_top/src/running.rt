@@ -27,7 +27,10 @@ pub fn run<O: Sink>(alloc: Global, job: Job, out: &mut O, tally: &mut Tally) -> 
     ensures count { O.faults out.old ≤ O.faults out.new }
     ensures stays { O.made_with out.new ≡ O.made_with out.old }
 
+    ensures idle { IsErrOf result RunEnd.NoMemory → tally.new ≡ tally.old }
+    ensures entries_grow { tally.old.entries ≤ tally.new.entries }
     ensures entries_most { tally.new.entries ≤ tally.old.entries + (plan_in job).steps }
+    ensures taken_grow { tally.old.taken ≤ tally.new.taken }
     ensures taken_most { tally.new.taken ≤ tally.old.taken + (plan_in job).steps }
     ensures taken_least { OnOk result (tally.old.taken + plain_count (events_of (plan_in job)) ≤ tally.new.taken) }
     ensures trace { OnOk result (IsRaisedBy (trace_of (events_of (plan_in job))) tally.old.trace tally.new.trace) }
@@ -64,6 +67,7 @@ fn run_rounds(host: &mut Host, quantum: u64, rounds: u64, tally: &mut Tally)
     requires taken { tally.old.taken ≤ 2 ^ 61 }
 
     ensures run { host.new ≡ run host.old (quantum * rounds) }
+    ensures entries_grow { tally.old.entries ≤ tally.new.entries }
     ensures entries_most { tally.new.entries ≤ tally.old.entries + quantum * rounds }
     ensures taken_most { tally.new.taken ≤ tally.old.taken + quantum * rounds }
     ensures taken_least { tally.old.taken + plain_count (events host.old (quantum * rounds)) ≤ tally.new.taken }

@@ -1,6 +1,6 @@
 // The top call.
 
-ghost use Rattle.std.specs.Prelude.{◌≡◌, ◌≢◌, ◌+◌, ◌^◌, ◌≤◌, ◌⊎◌, ◌↔◌, ℕ, Some, None, false, take, IsSome, IsSomeAnd, IfSome};
+ghost use Rattle.std.specs.Prelude.{◌≡◌, ◌≢◌, ◌+◌, ◌^◌, ◌≤◌, ◌⊎◌, ◌↔◌, ℕ, Some, None, false, IsSome, IsSomeAnd, IfSome};
 ghost use Rattle.machine_defs.specs.Runs.{plain_count, trace_of};
 ghost use Rattle.outside.specs.Faults.{Rose};
 ghost use Rattle.outside.specs.Files.{Files};
@@ -10,7 +10,7 @@ ghost use Rattle.nesthv_top.specs.Commands.{command_of};
 ghost use Rattle.nesthv_top.specs.Lines.{usage_line, configuration_line, read_line, write_line, memory_line};
 ghost use Rattle.nesthv_top.specs.Plans.{plan_of, report_of, steps_of, events_of};
 ghost use Rattle.nesthv_top.specs.Reads.{asks_of};
-ghost use Rattle.nesthv_top.specs.Statuses.{status_of, AskedMore, IsFailedRead, IsLineOf};
+ghost use Rattle.nesthv_top.specs.Statuses.{status_of, AskedMore, IsFailedRead, IsWanting, IsLineOf};
 ghost use Rattle.nesthv_top.specs.Written.{IsTold};
 
 use crate::ends::Ended;
@@ -67,14 +67,18 @@ pub fn nesthv<S: Store, O: Sink, E: Sink>(
     // number the line has, or memory was wanting.
     ensures asked { (files : Files) → S.files store.old ≡ Some files → result ≢ 3 → result ≢ 5
         → AskedMore (asks_of files (command_of words.now)) (S.asked store.old) (S.asked store.new) }
-    ensures failed { result ≡ 3 → (n : ℕ) × IsTold E.stands_for E.faults err.old err.new (read_line n)
+    ensures failed { result ≡ 3 → (n : ℕ) × IsTold E.stands_for E.faults err.old err.new (read_line n) × (1 ≤ n) × (n ≤ 2)
         × ((files : Files) → S.files store.old ≡ Some files → IsFailedRead n (asks_of files (command_of words.now)) (S.asked store.old) (S.asked store.new)) }
     ensures wanting { (files : Files) → S.files store.old ≡ Some files → result ≡ 5
-        → (n : ℕ) × AskedMore (take n (asks_of files (command_of words.now))) (S.asked store.old) (S.asked store.new) }
+        → (n : ℕ) × IsWanting n (plan_of files (command_of words.now)) (asks_of files (command_of words.now)) (S.asked store.old) (S.asked store.new) }
     ensures files { S.files store.new ≡ S.files store.old }
     ensures store_count { S.faults store.old ≤ S.faults store.new }
 
-    // The account of the hart: it makes each plain step of the lone machine, and no more steps than there are.
+    // The account of the hart: it makes each plain step of the lone machine, and no more steps than are asked for;
+    // where nothing was run it stays.
+    ensures idle { result ≢ 0 → result ≢ 4 → tally.new ≡ tally.old }
+    ensures entries_grow { tally.old.entries ≤ tally.new.entries }
+    ensures taken_grow { tally.old.taken ≤ tally.new.taken }
     ensures entries_most { (files : Files) → S.files store.old ≡ Some files
         → tally.new.entries ≤ tally.old.entries + steps_of (plan_of files (command_of words.now)) }
     ensures taken_most { (files : Files) → S.files store.old ≡ Some files

@@ -23,7 +23,8 @@ is_address_code cause = list_any (λ code. code == cause) (0 ∷ 1 ∷ 3 ∷ 4 �
 abbrev pub trap_of : ℕ → ℕ → Trap
 trap_of cause tval = record { cause = cause; interrupt = false; tval = tval; tval2 = 0; gva = is_address_code cause; implicit = false }
 
--- the access fault of a kind of access (Privileged Architecture 20211203, table 8.5)
+-- the access fault of the access that could not be made (Privileged Architecture 20211203, 8.6.1); an implicit read
+-- serves another access, whose fault it is
 abbrev pub access_fault : Access → ℕ
 access_fault Fetch = INSTRUCTION_ACCESS_FAULT
 access_fault Load = LOAD_ACCESS_FAULT

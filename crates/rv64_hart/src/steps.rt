@@ -4,7 +4,7 @@ ghost use Rattle.std.specs.Prelude.{◌≡◌, ℕ, ◌%◌, List, length, optio
 ghost use Rattle.arch_defs.specs.declared.modes.Access.TheVariants.{Fetch};
 ghost use Rattle.arch_defs.specs.Memory.{bare, reading_of};
 ghost use Rattle.op_defs.specs.Table.{op_of};
-ghost use Rattle.machine_defs.specs.Core.{decoded, done, called};
+ghost use Rattle.machine_defs.specs.Core.{decoded, executed, called_from};
 ghost use Rattle.rv64_hart.specs.Endings.{end_of, IfNotMade};
 ghost use Rattle.rv64_hart.specs.Steps.{Exits, hart_end, hart_step, trap_of};
 
@@ -73,7 +73,7 @@ fn instruction(state: &mut Virtual, memory: &mut PhysMem, word: u32) -> Ending
 
 // What an instruction's effect does.
 fn apply(state: &mut Virtual, memory: &mut PhysMem, word: u32, effect: Effect) -> Ending
-    ensures ends { hart_end memory.old (done (bare MACHINE_BASE (length memory.old)) (reading_of MACHINE_BASE memory.old) state.old word effect)
+    ensures ends { hart_end memory.old (executed (bare MACHINE_BASE (length memory.old)) (reading_of MACHINE_BASE memory.old) state.old word effect)
         ≡ end_of result state.new memory.new }
     ensures stays { IfNotMade result ((state.new ≡ state.old) × (memory.new ≡ memory.old)) }
 {
@@ -116,7 +116,7 @@ fn apply(state: &mut Virtual, memory: &mut PhysMem, word: u32, effect: Effect) -
 
 // The exception of ECALL by mode.
 fn call_code(mode: Mode) -> u64
-    ensures { (memory : List ℕ) → hart_end memory (called mode) ≡ Exits (trap_of result 0) }
+    ensures { (memory : List ℕ) → hart_end memory (called_from mode) ≡ Exits (trap_of result 0) }
 {
     match mode {
         Mode::HS => ECALL_FROM_HS,

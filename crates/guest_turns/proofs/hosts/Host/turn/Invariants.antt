@@ -12,6 +12,6 @@ invariant-loop-i l = record {
   counted : l.self.status ≡ Running → l.self.steps ≡ l.before + l.i;
   entries : l.tally.entries ≡ l.fn.tally.entries + l.i;
   taken_least : l.fn.tally.taken + plain_count (events l.fn.self l.k) ≤ l.tally.taken + plain_count (events l.self (l.k - l.i));
-  taken_most : l.tally.taken ≤ l.fn.tally.taken + l.i;
+  taken_most : l.tally.taken + l.before ≤ l.fn.tally.taken + l.self.steps;
   trace : (l.tally.trace + trace_of (events l.self (l.k - l.i))) % 2 ^ 64 ≡ (l.fn.tally.trace + trace_of (events l.fn.self l.k)) % 2 ^ 64;
 }
