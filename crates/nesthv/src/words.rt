@@ -1,7 +1,7 @@
 // The arguments of the process.
 
-ghost use Rattle.std.specs.Prelude.{◌≡◌, IfOk};
-ghost use Rattle.nesthv.specs.Words.{IsTextOf};
+ghost use Rattle.std.specs.Prelude.{◌≡◌, [], IfOk};
+ghost use Rattle.std.specs.Str.{IsUtf8};
 
 use outside::Word;
 use std::alloc::{AllocError, Global};
@@ -25,7 +25,8 @@ pub fn arguments<R: Env>(rt: &R, alloc: Global) -> Result<Vec<Word>, AllocError>
 
 // The text that these bytes are, or the empty word.
 fn word(alloc: Global, bytes: &[u8]) -> Result<Word, AllocError>
-    ensures { IfOk result (IsTextOf bytes.now) }
+    ensures text { IfOk result (λ w. IsUtf8 bytes.now → w ≡ bytes.now) }
+    ensures other { IfOk result (λ w. ¬ IsUtf8 bytes.now → w ≡ []) }
 {
     match str::from_utf8(bytes) {
         Ok(text) => Word::new(alloc, text),
