@@ -1,6 +1,8 @@
 // Makes the words, the files and the streams that the top call takes, and ends with its answer.
 #![tactic(auto)]
 
+#[cfg(test)]
+mod tests;
 mod words;
 
 use nesthv_top::nesthv;
