@@ -7,6 +7,8 @@ mod lines;
 mod loading;
 mod obeying;
 mod running;
+#[cfg(test)]
+mod tests;
 mod top;
 
 pub use top::nesthv;

@@ -1,0 +1,296 @@
+use crate::nesthv;
+use outside::{Asked, ListSink, MapStore, Word};
+use rv64_hart::Tally;
+use std::alloc::{AllocError, Global};
+use std::test::Fail;
+
+/// Puts `A` on the console, and stops: 5 steps, of which two are calls.
+const PUTS_A: [u32; 5] = [
+    0x0010_0893, // addi a7, zero, 1
+    0x0410_0513, // addi a0, zero, 65
+    0x0000_0073, // ecall
+    0x0080_0893, // addi a7, zero, 8
+    0x0000_0073, // ecall
+];
+
+/// The bytes of a block of RAM.
+const BLOCK: usize = 2_097_152;
+
+const USAGE: &[u8] =
+    b"nesthv: usage: run CONFIG | replay CONFIG REPORT | check CONFIG | work SEED SIZE\n";
+
+const RUN: [&str; 3] = ["nesthv", "run", "k"];
+
+/// Which read, put on `out` and put on `err` fails, and takes nothing; 0 where none does.
+#[derive(Clone, Copy)]
+struct Failing {
+    read: u64,
+    put: u64,
+    err: u64,
+}
+
+const NONE: Failing = Failing {
+    read: 0,
+    put: 0,
+    err: 0,
+};
+
+/// What a call answered and left.
+#[derive(Drop)]
+struct Left {
+    status: u8,
+    store: MapStore,
+    out: ListSink,
+    err: ListSink,
+    tally: Tally,
+}
+
+impl Left {
+    fn is(&self, status: u8, out: &[u8], err: &[u8]) -> bool {
+        self.status == status && self.out.bytes() == out && self.err.bytes() == err
+    }
+
+    /// Whether nothing was read and no step made.
+    fn is_untouched(&self) -> bool {
+        self.store.asked().is_empty() && self.tally.entries() == 0
+    }
+}
+
+/// The text of a configuration, whose guest `a` has the image `a.bin` and one block.
+fn config(
+    alloc: Global,
+    quantum: u64,
+    rounds: u64,
+    entries: u64,
+    console: u64,
+) -> Result<String, AllocError> {
+    format!(in alloc;
+        "format = 1\nquantum = {quantum}\nrounds = {rounds}\n[[guest]]\nname = \"a\"\nimage = \"a.bin\"\nblocks = 1\nspaces = 1\nentries = {entries}\nconsole = {console}\n"
+    )
+}
+
+/// The bytes of these instructions, and zeros after them up to this length.
+fn image(alloc: Global, words: &[u32], length: usize) -> Result<Vec<u8>, AllocError> {
+    let mut bytes = Vec::new(alloc);
+    for word in words {
+        bytes.extend_from_slice(&word.to_le_bytes())?;
+    }
+    if bytes.len() < length {
+        bytes.resize(length, 0)?;
+    }
+    Ok(bytes)
+}
+
+fn words_of(alloc: Global, texts: &[&str]) -> Result<Vec<Word>, AllocError> {
+    let mut words = Vec::new(alloc);
+    for text in texts {
+        words.push(Word::new(alloc, text)?)?;
+    }
+    Ok(words)
+}
+
+fn sink(alloc: Global, failing: u64) -> Result<ListSink, AllocError> {
+    let mut sink = ListSink::new(alloc, 256)?;
+    sink.fail_at(failing, 0)?;
+    Ok(sink)
+}
+
+/// Calls `nesthv` with these words on a store with the configuration `k` and the image `a.bin`.
+fn outcome(
+    alloc: Global,
+    texts: &[&str],
+    config: &str,
+    image: &[u8],
+    failing: Failing,
+) -> Result<Left, AllocError> {
+    let words = words_of(alloc, texts)?;
+    let mut store = MapStore::new(alloc);
+    store.insert("k", config.as_bytes())?;
+    store.insert("a.bin", image)?;
+    store.fail_at(failing.read)?;
+    let mut out = sink(alloc, failing.put)?;
+    let mut err = sink(alloc, failing.err)?;
+    let mut tally = Tally::new();
+    let status = nesthv(
+        alloc,
+        words.as_slice(),
+        &mut store,
+        &mut out,
+        &mut err,
+        &mut tally,
+    );
+    Ok(Left {
+        status,
+        store,
+        out,
+        err,
+        tally,
+    })
+}
+
+fn is_read(asked: &Asked, name: &str, most: u64) -> bool {
+    asked.name() == name && asked.most() == most && !asked.failed()
+}
+
+#[test]
+fn first_bytes(rt: HostRuntime) -> Result<(), Fail> {
+    let config = config(rt.alloc(), 10_000, 1, 16, 100)?;
+    let image = image(rt.alloc(), &PUTS_A, 0)?;
+    let left = outcome(rt.alloc(), &RUN, config.as_str(), image.as_slice(), NONE)?;
+    assert!(rt; left.is(0, b"guest a stopped steps 5 bytes 1\nA\n", b""));
+    assert_eq!(rt; left.tally.entries(), 5);
+    assert_eq!(rt; left.tally.taken(), 3);
+    assert_eq!(rt; left.tally.trace(), 0x1_84A0_1649);
+    match left.store.asked() {
+        [first, second] => {
+            assert!(rt; is_read(first, "k", 65_537) && is_read(second, "a.bin", 2_097_153))
+        }
+        asked => assert!(rt; false, "{} reads", asked.len()),
+    }
+    Ok(())
+}
+
+/// A guest, the turns that it is given, and room on its console.
+#[derive(Clone, Copy)]
+struct Case<'a> {
+    words: &'a [u32],
+    length: usize,
+    quantum: u64,
+    rounds: u64,
+    console: u64,
+}
+
+/// Whether the run of a guest ends with this report.
+fn is_reported(alloc: Global, case: Case<'_>, report: &str) -> Result<bool, AllocError> {
+    let config = config(alloc, case.quantum, case.rounds, 16, case.console)?;
+    let image = image(alloc, case.words, case.length)?;
+    let left = outcome(alloc, &RUN, config.as_str(), image.as_slice(), NONE)?;
+    Ok(left.is(0, report.as_bytes(), b""))
+}
+
+/// Images, each with its length if zeros come after the instructions, and the report of one turn of 10,000 steps.
+const IMAGES: [(&[u32], usize, &str); 7] = [
+    // lui t0, 1; a word outside
+    (&[0x0000_12B7, 0], 0, "guest a outside steps 1 bytes 0\n\n"),
+    // no instruction at all
+    (&[], 0, "guest a outside steps 0 bytes 0\n\n"),
+    // jal zero, 0
+    (&[0x0000_006F], 0, "guest a running steps 10000 bytes 0\n\n"),
+    // jal zero, 2
+    (&[0x0020_006F], 0, "guest a outside steps 0 bytes 0\n\n"),
+    // jal zero, -4, out of memory
+    (&[0xFFDF_F06F], 0, "guest a outside steps 1 bytes 0\n\n"),
+    // ecall with a7 = 0
+    (&[0x0000_0073], 0, "guest a outside steps 0 bytes 0\n\n"),
+    (&PUTS_A, BLOCK, "guest a stopped steps 5 bytes 1\nA\n"),
+];
+
+#[test]
+fn reports_of_images(rt: HostRuntime) -> Result<(), Fail> {
+    for (words, length, report) in IMAGES {
+        let case = Case {
+            words,
+            length,
+            quantum: 10_000,
+            rounds: 1,
+            console: 100,
+        };
+        assert!(rt; is_reported(rt.alloc(), case, report)?, "{report}");
+    }
+    Ok(())
+}
+
+#[test]
+fn reports_of_turns(rt: HostRuntime) -> Result<(), Fail> {
+    for (quantum, rounds, console, report) in [
+        (10_000, 1, 0, "guest a stopped steps 5 bytes 0\n\n"),
+        (10_000, 0, 100, "guest a running steps 0 bytes 0\n\n"),
+        (0, 7, 100, "guest a running steps 0 bytes 0\n\n"),
+        (2, 2, 100, "guest a running steps 4 bytes 1\nA\n"),
+        (1, 5, 100, "guest a stopped steps 5 bytes 1\nA\n"),
+    ] {
+        let case = Case {
+            words: &PUTS_A,
+            length: 0,
+            quantum,
+            rounds,
+            console,
+        };
+        assert!(rt; is_reported(rt.alloc(), case, report)?, "{report}");
+    }
+    Ok(())
+}
+
+#[test]
+fn failing_store_and_sink(rt: HostRuntime) -> Result<(), Fail> {
+    let config = config(rt.alloc(), 10_000, 1, 16, 100)?;
+    let image = image(rt.alloc(), &PUTS_A, 0)?;
+    for (read, put, status, out, err) in [
+        (1, 0, 3, "", "nesthv: read fault 1\n"),
+        (2, 0, 3, "", "nesthv: read fault 2\n"),
+        (0, 1, 4, "", "nesthv: write fault\n"),
+        (
+            0,
+            3,
+            4,
+            "guest a stopped steps 5 bytes 1\nA",
+            "nesthv: write fault\n",
+        ),
+    ] {
+        let failing = Failing { read, put, err: 0 };
+        let left = outcome(rt.alloc(), &RUN, config.as_str(), image.as_slice(), failing)?;
+        assert!(rt;
+            left.is(status, out.as_bytes(), err.as_bytes()),
+            "{read} {put}"
+        );
+    }
+    Ok(())
+}
+
+/// Words that are no command.
+const NO_COMMANDS: [&[&str]; 12] = [
+    &[],
+    &["nesthv"],
+    &["nesthv", "run"],
+    &["nesthv", "run", ""],
+    &["nesthv", "run", "-x"],
+    &["nesthv", "run", "k", "extra"],
+    &["nesthv", "help"],
+    &["nesthv", "help", "run"],
+    &["nesthv", "RUN", "k"],
+    &["nesthv", "replay", "k", "r"],
+    &["nesthv", "check", "k"],
+    &["nesthv", "work", "0", "1"],
+];
+
+#[test]
+fn words_refused(rt: HostRuntime) -> Result<(), Fail> {
+    let config = config(rt.alloc(), 10_000, 1, 16, 100)?;
+    for words in NO_COMMANDS {
+        let left = outcome(rt.alloc(), words, config.as_str(), b"", NONE)?;
+        assert!(rt; left.is(1, b"", USAGE) && left.is_untouched(), "{words:?}");
+    }
+    // A sink for the line that fails changes nothing else.
+    let failing = Failing { err: 1, ..NONE };
+    let left = outcome(rt.alloc(), &["nesthv"], config.as_str(), b"", failing)?;
+    assert!(rt; left.is(1, b"", b"") && left.is_untouched());
+    Ok(())
+}
+
+#[test]
+fn configurations_refused(rt: HostRuntime) -> Result<(), Fail> {
+    for (entries, length, reads) in [(15, 0, 1), (257, 0, 1), (16, BLOCK + 1, 2)] {
+        let config = config(rt.alloc(), 10_000, 1, entries, 100)?;
+        let image = image(rt.alloc(), &PUTS_A, length)?;
+        let left = outcome(rt.alloc(), &RUN, config.as_str(), image.as_slice(), NONE)?;
+        assert!(rt;
+            left.is(2, b"", b"nesthv: configuration fault 2\n"),
+            "{entries}"
+        );
+        assert_eq!(rt;
+            (left.store.asked().len(), left.tally.entries()),
+            (reads, 0)
+        );
+    }
+    Ok(())
+}
