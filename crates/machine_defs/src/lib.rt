@@ -6,6 +6,8 @@ mod instructions;
 mod laws;
 mod modes;
 mod registers;
+#[cfg(test)]
+mod tests;
 
 pub use guests::{Bytes, Entry, GuestSpec, Inputs, Name, Status};
 pub use instructions::{Effect, Event, Op};
