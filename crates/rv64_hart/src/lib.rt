@@ -6,6 +6,8 @@ mod effects;
 mod harts;
 mod memory;
 mod tallies;
+#[cfg(test)]
+mod tests;
 
 pub use harts::{Hart, HartState, MACHINE_BASE, Stop, Why};
 pub use memory::{FRAME_SIZE, PhysMem};
