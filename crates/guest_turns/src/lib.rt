@@ -2,5 +2,7 @@
 #![tactic(auto)]
 
 mod hosts;
+#[cfg(test)]
+mod tests;
 
 pub use hosts::{FRAMES_PER_BLOCK, Host};

@@ -4,6 +4,8 @@
 mod events;
 mod guests;
 mod laws;
+#[cfg(test)]
+mod tests;
 
 pub use events::Event;
 pub use guests::{Bytes, GuestSpec, Inputs, Name, Status};
