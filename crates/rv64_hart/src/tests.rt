@@ -93,7 +93,7 @@ fn runs_a_program(rt: HostRuntime) -> Result<(), Fail> {
     Ok(())
 }
 
-// Codes of the Privileged Architecture, table 8.5; gva is set where stval gets an address (8.6).
+// Codes of the Privileged Architecture, 8.6.1; gva is set where stval gets an address (8.6).
 #[test]
 fn exits_before_what_traps(rt: HostRuntime) -> Result<(), Fail> {
     for (word, pc, cause, tval, gva) in [
