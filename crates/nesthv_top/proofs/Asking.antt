@@ -91,6 +91,7 @@ both_asked files name plan e = two_asks files (ask name config_most) (accept (co
 pub wanting_late : (files : Files) (name : List ℕ) (plan : Plan) (before after : Option (List Ask)) → planned files name ≡ Some plan
     → AskedMore (config_asks files name) before after → IsWanting 2 (planned files name) (config_asks files name) before after
 wanting_late files name plan before after e asked = record {
-    number = both_asked files name plan e;
-    late = λ _. subst IsSome (sym e) refl;
-    asked = whole_reads (ask name config_most) (accept (content files name config_most)) before after asked }
+  number = both_asked files name plan e;
+  late = λ _. subst IsSome (sym e) refl;
+  asked = whole_reads (ask name config_most) (accept (content files name config_most)) before after asked;
+}

@@ -13,6 +13,56 @@ const PUTS_A: [u32; 5] = [
     0x0000_0073, // ecall
 ];
 
+/// Reserves the place of the first instruction, stores there, and puts 0 where the store was made, 1 where not.
+const RESERVES: [u32; 8] = [
+    0x0000_0297, // auipc t0, 0
+    0x1002_A32F, // lr.w t1, (t0)
+    0x1802_A52F, // sc.w a0, zero, (t0)
+    0x0305_0513, // addi a0, a0, 48
+    0x0010_0893, // addi a7, zero, 1
+    0x0000_0073, // ecall
+    0x0080_0893, // addi a7, zero, 8
+    0x0000_0073, // ecall
+];
+
+/// The same without the reservation.
+const DOES_NOT_RESERVE: [u32; 7] = [
+    0x0000_0297, // auipc t0, 0
+    0x1802_A52F, // sc.w a0, zero, (t0)
+    0x0305_0513, // addi a0, a0, 48
+    0x0010_0893, // addi a7, zero, 1
+    0x0000_0073, // ecall
+    0x0080_0893, // addi a7, zero, 8
+    0x0000_0073, // ecall
+];
+
+/// examples/squares: the squares of 0 to 9 in decimal, each on a line. A square of d digits takes 7 + 11 d steps, and
+/// four steps stand before and after them: 4 + 10 * 7 + 11 * 16.
+const SQUARES: [u32; 22] = [
+    0x0010_0117,
+    0x0000_0413,
+    0x0284_05B3,
+    0x0001_0293,
+    0x00A0_0313,
+    0x0265_F3B3,
+    0x0265_D5B3,
+    0x0303_8393,
+    0xFFF2_8293,
+    0x0072_8023,
+    0xFE05_96E3,
+    0x0002_C503,
+    0x0010_0893,
+    0x0000_0073,
+    0x0012_8293,
+    0xFE22_E8E3,
+    0x00A0_0513,
+    0x0000_0073,
+    0x0014_0413,
+    0xFA64_4EE3,
+    0x0080_0893,
+    0x0000_0073,
+];
+
 /// The bytes of a block of RAM.
 const BLOCK: usize = 2_097_152;
 
@@ -169,7 +219,7 @@ fn is_reported(alloc: Global, case: Case<'_>, report: &str) -> Result<bool, Allo
 }
 
 /// Images, each with its length if zeros come after the instructions, and the report of one turn of 10,000 steps.
-const IMAGES: [(&[u32], usize, &str); 7] = [
+const IMAGES: [(&[u32], usize, &str); 12] = [
     // lui t0, 1; a word outside
     (&[0x0000_12B7, 0], 0, "guest a outside steps 1 bytes 0\n\n"),
     // no instruction at all
@@ -182,7 +232,18 @@ const IMAGES: [(&[u32], usize, &str); 7] = [
     (&[0xFFDF_F06F], 0, "guest a outside steps 1 bytes 0\n\n"),
     // ecall with a7 = 0
     (&[0x0000_0073], 0, "guest a outside steps 0 bytes 0\n\n"),
+    // lw zero, 2(zero), which is misaligned
+    (&[0x0020_2003], 0, "guest a outside steps 0 bytes 0\n\n"),
+    // csrrs a0, cycle, zero
+    (&[0xC000_2573], 0, "guest a outside steps 0 bytes 0\n\n"),
     (&PUTS_A, BLOCK, "guest a stopped steps 5 bytes 1\nA\n"),
+    (
+        &SQUARES,
+        0,
+        "guest a stopped steps 250 bytes 26\n0\n1\n4\n9\n16\n25\n36\n49\n64\n81\n\n",
+    ),
+    (&RESERVES, 0, "guest a stopped steps 8 bytes 1\n0\n"),
+    (&DOES_NOT_RESERVE, 0, "guest a stopped steps 7 bytes 1\n1\n"),
 ];
 
 #[test]
