@@ -4,6 +4,8 @@
 mod entries;
 mod modes;
 mod registers;
+#[cfg(test)]
+mod tests;
 mod widths;
 
 pub use entries::Entry;
