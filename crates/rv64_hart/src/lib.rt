@@ -7,6 +7,8 @@ mod harts;
 mod memory;
 mod steps;
 mod tallies;
+#[cfg(test)]
+mod tests_ima;
 
 pub use harts::{Hart, HartState, Stop, Why};
 pub use memory::{FRAME_SIZE, PhysMem};
