@@ -5,7 +5,7 @@ mod entries;
 mod modes;
 mod registers;
 #[cfg(test)]
-mod state_tests;
+mod tests;
 mod widths;
 
 pub use entries::Entry;

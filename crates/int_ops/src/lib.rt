@@ -3,6 +3,8 @@
 
 mod arithmetic;
 mod atomics;
+#[cfg(test)]
+mod tests;
 mod words;
 
 pub use arithmetic::alu;

@@ -6,5 +6,7 @@ mod decoding;
 mod fields;
 mod registers;
 mod systems;
+#[cfg(test)]
+mod tests;
 
 pub use decoding::decode;

@@ -9,6 +9,8 @@ mod steps;
 mod tallies;
 #[cfg(test)]
 mod tests;
+#[cfg(test)]
+mod tests_ima;
 
 pub use harts::{Hart, HartState, Stop, Why};
 pub use memory::{FRAME_SIZE, PhysMem};
