@@ -8,9 +8,13 @@ mod memory;
 mod steps;
 mod tallies;
 #[cfg(test)]
+mod test_programs;
+#[cfg(test)]
 mod tests;
 #[cfg(test)]
-mod tests_ima;
+mod tests_control;
+#[cfg(test)]
+mod tests_memory;
 
 pub use harts::{Hart, HartState, Stop, Why};
 pub use memory::{FRAME_SIZE, PhysMem};

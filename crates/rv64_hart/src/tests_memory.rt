@@ -1,0 +1,546 @@
+// Loads, stores, reservations and atomic memory operations.
+
+use crate::test_programs::{HELD, Row, check};
+use std::test::Fail;
+
+// Loads and stores.
+static ACCESSES: [Row; 7] = [
+    Row {
+        name: "loads by width and sign",
+        code: &[
+            0x0004_0283, // lb x5, 0(x8)
+            0x0074_0303, // lb x6, 7(x8)
+            0x0074_4383, // lbu x7, 7(x8)
+            0x0004_1483, // lh x9, 0(x8)
+            0x0064_1503, // lh x10, 6(x8)
+            0x0064_5583, // lhu x11, 6(x8)
+            0x0004_2603, // lw x12, 0(x8)
+            0x0044_2683, // lw x13, 4(x8)
+            0x0044_6703, // lwu x14, 4(x8)
+            0x0004_3783, // ld x15, 0(x8)
+            0x0074_0003, // lb x0, 7(x8)
+            0x0010_0073, // ebreak
+        ],
+        given: &[],
+        taken: 11,
+        exit: (3, 0x8000_002C),
+        gives: &[
+            (5, 16),
+            (6, 0xFFFF_FFFF_FFFF_FFFE),
+            (7, 0x00FE),
+            (9, 0x3210),
+            (10, 0xFFFF_FFFF_FFFF_FEDC),
+            (11, 0xFEDC),
+            (12, 0x7654_3210),
+            (13, 0xFFFF_FFFF_FEDC_BA98),
+            (14, 0xFEDC_BA98),
+            (15, 0xFEDC_BA98_7654_3210),
+            (0, 0),
+        ],
+        held: 0xFEDC_BA98_7654_3210,
+        reserved: None,
+    },
+    Row {
+        name: "stores by width",
+        code: &[
+            0x0054_00A3, // sb x5, 1(x8)
+            0x0004_3303, // ld x6, 0(x8)
+            0x0054_1123, // sh x5, 2(x8)
+            0x0004_3383, // ld x7, 0(x8)
+            0x0054_2223, // sw x5, 4(x8)
+            0x0004_3483, // ld x9, 0(x8)
+            0x0054_3423, // sd x5, 8(x8)
+            0x0084_3503, // ld x10, 8(x8)
+            0x0084_4583, // lbu x11, 8(x8)
+            0x00F4_4603, // lbu x12, 15(x8)
+            0x0010_0073, // ebreak
+        ],
+        given: &[(5, 0x1122_3344_5566_7788)],
+        taken: 10,
+        exit: (3, 0x8000_0028),
+        gives: &[
+            (6, 0xFEDC_BA98_7654_8810),
+            (7, 0xFEDC_BA98_7788_8810),
+            (9, 0x5566_7788_7788_8810),
+            (10, 0x1122_3344_5566_7788),
+            (11, 0x0088),
+            (12, 17),
+        ],
+        held: 0x5566_7788_7788_8810,
+        reserved: None,
+    },
+    Row {
+        name: "a store of a doubleword over the held one",
+        code: &[
+            0x0054_3023, // sd x5, 0(x8)
+            0x0010_0073, // ebreak
+        ],
+        given: &[(5, 0x1122_3344_5566_7788)],
+        taken: 1,
+        exit: (3, 0x8000_0004),
+        gives: &[],
+        held: 0x1122_3344_5566_7788,
+        reserved: None,
+    },
+    Row {
+        name: "offsets below the register",
+        code: &[
+            0xFF84_A283, // lw x5, -8(x9)
+            0xFFC4_A303, // lw x6, -4(x9)
+            0xFE04_8C23, // sb x0, -8(x9)
+            0x0010_0073, // ebreak
+        ],
+        given: &[(9, 0x8000_1008)],
+        taken: 3,
+        exit: (3, 0x8000_000C),
+        gives: &[(5, 0x7654_3210), (6, 0xFFFF_FFFF_FEDC_BA98)],
+        held: 0xFEDC_BA98_7654_3200,
+        reserved: None,
+    },
+    Row {
+        name: "the last bytes of memory",
+        code: &[
+            0xFE54_BC23, // sd x5, -8(x9)
+            0xFFF4_C303, // lbu x6, -1(x9)
+            0x0010_0073, // ebreak
+        ],
+        given: &[(5, 0x1122_3344_5566_7788), (9, 0x8000_2000)],
+        taken: 2,
+        exit: (3, 0x8000_0008),
+        gives: &[(6, 17)],
+        held: 0xFEDC_BA98_7654_3210,
+        reserved: None,
+    },
+    Row {
+        name: "a load into its own base register",
+        code: &[
+            0x0004_3403, // ld x8, 0(x8)
+            0x0010_0073, // ebreak
+        ],
+        given: &[],
+        taken: 1,
+        exit: (3, 0x8000_0004),
+        gives: &[(8, 0xFEDC_BA98_7654_3210)],
+        held: 0xFEDC_BA98_7654_3210,
+        reserved: None,
+    },
+    Row {
+        name: "FENCE and FENCE.I go on",
+        code: &[
+            0x0FF0_000F, // fence
+            0x0000_100F, // fence.i
+            0x0010_0293, // addi x5, x0, 1
+            0x0010_0073, // ebreak
+        ],
+        given: &[],
+        taken: 3,
+        exit: (3, 0x8000_000C),
+        gives: &[(5, 1), (0, 0)],
+        held: 0xFEDC_BA98_7654_3210,
+        reserved: None,
+    },
+];
+
+// LR and SC.
+static RESERVATIONS: [Row; 15] = [
+    Row {
+        name: "LR and SC at one word, and SC again",
+        code: &[
+            0x1004_22AF, // lr.w x5, (x8)
+            0x1874_232F, // sc.w x6, x7, (x8)
+            0x18A4_24AF, // sc.w x9, x10, (x8)
+            0x0010_0073, // ebreak
+        ],
+        given: &[(6, 9), (7, 0xDEAD_BEEF_1122_3344), (9, 9), (10, 5)],
+        taken: 3,
+        exit: (3, 0x8000_000C),
+        gives: &[(5, 0x7654_3210), (6, 0), (9, 1)],
+        held: 0xFEDC_BA98_1122_3344,
+        reserved: None,
+    },
+    Row {
+        name: "SC.D after LR.W fails and ends the reservation",
+        code: &[
+            0x1004_22AF, // lr.w x5, (x8)
+            0x1874_332F, // sc.d x6, x7, (x8)
+            0x1874_24AF, // sc.w x9, x7, (x8)
+            0x0010_0073, // ebreak
+        ],
+        given: &[(6, 9), (7, 0x1122_3344_5566_7788), (9, 9)],
+        taken: 3,
+        exit: (3, 0x8000_000C),
+        gives: &[(5, 0x7654_3210), (6, 1), (9, 1)],
+        held: 0xFEDC_BA98_7654_3210,
+        reserved: None,
+    },
+    Row {
+        name: "SC.W after LR.D fails",
+        code: &[
+            0x1004_32AF, // lr.d x5, (x8)
+            0x1874_232F, // sc.w x6, x7, (x8)
+            0x0010_0073, // ebreak
+        ],
+        given: &[(6, 9), (7, 0x1122_3344_5566_7788)],
+        taken: 2,
+        exit: (3, 0x8000_0008),
+        gives: &[(5, 0xFEDC_BA98_7654_3210), (6, 1)],
+        held: 0xFEDC_BA98_7654_3210,
+        reserved: None,
+    },
+    Row {
+        name: "SC without LR",
+        code: &[
+            0x1874_232F, // sc.w x6, x7, (x8)
+            0x1874_34AF, // sc.d x9, x7, (x8)
+            0x0010_0073, // ebreak
+        ],
+        given: &[(6, 9), (7, 0x1122_3344_5566_7788), (9, 9)],
+        taken: 2,
+        exit: (3, 0x8000_0008),
+        gives: &[(6, 1), (9, 1)],
+        held: 0xFEDC_BA98_7654_3210,
+        reserved: None,
+    },
+    Row {
+        name: "a store between LR and SC leaves the reservation",
+        code: &[
+            0x1004_32AF, // lr.d x5, (x8)
+            0x0074_3023, // sd x7, 0(x8)
+            0x0004_3503, // ld x10, 0(x8)
+            0x0074_35AF, // amoadd.d x11, x7, (x8)
+            0x1894_332F, // sc.d x6, x9, (x8)
+            0x0010_0073, // ebreak
+        ],
+        given: &[(6, 9), (7, 0x1122_3344_5566_7788), (9, 77)],
+        taken: 5,
+        exit: (3, 0x8000_0014),
+        gives: &[
+            (5, 0xFEDC_BA98_7654_3210),
+            (10, 0x1122_3344_5566_7788),
+            (11, 0x1122_3344_5566_7788),
+            (6, 0),
+        ],
+        held: 77,
+        reserved: None,
+    },
+    Row {
+        name: "SC at another place fails",
+        code: &[
+            0x1004_22AF, // lr.w x5, (x8)
+            0x1874_A32F, // sc.w x6, x7, (x9)
+            0x1874_252F, // sc.w x10, x7, (x8)
+            0x0010_0073, // ebreak
+        ],
+        given: &[
+            (6, 9),
+            (7, 0x1122_3344_5566_7788),
+            (9, 0x8000_1004),
+            (10, 9),
+        ],
+        taken: 3,
+        exit: (3, 0x8000_000C),
+        gives: &[(6, 1), (10, 1)],
+        held: 0xFEDC_BA98_7654_3210,
+        reserved: None,
+    },
+    Row {
+        name: "LR.W extends the sign, and reserves",
+        code: &[
+            0x1004_A2AF, // lr.w x5, (x9)
+            0x0010_0073, // ebreak
+        ],
+        given: &[(9, 0x8000_1004)],
+        taken: 1,
+        exit: (3, 0x8000_0004),
+        gives: &[(5, 0xFFFF_FFFF_FEDC_BA98)],
+        held: 0xFEDC_BA98_7654_3210,
+        reserved: Some((0x8000_1004, 4)),
+    },
+    Row {
+        name: "a second LR takes the place of the first",
+        code: &[
+            0x1004_22AF, // lr.w x5, (x8)
+            0x1004_B32F, // lr.d x6, (x9)
+            0x0010_0073, // ebreak
+        ],
+        given: &[(9, 0x8000_1008)],
+        taken: 2,
+        exit: (3, 0x8000_0008),
+        gives: &[(6, 0)],
+        held: 0xFEDC_BA98_7654_3210,
+        reserved: Some((0x8000_1008, 8)),
+    },
+    Row {
+        name: "LR into x0 reserves too",
+        code: &[
+            0x1004_302F, // lr.d x0, (x8)
+            0x0010_0073, // ebreak
+        ],
+        given: &[],
+        taken: 1,
+        exit: (3, 0x8000_0004),
+        gives: &[(0, 0)],
+        held: 0xFEDC_BA98_7654_3210,
+        reserved: Some((0x8000_1000, 8)),
+    },
+    Row {
+        name: "SC into x0, made and not made",
+        code: &[
+            0x1004_302F, // lr.d x0, (x8)
+            0x1874_302F, // sc.d x0, x7, (x8)
+            0x1894_302F, // sc.d x0, x9, (x8)
+            0x0010_0073, // ebreak
+        ],
+        given: &[(7, 0x1122_3344_5566_7788), (9, 5)],
+        taken: 3,
+        exit: (3, 0x8000_000C),
+        gives: &[(0, 0)],
+        held: 0x1122_3344_5566_7788,
+        reserved: None,
+    },
+    Row {
+        name: "SC into the register that it stores",
+        code: &[
+            0x1004_342F, // lr.d x8, (x8)
+            0x0004_8413, // addi x8, x9, 0
+            0x1874_33AF, // sc.d x7, x7, (x8)
+            0x0010_0073, // ebreak
+        ],
+        given: &[(7, 0x1122_3344_5566_7788), (9, 0x8000_1000)],
+        taken: 3,
+        exit: (3, 0x8000_000C),
+        gives: &[(7, 0)],
+        held: 0x1122_3344_5566_7788,
+        reserved: None,
+    },
+    Row {
+        name: "an SC that traps keeps the reservation",
+        code: &[
+            0x1004_22AF, // lr.w x5, (x8)
+            0x1874_A32F, // sc.w x6, x7, (x9)
+        ],
+        given: &[(6, 9), (9, 0x8000_1002)],
+        taken: 1,
+        exit: (6, 0x8000_1002),
+        gives: &[(6, 9)],
+        held: 0xFEDC_BA98_7654_3210,
+        reserved: Some((0x8000_1000, 4)),
+    },
+    Row {
+        name: "an SC outside memory keeps the reservation",
+        code: &[
+            0x1004_32AF, // lr.d x5, (x8)
+            0x1874_B32F, // sc.d x6, x7, (x9)
+        ],
+        given: &[(6, 9), (9, 0x8000_2000)],
+        taken: 1,
+        exit: (7, 0x8000_2000),
+        gives: &[(6, 9)],
+        held: 0xFEDC_BA98_7654_3210,
+        reserved: Some((0x8000_1000, 8)),
+    },
+    Row {
+        name: "reservations apart, with LR",
+        code: &[
+            0x0000_0297, // auipc x5, 0
+            0x1002_A32F, // lr.w x6, (x5)
+            0x1802_A52F, // sc.w x10, x0, (x5)
+            0x0305_0513, // addi x10, x10, 48
+            0x0010_0893, // addi x17, x0, 1
+            0x0000_0073, // ecall
+        ],
+        given: &[(10, 9)],
+        taken: 5,
+        exit: (10, 0),
+        gives: &[(5, 0x8000_0000), (6, 0x0297), (10, 48), (17, 1)],
+        held: 0xFEDC_BA98_7654_3210,
+        reserved: None,
+    },
+    Row {
+        name: "reservations apart, without LR",
+        code: &[
+            0x0000_0297, // auipc x5, 0
+            0x1802_A52F, // sc.w x10, x0, (x5)
+            0x0305_0513, // addi x10, x10, 48
+            0x0010_0893, // addi x17, x0, 1
+            0x0000_0073, // ecall
+        ],
+        given: &[(10, 9)],
+        taken: 4,
+        exit: (10, 0),
+        gives: &[(5, 0x8000_0000), (10, 49), (17, 1)],
+        held: 0xFEDC_BA98_7654_3210,
+        reserved: None,
+    },
+];
+
+// Atomic memory operations.
+static ATOMICS: [Row; 9] = [
+    Row {
+        name: "AMOADD.W with a dirty upper half",
+        code: &[
+            0x0064_22AF, // amoadd.w x5, x6, (x8)
+            0x0064_A3AF, // amoadd.w x7, x6, (x9)
+            0x0010_0073, // ebreak
+        ],
+        given: &[(6, 0xDEAD_BEEF_0000_0001), (9, 0x8000_1004)],
+        taken: 2,
+        exit: (3, 0x8000_0008),
+        gives: &[(5, 0x7654_3210), (7, 0xFFFF_FFFF_FEDC_BA98)],
+        held: 0xFEDC_BA99_7654_3211,
+        reserved: None,
+    },
+    Row {
+        name: "AMOADD.W wraps in its word",
+        code: &[
+            0x0064_22AF, // amoadd.w x5, x6, (x8)
+            0x0010_0073, // ebreak
+        ],
+        given: &[(6, 0x89AB_CDF0)],
+        taken: 1,
+        exit: (3, 0x8000_0004),
+        gives: &[(5, 0x7654_3210)],
+        held: 0xFEDC_BA98_0000_0000,
+        reserved: None,
+    },
+    Row {
+        name: "AMOMIN.W and AMOMAX.W are signed",
+        code: &[
+            0x8064_A2AF, // amomin.w x5, x6, (x9)
+            0xA064_A3AF, // amomax.w x7, x6, (x9)
+            0x0044_2503, // lw x10, 4(x8)
+            0x0010_0073, // ebreak
+        ],
+        given: &[(6, 0xDEAD_BEEF_0000_0001), (9, 0x8000_1004)],
+        taken: 3,
+        exit: (3, 0x8000_000C),
+        gives: &[
+            (5, 0xFFFF_FFFF_FEDC_BA98),
+            (7, 0xFFFF_FFFF_FEDC_BA98),
+            (10, 1),
+        ],
+        held: 0x0001_7654_3210,
+        reserved: None,
+    },
+    Row {
+        name: "AMOMAXU.W and AMOMINU.W are not",
+        code: &[
+            0xE064_A2AF, // amomaxu.w x5, x6, (x9)
+            0xC064_A3AF, // amominu.w x7, x6, (x9)
+            0x0044_2503, // lw x10, 4(x8)
+            0x0010_0073, // ebreak
+        ],
+        given: &[(6, 0xDEAD_BEEF_0000_0001), (9, 0x8000_1004)],
+        taken: 3,
+        exit: (3, 0x8000_000C),
+        gives: &[
+            (5, 0xFFFF_FFFF_FEDC_BA98),
+            (7, 0xFFFF_FFFF_FEDC_BA98),
+            (10, 1),
+        ],
+        held: 0x0001_7654_3210,
+        reserved: None,
+    },
+    Row {
+        name: "AMOMIN.D and AMOMAX.D",
+        code: &[
+            0x8064_32AF, // amomin.d x5, x6, (x8)
+            0xA064_33AF, // amomax.d x7, x6, (x8)
+            0x0010_0073, // ebreak
+        ],
+        given: &[(6, 1)],
+        taken: 2,
+        exit: (3, 0x8000_0008),
+        gives: &[(5, 0xFEDC_BA98_7654_3210), (7, 0xFEDC_BA98_7654_3210)],
+        held: 1,
+        reserved: None,
+    },
+    Row {
+        name: "AMOMAXU.D and AMOMINU.D",
+        code: &[
+            0xE064_32AF, // amomaxu.d x5, x6, (x8)
+            0xC064_33AF, // amominu.d x7, x6, (x8)
+            0x0010_0073, // ebreak
+        ],
+        given: &[(6, 1)],
+        taken: 2,
+        exit: (3, 0x8000_0008),
+        gives: &[(5, 0xFEDC_BA98_7654_3210), (7, 0xFEDC_BA98_7654_3210)],
+        held: 1,
+        reserved: None,
+    },
+    Row {
+        name: "AMOXOR.D, AMOAND.D and AMOOR.D",
+        code: &[
+            0x2064_32AF, // amoxor.d x5, x6, (x8)
+            0x6094_33AF, // amoand.d x7, x9, (x8)
+            0x40B4_352F, // amoor.d x10, x11, (x8)
+            0x0010_0073, // ebreak
+        ],
+        given: &[
+            (6, 0xFFFF_FFFF_FFFF_FFFF),
+            (9, 0x00FF),
+            (11, 0x8000_0000_0000_0000),
+        ],
+        taken: 3,
+        exit: (3, 0x8000_000C),
+        gives: &[
+            (5, 0xFEDC_BA98_7654_3210),
+            (7, 0x0123_4567_89AB_CDEF),
+            (10, 0x00EF),
+        ],
+        held: 0x8000_0000_0000_00EF,
+        reserved: None,
+    },
+    Row {
+        name: "AMOSWAP into x0 stores too",
+        code: &[
+            0x0864_302F, // amoswap.d x0, x6, (x8)
+            0x0010_0073, // ebreak
+        ],
+        given: &[(6, 0x1122_3344_5566_7788)],
+        taken: 1,
+        exit: (3, 0x8000_0004),
+        gives: &[(0, 0)],
+        held: 0x1122_3344_5566_7788,
+        reserved: None,
+    },
+    Row {
+        name: "AMOADD into its operand, and AMOSWAP into its address",
+        code: &[
+            0x0064_332F, // amoadd.d x6, x6, (x8)
+            0x0864_242F, // amoswap.w x8, x6, (x8)
+            0x0010_0073, // ebreak
+        ],
+        given: &[(6, 1)],
+        taken: 2,
+        exit: (3, 0x8000_0008),
+        gives: &[(6, 0xFEDC_BA98_7654_3210), (8, 0x7654_3211)],
+        held: 0xFEDC_BA98_7654_3210,
+        reserved: None,
+    },
+];
+
+#[test]
+fn accesses(rt: HostRuntime) -> Result<(), Fail> {
+    for row in &ACCESSES {
+        check(&rt, rt.alloc(), row)?;
+    }
+    Ok(())
+}
+
+#[test]
+fn reservations(rt: HostRuntime) -> Result<(), Fail> {
+    for row in &RESERVATIONS {
+        check(&rt, rt.alloc(), row)?;
+    }
+    Ok(())
+}
+
+#[test]
+fn atomics(rt: HostRuntime) -> Result<(), Fail> {
+    for row in &ATOMICS {
+        check(&rt, rt.alloc(), row)?;
+    }
+    Ok(())
+}
