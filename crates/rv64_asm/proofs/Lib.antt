@@ -1,0 +1,4 @@
+pub mod Sums
+pub mod Immediates
+pub mod Groups
+pub mod Coding
