@@ -25,7 +25,8 @@ use Rattle.rv64_asm.specs.Fitting.{fits, in_range, in_steps, has_load, has_guest
 use Rattle.rv64_asm.specs.Laws.{all_named, named, source_named}
 use Rattle.rv64_asm.proofs.Sums.{Parts, ShiftParts, the_opcode, the_rd, the_funct3, the_rs1, the_rs2, the_funct7, shift_opcode, shift_rd, shift_funct3, shift_rs1, shift_amount, shift_upper}
 use Rattle.rv64_asm.proofs.Immediates.{IWord, SWord, BWord, UWord, JWord, i_back, i_opcode, i_rd, i_funct3, i_rs1, i_number, s_back, s_opcode, s_funct3, s_rs1, s_rs2, b_back, b_opcode, b_funct3, b_rs1, b_rs2, u_back, u_opcode, u_rd, j_back, j_opcode, j_rd}
-use Rattle.rv64_asm.proofs.Groups as group
+use Rattle.rv64_asm.proofs.Shifts.{shift_fits, word_shift_fits}
+use Rattle.rv64_asm.proofs.TableBack as group
 
 -- registers' numbers
 
@@ -167,13 +168,6 @@ even_alu7 alu.Srl s = refl
 even_alu7 alu.Sra s = refl
 even_alu7 o s = absurd (false≢true s)
 
-shift_fits : (o : AluOp) (x : ℕ) → is_shift o ≡ true → alu_immediate_fits o x ≡ true → x < 2 ^ 6
-unfolding is_shift alu_immediate_fits
-shift_fits alu.Sll x s h = ltb-true x 64 h
-shift_fits alu.Srl x s h = ltb-true x 64 h
-shift_fits alu.Sra x s h = ltb-true x 64 h
-shift_fits o x s h = absurd (false≢true s)
-
 plain_fits : (o : AluOp) (x : ℕ) → is_shift o ≡ false → alu_immediate_fits o x ≡ true → in_range 12 x ≡ true
 unfolding is_shift alu_immediate_fits
 plain_fits alu.Add x s h = h
@@ -186,13 +180,6 @@ plain_fits alu.Sll x s h = absurd (true≢false s)
 plain_fits alu.Srl x s h = absurd (true≢false s)
 plain_fits alu.Sra x s h = absurd (true≢false s)
 plain_fits o x s h = absurd (false≢true h)
-
-word_shift_fits : (o : WordOp) (x : ℕ) → is_word_shift o ≡ true → word_immediate_fits o x ≡ true → x < 2 ^ 5
-unfolding is_word_shift word_immediate_fits
-word_shift_fits word_op.Sll x s h = ltb-true x 32 h
-word_shift_fits word_op.Srl x s h = ltb-true x 32 h
-word_shift_fits word_op.Sra x s h = ltb-true x 32 h
-word_shift_fits o x s h = absurd (false≢true s)
 
 plain_word_fits : (o : WordOp) (x : ℕ) → is_word_shift o ≡ false → word_immediate_fits o x ≡ true → in_range 12 x ≡ true
 unfolding is_word_shift word_immediate_fits
@@ -260,7 +247,7 @@ load : (w a b x : ℕ) (s : Width) (signed : Bool) → IWord w 0b0000011 a (load
     → op_of w ≡ Some (op.Load s signed a b x)
 load w a b x s signed p h = let k = and_parts (has_load s signed) (in_range 12 x) h in group.at_load w (i_opcode w 0b0000011 a _ b x p)
     ∙ group.load_back w a b x s signed k.0 (i_funct3 w 0b0000011 a _ b x p) (i_rd w 0b0000011 a _ b x p) (i_rs1 w 0b0000011 a _ b x p)
-        (i_back w 0b0000011 a _ b x p k.1)
+    (i_back w 0b0000011 a _ b x p k.1)
 
 -- an op on a control and status register
 
@@ -270,7 +257,7 @@ csr_register a b n o k l h = let p = i_parts 0b1110011 a (csr_code o) b n (omega
     let w = i_word 0b1110011 a (csr_code o) b n in
     group.at_system w (i_opcode w 0b1110011 a _ b n p)
     ∙ group.csr_register_back w a b n o (i_funct3 w 0b1110011 a _ b n p) (i_rd w 0b1110011 a _ b n p) (i_rs1 w 0b1110011 a _ b n p)
-        (i_number w 0b1110011 a _ b n p h)
+    (i_number w 0b1110011 a _ b n p h)
 
 csr_immediate : (a b n : ℕ) (o : CsrOp) → named a ≡ true → named b ≡ true → n < 2 ^ 12
     → op_of (i_word 0b1110011 a (csr_code o + 0b100) b n) ≡ Some (op.Csr o (source.Immediate b) a n)
@@ -278,7 +265,7 @@ csr_immediate a b n o k l h = let p = i_parts 0b1110011 a (csr_code o + 0b100) b
     let w = i_word 0b1110011 a (csr_code o + 0b100) b n in
     group.at_system w (i_opcode w 0b1110011 a _ b n p)
     ∙ group.csr_immediate_back w a b n o (i_funct3 w 0b1110011 a _ b n p) (i_rd w 0b1110011 a _ b n p) (i_rs1 w 0b1110011 a _ b n p)
-        (i_number w 0b1110011 a _ b n p h)
+    (i_number w 0b1110011 a _ b n p h)
 
 csr_back : (a n : ℕ) (o : CsrOp) (from : CsrSource) → (named a && source_named from) ≡ true → (source_fits from && nat_lt n 4096) ≡ true
     → op_of (csr_word o from a n) ≡ Some (op.Csr o from a n)
@@ -295,7 +282,7 @@ store a b x s h k = let p = s_parts 0b0100011 (width_code s) a b x (omega arith)
     let w = s_word 0b0100011 (width_code s) a b x in
     group.at_store w (s_opcode w 0b0100011 _ a b x p)
     ∙ group.store_back w a b x s (s_funct3 w 0b0100011 _ a b x p) (s_rs1 w 0b0100011 _ a b x p) (s_rs2 w 0b0100011 _ a b x p)
-        (s_back w 0b0100011 _ a b x p k)
+    (s_back w 0b0100011 _ a b x p k)
 
 branch : (a b x : ℕ) (t : Test) → (named a && named b) ≡ true → in_steps 13 2 x ≡ true
     → op_of (b_word 0b1100011 (test_funct3 t) a b x) ≡ Some (op.Branch t a b x)
@@ -303,7 +290,7 @@ branch a b x t h k = let p = b_parts 0b1100011 (test_funct3 t) a b x (omega arit
     let w = b_word 0b1100011 (test_funct3 t) a b x in
     group.at_branch w (b_opcode w 0b1100011 _ a b x p)
     ∙ group.branch_back w a b x t (b_funct3 w 0b1100011 _ a b x p) (b_rs1 w 0b1100011 _ a b x p) (b_rs2 w 0b1100011 _ a b x p)
-        (b_back w 0b1100011 _ a b x p k)
+    (b_back w 0b1100011 _ a b x p k)
 
 -- R
 
@@ -313,7 +300,7 @@ register a b c o h = let p = r_parts 0b0110011 a (alu_funct3 o) b c (alu_funct7 
     let w = r_word 0b0110011 a (alu_funct3 o) b c (alu_funct7 o) in
     group.at_register w (the_opcode w 0b0110011 a _ b c _ p)
     ∙ group.register_back w a b c o (the_funct3 w 0b0110011 a _ b c _ p) (the_funct7 w 0b0110011 a _ b c _ p) (the_rd w 0b0110011 a _ b c _ p)
-        (the_rs1 w 0b0110011 a _ b c _ p) (the_rs2 w 0b0110011 a _ b c _ p)
+    (the_rs1 w 0b0110011 a _ b c _ p) (the_rs2 w 0b0110011 a _ b c _ p)
 
 word : (a b c : ℕ) (o : WordOp) → (named a && named b && named c) ≡ true
     → op_of (r_word 0b0111011 a (word_funct3 o) b c (word_funct7 o)) ≡ Some (op.Word o a b c)
@@ -321,7 +308,7 @@ word a b c o h = let p = r_parts 0b0111011 a (word_funct3 o) b c (word_funct7 o)
     let w = r_word 0b0111011 a (word_funct3 o) b c (word_funct7 o) in
     group.at_word w (the_opcode w 0b0111011 a _ b c _ p)
     ∙ group.word_back w a b c o (the_funct3 w 0b0111011 a _ b c _ p) (the_funct7 w 0b0111011 a _ b c _ p) (the_rd w 0b0111011 a _ b c _ p)
-        (the_rs1 w 0b0111011 a _ b c _ p) (the_rs2 w 0b0111011 a _ b c _ p)
+    (the_rs1 w 0b0111011 a _ b c _ p) (the_rs2 w 0b0111011 a _ b c _ p)
 
 -- OP-IMM and OP-IMM-32
 
@@ -333,19 +320,21 @@ alu_immediate a b x o true s h k =
     let w = r_word 0b0010011 a (alu_funct3 o) b x (alu_funct7 o) in
     group.at_immediate w (shift_opcode w 0b0010011 a _ b x _ p)
     ∙ group.immediate_back w a b x o k (shift_funct3 w 0b0010011 a _ b x _ p) (shift_rd w 0b0010011 a _ b x _ p) (shift_rs1 w 0b0010011 a _ b x _ p)
-        (record {
-          amount = λ _. shift_amount w 0b0010011 a _ b x _ p;
-          upper = λ _. shift_upper w 0b0010011 a _ b x _ p;
-          immediate = λ q. absurd (true≢false (sym s ∙ q)) })
+    (record {
+      amount = λ _. shift_amount w 0b0010011 a _ b x _ p;
+      upper = λ _. shift_upper w 0b0010011 a _ b x _ p;
+      immediate = λ q. absurd (true≢false (sym s ∙ q));
+    })
 alu_immediate a b x o false s h k =
     let p = i_parts 0b0010011 a (alu_funct3 o) b x (omega arith) (small_alu3 o) h in
     let w = i_word 0b0010011 a (alu_funct3 o) b x in
     group.at_immediate w (i_opcode w 0b0010011 a _ b x p)
     ∙ group.immediate_back w a b x o k (i_funct3 w 0b0010011 a _ b x p) (i_rd w 0b0010011 a _ b x p) (i_rs1 w 0b0010011 a _ b x p)
-        (record {
-          amount = λ q. absurd (true≢false (sym q ∙ s));
-          upper = λ q. absurd (true≢false (sym q ∙ s));
-          immediate = λ _. i_back w 0b0010011 a _ b x p (plain_fits o x s k) })
+    (record {
+      amount = λ q. absurd (true≢false (sym q ∙ s));
+      upper = λ q. absurd (true≢false (sym q ∙ s));
+      immediate = λ _. i_back w 0b0010011 a _ b x p (plain_fits o x s k);
+    })
 
 word_immediate : (a b x : ℕ) (o : WordOp) (shift : Bool) → is_word_shift o ≡ shift → (named a && named b) ≡ true → word_immediate_fits o x ≡ true
     → op_of (immediate_word shift 0b0011011 a (word_funct3 o) b x (word_funct7 o)) ≡ Some (op.WordImmediate o a b x)
@@ -355,19 +344,21 @@ word_immediate a b x o true s h k =
     let w = r_word 0b0011011 a (word_funct3 o) b x (word_funct7 o) in
     group.at_word_immediate w (the_opcode w 0b0011011 a _ b x _ p)
     ∙ group.word_immediate_back w a b x o k (the_funct3 w 0b0011011 a _ b x _ p) (the_rd w 0b0011011 a _ b x _ p) (the_rs1 w 0b0011011 a _ b x _ p)
-        (record {
-          amount = λ _. the_rs2 w 0b0011011 a _ b x _ p;
-          upper = λ _. the_funct7 w 0b0011011 a _ b x _ p;
-          immediate = λ q. absurd (true≢false (sym s ∙ q)) })
+    (record {
+      amount = λ _. the_rs2 w 0b0011011 a _ b x _ p;
+      upper = λ _. the_funct7 w 0b0011011 a _ b x _ p;
+      immediate = λ q. absurd (true≢false (sym s ∙ q));
+    })
 word_immediate a b x o false s h k =
     let p = i_parts 0b0011011 a (word_funct3 o) b x (omega arith) (small_word3 o) h in
     let w = i_word 0b0011011 a (word_funct3 o) b x in
     group.at_word_immediate w (i_opcode w 0b0011011 a _ b x p)
     ∙ group.word_immediate_back w a b x o k (i_funct3 w 0b0011011 a _ b x p) (i_rd w 0b0011011 a _ b x p) (i_rs1 w 0b0011011 a _ b x p)
-        (record {
-          amount = λ q. absurd (true≢false (sym q ∙ s));
-          upper = λ q. absurd (true≢false (sym q ∙ s));
-          immediate = λ _. i_back w 0b0011011 a _ b x p (plain_word_fits o x s k) })
+    (record {
+      amount = λ q. absurd (true≢false (sym q ∙ s));
+      upper = λ q. absurd (true≢false (sym q ∙ s));
+      immediate = λ _. i_back w 0b0011011 a _ b x p (plain_word_fits o x s k);
+    })
 
 -- AMO
 
@@ -377,7 +368,7 @@ reserved a b s h k = let p = amount_parts 0b0101111 a (width_code s) b 0 0b00010
     let w = r_word 0b0101111 a (width_code s) b 0 0b0001000 in
     group.at_atomic w (the_opcode w 0b0101111 a _ b 0 0b0001000 p)
     ∙ group.reserved_back w a b s k (the_funct3 w 0b0101111 a _ b 0 0b0001000 p) (the_funct7 w 0b0101111 a _ b 0 0b0001000 p)
-        (the_rd w 0b0101111 a _ b 0 0b0001000 p) (the_rs1 w 0b0101111 a _ b 0 0b0001000 p) (the_rs2 w 0b0101111 a _ b 0 0b0001000 p)
+    (the_rd w 0b0101111 a _ b 0 0b0001000 p) (the_rs1 w 0b0101111 a _ b 0 0b0001000 p) (the_rs2 w 0b0101111 a _ b 0 0b0001000 p)
 
 conditional : (a b c : ℕ) (s : Width) → (named a && named b && named c) ≡ true → is_atomic_width s ≡ true
     → op_of (r_word 0b0101111 a (width_code s) b c 0b0001100) ≡ Some (op.StoreConditional s a b c)
@@ -385,7 +376,7 @@ conditional a b c s h k = let p = r_parts 0b0101111 a (width_code s) b c 0b00011
     let w = r_word 0b0101111 a (width_code s) b c 0b0001100 in
     group.at_atomic w (the_opcode w 0b0101111 a _ b c 0b0001100 p)
     ∙ group.conditional_back w a b c s k (the_funct3 w 0b0101111 a _ b c 0b0001100 p) (the_funct7 w 0b0101111 a _ b c 0b0001100 p)
-        (the_rd w 0b0101111 a _ b c 0b0001100 p) (the_rs1 w 0b0101111 a _ b c 0b0001100 p) (the_rs2 w 0b0101111 a _ b c 0b0001100 p)
+    (the_rd w 0b0101111 a _ b c 0b0001100 p) (the_rs1 w 0b0101111 a _ b c 0b0001100 p) (the_rs2 w 0b0101111 a _ b c 0b0001100 p)
 
 modify : (a b c : ℕ) (s : Width) (o : AmoOp) → (named a && named b && named c) ≡ true → is_atomic_width s ≡ true
     → op_of (r_word 0b0101111 a (width_code s) b c (amo_funct7 o)) ≡ Some (op.Amo o s a b c)
@@ -393,7 +384,7 @@ modify a b c s o h k = let p = r_parts 0b0101111 a (width_code s) b c (amo_funct
     let w = r_word 0b0101111 a (width_code s) b c (amo_funct7 o) in
     group.at_atomic w (the_opcode w 0b0101111 a _ b c _ p)
     ∙ group.amo_back w a b c s o k (the_funct3 w 0b0101111 a _ b c _ p) (the_funct7 w 0b0101111 a _ b c _ p)
-        (the_rd w 0b0101111 a _ b c _ p) (the_rs1 w 0b0101111 a _ b c _ p) (the_rs2 w 0b0101111 a _ b c _ p)
+    (the_rd w 0b0101111 a _ b c _ p) (the_rs1 w 0b0101111 a _ b c _ p) (the_rs2 w 0b0101111 a _ b c _ p)
 
 -- SYSTEM
 
@@ -402,21 +393,21 @@ sfence a b h = let p = r_parts 0b1110011 0 0 a b 0b0001001 (omega arith) (omega 
     let w = r_word 0b1110011 0 0 a b 0b0001001 in
     group.at_system w (the_opcode w 0b1110011 0 0 a b 0b0001001 p)
     ∙ group.sfence_back w a b (the_funct3 w 0b1110011 0 0 a b 0b0001001 p) (the_rd w 0b1110011 0 0 a b 0b0001001 p)
-        (the_funct7 w 0b1110011 0 0 a b 0b0001001 p) (the_rs1 w 0b1110011 0 0 a b 0b0001001 p) (the_rs2 w 0b1110011 0 0 a b 0b0001001 p)
+    (the_funct7 w 0b1110011 0 0 a b 0b0001001 p) (the_rs1 w 0b1110011 0 0 a b 0b0001001 p) (the_rs2 w 0b1110011 0 0 a b 0b0001001 p)
 
 hfence_vvma : (a b : ℕ) → (named a && named b) ≡ true → op_of (r_word 0b1110011 0 0b000 a b 0b0010001) ≡ Some (op.HfenceVvma a b)
 hfence_vvma a b h = let p = r_parts 0b1110011 0 0 a b 0b0010001 (omega arith) (omega arith) (omega arith) h in
     let w = r_word 0b1110011 0 0 a b 0b0010001 in
     group.at_system w (the_opcode w 0b1110011 0 0 a b 0b0010001 p)
     ∙ group.hfence_vvma_back w a b (the_funct3 w 0b1110011 0 0 a b 0b0010001 p) (the_rd w 0b1110011 0 0 a b 0b0010001 p)
-        (the_funct7 w 0b1110011 0 0 a b 0b0010001 p) (the_rs1 w 0b1110011 0 0 a b 0b0010001 p) (the_rs2 w 0b1110011 0 0 a b 0b0010001 p)
+    (the_funct7 w 0b1110011 0 0 a b 0b0010001 p) (the_rs1 w 0b1110011 0 0 a b 0b0010001 p) (the_rs2 w 0b1110011 0 0 a b 0b0010001 p)
 
 hfence_gvma : (a b : ℕ) → (named a && named b) ≡ true → op_of (r_word 0b1110011 0 0b000 a b 0b0110001) ≡ Some (op.HfenceGvma a b)
 hfence_gvma a b h = let p = r_parts 0b1110011 0 0 a b 0b0110001 (omega arith) (omega arith) (omega arith) h in
     let w = r_word 0b1110011 0 0 a b 0b0110001 in
     group.at_system w (the_opcode w 0b1110011 0 0 a b 0b0110001 p)
     ∙ group.hfence_gvma_back w a b (the_funct3 w 0b1110011 0 0 a b 0b0110001 p) (the_rd w 0b1110011 0 0 a b 0b0110001 p)
-        (the_funct7 w 0b1110011 0 0 a b 0b0110001 p) (the_rs1 w 0b1110011 0 0 a b 0b0110001 p) (the_rs2 w 0b1110011 0 0 a b 0b0110001 p)
+    (the_funct7 w 0b1110011 0 0 a b 0b0110001 p) (the_rs1 w 0b1110011 0 0 a b 0b0110001 p) (the_rs2 w 0b1110011 0 0 a b 0b0110001 p)
 
 guest_load : (a b : ℕ) (s : Width) (signed : Bool) → (named a && named b) ≡ true → has_load s signed ≡ true
     → op_of (r_word 0b1110011 a 0b100 b (guest_load_rs2 signed) (0b0110000 + width_code s * 2)) ≡ Some (op.GuestLoad s signed a b)
@@ -425,7 +416,7 @@ guest_load a b s signed h k =
     let w = r_word 0b1110011 a 4 b (guest_load_rs2 signed) (48 + width_code s * 2) in
     group.at_system w (the_opcode w 0b1110011 a 4 b _ _ p)
     ∙ group.guest_load_back w a b s signed k (the_funct3 w 0b1110011 a 4 b _ _ p) (the_funct7 w 0b1110011 a 4 b _ _ p)
-        (the_rd w 0b1110011 a 4 b _ _ p) (the_rs1 w 0b1110011 a 4 b _ _ p) (the_rs2 w 0b1110011 a 4 b _ _ p)
+    (the_rd w 0b1110011 a 4 b _ _ p) (the_rs1 w 0b1110011 a 4 b _ _ p) (the_rs2 w 0b1110011 a 4 b _ _ p)
 
 guest_fetch : (a b : ℕ) (s : Width) → (named a && named b) ≡ true → has_guest_fetch s ≡ true
     → op_of (r_word 0b1110011 a 0b100 b 3 (0b0110000 + width_code s * 2)) ≡ Some (op.GuestFetch s a b)
@@ -434,7 +425,7 @@ guest_fetch a b s h k =
     let w = r_word 0b1110011 a 4 b 3 (48 + width_code s * 2) in
     group.at_system w (the_opcode w 0b1110011 a 4 b 3 _ p)
     ∙ group.guest_fetch_back w a b s k (the_funct3 w 0b1110011 a 4 b 3 _ p) (the_funct7 w 0b1110011 a 4 b 3 _ p)
-        (the_rd w 0b1110011 a 4 b 3 _ p) (the_rs1 w 0b1110011 a 4 b 3 _ p) (the_rs2 w 0b1110011 a 4 b 3 _ p)
+    (the_rd w 0b1110011 a 4 b 3 _ p) (the_rs1 w 0b1110011 a 4 b 3 _ p) (the_rs2 w 0b1110011 a 4 b 3 _ p)
 
 guest_store : (a b : ℕ) (s : Width) → (named a && named b) ≡ true
     → op_of (r_word 0b1110011 0 0b100 a b (0b0110001 + width_code s * 2)) ≡ Some (op.GuestStore s a b)
@@ -443,7 +434,7 @@ guest_store a b s h =
     let w = r_word 0b1110011 0 4 a b (49 + width_code s * 2) in
     group.at_system w (the_opcode w 0b1110011 0 4 a b _ p)
     ∙ group.guest_store_back w a b s (the_funct3 w 0b1110011 0 4 a b _ p) (the_funct7 w 0b1110011 0 4 a b _ p)
-        (the_rd w 0b1110011 0 4 a b _ p) (the_rs1 w 0b1110011 0 4 a b _ p) (the_rs2 w 0b1110011 0 4 a b _ p)
+    (the_rd w 0b1110011 0 4 a b _ p) (the_rs1 w 0b1110011 0 4 a b _ p) (the_rs2 w 0b1110011 0 4 a b _ p)
 
 pub decodes : (o : Op) → all_named o ≡ true → fits o ≡ true → op_of (encoded o) ≡ Some o
 unfolding all_named fits encoded

@@ -58,7 +58,6 @@ i_rs1 w a b c d x p = omega arith
 pub i_number : (w a b c d x : ℕ) → IWord w a b c d x → x < 2 ^ 12 → field 20 12 w ≡ x
 i_number w a b c d x p h = omega arith
 
-
 -- the same of the S format
 pub record SWord (w a c d e x : ℕ) : Type 0 where
   pub sum : w ≡ a + field 0 5 x * 2 ^ 7 + c * 2 ^ 12 + d * 2 ^ 15 + e * 2 ^ 20 + field 5 7 x * 2 ^ 25
@@ -81,7 +80,6 @@ s_rs1 w a c d e x p = omega arith
 
 pub s_rs2 : (w a c d e x : ℕ) → SWord w a c d e x → field 20 5 w ≡ e
 s_rs2 w a c d e x p = omega arith
-
 
 -- of the B format
 pub record BWord (w a c d e x : ℕ) : Type 0 where
@@ -111,7 +109,6 @@ b_rs1 w a c d e x p = omega arith
 pub b_rs2 : (w a c d e x : ℕ) → BWord w a c d e x → field 20 5 w ≡ e
 b_rs2 w a c d e x p = omega arith
 
-
 -- of the U format
 pub record UWord (w a b x : ℕ) : Type 0 where
   pub sum : w ≡ a + b * 2 ^ 7 + field 12 20 x * 2 ^ 12
@@ -130,7 +127,6 @@ u_opcode w a b x p = omega arith
 
 pub u_rd : (w a b x : ℕ) → UWord w a b x → field 7 5 w ≡ b
 u_rd w a b x p = omega arith
-
 
 -- of the J format
 pub record JWord (w a b x : ℕ) : Type 0 where
@@ -151,4 +147,3 @@ j_opcode w a b x p = omega arith
 
 pub j_rd : (w a b x : ℕ) → JWord w a b x → field 7 5 w ≡ b
 j_rd w a b x p = omega arith
-

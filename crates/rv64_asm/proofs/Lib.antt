@@ -1,4 +1,5 @@
 pub mod Sums
+pub mod Shifts
 pub mod Immediates
-pub mod Groups
+pub mod TableBack
 pub mod Coding

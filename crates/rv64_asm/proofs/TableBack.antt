@@ -262,8 +262,14 @@ amo_back w a b x s o h e i f g k = atomic_width w s h e ∙ simp (high_five w (f
 
 fence_words : (w f : ℕ) → funct3 w ≡ 0 → rd w ≡ 0 → funct7 w ≡ f → 8 < f → f % 2 ≡ 1 → system_of w ≡ fence_op_of w
 unfolding system_of privileged_of
-fence_words w f e g i h k = simp (e, g, ne_eqb w 0x00000073 (λ p. omega arith), ne_eqb w 0x00100073 (λ p. omega arith),
-    ne_eqb w 0x10200073 (λ p. omega arith), ne_eqb w 0x10500073 (λ p. omega arith))
+fence_words w f e g i h k = simp (
+  e,
+  g,
+  ne_eqb w 0x00000073 (λ p. omega arith),
+  ne_eqb w 0x00100073 (λ p. omega arith),
+  ne_eqb w 0x10200073 (λ p. omega arith),
+  ne_eqb w 0x10500073 (λ p. omega arith),
+)
 
 pub sfence_back : (w a b : ℕ) → funct3 w ≡ 0 → rd w ≡ 0 → funct7 w ≡ 0b0001001 → rs1 w ≡ a → rs2 w ≡ b → system_of w ≡ Some (op.SfenceVma a b)
 unfolding fence_op_of
