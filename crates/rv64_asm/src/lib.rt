@@ -2,11 +2,17 @@
 #![tactic(auto)]
 
 mod encoding;
+mod faults;
 mod fitting;
 mod formats;
 mod groups;
+mod images;
 mod laws;
+mod lines;
+mod pieces;
 
 pub use encoding::encode;
+pub use faults::AsmFault;
 pub use fitting::fits;
+pub use images::Image;
 pub use laws::decodes_back;
