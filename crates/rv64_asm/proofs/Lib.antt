@@ -3,3 +3,4 @@ pub mod Shifts
 pub mod Immediates
 pub mod TableBack
 pub mod Coding
+pub mod Loops

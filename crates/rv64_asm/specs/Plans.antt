@@ -116,6 +116,6 @@ abbrev pub byte_at : Plan → ℕ → ℕ
 byte_at plan place = unwrap_or (covering plan.pieces place) (slice_index (code plan.labels 0 plan.items) place)
 
 -- the bytes of a whole image
-pub record IsImage (plan : Plan) (bytes : List ℕ) : Type 0 where
-  pub length : length bytes ≡ size plan
-  pub bytes : (place : ℕ) → place < size plan → slice_index bytes place ≡ byte_at plan place
+pub record IsImage (plan : Plan) (image : List ℕ) : Type 0 where
+  pub ends : length image ≡ size plan
+  pub bytes : (place : ℕ) → place < size plan → slice_index image place ≡ byte_at plan place

@@ -96,21 +96,36 @@ impl Image {
         ensures image { IfOk result (λ v. IsImage self v.items) }
         ensures err { IfErr result (λ e. (e ≡ NoMemory) ⊎ (first_fault self.labels 0 self.items ≡ Some e)) }
     {
-        let mut bytes = match assemble(
+        bytes_of(
             self.lines.as_slice(),
             self.labels.as_slice(),
+            self.pieces.as_slice(),
             *self.lines.allocator(),
-        ) {
-            Ok(bytes) => bytes,
-            Err(fault) => return Err(fault),
-        };
-        let size = last_end(self.pieces.as_slice()).max(bytes.len() as u64);
-        let Ok(()) = bytes.resize(size as usize, 0) else {
-            return Err(AsmFault::NoMemory);
-        };
-        lay_all(bytes.as_mut_slice(), self.pieces.as_slice());
-        Ok(bytes)
+        )
     }
+}
+
+// The ops' words, with pieces laid over them.
+fn bytes_of(
+    lines: &[Line],
+    labels: &[Label],
+    pieces: &[Piece],
+    alloc: Global,
+) -> Result<Vec<u8>, AsmFault>
+    ensures ok { OnOk result (first_fault labels.now 0 lines.now ≡ None) }
+    ensures image { IfOk result (λ v. IsImage (record { items = lines.now; labels = labels.now; pieces = pieces.now }) v.items) }
+    ensures err { IfErr result (λ e. (e ≡ NoMemory) ⊎ (first_fault labels.now 0 lines.now ≡ Some e)) }
+{
+    let mut bytes = match assemble(lines, labels, alloc) {
+        Ok(bytes) => bytes,
+        Err(fault) => return Err(fault),
+    };
+    let size = (bytes.len() as u64).max(last_end(pieces));
+    let Ok(()) = bytes.resize(size as usize, 0) else {
+        return Err(AsmFault::NoMemory);
+    };
+    lay_all(bytes.as_mut_slice(), pieces);
+    Ok(bytes)
 }
 
 // The words of ops, one after the other.

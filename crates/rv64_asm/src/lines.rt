@@ -47,7 +47,7 @@ impl Label {
 }
 
 /// The index that a label stands at, if it is set.
-#[tactic(auto, unfolding(crate::specs::Plans::index_of))]
+#[tactic(auto, using(crate::proofs::Loops::looking))]
 pub fn index_of(labels: &[Label], id: u32) -> Option<u64>
     ensures { result ≡ index_of labels.now id }
 {

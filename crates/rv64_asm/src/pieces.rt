@@ -67,7 +67,7 @@ fn paste(bytes: &mut [u8], at: usize, piece: &[u8])
 }
 
 /// Where the last byte of all ends, or 0.
-#[tactic(auto, unfolding(crate::specs::Plans::last_end))]
+#[tactic(auto, using(crate::proofs::Loops::ending))]
 pub fn last_end(pieces: &[Piece]) -> u64
     ensures value { result ≡ last_end pieces.now }
     ensures small { result ≤ 2 ^ 26 }
