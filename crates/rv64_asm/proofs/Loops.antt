@@ -164,4 +164,5 @@ pub finished : (labels : List Label) (items : List Item) (pieces : List Piece) (
 finished labels items pieces bytes padded image n e h k l m = record {
   ends = m ∙ ap length k ∙ padded_length bytes n (omega arith) ∙ h ∙ ap (λ x. max x (last_end pieces)) (ap length e ∙ length_code labels 0 items);
   bytes = λ place _. l place ∙ ap (λ b. unwrap_or (covering pieces place) b)
-    (ap (λ p. slice_index p place) k ∙ padded_at bytes n place (omega arith) ∙ ap (λ b. slice_index b place) e) }
+      (ap (λ p. slice_index p place) k ∙ padded_at bytes n place (omega arith) ∙ ap (λ b. slice_index b place) e);
+}

@@ -16,3 +16,8 @@ pub use faults::AsmFault;
 pub use fitting::fits;
 pub use images::Image;
 pub use laws::decodes_back;
+
+#[cfg(test)]
+mod coding_tests;
+#[cfg(test)]
+mod image_tests;
