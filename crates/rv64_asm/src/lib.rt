@@ -1,0 +1,23 @@
+// From instructions to their words, and images of them with labels.
+#![tactic(auto)]
+
+mod encoding;
+mod faults;
+mod fitting;
+mod formats;
+mod groups;
+mod images;
+mod laws;
+mod lines;
+mod pieces;
+
+pub use encoding::encode;
+pub use faults::AsmFault;
+pub use fitting::fits;
+pub use images::Image;
+pub use laws::decodes_back;
+
+#[cfg(test)]
+mod coding_tests;
+#[cfg(test)]
+mod image_tests;
