@@ -2,11 +2,16 @@
 #![tactic(auto)]
 
 mod entries;
+mod levels;
 mod modes;
 mod registers;
 mod widths;
 
 pub use entries::Entry;
+pub use levels::{
+    Level, SUPERVISOR_EXTERNAL, SUPERVISOR_SOFTWARE, SUPERVISOR_TIMER, VS_EXTERNAL, VS_SOFTWARE,
+    VS_TIMER,
+};
 pub use modes::{
     Access, BREAKPOINT, ECALL_FROM_HS, ECALL_FROM_USER, ECALL_FROM_VS, ILLEGAL_INSTRUCTION,
     INSTRUCTION_ACCESS_FAULT, INSTRUCTION_MISALIGNED, LOAD_ACCESS_FAULT, LOAD_MISALIGNED, Mode,
