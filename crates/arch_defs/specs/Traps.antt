@@ -33,13 +33,13 @@ mode_of false false = U
 mode_of true true = VS
 mode_of true false = VU
 
--- where a trap goes: to VS with V = 1 where hideleg has the interrupt, hedeleg the exception; else to HS (8.2.2, 8.6.2)
-unfoldable pub target : Csrs → Mode → Trap → Level
-target csrs mode trap = if is_virtual mode && is_delegated csrs trap.interrupt trap.cause then level.VS else level.HS
-
 -- whether hideleg or hedeleg has a code's bit (8.2.2)
 abbrev pub is_delegated : Csrs → Bool → ℕ → Bool
 is_delegated csrs interrupt code = if interrupt then guest_bit csrs.hideleg code else nat_lt code 64 && (field code 1 csrs.hedeleg == 1)
+
+-- where a trap goes: to VS with V = 1 where hideleg has the interrupt, hedeleg the exception; else to HS (8.2.2, 8.6.2)
+unfoldable pub target : Csrs → Mode → Trap → Level
+target csrs mode trap = if is_virtual mode && is_delegated csrs trap.interrupt trap.cause then level.VS else level.HS
 
 -- whether stval gets an address for this exception (4.1.9)
 abbrev pub is_address_code : ℕ → Bool
