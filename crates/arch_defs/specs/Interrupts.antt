@@ -1,6 +1,6 @@
 -- Interrupts: which are pending and enabled, which level takes them, and which one is due
--- (Privileged Architecture 20211203, 4.1.3, 8.2.2, 8.2.3, 8.6.2).
-use Rattle.std.specs.Prelude.{ℕ, Bool, true, false, Option, Some, None, ◌==◌, ◌&&◌, ◌||◌, if◌then◌else◌, [], ◌∷◌, List, find}
+-- (Privileged Architecture 20211203, 3.1.9, 4.1.1, 4.1.3, 8.2.2, 8.2.3).
+use Rattle.std.specs.Prelude.{ℕ, Bool, true, false, Option, None, ◌==◌, ◌&&◌, ◌||◌, if◌then◌else◌, [], ◌∷◌, List, find}
 use Rattle.std.specs.Option.{option_or}
 use Rattle.arch_defs.specs.declared.levels.Level.{Level}
 use Rattle.arch_defs.specs.declared.levels.Level.TheVariants as level
@@ -58,7 +58,7 @@ is_ready_for_hs csrs code = is_pending csrs code && is_enabled csrs code && (if 
 abbrev pub is_ready_for_vs : Csrs → ℕ → Bool
 is_ready_for_vs csrs code = is_pending csrs code && is_enabled csrs code && guest_bit csrs.hideleg code
 
--- the orders of interrupts of one level: external, software, timer, and a level's own before VS's (4.1.3, 8.6.2)
+-- the orders of interrupts of HS (8.2.3) and of VS (4.1.3): external, software, timer, HS's own first
 abbrev pub hs_order : List ℕ
 hs_order = SUPERVISOR_EXTERNAL ∷ SUPERVISOR_SOFTWARE ∷ SUPERVISOR_TIMER ∷ VS_EXTERNAL ∷ VS_SOFTWARE ∷ VS_TIMER ∷ []
 
@@ -72,7 +72,7 @@ due_for_hs csrs mode = if takes csrs mode level.HS then find (is_ready_for_hs cs
 unfoldable pub due_for_vs : Csrs → Mode → Option ℕ
 due_for_vs csrs mode = if takes csrs mode level.VS then find (is_ready_for_vs csrs) vs_order else None
 
--- the code of the interrupt that is due, if any: HS's before VS's (8.6.2)
+-- the code of the interrupt that is due, if any: HS's before VS's (3.1.9)
 unfoldable pub due : Csrs → Mode → Option ℕ
 due csrs mode = option_or (due_for_hs csrs mode) (due_for_vs csrs mode)
 

@@ -1,5 +1,5 @@
 -- Traps: where they go, what their entry and SRET change (Privileged Architecture 20211203, chapters 4 and 8).
-use Rattle.std.specs.Prelude.{ℕ, Bool, true, false, ◌+◌, ◌-◌, ◌*◌, ◌/◌, ◌%◌, ◌^◌, ◌==◌, ◌&&◌, nat_lt, if◌then◌else◌, [], ◌∷◌}
+use Rattle.std.specs.Prelude.{ℕ, Bool, true, false, ◌+◌, ◌-◌, ◌*◌, ◌/◌, ◌%◌, ◌^◌, ◌==◌, ◌&&◌, ◌||◌, nat_lt, if◌then◌else◌, [], ◌∷◌}
 use Rattle.std.specs.List.{list_any}
 use Rattle.arch_defs.specs.Bits.{add64, field}
 use Rattle.arch_defs.specs.declared.levels.Level.{Level}
@@ -47,17 +47,18 @@ is_address_code code = list_any (λ c. c == code) (0 ∷ 1 ∷ 3 ∷ 4 ∷ 5 ∷
 
 -- whether an exception writes a guest virtual address to stval: with V = 1, or by the access of HLV, HLVX or HSV (8.2.1, GVA)
 abbrev pub has_guest_address : Mode → Bool → ℕ → Bool
-has_guest_address mode by_guest_access code = (if by_guest_access then true else is_virtual mode) && is_address_code code
+has_guest_address mode by_guest_access code = (by_guest_access || is_virtual mode) && is_address_code code
 
 -- what scause or vscause gets: the code, and bit 63 for an interrupt (4.1.8)
 abbrev pub cause_of : Bool → ℕ → ℕ
 cause_of interrupt code = if interrupt then 2 ^ 63 + code % 2 ^ 63 else code
 
--- where a trap's handler is: at tvec's base, but an interrupt in mode 1 at 4 times its code beyond it (4.1.2)
+-- where a trap's handler is: at tvec's base, but an interrupt in mode 1 at 4 times its code beyond it (4.1.2, 8.2.13)
 abbrev pub handler_of : ℕ → Bool → ℕ → ℕ
 handler_of tvec interrupt code = if interrupt && (tvec % 4 == 1) then add64 (tvec / 4 * 4) (4 * code) else tvec / 4 * 4
 
--- a level's own registers after a trap into it, from privilege S or U, at pc (4.1.1, 4.1.7 to 4.1.9; 8.2.11, 8.2.16 to 8.2.18 for VS)
+-- a level's own registers after a trap into it, from privilege S or U, at pc (4.1.1, 4.1.7 to 4.1.9; for VS 8.2.11,
+-- 8.2.15 to 8.2.17)
 abbrev pub entered_bank : Bank → Bool → ℕ → ℕ → ℕ → Bank
 entered_bank bank supervisor pc cause tval = record bank {
   status = record bank.status { spp = supervisor; spie = bank.status.sie; sie = false };

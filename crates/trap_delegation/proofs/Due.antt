@@ -1,15 +1,14 @@
 -- The due interrupt.
-use Rattle.std.specs.Prelude.{ℕ, ◌≡◌, ◌==◌, ◌&&◌, ◌||◌, ◌⊎◌, Bool, true, false, cond, if◌then◌else◌, Option, Some, None, List, [], ◌∷◌, find, refl}
+use Rattle.std.specs.Prelude.{ℕ, ◌≡◌, ◌&&◌, ◌||◌, ◌⊎◌, Bool, true, false, cond, if◌then◌else◌, Option, Some, None, List, [], ◌∷◌, find, refl}
 use Rattle.std.proofs.Common.{inl, inr, arith, ap, ◌∙◌}
 use Rattle.std.proofs.lemmas.Bool.Decides.{nat_tests}
 use Rattle.std.specs.Option.{option_or}
-use Rattle.arch_defs.specs.declared.levels.Level.{Level}
 use Rattle.arch_defs.specs.declared.levels.Level.TheVariants as level
 use Rattle.arch_defs.specs.declared.modes.Mode.{Mode}
 use Rattle.arch_defs.specs.declared.modes.Mode.TheVariants.{HS, U, VS, VU}
 use Rattle.arch_defs.specs.declared.registers.Csrs.{Csrs}
 use Rattle.arch_defs.specs.declared.registers.Interrupts.{Interrupts}
-use Rattle.arch_defs.specs.Interrupts.{due, due_for_hs, due_for_vs, guest_bit, supervisor_bit, is_enabled, is_pending, is_ready_for_hs, is_ready_for_vs, hs_order, vs_order, level_of, takes, interrupt_of}
+use Rattle.arch_defs.specs.Interrupts.{due, due_for_hs, due_for_vs, guest_bit, supervisor_bit, is_enabled, is_pending, is_ready_for_hs, is_ready_for_vs, hs_order, vs_order, takes}
 use Rattle.arch_defs.specs.Registers.{clear_interrupts}
 use Rattle.arch_defs.specs.Traps.{is_virtual, target}
 use Rattle.trap_delegation.specs.Laws.{DueIsPending, DueIsEnabled, DueIsTaken, DueGoesToItsLevel, NothingDue, NoneIsMissed}
@@ -30,7 +29,6 @@ found_passes p y ys x false e h later = later h
 find_passes : (p : ℕ → Bool) (xs : List ℕ) (x : ℕ) → find p xs ≡ Some x → p x ≡ true
 find_passes p [] x h = absurd cc
 find_passes p (y ∷ ys) x h = found_passes p y ys x (p y) refl h (find_passes p ys x)
-
 
 all_three : (a b c : Bool) → (a && b && c) ≡ true → (a ≡ true) × (b ≡ true) × (c ≡ true)
 all_three true true true h = (refl, refl, refl)
@@ -75,7 +73,7 @@ due_is_ready : (csrs : Csrs) (mode : Mode) (code : ℕ) → due csrs mode ≡ So
 unfolding due
 due_is_ready csrs mode code h =
     elim (either (due_for_hs csrs mode) (due_for_vs csrs mode) code h)
-        [ inl e ↦ (false, ready_for_hs csrs mode code e) | inr e ↦ (true, ready_for_vs csrs mode code e) ]
+    [ inl e ↦ (false, ready_for_hs csrs mode code e) | inr e ↦ (true, ready_for_vs csrs mode code e) ]
 
 pub due_is_pending : DueIsPending
 due_is_pending csrs mode code h = (due_is_ready csrs mode code h).1.pending
@@ -150,7 +148,7 @@ none_of None never = refl
 pub nothing_due : NothingDue
 nothing_due csrs mode e f = none_of (due csrs mode) (λ code h.
     elim (one_of (supervisor_bit csrs.sie code) (guest_bit csrs.hie code) (due_is_enabled csrs mode code h))
-        [ inl p ↦ supervisor_clear csrs.sie code e p | inr p ↦ guest_clear csrs.hie code f p ])
+    [ inl p ↦ supervisor_clear csrs.sie code e p | inr p ↦ guest_clear csrs.hie code f p ])
 
 -- an interrupt that the orders hold and that is ready is found
 neither : (a b : Option ℕ) → option_or a b ≡ None → (a ≡ None) × (b ≡ None)
@@ -173,16 +171,17 @@ not_found_for_hs p code h e =
     let one = none_here p 9 (1 ∷ 5 ∷ vs_order) h in
     let two = none_here p 1 (5 ∷ vs_order) one.1 in
     let three = none_here p 5 vs_order two.1 in
-    elim e
-        [ inl (inl a) ↦ ap p a ∙ two.0
-        | inl (inr (inl b)) ↦ ap p b ∙ three.0
-        | inl (inr (inr c)) ↦ ap p c ∙ one.0
-        | inr g ↦ not_found_for_vs p code three.1 g ]
+    elim e [
+      | inl (inl a) ↦ ap p a ∙ two.0
+      | inl (inr (inl b)) ↦ ap p b ∙ three.0
+      | inl (inr (inr c)) ↦ ap p c ∙ one.0
+      | inr g ↦ not_found_for_vs p code three.1 g
+    ]
 
 pending_codes : (csrs : Csrs) (code : ℕ) → is_pending csrs code ≡ true → ((code ≡ 1) ⊎ (code ≡ 5) ⊎ (code ≡ 9)) ⊎ ((code ≡ 2) ⊎ (code ≡ 6) ⊎ (code ≡ 10))
 pending_codes csrs code h =
     elim (one_of (supervisor_bit csrs.sip code) (guest_bit csrs.hvip code) h)
-        [ inl p ↦ inl (supervisor_codes csrs.sip code p) | inr p ↦ inr (guest_codes csrs.hvip code p) ]
+    [ inl p ↦ inl (supervisor_codes csrs.sip code p) | inr p ↦ inr (guest_codes csrs.hvip code p) ]
 
 unready : (a b c : Bool) → a ≡ true → b ≡ true → (a && b && c) ≡ false → c ≡ false
 unready true true c p q h = h
@@ -192,22 +191,24 @@ unready false b c p q h = absurd cc
 untaken_by_vs : (csrs : Csrs) (mode : Mode) (code : ℕ) → due_for_vs csrs mode ≡ None → is_pending csrs code ≡ true → is_enabled csrs code ≡ true → guest_bit csrs.hideleg code ≡ true → takes csrs mode level.VS ≡ false
 unfolding due_for_vs
 untaken_by_vs csrs mode code h p q r =
-    elim (shut_gate (takes csrs mode level.VS) (find (is_ready_for_vs csrs) vs_order) h)
-        [ inl shut ↦ shut
-        | inr none ↦
-            let missed = not_found_for_vs (is_ready_for_vs csrs) code none (guest_codes csrs.hideleg code r) in
-            let owned = unready (is_pending csrs code) (is_enabled csrs code) (guest_bit csrs.hideleg code) p q missed in
-            absurd (clash (guest_bit csrs.hideleg code) r owned) ]
+    elim (shut_gate (takes csrs mode level.VS) (find (is_ready_for_vs csrs) vs_order) h) [
+      | inl shut ↦ shut
+      | inr none ↦
+          let missed = not_found_for_vs (is_ready_for_vs csrs) code none (guest_codes csrs.hideleg code r) in
+          let owned = unready (is_pending csrs code) (is_enabled csrs code) (guest_bit csrs.hideleg code) p q missed in
+          absurd (clash (guest_bit csrs.hideleg code) r owned)
+    ]
 
 untaken_by_hs : (csrs : Csrs) (mode : Mode) (code : ℕ) → due_for_hs csrs mode ≡ None → is_pending csrs code ≡ true → is_enabled csrs code ≡ true → guest_bit csrs.hideleg code ≡ false → takes csrs mode level.HS ≡ false
 unfolding due_for_hs
 untaken_by_hs csrs mode code h p q r =
-    elim (shut_gate (takes csrs mode level.HS) (find (is_ready_for_hs csrs) hs_order) h)
-        [ inl shut ↦ shut
-        | inr none ↦
-            let missed = not_found_for_hs (is_ready_for_hs csrs) code none (pending_codes csrs code p) in
-            let owned = unready (is_pending csrs code) (is_enabled csrs code) (if guest_bit csrs.hideleg code then false else true) p q missed in
-            absurd (clash (guest_bit csrs.hideleg code) (affirmed (guest_bit csrs.hideleg code) owned) r) ]
+    elim (shut_gate (takes csrs mode level.HS) (find (is_ready_for_hs csrs) hs_order) h) [
+      | inl shut ↦ shut
+      | inr none ↦
+          let missed = not_found_for_hs (is_ready_for_hs csrs) code none (pending_codes csrs code p) in
+          let owned = unready (is_pending csrs code) (is_enabled csrs code) (if guest_bit csrs.hideleg code then false else true) p q missed in
+          absurd (clash (guest_bit csrs.hideleg code) (affirmed (guest_bit csrs.hideleg code) owned) r)
+    ]
 
 untaken_at : (csrs : Csrs) (mode : Mode) (b : Bool) → (b ≡ true → takes csrs mode level.VS ≡ false) → (b ≡ false → takes csrs mode level.HS ≡ false) → takes csrs mode (if b then level.VS else level.HS) ≡ false
 untaken_at csrs mode true f g = f refl

@@ -1,6 +1,5 @@
 -- SRET after trap entry, and what trap entry leaves.
-use Rattle.std.specs.Prelude.{◌≡◌, true, false, refl}
-use Rattle.arch_defs.specs.declared.modes.Mode.{Mode}
+use Rattle.std.specs.Prelude.{refl}
 use Rattle.arch_defs.specs.declared.modes.Mode.TheVariants.{HS, U, VS, VU}
 use Rattle.arch_defs.specs.Traps.{entered_hs, entered_vs, returned, target}
 use Rattle.trap_delegation.specs.Laws.{HsGivesModeBack, HsGivesSieBack, HsGivesRegsBack, VsGivesModeBack, VsGivesSieBack, VsGivesRegsBack, VsEntryLeavesHs, HsEntryLeavesVs, SpvpStays, GoesToHs}

@@ -1,5 +1,5 @@
 -- Laws of traps, returns and due interrupts.
-use Rattle.std.specs.Prelude.{ℕ, Bool, true, false, Some, None, ◌≡◌}
+use Rattle.std.specs.Prelude.{ℕ, true, false, Some, None, ◌≡◌}
 use Rattle.arch_defs.specs.declared.levels.Level.TheVariants as level
 use Rattle.arch_defs.specs.declared.modes.Mode.{Mode}
 use Rattle.arch_defs.specs.declared.modes.Trap.{Trap}

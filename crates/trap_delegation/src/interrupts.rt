@@ -1,4 +1,4 @@
-// Pending, enabled and due interrupts (Privileged Architecture 20211203, 4.1.3, 8.2.2, 8.2.3 and 8.6.2).
+// Pending, enabled and due interrupts (Privileged Architecture 20211203, 3.1.9, 4.1.3, 8.2.2 and 8.2.3).
 
 ghost use Rattle.std.specs.Prelude.{◌≡◌, find};
 ghost use Rattle.arch_defs.specs.Interrupts.{due, due_for_hs, due_for_vs, guest_bit, hs_order, is_enabled, is_pending, is_ready_for_hs, is_ready_for_vs, supervisor_bit, takes, vs_order};

@@ -5,6 +5,8 @@ mod entering;
 mod interrupts;
 mod laws;
 mod returning;
+#[cfg(test)]
+mod tests;
 
 pub use entering::{enter_hs, enter_vs, has_guest_address, interrupt_trap, target};
 pub use interrupts::pending;
