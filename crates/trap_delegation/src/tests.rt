@@ -52,6 +52,80 @@ fn all_pending(hideleg: Interrupts) -> Csrs {
     csrs
 }
 
+/// The first interrupt that is due with all pending, those of the supervisor level enabled as said.
+fn first_due(mode: Mode, hs: bool, vs: bool, hideleg: Interrupts, sie: Interrupts) -> Option<u64> {
+    let mut csrs = all_pending(hideleg);
+    csrs.sie = sie;
+    csrs.hs.status.sie = hs;
+    csrs.vs.status.sie = vs;
+    pending(&csrs, mode)
+}
+
+fn target_of(mode: Mode, hedeleg: u64, hideleg: Interrupts, trap: &Trap) -> Level {
+    let mut csrs = Csrs::at_reset();
+    csrs.hedeleg = hedeleg;
+    csrs.hideleg = hideleg;
+    target(&csrs, mode, trap)
+}
+
+/// scause, sepc and pc after a trap from VU into HS.
+fn after_hs(tvec: u64, trap: &Trap) -> (u64, u64, u64) {
+    let mut csrs = Csrs::at_reset();
+    csrs.hs.tvec = tvec;
+    let mut regs = Regs::starting_at(START + 4);
+    enter_hs(&mut csrs, &mut regs, Mode::VU, trap);
+    (csrs.hs.cause, csrs.hs.epc, regs.pc)
+}
+
+/// vscause, vsepc and pc after a trap from VU into VS.
+fn after_vs(tvec: u64, trap: &Trap) -> (u64, u64, u64) {
+    let mut csrs = Csrs::at_reset();
+    csrs.vs.tvec = tvec;
+    let mut regs = Regs::starting_at(START + 4);
+    enter_vs(&mut csrs, &mut regs, Mode::VU, trap);
+    (csrs.vs.cause, csrs.vs.epc, regs.pc)
+}
+
+/// The registers after a guest-page fault of an implicit read, with SIE set and SPP and SPVP as said before.
+fn after_page_fault(mode: Mode, before: bool) -> Csrs {
+    let mut csrs = Csrs::at_reset();
+    csrs.hs = with_bits(true, false, before);
+    csrs.hstatus.spvp = before;
+    let mut regs = Regs::starting_at(START);
+    let trap = Trap {
+        cause: 21,
+        interrupt: false,
+        tval: 0x1234,
+        tval2: 0x400,
+        gva: has_guest_address(mode, false, 21),
+        implicit: true,
+    };
+    enter_hs(&mut csrs, &mut regs, mode, &trap);
+    csrs
+}
+
+/// The mode, the level's status, SPV and pc after SRET in HS with SIE clear and SPIE set.
+fn after_return_in_hs(spv: bool, spp: bool) -> (Mode, SupervisorStatus, bool, u64) {
+    let mut csrs = Csrs::at_reset();
+    csrs.hs = with_bits(false, true, spp);
+    csrs.hs.epc = START + 8;
+    csrs.hstatus.spv = spv;
+    let mut regs = Regs::starting_at(START);
+    let mode = sret(&mut csrs, &mut regs, Mode::HS);
+    (mode, csrs.hs.status, csrs.hstatus.spv, regs.pc)
+}
+
+/// The same in VS, with SPV set.
+fn after_return_in_vs(spp: bool) -> (Mode, SupervisorStatus, bool, u64) {
+    let mut csrs = Csrs::at_reset();
+    csrs.vs = with_bits(false, true, spp);
+    csrs.vs.epc = START + 8;
+    csrs.hstatus.spv = true;
+    let mut regs = Regs::starting_at(START);
+    let mode = sret(&mut csrs, &mut regs, Mode::VS);
+    (mode, csrs.vs.status, csrs.hstatus.spv, regs.pc)
+}
+
 fn disable(csrs: &mut Csrs, code: u64) {
     match code {
         1 => csrs.sie.software = false,
@@ -102,40 +176,31 @@ fn orders(rt: HostRuntime) {
     }
 }
 
-// Who takes what when: mode, sstatus.SIE, vsstatus.SIE, hideleg, and the code of the first that is due where
-// of the supervisor level only the timer is enabled.
+// Who takes what when: mode, sstatus.SIE, vsstatus.SIE, hideleg, sie, and the code of the first that is due.
 #[test]
 fn enables(rt: HostRuntime) {
-    for (mode, hs, vs, hideleg, code) in [
-        (Mode::HS, false, true, NONE, None),
-        (Mode::HS, true, false, NONE, Some(5)),
-        (Mode::U, false, false, NONE, Some(5)),
-        (Mode::VS, false, false, NONE, Some(5)),
+    let timer = Interrupts {
+        software: false,
+        timer: true,
+        external: false,
+    };
+    for (mode, hs, vs, hideleg, sie, code) in [
+        (Mode::HS, false, true, NONE, timer, None),
+        (Mode::HS, true, false, NONE, timer, Some(5)),
+        (Mode::U, false, false, NONE, timer, Some(5)),
+        (Mode::VS, false, false, NONE, timer, Some(5)),
+        (Mode::HS, true, true, ALL, NONE, None),
+        (Mode::U, true, true, ALL, NONE, None),
+        (Mode::VS, true, false, ALL, NONE, None),
+        (Mode::VS, false, true, ALL, NONE, Some(10)),
+        (Mode::VU, false, false, ALL, NONE, Some(10)),
+        (Mode::VS, false, false, NONE, NONE, Some(10)),
     ] {
-        let mut csrs = all_pending(hideleg);
-        csrs.sie.external = false;
-        csrs.sie.software = false;
-        csrs.hs.status.sie = hs;
-        csrs.vs.status.sie = vs;
-        assert_eq!(rt; pending(&csrs, mode), code);
-    }
-    for (mode, hs, vs, hideleg, code) in [
-        (Mode::HS, true, true, ALL, None),
-        (Mode::U, true, true, ALL, None),
-        (Mode::VS, true, false, ALL, None),
-        (Mode::VS, false, true, ALL, Some(10)),
-        (Mode::VU, false, false, ALL, Some(10)),
-        (Mode::VS, false, false, NONE, Some(10)),
-    ] {
-        let mut csrs = all_pending(hideleg);
-        csrs.sie = NONE;
-        csrs.hs.status.sie = hs;
-        csrs.vs.status.sie = vs;
-        assert_eq!(rt; pending(&csrs, mode), code);
+        assert_eq!(rt; first_due(mode, hs, vs, hideleg, sie), code);
     }
 }
 
-// Targets: mode, hedeleg, hideleg, an interrupt or not, code.
+// Targets: mode, hedeleg, hideleg, trap.
 #[test]
 fn targets(rt: HostRuntime) {
     for (mode, hedeleg, hideleg, trap, level) in [
@@ -150,15 +215,17 @@ fn targets(rt: HostRuntime) {
         (Mode::VU, 0x20, ALL, interrupt_trap(5), Level::HS),
         (Mode::U, 0, ALL, interrupt_trap(6), Level::HS),
     ] {
-        let mut csrs = Csrs::at_reset();
-        csrs.hedeleg = hedeleg;
-        csrs.hideleg = hideleg;
-        assert_eq!(rt; target(&csrs, mode, &trap), level, "{}", trap.cause);
+        assert_eq!(rt;
+            target_of(mode, hedeleg, hideleg, &trap),
+            level,
+            "{}",
+            trap.cause
+        );
     }
 }
 
 // Vectored tvec: an interrupt goes to the base plus 4 times the code in scause or vscause, an exception to
-// the base; with mode 0 all go to the base (4.1.2).
+// the base; with mode 0 all go to the base (4.1.2). The causes of interrupts have bit 63.
 #[test]
 fn vectors(rt: HostRuntime) {
     for (tvec, trap, cause, pc) in [
@@ -182,44 +249,39 @@ fn vectors(rt: HostRuntime) {
             START + 0x100,
         ),
     ] {
-        let mut csrs = Csrs::at_reset();
-        csrs.hs.tvec = tvec;
-        let mut regs = Regs::starting_at(START + 4);
-        let mode = enter_hs(&mut csrs, &mut regs, Mode::VU, &trap);
-        assert_eq!(rt; (mode, csrs.hs.cause, regs.pc), (Mode::HS, cause, pc));
+        assert_eq!(rt; after_hs(tvec, &trap), (cause, START + 4, pc));
     }
-    for (trap, cause, pc) in [
-        (interrupt_trap(10), (1 << 63) + 9, START + 0x124),
-        (interrupt_trap(2), (1 << 63) + 1, START + 0x104),
-        (exception(8), 8, START + 0x100),
+    for (tvec, trap, cause, pc) in [
+        (
+            START + 0x101,
+            interrupt_trap(10),
+            (1 << 63) + 9,
+            START + 0x124,
+        ),
+        (
+            START + 0x101,
+            interrupt_trap(2),
+            (1 << 63) + 1,
+            START + 0x104,
+        ),
+        (START + 0x101, exception(8), 8, START + 0x100),
+        (
+            START + 0x100,
+            interrupt_trap(6),
+            (1 << 63) + 5,
+            START + 0x100,
+        ),
     ] {
-        let mut csrs = Csrs::at_reset();
-        csrs.vs.tvec = START + 0x101;
-        let mut regs = Regs::starting_at(START + 4);
-        let mode = enter_vs(&mut csrs, &mut regs, Mode::VU, &trap);
-        assert_eq!(rt; (mode, csrs.vs.cause, regs.pc), (Mode::VS, cause, pc));
-        assert_eq!(rt; (csrs.vs.epc, csrs.hs.epc), (START + 4, 0));
+        assert_eq!(rt; after_vs(tvec, &trap), (cause, START + 4, pc));
     }
 }
 
-// Entry into HS by a guest-page fault of an implicit read, from each mode with V = 1: SPV, SPVP, SPP, SPIE,
-// htval and htinst (8.6.2, 8.6.3).
+// Entry into HS by a guest-page fault of an implicit read, from each mode with V = 1: GVA, SPV, SPVP, SPP,
+// SPIE, SIE, htval and htinst (8.6.2, 8.6.3).
 #[test]
 fn guest_page_fault(rt: HostRuntime) {
     for (mode, supervisor) in [(Mode::VS, true), (Mode::VU, false)] {
-        let mut csrs = Csrs::at_reset();
-        csrs.hs = with_bits(true, false, !supervisor);
-        csrs.hstatus.spvp = !supervisor;
-        let mut regs = Regs::starting_at(START);
-        let trap = Trap {
-            cause: 21,
-            interrupt: false,
-            tval: 0x1234,
-            tval2: 0x400,
-            gva: has_guest_address(mode, false, 21),
-            implicit: true,
-        };
-        enter_hs(&mut csrs, &mut regs, mode, &trap);
+        let csrs = after_page_fault(mode, !supervisor);
         let status = csrs.hstatus;
         assert_eq!(rt;
             (status.gva, status.spv, status.spvp),
@@ -271,24 +333,13 @@ fn returns(rt: HostRuntime) {
         (true, false, Mode::VU),
         (true, true, Mode::VS),
     ] {
-        let mut csrs = Csrs::at_reset();
-        csrs.hs = with_bits(false, true, spp);
-        csrs.hs.epc = START + 8;
-        csrs.hstatus.spv = spv;
-        let mut regs = Regs::starting_at(START);
-        assert_eq!(rt; sret(&mut csrs, &mut regs, Mode::HS), mode);
-        assert_eq!(rt; csrs.hs.status, after);
-        assert_eq!(rt; (csrs.hstatus.spv, regs.pc), (false, START + 8));
+        assert_eq!(rt;
+            after_return_in_hs(spv, spp),
+            (mode, after, false, START + 8)
+        );
     }
     for (spp, mode) in [(false, Mode::VU), (true, Mode::VS)] {
-        let mut csrs = Csrs::at_reset();
-        csrs.vs = with_bits(false, true, spp);
-        csrs.vs.epc = START + 8;
-        csrs.hstatus.spv = true;
-        let mut regs = Regs::starting_at(START);
-        assert_eq!(rt; sret(&mut csrs, &mut regs, Mode::VS), mode);
-        assert_eq!(rt; csrs.vs.status, after);
-        assert_eq!(rt; (csrs.hstatus.spv, regs.pc), (true, START + 8));
+        assert_eq!(rt; after_return_in_vs(spp), (mode, after, true, START + 8));
     }
 }
 
