@@ -2,6 +2,7 @@
 #![tactic(auto)]
 
 mod entries;
+mod levels;
 mod modes;
 mod registers;
 #[cfg(test)]
@@ -9,6 +10,10 @@ mod tests;
 mod widths;
 
 pub use entries::Entry;
+pub use levels::{
+    Level, SUPERVISOR_EXTERNAL, SUPERVISOR_SOFTWARE, SUPERVISOR_TIMER, VS_EXTERNAL, VS_SOFTWARE,
+    VS_TIMER,
+};
 pub use modes::{
     Access, BREAKPOINT, ECALL_FROM_HS, ECALL_FROM_USER, ECALL_FROM_VS, ILLEGAL_INSTRUCTION,
     INSTRUCTION_ACCESS_FAULT, INSTRUCTION_MISALIGNED, LOAD_ACCESS_FAULT, LOAD_MISALIGNED, Mode,

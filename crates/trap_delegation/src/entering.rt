@@ -1,0 +1,171 @@
+// The target of a trap, and its entry (Privileged Architecture 20211203, 8.2.1, 8.2.2, 8.6.2 and 8.6.3).
+
+ghost use Rattle.std.specs.Prelude.{◌≡◌, IsTrue};
+ghost use Rattle.arch_defs.specs.Interrupts.{interrupt_of};
+ghost use Rattle.arch_defs.specs.Traps.{cause_of, entered_bank, entered_hs, entered_vs, handler_of, has_guest_address, htinst_of, is_address_code, is_delegated, is_supervisor, is_virtual, target, vs_code_of};
+
+use crate::interrupts::guest_bit;
+use arch_defs::{Bank, Csrs, Level, Mode, Regs, Trap};
+
+/// What htinst shows of a fault of the implicit read of a first-stage entry (RV64).
+const IMPLICIT_READ: u64 = 0x3000;
+
+/// The bit of scause that says that the trap is an interrupt.
+const INTERRUPT: u64 = 1 << 63;
+
+/// Where a trap from this mode goes: to VS exactly with V = 1 where hedeleg, or hideleg for an interrupt,
+/// has the code.
+#[tactic(auto, unfolding(arch_defs::specs::Traps::target))]
+pub fn target(csrs: &Csrs, mode: Mode, trap: &Trap) -> Level
+    ensures { result ≡ target csrs.now mode trap.now }
+{
+    if is_virtual(mode) && is_delegated(csrs, trap.interrupt, trap.cause) {
+        Level::VS
+    } else {
+        Level::HS
+    }
+}
+
+/// Whether an exception from this mode writes a guest virtual address to stval, which is a trap's `gva`.
+/// `by_guest_access` says that the access of HLV, HLVX or HSV caused it.
+pub fn has_guest_address(mode: Mode, by_guest_access: bool, code: u64) -> bool
+    ensures { result ≡ has_guest_address mode by_guest_access code }
+{
+    (by_guest_access || is_virtual(mode)) && is_address_code(code)
+}
+
+/// The trap of the interrupt with this code.
+pub fn interrupt_trap(code: u64) -> Trap
+    ensures { result ≡ interrupt_of code }
+{
+    Trap {
+        cause: code,
+        interrupt: true,
+        tval: 0,
+        tval2: 0,
+        gva: false,
+        implicit: false,
+    }
+}
+
+/// Takes a trap from this mode into HS, at the pc of `regs`. Gives the mode, HS.
+#[tactic(auto, unfolding(arch_defs::specs::Traps::entered_hs))]
+pub fn enter_hs(csrs: &mut Csrs, regs: &mut Regs, mode: Mode, trap: &Trap) -> Mode
+    ensures control { csrs.new ≡ (entered_hs csrs.old regs.old mode trap.now).csrs }
+    ensures general { regs.new ≡ (entered_hs csrs.old regs.old mode trap.now).regs }
+    ensures level { result ≡ (entered_hs csrs.old regs.old mode trap.now).mode }
+{
+    let cause = cause_of(trap.interrupt, trap.cause);
+    let handler = handler_of(csrs.hs.tvec, trap.interrupt, trap.cause);
+    csrs.hs = entered(csrs.hs, is_supervisor(mode), regs.pc, cause, trap.tval);
+    csrs.hstatus.gva = trap.gva;
+    csrs.hstatus.spv = is_virtual(mode);
+    if is_virtual(mode) {
+        csrs.hstatus.spvp = is_supervisor(mode);
+    }
+    csrs.htval = trap.tval2;
+    csrs.htinst = htinst_of(trap);
+    regs.pc = handler;
+    Mode::HS
+}
+
+/// Takes a trap from VS or VU into VS, at the pc of `regs`. Gives the mode, VS.
+#[tactic(auto, unfolding(arch_defs::specs::Traps::entered_vs))]
+pub fn enter_vs(csrs: &mut Csrs, regs: &mut Regs, mode: Mode, trap: &Trap) -> Mode
+    requires { IsTrue (is_virtual mode) }
+    ensures control { csrs.new ≡ (entered_vs csrs.old regs.old mode trap.now).csrs }
+    ensures general { regs.new ≡ (entered_vs csrs.old regs.old mode trap.now).regs }
+    ensures level { result ≡ (entered_vs csrs.old regs.old mode trap.now).mode }
+{
+    let code = vs_code_of(trap);
+    let cause = cause_of(trap.interrupt, code);
+    let handler = handler_of(csrs.vs.tvec, trap.interrupt, code);
+    csrs.vs = entered(csrs.vs, is_supervisor(mode), regs.pc, cause, trap.tval);
+    regs.pc = handler;
+    Mode::VS
+}
+
+/// The registers of the level that a trap goes to.
+fn entered(bank: Bank, supervisor: bool, pc: u64, cause: u64, tval: u64) -> Bank
+    ensures { result ≡ entered_bank bank supervisor pc cause tval }
+{
+    let mut bank = bank;
+    bank.status.spp = supervisor;
+    bank.status.spie = bank.status.sie;
+    bank.status.sie = false;
+    bank.epc = pc;
+    bank.cause = cause;
+    bank.tval = tval;
+    bank
+}
+
+fn cause_of(interrupt: bool, code: u64) -> u64
+    ensures { result ≡ cause_of interrupt code }
+{
+    if interrupt {
+        INTERRUPT + code % INTERRUPT
+    } else {
+        code
+    }
+}
+
+/// The base of tvec, or with mode 1 an interrupt's own place beyond it.
+fn handler_of(tvec: u64, interrupt: bool, code: u64) -> u64
+    ensures { result ≡ handler_of tvec interrupt code }
+{
+    let base = tvec / 4 * 4;
+    if interrupt && tvec % 4 == 1 {
+        base.wrapping_add(code.wrapping_mul(4))
+    } else {
+        base
+    }
+}
+
+fn htinst_of(trap: &Trap) -> u64
+    ensures { result ≡ htinst_of trap.now }
+{
+    if trap.tval2 != 0 && trap.implicit {
+        IMPLICIT_READ
+    } else {
+        0
+    }
+}
+
+/// The code that vscause gets: VS sees its interrupts as supervisor interrupts.
+fn vs_code_of(trap: &Trap) -> u64
+    ensures { result ≡ vs_code_of trap.now }
+{
+    if trap.interrupt {
+        trap.cause.saturating_sub(1)
+    } else {
+        trap.cause
+    }
+}
+
+fn is_delegated(csrs: &Csrs, interrupt: bool, code: u64) -> bool
+    ensures { result ≡ is_delegated csrs.now interrupt code }
+{
+    if interrupt {
+        guest_bit(csrs.hideleg, code)
+    } else {
+        code < 64 && (csrs.hedeleg >> code) & 1 == 1
+    }
+}
+
+fn is_address_code(code: u64) -> bool
+    ensures { result ≡ is_address_code code }
+{
+    matches!(code, 0 | 1 | 3..=7 | 12 | 13 | 15 | 20 | 21 | 23)
+}
+
+pub(crate) fn is_virtual(mode: Mode) -> bool
+    ensures { result ≡ is_virtual mode }
+{
+    matches!(mode, Mode::VS | Mode::VU)
+}
+
+fn is_supervisor(mode: Mode) -> bool
+    ensures { result ≡ is_supervisor mode }
+{
+    matches!(mode, Mode::HS | Mode::VS)
+}
