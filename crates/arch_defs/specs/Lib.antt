@@ -1,4 +1,6 @@
 pub mod Bits
+pub mod Entries
 pub mod Memory
 pub mod Registers
+pub mod Walk
 pub mod Widths

@@ -4,6 +4,7 @@
 mod entries;
 mod modes;
 mod registers;
+mod walks;
 mod widths;
 
 pub use entries::Entry;
@@ -16,4 +17,5 @@ pub use registers::{
     Bank, Csrs, GuestRoot, HypervisorStatus, Interrupts, Reg, Regs, SupervisorRoot,
     SupervisorStatus, Virtual,
 };
+pub use walks::{LeafEntry, Next, Shape, TableEntry, WalkEnd};
 pub use widths::{Width, extend};
