@@ -1,6 +1,6 @@
 -- The table walk (Privileged Architecture 20211203, 4.3.2 for Sv39 as 4.4 has it, and 8.5.1 for Sv39x4), by the list of
 -- the entries that it meets, top level first.
-use Rattle.std.specs.Prelude.{ℕ, suc, zero, ◌+◌, ◌-◌, ◌*◌, ◌^◌, ◌%◌, Bool, ◌==◌, nat_lt, List, [], ◌∷◌, Result, Ok, Err, if◌then◌else◌}
+use Rattle.std.specs.Prelude.{ℕ, suc, zero, ◌+◌, ◌*◌, ◌^◌, ◌%◌, Bool, ◌==◌, nat_lt, List, [], ◌∷◌, Result, Ok, Err, if◌then◌else◌}
 use Rattle.arch_defs.specs.declared.modes.Access.{Access}
 use Rattle.arch_defs.specs.declared.modes.Trap.{Trap}
 use Rattle.arch_defs.specs.declared.walks.Shape.{Shape}
@@ -31,9 +31,9 @@ widening Sv39x4 = 2
 abbrev pub index_bits : Shape → ℕ → ℕ
 index_bits shape level = if level + 1 == levels shape then 9 + widening shape else 9
 
--- the bytes of the root: 4 KiB, and 16 KiB for Sv39x4
-abbrev pub root_size : Shape → ℕ
-root_size shape = 8 * 2 ^ index_bits shape (levels shape - 1)
+-- the bytes of a table of this level: 4 KiB, and 16 KiB for Sv39x4's root
+abbrev pub table_size : Shape → ℕ → ℕ
+table_size shape level = 8 * 2 ^ index_bits shape level
 
 -- Sv39: bits 63:39 equal bit 38 (4.4.1); Sv39x4: guest physical addresses have 41 bits (8.5.1)
 abbrev pub is_canonical : Shape → ℕ → Bool

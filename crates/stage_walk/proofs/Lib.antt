@@ -1,2 +1,4 @@
+pub mod Chains
 pub mod Flag
+pub mod Leaves
 pub mod Levels
