@@ -17,5 +17,5 @@ pub use registers::{
     Bank, Csrs, GuestRoot, HypervisorStatus, Interrupts, Reg, Regs, SupervisorRoot,
     SupervisorStatus, Virtual,
 };
-pub use walks::{LeafEntry, Next, Shape, TableEntry, WalkEnd};
+pub use walks::{LeafEntry, Next, Privilege, Shape, TableEntry, WalkEnd};
 pub use widths::{Width, extend};

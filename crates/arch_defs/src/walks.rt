@@ -55,3 +55,12 @@ pub enum Next {
     /// It goes on in the table of this frame, one level below.
     Below(u64),
 }
+
+/// As whom an access is translated by a first stage: from user mode or not, and what SUM and MXR let it
+/// do (Privileged Architecture 20211203, 4.1.1).
+#[derive(Clone, Copy, Debug, PartialEq, Eq)]
+pub struct Privilege {
+    pub user: bool,
+    pub sum: bool,
+    pub mxr: bool,
+}

@@ -60,6 +60,7 @@ last_ends place access (Ok word) below =
   where
     e : TableEntry
     e = table_entry word
+
     by : (valid leaf fine : Bool)
         → (if valid then (if leaf then (if fine then Ends (Leaf (leaf_entry 0 e)) else Ends PageFault) else pointer_next 0 e) else Ends PageFault) ≢ Below below
     by true true true = λ says. cc
@@ -83,7 +84,7 @@ linked_from reading shape va access (suc level) table =
   where
     by : ((below : ℕ) → IsLinked reading shape va access level (path_from reading shape va access (suc level) below) below) → (next : Next)
         → GoesOn (IsLinked reading shape va access (suc level - 1) (later (path_from reading shape va access (suc level)) next)) next
-            (later (path_from reading shape va access (suc level)) next)
+        (later (path_from reading shape va access (suc level)) next)
     by below_too (Ends end) = refl
     by below_too (Below below) = let same : suc level - 1 ≡ level = omega arith in rw same (below_too below)
 
@@ -102,8 +103,8 @@ unfolding path_from
 only_linked reading shape va access [] level table linked = absurd linked
 only_linked reading shape va access (m ∷ ms) zero table (is, goes) =
     rw is (ap (λ ms. met_in reading shape va 0 table ∷ ms)
-        (by (next_of access (met_in reading shape va 0 table)) (last_ends (place_of shape 0 table va) access (reading (place_of shape 0 table va)))
-            (subst (λ m. GoesOn (IsLinked reading shape va access (0 - 1) ms) (next_of access m) ms) is goes)))
+    (by (next_of access (met_in reading shape va 0 table)) (last_ends (place_of shape 0 table va) access (reading (place_of shape 0 table va)))
+    (subst (λ m. GoesOn (IsLinked reading shape va access (0 - 1) ms) (next_of access m) ms) is goes)))
   where
     by : (next : Next) → ((below : ℕ) → next ≢ Below below) → GoesOn (IsLinked reading shape va access (0 - 1) ms) next ms
         → ms ≡ later (path_from reading shape va access 0) next
@@ -111,8 +112,8 @@ only_linked reading shape va access (m ∷ ms) zero table (is, goes) =
     by (Below below) none goes = absurd (none below refl)
 only_linked reading shape va access (m ∷ ms) (suc level) table (is, goes) =
     rw is (ap (λ ms. met_in reading shape va (suc level) table ∷ ms)
-        (by (only_linked reading shape va access ms level) (next_of access (met_in reading shape va (suc level) table))
-            (subst (λ m. GoesOn (IsLinked reading shape va access (suc level - 1) ms) (next_of access m) ms) is goes)))
+    (by (only_linked reading shape va access ms level) (next_of access (met_in reading shape va (suc level) table))
+    (subst (λ m. GoesOn (IsLinked reading shape va access (suc level - 1) ms) (next_of access m) ms) is goes)))
   where
     by : ((below : ℕ) → IsLinked reading shape va access level ms below → ms ≡ path_from reading shape va access (suc level) below) → (next : Next)
         → GoesOn (IsLinked reading shape va access (suc level - 1) ms) next ms → ms ≡ later (path_from reading shape va access (suc level)) next

@@ -25,12 +25,14 @@ valid_from reading shape va access (suc level) table fine =
   where
     from : ℕ → List Met
     from = path_from reading shape va access level
+
     by_word : ((below : ℕ) → end_of access (from below) ≢ PageFault → AllValid (from below)) → (valid : Bool) (next : Next)
         → or_else (end_of access (later from (if valid then next else Ends PageFault))) (if valid then next else Ends PageFault) ≢ PageFault
         → (valid ≡ true) × AllValid (later from (if valid then next else Ends PageFault))
     by_word below_too false next fine = absurd (fine refl)
     by_word below_too true (Ends end) fine = (refl, tt)
     by_word below_too true (Below below) fine = (refl, below_too below fine)
+
     by : ((below : ℕ) → end_of access (from below) ≢ PageFault → AllValid (from below)) → (read : Result ℕ Trap)
         → or_else (end_of access (later from (read_next level (place_of shape level table va) access read))) (read_next level (place_of shape level table va) access read) ≢ PageFault
         → HasValid read × AllValid (later from (read_next level (place_of shape level table va) access read))
@@ -92,13 +94,16 @@ leaf_read level place va access (Ok word) leaf small says =
   where
     e : TableEntry
     e = table_entry word
+
     m : Met
     m = record { level = level; place = place; read = Ok word }
+
     from : leaf_entry level e ≡ leaf → e.frame % span level ≡ 0
         → IsLeafOf leaf va m
     from same aligned =
         subst (λ leaf. IsLeafOf leaf va m) same
-            (word, refl, refl, translated level e.frame va small aligned)
+        (word, refl, refl, translated level e.frame va small aligned)
+
     by : (valid leafy aligned marked : Bool) → is_aligned level e.frame ≡ aligned
         → (if valid then (if leafy then (if aligned && marked then Ends (Leaf (leaf_entry level e)) else Ends PageFault) else pointer_next level e) else Ends PageFault) ≡ Ends (Leaf leaf)
         → IsLeafOf leaf va m
@@ -121,8 +126,10 @@ leaf_from reading shape va access leaf (suc level) table few ends =
   where
     m : Met
     m = met_in reading shape va level table
+
     from : ℕ → List Met
     from = path_from reading shape va access level
+
     by : ((below : ℕ) → end_of access (from below) ≡ Leaf leaf → LastIsLeaf leaf va (from below)) → (next : Next)
         → (next ≡ Ends (Leaf leaf) → IsLeafOf leaf va m) → or_else (end_of access (later from next)) next ≡ Leaf leaf
         → LastIsLeaf leaf va (m ∷ later from next)
@@ -136,6 +143,7 @@ leaf_address_law reading root shape va access leaf ends = by (is_canonical shape
     few : (shape : Shape) → levels shape ≤ 3
     few Sv39 = omega arith
     few Sv39x4 = omega arith
+
     by : (right : Bool) → end_of access (if right then path_from reading shape va access (levels shape) root else []) ≡ Leaf leaf
         → LastIsLeaf leaf va (if right then path_from reading shape va access (levels shape) root else [])
     by true ends = leaf_from reading shape va access leaf (levels shape) root (few shape) ends

@@ -25,13 +25,7 @@ fn slots(shape: Shape, level: u8) -> u64
 {
     match shape {
         Shape::Sv39 => 512,
-        Shape::Sv39x4 => {
-            if level == 2 {
-                2048
-            } else {
-                512
-            }
-        }
+        Shape::Sv39x4 => { if level == 2 { 2048 } else { 512 } }
     }
 }
 
