@@ -1,17 +1,16 @@
 -- The entries that a walk meets: what decides them, and how they are linked.
-use Rattle.std.proofs.Common.{◌≡◌, ◌≢◌, ℕ, zero, suc, ◌+◌, ◌-◌, ◌*◌, ◌/◌, ◌%◌, ◌^◌, ◌<◌, ◌≤◌, Bool, true, false, not, ◌||◌, ◌&&◌, ◌==◌, List, [], ◌∷◌, Result, Ok, Err, if◌then◌else◌, refl, ap, sym, ◌∙◌, subst, arith}
+use Rattle.std.proofs.Common.{◌≡◌, ◌≢◌, ℕ, zero, suc, ◌+◌, ◌-◌, ◌*◌, ◌/◌, ◌%◌, ◌^◌, ◌<◌, ◌≤◌, Bool, true, false, ◌||◌, ◌&&◌, List, [], ◌∷◌, Result, Ok, Err, if◌then◌else◌, refl, ap, subst, arith}
 use Rattle.std.proofs.lemmas.Nat.{pow_pos}
 use Rattle.arch_defs.specs.declared.modes.Access.{Access}
 use Rattle.arch_defs.specs.declared.modes.Trap.{Trap}
 use Rattle.arch_defs.specs.declared.walks.Shape.{Shape}
 use Rattle.arch_defs.specs.declared.walks.Shape.TheVariants.{Sv39, Sv39x4}
 use Rattle.arch_defs.specs.declared.walks.TableEntry.{TableEntry}
-use Rattle.arch_defs.specs.declared.walks.WalkEnd.{WalkEnd}
 use Rattle.arch_defs.specs.declared.walks.WalkEnd.TheVariants.{Leaf, PageFault}
 use Rattle.arch_defs.specs.declared.walks.Next.{Next}
 use Rattle.arch_defs.specs.declared.walks.Next.TheVariants.{Ends, Below}
 use Rattle.arch_defs.specs.Entries.{table_entry, is_valid, is_leaf, is_aligned, is_marked, leaf_entry, pointer_next, entry_next}
-use Rattle.arch_defs.specs.Walk.{EntryReading, levels, table_size, is_canonical, place_of, index_bits, Met, met_in, read_next, next_of, later, path_from, path, end_of, walk, walk_from}
+use Rattle.arch_defs.specs.Walk.{EntryReading, levels, is_canonical, place_of, index_bits, Met, met_in, read_next, next_of, later, path_from, path, end_of, walk, walk_from}
 use Rattle.stage_walk.specs.Laws.{SameOn, PathsAlike, WalksAlike, GoesOn, IsLinked, PathIsLinked, LinkedIsPath, EndsByLevels, LiesInTable}
 use Rattle.stage_walk.proofs.Levels.{walk_starts, walk_refused}
 

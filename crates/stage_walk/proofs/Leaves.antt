@@ -1,18 +1,17 @@
 -- What a walk's end says of the entries that it met.
-use Rattle.std.proofs.Common.{◌≡◌, ◌≢◌, ℕ, zero, suc, ◌+◌, ◌*◌, ◌/◌, ◌%◌, ◌^◌, ◌<◌, ◌≤◌, Bool, true, false, ◌&&◌, ◌||◌, ◌==◌, List, [], ◌∷◌, Result, Ok, Err, if◌then◌else◌, refl, ap, sym, subst, arith}
+use Rattle.std.proofs.Common.{◌≡◌, ◌≢◌, ℕ, zero, suc, ◌+◌, ◌*◌, ◌%◌, ◌^◌, ◌<◌, ◌≤◌, Bool, true, false, ◌&&◌, ◌||◌, ◌==◌, List, [], ◌∷◌, Result, Ok, Err, if◌then◌else◌, refl, ap, subst, arith}
 use Rattle.arch_defs.specs.declared.modes.Access.{Access}
 use Rattle.arch_defs.specs.declared.modes.Trap.{Trap}
 use Rattle.arch_defs.specs.declared.walks.Shape.{Shape}
 use Rattle.arch_defs.specs.declared.walks.Shape.TheVariants.{Sv39, Sv39x4}
 use Rattle.arch_defs.specs.declared.walks.TableEntry.{TableEntry}
 use Rattle.arch_defs.specs.declared.walks.LeafEntry.{LeafEntry}
-use Rattle.arch_defs.specs.declared.walks.WalkEnd.{WalkEnd}
 use Rattle.arch_defs.specs.declared.walks.WalkEnd.TheVariants.{Leaf, PageFault}
 use Rattle.arch_defs.specs.declared.walks.Next.{Next}
 use Rattle.arch_defs.specs.declared.walks.Next.TheVariants.{Ends, Below}
 use Rattle.arch_defs.specs.Bits.{field}
 use Rattle.arch_defs.specs.Entries.{table_entry, is_valid, is_leaf, is_aligned, is_marked, span, leaf_entry, pointer_next, entry_next}
-use Rattle.arch_defs.specs.Walk.{EntryReading, levels, is_canonical, place_of, Met, met_in, read_next, next_of, later, path_from, path, or_else, end_of, walk, leaf_address}
+use Rattle.arch_defs.specs.Walk.{EntryReading, levels, is_canonical, place_of, Met, met_in, read_next, next_of, later, path_from, path, or_else, end_of, walk}
 use Rattle.stage_walk.specs.Laws.{HasValid, AllValid, EntriesValid, IsTranslated, IsLeafOf, LastIsLeaf, LeafAddress}
 
 -- where the end of a table's entries on is no page fault, those that were read are valid

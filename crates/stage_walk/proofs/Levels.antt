@@ -1,12 +1,12 @@
 -- The walk by its list of entries, level by level.
-use Rattle.std.proofs.Common.{◌≡◌, ℕ, zero, suc, ◌+◌, ◌-◌, ◌<◌, ◌≤◌, true, false, [], ◌∷◌, List, refl, ap, sym, ◌∙◌, arith}
+use Rattle.std.proofs.Common.{◌≡◌, ℕ, zero, suc, ◌+◌, ◌≤◌, true, false, refl, arith}
 use Rattle.arch_defs.specs.declared.modes.Access.{Access}
 use Rattle.arch_defs.specs.declared.walks.Shape.{Shape}
 use Rattle.arch_defs.specs.declared.walks.WalkEnd.{WalkEnd}
 use Rattle.arch_defs.specs.declared.walks.WalkEnd.TheVariants.{PageFault}
 use Rattle.arch_defs.specs.declared.walks.Next.{Next}
 use Rattle.arch_defs.specs.declared.walks.Next.TheVariants.{Ends, Below}
-use Rattle.arch_defs.specs.Walk.{EntryReading, levels, is_canonical, Met, met_in, next_of, later, path_from, path, or_else, end_of, walk, followed, walk_from}
+use Rattle.arch_defs.specs.Walk.{EntryReading, levels, is_canonical, met_in, next_of, later, path_from, path, or_else, end_of, walk, followed, walk_from}
 
 -- the end of the entries met is the end level by level
 pub end_from : (reading : EntryReading) (shape : Shape) (va : ℕ) (access : Access) (level table : ℕ)

@@ -1,4 +1,4 @@
-ghost use Rattle.std.specs.Prelude.{ok_or, option_map, find, ◌==◌, Ok};
+ghost use Rattle.std.specs.Prelude.{◌==◌, Ok, Err, if◌then◌else◌};
 
 use crate::{Fetch, LeafEntry, Privilege, Shape, WalkEnd, permits_first, permits_second, walk};
 use arch_defs::{Access, Trap};
@@ -35,20 +35,27 @@ const UNREADABLE: Trap = Trap {
     implicit: false,
 };
 
-/// Entries at places; no other can be read.
+/// The entries of three tables for `ADDRESS`; no other can be read.
 #[derive(Clone, Copy)]
-struct Entries<'a> {
-    words: &'a [(u64, u64)],
+struct Chain {
+    root: u64,
+    middle: u64,
+    low: Result<u64, Trap>,
     otherwise: Trap,
 }
 
-impl Fetch for Entries<'_> {
-    ghost reading = { λ e place. ok_or (option_map (λ w. w.1) (find (λ w. w.0 == place) e.words.now)) e.otherwise };
+impl Fetch for Chain {
+    ghost reading = { λ c place. if place == 0x1_0028 then Ok c.root else if place == 0x2_0030 then Ok c.middle else if place == 0x3_0038 then c.low else Err c.otherwise };
 
     fn pte_at(&self, place: u64) -> Result<u64, Trap> {
-        match self.words.iter().find(|w| w.0 == place) {
-            Some(w) => Ok(w.1),
-            None => Err(self.otherwise),
+        if place == 0x1_0028 {
+            Ok(self.root)
+        } else if place == 0x2_0030 {
+            Ok(self.middle)
+        } else if place == 0x3_0038 {
+            self.low
+        } else {
+            Err(self.otherwise)
         }
     }
 }
@@ -69,15 +76,13 @@ impl Fetch for Everywhere {
 
 /// How a walk ends that meets this entry at a level, after pointers, and before a leaf.
 fn end_at(shape: Shape, level: u8, word: u64, access: Access) -> WalkEnd {
-    let root = if level == 2 { word } else { 0x8001 };
-    let middle = if level == 1 { word } else { 0xC001 };
-    let low = if level == 0 { word } else { LEAF };
-    let words = [(0x1_0028, root), (0x2_0030, middle), (0x3_0038, low)];
-    let entries = Entries {
-        words: &words,
+    let chain = Chain {
+        root: if level == 2 { word } else { 0x8001 },
+        middle: if level == 1 { word } else { 0xC001 },
+        low: Ok(if level == 0 { word } else { LEAF }),
         otherwise: UNREADABLE,
     };
-    walk(&entries, 0x10, shape, ADDRESS, access)
+    walk(&chain, 0x10, shape, ADDRESS, access)
 }
 
 fn leaf(level: u8, rights: (bool, bool, bool, bool)) -> WalkEnd {
@@ -259,9 +264,10 @@ fn upper_bits(rt: HostRuntime) {
 // Which entry of which table is read, seen by the place of the first that cannot be.
 #[test]
 fn places(rt: HostRuntime) {
-    let words = [(0x1_0028, 0x8001), (0x2_0030, 0xC001)];
-    let entries = Entries {
-        words: &words,
+    let chain = Chain {
+        root: 0x8001,
+        middle: 0xC001,
+        low: Err(UNREADABLE),
         otherwise: UNREADABLE,
     };
     for (shape, address, place) in [
@@ -274,7 +280,7 @@ fn places(rt: HostRuntime) {
         (Shape::Sv39, ADDRESS, 0x3_0038),
         (Shape::Sv39x4, ADDRESS, 0x3_0038),
     ] {
-        let end = walk(&entries, 0x10, shape, address, Access::Store);
+        let end = walk(&chain, 0x10, shape, address, Access::Store);
         let expected = WalkEnd::FetchEnd {
             place,
             trap: UNREADABLE,
