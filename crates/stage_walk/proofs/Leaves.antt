@@ -3,7 +3,6 @@ use Rattle.std.proofs.Common.{◌≡◌, ◌≢◌, ℕ, zero, suc, ◌+◌, ◌
 use Rattle.arch_defs.specs.declared.modes.Access.{Access}
 use Rattle.arch_defs.specs.declared.modes.Trap.{Trap}
 use Rattle.arch_defs.specs.declared.walks.Shape.{Shape}
-use Rattle.arch_defs.specs.declared.walks.Shape.TheVariants.{Sv39, Sv39x4}
 use Rattle.arch_defs.specs.declared.walks.TableEntry.{TableEntry}
 use Rattle.arch_defs.specs.declared.walks.LeafEntry.{LeafEntry}
 use Rattle.arch_defs.specs.declared.walks.WalkEnd.TheVariants.{Leaf, PageFault}
@@ -12,6 +11,7 @@ use Rattle.arch_defs.specs.declared.walks.Next.TheVariants.{Ends, Below}
 use Rattle.arch_defs.specs.Bits.{field}
 use Rattle.arch_defs.specs.Entries.{table_entry, is_valid, is_leaf, is_aligned, is_marked, span, leaf_entry, pointer_next, entry_next}
 use Rattle.arch_defs.specs.Walk.{EntryReading, levels, is_canonical, place_of, Met, met_in, read_next, next_of, later, path_from, path, or_else, end_of, walk}
+use Rattle.stage_walk.proofs.Fitting.{few_levels}
 use Rattle.stage_walk.specs.Laws.{HasValid, AllValid, EntriesValid, IsTranslated, IsLeafOf, LastIsLeaf, LeafAddress}
 
 -- where the end of a table's entries on is no page fault, those that were read are valid
@@ -139,11 +139,7 @@ pub leaf_address_law : LeafAddress
 unfolding walk path end_of
 leaf_address_law reading root shape va access leaf ends = by (is_canonical shape va) ends
   where
-    few : (shape : Shape) → levels shape ≤ 3
-    few Sv39 = omega arith
-    few Sv39x4 = omega arith
-
     by : (right : Bool) → end_of access (if right then path_from reading shape va access (levels shape) root else []) ≡ Leaf leaf
         → LastIsLeaf leaf va (if right then path_from reading shape va access (levels shape) root else [])
-    by true ends = leaf_from reading shape va access leaf (levels shape) root (few shape) ends
+    by true ends = leaf_from reading shape va access leaf (levels shape) root (few_levels shape) ends
     by false ends = absurd cc

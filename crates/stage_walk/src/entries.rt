@@ -1,6 +1,6 @@
 // Entries: their bits, in named parts, and what they say to a walk.
 
-ghost use Rattle.std.specs.Prelude.{⊤, ◌≡◌, ◌<◌, ◌^◌, ◌==◌, [], ◌∷◌, codes};
+ghost use Rattle.std.specs.Prelude.{⊤, ◌≡◌, ◌+◌, ◌<◌, ◌^◌, ◌==◌, [], ◌∷◌, codes};
 ghost use Rattle.std.specs.Int.RustNames.{bit_and};
 ghost use Rattle.arch_defs.specs.Entries.{table_entry, is_valid, is_leaf, is_aligned, is_marked, needs_dirty, leaf_next, pointer_next, entry_next};
 ghost use Rattle.stage_walk.specs.Ends.{NextFits};
@@ -102,7 +102,7 @@ fn leaf_next(level: u8, access: Access, entry: &TableEntry) -> Next
     requires level { level < 3 }
     requires frame { entry.now.frame < 2 ^ 44 }
     ensures value { result ≡ leaf_next level access entry.now }
-    ensures fits { NextFits result }
+    ensures fits { NextFits (level + 1) result }
 {
     if !is_aligned(level, entry.frame) || !is_marked(access, entry) {
         return Next::Ends(WalkEnd::PageFault);
@@ -121,7 +121,7 @@ fn leaf_next(level: u8, access: Access, entry: &TableEntry) -> Next
 fn pointer_next(level: u8, entry: &TableEntry) -> Next
     requires { entry.now.frame < 2 ^ 44 }
     ensures value { result ≡ pointer_next level entry.now }
-    ensures fits { NextFits result }
+    ensures fits { NextFits (level + 1) result }
 {
     if entry.a || entry.d || entry.u || level == 0 {
         Next::Ends(WalkEnd::PageFault)
@@ -136,7 +136,7 @@ pub fn entry_next(level: u8, access: Access, entry: &TableEntry) -> Next
     requires level { level < 3 }
     requires frame { entry.now.frame < 2 ^ 44 }
     ensures value { result ≡ entry_next level access entry.now }
-    ensures fits { NextFits result }
+    ensures fits { NextFits (level + 1) result }
 {
     if !is_valid(entry) {
         Next::Ends(WalkEnd::PageFault)
