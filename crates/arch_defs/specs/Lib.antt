@@ -1,6 +1,9 @@
 pub mod Bits
 pub mod Interrupts
+pub mod Entries
 pub mod Memory
+pub mod Permits
 pub mod Registers
 pub mod Traps
+pub mod Walk
 pub mod Widths

@@ -7,6 +7,7 @@ mod modes;
 mod registers;
 #[cfg(test)]
 mod tests;
+mod walks;
 mod widths;
 
 pub use entries::Entry;
@@ -23,4 +24,5 @@ pub use registers::{
     Bank, Csrs, GuestRoot, HypervisorStatus, Interrupts, Reg, Regs, SupervisorRoot,
     SupervisorStatus, Virtual,
 };
+pub use walks::{LeafEntry, Next, Privilege, Shape, TableEntry, WalkEnd};
 pub use widths::{Width, extend};

@@ -1,0 +1,73 @@
+-- What a page-table entry says (Privileged Architecture 20211203, 4.3.1, 4.3.2 and 4.4.1).
+use Rattle.std.specs.Prelude.{ℕ, ◌+◌, ◌*◌, ◌%◌, ◌^◌, Bool, true, false, not, ◌&&◌, ◌||◌, ◌==◌, if◌then◌else◌}
+use Rattle.arch_defs.specs.declared.modes.Access.{Access}
+use Rattle.arch_defs.specs.declared.modes.Access.TheVariants.{Fetch, Load, Store, ExecLoad, Implicit}
+use Rattle.arch_defs.specs.declared.walks.TableEntry.{TableEntry}
+use Rattle.arch_defs.specs.declared.walks.LeafEntry.{LeafEntry}
+use Rattle.arch_defs.specs.declared.walks.WalkEnd.{WalkEnd}
+use Rattle.arch_defs.specs.declared.walks.WalkEnd.TheVariants.{Leaf, PageFault}
+use Rattle.arch_defs.specs.declared.walks.Next.{Next}
+use Rattle.arch_defs.specs.declared.walks.Next.TheVariants.{Ends, Below}
+use Rattle.arch_defs.specs.Bits.{field}
+
+-- bit k of a word
+abbrev pub bit : ℕ → ℕ → Bool
+bit k word = field k 1 word == 1
+
+-- an entry's word in named parts: V 0, R 1, W 2, X 3, U 4, A 6, D 7, the physical page number 53:10, reserved 63:54 (4.4.1)
+unfoldable pub table_entry : ℕ → TableEntry
+table_entry word = record {
+  v = bit 0 word;
+  r = bit 1 word;
+  w = bit 2 word;
+  x = bit 3 word;
+  u = bit 4 word;
+  a = bit 6 word;
+  d = bit 7 word;
+  reserved = field 54 10 word;
+  frame = field 10 44 word;
+}
+
+-- what each entry needs, whatever it is: V, no W without R, no reserved bit (4.3.2, step 3)
+abbrev pub is_valid : TableEntry → Bool
+is_valid e = e.v && not (e.w && not e.r) && e.reserved == 0
+
+-- a valid entry is a leaf if it can be read or executed, else a pointer to the next level (4.3.2, step 4)
+abbrev pub is_leaf : TableEntry → Bool
+is_leaf e = e.r || e.x
+
+-- the pages that a leaf of this level maps
+abbrev pub span : ℕ → ℕ
+span level = 2 ^ (9 * level)
+
+-- a superpage's frame is a multiple of its span (4.3.2, step 6)
+abbrev pub is_aligned : ℕ → ℕ → Bool
+is_aligned level frame = frame % span level == 0
+
+-- whether an access needs D (4.3.2, step 7)
+abbrev pub needs_dirty : Access → Bool
+needs_dirty Fetch = false
+needs_dirty Load = false
+needs_dirty Store = true
+needs_dirty ExecLoad = false
+needs_dirty Implicit = false
+
+-- A, and D for a store: the walker never writes, so software sets them (4.3.2, step 7)
+abbrev pub is_marked : Access → TableEntry → Bool
+is_marked access e = e.a && (not (needs_dirty access) || e.d)
+
+-- what a leaf maps to and permits; a write needs D as well as W
+abbrev pub leaf_entry : ℕ → TableEntry → LeafEntry
+leaf_entry level e = record { frame = e.frame; level = level; r = e.r; w = e.w && e.d; x = e.x; u = e.u }
+
+-- a leaf ends the walk (4.3.2, steps 6 to 8)
+abbrev pub leaf_next : ℕ → Access → TableEntry → Next
+leaf_next level access e = if is_aligned level e.frame && is_marked access e then Ends (Leaf (leaf_entry level e)) else Ends PageFault
+
+-- A, D and U are reserved in a pointer (4.3.1), and there is no level below the last (4.3.2, step 4)
+abbrev pub pointer_next : ℕ → TableEntry → Next
+pointer_next level e = if e.a || e.d || e.u || level == 0 then Ends PageFault else Below e.frame
+
+-- what an entry that is met at a level says to the walk (4.3.2, steps 3 to 8)
+unfoldable pub entry_next : ℕ → Access → TableEntry → Next
+entry_next level access e = if is_valid e then (if is_leaf e then leaf_next level access e else pointer_next level e) else Ends PageFault

@@ -1,0 +1,66 @@
+// Table walks: the shapes of tables, entries in named parts, and how a walk ends.
+
+use crate::modes::Trap;
+
+/// The shape of a table: how many levels it has, how wide its root's index is, and which addresses it
+/// translates (Privileged Architecture 20211203, 4.4 and 8.5.1).
+#[derive(Clone, Copy, Debug, PartialEq, Eq)]
+pub enum Shape {
+    Sv39,
+    Sv39x4,
+}
+
+/// A table entry in named parts (Privileged Architecture 20211203, 4.3.1 and 4.4.1). The walker needs
+/// neither G nor RSW.
+#[derive(Clone, Copy, Debug, PartialEq, Eq)]
+pub struct TableEntry {
+    pub v: bool,
+    pub r: bool,
+    pub w: bool,
+    pub x: bool,
+    pub u: bool,
+    pub a: bool,
+    pub d: bool,
+    /// The bits 63 to 54.
+    pub reserved: u64,
+    /// The physical page number, bits 53 to 10.
+    pub frame: u64,
+}
+
+/// A leaf that a walk has found: the frame that it names (an address divided by 4,096), its level, and
+/// what it permits. `w` is its W and D.
+#[derive(Clone, Copy, Debug, PartialEq, Eq)]
+pub struct LeafEntry {
+    pub frame: u64,
+    pub level: u8,
+    pub r: bool,
+    pub w: bool,
+    pub x: bool,
+    pub u: bool,
+}
+
+/// How a walk ends.
+#[derive(Clone, Copy, Debug, PartialEq, Eq)]
+pub enum WalkEnd {
+    Leaf(LeafEntry),
+    PageFault,
+    /// The entry at this place could not be read, for this trap.
+    FetchEnd { place: u64, trap: Trap },
+}
+
+/// What a table entry says to a walk.
+#[derive(Clone, Copy, Debug, PartialEq, Eq)]
+pub enum Next {
+    Ends(WalkEnd),
+    /// It goes on in the table of this frame, one level below.
+    Below(u64),
+}
+
+/// As whom an access is translated by a first stage: from user mode or not, and what SUM and MXR let it
+/// do (Privileged Architecture 20211203, 4.1.1).
+#[derive(Clone, Copy, Debug, PartialEq, Eq)]
+pub struct Privilege {
+    pub user: bool,
+    pub sum: bool,
+    pub mxr: bool,
+}

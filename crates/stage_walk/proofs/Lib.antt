@@ -1,0 +1,5 @@
+pub mod Chains
+pub mod Fitting
+pub mod Flag
+pub mod Leaves
+pub mod Levels

@@ -1,0 +1,24 @@
+-- The numbers in a walk's end.
+use Rattle.std.specs.Prelude.{ℕ, ◌≡◌, ◌%◌, ◌^◌, ◌<◌}
+use Rattle.arch_defs.specs.declared.walks.LeafEntry.{LeafEntry}
+use Rattle.arch_defs.specs.declared.walks.WalkEnd.{WalkEnd}
+use Rattle.arch_defs.specs.declared.walks.WalkEnd.TheVariants.{Leaf, PageFault, FetchEnd}
+use Rattle.arch_defs.specs.declared.walks.Next.{Next}
+use Rattle.arch_defs.specs.declared.walks.Next.TheVariants.{Ends, Below}
+use Rattle.arch_defs.specs.Entries.{span}
+
+-- a leaf's frame is a physical page number and the first of its page, and its level is one of so many
+pub record LeafFits (levels : ℕ) (leaf : LeafEntry) : Type 0 where
+  pub frame : leaf.frame < 2 ^ 44
+  pub level : leaf.level < levels
+  pub aligned : leaf.frame % span leaf.level ≡ 0
+
+-- and the place of an entry that could not be read is a multiple of its size
+abbrev pub EndFits : ℕ → WalkEnd → Type 0
+EndFits levels (Leaf leaf) = LeafFits levels leaf
+EndFits levels PageFault = Unit {0}
+EndFits levels (FetchEnd place trap) = place % 8 ≡ 0
+
+abbrev pub NextFits : ℕ → Next → Type 0
+NextFits levels (Ends end) = EndFits levels end
+NextFits levels (Below frame) = frame < 2 ^ 44

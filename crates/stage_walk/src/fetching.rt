@@ -1,0 +1,17 @@
+// What reads the entries of a table.
+
+ghost use Rattle.std.specs.Prelude.{◌≡◌, ℕ, ◌%◌, Result};
+ghost use Rattle.arch_defs.specs.declared.modes.Trap.{Trap};
+
+use arch_defs::Trap;
+
+/// What reads the entries of a table: memory, or memory through a second stage.
+pub trait Fetch {
+    // What it gives at each place, as the walk's definition reads it.
+    ghost reading: { Self → ℕ → Result ℕ Trap };
+
+    /// The entry at a place, or the trap for which there is none.
+    fn pte_at(&self, place: u64) -> Result<u64, Trap>
+        requires { place % 8 ≡ 0 }
+        ensures { result ≡ reading self.now place };
+}

@@ -1,0 +1,52 @@
+// The places of entries, by the shape of the table.
+
+ghost use Rattle.std.specs.Prelude.{◌≡◌, ◌+◌, ◌^◌, ◌<◌, ◌≤◌, ◌%◌};
+ghost use Rattle.arch_defs.specs.Walk.{levels, index_bits, is_canonical, place_of};
+
+use arch_defs::Shape;
+
+/// How many levels a table has.
+pub fn levels(shape: Shape) -> u8
+    ensures value { result ≡ levels shape }
+    ensures few { result ≤ 3 }
+{
+    match shape {
+        Shape::Sv39 => 3,
+        Shape::Sv39x4 => 3,
+    }
+}
+
+/// How many entries a table of this level has: 512, but for Sv39x4's root, which has 2,048.
+fn slots(shape: Shape, level: u8) -> u64
+    requires { level < 3 }
+    ensures value { result ≡ 2 ^ index_bits shape level }
+    ensures few { result ≤ 2048 }
+    ensures some { 0 < result }
+{
+    match shape {
+        Shape::Sv39 => 512,
+        Shape::Sv39x4 => { if level == 2 { 2048 } else { 512 } }
+    }
+}
+
+/// The place of an address's entry in the table of a frame.
+pub fn place_of(shape: Shape, level: u8, table: u64, va: u64) -> u64
+    requires level { level < 3 }
+    requires table { table < 2 ^ 44 }
+    ensures value { result ≡ place_of shape level table va }
+    ensures aligned { result % 8 ≡ 0 }
+{
+    let index = (va >> (12 + 9 * level as u32)) % slots(shape, level);
+    4096 * table + 8 * index
+}
+
+/// Whether the upper bits of an address are as the shape wants them: Sv39 repeats bit 38, and Sv39x4
+/// has none above bit 40.
+pub fn is_canonical(shape: Shape, va: u64) -> bool
+    ensures { result ≡ is_canonical shape va }
+{
+    match shape {
+        Shape::Sv39 => va < 0x40_0000_0000 || va >= 0xFFFF_FFC0_0000_0000,
+        Shape::Sv39x4 => va < 0x200_0000_0000,
+    }
+}
