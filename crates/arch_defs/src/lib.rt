@@ -1,11 +1,15 @@
 // The state that the architecture defines: privilege modes, traps, registers, widths, and memory as bytes.
 #![tactic(auto)]
 
+mod csr_names;
 mod entries;
 mod modes;
 mod registers;
 mod widths;
 
+pub use csr_names::{
+    BankRegister, BitRegister, CsrEnd, HypervisorRegister, InterruptRegister, Register,
+};
 pub use entries::Entry;
 pub use modes::{
     Access, BREAKPOINT, ECALL_FROM_HS, ECALL_FROM_USER, ECALL_FROM_VS, ILLEGAL_INSTRUCTION,
