@@ -10,3 +10,6 @@ mod reach;
 
 pub use access::{read, write};
 pub use arch_defs::CsrEnd;
+
+#[cfg(test)]
+mod tests;
