@@ -1,0 +1,5 @@
+pub mod Delegated
+pub mod Masks
+pub mod ReadingBack
+pub mod Roots
+pub mod Statuses
