@@ -1,5 +1,7 @@
+pub mod Apart
 pub mod Delegated
 pub mod Masks
+pub mod Reaching
 pub mod ReadingBack
 pub mod Roots
 pub mod Statuses

@@ -1,5 +1,7 @@
--- Laws of register access. A read after a write gives the value from before with the writable bits replaced.
-use Rattle.std.specs.Prelude.{ℕ, ◌≡◌, ◌<◌, ◌+◌, ◌-◌, ◌^◌, ◌==◌, bit_and, Option, Some, None, IfSome, if◌then◌else◌}
+-- Laws of register access: a read after a write gives the value from before with the writable bits replaced, and a write
+-- leaves what the other registers show, but for named aliases.
+use Rattle.std.specs.Prelude.{ℕ, ◌≡◌, ◌≢◌, Bool, true, false, Ok, ◌<◌, ◌+◌, ◌-◌, ◌^◌, ◌==◌, bit_and, Option, Some, None, IfSome, if◌then◌else◌}
+use Rattle.arch_defs.specs.declared.modes.Mode.{Mode}
 use Rattle.arch_defs.specs.declared.registers.Csrs.{Csrs}
 use Rattle.arch_defs.specs.declared.csr_names.BankRegister.{BankRegister}
 use Rattle.arch_defs.specs.declared.csr_names.BankRegister.TheVariants.{Status, Tvec, Scratch, Epc, Cause, Tval, Atp}
@@ -13,7 +15,7 @@ use Rattle.arch_defs.specs.declared.csr_names.Register.{Register}
 use Rattle.arch_defs.specs.declared.csr_names.Register.TheVariants.{Supervisor, VirtualSupervisor, Interrupt, Bit, Hypervisor, Time, GuestTime}
 use Rattle.arch_defs.specs.Bits.{field}
 use Rattle.arch_defs.specs.CsrBits.{bit_at, supervisor_number}
-use Rattle.arch_defs.specs.Access.{shown, written}
+use Rattle.arch_defs.specs.Access.{named, named_to_write, shown, written, read, write}
 
 -- a number in which the bits of a mask are those of another
 abbrev pub merged : ℕ → ℕ → ℕ → ℕ
@@ -92,3 +94,27 @@ VsatpReadsBack = (csrs : Csrs) (v : ℕ) → v < 2 ^ 64
 
 abbrev pub HgatpReadsBack : Type 0
 HgatpReadsBack = (csrs : Csrs) (v : ℕ) → v < 2 ^ 64 → shown (written csrs (Hypervisor Hgatp) v) (Hypervisor Hgatp) ≡ guest_root_after v
+
+-- where a write reaches a register it is made, and a read by the same mode and number then shows that register
+abbrev pub ReadsWhatWasWritten : Type 0
+ReadsWhatWasWritten = (csrs : Csrs) (mode : Mode) (number v : ℕ) (r : Register) → named_to_write csrs mode number ≡ Ok r
+  → (write csrs mode number v ≡ Ok (written csrs r v)) × (read (written csrs r v) mode number ≡ Ok (shown (written csrs r v) r))
+
+-- the other registers that show some of what a write of a register changes
+abbrev pub is_alias : Register → Register → Bool
+is_alias (Interrupt Vsie) (Interrupt Hie) = true
+is_alias (Interrupt Hie) (Interrupt Vsie) = true
+is_alias (Interrupt Vsip) (Interrupt Hip) = true
+is_alias (Interrupt Vsip) (Interrupt Hvip) = true
+is_alias (Interrupt Hip) (Interrupt Vsip) = true
+is_alias (Interrupt Hip) (Interrupt Hvip) = true
+is_alias (Interrupt Hvip) (Interrupt Vsip) = true
+is_alias (Interrupt Hvip) (Interrupt Hip) = true
+is_alias (Interrupt Hideleg) (Interrupt Vsie) = true
+is_alias (Interrupt Hideleg) (Interrupt Vsip) = true
+is_alias (Hypervisor Htimedelta) GuestTime = true
+is_alias r s = false
+
+-- a write of a register leaves what the others show, but for its aliases
+abbrev pub LeavesOthers : Type 0
+LeavesOthers = (csrs : Csrs) (r s : Register) (v : ℕ) → r ≢ s → is_alias r s ≡ false → shown (written csrs r v) s ≡ shown csrs s

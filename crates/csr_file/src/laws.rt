@@ -1,6 +1,6 @@
 // Laws of register access.
 
-ghost use Rattle.csr_file.specs.Laws.{ReadsBack, SatpReadsBack, VsatpReadsBack, HgatpReadsBack};
+ghost use Rattle.csr_file.specs.Laws.{ReadsBack, SatpReadsBack, VsatpReadsBack, HgatpReadsBack, ReadsWhatWasWritten, LeavesOthers};
 
 /// A read after a write gives what was there before with the writable bits replaced; satp, vsatp and hgatp by their MODE.
 pub fn reads_back()
@@ -8,4 +8,14 @@ pub fn reads_back()
     ensures satp { SatpReadsBack }
     ensures vsatp { VsatpReadsBack }
     ensures hgatp { HgatpReadsBack }
+{}
+
+/// A write that is not refused changes the register that a read by the same mode and number then shows.
+pub fn reads_what_was_written()
+    ensures { ReadsWhatWasWritten }
+{}
+
+/// A write of a register leaves what the others show, but for its aliases.
+pub fn leaves_others()
+    ensures { LeavesOthers }
 {}

@@ -11,7 +11,7 @@ mod reach;
 
 pub use access::{read, write};
 pub use arch_defs::CsrEnd;
-pub use laws::reads_back;
+pub use laws::{leaves_others, reads_back, reads_what_was_written};
 
 #[cfg(test)]
 mod tests;
