@@ -1,6 +1,6 @@
 -- Reads and writes of the control and status registers, by mode and number: a value or new registers, an illegal
 -- instruction (code 2), or a virtual instruction (code 22) (Privileged Architecture 20211203, 2.1, 4.1, 8.2 and 8.6.1).
-use Rattle.std.specs.Prelude.{ℕ, ◌+◌, ◌%◌, ◌^◌, Bool, ◌&&◌, Option, Some, None, Result, Ok, Err, nat_le, if◌then◌else◌}
+use Rattle.std.specs.Prelude.{ℕ, ◌+◌, ◌%◌, ◌^◌, ◌&&◌, Option, Some, None, Result, Ok, Err, nat_le, if◌then◌else◌}
 use Rattle.arch_defs.specs.declared.modes.Mode.{Mode}
 use Rattle.arch_defs.specs.declared.modes.Mode.TheVariants.{HS, U, VS, VU}
 use Rattle.arch_defs.specs.declared.registers.Bank.{Bank}

@@ -1,9 +1,8 @@
 -- What a write of one register leaves of the others.
-use Rattle.std.specs.Prelude.{Bool, true, false}
-use Rattle.std.proofs.Common.{cond, ◌≡◌, ◌≢◌, ℕ, refl, ap, arith}
+use Rattle.std.specs.Prelude.{false}
+use Rattle.std.proofs.Common.{◌≡◌, ◌≢◌, ℕ, refl, ap, arith}
 use Rattle.arch_defs.specs.declared.registers.Bank.{Bank}
 use Rattle.arch_defs.specs.declared.registers.Csrs.{Csrs}
-use Rattle.arch_defs.specs.declared.registers.Interrupts.{Interrupts}
 use Rattle.arch_defs.specs.declared.csr_names.BankRegister.{BankRegister}
 use Rattle.arch_defs.specs.declared.csr_names.BankRegister.TheVariants.{Status, Tvec, Scratch, Epc, Cause, Tval, Atp}
 use Rattle.arch_defs.specs.declared.csr_names.InterruptRegister.{InterruptRegister}
@@ -41,7 +40,7 @@ unfolding hypervisor_shown
 hypervisor_by_banks csrs hs vs s = grind arith
 
 interrupts_others : (csrs : Csrs) (r : InterruptRegister) (s : Register) (v : ℕ) → Interrupt r ≢ s → is_alias (Interrupt r) s ≡ false
-  → shown (interrupts_written csrs r v) s ≡ shown csrs s
+    → shown (interrupts_written csrs r v) s ≡ shown csrs s
 unfolding shown interrupts_shown interrupts_written bit_shown hypervisor_shown
 interrupts_others csrs Sie s v h a = grind arith
 interrupts_others csrs Sip s v h a = grind arith
@@ -60,7 +59,7 @@ bits_others csrs Hcounteren s v h = grind arith
 bits_others csrs Henvcfg s v h = grind arith
 
 hypervisor_others : (csrs : Csrs) (r : HypervisorRegister) (s : Register) (v : ℕ) → Hypervisor r ≢ s → is_alias (Hypervisor r) s ≡ false
-  → shown (hypervisor_written csrs r v) s ≡ shown csrs s
+    → shown (hypervisor_written csrs r v) s ≡ shown csrs s
 unfolding shown interrupts_shown bit_shown hypervisor_shown hypervisor_written
 hypervisor_others csrs Hstatus s v h a = grind arith
 hypervisor_others csrs Hedeleg s v h a = grind arith

@@ -1,13 +1,12 @@
 -- The numbers of statuses, interrupts and other registers under the masks of their writable bits: of what a write takes
 -- from a value, and of what they show.
 use Rattle.std.specs.Prelude.{bit_and, Bool, true, false}
-use Rattle.std.proofs.Common.{◌≡◌, ℕ, ◌+◌, ◌-◌, ◌*◌, ◌/◌, ◌%◌, ◌^◌, ◌<◌, ◌≤◌, refl, ap, arith}
+use Rattle.std.proofs.Common.{◌≡◌, ℕ, ◌+◌, ◌-◌, ◌*◌, ◌^◌, ◌<◌, arith}
 use Rattle.std.proofs.lemmas.Nat.{and-not, and_comm, and_mask}
-use Rattle.std.proofs.lemmas.Nat.Bits.{and_pow}
 use Rattle.arch_defs.specs.declared.registers.SupervisorStatus.{SupervisorStatus}
 use Rattle.arch_defs.specs.declared.registers.HypervisorStatus.{HypervisorStatus}
 use Rattle.arch_defs.specs.declared.registers.Interrupts.{Interrupts}
-use Rattle.arch_defs.specs.CsrBits.{bit, bit_at, status_number, status_of, hstatus_number, hstatus_of, supervisor_number, supervisor_interrupts, virtual_number, virtual_interrupts, tvec_bits, epc_bits, hedeleg_bits}
+use Rattle.arch_defs.specs.CsrBits.{status_number, status_of, hstatus_number, hstatus_of, supervisor_number, supervisor_interrupts, virtual_number, virtual_interrupts, tvec_bits, epc_bits, hedeleg_bits}
 use Rattle.csr_file.proofs.Masks.{masked, under, flag}
 
 pub status_taken : (v : ℕ) → bit_and v 0xC0122 + 2 * 2 ^ 32 ≡ status_number (status_of v)
@@ -21,11 +20,11 @@ status_kept s = grind arith
 pub hstatus_taken : (v : ℕ) → bit_and v 0x7003C0 + 2 * 2 ^ 32 ≡ hstatus_number (hstatus_of v)
 unfolding hstatus_number hstatus_of masked
 hstatus_taken v =
-  omega (arith, under 23 0x7003C0 v (omega arith), flag 6 v, flag 7 v, flag 8 v, flag 9 v, flag 20 v, flag 21 v, flag 22 v)
+    omega (arith, under 23 0x7003C0 v (omega arith), flag 6 v, flag 7 v, flag 8 v, flag 9 v, flag 20 v, flag 21 v, flag 22 v)
 
 hstatus_flags : (gva spv spvp hu vtvm vtw vtsr : Bool)
-  → bit_and (hstatus_number (record { gva = gva; spv = spv; spvp = spvp; hu = hu; vtvm = vtvm; vtw = vtw; vtsr = vtsr })) 0x7003C0 + 2 * 2 ^ 32
-  ≡ hstatus_number (record { gva = gva; spv = spv; spvp = spvp; hu = hu; vtvm = vtvm; vtw = vtw; vtsr = vtsr })
+    → bit_and (hstatus_number (record { gva = gva; spv = spv; spvp = spvp; hu = hu; vtvm = vtvm; vtw = vtw; vtsr = vtsr })) 0x7003C0 + 2 * 2 ^ 32
+    ≡ hstatus_number (record { gva = gva; spv = spv; spvp = spvp; hu = hu; vtvm = vtvm; vtw = vtw; vtsr = vtsr })
 unfolding hstatus_number
 hstatus_flags true true spvp hu vtvm vtw vtsr = grind arith
 hstatus_flags true false spvp hu vtvm vtw vtsr = grind arith

@@ -1,5 +1,5 @@
 -- How what `write` answers and leaves stands to the definition of a write.
-use Rattle.std.specs.Prelude.{ℕ, ◌≡◌, Result, Ok, Err}
+use Rattle.std.specs.Prelude.{◌≡◌, Result, Ok, Err}
 use Rattle.arch_defs.specs.declared.registers.Csrs.{Csrs}
 use Rattle.arch_defs.specs.declared.csr_names.CsrEnd.{CsrEnd}
 

@@ -1,7 +1,8 @@
 -- Laws of register access: a read after a write gives the value from before with the writable bits replaced, and a write
 -- leaves what the other registers show, but for named aliases.
-use Rattle.std.specs.Prelude.{ℕ, ◌≡◌, ◌≢◌, Bool, true, false, Ok, ◌<◌, ◌+◌, ◌-◌, ◌^◌, ◌==◌, bit_and, Option, Some, None, IfSome, if◌then◌else◌}
+use Rattle.std.specs.Prelude.{ℕ, ◌≡◌, ◌≢◌, Bool, true, false, Result, Ok, Err, ◌<◌, ◌+◌, ◌-◌, ◌^◌, ◌==◌, bit_and, Option, Some, None, IfSome, if◌then◌else◌}
 use Rattle.arch_defs.specs.declared.modes.Mode.{Mode}
+use Rattle.arch_defs.specs.declared.modes.Mode.TheVariants.{HS, VS, VU}
 use Rattle.arch_defs.specs.declared.registers.Csrs.{Csrs}
 use Rattle.arch_defs.specs.declared.csr_names.BankRegister.{BankRegister}
 use Rattle.arch_defs.specs.declared.csr_names.BankRegister.TheVariants.{Status, Tvec, Scratch, Epc, Cause, Tval, Atp}
@@ -13,9 +14,11 @@ use Rattle.arch_defs.specs.declared.csr_names.HypervisorRegister.{HypervisorRegi
 use Rattle.arch_defs.specs.declared.csr_names.HypervisorRegister.TheVariants.{Hstatus, Hedeleg, Htimedelta, Hgeie, Hgeip, Htval, Htinst, Hgatp}
 use Rattle.arch_defs.specs.declared.csr_names.Register.{Register}
 use Rattle.arch_defs.specs.declared.csr_names.Register.TheVariants.{Supervisor, VirtualSupervisor, Interrupt, Bit, Hypervisor, Time, GuestTime}
+use Rattle.arch_defs.specs.declared.csr_names.CsrEnd.{CsrEnd}
+use Rattle.arch_defs.specs.declared.csr_names.CsrEnd.TheVariants.{Illegal}
 use Rattle.arch_defs.specs.Bits.{field}
 use Rattle.arch_defs.specs.CsrBits.{bit_at, supervisor_number}
-use Rattle.arch_defs.specs.Access.{named, named_to_write, shown, written, read, write}
+use Rattle.arch_defs.specs.Access.{named_to_write, shown, written, read, write}
 
 -- a number in which the bits of a mask are those of another
 abbrev pub merged : ℕ → ℕ → ℕ → ℕ
@@ -74,7 +77,7 @@ mask_of csrs GuestTime = None
 -- each register but the roots shows, after a write, what it showed before with its writable bits replaced
 abbrev pub ReadsBack : Type 0
 ReadsBack = (csrs : Csrs) (r : Register) (v : ℕ) → v < 2 ^ 64
-  → IfSome (mask_of csrs r) (λ mask. shown (written csrs r v) r ≡ merged mask (shown csrs r) v)
+    → IfSome (mask_of csrs r) (λ mask. shown (written csrs r v) r ≡ merged mask (shown csrs r) v)
 
 -- what satp or vsatp shows after a write: all of the value at MODE 8, 0 at MODE 0, and else what it showed before
 abbrev pub root_after : ℕ → ℕ → ℕ
@@ -86,11 +89,11 @@ guest_root_after v = if field 60 4 v == 8 then bit_and v 0xF007FFFFFFFFFFFC else
 
 abbrev pub SatpReadsBack : Type 0
 SatpReadsBack = (csrs : Csrs) (v : ℕ) → v < 2 ^ 64
-  → shown (written csrs (Supervisor Atp) v) (Supervisor Atp) ≡ root_after (shown csrs (Supervisor Atp)) v
+    → shown (written csrs (Supervisor Atp) v) (Supervisor Atp) ≡ root_after (shown csrs (Supervisor Atp)) v
 
 abbrev pub VsatpReadsBack : Type 0
 VsatpReadsBack = (csrs : Csrs) (v : ℕ) → v < 2 ^ 64
-  → shown (written csrs (VirtualSupervisor Atp) v) (VirtualSupervisor Atp) ≡ root_after (shown csrs (VirtualSupervisor Atp)) v
+    → shown (written csrs (VirtualSupervisor Atp) v) (VirtualSupervisor Atp) ≡ root_after (shown csrs (VirtualSupervisor Atp)) v
 
 abbrev pub HgatpReadsBack : Type 0
 HgatpReadsBack = (csrs : Csrs) (v : ℕ) → v < 2 ^ 64 → shown (written csrs (Hypervisor Hgatp) v) (Hypervisor Hgatp) ≡ guest_root_after v
@@ -98,7 +101,7 @@ HgatpReadsBack = (csrs : Csrs) (v : ℕ) → v < 2 ^ 64 → shown (written csrs 
 -- where a write reaches a register it is made, and a read by the same mode and number then shows that register
 abbrev pub ReadsWhatWasWritten : Type 0
 ReadsWhatWasWritten = (csrs : Csrs) (mode : Mode) (number v : ℕ) (r : Register) → named_to_write csrs mode number ≡ Ok r
-  → (write csrs mode number v ≡ Ok (written csrs r v)) × (read (written csrs r v) mode number ≡ Ok (shown (written csrs r v) r))
+    → (write csrs mode number v ≡ Ok (written csrs r v)) × (read (written csrs r v) mode number ≡ Ok (shown (written csrs r v) r))
 
 -- the other registers that show some of what a write of a register changes
 abbrev pub is_alias : Register → Register → Bool
@@ -118,3 +121,15 @@ is_alias r s = false
 -- a write of a register leaves what the others show, but for its aliases
 abbrev pub LeavesOthers : Type 0
 LeavesOthers = (csrs : Csrs) (r s : Register) (v : ℕ) → r ≢ s → is_alias r s ≡ false → shown (written csrs r v) s ≡ shown csrs s
+
+abbrev pub is_illegal : {A : Type 0} → Result A CsrEnd → Bool
+is_illegal (Err Illegal) = true
+is_illegal answer = false
+
+-- with V = 1 an access is illegal exactly where it is in HS, so each other refusal there is a virtual instruction (8.6.1)
+abbrev pub IllegalAsInHs : Type 0
+IllegalAsInHs = (csrs : Csrs) (number v : ℕ)
+    → (is_illegal (read csrs VS number) ≡ is_illegal (read csrs HS number))
+    × (is_illegal (read csrs VU number) ≡ is_illegal (read csrs HS number))
+    × (is_illegal (write csrs VS number v) ≡ is_illegal (write csrs HS number v))
+    × (is_illegal (write csrs VU number v) ≡ is_illegal (write csrs HS number v))

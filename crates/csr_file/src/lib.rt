@@ -11,7 +11,7 @@ mod reach;
 
 pub use access::{read, write};
 pub use arch_defs::CsrEnd;
-pub use laws::{leaves_others, reads_back, reads_what_was_written};
+pub use laws::{illegal_as_in_hs, leaves_others, reads_back, reads_what_was_written};
 
 #[cfg(test)]
 mod tests;
