@@ -1,6 +1,7 @@
 // The state that the architecture defines: privilege modes, traps, registers, widths, and memory as bytes.
 #![tactic(auto)]
 
+mod csr_names;
 mod entries;
 mod levels;
 mod modes;
@@ -10,6 +11,9 @@ mod tests;
 mod walks;
 mod widths;
 
+pub use csr_names::{
+    BankRegister, BitRegister, CsrEnd, HypervisorRegister, InterruptRegister, Register,
+};
 pub use entries::Entry;
 pub use levels::{
     Level, SUPERVISOR_EXTERNAL, SUPERVISOR_SOFTWARE, SUPERVISOR_TIMER, VS_EXTERNAL, VS_SOFTWARE,

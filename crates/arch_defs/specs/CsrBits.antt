@@ -1,0 +1,104 @@
+-- The control and status registers as numbers: what a read shows, and how a write takes a number apart
+-- (Privileged Architecture 20211203). Bits that are not named read zero and ignore writes.
+use Rattle.std.specs.Prelude.{ℕ, ◌+◌, ◌*◌, ◌%◌, ◌^◌, Bool, true, false, ◌&&◌, ◌==◌, if◌then◌else◌}
+use Rattle.arch_defs.specs.declared.registers.SupervisorStatus.{SupervisorStatus}
+use Rattle.arch_defs.specs.declared.registers.HypervisorStatus.{HypervisorStatus}
+use Rattle.arch_defs.specs.declared.registers.Interrupts.{Interrupts}
+use Rattle.arch_defs.specs.declared.registers.SupervisorRoot.{SupervisorRoot}
+use Rattle.arch_defs.specs.declared.registers.SupervisorRoot.TheVariants as supervisor_root
+use Rattle.arch_defs.specs.declared.registers.GuestRoot.{GuestRoot}
+use Rattle.arch_defs.specs.declared.registers.GuestRoot.TheVariants as guest_root
+use Rattle.arch_defs.specs.Bits.{field}
+
+-- whether bit i of a value is set
+abbrev pub bit : ℕ → ℕ → Bool
+bit i value = field i 1 value == 1
+
+-- the number that has bit i where it is set
+abbrev pub bit_at : ℕ → Bool → ℕ
+bit_at i true = 2 ^ i
+bit_at i false = 0
+
+-- UXL or VSXL, bits 33:32: 2, which is a width of 64 bits (4.1.1.2)
+abbrev pub width_64 : ℕ
+width_64 = 2 * 2 ^ 32
+
+-- sstatus and vsstatus (4.1.1, 8.2.11): SIE 1, SPIE 5, SPP 8, SUM 18, MXR 19; UXL reads 2
+unfoldable pub status_number : SupervisorStatus → ℕ
+status_number s = bit_at 1 s.sie + bit_at 5 s.spie + bit_at 8 s.spp + bit_at 18 s.sum + bit_at 19 s.mxr + width_64
+
+unfoldable pub status_of : ℕ → SupervisorStatus
+status_of v = record { sie = bit 1 v; spie = bit 5 v; spp = bit 8 v; sum = bit 18 v; mxr = bit 19 v }
+
+-- hstatus (8.2.1): GVA 6, SPV 7, SPVP 8, HU 9, VTVM 20, VTW 21, VTSR 22; VSXL reads 2
+unfoldable pub hstatus_number : HypervisorStatus → ℕ
+hstatus_number s =
+    bit_at 6 s.gva + bit_at 7 s.spv + bit_at 8 s.spvp + bit_at 9 s.hu + bit_at 20 s.vtvm + bit_at 21 s.vtw + bit_at 22 s.vtsr + width_64
+
+unfoldable pub hstatus_of : ℕ → HypervisorStatus
+hstatus_of v = record { gva = bit 6 v; spv = bit 7 v; spvp = bit 8 v; hu = bit 9 v; vtvm = bit 20 v; vtw = bit 21 v; vtsr = bit 22 v }
+
+-- the interrupts of a supervisor level, in sie, sip, vsie and vsip (4.1.3, 8.2.12): software 1, timer 5, external 9
+unfoldable pub supervisor_number : Interrupts → ℕ
+supervisor_number s = bit_at 1 s.software + bit_at 5 s.timer + bit_at 9 s.external
+
+unfoldable pub supervisor_interrupts : ℕ → Interrupts
+supervisor_interrupts v = record { software = bit 1 v; timer = bit 5 v; external = bit 9 v }
+
+-- the interrupts of VS, in hideleg, hie, hip and hvip (8.2.2, 8.2.3): each one bit higher
+unfoldable pub virtual_number : Interrupts → ℕ
+virtual_number s = bit_at 2 s.software + bit_at 6 s.timer + bit_at 10 s.external
+
+unfoldable pub virtual_interrupts : ℕ → Interrupts
+virtual_interrupts v = record { software = bit 2 v; timer = bit 6 v; external = bit 10 v }
+
+-- those that are delegated; the others read zero in vsie and vsip (8.2.12)
+unfoldable pub delegated : Interrupts → Interrupts → Interrupts
+delegated hideleg s = record {
+  software = hideleg.software && s.software;
+  timer = hideleg.timer && s.timer;
+  external = hideleg.external && s.external;
+}
+
+-- those that are delegated become others, and the rest stay (8.2.12)
+unfoldable pub delegated_become : Interrupts → Interrupts → Interrupts → Interrupts
+delegated_become hideleg before after = record {
+  software = if hideleg.software then after.software else before.software;
+  timer = if hideleg.timer then after.timer else before.timer;
+  external = if hideleg.external then after.external else before.external;
+}
+
+-- stvec and vstvec (4.1.2, 8.2.13): all but bit 1, so MODE is direct or vectored
+unfoldable pub tvec_bits : ℕ → ℕ
+tvec_bits v = field 2 62 v * 2 ^ 2 + field 0 1 v
+
+-- sepc and vsepc (4.1.7, 8.2.15): all but bits 1:0, as IALIGN is 32
+unfoldable pub epc_bits : ℕ → ℕ
+epc_bits v = field 2 62 v * 2 ^ 2
+
+-- hedeleg (8.2.2, table 8.2): codes 0 to 8, 12, 13 and 15, mask B1FF
+unfoldable pub hedeleg_bits : ℕ → ℕ
+hedeleg_bits v = field 0 9 v + field 12 2 v * 2 ^ 12 + field 15 1 v * 2 ^ 15
+
+-- satp and vsatp (4.1.11, 8.2.18): MODE 63:60, ASID 59:44, PPN 43:0
+unfoldable pub supervisor_root_number : SupervisorRoot → ℕ
+supervisor_root_number supervisor_root.Bare = 0
+supervisor_root_number (supervisor_root.Sv39 asid page) = 8 * 2 ^ 60 + asid % 2 ^ 16 * 2 ^ 44 + page % 2 ^ 44
+
+-- MODE 8 is Sv39 and 0 is Bare, stored as 0; a write of another MODE has no effect
+unfoldable pub supervisor_root_of : SupervisorRoot → ℕ → SupervisorRoot
+supervisor_root_of kept v =
+    if field 60 4 v == 8 then supervisor_root.Sv39 (field 44 16 v) (field 0 44 v)
+    else if field 60 4 v == 0 then supervisor_root.Bare
+    else kept
+
+-- hgatp (8.2.10): MODE 63:60, VMID 50:44, of 7 bits, PPN 43:0 of a root that is 16 KiB aligned, so its bits 1:0 are zero
+unfoldable pub guest_root_number : GuestRoot → ℕ
+guest_root_number guest_root.Bare = 0
+guest_root_number (guest_root.Sv39x4 vmid page) = 8 * 2 ^ 60 + vmid % 2 ^ 7 * 2 ^ 44 + field 2 42 page * 2 ^ 2
+
+-- MODE 8 is Sv39x4; 0, and another MODE, is Bare, stored as 0
+unfoldable pub guest_root_of : ℕ → GuestRoot
+guest_root_of v =
+    if field 60 4 v == 8 then guest_root.Sv39x4 (field 44 7 v) (field 2 42 v * 2 ^ 2)
+    else guest_root.Bare

@@ -1,0 +1,73 @@
+// The control and status registers by name, and how an access can be refused.
+
+/// The registers that HS and VS each have a copy of, each in its own bank.
+#[derive(Clone, Copy, Debug, PartialEq, Eq)]
+pub enum BankRegister {
+    Status,
+    Tvec,
+    Scratch,
+    Epc,
+    Cause,
+    Tval,
+    Atp,
+}
+
+/// The registers of interrupts.
+#[derive(Clone, Copy, Debug, PartialEq, Eq)]
+pub enum InterruptRegister {
+    Sie,
+    Sip,
+    Vsie,
+    Vsip,
+    Hideleg,
+    Hie,
+    Hip,
+    Hvip,
+}
+
+/// The registers of one named bit.
+#[derive(Clone, Copy, Debug, PartialEq, Eq)]
+pub enum BitRegister {
+    Scounteren,
+    Senvcfg,
+    Hcounteren,
+    Henvcfg,
+}
+
+/// The other registers of the hypervisor extension.
+#[derive(Clone, Copy, Debug, PartialEq, Eq)]
+pub enum HypervisorRegister {
+    Hstatus,
+    Hedeleg,
+    Htimedelta,
+    Hgeie,
+    Hgeip,
+    Htval,
+    Htinst,
+    Hgatp,
+}
+
+/// A control and status register.
+#[derive(Clone, Copy, Debug, PartialEq, Eq)]
+pub enum Register {
+    /// sstatus to satp of HS.
+    Supervisor(BankRegister),
+    /// vsstatus to vsatp.
+    VirtualSupervisor(BankRegister),
+    Interrupt(InterruptRegister),
+    Bit(BitRegister),
+    Hypervisor(HypervisorRegister),
+    /// time as it reads with V = 0.
+    Time,
+    /// time as it reads with V = 1.
+    GuestTime,
+}
+
+/// Why an access to a register raises an exception.
+#[derive(Clone, Copy, Debug, PartialEq, Eq)]
+pub enum CsrEnd {
+    /// An illegal instruction, code 2.
+    Illegal,
+    /// A virtual instruction, code 22.
+    Virtual,
+}

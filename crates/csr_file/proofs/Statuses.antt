@@ -1,0 +1,68 @@
+-- The numbers of statuses, interrupts and other registers under the masks of their writable bits: of what a write takes
+-- from a value, and of what they show.
+use Rattle.std.specs.Prelude.{bit_and, Bool, true, false}
+use Rattle.std.proofs.Common.{◌≡◌, ℕ, ◌+◌, ◌-◌, ◌*◌, ◌^◌, ◌<◌, arith}
+use Rattle.std.proofs.lemmas.Nat.{and-not, and_comm, and_mask}
+use Rattle.arch_defs.specs.declared.registers.SupervisorStatus.{SupervisorStatus}
+use Rattle.arch_defs.specs.declared.registers.HypervisorStatus.{HypervisorStatus}
+use Rattle.arch_defs.specs.declared.registers.Interrupts.{Interrupts}
+use Rattle.arch_defs.specs.CsrBits.{status_number, status_of, hstatus_number, hstatus_of, supervisor_number, supervisor_interrupts, virtual_number, virtual_interrupts, tvec_bits, epc_bits, hedeleg_bits}
+use Rattle.csr_file.proofs.Masks.{masked, under, flag}
+
+pub status_taken : (v : ℕ) → bit_and v 0xC0122 + 2 * 2 ^ 32 ≡ status_number (status_of v)
+unfolding status_number status_of masked
+status_taken v = omega (arith, under 20 0xC0122 v (omega arith), flag 1 v, flag 5 v, flag 8 v, flag 18 v, flag 19 v)
+
+pub status_kept : (s : SupervisorStatus) → bit_and (status_number s) 0xC0122 + 2 * 2 ^ 32 ≡ status_number s
+unfolding status_number
+status_kept s = grind arith
+
+pub hstatus_taken : (v : ℕ) → bit_and v 0x7003C0 + 2 * 2 ^ 32 ≡ hstatus_number (hstatus_of v)
+unfolding hstatus_number hstatus_of masked
+hstatus_taken v =
+    omega (arith, under 23 0x7003C0 v (omega arith), flag 6 v, flag 7 v, flag 8 v, flag 9 v, flag 20 v, flag 21 v, flag 22 v)
+
+hstatus_flags : (gva spv spvp hu vtvm vtw vtsr : Bool)
+    → bit_and (hstatus_number (record { gva = gva; spv = spv; spvp = spvp; hu = hu; vtvm = vtvm; vtw = vtw; vtsr = vtsr })) 0x7003C0 + 2 * 2 ^ 32
+    ≡ hstatus_number (record { gva = gva; spv = spv; spvp = spvp; hu = hu; vtvm = vtvm; vtw = vtw; vtsr = vtsr })
+unfolding hstatus_number
+hstatus_flags true true spvp hu vtvm vtw vtsr = grind arith
+hstatus_flags true false spvp hu vtvm vtw vtsr = grind arith
+hstatus_flags false true spvp hu vtvm vtw vtsr = grind arith
+hstatus_flags false false spvp hu vtvm vtw vtsr = grind arith
+
+pub hstatus_kept : (s : HypervisorStatus) → bit_and (hstatus_number s) 0x7003C0 + 2 * 2 ^ 32 ≡ hstatus_number s
+unfolding hstatus_number
+hstatus_kept s = hstatus_flags s.gva s.spv s.spvp s.hu s.vtvm s.vtw s.vtsr
+
+pub supervisor_taken : (v : ℕ) → bit_and v 0x222 ≡ supervisor_number (supervisor_interrupts v)
+unfolding supervisor_number supervisor_interrupts masked
+supervisor_taken v = omega (arith, under 10 0x222 v (omega arith), flag 1 v, flag 5 v, flag 9 v)
+
+pub supervisor_kept : (s : Interrupts) → bit_and (supervisor_number s) 0x222 ≡ supervisor_number s
+unfolding supervisor_number
+supervisor_kept s = grind arith
+
+pub virtual_taken : (v : ℕ) → bit_and v 0x444 ≡ virtual_number (virtual_interrupts v)
+unfolding virtual_number virtual_interrupts masked
+virtual_taken v = omega (arith, under 11 0x444 v (omega arith), flag 2 v, flag 6 v, flag 10 v)
+
+pub virtual_kept : (s : Interrupts) → bit_and (virtual_number s) 0x444 ≡ virtual_number s
+unfolding virtual_number
+virtual_kept s = grind arith
+
+-- a value without bit 1, and without bits 1:0
+pub tvec_under : (v : ℕ) → v < 2 ^ 64 → bit_and v 0xFFFFFFFFFFFFFFFD ≡ tvec_bits v
+unfolding tvec_bits masked
+tvec_under v h = omega (arith, and-not 64 2 v (omega arith) h, and_comm v 0xFFFFFFFFFFFFFFFD, and_comm v 2, under 2 2 v (omega arith))
+
+pub epc_under : (v : ℕ) → v < 2 ^ 64 → bit_and v 0xFFFFFFFFFFFFFFFC ≡ epc_bits v
+unfolding epc_bits masked
+epc_under v h = omega (arith, and-not 64 3 v (omega arith) h, and_comm v 0xFFFFFFFFFFFFFFFC, and_comm v 3, under 2 3 v (omega arith))
+
+pub hedeleg_under : (v : ℕ) → bit_and v 0xB1FF ≡ hedeleg_bits v
+unfolding hedeleg_bits masked
+hedeleg_under v = omega (arith, under 16 0xB1FF v (omega arith))
+
+pub all_under : (v : ℕ) → v < 2 ^ 64 → bit_and v (2 ^ 64 - 1) ≡ v
+all_under v h = omega (arith, and_mask v 64)

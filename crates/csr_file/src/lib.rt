@@ -1,0 +1,17 @@
+// Reads and writes of the control and status registers, in every mode.
+#![tactic(auto)]
+
+mod access;
+mod banks;
+mod hypervisors;
+mod interrupts;
+mod laws;
+mod names;
+mod reach;
+
+pub use access::{read, write};
+pub use arch_defs::CsrEnd;
+pub use laws::{illegal_as_in_hs, leaves_others, reads_back, reads_what_was_written};
+
+#[cfg(test)]
+mod tests;
