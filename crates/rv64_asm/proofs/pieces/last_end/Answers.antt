@@ -1,4 +1,4 @@
-use Rattle.std.proofs.Common.{◌≡◌, ◌≤◌, arith}
+use Rattle.std.proofs.Common.{arith}
 use Rattle.rv64_asm.proofs.Loops.{last_end_left}
 use Rattle.rv64_asm.proofs.pieces.last_end.Goals as goal
 
