@@ -4,7 +4,6 @@ use Rattle.std.proofs.lemmas.List.{length-replicate}
 use Rattle.std.specs.Prelude.{max, slice_index, unwrap_or, ◌==◌, if◌then◌else◌}
 use Rattle.std.proofs.lemmas.Bool.{cond-true, cond-false, eq-eqb, ne_eqb}
 use Rattle.std.specs.Option.{option_or}
-use Rattle.std.specs.Int.{w32, to_le_bytes}
 use Rattle.byteorder.specs.Endian.{little_bytes}
 use Rattle.rv64_asm.specs.declared.faults.AsmFault.{AsmFault}
 use Rattle.rv64_asm.specs.Words.{encoded}

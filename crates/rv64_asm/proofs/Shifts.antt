@@ -1,5 +1,5 @@
 -- The amounts of shifts.
-use Rattle.std.proofs.Common.{◌≡◌, ℕ, ◌<◌, ◌^◌, Bool, true, false}
+use Rattle.std.proofs.Common.{◌≡◌, ℕ, ◌<◌, ◌^◌, true}
 use Rattle.std.proofs.lemmas.Bool.{ltb-true, false≢true}
 use Rattle.op_defs.specs.declared.ops.AluOp.{AluOp}
 use Rattle.op_defs.specs.declared.ops.AluOp.TheVariants as alu

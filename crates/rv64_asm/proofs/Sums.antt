@@ -1,5 +1,5 @@
 -- The fields of a word that is the sum of a register format's fields.
-use Rattle.std.proofs.Common.{◌≡◌, ℕ, ◌+◌, ◌*◌, ◌/◌, ◌%◌, ◌^◌, ◌<◌, refl, arith}
+use Rattle.std.proofs.Common.{◌≡◌, ℕ, ◌+◌, ◌*◌, ◌/◌, ◌%◌, ◌^◌, ◌<◌, arith}
 use Rattle.arch_defs.specs.Bits.{field}
 
 -- such a sum, and that each part is small enough for its field

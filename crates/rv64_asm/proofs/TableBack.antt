@@ -1,6 +1,5 @@
 -- Each group of the instruction table, at a word whose fields are those of an op.
-use Rattle.std.proofs.Common.{◌≡◌, ℕ, ◌+◌, ◌*◌, ◌/◌, ◌%◌, ◌^◌, ◌<◌, Option, Some, Bool, true, false, refl, ap, ◌∙◌, arith}
-use Rattle.std.specs.Prelude.{option_map}
+use Rattle.std.proofs.Common.{◌≡◌, ℕ, ◌+◌, ◌*◌, ◌/◌, ◌%◌, ◌<◌, Some, Bool, true, false, refl, ◌∙◌, arith}
 use Rattle.arch_defs.specs.Bits.{field}
 use Rattle.arch_defs.specs.declared.widths.Width.{Width}
 use Rattle.arch_defs.specs.declared.widths.Width.TheVariants as width
@@ -14,9 +13,7 @@ use Rattle.op_defs.specs.declared.ops.Test.{Test}
 use Rattle.op_defs.specs.declared.ops.Test.TheVariants as test
 use Rattle.op_defs.specs.declared.ops.CsrOp.{CsrOp}
 use Rattle.op_defs.specs.declared.ops.CsrOp.TheVariants as csr
-use Rattle.op_defs.specs.declared.ops.CsrSource.{CsrSource}
 use Rattle.op_defs.specs.declared.ops.CsrSource.TheVariants as source
-use Rattle.op_defs.specs.declared.ops.Op.{Op}
 use Rattle.op_defs.specs.declared.ops.Op.TheVariants as op
 use Rattle.op_defs.specs.Fields.{opcode, rd, rs1, rs2, funct3, funct7, i_immediate, s_immediate, b_immediate, u_immediate, j_immediate}
 use Rattle.op_defs.specs.Table.{op_of, branch_of, test_of, load_of, store_of, width_of, immediate_of, immediate_op_of, shift_of, register_of, alu_op_of, base_op_of, multiply_op_of, word_immediate_of, word_shift_of, word_op_of, base_word_op_of, multiply_word_op_of, fence_of, atomic_of, atomic_by, amo_op_of, system_of, privileged_of, fence_op_of, guest_access_of, guest_load_of, guest_load_by, guest_store_of, csr_of, csr_op_of}

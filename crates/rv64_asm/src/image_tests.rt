@@ -1,7 +1,7 @@
 // Images: labels, placed bytes, and a guest hypervisor whole.
 
 ghost use Rattle.std.specs.Prelude.{◌≡◌, true, length, IfOk};
-ghost use Rattle.rv64_asm.specs.Plans.{empty_plan, is_aimed};
+ghost use Rattle.rv64_asm.specs.Plans.{is_aimed};
 
 use crate::{AsmFault, Image, fits};
 use arch_defs::{Reg, Width};
@@ -28,6 +28,11 @@ fn push(image: &mut Image, op: Op, rt: &impl Abort) -> Result<(), Fail> {
     Ok(image.push(op)?)
 }
 
+fn place_double(image: &mut Image, place: u64, value: u64, rt: &impl Abort) -> Result<(), Fail> {
+    assert!(rt; place < 0x10_0000);
+    Ok(image.place(place, &value.to_le_bytes())?)
+}
+
 fn set(image: &mut Image, id: u32, rt: &impl Abort) -> Result<(), Fail> {
     assert!(rt; !image.has(id));
     image.label(id)?;
@@ -35,6 +40,7 @@ fn set(image: &mut Image, id: u32, rt: &impl Abort) -> Result<(), Fail> {
     Ok(())
 }
 
+#[tactic(auto, unfolding(crate::specs::Plans::is_aimed))]
 fn beq(rs1: u32, rs2: u32) -> Op
     ensures { is_aimed result ≡ true }
 {
@@ -46,6 +52,7 @@ fn beq(rs1: u32, rs2: u32) -> Op
     }
 }
 
+#[tactic(auto, unfolding(crate::specs::Plans::is_aimed))]
 fn jal(rd: u32) -> Op
     ensures { is_aimed result ≡ true }
 {
@@ -351,7 +358,7 @@ fn wanted(alloc: Global, count: usize) -> Result<Vec<u8>, Fail> {
 
 fn lay(bytes: &mut Vec<u8>, place: usize, piece: &[u8]) {
     for (index, byte) in piece.iter().enumerate() {
-        if let Some(at) = bytes.get_mut(place + index) {
+        if let Some(at) = bytes.get_mut(place.wrapping_add(index)) {
             *at = *byte;
         }
     }
@@ -362,7 +369,7 @@ fn lay(bytes: &mut Vec<u8>, place: usize, piece: &[u8]) {
 fn guest_hypervisor(rt: HostRuntime) -> Result<(), Fail> {
     let mut image = Image::new(rt.alloc());
     for (place, value) in DATA {
-        image.place(place, &value.to_le_bytes())?;
+        place_double(&mut image, place, value, &rt)?;
     }
     push_setup(&mut image, &rt)?;
     push_command(&mut image, &rt)?;

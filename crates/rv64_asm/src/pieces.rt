@@ -73,8 +73,8 @@ pub fn last_end(pieces: &[Piece]) -> u64
     ensures small { result ≤ 2 ^ 26 }
 {
     let mut last = 0;
-    for piece in pieces {
-        last = piece.end().max(last);
+    for placed in pieces {
+        last = placed.end().max(last);
     }
     last
 }

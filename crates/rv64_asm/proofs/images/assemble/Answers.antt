@@ -1,4 +1,4 @@
-use Rattle.std.proofs.Common.{◌≡◌, ◌≤◌, ◌⊎◌, inl, inr, Some, None, ap, sym, ◌∙◌, ◌++◌, arith}
+use Rattle.std.proofs.Common.{inr, ap, ◌∙◌, ◌++◌, arith}
 use Rattle.rv64_asm.proofs.Loops.{faulty, goes_on, coded, no_fault_left, no_code_left}
 use Rattle.rv64_asm.proofs.images.assemble.Goals as goal
 

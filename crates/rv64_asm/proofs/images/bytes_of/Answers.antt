@@ -1,4 +1,4 @@
-use Rattle.std.proofs.Common.{◌≡◌, ℕ, ◌-◌, ◌++◌, length, take, drop, replicate, sym, ap, ◌∙◌, arith}
+use Rattle.std.proofs.Common.{◌≡◌, ℕ, ◌-◌, ◌++◌, length, take, drop, replicate, ap, ◌∙◌, arith}
 use Rattle.std.specs.Prelude.{max, vec_len}
 use Rattle.std.proofs.lemmas.List.{take_at}
 use Rattle.rv64_asm.specs.Plans.{last_end}

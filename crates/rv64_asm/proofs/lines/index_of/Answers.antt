@@ -1,4 +1,4 @@
-use Rattle.std.proofs.Common.{◌≡◌, arith}
+use Rattle.std.proofs.Common.{arith}
 use Rattle.rv64_asm.proofs.Loops.{found, not_found}
 use Rattle.rv64_asm.proofs.lines.index_of.Goals as goal
 

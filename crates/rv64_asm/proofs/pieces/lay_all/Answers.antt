@@ -1,5 +1,4 @@
-use Rattle.std.proofs.Common.{◌≡◌, ◌≤◌, unwrap_or, slice_index, ap, sym, ◌∙◌, arith}
-use Rattle.rv64_asm.specs.Plans.{covering}
+use Rattle.std.proofs.Common.{slice_index, ◌∙◌, arith}
 use Rattle.rv64_asm.proofs.Loops.{last_end_left, one_more, covered}
 use Rattle.rv64_asm.proofs.pieces.lay_all.Goals as goal
 
