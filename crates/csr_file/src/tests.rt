@@ -12,28 +12,24 @@ fn registers(vtvm: bool, tm: bool) -> Csrs {
     csrs
 }
 
-/// One access, a read or a write of 0: 0 where it is made, 1 where it is illegal, 2 a virtual instruction.
-fn kind(csrs: Csrs, mode: Mode, number: u16, writes: bool) -> usize {
+/// Why one access is refused, a read or a write of 0, if it is.
+fn refusal(csrs: Csrs, mode: Mode, number: u16, writes: bool) -> Option<CsrEnd> {
     let mut copy = csrs;
-    let end = if writes {
+    if writes {
         write(&mut copy, mode, number, 0).err()
     } else {
         read(&csrs, mode, number).err()
-    };
-    match end {
-        None => 0,
-        Some(CsrEnd::Illegal) => 1,
-        Some(CsrEnd::Virtual) => 2,
     }
 }
 
+/// How many of all accesses are made, are illegal, and are virtual instructions.
 fn counts(csrs: Csrs, mode: Mode, writes: bool) -> (u16, u16, u16) {
     let (mut made, mut illegal, mut virtual_ones): (u16, u16, u16) = (0, 0, 0);
     for number in 0..4096u16 {
-        match kind(csrs, mode, number, writes) {
-            0 => made = made.saturating_add(1),
-            1 => illegal = illegal.saturating_add(1),
-            _ => virtual_ones = virtual_ones.saturating_add(1),
+        match refusal(csrs, mode, number, writes) {
+            None => made = made.saturating_add(1),
+            Some(CsrEnd::Illegal) => illegal = illegal.saturating_add(1),
+            Some(CsrEnd::Virtual) => virtual_ones = virtual_ones.saturating_add(1),
         }
     }
     (made, illegal, virtual_ones)
