@@ -19,7 +19,7 @@ abbrev pub bit_at : ℕ → Bool → ℕ
 bit_at i true = 2 ^ i
 bit_at i false = 0
 
--- UXL or VSXL, bits 33:32: 2, which is a width of 64 bits (4.1.1.2)
+-- UXL or VSXL, bits 33:32: 2, which is a width of 64 bits (4.1.1.1, 8.2.1)
 abbrev pub width_64 : ℕ
 width_64 = 2 * 2 ^ 32
 

@@ -1,5 +1,5 @@
 -- The numbers of the control and status registers, and what each names in HS
--- (Privileged Architecture 20211203, tables 2.3 and 2.4).
+-- (Privileged Architecture 20211203, tables 2.2 to 2.4).
 use Rattle.std.specs.Prelude.{ℕ, ◌/◌, ◌^◌, ◌==◌, Option, Some, None, if◌then◌else◌}
 use Rattle.arch_defs.specs.declared.csr_names.BankRegister.TheVariants as bank
 use Rattle.arch_defs.specs.declared.csr_names.InterruptRegister.TheVariants as interrupt
