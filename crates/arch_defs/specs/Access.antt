@@ -18,7 +18,8 @@ use Rattle.arch_defs.specs.declared.csr_names.Register.TheVariants.{Supervisor, 
 use Rattle.arch_defs.specs.declared.csr_names.CsrEnd.{CsrEnd}
 use Rattle.arch_defs.specs.declared.csr_names.CsrEnd.TheVariants.{Illegal, Virtual}
 use Rattle.arch_defs.specs.CsrNames.{register_of}
-use Rattle.arch_defs.specs.CsrBits.{bit, bit_at, status_number, status_of, hstatus_number, hstatus_of, supervisor_number, supervisor_interrupts, virtual_number, virtual_interrupts, delegated, delegated_become, tvec_bits, epc_bits, hedeleg_bits, supervisor_root_number, supervisor_root_of, guest_root_number, guest_root_of}
+use Rattle.arch_defs.specs.Bits.{bit}
+use Rattle.arch_defs.specs.CsrBits.{bit_at, status_number, status_of, hstatus_number, hstatus_of, supervisor_number, supervisor_interrupts, virtual_number, virtual_interrupts, delegated, delegated_become, tvec_bits, epc_bits, hedeleg_bits, supervisor_root_number, supervisor_root_of, guest_root_number, guest_root_of}
 
 -- what a register of a bank shows: sstatus 4.1.1, stvec 4.1.2, sscratch 4.1.6, sepc 4.1.7, scause 4.1.8, stval 4.1.9,
 -- satp 4.1.11; vsstatus 8.2.11, vstvec 8.2.13, vsscratch 8.2.14, vsepc 8.2.15, vscause 8.2.16, vstval 8.2.17, vsatp 8.2.18

@@ -1,9 +1,13 @@
 -- Fields of words, sign extension, and arithmetic on 64 bits.
-use Rattle.std.specs.Prelude.{ℕ, ◌+◌, ◌-◌, ◌/◌, ◌%◌, ◌^◌, nat_lt, if◌then◌else◌}
+use Rattle.std.specs.Prelude.{ℕ, ◌+◌, ◌-◌, ◌/◌, ◌%◌, ◌^◌, nat_lt, if◌then◌else◌, Bool, ◌==◌}
 
 -- the n bits of a word from bit `low` on
 abbrev pub field : ℕ → ℕ → ℕ → ℕ
 field low n word = word / 2 ^ low % 2 ^ n
+
+-- whether bit i of a word is set
+abbrev pub bit : ℕ → ℕ → Bool
+bit i word = field i 1 word == 1
 
 -- a number of n bits, its sign bit repeated up to bit 63
 abbrev pub sign_extend : ℕ → ℕ → ℕ

@@ -8,11 +8,7 @@ use Rattle.arch_defs.specs.declared.registers.SupervisorRoot.{SupervisorRoot}
 use Rattle.arch_defs.specs.declared.registers.SupervisorRoot.TheVariants as supervisor_root
 use Rattle.arch_defs.specs.declared.registers.GuestRoot.{GuestRoot}
 use Rattle.arch_defs.specs.declared.registers.GuestRoot.TheVariants as guest_root
-use Rattle.arch_defs.specs.Bits.{field}
-
--- whether bit i of a value is set
-abbrev pub bit : ℕ → ℕ → Bool
-bit i value = field i 1 value == 1
+use Rattle.arch_defs.specs.Bits.{bit, field}
 
 -- the number that has bit i where it is set
 abbrev pub bit_at : ℕ → Bool → ℕ

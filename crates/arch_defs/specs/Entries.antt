@@ -8,11 +8,7 @@ use Rattle.arch_defs.specs.declared.walks.WalkEnd.{WalkEnd}
 use Rattle.arch_defs.specs.declared.walks.WalkEnd.TheVariants.{Leaf, PageFault}
 use Rattle.arch_defs.specs.declared.walks.Next.{Next}
 use Rattle.arch_defs.specs.declared.walks.Next.TheVariants.{Ends, Below}
-use Rattle.arch_defs.specs.Bits.{field}
-
--- bit k of a word
-abbrev pub bit : ℕ → ℕ → Bool
-bit k word = field k 1 word == 1
+use Rattle.arch_defs.specs.Bits.{bit, field}
 
 -- an entry's word in named parts: V 0, R 1, W 2, X 3, U 4, A 6, D 7, the physical page number 53:10, reserved 63:54 (4.4.1)
 unfoldable pub table_entry : ℕ → TableEntry

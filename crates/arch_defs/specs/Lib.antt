@@ -1,9 +1,9 @@
 pub mod Access
 pub mod Bits
-pub mod Interrupts
-pub mod Entries
 pub mod CsrBits
 pub mod CsrNames
+pub mod Entries
+pub mod Interrupts
 pub mod Memory
 pub mod Permits
 pub mod Registers

@@ -14,7 +14,8 @@ use Rattle.arch_defs.specs.declared.csr_names.BitRegister.TheVariants.{Scountere
 use Rattle.arch_defs.specs.declared.csr_names.HypervisorRegister.{HypervisorRegister}
 use Rattle.arch_defs.specs.declared.csr_names.HypervisorRegister.TheVariants.{Hstatus, Hedeleg, Htimedelta, Hgeie, Hgeip, Htval, Htinst, Hgatp}
 use Rattle.arch_defs.specs.declared.csr_names.Register.TheVariants.{Supervisor, VirtualSupervisor, Interrupt, Bit, Hypervisor, Time, GuestTime}
-use Rattle.arch_defs.specs.CsrBits.{bit, bit_at, status_number, status_of, hstatus_number, hstatus_of, supervisor_number, supervisor_interrupts, virtual_number, virtual_interrupts, delegated, delegated_become, tvec_bits, epc_bits, hedeleg_bits}
+use Rattle.arch_defs.specs.Bits.{bit}
+use Rattle.arch_defs.specs.CsrBits.{bit_at, status_number, status_of, hstatus_number, hstatus_of, supervisor_number, supervisor_interrupts, virtual_number, virtual_interrupts, delegated, delegated_become, tvec_bits, epc_bits, hedeleg_bits}
 use Rattle.arch_defs.specs.Access.{bank_shown, bank_written, interrupts_shown, interrupts_written, bit_shown, bit_written, hypervisor_shown, hypervisor_written, shown, written}
 use Rattle.csr_file.specs.Laws.{merged, all_bits, bank_mask, interrupts_mask, bit_mask, hypervisor_mask, ReadsBack, SatpReadsBack, VsatpReadsBack, HgatpReadsBack}
 use Rattle.csr_file.proofs.Masks.{masked, under, flag, flag_most, replaced}

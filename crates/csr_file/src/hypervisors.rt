@@ -1,7 +1,8 @@
 // The other registers of the hypervisor extension, and those of one bit, as numbers.
 
 ghost use Rattle.std.specs.Prelude.{◌≡◌};
-ghost use Rattle.arch_defs.specs.CsrBits.{bit, bit_at, hstatus_number, hstatus_of, hedeleg_bits, guest_root_number, guest_root_of};
+ghost use Rattle.arch_defs.specs.Bits.{bit};
+ghost use Rattle.arch_defs.specs.CsrBits.{bit_at, hstatus_number, hstatus_of, hedeleg_bits, guest_root_number, guest_root_of};
 ghost use Rattle.arch_defs.specs.Access.{bit_shown, bit_written, hypervisor_shown, hypervisor_written};
 
 use crate::banks::WIDTH_64;

@@ -8,16 +8,13 @@ use Rattle.arch_defs.specs.declared.modes.Access.TheVariants.{Fetch, Load, Store
 use Rattle.arch_defs.specs.declared.modes.Trap.{Trap}
 use Rattle.arch_defs.specs.declared.modes.TheConstants.{INSTRUCTION_ACCESS_FAULT, LOAD_ACCESS_FAULT, STORE_ACCESS_FAULT, ECALL_FROM_HS}
 use Rattle.arch_defs.specs.declared.registers.Virtual.{Virtual}
+use Rattle.arch_defs.specs.Traps.{is_address_code}
 use Rattle.machine_defs.specs.Core.{Outcome, Done, Trapped, Stuck, Called, core}
 use Rattle.arch_defs.specs.Memory.{bare, reading_of, written}
 use Rattle.machine_defs.specs.Runs.{pc_and_word}
 use Rattle.rv64_hart.specs.declared.steps.TheConstants.{MACHINE_BASE}
 use Rattle.rv64_hart.specs.declared.harts.Why.{Why}
 use Rattle.rv64_hart.specs.declared.harts.Why.TheVariants.{Limit, Exit, VsTrap}
-
--- whether stval gets an address for this exception (Privileged Architecture 20211203, 4.1.9)
-abbrev pub is_address_code : ℕ → Bool
-is_address_code cause = list_any (λ code. code == cause) (0 ∷ 1 ∷ 3 ∷ 4 ∷ 5 ∷ 6 ∷ 7 ∷ 12 ∷ 13 ∷ 15 ∷ 20 ∷ 21 ∷ 23 ∷ [])
 
 -- a trap to the hart's HS, taken with V = 1
 abbrev pub trap_of : ℕ → ℕ → Trap

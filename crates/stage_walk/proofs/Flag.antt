@@ -1,7 +1,7 @@
 -- A flag in a word, as a bit.
 use Rattle.std.proofs.Common.{◌≡◌, ℕ, zero, suc, ◌+◌, ◌*◌, ◌/◌, ◌%◌, ◌^◌, ◌<◌, ◌==◌, ap, bit_and, arith}
 use Rattle.std.proofs.lemmas.Nat.{pow_pos, and_block, and_mask, and_le_r, shr_split}
-use Rattle.arch_defs.specs.Entries.{bit}
+use Rattle.arch_defs.specs.Bits.{bit}
 
 -- one bit of a word, in its place
 and_flag : (word k : ℕ) → bit_and word (2 ^ k) ≡ (word / 2 ^ k % 2) * 2 ^ k
