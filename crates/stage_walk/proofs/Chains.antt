@@ -10,8 +10,8 @@ use Rattle.arch_defs.specs.declared.walks.WalkEnd.TheVariants.{Leaf, PageFault}
 use Rattle.arch_defs.specs.declared.walks.Next.{Next}
 use Rattle.arch_defs.specs.declared.walks.Next.TheVariants.{Ends, Below}
 use Rattle.arch_defs.specs.Entries.{table_entry, is_valid, is_leaf, is_aligned, is_marked, leaf_entry, pointer_next, entry_next}
-use Rattle.arch_defs.specs.Walk.{EntryReading, levels, is_canonical, place_of, index_bits, Met, met_in, read_next, next_of, later, path_from, path, end_of, walk, walk_from}
-use Rattle.stage_walk.specs.Laws.{SameOn, PathsAlike, WalksAlike, GoesOn, IsLinked, PathIsLinked, LinkedIsPath, EndsByLevels, LiesInTable}
+use Rattle.arch_defs.specs.Walk.{EntryReading, levels, is_canonical, place_of, index, index_bits, Met, met_in, read_next, next_of, later, path_from, path, end_of, walk, walk_from}
+use Rattle.stage_walk.specs.Laws.{SameOn, PathsAlike, WalksAlike, GoesOn, IsLinked, PathIsLinked, LinkedIsPath, EndsByLevels, LiesInTable, AllAligned, PlacesAligned}
 use Rattle.stage_walk.proofs.Levels.{walk_starts, walk_refused}
 
 -- readings that agree on the entries met from a table on meet the same
@@ -142,3 +142,25 @@ within start part size some = grind arith
 pub lies_in_table : LiesInTable
 lies_in_table shape level table va =
     (omega arith, within (4096 * table) (va / 2 ^ (12 + 9 * level)) (2 ^ index_bits shape level) (pow_pos (index_bits shape level)))
+
+-- and its place is a multiple of 8
+eighth : (table part : ℕ) → (4096 * table + 8 * part) % 8 ≡ 0
+eighth table part = omega arith
+
+aligned_from : (reading : EntryReading) (shape : Shape) (va : ℕ) (access : Access) (level table : ℕ) → AllAligned (path_from reading shape va access level table)
+unfolding path_from
+aligned_from reading shape va access zero table = tt
+aligned_from reading shape va access (suc level) table =
+    (eighth table (index shape level va), by (aligned_from reading shape va access level) (next_of access (met_in reading shape va level table)))
+  where
+    by : ((below : ℕ) → AllAligned (path_from reading shape va access level below)) → (next : Next) → AllAligned (later (path_from reading shape va access level) next)
+    by below_too (Ends end) = tt
+    by below_too (Below below) = below_too below
+
+pub places_aligned : PlacesAligned
+unfolding path
+places_aligned reading root shape va access = by (is_canonical shape va)
+  where
+    by : (right : Bool) → AllAligned (if right then path_from reading shape va access (levels shape) root else [])
+    by true = aligned_from reading shape va access (levels shape) root
+    by false = tt

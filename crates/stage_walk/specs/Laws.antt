@@ -1,5 +1,5 @@
 -- Laws of the table walk.
-use Rattle.std.specs.Prelude.{ℕ, ◌≡◌, ◌≢◌, ◌+◌, ◌-◌, ◌*◌, ◌/◌, ◌^◌, ◌<◌, ◌≤◌, true, List, [], ◌∷◌, Result, Ok, Err, if◌then◌else◌}
+use Rattle.std.specs.Prelude.{ℕ, ◌≡◌, ◌≢◌, ◌+◌, ◌-◌, ◌*◌, ◌/◌, ◌%◌, ◌^◌, ◌<◌, ◌≤◌, true, List, [], ◌∷◌, Result, Ok, Err, if◌then◌else◌}
 use Rattle.arch_defs.specs.declared.modes.Access.{Access}
 use Rattle.arch_defs.specs.declared.modes.Trap.{Trap}
 use Rattle.arch_defs.specs.declared.walks.Shape.{Shape}
@@ -55,6 +55,14 @@ EndsByLevels = (reading : EntryReading) (root : ℕ) (shape : Shape) (va : ℕ) 
 abbrev pub LiesInTable : Type 0
 LiesInTable = (shape : Shape) (level table va : ℕ)
     → (4096 * table ≤ place_of shape level table va) × (place_of shape level table va + 8 ≤ 4096 * table + table_size shape level)
+
+-- and the place of each entry met is a multiple of its size
+abbrev pub AllAligned : List Met → Type 0
+AllAligned [] = Unit {0}
+AllAligned (m ∷ ms) = (m.place % 8 ≡ 0) × AllAligned ms
+
+abbrev pub PlacesAligned : Type 0
+PlacesAligned = (reading : EntryReading) (root : ℕ) (shape : Shape) (va : ℕ) (access : Access) → AllAligned (path reading root shape va access)
 
 -- an entry that was read is valid
 abbrev pub HasValid : Result ℕ Trap → Type 0

@@ -1,6 +1,6 @@
 // Laws of the table walk.
 
-ghost use Rattle.stage_walk.specs.Laws.{PathsAlike, WalksAlike, PathIsLinked, LinkedIsPath, EndsByLevels, LiesInTable, EntriesValid, LeafAddress};
+ghost use Rattle.stage_walk.specs.Laws.{PathsAlike, WalksAlike, PathIsLinked, LinkedIsPath, EndsByLevels, LiesInTable, PlacesAligned, EntriesValid, LeafAddress};
 
 /// A walk depends on the entries that it met alone: a reading that agrees on their places meets the
 /// same ones, and ends alike.
@@ -10,11 +10,12 @@ pub fn walks_depend_on_entries_met()
 {}
 
 /// The entries met are the one list in which each stands at the place that the one before names, up to
-/// the first that ends the walk; each lies in its table.
+/// the first that ends the walk; each lies in its table, at a multiple of 8.
 pub fn entries_met_are_linked()
     ensures linked { PathIsLinked }
     ensures only { LinkedIsPath }
     ensures inside { LiesInTable }
+    ensures aligned { PlacesAligned }
 {}
 
 /// The walk ends as a plain recursion by levels does.
