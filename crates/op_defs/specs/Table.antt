@@ -1,5 +1,5 @@
 -- The instruction table: the instruction that a word is, if it is one (Unprivileged ISA 20191213, 24;
--- Privileged Architecture 20211203, 6 and 8.3). A reserved word is none.
+-- Privileged Architecture 20211203, 9 and 8.3). A reserved word is none.
 use Rattle.std.specs.Prelude.{ℕ, Bool, true, false, Option, Some, None, option_map, ◌==◌, if◌then◌else◌}
 use Rattle.arch_defs.specs.declared.widths.Width.{Width}
 use Rattle.arch_defs.specs.declared.widths.Width.TheVariants as width

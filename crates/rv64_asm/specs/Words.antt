@@ -1,5 +1,5 @@
 -- The word of an instruction: the sum of the fields of its format (Unprivileged ISA 20191213, 2.2, 2.3 and 24;
--- Privileged Architecture 20211203, 6 and 8.3).
+-- Privileged Architecture 20211203, 9 and 8.3).
 use Rattle.std.specs.Prelude.{ℕ, ◌+◌, ◌*◌, ◌^◌, Bool, true, false}
 use Rattle.arch_defs.specs.Bits.{field}
 use Rattle.arch_defs.specs.declared.widths.Width.{Width}

@@ -91,6 +91,9 @@ impl Image {
     }
 
     /// The bytes of the image: the ops' words, over them the placed bytes, and zeros in the gaps.
+    ///
+    /// Refuses the first op whose label is not set (`NoLabel`) or too far away (`TooFar`), and where there is no
+    /// memory (`NoMemory`).
     pub fn finish(self) -> Result<Vec<u8>, AsmFault>
         ensures ok { OnOk result (first_fault self.labels 0 self.items ≡ None) }
         ensures image { IfOk result (λ v. IsImage self v.items) }

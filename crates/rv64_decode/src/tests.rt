@@ -1,6 +1,6 @@
 // The words beside a line of assembly are those of GNU as 2.40 (Debian's binutils-riscv64-linux-gnu). The
 // reserved words were put together by hand from the tables of the standard (Unprivileged ISA 20191213, 24;
-// Privileged Architecture 20211203, 6 and 8.3). rd is x5, rs1 x6 and rs2 x7.
+// Privileged Architecture 20211203, 9 and 8.3). rd is x5, rs1 x6 and rs2 x7.
 
 ghost use Rattle.std.specs.Prelude.{◌<◌};
 ghost use Rattle.rv64_decode.specs.declared.tests.TheConstants.{GROUPS};
