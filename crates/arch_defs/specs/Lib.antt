@@ -7,6 +7,7 @@ pub mod Interrupts
 pub mod Memory
 pub mod Permits
 pub mod Registers
+pub mod Translation
 pub mod Traps
 pub mod Walk
 pub mod Widths

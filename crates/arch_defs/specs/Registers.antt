@@ -19,9 +19,13 @@ read regs n = slice_index regs.x n
 abbrev pub advanced : Regs → ℕ → ℕ → ℕ → Regs
 advanced regs rd value next = if rd == 0 then record regs { pc = next } else record { x = slice_set regs.x rd value; pc = next }
 
--- the registers with an argument and the answer of a call of the environment, a0, and with its number, a7
+-- the registers with an argument and the answer of a call of the environment, a0, with a second answer, a1, and with its
+-- number, a7
 abbrev pub a0 : ℕ
 a0 = 10
+
+abbrev pub a1 : ℕ
+a1 = 11
 
 abbrev pub a7 : ℕ
 a7 = 17

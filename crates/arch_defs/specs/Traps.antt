@@ -4,12 +4,16 @@ use Rattle.std.specs.List.{list_any}
 use Rattle.arch_defs.specs.Bits.{add64, field}
 use Rattle.arch_defs.specs.declared.levels.Level.{Level}
 use Rattle.arch_defs.specs.declared.levels.Level.TheVariants as level
+use Rattle.arch_defs.specs.declared.modes.Access.{Access}
+use Rattle.arch_defs.specs.declared.modes.Access.TheVariants.{Fetch, Load, Store, ExecLoad, Implicit}
 use Rattle.arch_defs.specs.declared.modes.Mode.{Mode}
 use Rattle.arch_defs.specs.declared.modes.Mode.TheVariants.{HS, U, VS, VU}
 use Rattle.arch_defs.specs.declared.modes.Trap.{Trap}
+use Rattle.arch_defs.specs.declared.modes.TheConstants.{INSTRUCTION_ACCESS_FAULT, LOAD_ACCESS_FAULT, STORE_ACCESS_FAULT, INSTRUCTION_PAGE_FAULT, LOAD_PAGE_FAULT, STORE_PAGE_FAULT}
 use Rattle.arch_defs.specs.declared.registers.Bank.{Bank}
 use Rattle.arch_defs.specs.declared.registers.Csrs.{Csrs}
 use Rattle.arch_defs.specs.declared.registers.Regs.{Regs}
+use Rattle.arch_defs.specs.declared.registers.Virtual.{Virtual}
 use Rattle.arch_defs.specs.Interrupts.{guest_bit}
 
 -- V, the virtualization mode (8.1)
@@ -48,6 +52,27 @@ is_address_code code = list_any (λ c. c == code) (0 ∷ 1 ∷ 3 ∷ 4 ∷ 5 ∷
 -- whether an exception writes a guest virtual address to stval: with V = 1, or by the access of HLV, HLVX or HSV (8.2.1, GVA)
 abbrev pub has_guest_address : Mode → Bool → ℕ → Bool
 has_guest_address mode by_guest_access code = (by_guest_access || is_virtual mode) && is_address_code code
+
+-- an exception from a mode that no guest access caused, with no guest physical address
+abbrev pub exception : Mode → ℕ → ℕ → Trap
+exception mode cause tval =
+    record { cause = cause; interrupt = false; tval = tval; tval2 = 0; gva = has_guest_address mode false cause; implicit = false }
+
+-- the access fault of an access that could not be made, and its page fault (4.1.8; LR faults as a load, SC and AMO as a
+-- store). An implicit read serves another access, whose fault is taken, so the lines for it are for completeness
+abbrev pub access_fault : Access → ℕ
+access_fault Fetch = INSTRUCTION_ACCESS_FAULT
+access_fault Load = LOAD_ACCESS_FAULT
+access_fault ExecLoad = LOAD_ACCESS_FAULT
+access_fault Implicit = LOAD_ACCESS_FAULT
+access_fault Store = STORE_ACCESS_FAULT
+
+abbrev pub page_fault : Access → ℕ
+page_fault Fetch = INSTRUCTION_PAGE_FAULT
+page_fault Load = LOAD_PAGE_FAULT
+page_fault ExecLoad = LOAD_PAGE_FAULT
+page_fault Implicit = LOAD_PAGE_FAULT
+page_fault Store = STORE_PAGE_FAULT
 
 -- what scause or vscause gets: the code, and bit 63 for an interrupt (4.1.8)
 abbrev pub cause_of : Bool → ℕ → ℕ
@@ -131,3 +156,15 @@ returned_from_vs csrs regs = record {
 -- SRET in HS or VS (8.6.4)
 unfoldable pub returned : Csrs → Regs → Mode → Arrival
 returned csrs regs mode = if is_virtual mode then returned_from_vs csrs regs else returned_from_hs csrs regs
+
+-- a state after a trap or an SRET; the reservation stays
+abbrev pub arrived : Virtual → Arrival → Virtual
+arrived state arrival = record state { csrs = arrival.csrs; regs = arrival.regs; mode = arrival.mode }
+
+-- a state after a trap into this level, and after a trap where it goes
+abbrev pub entered_at : Virtual → Trap → Level → Virtual
+entered_at state trap level.HS = arrived state (entered_hs state.csrs state.regs state.mode trap)
+entered_at state trap level.VS = arrived state (entered_vs state.csrs state.regs state.mode trap)
+
+abbrev pub entered : Virtual → Trap → Virtual
+entered state trap = entered_at state trap (target state.csrs state.mode trap)

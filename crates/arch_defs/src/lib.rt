@@ -21,12 +21,13 @@ pub use levels::{
 };
 pub use modes::{
     Access, BREAKPOINT, ECALL_FROM_HS, ECALL_FROM_USER, ECALL_FROM_VS, ILLEGAL_INSTRUCTION,
-    INSTRUCTION_ACCESS_FAULT, INSTRUCTION_MISALIGNED, LOAD_ACCESS_FAULT, LOAD_MISALIGNED, Mode,
-    STORE_ACCESS_FAULT, STORE_MISALIGNED, Trap,
+    INSTRUCTION_ACCESS_FAULT, INSTRUCTION_MISALIGNED, INSTRUCTION_PAGE_FAULT, LOAD_ACCESS_FAULT,
+    LOAD_MISALIGNED, LOAD_PAGE_FAULT, Mode, STORE_ACCESS_FAULT, STORE_MISALIGNED, STORE_PAGE_FAULT,
+    Trap, VIRTUAL_INSTRUCTION,
 };
 pub use registers::{
     Bank, Csrs, GuestRoot, HypervisorStatus, Interrupts, Reg, Regs, SupervisorRoot,
     SupervisorStatus, Virtual,
 };
-pub use walks::{LeafEntry, Next, Privilege, Shape, TableEntry, WalkEnd};
+pub use walks::{Found, LeafEntry, Next, Privilege, Shape, TableEntry, WalkEnd};
 pub use widths::{Width, extend};

@@ -70,3 +70,15 @@ pub const ECALL_FROM_HS: u64 = 9;
 
 /// Environment call from VS-mode.
 pub const ECALL_FROM_VS: u64 = 10;
+
+/// Instruction page fault.
+pub const INSTRUCTION_PAGE_FAULT: u64 = 12;
+
+/// Load page fault.
+pub const LOAD_PAGE_FAULT: u64 = 13;
+
+/// Store or AMO page fault.
+pub const STORE_PAGE_FAULT: u64 = 15;
+
+/// Virtual instruction.
+pub const VIRTUAL_INSTRUCTION: u64 = 22;

@@ -64,3 +64,14 @@ pub struct Privilege {
     pub sum: bool,
     pub mxr: bool,
 }
+
+/// What the first stage makes of a virtual address.
+#[derive(Clone, Copy, Debug, PartialEq, Eq)]
+pub enum Found {
+    /// This guest physical address.
+    Passes(u64),
+    /// The table has no leaf for it that permits the access.
+    PageFaults,
+    /// The second stage has no place for the entry at this guest physical address.
+    Lacks(u64),
+}

@@ -1,7 +1,7 @@
 -- Steps and runs of the lone machine, and the events of a run.
-use Rattle.std.specs.Prelude.{ℕ, zero, suc, ◌+◌, List, [], ◌∷◌, ◌++◌, Bool, true, false, count_by, sum_by}
+use Rattle.std.specs.Prelude.{ℕ, zero, suc, ◌+◌, List, [], ◌∷◌, ◌++◌, Bool, true, false, not, count_by, sum_by}
 use Rattle.machine_defs.specs.declared.events.Event.{Event}
-use Rattle.machine_defs.specs.declared.events.Event.TheVariants.{Plain, EntersVs, Other}
+use Rattle.machine_defs.specs.declared.events.Event.TheVariants.{Plain, Trap, System}
 use Rattle.machine_defs.specs.declared.guests.Status.{Status}
 use Rattle.machine_defs.specs.declared.guests.Status.TheVariants.{Running, Waiting, Stopped, Outside}
 use Rattle.machine_defs.specs.Machine.{Machine, Tried, Ended, Leaves, try}
@@ -45,17 +45,27 @@ events m (suc k) = events_by m m.status ++ events (step m) k
 -- whether a step was plain, and its pc and word where it was
 abbrev pub is_plain : Event → Bool
 is_plain (Plain pc word) = true
-is_plain EntersVs = false
-is_plain Other = false
+is_plain (Trap level interrupt) = false
+is_plain System = false
 
 abbrev pub pc_and_word : Event → ℕ
 pc_and_word (Plain pc word) = pc + word
-pc_and_word EntersVs = 0
-pc_and_word Other = 0
+pc_and_word (Trap level interrupt) = 0
+pc_and_word System = 0
+
+-- whether a step was an instruction, and no interrupt taken
+abbrev pub is_instruction : Event → Bool
+is_instruction (Plain pc word) = true
+is_instruction (Trap level interrupt) = not interrupt
+is_instruction System = true
 
 -- how many steps were plain
 abbrev pub plain_count : List Event → ℕ
 plain_count events = count_by is_plain events
+
+-- how many steps were no interrupt taken
+abbrev pub instruction_count : List Event → ℕ
+instruction_count events = count_by is_instruction events
 
 -- the sum of pc and word of the plain steps
 abbrev pub trace_of : List Event → ℕ

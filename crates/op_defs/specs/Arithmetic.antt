@@ -1,7 +1,7 @@
 -- The numbers of arithmetic and of atomic memory operations: 64 bits, some read as signed
 -- (Unprivileged ISA 20191213, 2.4, 5.2, 7 and 8.4).
 use Rattle.std.specs.Prelude.{ℕ, ℤ, pos, ◌+◌, ◌-◌, ◌*◌, ◌/◌, ◌%◌, ◌^◌, ◌*ℤ◌, Bool, true, false, ◌==◌, nat_lt, int_lt, int_div, int_rem, bit_and, bit_or, bit_xor, if◌then◌else◌}
-use Rattle.std.specs.Int.{w32, w64, w128, cast_signed, cast_unsigned}
+use Rattle.std.specs.Int.{w64, w128, cast_signed, cast_unsigned}
 use Rattle.arch_defs.specs.declared.widths.Width.{Width}
 use Rattle.arch_defs.specs.Bits.{add64, sign_extend}
 use Rattle.arch_defs.specs.Widths.{extended}

@@ -2,15 +2,19 @@
 use Rattle.std.specs.Prelude.{ℕ, ◌-◌, ◌%◌, Bool, true, false, ◌==◌, nat_lt, int_lt, not, if◌then◌else◌}
 use Rattle.arch_defs.specs.declared.modes.TheConstants.{INSTRUCTION_MISALIGNED, BREAKPOINT}
 use Rattle.arch_defs.specs.declared.registers.Regs.{Regs}
-use Rattle.arch_defs.specs.declared.widths.Width.TheVariants.{Double}
 use Rattle.arch_defs.specs.Bits.{add64}
 use Rattle.arch_defs.specs.Registers.{read}
+use Rattle.op_defs.specs.declared.ops.CsrOp.{CsrOp}
+use Rattle.op_defs.specs.declared.ops.CsrOp.TheVariants as csr
+use Rattle.op_defs.specs.declared.ops.CsrSource.{CsrSource}
+use Rattle.op_defs.specs.declared.ops.CsrSource.TheVariants as source
 use Rattle.op_defs.specs.declared.ops.Op.{Op}
 use Rattle.op_defs.specs.declared.ops.Op.TheVariants as op
 use Rattle.op_defs.specs.declared.ops.Test.{Test}
 use Rattle.op_defs.specs.declared.ops.Test.TheVariants.{Eq, Ne, Lt, Ge, Ltu, Geu}
 use Rattle.op_defs.specs.declared.ops.Effect.{Effect}
 use Rattle.op_defs.specs.declared.ops.Effect.TheVariants.{Sets, Raises, Loads, Stores, Reserves, StoresReserved, Modifies, Calls, Privileged}
+use Rattle.op_defs.specs.declared.ops.Privileged.TheVariants as privileged
 use Rattle.op_defs.specs.Arithmetic.{signed, alu, word_alu}
 
 -- the address of the next instruction
@@ -43,7 +47,23 @@ abbrev pub branch : Bool → ℕ → ℕ → Effect
 branch true next target = if target % 4 == 0 then Sets 0 0 target else Raises INSTRUCTION_MISALIGNED target
 branch false next target = Sets 0 0 next
 
--- what an instruction asks for; what needs a privilege check is not built so far
+-- the operand of an instruction on a control and status register (9.1)
+abbrev pub operand_of : CsrSource → Regs → ℕ
+operand_of (source.Register rs1) regs = read regs rs1
+operand_of (source.Immediate immediate) regs = immediate
+
+-- whether it is x0, or an immediate of 0
+abbrev pub is_none : CsrSource → Bool
+is_none (source.Register rs1) = rs1 == 0
+is_none (source.Immediate immediate) = immediate == 0
+
+-- whether the register is written: CSRRS and CSRRC write nothing where the operand is none (9.1)
+abbrev pub writes : CsrOp → CsrSource → Bool
+writes csr.Write operand = true
+writes csr.Set operand = not (is_none operand)
+writes csr.Clear operand = not (is_none operand)
+
+-- what an instruction asks for
 unfoldable pub meaning : Op → Regs → Effect
 meaning (op.Lui rd immediate) regs = Sets rd immediate (next regs)
 meaning (op.Auipc rd immediate) regs = Sets rd (add64 regs.pc immediate) (next regs)
@@ -63,12 +83,12 @@ meaning (op.StoreConditional width rd rs1 rs2) regs = StoresReserved (read regs 
 meaning (op.Amo o width rd rs1 rs2) regs = Modifies o (read regs rs1) width (read regs rs2) rd
 meaning op.Ecall regs = Calls
 meaning op.Ebreak regs = Raises BREAKPOINT regs.pc
-meaning op.Sret regs = Privileged
-meaning op.Wfi regs = Privileged
-meaning (op.Csr o source rd number) regs = Privileged
-meaning (op.SfenceVma rs1 rs2) regs = Privileged
-meaning (op.HfenceVvma rs1 rs2) regs = Privileged
-meaning (op.HfenceGvma rs1 rs2) regs = Privileged
-meaning (op.GuestLoad width signed rd rs1) regs = Privileged
-meaning (op.GuestFetch width rd rs1) regs = Privileged
-meaning (op.GuestStore width rs1 rs2) regs = Privileged
+meaning op.Sret regs = Privileged privileged.Sret
+meaning op.Wfi regs = Privileged privileged.Wfi
+meaning (op.Csr o operand rd number) regs = Privileged (privileged.Csr o number (operand_of operand regs) (writes o operand) rd)
+meaning (op.SfenceVma rs1 rs2) regs = Privileged privileged.SfenceVma
+meaning (op.HfenceVvma rs1 rs2) regs = Privileged privileged.HypervisorFence
+meaning (op.HfenceGvma rs1 rs2) regs = Privileged privileged.HypervisorFence
+meaning (op.GuestLoad width signed rd rs1) regs = Privileged privileged.GuestAccess
+meaning (op.GuestFetch width rd rs1) regs = Privileged privileged.GuestAccess
+meaning (op.GuestStore width rs1 rs2) regs = Privileged privileged.GuestAccess

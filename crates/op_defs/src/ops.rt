@@ -259,6 +259,27 @@ pub enum Effect {
     },
     /// A call of the execution environment.
     Calls,
-    /// What needs a privilege check: not built so far.
-    Privileged,
+    /// What the mode decides on.
+    Privileged(Privileged),
+}
+
+/// What an instruction of opcode SYSTEM asks for, which the mode decides.
+#[derive(Clone, Copy, Debug, PartialEq, Eq)]
+pub enum Privileged {
+    /// `rd` becomes what the register of this number shows, which, if it `writes`, becomes what `op` makes
+    /// of that and `operand`.
+    Csr {
+        op: CsrOp,
+        number: u16,
+        operand: u64,
+        writes: bool,
+        rd: Reg,
+    },
+    Sret,
+    Wfi,
+    SfenceVma,
+    /// HFENCE.VVMA and HFENCE.GVMA.
+    HypervisorFence,
+    /// HLV, HLVX and HSV.
+    GuestAccess,
 }

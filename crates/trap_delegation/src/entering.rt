@@ -2,7 +2,7 @@
 
 ghost use Rattle.std.specs.Prelude.{◌≡◌, IsTrue};
 ghost use Rattle.arch_defs.specs.Interrupts.{interrupt_of};
-ghost use Rattle.arch_defs.specs.Traps.{cause_of, entered_bank, entered_hs, entered_vs, handler_of, has_guest_address, htinst_of, is_address_code, is_delegated, is_supervisor, is_virtual, target, vs_code_of};
+ghost use Rattle.arch_defs.specs.Traps.{cause_of, entered_bank, entered_hs, entered_vs, exception, handler_of, has_guest_address, htinst_of, is_address_code, is_delegated, is_supervisor, is_virtual, target, vs_code_of};
 
 use crate::interrupts::guest_bit;
 use arch_defs::{Bank, Csrs, Level, Mode, Regs, Trap};
@@ -32,6 +32,21 @@ pub fn has_guest_address(mode: Mode, by_guest_access: bool, code: u64) -> bool
     ensures { result ≡ has_guest_address mode by_guest_access code }
 {
     (by_guest_access || is_virtual(mode)) && is_address_code(code)
+}
+
+/// The trap of an exception from this mode, which no access of HLV, HLVX or HSV caused and which has no guest
+/// physical address.
+pub fn exception(mode: Mode, cause: u64, tval: u64) -> Trap
+    ensures { result ≡ exception mode cause tval }
+{
+    Trap {
+        cause,
+        interrupt: false,
+        tval,
+        tval2: 0,
+        gva: has_guest_address(mode, false, cause),
+        implicit: false,
+    }
 }
 
 /// The trap of the interrupt with this code.
