@@ -1,49 +1,60 @@
--- Steps of the hart, which always has V = 1.
-use Rattle.std.specs.Prelude.{ℕ, zero, suc, ◌+◌, ◌%◌, ◌^◌, ◌<◌, ◌≡◌, List, Option, Some, None, Bool, true, false, ◌&&◌, ⊤, length, option_and_then, if◌then◌else◌, ◌==◌, [], ◌∷◌}
-use Rattle.std.specs.List.{list_any}
-use Rattle.machine_defs.specs.declared.events.Event.{Event}
-use Rattle.machine_defs.specs.declared.events.Event.TheVariants.{Plain, EntersVs, Other}
-use Rattle.arch_defs.specs.declared.modes.Access.{Access}
-use Rattle.arch_defs.specs.declared.modes.Access.TheVariants.{Fetch, Load, Store, ExecLoad, Implicit}
+-- Steps of the hart, whose state has V = 1 wherever a guest is on it, and whose second stage is Bare whatever hgatp says.
+use Rattle.std.specs.Prelude.{ℕ, zero, suc, ◌+◌, ◌%◌, ◌^◌, ◌<◌, ◌≡◌, List, Option, Some, None, Bool, true, false, ◌&&◌, ⊤, length, option_and_then, if◌then◌else◌}
+use Rattle.arch_defs.specs.declared.levels.Level.{Level}
+use Rattle.arch_defs.specs.declared.levels.Level.TheVariants as level
+use Rattle.arch_defs.specs.declared.modes.Mode.{Mode}
 use Rattle.arch_defs.specs.declared.modes.Trap.{Trap}
-use Rattle.arch_defs.specs.declared.modes.TheConstants.{INSTRUCTION_ACCESS_FAULT, LOAD_ACCESS_FAULT, STORE_ACCESS_FAULT, ECALL_FROM_HS}
+use Rattle.arch_defs.specs.declared.modes.TheConstants.{ECALL_FROM_HS, ILLEGAL_INSTRUCTION}
 use Rattle.arch_defs.specs.declared.registers.Virtual.{Virtual}
-use Rattle.arch_defs.specs.Traps.{is_address_code}
-use Rattle.machine_defs.specs.Core.{Outcome, Done, Trapped, Stuck, Called, core}
+use Rattle.arch_defs.specs.Interrupts.{due, interrupt_of}
 use Rattle.arch_defs.specs.Memory.{bare, reading_of, written}
+use Rattle.arch_defs.specs.Traps.{access_fault, entered_at, exception, target}
+use Rattle.machine_defs.specs.declared.events.Event.{Event}
+use Rattle.machine_defs.specs.declared.events.Event.TheVariants as event
+use Rattle.machine_defs.specs.Core.{core}
+use Rattle.machine_defs.specs.Outcomes.{Outcome, Done, Trapped, Stuck, Called, Waits, Unbuilt}
 use Rattle.machine_defs.specs.Runs.{pc_and_word}
 use Rattle.rv64_hart.specs.declared.steps.TheConstants.{MACHINE_BASE}
 use Rattle.rv64_hart.specs.declared.harts.Why.{Why}
 use Rattle.rv64_hart.specs.declared.harts.Why.TheVariants.{Limit, Exit, VsTrap}
 
--- a trap to the hart's HS, taken with V = 1
-abbrev pub trap_of : ℕ → ℕ → Trap
-trap_of cause tval = record { cause = cause; interrupt = false; tval = tval; tval2 = 0; gva = is_address_code cause; implicit = false }
+-- what a step asks for, before it is known where its trap goes: the state, the memory and what it was, or a trap
+pub data Attempt : Type 0 where
+  Makes : Virtual → List ℕ → Event → Attempt
+  Raises : Trap → Attempt
 
--- the access fault of the access that could not be made (Privileged Architecture 20211203, 8.6.1); an implicit read
--- serves another access, whose fault it is
-abbrev pub access_fault : Access → ℕ
-access_fault Fetch = INSTRUCTION_ACCESS_FAULT
-access_fault Load = LOAD_ACCESS_FAULT
-access_fault ExecLoad = LOAD_ACCESS_FAULT
-access_fault Implicit = LOAD_ACCESS_FAULT
-access_fault Store = STORE_ACCESS_FAULT
+-- what the outcome of an instruction is to the hart, whose second stage is Bare: a place that it does not have is an access
+-- fault. With V = 1 there is no call from HS, and nothing that is not built
+abbrev pub attempt_of : Mode → List ℕ → Outcome → Attempt
+attempt_of mode memory (Done state write event) = Makes state (written MACHINE_BASE write memory) event
+attempt_of mode memory (Trapped cause tval) = Raises (exception mode cause tval)
+attempt_of mode memory (Stuck address kind access va) = Raises (exception mode (access_fault access) va)
+attempt_of mode memory Called = Raises (exception mode ECALL_FROM_HS 0)
+attempt_of mode memory (Waits state) = Makes state memory event.System
+attempt_of mode memory Unbuilt = Raises (exception mode ILLEGAL_INSTRUCTION 0)
+
+-- the due interrupt, or one instruction over machine memory
+abbrev pub next_attempt : Virtual → List ℕ → Option ℕ → Attempt
+next_attempt state memory (Some code) = Raises (interrupt_of code)
+next_attempt state memory None = attempt_of state.mode memory (core (bare MACHINE_BASE (length memory)) (reading_of MACHINE_BASE memory) state)
 
 -- how a step of the hart ends: the state, the memory and what the step was, or a trap to HS, before which nothing changes
 pub data HartEnd : Type 0 where
   Goes : Virtual → List ℕ → Event → HartEnd
   Exits : Trap → HartEnd
 
--- what the outcome of an instruction is to the hart, whose second stage is Bare; with V = 1 there is no call from HS
-abbrev pub hart_end : List ℕ → Outcome → HartEnd
-hart_end memory (Done state write event) = Goes state (written MACHINE_BASE write memory) event
-hart_end memory (Trapped cause tval) = Exits (trap_of cause tval)
-hart_end memory (Stuck address kind access va) = Exits (trap_of (access_fault access) va)
-hart_end memory Called = Exits (trap_of ECALL_FROM_HS 0)
+-- a trap into VS is taken, and one to HS is left
+abbrev pub trapped_to : Virtual → List ℕ → Trap → Level → HartEnd
+trapped_to state memory trap level.VS = Goes (entered_at state trap level.VS) memory (event.Trap level.VS trap.interrupt)
+trapped_to state memory trap level.HS = Exits trap
+
+abbrev pub end_by : Virtual → List ℕ → Attempt → HartEnd
+end_by state memory (Makes after changed event) = Goes after changed event
+end_by state memory (Raises trap) = trapped_to state memory trap (target state.csrs state.mode trap)
 
 -- one step of the hart over machine memory
 unfoldable pub hart_step : Virtual → List ℕ → HartEnd
-hart_step state memory = hart_end memory (core (bare MACHINE_BASE (length memory)) (reading_of MACHINE_BASE memory) state)
+hart_step state memory = end_by state memory (next_attempt state memory (due state.csrs state.mode))
 
 -- how far a run of the hart has come: its state, memory, trace, and whether it ends here for a trap into VS
 pub record Progress : Type 0 where
@@ -57,9 +68,10 @@ progress state memory trace trapped = record { state = state; memory = memory; t
 
 -- whether a step entered VS by a trap
 abbrev pub enters_vs : Event → Bool
-enters_vs (Plain pc word) = false
-enters_vs EntersVs = true
-enters_vs Other = false
+enters_vs (event.Plain pc word) = false
+enters_vs (event.Trap level.VS interrupt) = true
+enters_vs (event.Trap level.HS interrupt) = false
+enters_vs event.System = false
 
 abbrev pub progressed : Bool → ℕ → HartEnd → Option Progress
 progressed watch trace (Goes state memory event) =

@@ -1,64 +1,30 @@
 // Accesses to memory for data.
 
-ghost use Rattle.std.specs.Prelude.{◌≡◌, ◌+◌, ◌-◌, ◌%◌, ◌<◌, ◌≤◌, ◌==◌, length, IfSome};
+ghost use Rattle.std.specs.Prelude.{◌≡◌, ◌+◌, ◌%◌, ◌<◌, ◌≤◌, ◌==◌, length};
 ghost use Rattle.arch_defs.specs.declared.modes.Access.TheVariants.{Load, Store};
-ghost use Rattle.arch_defs.specs.Memory.{bare, reading_of, pasted};
+ghost use Rattle.arch_defs.specs.Memory.{bare, reading_of};
 ghost use Rattle.arch_defs.specs.Widths.{bytes_in};
-ghost use Rattle.byteorder.specs.Endian.{little_bytes};
-ghost use Rattle.machine_defs.specs.Core.{aligned, loaded_at, stored_at, reserved_at, attempted, attempted_at, is_reserved, modified_at, sets};
+ghost use Rattle.machine_defs.specs.Core.{aligned, attempted, attempted_at, is_reserved, loaded_at, located, modified_at, reserved_at, stored_at};
+ghost use Rattle.machine_defs.specs.Outcomes.{sets};
 ghost use Rattle.rv64_hart.specs.declared.steps.TheConstants.{MACHINE_BASE};
-ghost use Rattle.rv64_hart.specs.Endings.{end_of, IfNotMade};
-ghost use Rattle.rv64_hart.specs.Steps.{hart_end};
+ghost use Rattle.rv64_hart.specs.Endings.{attempt_by, IfRaises};
+ghost use Rattle.rv64_hart.specs.Steps.{attempt_of};
 
 use crate::effects::event_of;
 use crate::memory::PhysMem;
-use crate::steps::{Ending, MACHINE_BASE, trap_of};
-use arch_defs::{
-    Access, LOAD_ACCESS_FAULT, LOAD_MISALIGNED, Reg, STORE_ACCESS_FAULT, STORE_MISALIGNED, Virtual,
-    Width, extend,
-};
+use crate::physical::{read_at, write_at};
+use crate::steps::Ending;
+use crate::translation::{fault_trap, locate};
+use arch_defs::{Access, LOAD_MISALIGNED, Reg, STORE_MISALIGNED, Virtual, Width, extend};
 use int_ops::amo;
 use op_defs::AmoOp;
-
-/// The physical address of an address, if it lies in memory.
-pub fn place_of(memory: &PhysMem, address: u64, access: Access) -> Option<u64>
-    ensures place { result ≡ bare MACHINE_BASE (length memory.now) address access }
-    ensures inside { IfSome result (λ place. (place ≡ address) × (MACHINE_BASE ≤ place) × (place < MACHINE_BASE + length memory.now)) }
-{
-    if address >= MACHINE_BASE && address - MACHINE_BASE < memory.size() {
-        Some(address)
-    } else {
-        None
-    }
-}
+use trap_delegation::exception;
 
 // Whether an address is a multiple of a width.
 fn is_aligned(address: u64, width: Width) -> bool
     ensures { result ≡ (address % bytes_in width == 0) }
 {
     address % width.bytes() as u64 == 0
-}
-
-// The number at a physical address.
-#[tactic(auto, using(crate::proofs::Places::offset_aligned))]
-fn read_at(memory: &PhysMem, place: u64, width: Width) -> u64
-    requires from { MACHINE_BASE ≤ place }
-    requires to { place < MACHINE_BASE + length memory.now }
-    requires aligned { place % bytes_in width ≡ 0 }
-    ensures { result ≡ reading_of MACHINE_BASE memory.now place (bytes_in width) }
-{
-    memory.load(place - MACHINE_BASE, width.bytes())
-}
-
-// Writes the low bytes of a value at a physical address.
-#[tactic(auto, using(crate::proofs::Places::offset_aligned))]
-fn write_at(memory: &mut PhysMem, place: u64, width: Width, value: u64)
-    requires from { MACHINE_BASE ≤ place }
-    requires to { place < MACHINE_BASE + length memory.old }
-    requires aligned { place % bytes_in width ≡ 0 }
-    ensures { memory.new ≡ pasted memory.old (place - MACHINE_BASE) (little_bytes (bytes_in width) value) }
-{
-    memory.store(place - MACHINE_BASE, width.bytes(), value);
 }
 
 // Sets a register, and goes on.
@@ -79,15 +45,15 @@ pub fn load(
     signed: bool,
     rd: Reg,
 ) -> Ending
-    ensures ends { hart_end memory.now (aligned address width LOAD_MISALIGNED (loaded_at (reading_of MACHINE_BASE memory.now) state.old word width signed rd address (bare MACHINE_BASE (length memory.now) address Load)))
-        ≡ end_of result state.new memory.now }
-    ensures stays { IfNotMade result (state.new ≡ state.old) }
+    ensures ends { attempt_of state.old.mode memory.now (aligned address width LOAD_MISALIGNED (loaded_at (reading_of MACHINE_BASE memory.now) state.old word width signed rd (located (bare MACHINE_BASE (length memory.now)) (reading_of MACHINE_BASE memory.now) state.old address Load)))
+        ≡ attempt_by result state.new memory.now }
+    ensures stays { IfRaises result (state.new ≡ state.old) }
 {
     if !is_aligned(address, width) {
-        return Ending::NotMade(trap_of(LOAD_MISALIGNED, address));
+        return Ending::Raises(exception(state.mode, LOAD_MISALIGNED, address));
     }
-    match place_of(memory, address, Access::Load) {
-        Some(place) => {
+    match locate(state, memory, address, Access::Load) {
+        Ok(place) => {
             let event = event_of(state.regs.pc, word);
             set(
                 state,
@@ -96,7 +62,7 @@ pub fn load(
             );
             Ending::Made(event)
         }
-        None => Ending::NotMade(trap_of(LOAD_ACCESS_FAULT, address)),
+        Err(fault) => Ending::Raises(fault_trap(state.mode, Access::Load, address, fault)),
     }
 }
 
@@ -109,21 +75,21 @@ pub fn store(
     width: Width,
     value: u64,
 ) -> Ending
-    ensures ends { hart_end memory.old (aligned address width STORE_MISALIGNED (stored_at state.old word width value address (bare MACHINE_BASE (length memory.old) address Store)))
-        ≡ end_of result state.new memory.new }
-    ensures stays { IfNotMade result ((state.new ≡ state.old) × (memory.new ≡ memory.old)) }
+    ensures ends { attempt_of state.old.mode memory.old (aligned address width STORE_MISALIGNED (stored_at state.old word width value (located (bare MACHINE_BASE (length memory.old)) (reading_of MACHINE_BASE memory.old) state.old address Store)))
+        ≡ attempt_by result state.new memory.new }
+    ensures stays { IfRaises result ((state.new ≡ state.old) × (memory.new ≡ memory.old)) }
 {
     if !is_aligned(address, width) {
-        return Ending::NotMade(trap_of(STORE_MISALIGNED, address));
+        return Ending::Raises(exception(state.mode, STORE_MISALIGNED, address));
     }
-    match place_of(memory, address, Access::Store) {
-        Some(place) => {
+    match locate(state, memory, address, Access::Store) {
+        Ok(place) => {
             let event = event_of(state.regs.pc, word);
             write_at(memory, place, width, value);
             set(state, Reg::new(0), 0);
             Ending::Made(event)
         }
-        None => Ending::NotMade(trap_of(STORE_ACCESS_FAULT, address)),
+        Err(fault) => Ending::Raises(fault_trap(state.mode, Access::Store, address, fault)),
     }
 }
 
@@ -136,15 +102,15 @@ pub fn reserve(
     width: Width,
     rd: Reg,
 ) -> Ending
-    ensures ends { hart_end memory.now (aligned address width LOAD_MISALIGNED (reserved_at (reading_of MACHINE_BASE memory.now) state.old word width rd address (bare MACHINE_BASE (length memory.now) address Load)))
-        ≡ end_of result state.new memory.now }
-    ensures stays { IfNotMade result (state.new ≡ state.old) }
+    ensures ends { attempt_of state.old.mode memory.now (aligned address width LOAD_MISALIGNED (reserved_at (reading_of MACHINE_BASE memory.now) state.old word width rd (located (bare MACHINE_BASE (length memory.now)) (reading_of MACHINE_BASE memory.now) state.old address Load)))
+        ≡ attempt_by result state.new memory.now }
+    ensures stays { IfRaises result (state.new ≡ state.old) }
 {
     if !is_aligned(address, width) {
-        return Ending::NotMade(trap_of(LOAD_MISALIGNED, address));
+        return Ending::Raises(exception(state.mode, LOAD_MISALIGNED, address));
     }
-    match place_of(memory, address, Access::Load) {
-        Some(place) => {
+    match locate(state, memory, address, Access::Load) {
+        Ok(place) => {
             let event = event_of(state.regs.pc, word);
             set(
                 state,
@@ -154,7 +120,7 @@ pub fn reserve(
             state.reservation = Some((place, width.bytes()));
             Ending::Made(event)
         }
-        None => Ending::NotMade(trap_of(LOAD_ACCESS_FAULT, address)),
+        Err(fault) => Ending::Raises(fault_trap(state.mode, Access::Load, address, fault)),
     }
 }
 
@@ -178,16 +144,16 @@ pub fn store_reserved(
     value: u64,
     rd: Reg,
 ) -> Ending
-    ensures ends { hart_end memory.old (aligned address width STORE_MISALIGNED (attempted_at state.old word width value rd address (bare MACHINE_BASE (length memory.old) address Store)))
-        ≡ end_of result state.new memory.new }
-    ensures stays { IfNotMade result ((state.new ≡ state.old) × (memory.new ≡ memory.old)) }
+    ensures ends { attempt_of state.old.mode memory.old (aligned address width STORE_MISALIGNED (attempted_at state.old word width value rd (located (bare MACHINE_BASE (length memory.old)) (reading_of MACHINE_BASE memory.old) state.old address Store)))
+        ≡ attempt_by result state.new memory.new }
+    ensures stays { IfRaises result ((state.new ≡ state.old) × (memory.new ≡ memory.old)) }
 {
     if !is_aligned(address, width) {
-        return Ending::NotMade(trap_of(STORE_MISALIGNED, address));
+        return Ending::Raises(exception(state.mode, STORE_MISALIGNED, address));
     }
-    match place_of(memory, address, Access::Store) {
-        Some(place) => attempt(state, memory, word, place, width, value, rd),
-        None => Ending::NotMade(trap_of(STORE_ACCESS_FAULT, address)),
+    match locate(state, memory, address, Access::Store) {
+        Ok(place) => attempt(state, memory, word, place, width, value, rd),
+        Err(fault) => Ending::Raises(fault_trap(state.mode, Access::Store, address, fault)),
     }
 }
 
@@ -204,8 +170,8 @@ fn attempt(
     requires from { MACHINE_BASE ≤ place }
     requires to { place < MACHINE_BASE + length memory.old }
     requires aligned { place % bytes_in width ≡ 0 }
-    ensures ends { hart_end memory.old (attempted state.old word width value rd place (is_reserved state.old.reservation place width)) ≡ end_of result state.new memory.new }
-    ensures made { IfNotMade result ⊥ }
+    ensures ends { attempt_of state.old.mode memory.old (attempted state.old word width value rd place (is_reserved state.old.reservation place width)) ≡ attempt_by result state.new memory.new }
+    ensures made { IfRaises result ⊥ }
 {
     let event = event_of(state.regs.pc, word);
     if is_reserved(state.reservation, place, width) {
@@ -231,21 +197,21 @@ pub fn modify(
     operand: u64,
     rd: Reg,
 ) -> Ending
-    ensures ends { hart_end memory.old (aligned address width STORE_MISALIGNED (modified_at (reading_of MACHINE_BASE memory.old) state.old word op width operand rd address (bare MACHINE_BASE (length memory.old) address Store)))
-        ≡ end_of result state.new memory.new }
-    ensures stays { IfNotMade result ((state.new ≡ state.old) × (memory.new ≡ memory.old)) }
+    ensures ends { attempt_of state.old.mode memory.old (aligned address width STORE_MISALIGNED (modified_at (reading_of MACHINE_BASE memory.old) state.old word op width operand rd (located (bare MACHINE_BASE (length memory.old)) (reading_of MACHINE_BASE memory.old) state.old address Store)))
+        ≡ attempt_by result state.new memory.new }
+    ensures stays { IfRaises result ((state.new ≡ state.old) × (memory.new ≡ memory.old)) }
 {
     if !is_aligned(address, width) {
-        return Ending::NotMade(trap_of(STORE_MISALIGNED, address));
+        return Ending::Raises(exception(state.mode, STORE_MISALIGNED, address));
     }
-    match place_of(memory, address, Access::Store) {
-        Some(place) => {
+    match locate(state, memory, address, Access::Store) {
+        Ok(place) => {
             let event = event_of(state.regs.pc, word);
             let held = read_at(memory, place, width);
             write_at(memory, place, width, amo(op, width, held, operand));
             set(state, rd, extend(width, true, held));
             Ending::Made(event)
         }
-        None => Ending::NotMade(trap_of(STORE_ACCESS_FAULT, address)),
+        Err(fault) => Ending::Raises(fault_trap(state.mode, Access::Store, address, fault)),
     }
 }

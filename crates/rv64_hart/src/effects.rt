@@ -2,16 +2,15 @@
 
 ghost use Rattle.std.specs.Prelude.{◌≡◌};
 ghost use Rattle.op_defs.specs.declared.ops.Effect.TheVariants.{Sets, Raises};
-ghost use Rattle.op_defs.specs.Meaning.{address_at, branch, even, holds, jump, meaning};
-ghost use Rattle.op_defs.specs.Table.{is_system};
+ghost use Rattle.op_defs.specs.Meaning.{address_at, branch, even, holds, is_none, jump, meaning, operand_of, writes};
 ghost use Rattle.machine_defs.specs.Core.{event_of};
 
 use arch_defs::{BREAKPOINT, INSTRUCTION_MISALIGNED, Reg, Regs};
 use int_ops::{alu, word_alu};
 use machine_defs::Event;
-use op_defs::{Effect, Op, Test};
+use op_defs::{CsrOp, CsrSource, Effect, Op, Privileged, Test};
 
-/// What an instruction asks for.
+/// What an instruction asks for, read off the registers.
 #[tactic(auto, unfolding(op_defs::specs::Meaning::meaning))]
 pub fn effect_of(op: &Op, regs: &Regs) -> Effect
     ensures { result ≡ meaning op.now regs.now }
@@ -109,15 +108,27 @@ pub fn effect_of(op: &Op, regs: &Regs) -> Effect
             cause: BREAKPOINT,
             tval: regs.pc,
         },
-        Op::Sret
-        | Op::Wfi
-        | Op::Csr { .. }
-        | Op::SfenceVma { .. }
-        | Op::HfenceVvma { .. }
-        | Op::HfenceGvma { .. }
-        | Op::GuestLoad { .. }
-        | Op::GuestFetch { .. }
-        | Op::GuestStore { .. } => Effect::Privileged,
+        Op::Sret => Effect::Privileged(Privileged::Sret),
+        Op::Wfi => Effect::Privileged(Privileged::Wfi),
+        Op::Csr {
+            op,
+            ref source,
+            rd,
+            number,
+        } => Effect::Privileged(Privileged::Csr {
+            op,
+            number,
+            operand: operand_of(source, regs),
+            writes: writes(op, source),
+            rd,
+        }),
+        Op::SfenceVma { .. } => Effect::Privileged(Privileged::SfenceVma),
+        Op::HfenceVvma { .. } | Op::HfenceGvma { .. } => {
+            Effect::Privileged(Privileged::HypervisorFence)
+        }
+        Op::GuestLoad { .. } | Op::GuestFetch { .. } | Op::GuestStore { .. } => {
+            Effect::Privileged(Privileged::GuestAccess)
+        }
     }
 }
 
@@ -149,6 +160,34 @@ fn holds(test: Test, a: u64, b: u64) -> bool
         Test::Ge => a.cast_signed() >= b.cast_signed(),
         Test::Ltu => a < b,
         Test::Geu => a >= b,
+    }
+}
+
+fn operand_of(source: &CsrSource, regs: &Regs) -> u64
+    ensures { result ≡ operand_of source.now regs.now }
+{
+    match *source {
+        CsrSource::Register(rs1) => regs.read(rs1),
+        CsrSource::Immediate(immediate) => immediate as u64,
+    }
+}
+
+// Whether the operand is x0, or an immediate of 0.
+fn is_none(source: &CsrSource) -> bool
+    ensures { result ≡ is_none source.now }
+{
+    match *source {
+        CsrSource::Register(rs1) => rs1.number() == 0,
+        CsrSource::Immediate(immediate) => immediate == 0,
+    }
+}
+
+fn writes(op: CsrOp, source: &CsrSource) -> bool
+    ensures { result ≡ writes op source.now }
+{
+    match op {
+        CsrOp::Write => true,
+        CsrOp::Set | CsrOp::Clear => !is_none(source),
     }
 }
 
@@ -189,7 +228,7 @@ pub fn event_of(pc: u64, word: u32) -> Event
     ensures { result ≡ event_of pc word }
 {
     if word & 0x7F == 0b1110011 {
-        Event::Other
+        Event::System
     } else {
         Event::Plain { pc, word }
     }

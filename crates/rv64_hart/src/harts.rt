@@ -5,12 +5,12 @@ ghost use Rattle.std.specs.Borrow.{sem};
 ghost use Rattle.arch_defs.specs.Registers.{virtual_at};
 ghost use Rattle.rv64_hart.specs.Endings.{counted_of, IfStops, made_in};
 ghost use Rattle.rv64_hart.specs.Loans.{LendsState};
-ghost use Rattle.rv64_hart.specs.Steps.{Exits, hart_step, hart_steps, one_more, progress, is_vs_trap, IsWhy};
+ghost use Rattle.rv64_hart.specs.Steps.{Exits, enters_vs, hart_step, hart_steps, one_more, progress, is_vs_trap, IsWhy};
 
 use crate::memory::PhysMem;
-use crate::steps::{Ending, step};
+use crate::steps::{StepEnd, step};
 use crate::tallies::Tally;
-use arch_defs::{Mode, Trap, Virtual};
+use arch_defs::{Level, Mode, Trap, Virtual};
 use machine_defs::Event;
 
 /// What the hart has of registers, CSRs, mode and reservation: the same as a lone machine, with the
@@ -132,14 +132,27 @@ fn counted_step(
     ensures entries { tally.new.entries ≡ tally.old.entries }
 {
     match step(state, memory) {
-        Ending::NotMade(trap) => Counted::Stops(trap),
-        Ending::Made(event) => {
+        StepEnd::Exits(trap) => Counted::Stops(trap),
+        StepEnd::Made(event) => {
             tally.count(&event);
-            if watch && event == Event::EntersVs {
+            if watch && enters_vs(&event) {
                 Counted::EnteredVs
             } else {
                 Counted::GoesOn
             }
         }
     }
+}
+
+// Whether a step entered VS by a trap.
+fn enters_vs(event: &Event) -> bool
+    ensures { result ≡ enters_vs event.now }
+{
+    matches!(
+        event,
+        Event::Trap {
+            level: Level::VS,
+            ..
+        }
+    )
 }

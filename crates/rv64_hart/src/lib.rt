@@ -5,6 +5,7 @@ mod accesses;
 mod effects;
 mod harts;
 mod memory;
+mod physical;
 mod steps;
 mod tallies;
 #[cfg(test)]
@@ -15,7 +16,13 @@ mod tests;
 mod tests_control;
 #[cfg(test)]
 mod tests_memory;
+#[cfg(test)]
+mod tests_translation;
+#[cfg(test)]
+mod tests_traps;
+mod translation;
 
+pub use effects::effect_of;
 pub use harts::{Hart, HartState, Stop, Why};
 pub use memory::{FRAME_SIZE, PhysMem};
 pub use steps::MACHINE_BASE;

@@ -1,81 +1,136 @@
 // One step of the hart.
 
-ghost use Rattle.std.specs.Prelude.{◌≡◌, ℕ, ◌%◌, List, length, option_map};
-ghost use Rattle.arch_defs.specs.declared.modes.Access.TheVariants.{Fetch};
+ghost use Rattle.std.specs.Prelude.{◌≡◌, ℕ, List, length, IsTrue};
+ghost use Rattle.arch_defs.specs.Interrupts.{due};
 ghost use Rattle.arch_defs.specs.Memory.{bare, reading_of};
+ghost use Rattle.arch_defs.specs.Traps.{entered_at, is_virtual, target};
 ghost use Rattle.op_defs.specs.Table.{op_of};
-ghost use Rattle.machine_defs.specs.Core.{decoded, executed, called_from};
-ghost use Rattle.rv64_hart.specs.Endings.{end_of, IfNotMade};
-ghost use Rattle.rv64_hart.specs.Steps.{Exits, hart_end, hart_step, trap_of};
+ghost use Rattle.machine_defs.specs.Core.{called_from, core, decoded, executed};
+ghost use Rattle.machine_defs.specs.Privileges.{privileged};
+ghost use Rattle.rv64_hart.specs.Endings.{attempt_by, end_of, IfExits, IfRaises};
+ghost use Rattle.rv64_hart.specs.Steps.{Raises, attempt_of, hart_step, next_attempt, trapped_to};
 
-use crate::accesses::{load, modify, place_of, reserve, store, store_reserved};
+use crate::accesses::{load, modify, reserve, store, store_reserved};
 use crate::effects::{effect_of, event_of};
 use crate::memory::PhysMem;
+use crate::physical::word_at;
+use crate::translation::{fault_trap, locate};
 use arch_defs::{
     Access, ECALL_FROM_HS, ECALL_FROM_USER, ECALL_FROM_VS, ILLEGAL_INSTRUCTION,
-    INSTRUCTION_ACCESS_FAULT, INSTRUCTION_MISALIGNED, Mode, Trap, Virtual,
+    INSTRUCTION_MISALIGNED, Level, Mode, Trap, Virtual,
 };
 use machine_defs::Event;
-use op_defs::Effect;
+use op_defs::{Effect, Privileged};
 use rv64_decode::decode;
+use system_ops::{Executed, code_of, execute};
+use trap_delegation::{enter_vs, exception, interrupt_trap, pending, target};
 
 /// The address at which machine memory begins.
 pub const MACHINE_BASE: u64 = 0x8000_0000;
 
-/// How one step ends: it was made, or it would trap to HS.
+/// What a step asks for: it was made, or it raises a trap.
 #[derive(Clone, Copy)]
 pub enum Ending {
     Made(Event),
-    NotMade(Trap),
+    Raises(Trap),
 }
 
-/// Makes one step, unless it would trap to HS.
-#[tactic(auto, unfolding(crate::specs::Steps::hart_step, machine_defs::specs::Core::core))]
-pub fn step(state: &mut Virtual, memory: &mut PhysMem) -> Ending
+/// How a step ends: it was made, which may have been a trap into VS, or it traps to HS.
+#[derive(Clone, Copy)]
+pub enum StepEnd {
+    Made(Event),
+    Exits(Trap),
+}
+
+/// Makes one step, unless it traps to HS.
+#[tactic(auto, unfolding(crate::specs::Steps::hart_step))]
+pub fn step(state: &mut Virtual, memory: &mut PhysMem) -> StepEnd
     ensures ends { hart_step state.old memory.old ≡ end_of result state.new memory.new }
-    ensures stays { IfNotMade result ((state.new ≡ state.old) × (memory.new ≡ memory.old)) }
+    ensures stays { IfExits result ((state.new ≡ state.old) × (memory.new ≡ memory.old)) }
+{
+    match attempt(state, memory) {
+        Ending::Made(event) => StepEnd::Made(event),
+        Ending::Raises(trap) => trap_to_target(state, trap),
+    }
+}
+
+// Takes a trap into VS, and leaves one to HS.
+#[tactic(auto, using(crate::proofs::Targets::virtual_to_vs))]
+fn trap_to_target(state: &mut Virtual, trap: Trap) -> StepEnd
+    ensures ends { (memory : List ℕ) → trapped_to state.old memory trap (target state.old.csrs state.old.mode trap) ≡ end_of result state.new memory }
+    ensures stays { IfExits result (state.new ≡ state.old) }
+{
+    match target(&state.csrs, state.mode, &trap) {
+        Level::VS => {
+            take_into_vs(state, &trap);
+            StepEnd::Made(Event::Trap {
+                level: Level::VS,
+                interrupt: trap.interrupt,
+            })
+        }
+        Level::HS => StepEnd::Exits(trap),
+    }
+}
+
+// Takes a trap into VS.
+fn take_into_vs(state: &mut Virtual, trap: &Trap)
+    requires { IsTrue (is_virtual state.old.mode) }
+    ensures { state.new ≡ entered_at state.old trap.now Level.VS }
+{
+    state.mode = enter_vs(&mut state.csrs, &mut state.regs, state.mode, trap);
+}
+
+// The due interrupt, or one instruction.
+fn attempt(state: &mut Virtual, memory: &mut PhysMem) -> Ending
+    ensures ends { next_attempt state.old memory.old (due state.old.csrs state.old.mode) ≡ attempt_by result state.new memory.new }
+    ensures stays { IfRaises result ((state.new ≡ state.old) × (memory.new ≡ memory.old)) }
+{
+    match pending(&state.csrs, state.mode) {
+        Some(code) => Ending::Raises(interrupt_trap(code)),
+        None => instruction(state, memory),
+    }
+}
+
+// One instruction.
+#[tactic(auto, unfolding(machine_defs::specs::Core::core))]
+fn instruction(state: &mut Virtual, memory: &mut PhysMem) -> Ending
+    ensures ends { attempt_of state.old.mode memory.old (core (bare MACHINE_BASE (length memory.old)) (reading_of MACHINE_BASE memory.old) state.old)
+        ≡ attempt_by result state.new memory.new }
+    ensures stays { IfRaises result ((state.new ≡ state.old) × (memory.new ≡ memory.old)) }
 {
     let pc = state.regs.pc;
     if pc % 4 != 0 {
-        return Ending::NotMade(trap_of(INSTRUCTION_MISALIGNED, pc));
+        return Ending::Raises(exception(state.mode, INSTRUCTION_MISALIGNED, pc));
     }
-    match fetch(memory, pc) {
-        Some(word) => instruction(state, memory, word),
-        None => Ending::NotMade(trap_of(INSTRUCTION_ACCESS_FAULT, pc)),
-    }
-}
-
-// The word at an address, if it lies in memory.
-fn fetch(memory: &PhysMem, pc: u64) -> Option<u32>
-    requires { pc % 4 ≡ 0 }
-    ensures { result ≡ option_map (λ place. reading_of MACHINE_BASE memory.now place 4) (bare MACHINE_BASE (length memory.now) pc Fetch) }
-{
-    match place_of(memory, pc, Access::Fetch) {
-        Some(place) => Some(memory.load_word(place - MACHINE_BASE)),
-        None => None,
+    match locate(state, memory, pc, Access::Fetch) {
+        Ok(place) => {
+            let word = word_at(memory, place);
+            decoded(state, memory, word)
+        }
+        Err(fault) => Ending::Raises(fault_trap(state.mode, Access::Fetch, pc, fault)),
     }
 }
 
 // The instruction that a word is.
-fn instruction(state: &mut Virtual, memory: &mut PhysMem, word: u32) -> Ending
-    ensures ends { hart_end memory.old (decoded (bare MACHINE_BASE (length memory.old)) (reading_of MACHINE_BASE memory.old) state.old word (op_of word))
-        ≡ end_of result state.new memory.new }
-    ensures stays { IfNotMade result ((state.new ≡ state.old) × (memory.new ≡ memory.old)) }
+fn decoded(state: &mut Virtual, memory: &mut PhysMem, word: u32) -> Ending
+    ensures ends { attempt_of state.old.mode memory.old (decoded (bare MACHINE_BASE (length memory.old)) (reading_of MACHINE_BASE memory.old) state.old word (op_of word))
+        ≡ attempt_by result state.new memory.new }
+    ensures stays { IfRaises result ((state.new ≡ state.old) × (memory.new ≡ memory.old)) }
 {
     match decode(word) {
         Some(op) => {
             let effect = effect_of(&op, &state.regs);
             apply(state, memory, word, effect)
         }
-        None => Ending::NotMade(trap_of(ILLEGAL_INSTRUCTION, word as u64)),
+        None => Ending::Raises(exception(state.mode, ILLEGAL_INSTRUCTION, word as u64)),
     }
 }
 
 // What an instruction's effect does.
 fn apply(state: &mut Virtual, memory: &mut PhysMem, word: u32, effect: Effect) -> Ending
-    ensures ends { hart_end memory.old (executed (bare MACHINE_BASE (length memory.old)) (reading_of MACHINE_BASE memory.old) state.old word effect)
-        ≡ end_of result state.new memory.new }
-    ensures stays { IfNotMade result ((state.new ≡ state.old) × (memory.new ≡ memory.old)) }
+    ensures ends { attempt_of state.old.mode memory.old (executed (bare MACHINE_BASE (length memory.old)) (reading_of MACHINE_BASE memory.old) state.old word effect)
+        ≡ attempt_by result state.new memory.new }
+    ensures stays { IfRaises result ((state.new ≡ state.old) × (memory.new ≡ memory.old)) }
 {
     match effect {
         Effect::Sets { rd, value, next } => {
@@ -83,7 +138,7 @@ fn apply(state: &mut Virtual, memory: &mut PhysMem, word: u32, effect: Effect) -
             state.regs.advance(rd, value, next);
             Ending::Made(event)
         }
-        Effect::Raises { cause, tval } => Ending::NotMade(trap_of(cause, tval)),
+        Effect::Raises { cause, tval } => Ending::Raises(exception(state.mode, cause, tval)),
         Effect::Loads {
             address,
             width,
@@ -109,32 +164,33 @@ fn apply(state: &mut Virtual, memory: &mut PhysMem, word: u32, effect: Effect) -
             operand,
             rd,
         } => modify(state, memory, word, op, address, width, operand, rd),
-        Effect::Calls => Ending::NotMade(trap_of(call_code(state.mode), 0)),
-        Effect::Privileged => Ending::NotMade(trap_of(ILLEGAL_INSTRUCTION, word as u64)),
+        Effect::Calls => Ending::Raises(call_trap(state.mode)),
+        Effect::Privileged(effect) => privileged(state, word, effect),
     }
 }
 
 // The exception of ECALL by mode.
-fn call_code(mode: Mode) -> u64
-    ensures { (memory : List ℕ) → hart_end memory (called_from mode) ≡ Exits (trap_of result 0) }
+fn call_trap(mode: Mode) -> Trap
+    ensures { (memory : List ℕ) → attempt_of mode memory (called_from mode) ≡ Raises result }
 {
-    match mode {
+    let cause = match mode {
         Mode::HS => ECALL_FROM_HS,
         Mode::VS => ECALL_FROM_VS,
         Mode::U | Mode::VU => ECALL_FROM_USER,
-    }
+    };
+    exception(mode, cause, 0)
 }
 
-/// A trap to the hart's HS.
-pub fn trap_of(cause: u64, tval: u64) -> Trap
-    ensures { result ≡ trap_of cause tval }
+// An instruction that the mode decides on.
+fn privileged(state: &mut Virtual, word: u32, effect: Privileged) -> Ending
+    ensures ends { (memory : List ℕ) → attempt_of state.old.mode memory (privileged state.old word effect) ≡ attempt_by result state.new memory }
+    ensures stays { IfRaises result (state.new ≡ state.old) }
 {
-    Trap {
-        cause,
-        interrupt: false,
-        tval,
-        tval2: 0,
-        gva: matches!(cause, 0 | 1 | 3..=7 | 12 | 13 | 15 | 20 | 21 | 23),
-        implicit: false,
+    match execute(state, effect) {
+        Executed::Done | Executed::Waits => Ending::Made(Event::System),
+        Executed::Unbuilt => Ending::Raises(exception(state.mode, ILLEGAL_INSTRUCTION, 0)),
+        Executed::Refused(end) => {
+            Ending::Raises(exception(state.mode, code_of(end), word as u64))
+        },
     }
 }

@@ -76,14 +76,15 @@ pub fn ran(hart: &mut Hart, memory: &mut PhysMem, given: &[(usize, u64)]) -> Sto
     hart.run(memory, 100, false, &mut Tally::new())
 }
 
-// The trap of a cause. With V = 1 stval has a guest virtual address but for an illegal instruction and a call.
+// The trap of a cause. With V = 1 stval has a guest virtual address but for an illegal or virtual instruction and a
+// call.
 pub fn trap(cause: u64, tval: u64) -> Trap {
     Trap {
         cause,
         interrupt: false,
         tval,
         tval2: 0,
-        gva: cause != 2 && cause != 10,
+        gva: !matches!(cause, 2 | 8 | 10 | 22),
         implicit: false,
     }
 }

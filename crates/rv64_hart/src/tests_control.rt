@@ -161,7 +161,7 @@ static JUMPS: [Row; 11] = [
 ];
 
 // What the hart does not make: nothing changes.
-static EXITS: [Row; 27] = [
+static EXITS: [Row; 25] = [
     Row {
         name: "LH",
         code: &[
@@ -435,30 +435,6 @@ static EXITS: [Row; 27] = [
         given: &[],
         taken: 0,
         exit: (10, 0),
-        gives: &[],
-        held: 0xFEDC_BA98_7654_3210,
-        reserved: None,
-    },
-    Row {
-        name: "a CSR word",
-        code: &[
-            0x1403_12F3, // csrrw x5, 0x140, x6
-        ],
-        given: &[(5, 7)],
-        taken: 0,
-        exit: (2, 0x1403_12F3),
-        gives: &[(5, 7)],
-        held: 0xFEDC_BA98_7654_3210,
-        reserved: None,
-    },
-    Row {
-        name: "WFI",
-        code: &[
-            0x1050_0073, // wfi
-        ],
-        given: &[],
-        taken: 0,
-        exit: (2, 0x1050_0073),
         gives: &[],
         held: 0xFEDC_BA98_7654_3210,
         reserved: None,

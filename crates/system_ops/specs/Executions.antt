@@ -1,0 +1,23 @@
+-- What `execute` answers and leaves, as the end of an instruction.
+use Rattle.std.specs.Prelude.{ℕ, None, ⊤}
+use Rattle.arch_defs.specs.declared.registers.Virtual.{Virtual}
+use Rattle.machine_defs.specs.declared.events.Event.TheVariants.{System}
+use Rattle.machine_defs.specs.Outcomes.{Outcome}
+use Rattle.machine_defs.specs.Outcomes as outcome
+use Rattle.machine_defs.specs.Privileges.{refused}
+use Rattle.system_ops.specs.declared.executing.Executed.{Executed}
+use Rattle.system_ops.specs.declared.executing.Executed.TheVariants.{Done, Waits, Unbuilt, Refused}
+
+-- how the instruction of this word ended, by the answer and the state after it
+abbrev pub outcome_of : ℕ → Executed → Virtual → Outcome
+outcome_of word Done state = outcome.Done state None System
+outcome_of word Waits state = outcome.Waits state
+outcome_of word Unbuilt state = outcome.Unbuilt
+outcome_of word (Refused end) state = refused word end
+
+-- where the instruction was not made
+abbrev pub IfNotMade : Executed → Type 0 → Type 0
+IfNotMade Done P = ⊤
+IfNotMade Waits P = ⊤
+IfNotMade Unbuilt P = P
+IfNotMade (Refused end) P = P

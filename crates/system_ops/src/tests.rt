@@ -1,0 +1,328 @@
+// Values worked out from the Privileged Architecture 20211203 and from chapter 9 of the Unprivileged ISA 20191213.
+
+use crate::{Executed, execute};
+use arch_defs::{CsrEnd, Csrs, Interrupts, Mode, Reg, SupervisorRoot, SupervisorStatus, Virtual};
+use op_defs::{CsrOp, Privileged};
+
+const START: u64 = 0x8000_0000;
+
+const DONE: Executed = Executed::Done;
+
+const WAITS: Executed = Executed::Waits;
+
+const UNBUILT: Executed = Executed::Unbuilt;
+
+const ILLEGAL: Executed = Executed::Refused(CsrEnd::Illegal);
+
+const VIRTUAL: Executed = Executed::Refused(CsrEnd::Virtual);
+
+const ALL: Interrupts = Interrupts {
+    software: true,
+    timer: true,
+    external: true,
+};
+
+/// An instruction on a register, with x5 as rd.
+fn csr(op: CsrOp, number: u16, operand: u64, writes: bool) -> Privileged {
+    Privileged::Csr {
+        op,
+        number,
+        operand,
+        writes,
+        rd: Reg::new(5),
+    }
+}
+
+/// CSRRS x5, number, x0.
+fn reads(number: u16) -> Privileged {
+    csr(CsrOp::Set, number, 0, false)
+}
+
+/// CSRRW x5, number with this operand.
+fn writes(number: u16, operand: u64) -> Privileged {
+    csr(CsrOp::Write, number, operand, true)
+}
+
+/// How an instruction ends, and the state after it, with 7 in x5 before.
+fn after(csrs: Csrs, mode: Mode, effect: &Privileged) -> (Executed, Virtual) {
+    let mut state = Virtual::starting_at(mode, START);
+    state.csrs = csrs;
+    state.regs.x[5] = 7;
+    let end = execute(&mut state, *effect);
+    (end, state)
+}
+
+/// How an instruction ends in HS, U, VS and VU.
+fn ends(csrs: Csrs, effect: &Privileged) -> (Executed, Executed, Executed, Executed) {
+    let (hs, _) = after(csrs, Mode::HS, effect);
+    let (u, _) = after(csrs, Mode::U, effect);
+    let (vs, _) = after(csrs, Mode::VS, effect);
+    let (vu, _) = after(csrs, Mode::VU, effect);
+    (hs, u, vs, vu)
+}
+
+/// Registers in which time is 5 with V = 0, and 5 - 3 with V = 1, shown or not to the modes below.
+fn timed(shown: bool) -> Csrs {
+    let mut csrs = Csrs::at_reset();
+    csrs.time = 5;
+    csrs.htimedelta = u64::MAX - 2;
+    csrs.hcounteren_tm = shown;
+    csrs.scounteren_tm = shown;
+    csrs
+}
+
+/// Registers with one trapping bit of hstatus.
+fn trapping(vtvm: bool, vtw: bool, vtsr: bool) -> Csrs {
+    let mut csrs = Csrs::at_reset();
+    csrs.hstatus.vtvm = vtvm;
+    csrs.hstatus.vtw = vtw;
+    csrs.hstatus.vtsr = vtsr;
+    csrs
+}
+
+// CSRRW, CSRRS and CSRRC on sscratch with 1100 in it: what it has then. rd gets 1100. A register operand may have
+// 64 bits, an immediate has five. CSRRS and CSRRC write unless the operand is x0 or the immediate 0; CSRRW always does
+// (Unprivileged ISA, 9.1).
+#[test]
+fn operations(rt: HostRuntime) {
+    for (op, operand, writes, want) in [
+        (CsrOp::Write, 0b1010, true, 0b1010),
+        (CsrOp::Set, 0b1010, true, 0b1110),
+        (CsrOp::Clear, 0b1010, true, 0b0100),
+        (CsrOp::Write, 0, true, 0),
+        (CsrOp::Set, 0, true, 0b1100),
+        (CsrOp::Clear, 0, true, 0b1100),
+        (CsrOp::Set, 0, false, 0b1100),
+        (CsrOp::Clear, 0, false, 0b1100),
+        (CsrOp::Write, 0b11111, true, 0b11111),
+        (CsrOp::Set, 0b11111, true, 0b11111),
+        (CsrOp::Clear, 0b11111, true, 0),
+        (CsrOp::Write, u64::MAX - 1, true, u64::MAX - 1),
+        (CsrOp::Set, 1 << 63, true, (1 << 63) + 0b1100),
+        (CsrOp::Clear, u64::MAX - 0b1000, true, 0b1000),
+    ] {
+        let mut csrs = Csrs::at_reset();
+        csrs.hs.scratch = 0b1100;
+        let (end, state) = after(csrs, Mode::HS, &csr(op, 0x140, operand, writes));
+        assert_eq!(rt;
+            (end, state.csrs.hs.scratch),
+            (DONE, want),
+            "{op:?} {operand}"
+        );
+        assert_eq!(rt; (state.regs.x[5], state.regs.pc), (0b1100, START + 4));
+    }
+}
+
+// rd may be x0, which stays 0; pc goes on modulo 2^64 (Unprivileged ISA, 1.4).
+#[test]
+fn last_address(rt: HostRuntime) {
+    let mut state = Virtual::starting_at(Mode::VS, u64::MAX - 3);
+    state.csrs.vs.scratch = 9;
+    let effect = Privileged::Csr {
+        op: CsrOp::Write,
+        number: 0x140,
+        operand: 8,
+        writes: true,
+        rd: Reg::new(0),
+    };
+    assert_eq!(rt; execute(&mut state, effect), DONE);
+    assert_eq!(rt; (state.regs.x[0], state.regs.pc), (0, 0));
+    assert_eq!(rt; (state.csrs.vs.scratch, state.csrs.hs.scratch), (8, 0));
+}
+
+// Numbers in HS, U, VS and VU, read and written: sstatus, sie, satp, scounteren and sscratch; vsstatus, vsatp, hstatus
+// and hgatp; mstatus, cycle and two more that name nothing; time and hgeip, which are read-only (2.1, 8.6.1).
+#[test]
+fn numbers(rt: HostRuntime) {
+    for number in [0x100, 0x104, 0x180, 0x106, 0x140] {
+        let want = (DONE, ILLEGAL, DONE, VIRTUAL);
+        assert_eq!(rt; ends(timed(true), &reads(number)), want, "{number:x}");
+        assert_eq!(rt; ends(timed(true), &writes(number, 0)), want, "{number:x}");
+    }
+    for number in [0x200, 0x280, 0x600, 0x680] {
+        let want = (UNBUILT, ILLEGAL, VIRTUAL, VIRTUAL);
+        assert_eq!(rt; ends(timed(true), &reads(number)), want, "{number:x}");
+        assert_eq!(rt; ends(timed(true), &writes(number, 0)), want, "{number:x}");
+    }
+    for number in [0x300, 0xC00, 0x2FF, 0x6FF] {
+        let want = (ILLEGAL, ILLEGAL, ILLEGAL, ILLEGAL);
+        assert_eq!(rt; ends(timed(true), &reads(number)), want, "{number:x}");
+        assert_eq!(rt; ends(timed(true), &writes(number, 0)), want, "{number:x}");
+    }
+    for number in [0xC01, 0xE12] {
+        for op in [CsrOp::Write, CsrOp::Set, CsrOp::Clear] {
+            let want = (ILLEGAL, ILLEGAL, ILLEGAL, ILLEGAL);
+            let effect = csr(op, number, 0, true);
+            assert_eq!(rt; ends(timed(true), &effect), want, "{op:?} {number:x}");
+        }
+    }
+}
+
+// CSRRS and CSRRC of x0 read a read-only register: time, and hgeip (8.2.4, 8.2.6, 4.1.5).
+#[test]
+fn read_only_registers(rt: HostRuntime) {
+    for op in [CsrOp::Set, CsrOp::Clear] {
+        let time = csr(op, 0xC01, 0, false);
+        assert_eq!(rt; ends(timed(true), &time), (UNBUILT, UNBUILT, DONE, DONE));
+        assert_eq!(rt;
+            ends(timed(false), &time),
+            (UNBUILT, ILLEGAL, VIRTUAL, VIRTUAL)
+        );
+        let hgeip = csr(op, 0xE12, 0, false);
+        assert_eq!(rt;
+            ends(timed(true), &hgeip),
+            (UNBUILT, ILLEGAL, VIRTUAL, VIRTUAL)
+        );
+        for mode in [Mode::VS, Mode::VU] {
+            let (_, state) = after(timed(true), mode, &time);
+            assert_eq!(rt; (state.regs.x[5], state.regs.pc), (2, START + 4));
+        }
+    }
+}
+
+// In VS the numbers of sstatus, sie, sip and satp name the registers of VS, and those of HS stay
+// (8.2.11, 8.2.12, 8.2.18; 8.2.2 for vsie and vsip).
+#[test]
+fn aliases(rt: HostRuntime) {
+    let mut csrs = Csrs::at_reset();
+    csrs.hideleg = ALL;
+    csrs.hvip = ALL;
+    let (_, state) = after(csrs, Mode::VS, &csr(CsrOp::Set, 0x100, 0x4_0002, true));
+    let status = SupervisorStatus {
+        sie: true,
+        spie: false,
+        spp: false,
+        sum: true,
+        mxr: false,
+    };
+    assert_eq!(rt;
+        (state.regs.x[5], state.csrs.vs.status),
+        (0x2_0000_0000, status)
+    );
+    assert_eq!(rt; state.csrs.hs, csrs.hs);
+    let (_, state) = after(csrs, Mode::VS, &writes(0x104, 0x222));
+    assert_eq!(rt; (state.regs.x[5], state.csrs.hie), (0, ALL));
+    assert_eq!(rt; state.csrs.sie, csrs.sie);
+    let (_, state) = after(csrs, Mode::VS, &csr(CsrOp::Clear, 0x144, 0x222, true));
+    assert_eq!(rt; (state.regs.x[5], state.csrs.hvip.software), (0x222, false));
+    assert!(rt; state.csrs.hvip.timer && state.csrs.hvip.external);
+    let (_, state) = after(csrs, Mode::VS, &writes(0x180, (8 << 60) + 3));
+    let root = SupervisorRoot::Sv39 { asid: 0, page: 3 };
+    assert_eq!(rt;
+        (state.csrs.vs.atp, state.csrs.hs.atp),
+        (root, SupervisorRoot::Bare)
+    );
+}
+
+// satp in VS with VTVM (8.2.1); what is refused, or not built, changes neither the registers nor rd and pc.
+#[test]
+fn not_made(rt: HostRuntime) {
+    let csrs = trapping(true, false, false);
+    for (mode, effect, want) in [
+        (Mode::VS, writes(0x180, (8 << 60) + 3), VIRTUAL),
+        (Mode::VS, reads(0x180), VIRTUAL),
+        (Mode::VS, writes(0x240, 9), VIRTUAL),
+        (Mode::HS, writes(0x240, 9), UNBUILT),
+        (Mode::U, writes(0x140, 9), ILLEGAL),
+        (Mode::VU, writes(0x140, 9), VIRTUAL),
+    ] {
+        let (end, state) = after(csrs, mode, &effect);
+        assert_eq!(rt; end, want);
+        assert_eq!(rt; (state.regs.x[5], state.regs.pc), (7, START));
+        assert_eq!(rt; state.csrs, csrs);
+    }
+    assert_eq!(rt;
+        ends(csrs, &reads(0x180)),
+        (DONE, ILLEGAL, VIRTUAL, VIRTUAL)
+    );
+}
+
+// SRET in HS goes to U and HS by SPP, in VS to VU and VS (4.1.1, 8.6.4). One in HS with SPV, which sets V, is not built so far.
+#[test]
+fn returns(rt: HostRuntime) {
+    for (mode, spv, spp, want, to, pc) in [
+        (Mode::HS, false, false, DONE, Mode::U, START + 0x100),
+        (Mode::HS, false, true, DONE, Mode::HS, START + 0x100),
+        (Mode::HS, true, false, UNBUILT, Mode::HS, START),
+        (Mode::HS, true, true, UNBUILT, Mode::HS, START),
+        (Mode::VS, false, false, DONE, Mode::VU, START + 0x200),
+        (Mode::VS, true, true, DONE, Mode::VS, START + 0x200),
+    ] {
+        let mut csrs = Csrs::at_reset();
+        csrs.hs.epc = START + 0x100;
+        csrs.vs.epc = START + 0x200;
+        csrs.hstatus.spv = spv;
+        csrs.hs.status.spp = spp;
+        csrs.vs.status.spp = spp;
+        let (end, state) = after(csrs, mode, &Privileged::Sret);
+        assert_eq!(rt; (end, state.mode, state.regs.pc), (want, to, pc));
+        assert_eq!(rt; state.regs.x[5], 7);
+    }
+}
+
+// SRET by mode, and with VTSR; WFI with VTW; SFENCE.VMA with VTVM (8.2.1, 8.6.1).
+#[test]
+fn trapping_bits(rt: HostRuntime) {
+    for (csrs, effect, want) in [
+        (
+            trapping(true, true, false),
+            Privileged::Sret,
+            (DONE, ILLEGAL, DONE, VIRTUAL),
+        ),
+        (
+            trapping(false, false, true),
+            Privileged::Sret,
+            (DONE, ILLEGAL, VIRTUAL, VIRTUAL),
+        ),
+        (
+            trapping(true, false, true),
+            Privileged::Wfi,
+            (WAITS, ILLEGAL, WAITS, VIRTUAL),
+        ),
+        (
+            trapping(false, true, false),
+            Privileged::Wfi,
+            (WAITS, ILLEGAL, VIRTUAL, VIRTUAL),
+        ),
+        (
+            trapping(false, true, true),
+            Privileged::SfenceVma,
+            (DONE, ILLEGAL, DONE, VIRTUAL),
+        ),
+        (
+            trapping(true, false, false),
+            Privileged::SfenceVma,
+            (DONE, ILLEGAL, VIRTUAL, VIRTUAL),
+        ),
+    ] {
+        assert_eq!(rt; ends(csrs, &effect), want, "{effect:?}");
+    }
+}
+
+// HFENCE is for HS alone; HLV, HLVX and HSV are for HS, and for U with HU (8.2.1, 8.6.1).
+#[test]
+fn hypervisor_instructions(rt: HostRuntime) {
+    let closed = Csrs::at_reset();
+    let mut open = closed;
+    open.hstatus.hu = true;
+    let fence = Privileged::HypervisorFence;
+    let access = Privileged::GuestAccess;
+    assert_eq!(rt; ends(closed, &fence), (UNBUILT, ILLEGAL, VIRTUAL, VIRTUAL));
+    assert_eq!(rt; ends(open, &fence), (UNBUILT, ILLEGAL, VIRTUAL, VIRTUAL));
+    assert_eq!(rt; ends(closed, &access), (UNBUILT, ILLEGAL, VIRTUAL, VIRTUAL));
+    assert_eq!(rt; ends(open, &access), (UNBUILT, UNBUILT, VIRTUAL, VIRTUAL));
+}
+
+// WFI and SFENCE.VMA change nothing but pc.
+#[test]
+fn only_the_pc_goes_on(rt: HostRuntime) {
+    for mode in [Mode::HS, Mode::VS] {
+        for effect in [Privileged::Wfi, Privileged::SfenceVma] {
+            let (_, state) = after(timed(true), mode, &effect);
+            let mut want = Virtual::starting_at(mode, START + 4);
+            want.csrs = timed(true);
+            want.regs.x[5] = 7;
+            assert_eq!(rt; state, want);
+        }
+    }
+}
