@@ -1,3 +1,2 @@
-pub mod Agreement
-pub mod Entries
+pub mod Steps
 pub mod Turns

@@ -80,14 +80,33 @@ fn a_full_console(rt: HostRuntime) -> Result<(), Fail> {
     Ok(())
 }
 
-// An image of no bytes: the word 0 is no instruction, and its trap is outside what is built.
+// An image of no bytes: the word 0 is illegal, its trap goes to address 0, and each fetch there is an access fault. The
+// hart takes all of these, and none is plain.
 #[test]
-fn an_illegal_word_is_outside(rt: HostRuntime) -> Result<(), Fail> {
+fn traps_are_steps(rt: HostRuntime) -> Result<(), Fail> {
     let mut host = Host::boot(rt.alloc(), guest(rt.alloc(), 1, 1, &[])?)?;
+    let mut tally = Tally::new();
+    assert_eq!(rt; host.turn(10, &mut tally), 10);
+    assert_eq!(rt; host.status(), Status::Running);
+    assert_eq!(rt; host.steps(), 10);
+    assert_eq!(rt;
+        (tally.entries(), tally.taken(), tally.trace()),
+        (10, 10, 0)
+    );
+    Ok(())
+}
+
+// WFI in HS is not built so far.
+#[test]
+fn a_wait_is_outside(rt: HostRuntime) -> Result<(), Fail> {
+    let wfi = [0x73, 0x00, 0x50, 0x10]; // 10500073
+    let mut host = Host::boot(rt.alloc(), guest(rt.alloc(), 1, 1, &wfi)?)?;
     let mut tally = Tally::new();
     assert_eq!(rt; host.turn(10, &mut tally), 0);
     assert_eq!(rt; host.status(), Status::Outside);
     assert_eq!(rt; host.steps(), 0);
+    assert_eq!(rt; (tally.entries(), tally.taken()), (1, 0));
+    assert_eq!(rt; host.turn(10, &mut tally), 0);
     assert_eq!(rt; tally.entries(), 1);
     Ok(())
 }

@@ -9,6 +9,8 @@ mod obeying;
 mod running;
 #[cfg(test)]
 mod tests;
+#[cfg(test)]
+mod tests_kernel;
 mod top;
 
 pub use top::nesthv;

@@ -120,7 +120,7 @@ fn config(
 }
 
 /// The bytes of these instructions, and zeros after them up to this length.
-fn image(alloc: Global, words: &[u32], length: usize) -> Result<Vec<u8>, AllocError> {
+pub fn image(alloc: Global, words: &[u32], length: usize) -> Result<Vec<u8>, AllocError> {
     let mut bytes = Vec::new(alloc);
     for word in words {
         bytes.extend_from_slice(&word.to_le_bytes())?;
@@ -219,23 +219,43 @@ fn is_reported(alloc: Global, case: Case<'_>, report: &str) -> Result<bool, Allo
 }
 
 /// Images, each with its length if zeros come after the instructions, and the report of one turn of 10,000 steps.
-const IMAGES: [(&[u32], usize, &str); 12] = [
-    // lui t0, 1; a word outside
-    (&[0x0000_12B7, 0], 0, "guest a outside steps 1 bytes 0\n\n"),
+const IMAGES: [(&[u32], usize, &str); 18] = [
+    // lui t0, 1; the word 0 is illegal: the trap goes to address 0, where each fetch is an access fault, and so on
+    (
+        &[0x0000_12B7, 0],
+        0,
+        "guest a running steps 10000 bytes 0\n\n",
+    ),
     // no instruction at all
-    (&[], 0, "guest a outside steps 0 bytes 0\n\n"),
+    (&[], 0, "guest a running steps 10000 bytes 0\n\n"),
     // jal zero, 0
     (&[0x0000_006F], 0, "guest a running steps 10000 bytes 0\n\n"),
-    // jal zero, 2
-    (&[0x0020_006F], 0, "guest a outside steps 0 bytes 0\n\n"),
+    // jal zero, 2, which is misaligned
+    (&[0x0020_006F], 0, "guest a running steps 10000 bytes 0\n\n"),
     // jal zero, -4, out of memory
-    (&[0xFFDF_F06F], 0, "guest a outside steps 1 bytes 0\n\n"),
+    (&[0xFFDF_F06F], 0, "guest a running steps 10000 bytes 0\n\n"),
+    // lw zero, 2(zero), which is misaligned
+    (&[0x0020_2003], 0, "guest a running steps 10000 bytes 0\n\n"),
+    // csrrs a0, cycle, zero, which is unlisted
+    (&[0xC000_2573], 0, "guest a running steps 10000 bytes 0\n\n"),
+    // csrrw zero, time, zero, which is read-only
+    (&[0xC010_1073], 0, "guest a running steps 10000 bytes 0\n\n"),
     // ecall with a7 = 0
     (&[0x0000_0073], 0, "guest a outside steps 0 bytes 0\n\n"),
-    // lw zero, 2(zero), which is misaligned
-    (&[0x0020_2003], 0, "guest a outside steps 0 bytes 0\n\n"),
-    // csrrs a0, cycle, zero
-    (&[0xC000_2573], 0, "guest a outside steps 0 bytes 0\n\n"),
+    // lui t0, 1; wfi
+    (
+        &[0x0000_12B7, 0x1050_0073],
+        0,
+        "guest a outside steps 1 bytes 0\n\n",
+    ),
+    // hfence.gvma zero, zero
+    (&[0x6200_0073], 0, "guest a outside steps 0 bytes 0\n\n"),
+    // csrrs a0, hstatus, zero
+    (&[0x6000_2573], 0, "guest a outside steps 0 bytes 0\n\n"),
+    // csrrs a0, vsstatus, zero
+    (&[0x2000_2573], 0, "guest a outside steps 0 bytes 0\n\n"),
+    // csrrs a0, time, zero
+    (&[0xC010_2573], 0, "guest a outside steps 0 bytes 0\n\n"),
     (&PUTS_A, BLOCK, "guest a stopped steps 5 bytes 1\nA\n"),
     (
         &SQUARES,
@@ -352,6 +372,117 @@ fn configurations_refused(rt: HostRuntime) -> Result<(), Fail> {
             (left.store.asked().len(), left.tally.entries()),
             (reads, 0)
         );
+    }
+    Ok(())
+}
+
+/// Under Sv39, puts the byte of a page, stores another entry for the page, puts the byte
+/// that the page then has, and stops.
+const SUPERVISOR: [u32; 16] = [
+    0x0000_0417, // auipc s0, 0
+    0x4004_3283, // ld t0, 0x400(s0)
+    0x1802_9073, // csrrw zero, satp, t0
+    0x0000_14B7, // lui s1, 1
+    0x0000_63B7, // lui t2, 6
+    0x0083_83B3, // add t2, t2, s0
+    0x0004_C503, // lbu a0, 0(s1)
+    0x0010_0893, // addi a7, zero, 1
+    0x0000_0073, // ecall
+    0x4084_3303, // ld t1, 0x408(s0)
+    0x0063_B423, // sd t1, 8(t2)
+    0x0004_C503, // lbu a0, 0(s1)
+    0x0010_0893, // addi a7, zero, 1
+    0x0000_0073, // ecall
+    0x0080_0893, // addi a7, zero, 8
+    0x0000_0073, // ecall
+];
+
+/// What stands behind these instructions, each doubleword at its offset.
+const TABLES: [(usize, u64); 8] = [
+    (0x400, 0x8000_0000_0008_0004), // satp: the root is at 80004000
+    (0x408, 0x2000_2C43), // the entry that is stored: a page at 8000B000
+    (0x4000, 0x2000_1401), // the root's entry 0: the next table is at 80005000
+    (0x4010, 0x2000_00CF), // its entry 2: 1 GiB at 80000000
+    (0x5000, 0x2000_1801), // the last table is at 80006000
+    (0x6008, 0x2000_2843), // the entry for the page at 1000: at 8000A000
+    (0xA000, 0x41), // `A`
+    (0xB000, 0x42), // `B`
+];
+
+/// Lets the software interrupt come in a loop, and puts its code as a digit.
+const INTERRUPTED: [u32; 13] = [
+    0x0000_0317, // auipc t1, 0
+    0x01C3_0313, // addi t1, t1, 28
+    0x1053_1073, // csrrw zero, stvec, t1
+    0x1041_6073, // csrrsi zero, sie, 2
+    0x1441_6073, // csrrsi zero, sip, 2
+    0x1001_6073, // csrrsi zero, sstatus, 2
+    0x0000_006F, // jal zero, 0
+    0x1420_2573, // csrrs a0, scause, zero
+    0x0305_0513, // addi a0, a0, 48
+    0x0010_0893, // addi a7, zero, 1
+    0x0000_0073, // ecall
+    0x0080_0893, // addi a7, zero, 8
+    0x0000_0073, // ecall
+];
+
+/// The instructions and the tables.
+fn supervisor_image(alloc: Global) -> Result<Vec<u8>, AllocError> {
+    let mut bytes = image(alloc, &SUPERVISOR, 0)?;
+    for (offset, value) in TABLES {
+        if bytes.len() < offset {
+            bytes.resize(offset, 0)?;
+        }
+        bytes.extend_from_slice(&value.to_le_bytes())?;
+    }
+    Ok(bytes)
+}
+
+/// Whether the run of an image ends with this report, in one turn of 10,000 steps and in 10,000 turns of one step.
+pub fn is_reported_of_bytes(alloc: Global, image: &[u8], report: &str) -> Result<bool, AllocError> {
+    for (quantum, rounds) in [(10_000, 1), (1, 10_000)] {
+        let config = config(alloc, quantum, rounds, 16, 100)?;
+        let left = outcome(alloc, &RUN, config.as_str(), image, NONE)?;
+        if !left.is(0, report.as_bytes(), b"") {
+            return Ok(false);
+        }
+    }
+    Ok(true)
+}
+
+#[test]
+fn a_stored_entry_is_seen(rt: HostRuntime) -> Result<(), Fail> {
+    let image = supervisor_image(rt.alloc())?;
+    let report = "guest a stopped steps 16 bytes 2\nAB\n";
+    assert!(rt; is_reported_of_bytes(rt.alloc(), image.as_slice(), report)?);
+    Ok(())
+}
+
+#[test]
+fn software_interrupt(rt: HostRuntime) -> Result<(), Fail> {
+    let image = image(rt.alloc(), &INTERRUPTED, 0)?;
+    let report = "guest a stopped steps 13 bytes 1\n1\n";
+    assert!(rt; is_reported_of_bytes(rt.alloc(), image.as_slice(), report)?);
+    Ok(())
+}
+
+/// The word 0 is illegal, its trap goes to address 0, and each fetch there is an access fault.
+#[test]
+fn image_of_zeros(rt: HostRuntime) -> Result<(), Fail> {
+    for length in [0, BLOCK] {
+        for (quantum, rounds, report) in [
+            (10, 1, "guest a running steps 10 bytes 0\n\n"),
+            (1, 10_000, "guest a running steps 10000 bytes 0\n\n"),
+        ] {
+            let case = Case {
+                words: &[],
+                length,
+                quantum,
+                rounds,
+                console: 100,
+            };
+            assert!(rt; is_reported(rt.alloc(), case, report)?, "{length}");
+        }
     }
     Ok(())
 }
