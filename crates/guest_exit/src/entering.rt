@@ -13,8 +13,8 @@ use arch_defs::Virtual;
 use rv64_hart::{Hart, PhysMem, Stop, Tally, Why};
 
 /// Enters the hart for one step of the guest. Where the hart makes it, it is the lone machine's, and the guest has
-/// what the hart has for it; where the hart stops before it, at a trap to its HS, nothing has changed, and
-/// `handle` makes it.
+/// what the hart has for it, fixed up after a trap into VS. Where the hart stops before it, at a trap to its HS,
+/// guest and memory are as they were, and the step is for `handle`.
 pub fn enter(guest: &mut Guest, hart: &mut Hart, memory: &mut PhysMem, tally: &mut Tally) -> Stop
     requires running { guest.old.status ≡ Running }
     requires built { IsBuilt guest.old }

@@ -36,7 +36,8 @@ pub enum Handled {
     Outside,
 }
 
-/// Makes the step before which the hart has stopped for this trap.
+/// Makes the step before which the hart has stopped for this trap, or sets the status to outside where it is
+/// not built.
 #[tactic(auto, using(crate::proofs::Entries::left))]
 pub fn handle(guest: &mut Guest, memory: &PhysMem, trap: &Trap) -> Handled
     requires running { guest.old.status ≡ Running }

@@ -26,7 +26,7 @@ pub enum Executed {
     Refused(CsrEnd),
 }
 
-/// Makes what an instruction asks for, unless its mode does not allow it.
+/// Makes what an instruction asks for, unless its mode does not allow it or it is not built so far.
 #[tactic(auto, unfolding(machine_defs::specs::Privileges::privileged))]
 pub fn execute(state: &mut Virtual, effect: Privileged) -> Executed
     ensures ends { (word : ℕ) → privileged state.old word effect ≡ outcome_of word result state.new }
