@@ -1,5 +1,6 @@
--- Reads and writes of the control and status registers, by mode and number: a value or new registers, an illegal
--- instruction (code 2), or a virtual instruction (code 22) (Privileged Architecture 20211203, 2.1, 4.1, 8.2 and 8.6.1).
+-- Reads and writes of the control and status registers, by mode and number: a value or new registers, an
+-- illegal instruction (code 2), or a virtual instruction (code 22) (Privileged Architecture 20211203, 2.1,
+-- 4.1, 8.2 and 8.6.1).
 use Rattle.std.specs.Prelude.{ℕ, ◌+◌, ◌%◌, ◌^◌, ◌&&◌, Option, Some, None, Result, Ok, Err, nat_le, if◌then◌else◌}
 use Rattle.arch_defs.specs.declared.modes.Mode.{Mode}
 use Rattle.arch_defs.specs.declared.modes.Mode.TheVariants.{HS, U, VS, VU}
@@ -19,10 +20,11 @@ use Rattle.arch_defs.specs.declared.csr_names.CsrEnd.{CsrEnd}
 use Rattle.arch_defs.specs.declared.csr_names.CsrEnd.TheVariants.{Illegal, Virtual}
 use Rattle.arch_defs.specs.CsrNames.{register_of}
 use Rattle.arch_defs.specs.Bits.{bit}
-use Rattle.arch_defs.specs.CsrBits.{bit_at, status_number, status_of, hstatus_number, hstatus_of, supervisor_number, supervisor_interrupts, virtual_number, virtual_interrupts, delegated, delegated_become, tvec_bits, epc_bits, hedeleg_bits, supervisor_root_number, supervisor_root_of, guest_root_number, guest_root_of}
+use Rattle.arch_defs.specs.CsrBits.{bit_number, status_number, status_of, hstatus_number, hstatus_of, supervisor_number, supervisor_interrupts, virtual_number, virtual_interrupts, delegated, delegated_become, tvec_bits, epc_bits, hedeleg_bits, supervisor_root_number, supervisor_root_of, guest_root_number, guest_root_of}
 
--- what a register of a bank shows: sstatus 4.1.1, stvec 4.1.2, sscratch 4.1.6, sepc 4.1.7, scause 4.1.8, stval 4.1.9,
--- satp 4.1.11; vsstatus 8.2.11, vstvec 8.2.13, vsscratch 8.2.14, vsepc 8.2.15, vscause 8.2.16, vstval 8.2.17, vsatp 8.2.18
+-- what a register of a bank shows: sstatus 4.1.1, stvec 4.1.2, sscratch 4.1.6, sepc 4.1.7, scause 4.1.8,
+-- stval 4.1.9, satp 4.1.11; vsstatus 8.2.11, vstvec 8.2.13, vsscratch 8.2.14, vsepc 8.2.15, vscause 8.2.16,
+-- vstval 8.2.17, vsatp 8.2.18. scause, stval and their copies hold all values (own)
 unfoldable pub bank_shown : Bank → BankRegister → ℕ
 bank_shown bank Status = status_number bank.status
 bank_shown bank Tvec = tvec_bits bank.tvec
@@ -42,8 +44,8 @@ bank_written bank Cause v = record bank { cause = v }
 bank_written bank Tval v = record bank { tval = v }
 bank_written bank Atp v = record bank { atp = supervisor_root_of bank.atp v }
 
--- sie and sip 4.1.3; vsie and vsip 8.2.12, which show hie and hip, shifted, where hideleg delegates; hideleg 8.2.2;
--- hie, hip and hvip 8.2.3; hip shows hvip
+-- sie and sip 4.1.3; vsie and vsip 8.2.12, which show hie and hip, shifted, where hideleg delegates; hideleg
+-- 8.2.2; hie, hip and hvip 8.2.3; hip shows hvip
 unfoldable pub interrupts_shown : Csrs → InterruptRegister → ℕ
 interrupts_shown csrs Sie = supervisor_number csrs.sie
 interrupts_shown csrs Sip = supervisor_number csrs.sip
@@ -58,20 +60,25 @@ interrupts_shown csrs Hvip = virtual_number csrs.hvip
 unfoldable pub interrupts_written : Csrs → InterruptRegister → ℕ → Csrs
 interrupts_written csrs Sie v = record csrs { sie = supervisor_interrupts v }
 interrupts_written csrs Sip v = record csrs { sip = record csrs.sip { software = bit 1 v } }
-interrupts_written csrs Vsie v = record csrs { hie = delegated_become csrs.hideleg csrs.hie (supervisor_interrupts v) }
+interrupts_written csrs Vsie v =
+    record csrs { hie = delegated_become csrs.hideleg csrs.hie (supervisor_interrupts v) }
 interrupts_written csrs Vsip v =
-    record csrs { hvip = record csrs.hvip { software = if csrs.hideleg.software then bit 1 v else csrs.hvip.software } }
+    record csrs {
+      hvip =
+          record csrs.hvip { software = if csrs.hideleg.software then bit 1 v else csrs.hvip.software };
+    }
 interrupts_written csrs Hideleg v = record csrs { hideleg = virtual_interrupts v }
 interrupts_written csrs Hie v = record csrs { hie = virtual_interrupts v }
 interrupts_written csrs Hip v = record csrs { hvip = record csrs.hvip { software = bit 2 v } }
 interrupts_written csrs Hvip v = record csrs { hvip = virtual_interrupts v }
 
--- scounteren 4.1.5 and hcounteren 8.2.6: TM 1; senvcfg 4.1.10 and henvcfg 8.2.5: FIOM 0, which has no effect here
+-- scounteren 4.1.5 and hcounteren 8.2.6: TM 1; senvcfg 4.1.10 and henvcfg 8.2.5: FIOM 0, which has no effect
+-- here
 unfoldable pub bit_shown : Csrs → BitRegister → ℕ
-bit_shown csrs Scounteren = bit_at 1 csrs.scounteren_tm
-bit_shown csrs Senvcfg = bit_at 0 csrs.senvcfg_fiom
-bit_shown csrs Hcounteren = bit_at 1 csrs.hcounteren_tm
-bit_shown csrs Henvcfg = bit_at 0 csrs.henvcfg_fiom
+bit_shown csrs Scounteren = bit_number 1 csrs.scounteren_tm
+bit_shown csrs Senvcfg = bit_number 0 csrs.senvcfg_fiom
+bit_shown csrs Hcounteren = bit_number 1 csrs.hcounteren_tm
+bit_shown csrs Henvcfg = bit_number 0 csrs.henvcfg_fiom
 
 unfoldable pub bit_written : Csrs → BitRegister → ℕ → Csrs
 bit_written csrs Scounteren v = record csrs { scounteren_tm = bit 1 v }
@@ -80,7 +87,7 @@ bit_written csrs Hcounteren v = record csrs { hcounteren_tm = bit 1 v }
 bit_written csrs Henvcfg v = record csrs { henvcfg_fiom = bit 0 v }
 
 -- hstatus 8.2.1, hedeleg 8.2.2, htimedelta 8.2.7, htval 8.2.8, htinst 8.2.9, hgatp 8.2.10;
--- hgeie and hgeip 8.2.4 read zero, as GEILEN is 0
+-- hgeie and hgeip 8.2.4 read zero, as GEILEN is 0 (own); htval and htinst hold all values (own)
 unfoldable pub hypervisor_shown : Csrs → HypervisorRegister → ℕ
 hypervisor_shown csrs Hstatus = hstatus_number csrs.hstatus
 hypervisor_shown csrs Hedeleg = hedeleg_bits csrs.hedeleg
@@ -126,8 +133,9 @@ unfoldable pub reached_in_u : Csrs → Register → Result Register CsrEnd
 reached_in_u csrs Time = if csrs.scounteren_tm then Ok Time else Err Illegal
 reached_in_u csrs r = Err Illegal
 
--- in VS a number of a supervisor register names the VS copy (8.2.11 to 8.2.18); scounteren and senvcfg have none.
--- A virtual instruction is satp with VTVM = 1 (8.2.1), time that hcounteren keeps back (8.2.6), and what HS alone reaches (8.6.1)
+-- in VS a number of a supervisor register names the VS copy (8.2.11 to 8.2.18); scounteren and senvcfg have
+-- none. A virtual instruction is satp with VTVM = 1 (8.2.1), time that hcounteren keeps back (8.2.6), and
+-- what HS alone reaches (8.6.1; own: these decide between codes 2 and 22)
 unfoldable pub reached_in_vs : Csrs → Register → Result Register CsrEnd
 reached_in_vs csrs (Supervisor Atp) = if csrs.hstatus.vtvm then Err Virtual else Ok (VirtualSupervisor Atp)
 reached_in_vs csrs (Supervisor r) = Ok (VirtualSupervisor r)
@@ -138,7 +146,8 @@ reached_in_vs csrs (Bit Senvcfg) = Ok (Bit Senvcfg)
 reached_in_vs csrs Time = if csrs.hcounteren_tm then Ok GuestTime else Err Virtual
 reached_in_vs csrs r = Err Virtual
 
--- VU reaches time alone, where hcounteren and scounteren let it (8.2.6, 4.1.5); all else is a virtual instruction (8.6.1)
+-- VU reaches time alone, where hcounteren and scounteren let it (8.2.6, 4.1.5); all else is a virtual
+-- instruction (8.6.1)
 unfoldable pub reached_in_vu : Csrs → Register → Result Register CsrEnd
 reached_in_vu csrs Time = if csrs.hcounteren_tm && csrs.scounteren_tm then Ok GuestTime else Err Virtual
 reached_in_vu csrs r = Err Virtual

@@ -1,4 +1,4 @@
--- Fields of words, sign extension, and arithmetic on 64 bits.
+-- Fields of words, sign extension, and arithmetic on 64 bits (Unprivileged ISA 20191213, 2.3 and 2.4).
 use Rattle.std.specs.Prelude.{ℕ, ◌+◌, ◌-◌, ◌/◌, ◌%◌, ◌^◌, nat_lt, if◌then◌else◌, Bool, ◌==◌}
 
 -- the n bits of a word from bit `low` on

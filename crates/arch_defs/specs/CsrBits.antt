@@ -11,9 +11,9 @@ use Rattle.arch_defs.specs.declared.registers.GuestRoot.TheVariants as guest_roo
 use Rattle.arch_defs.specs.Bits.{bit, field}
 
 -- the number that has bit i where it is set
-abbrev pub bit_at : ℕ → Bool → ℕ
-bit_at i true = 2 ^ i
-bit_at i false = 0
+abbrev pub bit_number : ℕ → Bool → ℕ
+bit_number i true = 2 ^ i
+bit_number i false = 0
 
 -- UXL or VSXL, bits 33:32: 2, which is a width of 64 bits (4.1.1.1, 8.2.1)
 abbrev pub width_64 : ℕ
@@ -21,7 +21,9 @@ width_64 = 2 * 2 ^ 32
 
 -- sstatus and vsstatus (4.1.1, 8.2.11): SIE 1, SPIE 5, SPP 8, SUM 18, MXR 19; UXL reads 2
 unfoldable pub status_number : SupervisorStatus → ℕ
-status_number s = bit_at 1 s.sie + bit_at 5 s.spie + bit_at 8 s.spp + bit_at 18 s.sum + bit_at 19 s.mxr + width_64
+status_number s =
+    bit_number 1 s.sie + bit_number 5 s.spie + bit_number 8 s.spp + bit_number 18 s.sum + bit_number 19 s.mxr
+    + width_64
 
 unfoldable pub status_of : ℕ → SupervisorStatus
 status_of v = record { sie = bit 1 v; spie = bit 5 v; spp = bit 8 v; sum = bit 18 v; mxr = bit 19 v }
@@ -29,21 +31,31 @@ status_of v = record { sie = bit 1 v; spie = bit 5 v; spp = bit 8 v; sum = bit 1
 -- hstatus (8.2.1): GVA 6, SPV 7, SPVP 8, HU 9, VTVM 20, VTW 21, VTSR 22; VSXL reads 2
 unfoldable pub hstatus_number : HypervisorStatus → ℕ
 hstatus_number s =
-    bit_at 6 s.gva + bit_at 7 s.spv + bit_at 8 s.spvp + bit_at 9 s.hu + bit_at 20 s.vtvm + bit_at 21 s.vtw + bit_at 22 s.vtsr + width_64
+    bit_number 6 s.gva + bit_number 7 s.spv + bit_number 8 s.spvp + bit_number 9 s.hu + bit_number 20 s.vtvm
+    + bit_number 21 s.vtw + bit_number 22 s.vtsr + width_64
 
 unfoldable pub hstatus_of : ℕ → HypervisorStatus
-hstatus_of v = record { gva = bit 6 v; spv = bit 7 v; spvp = bit 8 v; hu = bit 9 v; vtvm = bit 20 v; vtw = bit 21 v; vtsr = bit 22 v }
+hstatus_of v = record {
+  gva = bit 6 v;
+  spv = bit 7 v;
+  spvp = bit 8 v;
+  hu = bit 9 v;
+  vtvm = bit 20 v;
+  vtw = bit 21 v;
+  vtsr = bit 22 v;
+}
 
--- the interrupts of a supervisor level, in sie, sip, vsie and vsip (4.1.3, 8.2.12): software 1, timer 5, external 9
+-- the interrupts of a supervisor level, in sie, sip, vsie and vsip (4.1.3, 8.2.12): software 1, timer 5,
+-- external 9
 unfoldable pub supervisor_number : Interrupts → ℕ
-supervisor_number s = bit_at 1 s.software + bit_at 5 s.timer + bit_at 9 s.external
+supervisor_number s = bit_number 1 s.software + bit_number 5 s.timer + bit_number 9 s.external
 
 unfoldable pub supervisor_interrupts : ℕ → Interrupts
 supervisor_interrupts v = record { software = bit 1 v; timer = bit 5 v; external = bit 9 v }
 
 -- the interrupts of VS, in hideleg, hie, hip and hvip (8.2.2, 8.2.3): each one bit higher
 unfoldable pub virtual_number : Interrupts → ℕ
-virtual_number s = bit_at 2 s.software + bit_at 6 s.timer + bit_at 10 s.external
+virtual_number s = bit_number 2 s.software + bit_number 6 s.timer + bit_number 10 s.external
 
 unfoldable pub virtual_interrupts : ℕ → Interrupts
 virtual_interrupts v = record { software = bit 2 v; timer = bit 6 v; external = bit 10 v }
@@ -64,7 +76,7 @@ delegated_become hideleg before after = record {
   external = if hideleg.external then after.external else before.external;
 }
 
--- stvec and vstvec (4.1.2, 8.2.13): all but bit 1, so MODE is direct or vectored
+-- stvec and vstvec (4.1.2, 8.2.13): all but bit 1, so MODE is direct or vectored (own)
 unfoldable pub tvec_bits : ℕ → ℕ
 tvec_bits v = field 2 62 v * 2 ^ 2 + field 0 1 v
 
@@ -81,19 +93,20 @@ unfoldable pub supervisor_root_number : SupervisorRoot → ℕ
 supervisor_root_number supervisor_root.Bare = 0
 supervisor_root_number (supervisor_root.Sv39 asid page) = 8 * 2 ^ 60 + asid % 2 ^ 16 * 2 ^ 44 + page % 2 ^ 44
 
--- MODE 8 is Sv39 and 0 is Bare, stored as 0; a write of another MODE has no effect
+-- MODE 8 is Sv39 and 0 is Bare, stored as 0 (own); a write of another MODE has no effect
 unfoldable pub supervisor_root_of : SupervisorRoot → ℕ → SupervisorRoot
 supervisor_root_of kept v =
     if field 60 4 v == 8 then supervisor_root.Sv39 (field 44 16 v) (field 0 44 v)
     else if field 60 4 v == 0 then supervisor_root.Bare
     else kept
 
--- hgatp (8.2.10): MODE 63:60, VMID 50:44, of 7 bits, PPN 43:0 of a root that is 16 KiB aligned, so its bits 1:0 are zero
+-- hgatp (8.2.10): MODE 63:60, VMID 50:44, of 7 bits (own), PPN 43:0 of a root that is 16 KiB aligned, so its
+-- bits 1:0 are zero
 unfoldable pub guest_root_number : GuestRoot → ℕ
 guest_root_number guest_root.Bare = 0
 guest_root_number (guest_root.Sv39x4 vmid page) = 8 * 2 ^ 60 + vmid % 2 ^ 7 * 2 ^ 44 + field 2 42 page * 2 ^ 2
 
--- MODE 8 is Sv39x4; 0, and another MODE, is Bare, stored as 0
+-- MODE 8 is Sv39x4; 0, and another MODE (own), is Bare, stored as 0 (own)
 unfoldable pub guest_root_of : ℕ → GuestRoot
 guest_root_of v =
     if field 60 4 v == 8 then guest_root.Sv39x4 (field 44 7 v) (field 2 42 v * 2 ^ 2)

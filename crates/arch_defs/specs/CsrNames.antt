@@ -56,7 +56,7 @@ hypervisor_register n =
     else if n == 0x680 then Some (Hypervisor hypervisor.Hgatp)
     else None
 
--- C00 to FFF are read-only (2.1)
+-- C00 to FFF are read-only (2.1); cycle and instret are none of these registers (own)
 unfoldable pub read_only_register : ℕ → Option Register
 read_only_register n =
     if n == 0xC01 then Some Time

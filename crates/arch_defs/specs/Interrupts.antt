@@ -39,8 +39,8 @@ is_enabled csrs code = supervisor_bit csrs.sie code || guest_bit csrs.hie code
 abbrev pub level_of : Csrs → ℕ → Level
 level_of csrs code = if guest_bit csrs.hideleg code then level.VS else level.HS
 
--- whether a level takes interrupts now: HS in each mode below it, in HS where sstatus.SIE is set; VS in VU, in VS where
--- vsstatus.SIE is set, and never with V = 0 (4.1.1, 4.1.3, 8.2.11)
+-- whether a level takes interrupts now: HS in each mode below it, in HS where sstatus.SIE is set; VS in VU,
+-- in VS where vsstatus.SIE is set, and never with V = 0 (4.1.1, 4.1.3, 8.2.11)
 abbrev pub takes : Csrs → Mode → Level → Bool
 takes csrs HS level.HS = csrs.hs.status.sie
 takes csrs U level.HS = true
@@ -53,14 +53,16 @@ takes csrs VU level.VS = true
 
 -- whether an interrupt is pending, enabled and HS's, or VS's
 abbrev pub is_ready_for_hs : Csrs → ℕ → Bool
-is_ready_for_hs csrs code = is_pending csrs code && is_enabled csrs code && (if guest_bit csrs.hideleg code then false else true)
+is_ready_for_hs csrs code =
+    is_pending csrs code && is_enabled csrs code && (if guest_bit csrs.hideleg code then false else true)
 
 abbrev pub is_ready_for_vs : Csrs → ℕ → Bool
 is_ready_for_vs csrs code = is_pending csrs code && is_enabled csrs code && guest_bit csrs.hideleg code
 
 -- the orders of interrupts of HS (8.2.3) and of VS (4.1.3): external, software, timer, HS's own first
 abbrev pub hs_order : List ℕ
-hs_order = SUPERVISOR_EXTERNAL ∷ SUPERVISOR_SOFTWARE ∷ SUPERVISOR_TIMER ∷ VS_EXTERNAL ∷ VS_SOFTWARE ∷ VS_TIMER ∷ []
+hs_order =
+    SUPERVISOR_EXTERNAL ∷ SUPERVISOR_SOFTWARE ∷ SUPERVISOR_TIMER ∷ VS_EXTERNAL ∷ VS_SOFTWARE ∷ VS_TIMER ∷ []
 
 abbrev pub vs_order : List ℕ
 vs_order = VS_EXTERNAL ∷ VS_SOFTWARE ∷ VS_TIMER ∷ []
@@ -76,6 +78,7 @@ due_for_vs csrs mode = if takes csrs mode level.VS then find (is_ready_for_vs cs
 unfoldable pub due : Csrs → Mode → Option ℕ
 due csrs mode = option_or (due_for_hs csrs mode) (due_for_vs csrs mode)
 
--- the trap of an interrupt: stval, htval and htinst get 0 (4.1.9, 8.2.8, 8.6.3)
+-- the trap of an interrupt: stval gets 0 (own), and so do htval and htinst (4.1.9, 8.2.8, 8.6.3)
 abbrev pub interrupt_of : ℕ → Trap
-interrupt_of code = record { cause = code; interrupt = true; tval = 0; tval2 = 0; gva = false; implicit = false }
+interrupt_of code =
+    record { cause = code; interrupt = true; tval = 0; tval2 = 0; gva = false; implicit = false }

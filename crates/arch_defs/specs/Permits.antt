@@ -1,12 +1,13 @@
--- Whether a leaf permits an access (Privileged Architecture 20211203, 4.1.1, 4.3.1, 4.3.2 step 5, 8.3.1 and 8.5.1).
+-- Whether a leaf permits an access (Privileged Architecture 20211203, 4.1.1, 4.3.1, 4.3.2 step 5, 8.3.1 and
+-- 8.5.1).
 use Rattle.std.specs.Prelude.{Bool, false, not, ◌&&◌, ◌||◌, if◌then◌else◌}
 use Rattle.arch_defs.specs.declared.modes.Access.{Access}
 use Rattle.arch_defs.specs.declared.modes.Access.TheVariants.{Fetch, Load, Store, ExecLoad, Implicit}
 use Rattle.arch_defs.specs.declared.walks.LeafEntry.{LeafEntry}
 use Rattle.arch_defs.specs.declared.walks.Privilege.{Privilege}
 
--- the right that each kind of access needs: with MXR a page that can be executed can be loaded from (4.1.1); HLVX needs X
--- in place of R, whatever MXR is (8.3.1); MXR has no part in implicit reads
+-- the right that each kind of access needs: with MXR a page that can be executed can be loaded from (4.1.1);
+-- HLVX needs X in place of R, whatever MXR is (8.3.1); MXR has no part in implicit reads (own)
 abbrev pub has_right : Bool → Access → LeafEntry → Bool
 has_right mxr Fetch leaf = leaf.x
 has_right mxr Load leaf = leaf.r || (mxr && leaf.x)
@@ -24,7 +25,8 @@ may_touch_user_page sum Implicit = sum
 
 -- user mode needs U (4.3.1)
 abbrev pub is_open_to : Privilege → Access → LeafEntry → Bool
-is_open_to privilege access leaf = if leaf.u then privilege.user || may_touch_user_page privilege.sum access else not privilege.user
+is_open_to privilege access leaf =
+    if leaf.u then privilege.user || may_touch_user_page privilege.sum access else not privilege.user
 
 -- the first stage
 unfoldable pub permits_first : Privilege → Access → LeafEntry → Bool

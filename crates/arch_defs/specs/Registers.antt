@@ -17,10 +17,11 @@ read regs n = slice_index regs.x n
 
 -- register rd becomes a value, if it is not x0, and pc the next address (Unprivileged ISA 20191213, 2.1)
 abbrev pub advanced : Regs → ℕ → ℕ → ℕ → Regs
-advanced regs rd value next = if rd == 0 then record regs { pc = next } else record { x = slice_set regs.x rd value; pc = next }
+advanced regs rd value next =
+    if rd == 0 then record regs { pc = next } else record { x = slice_set regs.x rd value; pc = next }
 
--- the registers with an argument and the answer of a call of the environment, a0, with a second answer, a1, and with its
--- number, a7
+-- the registers with an argument and the answer of a call of the environment, a0, with a second answer, a1,
+-- and with its number, a7
 abbrev pub a0 : ℕ
 a0 = 10
 
@@ -41,12 +42,21 @@ abbrev pub clear_supervisor_status : SupervisorStatus
 clear_supervisor_status = record { sie = false; spie = false; spp = false; sum = false; mxr = false }
 
 abbrev pub clear_hypervisor_status : HypervisorStatus
-clear_hypervisor_status = record { gva = false; spv = false; spvp = false; hu = false; vtvm = false; vtw = false; vtsr = false }
+clear_hypervisor_status =
+    record { gva = false; spv = false; spvp = false; hu = false; vtvm = false; vtw = false; vtsr = false }
 
 abbrev pub bank_at_reset : Bank
-bank_at_reset = record { status = clear_supervisor_status; tvec = 0; scratch = 0; epc = 0; cause = 0; tval = 0; atp = supervisor_root.Bare }
+bank_at_reset = record {
+  status = clear_supervisor_status;
+  tvec = 0;
+  scratch = 0;
+  epc = 0;
+  cause = 0;
+  tval = 0;
+  atp = supervisor_root.Bare;
+}
 
-unfoldable pub csrs_at_reset : Csrs
+abbrev pub csrs_at_reset : Csrs
 csrs_at_reset = record {
   hs = bank_at_reset;
   vs = bank_at_reset;

@@ -1,4 +1,5 @@
--- The first stage, whose table is read through the second (Privileged Architecture 20211203, 4.3.2, 4.4 and 8.5).
+-- The first stage, whose table is read through the second (Privileged Architecture 20211203, 4.3.2, 4.4 and
+-- 8.5).
 use Rattle.std.specs.Prelude.{ℕ, ◌%◌, ◌^◌, true, false, ◌||◌, Option, Some, None, Result, Ok, Err, if◌then◌else◌}
 use Rattle.arch_defs.specs.declared.modes.Access.{Access}
 use Rattle.arch_defs.specs.declared.modes.Access.TheVariants.{Implicit}
@@ -27,29 +28,40 @@ bank_of csrs U = csrs.hs
 bank_of csrs VS = csrs.vs
 bank_of csrs VU = csrs.vs
 
--- as whom a mode's accesses are translated: with V = 1 sstatus.MXR counts beside vsstatus.MXR (4.1.1.2, 8.5)
+-- as whom a mode's accesses are translated: with V = 1 sstatus.MXR counts beside vsstatus.MXR (8.5)
 abbrev pub privilege_of : Csrs → Mode → Privilege
 privilege_of csrs HS = record { user = false; sum = csrs.hs.status.sum; mxr = csrs.hs.status.mxr }
 privilege_of csrs U = record { user = true; sum = csrs.hs.status.sum; mxr = csrs.hs.status.mxr }
-privilege_of csrs VS = record { user = false; sum = csrs.vs.status.sum; mxr = csrs.vs.status.mxr || csrs.hs.status.mxr }
-privilege_of csrs VU = record { user = true; sum = csrs.vs.status.sum; mxr = csrs.vs.status.mxr || csrs.hs.status.mxr }
+privilege_of csrs VS =
+    record { user = false; sum = csrs.vs.status.sum; mxr = csrs.vs.status.mxr || csrs.hs.status.mxr }
+privilege_of csrs VU =
+    record { user = true; sum = csrs.vs.status.sum; mxr = csrs.vs.status.mxr || csrs.hs.status.mxr }
 
--- the trap of a read of an entry alone, where the second stage has no place for it; the access that it serves gets a trap
--- of its own
-abbrev pub no_entry : ℕ → Trap
-no_entry at = record { cause = LOAD_ACCESS_FAULT; interrupt = false; tval = at; tval2 = 0; gva = false; implicit = true }
+-- the trap of the read of an entry by itself, where the second stage has no place for it. A walk hands it on,
+-- and the access that the walk serves gets a trap of its own in its place
+abbrev pub unread : ℕ → Trap
+unread at = record {
+  cause = LOAD_ACCESS_FAULT;
+  interrupt = false;
+  tval = at;
+  tval2 = 0;
+  gva = false;
+  implicit = true;
+}
 
--- the entry at a guest physical address, by its physical address, if it has one
-abbrev pub entry_at : Reading → ℕ → Option ℕ → Result ℕ Trap
-entry_at reading at (Some place) = Ok (reading place 8)
-entry_at reading at None = Err (no_entry at)
+-- the word of the entry at a guest physical address, by its physical address, if it has one
+abbrev pub entry_word_at : Reading → ℕ → Option ℕ → Result ℕ Trap
+entry_word_at reading at (Some place) = Ok (reading place 8)
+entry_word_at reading at None = Err (unread at)
 
-abbrev pub entries_through : SecondStage → Reading → EntryReading
-entries_through second reading at = entry_at reading at (second at Implicit)
+-- the words of entries, each at the place that the second stage has for it
+abbrev pub entry_words_through : SecondStage → Reading → EntryReading
+entry_words_through second reading at = entry_word_at reading at (second at Implicit)
 
 -- what a walk's end is to an access
 abbrev pub found_by : Privilege → Access → ℕ → WalkEnd → Found
-found_by privilege access va (Leaf leaf) = if permits_first privilege access leaf then Passes (leaf_address leaf va) else PageFaults
+found_by privilege access va (Leaf leaf) =
+    if permits_first privilege access leaf then Passes (leaf_address leaf va) else PageFaults
 found_by privilege access va PageFault = PageFaults
 found_by privilege access va (FetchEnd place trap) = Lacks place
 
@@ -57,8 +69,9 @@ found_by privilege access va (FetchEnd place trap) = Lacks place
 abbrev pub found_under : SecondStage → Reading → Privilege → ℕ → Access → SupervisorRoot → Found
 found_under second reading privilege va access root.Bare = Passes va
 found_under second reading privilege va access (root.Sv39 asid page) =
-    found_by privilege access va (walk (entries_through second reading) (page % 2 ^ 44) Sv39 va access)
+    found_by privilege access va (walk (entry_words_through second reading) (page % 2 ^ 44) Sv39 va access)
 
 -- what the first stage makes of a virtual address for an access
 unfoldable pub first_stage : SecondStage → Reading → Csrs → Mode → ℕ → Access → Found
-first_stage second reading csrs mode va access = found_under second reading (privilege_of csrs mode) va access (bank_of csrs mode).atp
+first_stage second reading csrs mode va access =
+    found_under second reading (privilege_of csrs mode) va access (bank_of csrs mode).atp

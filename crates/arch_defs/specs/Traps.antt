@@ -1,7 +1,8 @@
--- Traps: where they go, what their entry and SRET change (Privileged Architecture 20211203, chapters 4 and 8).
-use Rattle.std.specs.Prelude.{ℕ, Bool, true, false, ◌+◌, ◌-◌, ◌*◌, ◌/◌, ◌%◌, ◌^◌, ◌==◌, ◌&&◌, ◌||◌, nat_lt, if◌then◌else◌, [], ◌∷◌}
+-- Traps: where they go, what their entry and SRET change (Privileged Architecture 20211203, chapters 4 and
+-- 8).
+use Rattle.std.specs.Prelude.{ℕ, Bool, true, false, not, ◌+◌, ◌-◌, ◌*◌, ◌/◌, ◌%◌, ◌^◌, ◌==◌, ◌&&◌, nat_lt, if◌then◌else◌, [], ◌∷◌}
 use Rattle.std.specs.List.{list_any}
-use Rattle.arch_defs.specs.Bits.{add64, field}
+use Rattle.arch_defs.specs.Bits.{add64, bit}
 use Rattle.arch_defs.specs.declared.levels.Level.{Level}
 use Rattle.arch_defs.specs.declared.levels.Level.TheVariants as level
 use Rattle.arch_defs.specs.declared.modes.Access.{Access}
@@ -9,11 +10,12 @@ use Rattle.arch_defs.specs.declared.modes.Access.TheVariants.{Fetch, Load, Store
 use Rattle.arch_defs.specs.declared.modes.Mode.{Mode}
 use Rattle.arch_defs.specs.declared.modes.Mode.TheVariants.{HS, U, VS, VU}
 use Rattle.arch_defs.specs.declared.modes.Trap.{Trap}
-use Rattle.arch_defs.specs.declared.modes.TheConstants.{INSTRUCTION_ACCESS_FAULT, LOAD_ACCESS_FAULT, STORE_ACCESS_FAULT, INSTRUCTION_PAGE_FAULT, LOAD_PAGE_FAULT, STORE_PAGE_FAULT}
+use Rattle.arch_defs.specs.declared.modes.TheConstants.{INSTRUCTION_MISALIGNED, LOAD_MISALIGNED, STORE_MISALIGNED, INSTRUCTION_ACCESS_FAULT, LOAD_ACCESS_FAULT, STORE_ACCESS_FAULT, INSTRUCTION_PAGE_FAULT, LOAD_PAGE_FAULT, STORE_PAGE_FAULT}
 use Rattle.arch_defs.specs.declared.registers.Bank.{Bank}
 use Rattle.arch_defs.specs.declared.registers.Csrs.{Csrs}
 use Rattle.arch_defs.specs.declared.registers.Regs.{Regs}
 use Rattle.arch_defs.specs.declared.registers.Virtual.{Virtual}
+use Rattle.arch_defs.specs.declared.walks.Unplaced.{Unplaced}
 use Rattle.arch_defs.specs.Interrupts.{guest_bit}
 
 -- V, the virtualization mode (8.1)
@@ -39,27 +41,48 @@ mode_of true false = VU
 
 -- whether hideleg or hedeleg has a code's bit (8.2.2)
 abbrev pub is_delegated : Csrs → Bool → ℕ → Bool
-is_delegated csrs interrupt code = if interrupt then guest_bit csrs.hideleg code else nat_lt code 64 && (field code 1 csrs.hedeleg == 1)
+is_delegated csrs interrupt code =
+    if interrupt then guest_bit csrs.hideleg code else nat_lt code 64 && bit code csrs.hedeleg
 
--- where a trap goes: to VS with V = 1 where hideleg has the interrupt, hedeleg the exception; else to HS (8.2.2, 8.6.2)
+-- where a trap goes: to VS with V = 1 where hideleg has the interrupt, hedeleg the exception; else to HS
+-- (8.2.2, 8.6.2)
 unfoldable pub target : Csrs → Mode → Trap → Level
-target csrs mode trap = if is_virtual mode && is_delegated csrs trap.interrupt trap.cause then level.VS else level.HS
+target csrs mode trap =
+    if is_virtual mode && is_delegated csrs trap.interrupt trap.cause then level.VS else level.HS
 
--- whether stval gets an address for this exception (4.1.9)
+-- whether stval gets an address for this exception (4.1.9; own: these and no others)
 abbrev pub is_address_code : ℕ → Bool
-is_address_code code = list_any (λ c. c == code) (0 ∷ 1 ∷ 3 ∷ 4 ∷ 5 ∷ 6 ∷ 7 ∷ 12 ∷ 13 ∷ 15 ∷ 20 ∷ 21 ∷ 23 ∷ [])
+is_address_code code =
+    list_any (λ c. c == code) (0 ∷ 1 ∷ 3 ∷ 4 ∷ 5 ∷ 6 ∷ 7 ∷ 12 ∷ 13 ∷ 15 ∷ 20 ∷ 21 ∷ 23 ∷ [])
 
--- whether an exception writes a guest virtual address to stval: with V = 1, or by the access of HLV, HLVX or HSV (8.2.1, GVA)
-abbrev pub has_guest_address : Mode → Bool → ℕ → Bool
-has_guest_address mode by_guest_access code = (by_guest_access || is_virtual mode) && is_address_code code
+-- whether an exception writes a guest virtual address to stval, by the mode as which the instruction or its
+-- access is made: HLV, HLVX and HSV make theirs as VS or VU (8.2.1, GVA; own: with each code that gives stval
+-- an address)
+abbrev pub has_guest_address : Mode → ℕ → Bool
+has_guest_address mode code = is_virtual mode && is_address_code code
 
--- an exception from a mode that no guest access caused, with no guest physical address
+-- an exception of an instruction or an access made as this mode, with no guest physical address
 abbrev pub exception : Mode → ℕ → ℕ → Trap
-exception mode cause tval =
-    record { cause = cause; interrupt = false; tval = tval; tval2 = 0; gva = has_guest_address mode false cause; implicit = false }
+exception mode cause tval = record {
+  cause = cause;
+  interrupt = false;
+  tval = tval;
+  tval2 = 0;
+  gva = has_guest_address mode cause;
+  implicit = false;
+}
 
--- the access fault of an access that could not be made, and its page fault (4.1.8; LR faults as a load, SC and AMO as a
--- store). An implicit read serves another access, whose fault is taken, so the lines for it are for completeness
+-- the faults of an access by its kind: at an address that is no multiple of its width, where memory has no
+-- place for it, and where the first stage does not translate it (4.1.8; LR faults as a load, SC and AMO as a
+-- store). An implicit read serves another access, whose fault is taken, so the lines for it are for
+-- completeness
+abbrev pub misaligned_fault : Access → ℕ
+misaligned_fault Fetch = INSTRUCTION_MISALIGNED
+misaligned_fault Load = LOAD_MISALIGNED
+misaligned_fault ExecLoad = LOAD_MISALIGNED
+misaligned_fault Implicit = LOAD_MISALIGNED
+misaligned_fault Store = STORE_MISALIGNED
+
 abbrev pub access_fault : Access → ℕ
 access_fault Fetch = INSTRUCTION_ACCESS_FAULT
 access_fault Load = LOAD_ACCESS_FAULT
@@ -74,16 +97,22 @@ page_fault ExecLoad = LOAD_PAGE_FAULT
 page_fault Implicit = LOAD_PAGE_FAULT
 page_fault Store = STORE_PAGE_FAULT
 
+-- the access fault of an access that has no place, made as whom the access is
+abbrev pub unplaced_fault : Unplaced → Trap
+unplaced_fault unplaced = exception unplaced.mode (access_fault unplaced.access) unplaced.va
+
 -- what scause or vscause gets: the code, and bit 63 for an interrupt (4.1.8)
 abbrev pub cause_of : Bool → ℕ → ℕ
 cause_of interrupt code = if interrupt then 2 ^ 63 + code % 2 ^ 63 else code
 
--- where a trap's handler is: at tvec's base, but an interrupt in mode 1 at 4 times its code beyond it (4.1.2, 8.2.13)
+-- where a trap's handler is: at tvec's base, but an interrupt in mode 1 at 4 times its code beyond it (4.1.2,
+-- 8.2.13)
 abbrev pub handler_of : ℕ → Bool → ℕ → ℕ
-handler_of tvec interrupt code = if interrupt && (tvec % 4 == 1) then add64 (tvec / 4 * 4) (4 * code) else tvec / 4 * 4
+handler_of tvec interrupt code =
+    if interrupt && (tvec % 4 == 1) then add64 (tvec / 4 * 4) (4 * code) else tvec / 4 * 4
 
--- a level's own registers after a trap into it, from privilege S or U, at pc (4.1.1, 4.1.7 to 4.1.9; for VS 8.2.11,
--- 8.2.15 to 8.2.17)
+-- a level's own registers after a trap into it, from privilege S or U, at pc (4.1.1, 4.1.7 to 4.1.9; for VS
+-- 8.2.11, 8.2.15 to 8.2.17)
 abbrev pub entered_bank : Bank → Bool → ℕ → ℕ → ℕ → Bank
 entered_bank bank supervisor pc cause tval = record bank {
   status = record bank.status { spp = supervisor; spie = bank.status.sie; sie = false };
@@ -94,7 +123,8 @@ entered_bank bank supervisor pc cause tval = record bank {
 
 -- a level's own registers after its SRET (4.1.1)
 abbrev pub returned_bank : Bank → Bank
-returned_bank bank = record bank { status = record bank.status { sie = bank.status.spie; spie = true; spp = false } }
+returned_bank bank =
+    record bank { status = record bank.status { sie = bank.status.spie; spie = true; spp = false } }
 
 -- what a trap or an SRET leaves: the registers and the mode
 pub record Arrival : Type 0 where
@@ -106,9 +136,19 @@ pub record Arrival : Type 0 where
 abbrev pub spvp_after : Csrs → Mode → Bool
 spvp_after csrs mode = if is_virtual mode then is_supervisor mode else csrs.hstatus.spvp
 
--- htinst after a trap into HS: the pseudoinstruction of the implicit read of a first-stage entry, else 0 (8.2.9, 8.6.3)
+-- whether a trap is a guest-page fault: of a fetch, a load, or a store or atomic operation (8.6.1)
+abbrev pub is_guest_page_fault : Trap → Bool
+is_guest_page_fault trap = not trap.interrupt && list_any (λ c. c == trap.cause) (20 ∷ 21 ∷ 23 ∷ [])
+
+-- htval after a trap into HS: for a guest-page fault always the guest physical address, shifted right by 2
+-- (own); else 0 (8.2.8)
+abbrev pub htval_of : Trap → ℕ
+htval_of trap = if is_guest_page_fault trap then trap.tval2 else 0
+
+-- htinst after a trap into HS: for a guest-page fault of the implicit read of a first-stage entry the
+-- pseudoinstruction, but 0 where htval is 0 (own); else 0 (own: no transformed instruction) (8.2.9, 8.6.3)
 abbrev pub htinst_of : Trap → ℕ
-htinst_of trap = if trap.tval2 == 0 then 0 else if trap.implicit then 0x3000 else 0
+htinst_of trap = if trap.implicit && is_guest_page_fault trap && not (trap.tval2 == 0) then 0x3000 else 0
 
 -- a trap into HS (8.6.2; 8.2.1 for hstatus, 8.2.8 for htval)
 unfoldable pub entered_hs : Csrs → Regs → Mode → Trap → Arrival
@@ -116,14 +156,15 @@ entered_hs csrs regs mode trap = record {
   csrs = record csrs {
     hs = entered_bank csrs.hs (is_supervisor mode) regs.pc (cause_of trap.interrupt trap.cause) trap.tval;
     hstatus = record csrs.hstatus { gva = trap.gva; spv = is_virtual mode; spvp = spvp_after csrs mode };
-    htval = trap.tval2;
+    htval = htval_of trap;
     htinst = htinst_of trap;
   };
   regs = record regs { pc = handler_of csrs.hs.tvec trap.interrupt trap.cause };
   mode = HS;
 }
 
--- the code that VS sees: a VS-level interrupt as the supervisor interrupt that it stands for, one less (8.2.2)
+-- the code that VS sees: a VS-level interrupt as the supervisor interrupt that it stands for, one less
+-- (8.2.2)
 abbrev pub vs_code_of : Trap → ℕ
 vs_code_of trap = if trap.interrupt then trap.cause - 1 else trap.cause
 
@@ -131,7 +172,9 @@ vs_code_of trap = if trap.interrupt then trap.cause - 1 else trap.cause
 unfoldable pub entered_vs : Csrs → Regs → Mode → Trap → Arrival
 entered_vs csrs regs mode trap = record {
   csrs = record csrs {
-    vs = entered_bank csrs.vs (is_supervisor mode) regs.pc (cause_of trap.interrupt (vs_code_of trap)) trap.tval;
+    vs =
+        entered_bank csrs.vs (is_supervisor mode) regs.pc (cause_of trap.interrupt (vs_code_of trap))
+        trap.tval;
   };
   regs = record regs { pc = handler_of csrs.vs.tvec trap.interrupt (vs_code_of trap) };
   mode = VS;
@@ -157,7 +200,7 @@ returned_from_vs csrs regs = record {
 unfoldable pub returned : Csrs → Regs → Mode → Arrival
 returned csrs regs mode = if is_virtual mode then returned_from_vs csrs regs else returned_from_hs csrs regs
 
--- a state after a trap or an SRET; the reservation stays
+-- a state after a trap or an SRET; the reservation stays (own)
 abbrev pub arrived : Virtual → Arrival → Virtual
 arrived state arrival = record state { csrs = arrival.csrs; regs = arrival.regs; mode = arrival.mode }
 

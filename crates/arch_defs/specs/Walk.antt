@@ -1,5 +1,5 @@
--- The table walk (Privileged Architecture 20211203, 4.3.2 for Sv39 as 4.4 has it, and 8.5.1 for Sv39x4), by the list of
--- the entries that it meets, top level first.
+-- The table walk (Privileged Architecture 20211203, 4.3.2 for Sv39 as 4.4 has it, and 8.5.1 for Sv39x4), by
+-- the list of the entries that it meets, top level first.
 use Rattle.std.specs.Prelude.{ℕ, suc, zero, ◌+◌, ◌*◌, ◌^◌, ◌%◌, Bool, ◌==◌, nat_lt, List, [], ◌∷◌, Result, Ok, Err, if◌then◌else◌}
 use Rattle.arch_defs.specs.declared.modes.Access.{Access}
 use Rattle.arch_defs.specs.declared.modes.Trap.{Trap}
@@ -11,7 +11,7 @@ use Rattle.arch_defs.specs.declared.walks.WalkEnd.TheVariants.{PageFault, FetchE
 use Rattle.arch_defs.specs.declared.walks.Next.{Next}
 use Rattle.arch_defs.specs.declared.walks.Next.TheVariants.{Ends, Below}
 use Rattle.arch_defs.specs.Bits.{field, sign_extend}
-use Rattle.arch_defs.specs.Entries.{table_entry, entry_next}
+use Rattle.arch_defs.specs.TableEntries.{table_entry, entry_next}
 
 -- a reading of places: the entry's word at each, or the trap for which there is none
 abbrev pub EntryReading : Type 0
@@ -76,11 +76,14 @@ later from (Below table) = from table
 unfoldable pub path_from : EntryReading → Shape → ℕ → Access → ℕ → ℕ → List Met
 path_from reading shape va access zero table = []
 path_from reading shape va access (suc level) table =
-    let m = met_in reading shape va level table in m ∷ later (path_from reading shape va access level) (next_of access m)
+    let m =
+    met_in reading shape va level table in m
+    ∷ later (path_from reading shape va access level) (next_of access m)
 
 -- the entries met from a root, a frame's number, on; an address with wrong upper bits meets none
 unfoldable pub path : EntryReading → ℕ → Shape → ℕ → Access → List Met
-path reading root shape va access = if is_canonical shape va then path_from reading shape va access (levels shape) root else []
+path reading root shape va access =
+    if is_canonical shape va then path_from reading shape va access (levels shape) root else []
 
 -- the end that the first of these entries that has one gives; without one the walk is a page fault
 abbrev pub or_else : WalkEnd → Next → WalkEnd
@@ -95,16 +98,7 @@ end_of access (m ∷ ms) = or_else (end_of access ms) (next_of access m)
 unfoldable pub walk : EntryReading → ℕ → Shape → ℕ → Access → WalkEnd
 walk reading root shape va access = end_of access (path reading root shape va access)
 
--- the same end level by level, as a plain recursion: from a table with so many levels on
-abbrev pub followed : (ℕ → WalkEnd) → Next → WalkEnd
-followed from (Ends end) = end
-followed from (Below table) = from table
-
-unfoldable pub walk_from : EntryReading → Shape → ℕ → Access → ℕ → ℕ → WalkEnd
-walk_from reading shape va access zero table = PageFault
-walk_from reading shape va access (suc level) table =
-    followed (walk_from reading shape va access level) (next_of access (met_in reading shape va level table))
-
--- the physical address of an address under a leaf: the leaf's frame, with the offset in the page of its level (4.3.2, step 8)
+-- the physical address of an address under a leaf: the leaf's frame, with the offset in the page of its level
+-- (4.3.2, step 8)
 abbrev pub leaf_address : LeafEntry → ℕ → ℕ
 leaf_address leaf va = 4096 * leaf.frame + va % 2 ^ (12 + 9 * leaf.level)

@@ -1,33 +1,44 @@
 // The state that the architecture defines: privilege modes, traps, registers, widths, and memory as bytes.
 #![tactic(auto)]
 
+mod cached;
 mod csr_names;
-mod entries;
+mod guest_walks;
+mod laws;
 mod levels;
 mod modes;
+mod needs;
+mod parts;
 mod registers;
 #[cfg(test)]
 mod tests;
+#[cfg(test)]
+mod tests_parts;
 mod walks;
 mod widths;
 
+pub use cached::{Entry, Fence};
 pub use csr_names::{
     BankRegister, BitRegister, CsrEnd, HypervisorRegister, InterruptRegister, Register,
 };
-pub use entries::Entry;
+pub use guest_walks::GuestWalkEnd;
+pub use laws::{frames_apart_stay, ram_is_its_blocks};
 pub use levels::{
     Level, SUPERVISOR_EXTERNAL, SUPERVISOR_SOFTWARE, SUPERVISOR_TIMER, VS_EXTERNAL, VS_SOFTWARE,
     VS_TIMER,
 };
 pub use modes::{
     Access, BREAKPOINT, ECALL_FROM_HS, ECALL_FROM_USER, ECALL_FROM_VS, ILLEGAL_INSTRUCTION,
-    INSTRUCTION_ACCESS_FAULT, INSTRUCTION_MISALIGNED, INSTRUCTION_PAGE_FAULT, LOAD_ACCESS_FAULT,
-    LOAD_MISALIGNED, LOAD_PAGE_FAULT, Mode, STORE_ACCESS_FAULT, STORE_MISALIGNED, STORE_PAGE_FAULT,
-    Trap, VIRTUAL_INSTRUCTION,
+    INSTRUCTION_ACCESS_FAULT, INSTRUCTION_GUEST_PAGE_FAULT, INSTRUCTION_MISALIGNED,
+    INSTRUCTION_PAGE_FAULT, LOAD_ACCESS_FAULT, LOAD_GUEST_PAGE_FAULT, LOAD_MISALIGNED,
+    LOAD_PAGE_FAULT, Mode, STORE_ACCESS_FAULT, STORE_GUEST_PAGE_FAULT, STORE_MISALIGNED,
+    STORE_PAGE_FAULT, Trap, VIRTUAL_INSTRUCTION,
 };
+pub use needs::Need;
+pub use parts::{BLOCK_FRAMES, BLOCK_SIZE, FRAME_SIZE, MOST_BLOCKS, Part};
 pub use registers::{
     Bank, Csrs, GuestRoot, HypervisorStatus, Interrupts, Reg, Regs, SupervisorRoot,
     SupervisorStatus, Virtual,
 };
-pub use walks::{Found, LeafEntry, Next, Privilege, Shape, TableEntry, WalkEnd};
+pub use walks::{Found, LeafEntry, Next, Privilege, Shape, TableEntry, Unplaced, WalkEnd};
 pub use widths::{Width, extend};

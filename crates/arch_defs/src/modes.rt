@@ -80,5 +80,14 @@ pub const LOAD_PAGE_FAULT: u64 = 13;
 /// Store or AMO page fault.
 pub const STORE_PAGE_FAULT: u64 = 15;
 
+/// Instruction guest-page fault.
+pub const INSTRUCTION_GUEST_PAGE_FAULT: u64 = 20;
+
+/// Load guest-page fault.
+pub const LOAD_GUEST_PAGE_FAULT: u64 = 21;
+
 /// Virtual instruction.
 pub const VIRTUAL_INSTRUCTION: u64 = 22;
+
+/// Store or AMO guest-page fault.
+pub const STORE_GUEST_PAGE_FAULT: u64 = 23;

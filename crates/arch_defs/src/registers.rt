@@ -234,7 +234,6 @@ pub struct Csrs {
 
 impl Csrs {
     /// All registers zero.
-    #[tactic(auto, unfolding(crate::specs::Registers::csrs_at_reset))]
     pub fn at_reset() -> Csrs
         ensures { result ≡ csrs_at_reset }
     {

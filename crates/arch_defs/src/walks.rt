@@ -1,6 +1,6 @@
 // Table walks: the shapes of tables, entries in named parts, and how a walk ends.
 
-use crate::modes::Trap;
+use crate::modes::{Access, Mode, Trap};
 
 /// The shape of a table: how many levels it has, how wide its root's index is, and which addresses it
 /// translates (Privileged Architecture 20211203, 4.4 and 8.5.1).
@@ -63,6 +63,22 @@ pub struct Privilege {
     pub user: bool,
     pub sum: bool,
     pub mxr: bool,
+}
+
+/// An access for which the second stage has no place.
+#[derive(Clone, Copy, Debug, PartialEq, Eq)]
+pub struct Unplaced {
+    /// The guest physical address that has none.
+    pub address: u64,
+    /// What the access at that address is: the access itself, or the implicit read of a first-stage entry for
+    /// it.
+    pub kind: Access,
+    /// The access that it serves, whose fault is taken.
+    pub access: Access,
+    /// The virtual address of that access.
+    pub va: u64,
+    /// The mode as which that access is made.
+    pub mode: Mode,
 }
 
 /// What the first stage makes of a virtual address.

@@ -21,7 +21,7 @@ unfolding events
 events_none m zero h = refl
 events_none m (suc k) h = absurd (omega arith)
 
-pub events_more : (m : Machine) (k : ℕ) → 0 < k → events m k ≡ events_by m m.status ++ events (step m) (k - 1)
+pub events_more : (m : Machine) (k : ℕ) → 0 < k → events m k ≡ events_by m m.platform.status ++ events (step m) (k - 1)
 unfolding events
 events_more m zero h = absurd (omega arith)
 events_more m (suc k) h = let e : suc k - 1 ≡ k = omega arith in rw e refl
@@ -36,14 +36,14 @@ pub events_compose : (m : Machine) (a b : ℕ) → events m a ++ events (run m a
 unfolding run events
 events_compose m zero b = ap (events m) (sym (zero-add b))
 events_compose m (suc a) b = let e : suc a + b ≡ suc (a + b) = omega arith in
-    rw (e, append_assoc) (ap (λ rest. events_by m m.status ++ rest) (events_compose (step m) a b))
+    rw (e, append_assoc) (ap (λ rest. events_by m m.platform.status ++ rest) (events_compose (step m) a b))
 
 -- a step of a running machine is its try
-pub step_running : (m : Machine) → m.status ≡ Running → step m ≡ left_by m (try m)
+pub step_running : (m : Machine) → m.platform.status ≡ Running → step m ≡ left_by m (try m)
 unfolding step
 step_running m h = rw h refl
 
-pub events_running : (m : Machine) → m.status ≡ Running → events_by m m.status ≡ event_in (try m)
+pub events_running : (m : Machine) → m.platform.status ≡ Running → events_by m m.platform.status ≡ event_in (try m)
 events_running m h = rw h refl
 
 -- a machine that does not go on stays as it is
@@ -59,23 +59,23 @@ quiet m Waiting h = refl
 quiet m Stopped h = refl
 quiet m Outside h = refl
 
-pub step_idle : (m : Machine) → m.status ≢ Running → step m ≡ m
+pub step_idle : (m : Machine) → m.platform.status ≢ Running → step m ≡ m
 unfolding step
-step_idle m h = stays m m.status h
+step_idle m h = stays m m.platform.status h
 
-pub run_idle : (m : Machine) (k : ℕ) → m.status ≢ Running → run m k ≡ m
+pub run_idle : (m : Machine) (k : ℕ) → m.platform.status ≢ Running → run m k ≡ m
 unfolding run
 run_idle m zero h = refl
 run_idle m (suc k) h = rw (step_idle m h) (run_idle m k h)
 
-pub events_idle : (m : Machine) (k : ℕ) → m.status ≢ Running → events m k ≡ []
+pub events_idle : (m : Machine) (k : ℕ) → m.platform.status ≢ Running → events m k ≡ []
 unfolding events
 events_idle m zero h = refl
-events_idle m (suc k) h = rw (quiet m m.status h, step_idle m h) (events_idle m k h)
+events_idle m (suc k) h = rw (quiet m m.platform.status h, step_idle m h) (events_idle m k h)
 
 -- the rest of a run of k after i tries
 pub run_next : (m : Machine) (k i : ℕ) → i < k → run m (k - i) ≡ run (step m) (k - (i + 1))
 run_next m k i h = let e : k - i - 1 ≡ k - (i + 1) = omega arith in let some : 0 < k - i = omega arith in rw (run_more m (k - i) some, e) refl
 
-pub events_next : (m : Machine) (k i : ℕ) → i < k → events m (k - i) ≡ events_by m m.status ++ events (step m) (k - (i + 1))
+pub events_next : (m : Machine) (k i : ℕ) → i < k → events m (k - i) ≡ events_by m m.platform.status ++ events (step m) (k - (i + 1))
 events_next m k i h = let e : k - i - 1 ≡ k - (i + 1) = omega arith in let some : 0 < k - i = omega arith in rw (events_more m (k - i) some, e) refl

@@ -1,7 +1,11 @@
 pub mod Core
+pub mod HostPlaces
 pub mod Laws
 pub mod Machine
 pub mod Outcomes
+pub mod Outside
 pub mod Privileges
+pub mod Renaming
 pub mod Report
+pub mod Reservations
 pub mod Runs

@@ -1,26 +1,37 @@
 -- How an instruction ends, for a lone machine and for the hart alike.
 use Rattle.std.specs.Prelude.{ℕ, Option}
-use Rattle.arch_defs.specs.declared.modes.Access.{Access}
+use Rattle.arch_defs.specs.declared.cached.Fence.{Fence}
+use Rattle.arch_defs.specs.declared.modes.Trap.{Trap}
 use Rattle.arch_defs.specs.declared.registers.Virtual.{Virtual}
-use Rattle.arch_defs.specs.Memory.{Write}
+use Rattle.arch_defs.specs.declared.walks.Unplaced.{Unplaced}
+use Rattle.arch_defs.specs.Memory.{Stored}
 use Rattle.arch_defs.specs.Registers.{advanced}
+use Rattle.op_defs.specs.declared.ops.GuestAccess.{GuestAccess}
 use Rattle.op_defs.specs.Meaning.{next}
 use Rattle.machine_defs.specs.declared.events.Event.{Event}
 
 pub data Outcome : Type 0 where
-  -- the state after it, what it writes, and what the step was
-  Done : Virtual → Option Write → Event → Outcome
-  -- an exception of this cause, with what stval gets
-  Trapped : ℕ → ℕ → Outcome
-  -- the second stage has no place: the guest physical address, the kind of access there, the access that it serves, and that one's virtual address
-  Stuck : ℕ → Access → Access → ℕ → Outcome
-  -- a call of the execution environment from HS
+  -- the state after it, what it stores, and what the step was
+  Done : Virtual → Option Stored → Event → Outcome
+  -- a trap, which the state before it takes
+  Trapped : Trap → Outcome
+  -- the second stage has no place for an access, whose fault the machine around knows
+  Stuck : Unplaced → Outcome
+  -- a call of the execution environment, from HS
   Called : Outcome
   -- a WFI that is allowed, and the state after it
   Waits : Virtual → Outcome
-  -- what is allowed with V = 0 and not built so far
-  Unbuilt : Outcome
+  -- an HFENCE.GVMA that is allowed, the state after it, and what it names
+  Fenced : Virtual → Fence → Outcome
+  -- the access of an HLV, HLVX or HSV that is allowed
+  Accesses : GuestAccess → Outcome
+  -- what is allowed and outside what is built so far
+  Outside : Outcome
 
 -- a register is set, and pc goes on
 abbrev pub sets : Virtual → ℕ → ℕ → Virtual
 sets state rd value = record state { regs = advanced state.regs rd value (next state.regs) }
+
+-- pc goes on, and nothing else changes
+abbrev pub passed : Virtual → Virtual
+passed state = sets state 0 0

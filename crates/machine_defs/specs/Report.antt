@@ -13,18 +13,21 @@ status_word Waiting = codes "waiting"
 status_word Stopped = codes "stopped"
 status_word Outside = codes "outside"
 
--- the line that heads a section, without its line feed: a name, a status, a count of steps and one of console bytes
+-- the line that heads a section, without its line feed: a name, a status, a count of steps and one of console
+-- bytes
 unfoldable pub header : List ℕ → Status → ℕ → ℕ → List ℕ
 header name status steps bytes =
-    codes "guest " ++ name ++ codes " " ++ status_word status ++ codes " steps " ++ decimal steps ++ codes " bytes " ++ decimal bytes
+    codes "guest " ++ name ++ codes " " ++ status_word status ++ codes " steps " ++ decimal steps
+    ++ codes " bytes " ++ decimal bytes
 
 -- a section: the header and the console's bytes, each with a line feed
 abbrev pub section_text : List ℕ → Status → ℕ → List ℕ → List ℕ
-section_text name status steps console = header name status steps (length console) ++ codes "\n" ++ console ++ codes "\n"
+section_text name status steps console =
+    header name status steps (length console) ++ codes "\n" ++ console ++ codes "\n"
 
 -- what a machine's section says
 abbrev pub section_of : List ℕ → Machine → List ℕ
-section_of name m = section_text name m.status m.steps m.console
+section_of name m = section_text name m.platform.status m.platform.steps m.platform.console
 
 -- the section of a guest whose lone machine has run for n steps
 abbrev pub section : GuestSpec → ℕ → List ℕ

@@ -3,23 +3,23 @@ use Rattle.std.specs.Prelude.{ℕ, zero, suc, ◌+◌, List, [], ◌∷◌, ◌+
 use Rattle.machine_defs.specs.declared.events.Event.{Event}
 use Rattle.machine_defs.specs.declared.events.Event.TheVariants.{Plain, Trap, System}
 use Rattle.machine_defs.specs.declared.guests.Status.{Status}
-use Rattle.machine_defs.specs.declared.guests.Status.TheVariants.{Running, Waiting, Stopped, Outside}
-use Rattle.machine_defs.specs.Machine.{Machine, Tried, Ended, Leaves, try}
+use Rattle.machine_defs.specs.declared.guests.Status.TheVariants as status
+use Rattle.machine_defs.specs.Machine.{Machine, Tried, Ended, Outside, try}
 
 -- what a try leaves
 abbrev pub left_by : Machine → Tried → Machine
 left_by m (Ended after event) = after
-left_by m Leaves = record m { status = Outside }
+left_by m Outside = record m { platform = record m.platform { status = status.Outside } }
 
 -- one step, which a machine that does not go on does not make
 abbrev pub stepped : Machine → Status → Machine
-stepped m Running = left_by m (try m)
-stepped m Waiting = m
-stepped m Stopped = m
-stepped m Outside = m
+stepped m status.Running = left_by m (try m)
+stepped m status.Waiting = m
+stepped m status.Stopped = m
+stepped m status.Outside = m
 
 unfoldable pub step : Machine → Machine
-step m = stepped m m.status
+step m = stepped m m.platform.status
 
 -- at most k steps
 unfoldable pub run : Machine → ℕ → Machine
@@ -29,18 +29,18 @@ run m (suc k) = run (step m) k
 -- the event of the step that a try makes, if it makes one
 abbrev pub event_in : Tried → List Event
 event_in (Ended after event) = event ∷ []
-event_in Leaves = []
+event_in Outside = []
 
 abbrev pub events_by : Machine → Status → List Event
-events_by m Running = event_in (try m)
-events_by m Waiting = []
-events_by m Stopped = []
-events_by m Outside = []
+events_by m status.Running = event_in (try m)
+events_by m status.Waiting = []
+events_by m status.Stopped = []
+events_by m status.Outside = []
 
 -- the events of the steps that a run of at most k makes, in order
 unfoldable pub events : Machine → ℕ → List Event
 events m zero = []
-events m (suc k) = events_by m m.status ++ events (step m) k
+events m (suc k) = events_by m m.platform.status ++ events (step m) k
 
 -- whether a step was plain, and its pc and word where it was
 abbrev pub is_plain : Event → Bool

@@ -27,10 +27,14 @@ abbrev pub s_immediate : ℕ → ℕ
 s_immediate word = sign_extend 12 (field 25 7 word * 2 ^ 5 + field 7 5 word)
 
 abbrev pub b_immediate : ℕ → ℕ
-b_immediate word = sign_extend 13 (field 31 1 word * 2 ^ 12 + field 7 1 word * 2 ^ 11 + field 25 6 word * 2 ^ 5 + field 8 4 word * 2)
+b_immediate word =
+    sign_extend 13 (field 31 1 word * 2 ^ 12 + field 7 1 word * 2 ^ 11 + field 25 6 word * 2 ^ 5
+    + field 8 4 word * 2)
 
 abbrev pub u_immediate : ℕ → ℕ
 u_immediate word = sign_extend 32 (field 12 20 word * 2 ^ 12)
 
 abbrev pub j_immediate : ℕ → ℕ
-j_immediate word = sign_extend 21 (field 31 1 word * 2 ^ 20 + field 12 8 word * 2 ^ 12 + field 20 1 word * 2 ^ 11 + field 21 10 word * 2)
+j_immediate word =
+    sign_extend 21 (field 31 1 word * 2 ^ 20 + field 12 8 word * 2 ^ 12 + field 20 1 word * 2 ^ 11
+    + field 21 10 word * 2)

@@ -1,5 +1,7 @@
--- What each instruction asks for, read off the registers (Unprivileged ISA 20191213, 2.4 to 2.8, 3, 5, 7 and 8).
-use Rattle.std.specs.Prelude.{ℕ, ◌-◌, ◌%◌, Bool, true, false, ◌==◌, nat_lt, int_lt, not, if◌then◌else◌}
+-- What each instruction asks for, read off the registers (Unprivileged ISA 20191213, 2.4 to 2.8, 3, 5, 7, 8
+-- and 9.1; for the hypervisor's fences and accesses Privileged Architecture 20211203, 8.3).
+use Rattle.std.specs.Prelude.{ℕ, ◌-◌, ◌/◌, ◌%◌, ◌^◌, Option, Some, None, Bool, true, false, ◌==◌, nat_lt, int_lt, not, if◌then◌else◌}
+use Rattle.arch_defs.specs.declared.cached.Fence.{Fence}
 use Rattle.arch_defs.specs.declared.modes.TheConstants.{INSTRUCTION_MISALIGNED, BREAKPOINT}
 use Rattle.arch_defs.specs.declared.registers.Regs.{Regs}
 use Rattle.arch_defs.specs.Bits.{add64}
@@ -14,6 +16,7 @@ use Rattle.op_defs.specs.declared.ops.Test.{Test}
 use Rattle.op_defs.specs.declared.ops.Test.TheVariants.{Eq, Ne, Lt, Ge, Ltu, Geu}
 use Rattle.op_defs.specs.declared.ops.Effect.{Effect}
 use Rattle.op_defs.specs.declared.ops.Effect.TheVariants.{Sets, Raises, Loads, Stores, Reserves, StoresReserved, Modifies, Calls, Privileged}
+use Rattle.op_defs.specs.declared.ops.GuestAccess.TheVariants as guest
 use Rattle.op_defs.specs.declared.ops.Privileged.TheVariants as privileged
 use Rattle.op_defs.specs.Arithmetic.{signed, alu, word_alu}
 
@@ -63,18 +66,30 @@ writes csr.Write operand = true
 writes csr.Set operand = not (is_none operand)
 writes csr.Clear operand = not (is_none operand)
 
+-- the operand of a fence: what a register has, if it is not x0 (Privileged Architecture 20211203, 8.3.2)
+abbrev pub named_by : ℕ → ℕ → Option ℕ
+named_by register value = if register == 0 then None else Some value
+
+-- what HFENCE.GVMA names: a VMID by the low 7 bits of rs2, and a guest physical page by rs1, which has the
+-- address shifted right by 2 (8.3.2)
+abbrev pub fence_named : ℕ → ℕ → Regs → Fence
+fence_named rs1 rs2 regs =
+    record { vmid = named_by rs2 (read regs rs2 % 2 ^ 7); page = named_by rs1 (read regs rs1 / 2 ^ 10) }
+
 -- what an instruction asks for
 unfoldable pub meaning : Op → Regs → Effect
 meaning (op.Lui rd immediate) regs = Sets rd immediate (next regs)
 meaning (op.Auipc rd immediate) regs = Sets rd (add64 regs.pc immediate) (next regs)
 meaning (op.Jal rd offset) regs = jump rd (next regs) (add64 regs.pc offset)
 meaning (op.Jalr rd rs1 offset) regs = jump rd (next regs) (even (address_at regs rs1 offset))
-meaning (op.Branch test rs1 rs2 offset) regs = branch (holds test (read regs rs1) (read regs rs2)) (next regs) (add64 regs.pc offset)
+meaning (op.Branch test rs1 rs2 offset) regs =
+    branch (holds test (read regs rs1) (read regs rs2)) (next regs) (add64 regs.pc offset)
 meaning (op.Load width signed rd rs1 offset) regs = Loads (address_at regs rs1 offset) width signed rd
 meaning (op.Store width rs1 rs2 offset) regs = Stores (address_at regs rs1 offset) width (read regs rs2)
 meaning (op.AluImmediate o rd rs1 immediate) regs = Sets rd (alu o (read regs rs1) immediate) (next regs)
 meaning (op.Alu o rd rs1 rs2) regs = Sets rd (alu o (read regs rs1) (read regs rs2)) (next regs)
-meaning (op.WordImmediate o rd rs1 immediate) regs = Sets rd (word_alu o (read regs rs1) immediate) (next regs)
+meaning (op.WordImmediate o rd rs1 immediate) regs =
+    Sets rd (word_alu o (read regs rs1) immediate) (next regs)
 meaning (op.Word o rd rs1 rs2) regs = Sets rd (word_alu o (read regs rs1) (read regs rs2)) (next regs)
 meaning op.Fence regs = Sets 0 0 (next regs)
 meaning op.FenceI regs = Sets 0 0 (next regs)
@@ -85,10 +100,14 @@ meaning op.Ecall regs = Calls
 meaning op.Ebreak regs = Raises BREAKPOINT regs.pc
 meaning op.Sret regs = Privileged privileged.Sret
 meaning op.Wfi regs = Privileged privileged.Wfi
-meaning (op.Csr o operand rd number) regs = Privileged (privileged.Csr o number (operand_of operand regs) (writes o operand) rd)
+meaning (op.Csr o operand rd number) regs =
+    Privileged (privileged.Csr o number (operand_of operand regs) (writes o operand) rd)
 meaning (op.SfenceVma rs1 rs2) regs = Privileged privileged.SfenceVma
-meaning (op.HfenceVvma rs1 rs2) regs = Privileged privileged.HypervisorFence
-meaning (op.HfenceGvma rs1 rs2) regs = Privileged privileged.HypervisorFence
-meaning (op.GuestLoad width signed rd rs1) regs = Privileged privileged.GuestAccess
-meaning (op.GuestFetch width rd rs1) regs = Privileged privileged.GuestAccess
-meaning (op.GuestStore width rs1 rs2) regs = Privileged privileged.GuestAccess
+meaning (op.HfenceVvma rs1 rs2) regs = Privileged privileged.HfenceVvma
+meaning (op.HfenceGvma rs1 rs2) regs = Privileged (privileged.HfenceGvma (fence_named rs1 rs2 regs))
+meaning (op.GuestLoad width signed rd rs1) regs =
+    Privileged (privileged.GuestAccess (guest.Loads (read regs rs1) width signed rd))
+meaning (op.GuestFetch width rd rs1) regs =
+    Privileged (privileged.GuestAccess (guest.LoadsCode (read regs rs1) width rd))
+meaning (op.GuestStore width rs1 rs2) regs =
+    Privileged (privileged.GuestAccess (guest.Stores (read regs rs1) width (read regs rs2)))

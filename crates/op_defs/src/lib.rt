@@ -3,4 +3,4 @@
 
 mod ops;
 
-pub use ops::{AluOp, AmoOp, CsrOp, CsrSource, Effect, Op, Privileged, Test, WordOp};
+pub use ops::{AluOp, AmoOp, CsrOp, CsrSource, Effect, GuestAccess, Op, Privileged, Test, WordOp};

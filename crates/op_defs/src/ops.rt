@@ -1,6 +1,6 @@
 // Instructions, and what they ask for.
 
-use arch_defs::{Reg, Width};
+use arch_defs::{Fence, Reg, Width};
 
 /// Arithmetic on 64 bits, of RV64I and M.
 #[derive(Clone, Copy, Debug, PartialEq, Eq)]
@@ -278,8 +278,33 @@ pub enum Privileged {
     Sret,
     Wfi,
     SfenceVma,
-    /// HFENCE.VVMA and HFENCE.GVMA.
-    HypervisorFence,
-    /// HLV, HLVX and HSV.
-    GuestAccess,
+    HfenceVvma,
+    /// HFENCE.GVMA, with what it names.
+    HfenceGvma(Fence),
+    /// HLV, HLVX or HSV.
+    GuestAccess(GuestAccess),
+}
+
+/// The access of HLV, HLVX or HSV, which is made as VS or VU (Privileged Architecture 20211203, 8.3.1).
+#[derive(Clone, Copy, Debug, PartialEq, Eq)]
+pub enum GuestAccess {
+    /// HLV: `rd` becomes what is loaded, extended.
+    Loads {
+        address: u64,
+        width: Width,
+        signed: bool,
+        rd: Reg,
+    },
+    /// HLVX: the same without the sign, where the page may be executed.
+    LoadsCode {
+        address: u64,
+        width: Width,
+        rd: Reg,
+    },
+    /// HSV: the low bytes of `value` are stored.
+    Stores {
+        address: u64,
+        width: Width,
+        value: u64,
+    },
 }

@@ -1,4 +1,4 @@
-// Cached translations.
+// Cached translations, and what a fence names of them.
 
 /// A cached second-stage translation: the guest physical page, the physical frame (addresses divided by
 /// 4,096), what the leaf permits (`w` is its W and D), and the level of the leaf, 0 to 2.
@@ -10,4 +10,12 @@ pub struct Entry {
     pub w: bool,
     pub x: bool,
     pub level: u8,
+}
+
+/// What an HFENCE.GVMA names: a VMID and a guest physical page (an address divided by 4,096), or all of them
+/// where there is none (Privileged Architecture 20211203, 8.3.2).
+#[derive(Clone, Copy, Debug, PartialEq, Eq)]
+pub struct Fence {
+    pub vmid: Option<u64>,
+    pub page: Option<u64>,
 }

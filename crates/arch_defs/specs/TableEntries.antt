@@ -9,7 +9,8 @@ use Rattle.arch_defs.specs.declared.walks.Next.{Next}
 use Rattle.arch_defs.specs.declared.walks.Next.TheVariants.{Ends, Below}
 use Rattle.arch_defs.specs.Bits.{bit, field}
 
--- an entry's word in named parts: V 0, R 1, W 2, X 3, U 4, A 6, D 7, the physical page number 53:10, reserved 63:54 (4.4.1)
+-- an entry's word in named parts: V 0, R 1, W 2, X 3, U 4, A 6, D 7, the physical page number 53:10, reserved
+-- 63:54 (4.4.1)
 unfoldable pub table_entry : ℕ → TableEntry
 table_entry word = record {
   v = bit 0 word;
@@ -47,7 +48,7 @@ needs_dirty Store = true
 needs_dirty ExecLoad = false
 needs_dirty Implicit = false
 
--- A, and D for a store: the walker never writes, so software sets them (4.3.2, step 7)
+-- A, and D for a store: the walker never writes (own), so software sets them (4.3.2, step 7)
 abbrev pub is_marked : Access → TableEntry → Bool
 is_marked access e = e.a && (not (needs_dirty access) || e.d)
 
@@ -57,7 +58,9 @@ leaf_entry level e = record { frame = e.frame; level = level; r = e.r; w = e.w &
 
 -- a leaf ends the walk (4.3.2, steps 6 to 8)
 abbrev pub leaf_next : ℕ → Access → TableEntry → Next
-leaf_next level access e = if is_aligned level e.frame && is_marked access e then Ends (Leaf (leaf_entry level e)) else Ends PageFault
+leaf_next level access e =
+    if is_aligned level e.frame && is_marked access e then Ends (Leaf (leaf_entry level e))
+    else Ends PageFault
 
 -- A, D and U are reserved in a pointer (4.3.1), and there is no level below the last (4.3.2, step 4)
 abbrev pub pointer_next : ℕ → TableEntry → Next
@@ -65,4 +68,6 @@ pointer_next level e = if e.a || e.d || e.u || level == 0 then Ends PageFault el
 
 -- what an entry that is met at a level says to the walk (4.3.2, steps 3 to 8)
 unfoldable pub entry_next : ℕ → Access → TableEntry → Next
-entry_next level access e = if is_valid e then (if is_leaf e then leaf_next level access e else pointer_next level e) else Ends PageFault
+entry_next level access e =
+    if is_valid e then (if is_leaf e then leaf_next level access e else pointer_next level e)
+    else Ends PageFault
