@@ -2,20 +2,20 @@
 use Rattle.std.specs.Prelude.{bit_and, ◌&&◌, Bool, true, false}
 use Rattle.std.proofs.Common.{cond, ◌≡◌, ℕ, ◌+◌, ◌*◌, ◌/◌, ◌%◌, ◌^◌, ◌<◌, arith}
 use Rattle.arch_defs.specs.Bits.{bit}
-use Rattle.arch_defs.specs.CsrBits.{bit_at}
+use Rattle.arch_defs.specs.CsrBits.{bit_number}
 use Rattle.csr_file.specs.Laws.{merged}
 use Rattle.csr_file.proofs.Masks.{masked, under, flag, replaced}
 
 -- one flag among others that stay
 pub one_flag : (i : ℕ) (mask fixed v : ℕ) (b : Bool) → mask ≡ 2 ^ i → mask + fixed < 2 ^ 64 → bit_and v mask ≡ v / 2 ^ i % 2 * 2 ^ i
-    → bit_and (bit_at i b + fixed) mask ≡ bit_at i b → bit_at i (bit i v) + fixed ≡ merged mask (bit_at i b + fixed) v
+    → bit_and (bit_number i b + fixed) mask ≡ bit_number i b → bit_number i (bit i v) + fixed ≡ merged mask (bit_number i b + fixed) v
 one_flag i mask fixed v b e m t k =
-    replaced mask fixed (bit_at i b + fixed) (bit_at i (bit i v) + fixed) v m (omega (arith, t, flag i v)) (omega (arith, k))
+    replaced mask fixed (bit_number i b + fixed) (bit_number i (bit i v) + fixed) v m (omega (arith, t, flag i v)) (omega (arith, k))
 
 -- vsie: hideleg's bits, and those of hie before
 pub vsie_taken : (a b c p q r : Bool) (v : ℕ)
-    → bit_and v (bit_at 1 a + bit_at 5 b + bit_at 9 c)
-    ≡ bit_at 1 (a && cond a (bit 1 v) p) + bit_at 5 (b && cond b (bit 5 v) q) + bit_at 9 (c && cond c (bit 9 v) r)
+    → bit_and v (bit_number 1 a + bit_number 5 b + bit_number 9 c)
+    ≡ bit_number 1 (a && cond a (bit 1 v) p) + bit_number 5 (b && cond b (bit 5 v) q) + bit_number 9 (c && cond c (bit 9 v) r)
 unfolding masked
 vsie_taken true true true p q r v = omega (arith, under 10 0x222 v (omega arith), flag 1 v, flag 5 v, flag 9 v)
 vsie_taken true true false p q r v = omega (arith, under 10 0x022 v (omega arith), flag 1 v, flag 5 v, flag 9 v)
@@ -27,8 +27,8 @@ vsie_taken false false true p q r v = omega (arith, under 10 0x200 v (omega arit
 vsie_taken false false false p q r v = omega (arith, under 10 0x000 v (omega arith), flag 1 v, flag 5 v, flag 9 v)
 
 pub vsie_kept : (a b c p q r : Bool)
-    → bit_and (bit_at 1 (a && p) + bit_at 5 (b && q) + bit_at 9 (c && r)) (bit_at 1 a + bit_at 5 b + bit_at 9 c)
-    ≡ bit_at 1 (a && p) + bit_at 5 (b && q) + bit_at 9 (c && r)
+    → bit_and (bit_number 1 (a && p) + bit_number 5 (b && q) + bit_number 9 (c && r)) (bit_number 1 a + bit_number 5 b + bit_number 9 c)
+    ≡ bit_number 1 (a && p) + bit_number 5 (b && q) + bit_number 9 (c && r)
 vsie_kept true true c p q r = grind arith
 vsie_kept true false c p q r = grind arith
 vsie_kept false true c p q r = grind arith

@@ -3,7 +3,7 @@ use Rattle.std.specs.Prelude.{bit_and, Bool, true, false}
 use Rattle.std.proofs.Common.{◌≡◌, ℕ, zero, suc, ◌+◌, ◌-◌, ◌*◌, ◌/◌, ◌%◌, ◌^◌, ◌<◌, ◌≤◌, refl, ap, arith}
 use Rattle.std.proofs.lemmas.Nat.{and_block, and-not, and_comm, and_le_r, pow-add, shr-shr}
 use Rattle.arch_defs.specs.Bits.{bit}
-use Rattle.arch_defs.specs.CsrBits.{bit_at}
+use Rattle.arch_defs.specs.CsrBits.{bit_number}
 use Rattle.csr_file.specs.Laws.{merged}
 
 -- the bits of a number, from bit i on, at which a mask has ones
@@ -12,11 +12,11 @@ masked zero i mask v = 0
 masked (suc n) i mask v = mask % 2 * (v / 2 ^ i % 2) * 2 ^ i + masked n (i + 1) (mask / 2) v
 
 -- a flag that is taken from a number shows that bit
-pub flag : (i v : ℕ) → bit_at i (bit i v) ≡ v / 2 ^ i % 2 * 2 ^ i
+pub flag : (i v : ℕ) → bit_number i (bit i v) ≡ v / 2 ^ i % 2 * 2 ^ i
 flag i v = grind arith
 
 -- a flag is at most its bit
-pub flag_most : (i : ℕ) (b : Bool) → bit_at i b ≤ 2 ^ i
+pub flag_most : (i : ℕ) (b : Bool) → bit_number i b ≤ 2 ^ i
 flag_most i true = omega arith
 flag_most i false = omega arith
 

@@ -15,7 +15,7 @@ use Rattle.arch_defs.specs.declared.csr_names.HypervisorRegister.{HypervisorRegi
 use Rattle.arch_defs.specs.declared.csr_names.HypervisorRegister.TheVariants.{Hstatus, Hedeleg, Htimedelta, Hgeie, Hgeip, Htval, Htinst, Hgatp}
 use Rattle.arch_defs.specs.declared.csr_names.Register.TheVariants.{Supervisor, VirtualSupervisor, Interrupt, Bit, Hypervisor, Time, GuestTime}
 use Rattle.arch_defs.specs.Bits.{bit}
-use Rattle.arch_defs.specs.CsrBits.{bit_at, status_number, status_of, hstatus_number, hstatus_of, supervisor_number, supervisor_interrupts, virtual_number, virtual_interrupts, delegated, delegated_become, tvec_bits, epc_bits, hedeleg_bits}
+use Rattle.arch_defs.specs.CsrBits.{bit_number, status_number, status_of, hstatus_number, hstatus_of, supervisor_number, supervisor_interrupts, virtual_number, virtual_interrupts, delegated, delegated_become, tvec_bits, epc_bits, hedeleg_bits}
 use Rattle.arch_defs.specs.Access.{bank_shown, bank_written, interrupts_shown, interrupts_written, bit_shown, bit_written, hypervisor_shown, hypervisor_written, shown, written}
 use Rattle.csr_file.specs.Laws.{merged, all_bits, bank_mask, interrupts_mask, bit_mask, hypervisor_mask, ReadsBack, SatpReadsBack, VsatpReadsBack, HgatpReadsBack}
 use Rattle.csr_file.proofs.Masks.{masked, under, flag, flag_most, replaced}
@@ -87,42 +87,42 @@ virtual_replaced s v =
     (omega (arith, virtual_kept s))
 
 -- bit 1 of a supervisor level's set alone, and bit 2 of VS's
-software_kept : (a b c : Bool) → bit_and (bit_at 1 a + bit_at 5 b + bit_at 9 c) 2 + (bit_at 5 b + bit_at 9 c) ≡ bit_at 1 a + bit_at 5 b + bit_at 9 c
+software_kept : (a b c : Bool) → bit_and (bit_number 1 a + bit_number 5 b + bit_number 9 c) 2 + (bit_number 5 b + bit_number 9 c) ≡ bit_number 1 a + bit_number 5 b + bit_number 9 c
 software_kept a b c = grind arith
 
 software_replaced : (a b c : Bool) (v : ℕ)
-    → bit_at 1 (bit 1 v) + bit_at 5 b + bit_at 9 c ≡ merged 2 (bit_at 1 a + bit_at 5 b + bit_at 9 c) v
+    → bit_number 1 (bit 1 v) + bit_number 5 b + bit_number 9 c ≡ merged 2 (bit_number 1 a + bit_number 5 b + bit_number 9 c) v
 unfolding masked
 software_replaced a b c v =
-    replaced 2 (bit_at 5 b + bit_at 9 c) (bit_at 1 a + bit_at 5 b + bit_at 9 c) (bit_at 1 (bit 1 v) + bit_at 5 b + bit_at 9 c) v
+    replaced 2 (bit_number 5 b + bit_number 9 c) (bit_number 1 a + bit_number 5 b + bit_number 9 c) (bit_number 1 (bit 1 v) + bit_number 5 b + bit_number 9 c) v
     (omega (arith, flag_most 5 b, flag_most 9 c)) (omega (arith, under 2 2 v (omega arith), flag 1 v)) (software_kept a b c)
 
-virtual_software_kept : (a b c : Bool) → bit_and (bit_at 2 a + bit_at 6 b + bit_at 10 c) 4 + (bit_at 6 b + bit_at 10 c) ≡ bit_at 2 a + bit_at 6 b + bit_at 10 c
+virtual_software_kept : (a b c : Bool) → bit_and (bit_number 2 a + bit_number 6 b + bit_number 10 c) 4 + (bit_number 6 b + bit_number 10 c) ≡ bit_number 2 a + bit_number 6 b + bit_number 10 c
 virtual_software_kept a b c = grind arith
 
 virtual_software_replaced : (a b c : Bool) (v : ℕ)
-    → bit_at 2 (bit 2 v) + bit_at 6 b + bit_at 10 c ≡ merged 4 (bit_at 2 a + bit_at 6 b + bit_at 10 c) v
+    → bit_number 2 (bit 2 v) + bit_number 6 b + bit_number 10 c ≡ merged 4 (bit_number 2 a + bit_number 6 b + bit_number 10 c) v
 unfolding masked
 virtual_software_replaced a b c v =
-    replaced 4 (bit_at 6 b + bit_at 10 c) (bit_at 2 a + bit_at 6 b + bit_at 10 c) (bit_at 2 (bit 2 v) + bit_at 6 b + bit_at 10 c) v
+    replaced 4 (bit_number 6 b + bit_number 10 c) (bit_number 2 a + bit_number 6 b + bit_number 10 c) (bit_number 2 (bit 2 v) + bit_number 6 b + bit_number 10 c) v
     (omega (arith, flag_most 6 b, flag_most 10 c)) (omega (arith, under 3 4 v (omega arith), flag 2 v)) (virtual_software_kept a b c)
 
 vsie_replaced : (a b c p q r : Bool) (v : ℕ)
-    → bit_at 1 (a && cond a (bit 1 v) p) + bit_at 5 (b && cond b (bit 5 v) q) + bit_at 9 (c && cond c (bit 9 v) r)
-    ≡ merged (bit_at 1 a + bit_at 5 b + bit_at 9 c) (bit_at 1 (a && p) + bit_at 5 (b && q) + bit_at 9 (c && r)) v
+    → bit_number 1 (a && cond a (bit 1 v) p) + bit_number 5 (b && cond b (bit 5 v) q) + bit_number 9 (c && cond c (bit 9 v) r)
+    ≡ merged (bit_number 1 a + bit_number 5 b + bit_number 9 c) (bit_number 1 (a && p) + bit_number 5 (b && q) + bit_number 9 (c && r)) v
 vsie_replaced a b c p q r v =
-    replaced (bit_at 1 a + bit_at 5 b + bit_at 9 c) 0 (bit_at 1 (a && p) + bit_at 5 (b && q) + bit_at 9 (c && r))
-    (bit_at 1 (a && cond a (bit 1 v) p) + bit_at 5 (b && cond b (bit 5 v) q) + bit_at 9 (c && cond c (bit 9 v) r)) v
+    replaced (bit_number 1 a + bit_number 5 b + bit_number 9 c) 0 (bit_number 1 (a && p) + bit_number 5 (b && q) + bit_number 9 (c && r))
+    (bit_number 1 (a && cond a (bit 1 v) p) + bit_number 5 (b && cond b (bit 5 v) q) + bit_number 9 (c && cond c (bit 9 v) r)) v
     (omega (arith, flag_most 1 a, flag_most 5 b, flag_most 9 c)) (omega (arith, vsie_taken a b c p q r v)) (omega (arith, vsie_kept a b c p q r))
 
 none_under_zero : (before v : ℕ) → before < 2 ^ 64 → before ≡ merged 0 before v
 none_under_zero before v h = omega (arith, and_comm v 0, all_under before h)
 
 vsip_replaced : (a b c p q r : Bool) (v : ℕ)
-    → bit_at 1 (a && cond a (bit 1 v) p) + bit_at 5 (b && q) + bit_at 9 (c && r)
-    ≡ merged (bit_at 1 a) (bit_at 1 (a && p) + bit_at 5 (b && q) + bit_at 9 (c && r)) v
+    → bit_number 1 (a && cond a (bit 1 v) p) + bit_number 5 (b && q) + bit_number 9 (c && r)
+    ≡ merged (bit_number 1 a) (bit_number 1 (a && p) + bit_number 5 (b && q) + bit_number 9 (c && r)) v
 vsip_replaced true b c p q r v = software_replaced p (b && q) (c && r) v
-vsip_replaced false b c p q r v = none_under_zero (0 + bit_at 5 (b && q) + bit_at 9 (c && r)) v (omega (arith, flag_most 5 (b && q), flag_most 9 (c && r)))
+vsip_replaced false b c p q r v = none_under_zero (0 + bit_number 5 (b && q) + bit_number 9 (c && r)) v (omega (arith, flag_most 5 (b && q), flag_most 9 (c && r)))
 
 interrupts_back : (csrs : Csrs) (r : InterruptRegister) (v : ℕ)
     → interrupts_shown (interrupts_written csrs r v) r ≡ merged (interrupts_mask csrs r) (interrupts_shown csrs r) v
@@ -138,15 +138,15 @@ interrupts_back csrs Hie v = virtual_replaced csrs.hie v
 interrupts_back csrs Hip v = virtual_software_replaced csrs.hvip.software csrs.hvip.timer csrs.hvip.external v
 interrupts_back csrs Hvip v = virtual_replaced csrs.hvip v
 
-one_at_0 : (b : Bool) (v : ℕ) → bit_at 0 (bit 0 v) ≡ merged 1 (bit_at 0 b) v
+one_at_0 : (b : Bool) (v : ℕ) → bit_number 0 (bit 0 v) ≡ merged 1 (bit_number 0 b) v
 unfolding masked
-one_at_0 true v = replaced 1 0 1 (bit_at 0 (bit 0 v)) v (omega arith) (omega (arith, under 1 1 v (omega arith), flag 0 v)) refl
-one_at_0 false v = replaced 1 0 0 (bit_at 0 (bit 0 v)) v (omega arith) (omega (arith, under 1 1 v (omega arith), flag 0 v)) refl
+one_at_0 true v = replaced 1 0 1 (bit_number 0 (bit 0 v)) v (omega arith) (omega (arith, under 1 1 v (omega arith), flag 0 v)) refl
+one_at_0 false v = replaced 1 0 0 (bit_number 0 (bit 0 v)) v (omega arith) (omega (arith, under 1 1 v (omega arith), flag 0 v)) refl
 
-one_at_1 : (b : Bool) (v : ℕ) → bit_at 1 (bit 1 v) ≡ merged 2 (bit_at 1 b) v
+one_at_1 : (b : Bool) (v : ℕ) → bit_number 1 (bit 1 v) ≡ merged 2 (bit_number 1 b) v
 unfolding masked
-one_at_1 true v = replaced 2 0 2 (bit_at 1 (bit 1 v)) v (omega arith) (omega (arith, under 2 2 v (omega arith), flag 1 v)) refl
-one_at_1 false v = replaced 2 0 0 (bit_at 1 (bit 1 v)) v (omega arith) (omega (arith, under 2 2 v (omega arith), flag 1 v)) refl
+one_at_1 true v = replaced 2 0 2 (bit_number 1 (bit 1 v)) v (omega arith) (omega (arith, under 2 2 v (omega arith), flag 1 v)) refl
+one_at_1 false v = replaced 2 0 0 (bit_number 1 (bit 1 v)) v (omega arith) (omega (arith, under 2 2 v (omega arith), flag 1 v)) refl
 
 bits_back : (csrs : Csrs) (r : BitRegister) (v : ℕ) → bit_shown (bit_written csrs r v) r ≡ merged (bit_mask r) (bit_shown csrs r) v
 unfolding bit_shown bit_written

@@ -1,5 +1,5 @@
--- Laws of register access: a read after a write gives the value from before with the writable bits replaced, and a write
--- leaves what the other registers show, but for named aliases.
+-- Laws of register access: a read after a write gives the value from before with the writable bits replaced,
+-- and a write leaves what the other registers show, but for named aliases.
 use Rattle.std.specs.Prelude.{ℕ, ◌≡◌, ◌≢◌, Bool, true, false, Result, Ok, Err, ◌<◌, ◌+◌, ◌-◌, ◌^◌, ◌==◌, bit_and, Option, Some, None, IfSome, if◌then◌else◌}
 use Rattle.arch_defs.specs.declared.modes.Mode.{Mode}
 use Rattle.arch_defs.specs.declared.modes.Mode.TheVariants.{HS, VS, VU}
@@ -17,7 +17,7 @@ use Rattle.arch_defs.specs.declared.csr_names.Register.TheVariants.{Supervisor, 
 use Rattle.arch_defs.specs.declared.csr_names.CsrEnd.{CsrEnd}
 use Rattle.arch_defs.specs.declared.csr_names.CsrEnd.TheVariants.{Illegal}
 use Rattle.arch_defs.specs.Bits.{field}
-use Rattle.arch_defs.specs.CsrBits.{bit_at, supervisor_number}
+use Rattle.arch_defs.specs.CsrBits.{bit_number, supervisor_number}
 use Rattle.arch_defs.specs.Access.{named_to_write, shown, written, read, write}
 
 -- a number in which the bits of a mask are those of another
@@ -42,7 +42,7 @@ abbrev pub interrupts_mask : Csrs → InterruptRegister → ℕ
 interrupts_mask csrs Sie = 0x222
 interrupts_mask csrs Sip = 0x2
 interrupts_mask csrs Vsie = supervisor_number csrs.hideleg
-interrupts_mask csrs Vsip = bit_at 1 csrs.hideleg.software
+interrupts_mask csrs Vsip = bit_number 1 csrs.hideleg.software
 interrupts_mask csrs Hideleg = 0x444
 interrupts_mask csrs Hie = 0x444
 interrupts_mask csrs Hip = 0x4
@@ -79,7 +79,7 @@ abbrev pub ReadsBack : Type 0
 ReadsBack = (csrs : Csrs) (r : Register) (v : ℕ) → v < 2 ^ 64
     → IfSome (mask_of csrs r) (λ mask. shown (written csrs r v) r ≡ merged mask (shown csrs r) v)
 
--- what satp or vsatp shows after a write: all of the value at MODE 8, 0 at MODE 0, and else what it showed before
+-- what satp or vsatp shows after a write: all of the value at MODE 8, 0 at MODE 0, else what it showed before
 abbrev pub root_after : ℕ → ℕ → ℕ
 root_after before v = if field 60 4 v == 8 then v else if field 60 4 v == 0 then 0 else before
 
@@ -93,15 +93,19 @@ SatpReadsBack = (csrs : Csrs) (v : ℕ) → v < 2 ^ 64
 
 abbrev pub VsatpReadsBack : Type 0
 VsatpReadsBack = (csrs : Csrs) (v : ℕ) → v < 2 ^ 64
-    → shown (written csrs (VirtualSupervisor Atp) v) (VirtualSupervisor Atp) ≡ root_after (shown csrs (VirtualSupervisor Atp)) v
+    → shown (written csrs (VirtualSupervisor Atp) v) (VirtualSupervisor Atp)
+    ≡ root_after (shown csrs (VirtualSupervisor Atp)) v
 
 abbrev pub HgatpReadsBack : Type 0
-HgatpReadsBack = (csrs : Csrs) (v : ℕ) → v < 2 ^ 64 → shown (written csrs (Hypervisor Hgatp) v) (Hypervisor Hgatp) ≡ guest_root_after v
+HgatpReadsBack = (csrs : Csrs) (v : ℕ)
+    → v < 2 ^ 64 → shown (written csrs (Hypervisor Hgatp) v) (Hypervisor Hgatp) ≡ guest_root_after v
 
--- where a write reaches a register it is made, and a read by the same mode and number then shows that register
+-- where a write reaches a register it is made, and a read by the same mode and number shows that register
 abbrev pub ReadsWhatWasWritten : Type 0
-ReadsWhatWasWritten = (csrs : Csrs) (mode : Mode) (number v : ℕ) (r : Register) → named_to_write csrs mode number ≡ Ok r
-    → (write csrs mode number v ≡ Ok (written csrs r v)) × (read (written csrs r v) mode number ≡ Ok (shown (written csrs r v) r))
+ReadsWhatWasWritten = (csrs : Csrs) (mode : Mode) (number v : ℕ) (r : Register)
+    → named_to_write csrs mode number ≡ Ok r
+    → (write csrs mode number v ≡ Ok (written csrs r v))
+    × (read (written csrs r v) mode number ≡ Ok (shown (written csrs r v) r))
 
 -- the other registers that show some of what a write of a register changes
 abbrev pub is_alias : Register → Register → Bool
@@ -120,13 +124,15 @@ is_alias r s = false
 
 -- a write of a register leaves what the others show, but for its aliases
 abbrev pub LeavesOthers : Type 0
-LeavesOthers = (csrs : Csrs) (r s : Register) (v : ℕ) → r ≢ s → is_alias r s ≡ false → shown (written csrs r v) s ≡ shown csrs s
+LeavesOthers = (csrs : Csrs) (r s : Register) (v : ℕ)
+    → r ≢ s → is_alias r s ≡ false → shown (written csrs r v) s ≡ shown csrs s
 
 abbrev pub is_illegal : {A : Type 0} → Result A CsrEnd → Bool
 is_illegal (Err Illegal) = true
 is_illegal answer = false
 
--- with V = 1 an access is illegal exactly where it is in HS, so each other refusal there is a virtual instruction (8.6.1)
+-- with V = 1 an access is illegal exactly where it is in HS, so each other refusal there is a virtual
+-- instruction (8.6.1)
 abbrev pub IllegalAsInHs : Type 0
 IllegalAsInHs = (csrs : Csrs) (number v : ℕ)
     → (is_illegal (read csrs VS number) ≡ is_illegal (read csrs HS number))

@@ -1,7 +1,7 @@
 // The registers of which HS and VS each have a copy, as numbers.
 
 ghost use Rattle.std.specs.Prelude.{◌≡◌};
-ghost use Rattle.arch_defs.specs.CsrBits.{bit_at, status_number, status_of, tvec_bits, epc_bits, supervisor_root_number, supervisor_root_of};
+ghost use Rattle.arch_defs.specs.CsrBits.{bit_number, status_number, status_of, tvec_bits, epc_bits, supervisor_root_number, supervisor_root_of};
 ghost use Rattle.arch_defs.specs.Access.{bank_shown, bank_written};
 
 use arch_defs::{Bank, BankRegister, SupervisorRoot, SupervisorStatus};

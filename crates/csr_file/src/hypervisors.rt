@@ -2,7 +2,7 @@
 
 ghost use Rattle.std.specs.Prelude.{◌≡◌};
 ghost use Rattle.arch_defs.specs.Bits.{bit};
-ghost use Rattle.arch_defs.specs.CsrBits.{bit_at, hstatus_number, hstatus_of, hedeleg_bits, guest_root_number, guest_root_of};
+ghost use Rattle.arch_defs.specs.CsrBits.{bit_number, hstatus_number, hstatus_of, hedeleg_bits, guest_root_number, guest_root_of};
 ghost use Rattle.arch_defs.specs.Access.{bit_shown, bit_written, hypervisor_shown, hypervisor_written};
 
 use crate::banks::WIDTH_64;

@@ -2,7 +2,7 @@
 
 ghost use Rattle.std.specs.Prelude.{◌≡◌, if◌then◌else◌};
 ghost use Rattle.arch_defs.specs.Bits.{bit};
-ghost use Rattle.arch_defs.specs.CsrBits.{bit_at, supervisor_number, supervisor_interrupts, virtual_number, virtual_interrupts, delegated, delegated_become};
+ghost use Rattle.arch_defs.specs.CsrBits.{bit_number, supervisor_number, supervisor_interrupts, virtual_number, virtual_interrupts, delegated, delegated_become};
 ghost use Rattle.arch_defs.specs.Access.{interrupts_shown, interrupts_written};
 
 use arch_defs::{Csrs, InterruptRegister, Interrupts};

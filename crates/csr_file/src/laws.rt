@@ -2,7 +2,8 @@
 
 ghost use Rattle.csr_file.specs.Laws.{ReadsBack, SatpReadsBack, VsatpReadsBack, HgatpReadsBack, ReadsWhatWasWritten, LeavesOthers, IllegalAsInHs};
 
-/// A read after a write gives what was there before with the writable bits replaced; satp, vsatp and hgatp by their MODE.
+/// A read after a write gives what was there before with the writable bits replaced; satp, vsatp and hgatp by
+/// their MODE.
 pub fn reads_back()
     ensures plain { ReadsBack }
     ensures satp { SatpReadsBack }
@@ -20,7 +21,8 @@ pub fn leaves_others()
     ensures { LeavesOthers }
 {}
 
-/// With V = 1 an access is illegal exactly where it is in HS; each other refusal there is a virtual instruction.
+/// With V = 1 an access is illegal exactly where it is in HS; each other refusal there is a virtual
+/// instruction.
 pub fn illegal_as_in_hs()
     ensures { IllegalAsInHs }
 {}

@@ -35,12 +35,13 @@ fn counts(csrs: Csrs, mode: Mode, writes: bool) -> (u16, u16, u16) {
     (made, illegal, virtual_ones)
 }
 
-/// The table has 11 supervisor, 9 virtual supervisor and 13 hypervisor registers from 0x100, 0x200 and 0x600 on,
-/// and the read-only hgeip and time: 35, so 4,061 numbers name nothing and are illegal everywhere.
+/// The table has 11 supervisor, 9 virtual supervisor and 13 hypervisor registers from 0x100, 0x200 and 0x600
+/// on, and the read-only hgeip and time: 35, so 4,061 numbers name nothing and are illegal everywhere.
 ///
-/// With time shown and satp allowed: HS reads 35, and writes 33, as hgeip and time are illegal then. U reads time. VS reads
-/// 12, which are 9 copies, scounteren, senvcfg and time, and 9 + 13 + 1 are virtual; it writes 11, 9 + 13 are virtual, and
-/// hgeip and time are illegal. VU reads time, and 11 + 9 + 13 + 1 are virtual; of its writes 11 + 9 + 13.
+/// With time shown and satp allowed: HS reads 35, and writes 33, as hgeip and time are illegal then. U reads
+/// time. VS reads 12, which are 9 copies, scounteren, senvcfg and time, and 9 + 13 + 1 are virtual; it writes
+/// 11, 9 + 13 are virtual, and hgeip and time are illegal. VU reads time, and 11 + 9 + 13 + 1 are virtual; of
+/// its writes 11 + 9 + 13.
 ///
 /// With time kept back and VTVM = 1, U reads nothing, and VS's satp and time, and VU's time, are virtual.
 #[test]
@@ -73,8 +74,8 @@ fn every_number_in_every_mode(rt: HostRuntime) {
     }
 }
 
-/// One write and one read after another on the same registers: what is written by a mode and number, and what a mode
-/// and number shows then.
+/// One write and one read after another on the same registers: what is written by a mode and number, and what
+/// a mode and number shows then.
 #[test]
 fn writable_bits_and_aliases(rt: HostRuntime) {
     let ones = u64::MAX;
@@ -154,7 +155,8 @@ fn writable_bits_and_aliases(rt: HostRuntime) {
     }
 }
 
-/// time is the clock, in V = 1 ahead by htimedelta modulo 2^64, so 5 - 3 here; and who is refused which register.
+/// time is the clock, in V = 1 ahead by htimedelta modulo 2^64, so 5 - 3 here; and who is refused which
+/// register.
 #[test]
 fn time_and_refusals(rt: HostRuntime) {
     let mut open = registers(false, true);

@@ -1,6 +1,6 @@
 -- Decoding gives each op back, by the format of its word.
 use Rattle.std.proofs.Common.{◌≡◌, ℕ, ◌+◌, ◌*◌, ◌%◌, ◌^◌, ◌<◌, Some, Bool, true, false, refl, sym, ◌∙◌, arith}
-use Rattle.std.specs.Prelude.{nat_lt, ◌&&◌}
+use Rattle.std.specs.Prelude.{nat_lt, ◌&&◌, if◌then◌else◌}
 use Rattle.std.proofs.lemmas.Bool.{and_parts, and_from, ltb-true, false≢true, true≢false}
 use Rattle.arch_defs.specs.declared.widths.Width.{Width}
 use Rattle.arch_defs.specs.declared.widths.Width.TheVariants as width
@@ -19,11 +19,11 @@ use Rattle.op_defs.specs.declared.ops.CsrSource.TheVariants as source
 use Rattle.op_defs.specs.declared.ops.Op.{Op}
 use Rattle.op_defs.specs.declared.ops.Op.TheVariants as op
 use Rattle.op_defs.specs.Table.{op_of}
-use Rattle.rv64_asm.specs.Words.{encoded, r_word, i_word, s_word, b_word, u_word, j_word, immediate_word, csr_word, test_funct3, width_code, load_funct3, alu_funct3, alu_funct7, word_funct3, word_funct7, is_shift, is_word_shift, amo_funct7, csr_code, guest_load_rs2}
+use Rattle.rv64_asm.specs.Words.{encoded, r_word, i_word, s_word, b_word, u_word, j_word, immediate_word, csr_word, test_funct3, width_code, load_funct3, alu_funct3, alu_funct7, counterpart, register_word, is_shift, amo_funct7, csr_code, guest_load_rs2}
 use Rattle.rv64_asm.specs.Fitting.{fits, in_range, in_steps, has_load, has_guest_fetch, is_atomic_width, alu_immediate_fits, word_immediate_fits, source_fits}
 use Rattle.rv64_asm.specs.Laws.{all_named, named, source_named}
-use Rattle.rv64_asm.proofs.Sums.{Parts, ShiftParts, the_opcode, the_rd, the_funct3, the_rs1, the_rs2, the_funct7, shift_opcode, shift_rd, shift_funct3, shift_rs1, shift_amount, shift_upper}
-use Rattle.rv64_asm.proofs.Immediates.{IWord, SWord, BWord, UWord, JWord, i_back, i_opcode, i_rd, i_funct3, i_rs1, i_number, s_back, s_opcode, s_funct3, s_rs1, s_rs2, b_back, b_opcode, b_funct3, b_rs1, b_rs2, u_back, u_opcode, u_rd, j_back, j_opcode, j_rd}
+use Rattle.rv64_asm.proofs.WordFields.{RWord, ShiftWord, IWord, SWord, BWord, UWord, JWord, r_fields, shift_fields, i_fields, s_fields, b_fields, u_fields, j_fields}
+use Rattle.rv64_asm.proofs.Immediates.{i_back, i_number, s_back, b_back, u_back, j_back}
 use Rattle.rv64_asm.proofs.Shifts.{shift_fits, word_shift_fits}
 use Rattle.rv64_asm.proofs.TableBack as group
 
@@ -78,73 +78,26 @@ unfolding guest_load_rs2
 small_rs2 true = omega arith
 small_rs2 false = omega arith
 
-small_alu3 : (o : AluOp) → alu_funct3 o < 2 ^ 3
-unfolding alu_funct3
-small_alu3 alu.Add = omega arith
-small_alu3 alu.Sub = omega arith
-small_alu3 alu.Sll = omega arith
-small_alu3 alu.Slt = omega arith
-small_alu3 alu.Sltu = omega arith
-small_alu3 alu.Xor = omega arith
-small_alu3 alu.Srl = omega arith
-small_alu3 alu.Sra = omega arith
-small_alu3 alu.Or = omega arith
-small_alu3 alu.And = omega arith
-small_alu3 alu.Mul = omega arith
-small_alu3 alu.Mulh = omega arith
-small_alu3 alu.Mulhsu = omega arith
-small_alu3 alu.Mulhu = omega arith
-small_alu3 alu.Div = omega arith
-small_alu3 alu.Divu = omega arith
-small_alu3 alu.Rem = omega arith
-small_alu3 alu.Remu = omega arith
-
-small_alu7 : (o : AluOp) → alu_funct7 o < 2 ^ 7
-unfolding alu_funct7
-small_alu7 alu.Add = omega arith
-small_alu7 alu.Sub = omega arith
-small_alu7 alu.Sll = omega arith
-small_alu7 alu.Slt = omega arith
-small_alu7 alu.Sltu = omega arith
-small_alu7 alu.Xor = omega arith
-small_alu7 alu.Srl = omega arith
-small_alu7 alu.Sra = omega arith
-small_alu7 alu.Or = omega arith
-small_alu7 alu.And = omega arith
-small_alu7 alu.Mul = omega arith
-small_alu7 alu.Mulh = omega arith
-small_alu7 alu.Mulhsu = omega arith
-small_alu7 alu.Mulhu = omega arith
-small_alu7 alu.Div = omega arith
-small_alu7 alu.Divu = omega arith
-small_alu7 alu.Rem = omega arith
-small_alu7 alu.Remu = omega arith
-
-small_word3 : (o : WordOp) → word_funct3 o < 2 ^ 3
-unfolding word_funct3
-small_word3 word_op.Add = omega arith
-small_word3 word_op.Sub = omega arith
-small_word3 word_op.Sll = omega arith
-small_word3 word_op.Srl = omega arith
-small_word3 word_op.Sra = omega arith
-small_word3 word_op.Mul = omega arith
-small_word3 word_op.Div = omega arith
-small_word3 word_op.Divu = omega arith
-small_word3 word_op.Rem = omega arith
-small_word3 word_op.Remu = omega arith
-
-small_word7 : (o : WordOp) → word_funct7 o < 2 ^ 7
-unfolding word_funct7
-small_word7 word_op.Add = omega arith
-small_word7 word_op.Sub = omega arith
-small_word7 word_op.Sll = omega arith
-small_word7 word_op.Srl = omega arith
-small_word7 word_op.Sra = omega arith
-small_word7 word_op.Mul = omega arith
-small_word7 word_op.Div = omega arith
-small_word7 word_op.Divu = omega arith
-small_word7 word_op.Rem = omega arith
-small_word7 word_op.Remu = omega arith
+small_alu : (o : AluOp) → (alu_funct3 o < 2 ^ 3) × (alu_funct7 o < 2 ^ 7)
+unfolding alu_funct3 alu_funct7
+small_alu alu.Add = (omega arith, omega arith)
+small_alu alu.Sub = (omega arith, omega arith)
+small_alu alu.Sll = (omega arith, omega arith)
+small_alu alu.Slt = (omega arith, omega arith)
+small_alu alu.Sltu = (omega arith, omega arith)
+small_alu alu.Xor = (omega arith, omega arith)
+small_alu alu.Srl = (omega arith, omega arith)
+small_alu alu.Sra = (omega arith, omega arith)
+small_alu alu.Or = (omega arith, omega arith)
+small_alu alu.And = (omega arith, omega arith)
+small_alu alu.Mul = (omega arith, omega arith)
+small_alu alu.Mulh = (omega arith, omega arith)
+small_alu alu.Mulhsu = (omega arith, omega arith)
+small_alu alu.Mulhu = (omega arith, omega arith)
+small_alu alu.Div = (omega arith, omega arith)
+small_alu alu.Divu = (omega arith, omega arith)
+small_alu alu.Rem = (omega arith, omega arith)
+small_alu alu.Remu = (omega arith, omega arith)
 
 small_amo : (o : AmoOp) → amo_funct7 o < 2 ^ 7
 unfolding amo_funct7
@@ -180,8 +133,8 @@ plain_fits alu.Srl x s h = absurd (true≢false s)
 plain_fits alu.Sra x s h = absurd (true≢false s)
 plain_fits o x s h = absurd (false≢true h)
 
-plain_word_fits : (o : WordOp) (x : ℕ) → is_word_shift o ≡ false → word_immediate_fits o x ≡ true → in_range 12 x ≡ true
-unfolding is_word_shift word_immediate_fits
+plain_word_fits : (o : WordOp) (x : ℕ) → is_shift (counterpart o) ≡ false → word_immediate_fits o x ≡ true → in_range 12 x ≡ true
+unfolding is_shift counterpart word_immediate_fits
 plain_word_fits word_op.Add x s h = h
 plain_word_fits word_op.Sll x s h = absurd (true≢false s)
 plain_word_fits word_op.Srl x s h = absurd (true≢false s)
@@ -191,62 +144,56 @@ plain_word_fits o x s h = absurd (false≢true h)
 -- words of the other formats
 
 s_parts : (o c a b x : ℕ) → o < 2 ^ 7 → c < 2 ^ 3 → (named a && named b) ≡ true → SWord (s_word o c a b x) o c a b x
-unfolding s_word
-s_parts o c a b x k l h = record { sum = refl; opcode = k; funct3 = l; rs1 = first a b h; rs2 = second a b h }
+s_parts o c a b x k l h = s_fields o c a b x k l (first a b h) (second a b h)
 
 b_parts : (o c a b x : ℕ) → o < 2 ^ 7 → c < 2 ^ 3 → (named a && named b) ≡ true → BWord (b_word o c a b x) o c a b x
-unfolding b_word
-b_parts o c a b x k l h = record { sum = refl; opcode = k; funct3 = l; rs1 = first a b h; rs2 = second a b h }
+b_parts o c a b x k l h = b_fields o c a b x k l (first a b h) (second a b h)
 
 -- R, with rs2 a register, or a number of five bits, or one of six bits
-amount_parts : (o a c b e f : ℕ) → o < 2 ^ 7 → c < 2 ^ 3 → f < 2 ^ 7 → (named a && named b) ≡ true → e < 2 ^ 5 → Parts (r_word o a c b e f) o a c b e f
-unfolding r_word
-amount_parts o a c b e f k l m h n = record { sum = refl; opcode = k; rd = first a b h; funct3 = l; rs1 = second a b h; rs2 = n; funct7 = m }
+amount_parts : (o a c b e f : ℕ) → o < 2 ^ 7 → c < 2 ^ 3 → f < 2 ^ 7 → (named a && named b) ≡ true → e < 2 ^ 5
+    → RWord (r_word o a c b e f) o a c b e f
+amount_parts o a c b e f k l m h n = r_fields o a c b e f k (first a b h) l (second a b h) n m
 
-r_parts : (o a c b e f : ℕ) → o < 2 ^ 7 → c < 2 ^ 3 → f < 2 ^ 7 → (named a && named b && named e) ≡ true → Parts (r_word o a c b e f) o a c b e f
-unfolding r_word
+r_parts : (o a c b e f : ℕ) → o < 2 ^ 7 → c < 2 ^ 3 → f < 2 ^ 7 → (named a && named b && named e) ≡ true
+    → RWord (r_word o a c b e f) o a c b e f
 r_parts o a c b e f k l m h = let i = and_parts (named a && named b) (named e) h in
-    record { sum = refl; opcode = k; rd = first a b i.0; funct3 = l; rs1 = second a b i.0; rs2 = is_named e i.1; funct7 = m }
+    amount_parts o a c b e f k l m i.0 (is_named e i.1)
 
 shift_parts : (o a c b e f : ℕ) → o < 2 ^ 7 → c < 2 ^ 3 → f < 2 ^ 7 → (named a && named b) ≡ true → e < 2 ^ 6 → f % 2 ≡ 0
-    → ShiftParts (r_word o a c b e f) o a c b e f
-unfolding r_word
-shift_parts o a c b e f k l m h n i = record { sum = refl; opcode = k; rd = first a b h; funct3 = l; rs1 = second a b h; amount = n; funct7 = m; even = i }
+    → ShiftWord (r_word o a c b e f) o a c b e f
+shift_parts o a c b e f k l m h n i = shift_fields o a c b e f k (first a b h) l (second a b h) n m i
 
 -- U and J
 
 lui : (w a x : ℕ) → UWord w 0b0110111 a x → in_steps 32 4096 x ≡ true → op_of w ≡ Some (op.Lui a x)
-lui w a x p h = group.at_lui w (u_opcode w 0b0110111 a x p) ∙ simp (u_rd w 0b0110111 a x p, u_back w 0b0110111 a x p h)
+lui w a x p h = group.at_lui w p.opcode ∙ simp (p.rd, u_back w x p.immediate h)
 
 auipc : (w a x : ℕ) → UWord w 0b0010111 a x → in_steps 32 4096 x ≡ true → op_of w ≡ Some (op.Auipc a x)
-auipc w a x p h = group.at_auipc w (u_opcode w 0b0010111 a x p) ∙ simp (u_rd w 0b0010111 a x p, u_back w 0b0010111 a x p h)
+auipc w a x p h = group.at_auipc w p.opcode ∙ simp (p.rd, u_back w x p.immediate h)
 
 jal : (w a x : ℕ) → JWord w 0b1101111 a x → in_steps 21 2 x ≡ true → op_of w ≡ Some (op.Jal a x)
-jal w a x p h = group.at_jal w (j_opcode w 0b1101111 a x p) ∙ simp (j_rd w 0b1101111 a x p, j_back w 0b1101111 a x p h)
+jal w a x p h = group.at_jal w p.opcode ∙ simp (p.rd, j_back w x p.immediate h)
 
 u_parts : (o a x : ℕ) → o < 2 ^ 7 → named a ≡ true → UWord (u_word o a x) o a x
-unfolding u_word
-u_parts o a x k h = record { sum = refl; opcode = k; rd = is_named a h }
+u_parts o a x k h = u_fields o a x k (is_named a h)
 
 j_parts : (o a x : ℕ) → o < 2 ^ 7 → named a ≡ true → JWord (j_word o a x) o a x
-unfolding j_word
-j_parts o a x k h = record { sum = refl; opcode = k; rd = is_named a h }
+j_parts o a x k h = j_fields o a x k (is_named a h)
 
 -- I
 
 i_parts : (o a c b x : ℕ) → o < 2 ^ 7 → c < 2 ^ 3 → (named a && named b) ≡ true → IWord (i_word o a c b x) o a c b x
-unfolding i_word
-i_parts o a c b x k l h = record { sum = refl; opcode = k; rd = first a b h; funct3 = l; rs1 = second a b h }
+i_parts o a c b x k l h = i_fields o a c b x k (first a b h) l (second a b h)
 
 jalr : (w a b x : ℕ) → IWord w 0b1100111 a 0 b x → in_range 12 x ≡ true → op_of w ≡ Some (op.Jalr a b x)
-jalr w a b x p h = group.at_jalr w (i_opcode w 0b1100111 a 0 b x p) (i_funct3 w 0b1100111 a 0 b x p)
-    ∙ simp (i_rd w 0b1100111 a 0 b x p, i_rs1 w 0b1100111 a 0 b x p, i_back w 0b1100111 a 0 b x p h)
+jalr w a b x p h = group.at_jalr w p.low.opcode p.low.funct3
+    ∙ simp (p.low.rd, p.low.rs1, i_back w x p.immediate h)
 
 load : (w a b x : ℕ) (s : Width) (signed : Bool) → IWord w 0b0000011 a (load_funct3 s signed) b x → (has_load s signed && in_range 12 x) ≡ true
     → op_of w ≡ Some (op.Load s signed a b x)
-load w a b x s signed p h = let k = and_parts (has_load s signed) (in_range 12 x) h in group.at_load w (i_opcode w 0b0000011 a _ b x p)
-    ∙ group.load_back w a b x s signed k.0 (i_funct3 w 0b0000011 a _ b x p) (i_rd w 0b0000011 a _ b x p) (i_rs1 w 0b0000011 a _ b x p)
-    (i_back w 0b0000011 a _ b x p k.1)
+load w a b x s signed p h = let k = and_parts (has_load s signed) (in_range 12 x) h in group.at_load w p.low.opcode
+    ∙ group.load_back w a b x s signed k.0 p.low.funct3 p.low.rd p.low.rs1
+    (i_back w x p.immediate k.1)
 
 -- an op on a control and status register
 
@@ -254,17 +201,17 @@ csr_register : (a b n : ℕ) (o : CsrOp) → named a ≡ true → named b ≡ tr
     → op_of (i_word 0b1110011 a (csr_code o) b n) ≡ Some (op.Csr o (source.Register b) a n)
 csr_register a b n o k l h = let p = i_parts 0b1110011 a (csr_code o) b n (omega arith) (small_csr o) (and_from (named a) (named b) k l) in
     let w = i_word 0b1110011 a (csr_code o) b n in
-    group.at_system w (i_opcode w 0b1110011 a _ b n p)
-    ∙ group.csr_register_back w a b n o (i_funct3 w 0b1110011 a _ b n p) (i_rd w 0b1110011 a _ b n p) (i_rs1 w 0b1110011 a _ b n p)
-    (i_number w 0b1110011 a _ b n p h)
+    group.at_system w p.low.opcode
+    ∙ group.csr_register_back w a b n o p.low.funct3 p.low.rd p.low.rs1
+    (i_number w n p.immediate h)
 
 csr_immediate : (a b n : ℕ) (o : CsrOp) → named a ≡ true → named b ≡ true → n < 2 ^ 12
     → op_of (i_word 0b1110011 a (csr_code o + 0b100) b n) ≡ Some (op.Csr o (source.Immediate b) a n)
 csr_immediate a b n o k l h = let p = i_parts 0b1110011 a (csr_code o + 0b100) b n (omega arith) (small_csr_immediate o) (and_from (named a) (named b) k l) in
     let w = i_word 0b1110011 a (csr_code o + 0b100) b n in
-    group.at_system w (i_opcode w 0b1110011 a _ b n p)
-    ∙ group.csr_immediate_back w a b n o (i_funct3 w 0b1110011 a _ b n p) (i_rd w 0b1110011 a _ b n p) (i_rs1 w 0b1110011 a _ b n p)
-    (i_number w 0b1110011 a _ b n p h)
+    group.at_system w p.low.opcode
+    ∙ group.csr_immediate_back w a b n o p.low.funct3 p.low.rd p.low.rs1
+    (i_number w n p.immediate h)
 
 csr_back : (a n : ℕ) (o : CsrOp) (from : CsrSource) → (named a && source_named from) ≡ true → (source_fits from && nat_lt n 4096) ≡ true
     → op_of (csr_word o from a n) ≡ Some (op.Csr o from a n)
@@ -279,84 +226,86 @@ store : (a b x : ℕ) (s : Width) → (named a && named b) ≡ true → in_range
     → op_of (s_word 0b0100011 (width_code s) a b x) ≡ Some (op.Store s a b x)
 store a b x s h k = let p = s_parts 0b0100011 (width_code s) a b x (omega arith) (omega (arith, small_width s)) h in
     let w = s_word 0b0100011 (width_code s) a b x in
-    group.at_store w (s_opcode w 0b0100011 _ a b x p)
-    ∙ group.store_back w a b x s (s_funct3 w 0b0100011 _ a b x p) (s_rs1 w 0b0100011 _ a b x p) (s_rs2 w 0b0100011 _ a b x p)
-    (s_back w 0b0100011 _ a b x p k)
+    group.at_store w p.low.opcode
+    ∙ group.store_back w a b x s p.low.funct3 p.low.rs1 p.rs2
+    (s_back w x p.immediate k)
 
 branch : (a b x : ℕ) (t : Test) → (named a && named b) ≡ true → in_steps 13 2 x ≡ true
     → op_of (b_word 0b1100011 (test_funct3 t) a b x) ≡ Some (op.Branch t a b x)
 branch a b x t h k = let p = b_parts 0b1100011 (test_funct3 t) a b x (omega arith) (small_test t) h in
     let w = b_word 0b1100011 (test_funct3 t) a b x in
-    group.at_branch w (b_opcode w 0b1100011 _ a b x p)
-    ∙ group.branch_back w a b x t (b_funct3 w 0b1100011 _ a b x p) (b_rs1 w 0b1100011 _ a b x p) (b_rs2 w 0b1100011 _ a b x p)
-    (b_back w 0b1100011 _ a b x p k)
+    group.at_branch w p.low.opcode
+    ∙ group.branch_back w a b x t p.low.funct3 p.low.rs1 p.rs2
+    (b_back w x p.immediate k)
 
 -- R
 
 register : (a b c : ℕ) (o : AluOp) → (named a && named b && named c) ≡ true
-    → op_of (r_word 0b0110011 a (alu_funct3 o) b c (alu_funct7 o)) ≡ Some (op.Alu o a b c)
-register a b c o h = let p = r_parts 0b0110011 a (alu_funct3 o) b c (alu_funct7 o) (omega arith) (small_alu3 o) (small_alu7 o) h in
+    → op_of (register_word 0b0110011 o a b c) ≡ Some (op.Alu o a b c)
+unfolding register_word
+register a b c o h = let p = r_parts 0b0110011 a (alu_funct3 o) b c (alu_funct7 o) (omega arith) (small_alu o).0 (small_alu o).1 h in
     let w = r_word 0b0110011 a (alu_funct3 o) b c (alu_funct7 o) in
-    group.at_register w (the_opcode w 0b0110011 a _ b c _ p)
-    ∙ group.register_back w a b c o (the_funct3 w 0b0110011 a _ b c _ p) (the_funct7 w 0b0110011 a _ b c _ p) (the_rd w 0b0110011 a _ b c _ p)
-    (the_rs1 w 0b0110011 a _ b c _ p) (the_rs2 w 0b0110011 a _ b c _ p)
+    group.at_register w p.low.opcode
+    ∙ group.register_back w a b c o p.low.funct3 p.funct7 p.low.rd
+    p.low.rs1 p.rs2
 
 word : (a b c : ℕ) (o : WordOp) → (named a && named b && named c) ≡ true
-    → op_of (r_word 0b0111011 a (word_funct3 o) b c (word_funct7 o)) ≡ Some (op.Word o a b c)
-word a b c o h = let p = r_parts 0b0111011 a (word_funct3 o) b c (word_funct7 o) (omega arith) (small_word3 o) (small_word7 o) h in
-    let w = r_word 0b0111011 a (word_funct3 o) b c (word_funct7 o) in
-    group.at_word w (the_opcode w 0b0111011 a _ b c _ p)
-    ∙ group.word_back w a b c o (the_funct3 w 0b0111011 a _ b c _ p) (the_funct7 w 0b0111011 a _ b c _ p) (the_rd w 0b0111011 a _ b c _ p)
-    (the_rs1 w 0b0111011 a _ b c _ p) (the_rs2 w 0b0111011 a _ b c _ p)
+    → op_of (register_word 0b0111011 (counterpart o) a b c) ≡ Some (op.Word o a b c)
+unfolding register_word
+word a b c o h = let p = r_parts 0b0111011 a (alu_funct3 (counterpart o)) b c (alu_funct7 (counterpart o)) (omega arith) (small_alu (counterpart o)).0 (small_alu (counterpart o)).1 h in
+    let w = r_word 0b0111011 a (alu_funct3 (counterpart o)) b c (alu_funct7 (counterpart o)) in
+    group.at_word w p.low.opcode
+    ∙ group.word_back w a b c o p.low.funct3 p.funct7 p.low.rd
+    p.low.rs1 p.rs2
 
 -- OP-IMM and OP-IMM-32
 
 alu_immediate : (a b x : ℕ) (o : AluOp) (shift : Bool) → is_shift o ≡ shift → (named a && named b) ≡ true → alu_immediate_fits o x ≡ true
-    → op_of (immediate_word shift 0b0010011 a (alu_funct3 o) b x (alu_funct7 o)) ≡ Some (op.AluImmediate o a b x)
-unfolding immediate_word
+    → op_of (if shift then register_word 0b0010011 o a b x else i_word 0b0010011 a (alu_funct3 o) b x) ≡ Some (op.AluImmediate o a b x)
+unfolding register_word
 alu_immediate a b x o true s h k =
-    let p = shift_parts 0b0010011 a (alu_funct3 o) b x (alu_funct7 o) (omega arith) (small_alu3 o) (small_alu7 o) h (shift_fits o x s k) (even_alu7 o s) in
+    let p = shift_parts 0b0010011 a (alu_funct3 o) b x (alu_funct7 o) (omega arith) (small_alu o).0 (small_alu o).1 h (shift_fits o x s k) (even_alu7 o s) in
     let w = r_word 0b0010011 a (alu_funct3 o) b x (alu_funct7 o) in
-    group.at_immediate w (shift_opcode w 0b0010011 a _ b x _ p)
-    ∙ group.immediate_back w a b x o k (shift_funct3 w 0b0010011 a _ b x _ p) (shift_rd w 0b0010011 a _ b x _ p) (shift_rs1 w 0b0010011 a _ b x _ p)
+    group.at_immediate w p.low.opcode
+    ∙ group.immediate_back w a b x o k p.low.funct3 p.low.rd p.low.rs1
     (record {
-      amount = λ _. shift_amount w 0b0010011 a _ b x _ p;
-      upper = λ _. shift_upper w 0b0010011 a _ b x _ p;
+      amount = λ _. p.amount;
+      upper = λ _. p.upper;
       immediate = λ q. absurd (true≢false (sym s ∙ q));
     })
 alu_immediate a b x o false s h k =
-    let p = i_parts 0b0010011 a (alu_funct3 o) b x (omega arith) (small_alu3 o) h in
+    let p = i_parts 0b0010011 a (alu_funct3 o) b x (omega arith) (small_alu o).0 h in
     let w = i_word 0b0010011 a (alu_funct3 o) b x in
-    group.at_immediate w (i_opcode w 0b0010011 a _ b x p)
-    ∙ group.immediate_back w a b x o k (i_funct3 w 0b0010011 a _ b x p) (i_rd w 0b0010011 a _ b x p) (i_rs1 w 0b0010011 a _ b x p)
+    group.at_immediate w p.low.opcode
+    ∙ group.immediate_back w a b x o k p.low.funct3 p.low.rd p.low.rs1
     (record {
       amount = λ q. absurd (true≢false (sym q ∙ s));
       upper = λ q. absurd (true≢false (sym q ∙ s));
-      immediate = λ _. i_back w 0b0010011 a _ b x p (plain_fits o x s k);
+      immediate = λ _. i_back w x p.immediate (plain_fits o x s k);
     })
 
-word_immediate : (a b x : ℕ) (o : WordOp) (shift : Bool) → is_word_shift o ≡ shift → (named a && named b) ≡ true → word_immediate_fits o x ≡ true
-    → op_of (immediate_word shift 0b0011011 a (word_funct3 o) b x (word_funct7 o)) ≡ Some (op.WordImmediate o a b x)
-unfolding immediate_word
+word_immediate : (a b x : ℕ) (o : WordOp) (shift : Bool) → is_shift (counterpart o) ≡ shift → (named a && named b) ≡ true → word_immediate_fits o x ≡ true
+    → op_of (if shift then register_word 0b0011011 (counterpart o) a b x else i_word 0b0011011 a (alu_funct3 (counterpart o)) b x) ≡ Some (op.WordImmediate o a b x)
+unfolding register_word
 word_immediate a b x o true s h k =
-    let p = amount_parts 0b0011011 a (word_funct3 o) b x (word_funct7 o) (omega arith) (small_word3 o) (small_word7 o) h (word_shift_fits o x s k) in
-    let w = r_word 0b0011011 a (word_funct3 o) b x (word_funct7 o) in
-    group.at_word_immediate w (the_opcode w 0b0011011 a _ b x _ p)
-    ∙ group.word_immediate_back w a b x o k (the_funct3 w 0b0011011 a _ b x _ p) (the_rd w 0b0011011 a _ b x _ p) (the_rs1 w 0b0011011 a _ b x _ p)
+    let p = amount_parts 0b0011011 a (alu_funct3 (counterpart o)) b x (alu_funct7 (counterpart o)) (omega arith) (small_alu (counterpart o)).0 (small_alu (counterpart o)).1 h (word_shift_fits o x s k) in
+    let w = r_word 0b0011011 a (alu_funct3 (counterpart o)) b x (alu_funct7 (counterpart o)) in
+    group.at_word_immediate w p.low.opcode
+    ∙ group.word_immediate_back w a b x o k p.low.funct3 p.low.rd p.low.rs1
     (record {
-      amount = λ _. the_rs2 w 0b0011011 a _ b x _ p;
-      upper = λ _. the_funct7 w 0b0011011 a _ b x _ p;
+      amount = λ _. p.rs2;
+      upper = λ _. p.funct7;
       immediate = λ q. absurd (true≢false (sym s ∙ q));
     })
 word_immediate a b x o false s h k =
-    let p = i_parts 0b0011011 a (word_funct3 o) b x (omega arith) (small_word3 o) h in
-    let w = i_word 0b0011011 a (word_funct3 o) b x in
-    group.at_word_immediate w (i_opcode w 0b0011011 a _ b x p)
-    ∙ group.word_immediate_back w a b x o k (i_funct3 w 0b0011011 a _ b x p) (i_rd w 0b0011011 a _ b x p) (i_rs1 w 0b0011011 a _ b x p)
+    let p = i_parts 0b0011011 a (alu_funct3 (counterpart o)) b x (omega arith) (small_alu (counterpart o)).0 h in
+    let w = i_word 0b0011011 a (alu_funct3 (counterpart o)) b x in
+    group.at_word_immediate w p.low.opcode
+    ∙ group.word_immediate_back w a b x o k p.low.funct3 p.low.rd p.low.rs1
     (record {
       amount = λ q. absurd (true≢false (sym q ∙ s));
       upper = λ q. absurd (true≢false (sym q ∙ s));
-      immediate = λ _. i_back w 0b0011011 a _ b x p (plain_word_fits o x s k);
+      immediate = λ _. i_back w x p.immediate (plain_word_fits o x s k);
     })
 
 -- AMO
@@ -365,78 +314,78 @@ reserved : (a b : ℕ) (s : Width) → (named a && named b) ≡ true → is_atom
     → op_of (r_word 0b0101111 a (width_code s) b 0 0b0001000) ≡ Some (op.LoadReserved s a b)
 reserved a b s h k = let p = amount_parts 0b0101111 a (width_code s) b 0 0b0001000 (omega arith) (omega (arith, small_width s)) (omega arith) h (omega arith) in
     let w = r_word 0b0101111 a (width_code s) b 0 0b0001000 in
-    group.at_atomic w (the_opcode w 0b0101111 a _ b 0 0b0001000 p)
-    ∙ group.reserved_back w a b s k (the_funct3 w 0b0101111 a _ b 0 0b0001000 p) (the_funct7 w 0b0101111 a _ b 0 0b0001000 p)
-    (the_rd w 0b0101111 a _ b 0 0b0001000 p) (the_rs1 w 0b0101111 a _ b 0 0b0001000 p) (the_rs2 w 0b0101111 a _ b 0 0b0001000 p)
+    group.at_atomic w p.low.opcode
+    ∙ group.reserved_back w a b s k p.low.funct3 p.funct7
+    p.low.rd p.low.rs1 p.rs2
 
 conditional : (a b c : ℕ) (s : Width) → (named a && named b && named c) ≡ true → is_atomic_width s ≡ true
     → op_of (r_word 0b0101111 a (width_code s) b c 0b0001100) ≡ Some (op.StoreConditional s a b c)
 conditional a b c s h k = let p = r_parts 0b0101111 a (width_code s) b c 0b0001100 (omega arith) (omega (arith, small_width s)) (omega arith) h in
     let w = r_word 0b0101111 a (width_code s) b c 0b0001100 in
-    group.at_atomic w (the_opcode w 0b0101111 a _ b c 0b0001100 p)
-    ∙ group.conditional_back w a b c s k (the_funct3 w 0b0101111 a _ b c 0b0001100 p) (the_funct7 w 0b0101111 a _ b c 0b0001100 p)
-    (the_rd w 0b0101111 a _ b c 0b0001100 p) (the_rs1 w 0b0101111 a _ b c 0b0001100 p) (the_rs2 w 0b0101111 a _ b c 0b0001100 p)
+    group.at_atomic w p.low.opcode
+    ∙ group.conditional_back w a b c s k p.low.funct3 p.funct7
+    p.low.rd p.low.rs1 p.rs2
 
 modify : (a b c : ℕ) (s : Width) (o : AmoOp) → (named a && named b && named c) ≡ true → is_atomic_width s ≡ true
     → op_of (r_word 0b0101111 a (width_code s) b c (amo_funct7 o)) ≡ Some (op.Amo o s a b c)
 modify a b c s o h k = let p = r_parts 0b0101111 a (width_code s) b c (amo_funct7 o) (omega arith) (omega (arith, small_width s)) (small_amo o) h in
     let w = r_word 0b0101111 a (width_code s) b c (amo_funct7 o) in
-    group.at_atomic w (the_opcode w 0b0101111 a _ b c _ p)
-    ∙ group.amo_back w a b c s o k (the_funct3 w 0b0101111 a _ b c _ p) (the_funct7 w 0b0101111 a _ b c _ p)
-    (the_rd w 0b0101111 a _ b c _ p) (the_rs1 w 0b0101111 a _ b c _ p) (the_rs2 w 0b0101111 a _ b c _ p)
+    group.at_atomic w p.low.opcode
+    ∙ group.amo_back w a b c s o k p.low.funct3 p.funct7
+    p.low.rd p.low.rs1 p.rs2
 
 -- SYSTEM
 
 sfence : (a b : ℕ) → (named a && named b) ≡ true → op_of (r_word 0b1110011 0 0b000 a b 0b0001001) ≡ Some (op.SfenceVma a b)
 sfence a b h = let p = r_parts 0b1110011 0 0 a b 0b0001001 (omega arith) (omega arith) (omega arith) h in
     let w = r_word 0b1110011 0 0 a b 0b0001001 in
-    group.at_system w (the_opcode w 0b1110011 0 0 a b 0b0001001 p)
-    ∙ group.sfence_back w a b (the_funct3 w 0b1110011 0 0 a b 0b0001001 p) (the_rd w 0b1110011 0 0 a b 0b0001001 p)
-    (the_funct7 w 0b1110011 0 0 a b 0b0001001 p) (the_rs1 w 0b1110011 0 0 a b 0b0001001 p) (the_rs2 w 0b1110011 0 0 a b 0b0001001 p)
+    group.at_system w p.low.opcode
+    ∙ group.sfence_back w a b p.low.funct3 p.low.rd
+    p.funct7 p.low.rs1 p.rs2
 
 hfence_vvma : (a b : ℕ) → (named a && named b) ≡ true → op_of (r_word 0b1110011 0 0b000 a b 0b0010001) ≡ Some (op.HfenceVvma a b)
 hfence_vvma a b h = let p = r_parts 0b1110011 0 0 a b 0b0010001 (omega arith) (omega arith) (omega arith) h in
     let w = r_word 0b1110011 0 0 a b 0b0010001 in
-    group.at_system w (the_opcode w 0b1110011 0 0 a b 0b0010001 p)
-    ∙ group.hfence_vvma_back w a b (the_funct3 w 0b1110011 0 0 a b 0b0010001 p) (the_rd w 0b1110011 0 0 a b 0b0010001 p)
-    (the_funct7 w 0b1110011 0 0 a b 0b0010001 p) (the_rs1 w 0b1110011 0 0 a b 0b0010001 p) (the_rs2 w 0b1110011 0 0 a b 0b0010001 p)
+    group.at_system w p.low.opcode
+    ∙ group.hfence_vvma_back w a b p.low.funct3 p.low.rd
+    p.funct7 p.low.rs1 p.rs2
 
 hfence_gvma : (a b : ℕ) → (named a && named b) ≡ true → op_of (r_word 0b1110011 0 0b000 a b 0b0110001) ≡ Some (op.HfenceGvma a b)
 hfence_gvma a b h = let p = r_parts 0b1110011 0 0 a b 0b0110001 (omega arith) (omega arith) (omega arith) h in
     let w = r_word 0b1110011 0 0 a b 0b0110001 in
-    group.at_system w (the_opcode w 0b1110011 0 0 a b 0b0110001 p)
-    ∙ group.hfence_gvma_back w a b (the_funct3 w 0b1110011 0 0 a b 0b0110001 p) (the_rd w 0b1110011 0 0 a b 0b0110001 p)
-    (the_funct7 w 0b1110011 0 0 a b 0b0110001 p) (the_rs1 w 0b1110011 0 0 a b 0b0110001 p) (the_rs2 w 0b1110011 0 0 a b 0b0110001 p)
+    group.at_system w p.low.opcode
+    ∙ group.hfence_gvma_back w a b p.low.funct3 p.low.rd
+    p.funct7 p.low.rs1 p.rs2
 
 guest_load : (a b : ℕ) (s : Width) (signed : Bool) → (named a && named b) ≡ true → has_load s signed ≡ true
     → op_of (r_word 0b1110011 a 0b100 b (guest_load_rs2 signed) (0b0110000 + width_code s * 2)) ≡ Some (op.GuestLoad s signed a b)
 guest_load a b s signed h k =
     let p = amount_parts 0b1110011 a 4 b (guest_load_rs2 signed) (48 + width_code s * 2) (omega arith) (omega arith) (omega (arith, small_width s)) h (small_rs2 signed) in
     let w = r_word 0b1110011 a 4 b (guest_load_rs2 signed) (48 + width_code s * 2) in
-    group.at_system w (the_opcode w 0b1110011 a 4 b _ _ p)
-    ∙ group.guest_load_back w a b s signed k (the_funct3 w 0b1110011 a 4 b _ _ p) (the_funct7 w 0b1110011 a 4 b _ _ p)
-    (the_rd w 0b1110011 a 4 b _ _ p) (the_rs1 w 0b1110011 a 4 b _ _ p) (the_rs2 w 0b1110011 a 4 b _ _ p)
+    group.at_system w p.low.opcode
+    ∙ group.guest_load_back w a b s signed k p.low.funct3 p.funct7
+    p.low.rd p.low.rs1 p.rs2
 
 guest_fetch : (a b : ℕ) (s : Width) → (named a && named b) ≡ true → has_guest_fetch s ≡ true
     → op_of (r_word 0b1110011 a 0b100 b 3 (0b0110000 + width_code s * 2)) ≡ Some (op.GuestFetch s a b)
 guest_fetch a b s h k =
     let p = amount_parts 0b1110011 a 4 b 3 (48 + width_code s * 2) (omega arith) (omega arith) (omega (arith, small_width s)) h (omega arith) in
     let w = r_word 0b1110011 a 4 b 3 (48 + width_code s * 2) in
-    group.at_system w (the_opcode w 0b1110011 a 4 b 3 _ p)
-    ∙ group.guest_fetch_back w a b s k (the_funct3 w 0b1110011 a 4 b 3 _ p) (the_funct7 w 0b1110011 a 4 b 3 _ p)
-    (the_rd w 0b1110011 a 4 b 3 _ p) (the_rs1 w 0b1110011 a 4 b 3 _ p) (the_rs2 w 0b1110011 a 4 b 3 _ p)
+    group.at_system w p.low.opcode
+    ∙ group.guest_fetch_back w a b s k p.low.funct3 p.funct7
+    p.low.rd p.low.rs1 p.rs2
 
 guest_store : (a b : ℕ) (s : Width) → (named a && named b) ≡ true
     → op_of (r_word 0b1110011 0 0b100 a b (0b0110001 + width_code s * 2)) ≡ Some (op.GuestStore s a b)
 guest_store a b s h =
     let p = r_parts 0b1110011 0 4 a b (49 + width_code s * 2) (omega arith) (omega arith) (omega (arith, small_width s)) h in
     let w = r_word 0b1110011 0 4 a b (49 + width_code s * 2) in
-    group.at_system w (the_opcode w 0b1110011 0 4 a b _ p)
-    ∙ group.guest_store_back w a b s (the_funct3 w 0b1110011 0 4 a b _ p) (the_funct7 w 0b1110011 0 4 a b _ p)
-    (the_rd w 0b1110011 0 4 a b _ p) (the_rs1 w 0b1110011 0 4 a b _ p) (the_rs2 w 0b1110011 0 4 a b _ p)
+    group.at_system w p.low.opcode
+    ∙ group.guest_store_back w a b s p.low.funct3 p.funct7
+    p.low.rd p.low.rs1 p.rs2
 
 pub decodes : (o : Op) → all_named o ≡ true → fits o ≡ true → op_of (encoded o) ≡ Some o
-unfolding all_named fits encoded
+unfolding all_named fits encoded immediate_word
 decodes (op.Lui a x) h k = lui _ a x (u_parts 0b0110111 a x (omega arith) h) k
 decodes (op.Auipc a x) h k = auipc _ a x (u_parts 0b0010111 a x (omega arith) h) k
 decodes (op.Jal a x) h k = jal _ a x (j_parts 0b1101111 a x (omega arith) h) k
@@ -446,7 +395,7 @@ decodes (op.Load s signed a b x) h k = load _ a b x s signed (i_parts 0b0000011 
 decodes (op.Store s a b x) h k = store a b x s h k
 decodes (op.AluImmediate o a b x) h k = alu_immediate a b x o (is_shift o) refl h k
 decodes (op.Alu o a b c) h k = register a b c o h
-decodes (op.WordImmediate o a b x) h k = word_immediate a b x o (is_word_shift o) refl h k
+decodes (op.WordImmediate o a b x) h k = word_immediate a b x o (is_shift (counterpart o)) refl h k
 decodes (op.Word o a b c) h k = word a b c o h
 decodes op.Fence h k = group.fence_at
 decodes op.FenceI h k = group.fence_i_at

@@ -1,5 +1,5 @@
 -- The loops over labels, pieces and ops: what is left of a list from an index on.
-use Rattle.std.proofs.Common.{◌≡◌, ℕ, zero, suc, ◌+◌, ◌-◌, ◌*◌, ◌<◌, ◌≤◌, List, [], ◌∷◌, ◌++◌, length, drop, take, get_or, Option, Some, None, refl, sym, ap, ◌∙◌, add-one, append_assoc, append-nil, arith, drop-cons, length-append, replicate}
+use Rattle.std.proofs.Common.{◌≡◌, ℕ, zero, suc, ◌+◌, ◌-◌, ◌*◌, ◌<◌, ◌≤◌, List, [], ◌∷◌, ◌++◌, length, drop, take, get_or, Option, Some, None, true, false, is_some, refl, sym, ap, ◌∙◌, add-one, append_assoc, append-nil, arith, drop-cons, length-append, replicate}
 use Rattle.std.proofs.lemmas.List.{length-replicate}
 use Rattle.std.specs.Prelude.{max, slice_index, unwrap_or, ◌==◌, if◌then◌else◌}
 use Rattle.std.proofs.lemmas.Bool.{cond-true, cond-false, eq-eqb, ne_eqb}
@@ -78,6 +78,12 @@ pub first_fault_none_left : (labels : List Label) (index : ℕ) (items : List It
 unfolding first_fault
 first_fault_none_left labels index items i h = rw (none_left items i h) refl
 
+pub ruleset faults = (first_fault_left, first_fault_none_left)
+
+neither : (a b : Option AsmFault) → option_or a b ≡ None → (a ≡ None) × (b ≡ None)
+neither None b e = (refl, e)
+neither (Some x) b e = cc
+
 pub code_left : (labels : List Label) (index : ℕ) (items : List Item) (i : ℕ) (x : Item) → x ≡ get_or items i x → i < length items
     → code labels index (drop i items) ≡ little_bytes 4 (encoded (filled labels index x)) ++ code labels (index + 1) (drop (i + 1) items)
 unfolding code
@@ -108,16 +114,27 @@ not_found labels i id x e h k l = sym (cond-false (x.id == id) (Some x.index) (i
 pub covered : (pieces : List Piece) (i place before whole : ℕ) → length pieces ≤ i → unwrap_or (covering (drop i pieces) place) before ≡ whole → before ≡ whole
 covered pieces i place before whole h k = ap (λ o. unwrap_or o before) (sym (covering_none_left pieces i place h)) ∙ k
 
-pub faulty : (labels : List Label) (items : List Item) (i : ℕ) (x : Item) (fault : AsmFault) → x ≡ get_or items i x → i < length items
-    → fault_of labels i x ≡ Some fault → first_fault labels i (drop i items) ≡ first_fault labels 0 items → first_fault labels 0 items ≡ Some fault
-faulty labels items i x fault e h k l = sym l ∙ first_fault_left labels i items i x e h
-    ∙ ap (λ o. option_or o (first_fault labels (i + 1) (drop (i + 1) items))) k
-
-pub goes_on : (labels : List Label) (items : List Item) (i : ℕ) (x : Item) → x ≡ get_or items i x → i < length items
-    → fault_of labels i x ≡ None → first_fault labels i (drop i items) ≡ first_fault labels 0 items
-    → first_fault labels (i + 1) (drop (i + 1) items) ≡ first_fault labels 0 items
-goes_on labels items i x e h k l = ap (λ o. option_or o (first_fault labels (i + 1) (drop (i + 1) items))) (sym k)
+pub faulty : (labels : List Label) (items : List Item) (i : ℕ) (x : Item) (fault : Option AsmFault)
+    → x ≡ get_or items i x → i < length items → fault ≡ fault_of labels i x → is_some fault ≡ true
+    → first_fault labels i (drop i items) ≡ first_fault labels 0 items → fault ≡ first_fault labels 0 items
+faulty labels items i x None e h k m l = cc
+faulty labels items i x (Some fault) e h k m l =
+    ap (λ o. option_or o (first_fault labels (i + 1) (drop (i + 1) items))) k
     ∙ sym (first_fault_left labels i items i x e h) ∙ l
+
+pub goes_on : (labels : List Label) (items : List Item) (i : ℕ) (x : Item) (fault : Option AsmFault)
+    → x ≡ get_or items i x → i < length items → fault ≡ fault_of labels i x → is_some fault ≡ false
+    → first_fault labels i (drop i items) ≡ first_fault labels 0 items
+    → first_fault labels (i + 1) (drop (i + 1) items) ≡ first_fault labels 0 items
+goes_on labels items i x None e h k m l =
+    ap (λ o. option_or o (first_fault labels (i + 1) (drop (i + 1) items))) k
+    ∙ sym (first_fault_left labels i items i x e h) ∙ l
+goes_on labels items i x (Some fault) e h k m l = cc
+
+-- an item of items that have no fault from its index on
+pub faultless : (labels : List Label) (items : List Item) (i : ℕ) (x : Item) → x ≡ get_or items i x → i < length items
+    → first_fault labels i (drop i items) ≡ None → (fault_of labels i x ≡ None) × (first_fault labels (i + 1) (drop (i + 1) items) ≡ None)
+faultless labels items i x e h l = neither _ _ (sym (first_fault_left labels i items i x e h) ∙ l)
 
 pub coded : (labels : List Label) (items : List Item) (i : ℕ) (x : Item) (word : ℕ) (before after : List ℕ) → x ≡ get_or items i x → i < length items
     → word ≡ encoded (filled labels i x) → after ≡ before ++ little_bytes 4 word
@@ -127,10 +144,6 @@ coded labels items i x word before after e h k m l =
     ∙ append_assoc before (little_bytes 4 word) (code labels (i + 1) (drop (i + 1) items))
     ∙ ap (λ w. before ++ (little_bytes 4 w ++ code labels (i + 1) (drop (i + 1) items))) k
     ∙ ap (λ c. before ++ c) (sym (code_left labels i items i x e h)) ∙ l
-
-pub no_fault_left : (labels : List Label) (items : List Item) (i : ℕ) → length items ≤ i
-    → first_fault labels i (drop i items) ≡ first_fault labels 0 items → first_fault labels 0 items ≡ None
-no_fault_left labels items i h l = sym l ∙ first_fault_none_left labels i items i h
 
 pub no_code_left : (labels : List Label) (items : List Item) (i : ℕ) (bytes : List ℕ) → length items ≤ i
     → bytes ++ code labels i (drop i items) ≡ code labels 0 items → bytes ≡ code labels 0 items

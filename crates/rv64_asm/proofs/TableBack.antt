@@ -16,9 +16,9 @@ use Rattle.op_defs.specs.declared.ops.CsrOp.TheVariants as csr
 use Rattle.op_defs.specs.declared.ops.CsrSource.TheVariants as source
 use Rattle.op_defs.specs.declared.ops.Op.TheVariants as op
 use Rattle.op_defs.specs.Fields.{opcode, rd, rs1, rs2, funct3, funct7, i_immediate, s_immediate, b_immediate, u_immediate, j_immediate}
-use Rattle.op_defs.specs.Table.{op_of, branch_of, test_of, load_of, store_of, width_of, immediate_of, immediate_op_of, shift_of, register_of, alu_op_of, base_op_of, multiply_op_of, word_immediate_of, word_shift_of, word_op_of, base_word_op_of, multiply_word_op_of, fence_of, atomic_of, atomic_by, amo_op_of, system_of, privileged_of, fence_op_of, guest_access_of, guest_load_of, guest_load_by, guest_store_of, csr_of, csr_op_of}
+use Rattle.op_defs.specs.Table.{op_of, branch_of, test_of, load_of, store_of, width_of, immediate_arithmetic_of, immediate_op_of, shift_of, register_arithmetic_of, alu_op_of, base_op_of, multiply_op_of, word_immediate_arithmetic_of, word_shift_of, word_op_of, base_word_op_of, multiply_word_op_of, fence_of, atomic_of, atomic_by, amo_op_of, system_of, privileged_of, fence_op_of, guest_access_of, guest_load_of, guest_load_by, guest_store_of, csr_of, csr_op_of}
 use Rattle.op_defs.specs.Table as table
-use Rattle.rv64_asm.specs.Words.{test_funct3, width_code, load_funct3, alu_funct3, alu_funct7, word_funct3, word_funct7, is_shift, is_word_shift, amo_funct7, csr_code, guest_load_rs2}
+use Rattle.rv64_asm.specs.Words.{test_funct3, width_code, load_funct3, alu_funct3, alu_funct7, counterpart, is_shift, amo_funct7, csr_code, guest_load_rs2}
 use Rattle.rv64_asm.specs.Fitting.{has_load, has_guest_fetch, is_atomic_width, alu_immediate_fits, word_immediate_fits}
 use Rattle.std.proofs.lemmas.Bool.{false≢true, ne_eqb}
 
@@ -52,19 +52,19 @@ pub at_store : (w : ℕ) → opcode w ≡ 0b0100011 → op_of w ≡ store_of w
 unfolding op_of
 at_store w h = simp h
 
-pub at_immediate : (w : ℕ) → opcode w ≡ 0b0010011 → op_of w ≡ immediate_of w
+pub at_immediate : (w : ℕ) → opcode w ≡ 0b0010011 → op_of w ≡ immediate_arithmetic_of w
 unfolding op_of
 at_immediate w h = simp h
 
-pub at_register : (w : ℕ) → opcode w ≡ 0b0110011 → op_of w ≡ register_of w
+pub at_register : (w : ℕ) → opcode w ≡ 0b0110011 → op_of w ≡ register_arithmetic_of w
 unfolding op_of
 at_register w h = simp h
 
-pub at_word_immediate : (w : ℕ) → opcode w ≡ 0b0011011 → op_of w ≡ word_immediate_of w
+pub at_word_immediate : (w : ℕ) → opcode w ≡ 0b0011011 → op_of w ≡ word_immediate_arithmetic_of w
 unfolding op_of
 at_word_immediate w h = simp h
 
-pub at_word : (w : ℕ) → opcode w ≡ 0b0111011 → op_of w ≡ table.word_of w
+pub at_word : (w : ℕ) → opcode w ≡ 0b0111011 → op_of w ≡ table.word_arithmetic_of w
 unfolding op_of
 at_word w h = simp h
 
@@ -138,8 +138,8 @@ pub record Has (w x low high : ℕ) (shift : Bool) (f : ℕ) : Type 0 where
 
 pub immediate_back : (w a b x : ℕ) (o : AluOp) → alu_immediate_fits o x ≡ true → funct3 w ≡ alu_funct3 o
     → rd w ≡ a → rs1 w ≡ b → Has w x (field 20 6 w) (field 26 6 w) (is_shift o) (alu_funct7 o / 2)
-    → immediate_of w ≡ Some (op.AluImmediate o a b x)
-unfolding immediate_of immediate_op_of shift_of alu_immediate_fits alu_funct3 alu_funct7 is_shift
+    → immediate_arithmetic_of w ≡ Some (op.AluImmediate o a b x)
+unfolding immediate_arithmetic_of immediate_op_of shift_of alu_immediate_fits alu_funct3 alu_funct7 is_shift
 immediate_back w a b x alu.Add h e f g p = simp (e, low_two w 0 e, f, g, p.immediate refl)
 immediate_back w a b x alu.Slt h e f g p = simp (e, low_two w 2 e, f, g, p.immediate refl)
 immediate_back w a b x alu.Sltu h e f g p = simp (e, low_two w 3 e, f, g, p.immediate refl)
@@ -159,10 +159,10 @@ immediate_back w a b x alu.Divu h e f g p = absurd (false≢true h)
 immediate_back w a b x alu.Rem h e f g p = absurd (false≢true h)
 immediate_back w a b x alu.Remu h e f g p = absurd (false≢true h)
 
-pub word_immediate_back : (w a b x : ℕ) (o : WordOp) → word_immediate_fits o x ≡ true → funct3 w ≡ word_funct3 o
-    → rd w ≡ a → rs1 w ≡ b → Has w x (rs2 w) (funct7 w) (is_word_shift o) (word_funct7 o)
-    → word_immediate_of w ≡ Some (op.WordImmediate o a b x)
-unfolding word_immediate_of word_shift_of word_immediate_fits word_funct3 word_funct7 is_word_shift
+pub word_immediate_back : (w a b x : ℕ) (o : WordOp) → word_immediate_fits o x ≡ true → funct3 w ≡ alu_funct3 (counterpart o)
+    → rd w ≡ a → rs1 w ≡ b → Has w x (rs2 w) (funct7 w) (is_shift (counterpart o)) (alu_funct7 (counterpart o))
+    → word_immediate_arithmetic_of w ≡ Some (op.WordImmediate o a b x)
+unfolding word_immediate_arithmetic_of word_shift_of word_immediate_fits counterpart alu_funct3 alu_funct7 is_shift
 word_immediate_back w a b x word_op.Add h e f g p = simp (e, f, g, p.immediate refl)
 word_immediate_back w a b x word_op.Sll h e f g p = simp (e, f, g, p.amount refl, p.upper refl)
 word_immediate_back w a b x word_op.Srl h e f g p = simp (e, f, g, p.amount refl, p.upper refl)
@@ -198,12 +198,12 @@ alu_back alu.Rem = refl
 alu_back alu.Remu = refl
 
 pub register_back : (w a b x : ℕ) (o : AluOp) → funct3 w ≡ alu_funct3 o → funct7 w ≡ alu_funct7 o → rd w ≡ a → rs1 w ≡ b → rs2 w ≡ x
-    → register_of w ≡ Some (op.Alu o a b x)
-unfolding register_of
+    → register_arithmetic_of w ≡ Some (op.Alu o a b x)
+unfolding register_arithmetic_of
 register_back w a b x o e i f g k = simp (e, i, f, g, k, alu_back o)
 
-word_op_back : (o : WordOp) → word_op_of (word_funct7 o) (word_funct3 o) ≡ Some o
-unfolding word_op_of base_word_op_of multiply_word_op_of word_funct7 word_funct3
+word_op_back : (o : WordOp) → word_op_of (alu_funct7 (counterpart o)) (alu_funct3 (counterpart o)) ≡ Some o
+unfolding word_op_of base_word_op_of multiply_word_op_of counterpart alu_funct7 alu_funct3
 word_op_back word_op.Add = refl
 word_op_back word_op.Sub = refl
 word_op_back word_op.Sll = refl
@@ -215,9 +215,9 @@ word_op_back word_op.Divu = refl
 word_op_back word_op.Rem = refl
 word_op_back word_op.Remu = refl
 
-pub word_back : (w a b x : ℕ) (o : WordOp) → funct3 w ≡ word_funct3 o → funct7 w ≡ word_funct7 o → rd w ≡ a → rs1 w ≡ b → rs2 w ≡ x
-    → table.word_of w ≡ Some (op.Word o a b x)
-unfolding table.word_of
+pub word_back : (w a b x : ℕ) (o : WordOp) → funct3 w ≡ alu_funct3 (counterpart o) → funct7 w ≡ alu_funct7 (counterpart o) → rd w ≡ a → rs1 w ≡ b → rs2 w ≡ x
+    → table.word_arithmetic_of w ≡ Some (op.Word o a b x)
+unfolding table.word_arithmetic_of
 word_back w a b x o e i f g k = simp (e, i, f, g, k, word_op_back o)
 
 -- AMO

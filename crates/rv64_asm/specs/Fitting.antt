@@ -1,5 +1,5 @@
--- When the fields of an op fit its format, so that a word has it (Unprivileged ISA 20191213, 2.3, 2.4, 5.2, 8 and 9.1;
--- Privileged Architecture 20211203, 8.3).
+-- When the fields of an op fit its format, so that a word has it (Unprivileged ISA 20191213, 2.3, 2.4, 5.2, 8
+-- and 9.1; Privileged Architecture 20211203, 8.3).
 use Rattle.std.specs.Prelude.{ℕ, ◌-◌, ◌%◌, ◌^◌, Bool, true, false, ◌==◌, ◌&&◌, ◌||◌, nat_lt, nat_le}
 use Rattle.arch_defs.specs.declared.widths.Width.{Width}
 use Rattle.arch_defs.specs.declared.widths.Width.TheVariants as width

@@ -1,4 +1,4 @@
--- Decoding gives the op back.
+-- Decoding gives the op back, and each op that is decoded can be encoded.
 use Rattle.std.specs.Prelude.{ℕ, ◌≡◌, Bool, true, Some, ◌&&◌, nat_lt}
 use Rattle.op_defs.specs.declared.ops.CsrSource.{CsrSource}
 use Rattle.op_defs.specs.declared.ops.CsrSource.TheVariants as source
@@ -43,3 +43,10 @@ all_named other = true
 
 abbrev pub DecodesBack : Type 0
 DecodesBack = (o : Op) → all_named o ≡ true → fits o ≡ true → op_of (encoded o) ≡ Some o
+
+abbrev pub DecodedFits : Type 0
+DecodedFits = (word : ℕ) (o : Op) → op_of word ≡ Some o → fits o ≡ true
+
+-- the word of a decoded op, which may differ in fields that the op has not, is decoded to the same op
+abbrev pub DecodedStays : Type 0
+DecodedStays = (word : ℕ) (o : Op) → op_of word ≡ Some o → op_of (encoded o) ≡ Some o

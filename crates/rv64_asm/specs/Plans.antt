@@ -1,5 +1,7 @@
 -- What an image is made of, and the bytes that it has in the end.
-use Rattle.std.specs.Prelude.{ℕ, ◌+◌, ◌-◌, ◌*◌, ◌%◌, ◌^◌, ◌<◌, ◌≡◌, Bool, true, false, ◌==◌, ◌&&◌, nat_lt, nat_le, if◌then◌else◌, List, [], ◌∷◌, ◌++◌, length, max, slice_index, Option, Some, None, unwrap_or}
+use Rattle.std.specs.Prelude.{◌≡◌, ℕ, ◌+◌, ◌-◌, ◌*◌, ◌%◌, ◌^◌, ◌<◌, ◌==◌, max, nat_lt, nat_le}
+use Rattle.std.specs.Prelude.{Bool, true, false, ◌&&◌, if◌then◌else◌, Option, Some, None, unwrap_or}
+use Rattle.std.specs.Prelude.{List, [], ◌∷◌, ◌++◌, length, slice_index}
 use Rattle.std.specs.Option.{option_or}
 use Rattle.std.specs.Int.{w64, cast_signed}
 use Rattle.byteorder.specs.Endian.{little_bytes}
@@ -31,8 +33,22 @@ pub record Plan : Type 0 where
   pub labels : List Label
   pub pieces : List Piece
 
+abbrev pub plan_of : List Item → List Label → List Piece → Plan
+plan_of items labels pieces = record { items = items; labels = labels; pieces = pieces }
+
 abbrev pub empty_plan : Plan
-empty_plan = record { items = []; labels = []; pieces = [] }
+empty_plan = plan_of [] [] []
+
+-- a plan with one more item, with a label at the next op, or with one more piece
+abbrev pub with_item : Plan → Item → Plan
+with_item plan item = record plan { items = plan.items ++ item ∷ [] }
+
+abbrev pub with_label : Plan → ℕ → Plan
+with_label plan id =
+    record plan { labels = plan.labels ++ record { id = id; index = length plan.items } ∷ [] }
+
+abbrev pub with_piece : Plan → Piece → Plan
+with_piece plan piece = record plan { pieces = plan.pieces ++ piece ∷ [] }
 
 -- the ops that can be aimed at a label: JAL and the branches
 unfoldable pub is_aimed : Op → Bool
@@ -68,10 +84,15 @@ op_of_target labels index o (Some id) = reaching index o (index_of labels id)
 unfoldable pub filled : List Label → ℕ → Item → Op
 filled labels index item = op_of_target labels index item.op item.target
 
--- why there is no word for it: its label is not set, or too far away
+-- why there is no word for an op with an offset: its label is too far away
+abbrev pub fault_of_offset : ℕ → Op → Option AsmFault
+fault_of_offset offset o = if fits (with_offset offset o) then None
+    else Some (TooFar (cast_signed w64 offset))
+
+-- the same, or that its label is not set
 abbrev pub fault_at : ℕ → Op → ℕ → Option ℕ → Option AsmFault
 fault_at index o id None = Some (NoLabel id)
-fault_at index o id (Some to) = if fits (with_offset (distance index to) o) then None else Some (TooFar (cast_signed w64 (distance index to)))
+fault_at index o id (Some to) = fault_of_offset (distance index to) o
 
 abbrev pub fault_of_target : List Label → ℕ → Op → Option ℕ → Option AsmFault
 fault_of_target labels index o None = None
@@ -83,21 +104,35 @@ fault_of labels index item = fault_of_target labels index item.op item.target
 -- the first such fault of the items from an index on
 unfoldable pub first_fault : List Label → ℕ → List Item → Option AsmFault
 first_fault labels index [] = None
-first_fault labels index (item ∷ rest) = option_or (fault_of labels index item) (first_fault labels (index + 1) rest)
+first_fault labels index (item ∷ rest) =
+    option_or (fault_of labels index item) (first_fault labels (index + 1) rest)
+
+-- the fault of a whole plan
+abbrev pub plan_fault : Plan → Option AsmFault
+plan_fault plan = first_fault plan.labels 0 plan.items
 
 -- the words of the items from an index on, one after the other, as bytes
 unfoldable pub code : List Label → ℕ → List Item → List ℕ
 code labels index [] = []
-code labels index (item ∷ rest) = little_bytes 4 (encoded (filled labels index item)) ++ code labels (index + 1) rest
+code labels index (item ∷ rest) =
+    little_bytes 4 (encoded (filled labels index item)) ++ code labels (index + 1) rest
+
+abbrev pub covers : Piece → ℕ → Bool
+covers piece place = nat_le piece.at place && nat_lt place (piece.at + length piece.bytes)
 
 -- the byte that a piece has at a place
 abbrev pub own : Piece → ℕ → Option ℕ
-own piece place = if nat_le piece.at place && nat_lt place (piece.at + length piece.bytes) then Some (slice_index piece.bytes (place - piece.at)) else None
+own piece place = if covers piece place then Some (slice_index piece.bytes (place - piece.at)) else None
 
 -- the byte at a place of the last piece that covers it
 unfoldable pub covering : List Piece → ℕ → Option ℕ
 covering [] place = None
 covering (piece ∷ rest) place = option_or (covering rest place) (own piece place)
+
+-- each byte is the one that is laid over its place, where one is, else the byte that stood there
+abbrev pub LaidOver : (ℕ → Option ℕ) → List ℕ → List ℕ → Type 0
+LaidOver over before after =
+    (place : ℕ) → slice_index after place ≡ unwrap_or (over place) (slice_index before place)
 
 -- where a piece's last byte ends; one without bytes ends nowhere
 abbrev pub piece_end : Piece → ℕ
@@ -113,7 +148,8 @@ size plan = max (4 * length plan.items) (last_end plan.pieces)
 
 -- the byte at a place: that of the last piece that covers it, else that of the op there, else zero
 abbrev pub byte_at : Plan → ℕ → ℕ
-byte_at plan place = unwrap_or (covering plan.pieces place) (slice_index (code plan.labels 0 plan.items) place)
+byte_at plan place =
+    unwrap_or (covering plan.pieces place) (slice_index (code plan.labels 0 plan.items) place)
 
 -- the bytes of a whole image
 pub record IsImage (plan : Plan) (image : List ℕ) : Type 0 where

@@ -1,6 +1,6 @@
--- The word of an instruction: the sum of the fields of its format (Unprivileged ISA 20191213, 2.2, 2.3 and 24;
--- Privileged Architecture 20211203, 9 and 8.3).
-use Rattle.std.specs.Prelude.{ℕ, ◌+◌, ◌*◌, ◌^◌, Bool, true, false}
+-- The word of an instruction: the sum of the fields of its format (Unprivileged ISA 20191213, 2.2, 2.3 and
+-- 24; Privileged Architecture 20211203, 9 and 8.3).
+use Rattle.std.specs.Prelude.{ℕ, ◌+◌, ◌*◌, ◌^◌, Bool, true, false, if◌then◌else◌}
 use Rattle.arch_defs.specs.Bits.{field}
 use Rattle.arch_defs.specs.declared.widths.Width.{Width}
 use Rattle.arch_defs.specs.declared.widths.Width.TheVariants as width
@@ -22,25 +22,30 @@ use Rattle.op_defs.specs.declared.ops.Op.TheVariants as op
 -- the formats; an immediate is given whole, and its low bits go where the format has them
 
 unfoldable pub r_word : ℕ → ℕ → ℕ → ℕ → ℕ → ℕ → ℕ
-r_word opcode rd funct3 rs1 rs2 funct7 = opcode + rd * 2 ^ 7 + funct3 * 2 ^ 12 + rs1 * 2 ^ 15 + rs2 * 2 ^ 20 + funct7 * 2 ^ 25
+r_word opcode rd funct3 rs1 rs2 funct7 =
+    opcode + rd * 2 ^ 7 + funct3 * 2 ^ 12 + rs1 * 2 ^ 15 + rs2 * 2 ^ 20 + funct7 * 2 ^ 25
 
 unfoldable pub i_word : ℕ → ℕ → ℕ → ℕ → ℕ → ℕ
-i_word opcode rd funct3 rs1 immediate = opcode + rd * 2 ^ 7 + funct3 * 2 ^ 12 + rs1 * 2 ^ 15 + field 0 12 immediate * 2 ^ 20
+i_word opcode rd funct3 rs1 immediate =
+    opcode + rd * 2 ^ 7 + funct3 * 2 ^ 12 + rs1 * 2 ^ 15 + field 0 12 immediate * 2 ^ 20
 
 unfoldable pub s_word : ℕ → ℕ → ℕ → ℕ → ℕ → ℕ
-s_word opcode funct3 rs1 rs2 immediate = opcode + field 0 5 immediate * 2 ^ 7 + funct3 * 2 ^ 12 + rs1 * 2 ^ 15 + rs2 * 2 ^ 20
+s_word opcode funct3 rs1 rs2 immediate =
+    opcode + field 0 5 immediate * 2 ^ 7 + funct3 * 2 ^ 12 + rs1 * 2 ^ 15 + rs2 * 2 ^ 20
     + field 5 7 immediate * 2 ^ 25
 
 unfoldable pub b_word : ℕ → ℕ → ℕ → ℕ → ℕ → ℕ
-b_word opcode funct3 rs1 rs2 immediate = opcode + field 11 1 immediate * 2 ^ 7 + field 1 4 immediate * 2 ^ 8 + funct3 * 2 ^ 12 + rs1 * 2 ^ 15
+b_word opcode funct3 rs1 rs2 immediate =
+    opcode + field 11 1 immediate * 2 ^ 7 + field 1 4 immediate * 2 ^ 8 + funct3 * 2 ^ 12 + rs1 * 2 ^ 15
     + rs2 * 2 ^ 20 + field 5 6 immediate * 2 ^ 25 + field 12 1 immediate * 2 ^ 31
 
 unfoldable pub u_word : ℕ → ℕ → ℕ → ℕ
 u_word opcode rd immediate = opcode + rd * 2 ^ 7 + field 12 20 immediate * 2 ^ 12
 
 unfoldable pub j_word : ℕ → ℕ → ℕ → ℕ
-j_word opcode rd immediate = opcode + rd * 2 ^ 7 + field 12 8 immediate * 2 ^ 12 + field 11 1 immediate * 2 ^ 20 + field 1 10 immediate * 2 ^ 21
-    + field 20 1 immediate * 2 ^ 31
+j_word opcode rd immediate =
+    opcode + rd * 2 ^ 7 + field 12 8 immediate * 2 ^ 12 + field 11 1 immediate * 2 ^ 20
+    + field 1 10 immediate * 2 ^ 21 + field 20 1 immediate * 2 ^ 31
 
 -- funct3 and funct7 of the groups
 
@@ -103,29 +108,18 @@ alu_funct7 alu.Divu = 0b0000001
 alu_funct7 alu.Rem = 0b0000001
 alu_funct7 alu.Remu = 0b0000001
 
-unfoldable pub word_funct3 : WordOp → ℕ
-word_funct3 word_op.Add = 0b000
-word_funct3 word_op.Sub = 0b000
-word_funct3 word_op.Sll = 0b001
-word_funct3 word_op.Srl = 0b101
-word_funct3 word_op.Sra = 0b101
-word_funct3 word_op.Mul = 0b000
-word_funct3 word_op.Div = 0b100
-word_funct3 word_op.Divu = 0b101
-word_funct3 word_op.Rem = 0b110
-word_funct3 word_op.Remu = 0b111
-
-unfoldable pub word_funct7 : WordOp → ℕ
-word_funct7 word_op.Add = 0b0000000
-word_funct7 word_op.Sub = 0b0100000
-word_funct7 word_op.Sll = 0b0000000
-word_funct7 word_op.Srl = 0b0000000
-word_funct7 word_op.Sra = 0b0100000
-word_funct7 word_op.Mul = 0b0000001
-word_funct7 word_op.Div = 0b0000001
-word_funct7 word_op.Divu = 0b0000001
-word_funct7 word_op.Rem = 0b0000001
-word_funct7 word_op.Remu = 0b0000001
+-- the op on 64 bits that has the funct3 and the funct7 of an op on words
+unfoldable pub counterpart : WordOp → AluOp
+counterpart word_op.Add = alu.Add
+counterpart word_op.Sub = alu.Sub
+counterpart word_op.Sll = alu.Sll
+counterpart word_op.Srl = alu.Srl
+counterpart word_op.Sra = alu.Sra
+counterpart word_op.Mul = alu.Mul
+counterpart word_op.Div = alu.Div
+counterpart word_op.Divu = alu.Divu
+counterpart word_op.Rem = alu.Rem
+counterpart word_op.Remu = alu.Remu
 
 -- whether an op is a shift, whose immediate is an amount
 unfoldable pub is_shift : AluOp → Bool
@@ -134,16 +128,14 @@ is_shift alu.Srl = true
 is_shift alu.Sra = true
 is_shift o = false
 
-unfoldable pub is_word_shift : WordOp → Bool
-is_word_shift word_op.Sll = true
-is_word_shift word_op.Srl = true
-is_word_shift word_op.Sra = true
-is_word_shift o = false
+-- OP and OP-32
+unfoldable pub register_word : ℕ → AluOp → ℕ → ℕ → ℕ → ℕ
+register_word opcode o rd rs1 rs2 = r_word opcode rd (alu_funct3 o) rs1 rs2 (alu_funct7 o)
 
 -- OP-IMM and OP-IMM-32: the amount of a shift stands where rs2 does, six bits of it on 64 bits
-unfoldable pub immediate_word : Bool → ℕ → ℕ → ℕ → ℕ → ℕ → ℕ → ℕ
-immediate_word true opcode rd funct3 rs1 amount funct7 = r_word opcode rd funct3 rs1 amount funct7
-immediate_word false opcode rd funct3 rs1 immediate funct7 = i_word opcode rd funct3 rs1 immediate
+unfoldable pub immediate_word : ℕ → AluOp → ℕ → ℕ → ℕ → ℕ
+immediate_word opcode o rd rs1 immediate = if is_shift o then register_word opcode o rd rs1 immediate
+    else i_word opcode rd (alu_funct3 o) rs1 immediate
 
 -- aq and rl clear
 unfoldable pub amo_funct7 : AmoOp → ℕ
@@ -180,10 +172,10 @@ encoded (op.Jalr rd rs1 offset) = i_word 0b1100111 rd 0b000 rs1 offset
 encoded (op.Branch t rs1 rs2 offset) = b_word 0b1100011 (test_funct3 t) rs1 rs2 offset
 encoded (op.Load w signed rd rs1 offset) = i_word 0b0000011 rd (load_funct3 w signed) rs1 offset
 encoded (op.Store w rs1 rs2 offset) = s_word 0b0100011 (width_code w) rs1 rs2 offset
-encoded (op.AluImmediate o rd rs1 immediate) = immediate_word (is_shift o) 0b0010011 rd (alu_funct3 o) rs1 immediate (alu_funct7 o)
-encoded (op.Alu o rd rs1 rs2) = r_word 0b0110011 rd (alu_funct3 o) rs1 rs2 (alu_funct7 o)
-encoded (op.WordImmediate o rd rs1 immediate) = immediate_word (is_word_shift o) 0b0011011 rd (word_funct3 o) rs1 immediate (word_funct7 o)
-encoded (op.Word o rd rs1 rs2) = r_word 0b0111011 rd (word_funct3 o) rs1 rs2 (word_funct7 o)
+encoded (op.AluImmediate o rd rs1 immediate) = immediate_word 0b0010011 o rd rs1 immediate
+encoded (op.Alu o rd rs1 rs2) = register_word 0b0110011 o rd rs1 rs2
+encoded (op.WordImmediate o rd rs1 immediate) = immediate_word 0b0011011 (counterpart o) rd rs1 immediate
+encoded (op.Word o rd rs1 rs2) = register_word 0b0111011 (counterpart o) rd rs1 rs2
 encoded op.Fence = 0x0FF0000F
 encoded op.FenceI = 0x0000100F
 encoded (op.LoadReserved w rd rs1) = r_word 0b0101111 rd (width_code w) rs1 0 0b0001000
@@ -197,6 +189,7 @@ encoded (op.Csr o from rd number) = csr_word o from rd number
 encoded (op.SfenceVma rs1 rs2) = r_word 0b1110011 0 0b000 rs1 rs2 0b0001001
 encoded (op.HfenceVvma rs1 rs2) = r_word 0b1110011 0 0b000 rs1 rs2 0b0010001
 encoded (op.HfenceGvma rs1 rs2) = r_word 0b1110011 0 0b000 rs1 rs2 0b0110001
-encoded (op.GuestLoad w signed rd rs1) = r_word 0b1110011 rd 0b100 rs1 (guest_load_rs2 signed) (0b0110000 + width_code w * 2)
+encoded (op.GuestLoad w signed rd rs1) =
+    r_word 0b1110011 rd 0b100 rs1 (guest_load_rs2 signed) (0b0110000 + width_code w * 2)
 encoded (op.GuestFetch w rd rs1) = r_word 0b1110011 rd 0b100 rs1 3 (0b0110000 + width_code w * 2)
 encoded (op.GuestStore w rs1 rs2) = r_word 0b1110011 0 0b100 rs1 rs2 (0b0110001 + width_code w * 2)

@@ -1,19 +1,20 @@
 // From an op to its word.
 
-ghost use Rattle.std.specs.Prelude.{◌≡◌, ◌<◌, ◌^◌, Bool, IsTrue, true};
-ghost use Rattle.rv64_asm.specs.Words.{alu_funct3, alu_funct7, csr_word, encoded, immediate_word, is_shift, is_word_shift, r_word, word_funct3, word_funct7, width_code};
-ghost use Rattle.rv64_asm.specs.Fitting.{alu_immediate_fits, fits, source_fits, word_immediate_fits};
+ghost use Rattle.std.specs.Prelude.{◌≡◌, ◌<◌, ◌^◌, true};
+ghost use Rattle.rv64_asm.specs.Words.{csr_word, encoded, immediate_word, is_shift, r_word, register_word};
+ghost use Rattle.rv64_asm.specs.Words.{width_code};
+ghost use Rattle.rv64_asm.specs.Fitting.{fits, source_fits};
 
 use crate::formats::{b_word, bits, i_word, j_word, r_word, s_word, u_word};
 use crate::groups::{
-    alu_funct3, alu_funct7, amo_funct7, csr_code, guest_load_rs2, is_shift, is_word_shift,
-    load_funct3, test_funct3, width_code, word_funct3, word_funct7,
+    alu_funct3, alu_funct7, amo_funct7, counterpart, csr_code, guest_load_rs2, is_shift,
+    load_funct3, test_funct3, width_code,
 };
 use arch_defs::{Reg, Width};
-use op_defs::{AluOp, CsrOp, CsrSource, Op, WordOp};
+use op_defs::{AluOp, CsrOp, CsrSource, Op};
 
 /// The word of an op whose fields fit, aq and rl of atomic operations clear. FENCE orders all with all.
-#[tactic(auto, unfolding(crate::specs::Words::encoded, crate::specs::Fitting::fits))]
+#[tactic(auto, unfolding(crate::specs::Words::encoded), using(crate::proofs::Shifts::amounts))]
 pub fn encode(op: &Op) -> u32
     requires { fits op.now ≡ true }
     ensures { result ≡ encoded op.now }
@@ -47,29 +48,17 @@ pub fn encode(op: &Op) -> u32
             rd,
             rs1,
             immediate,
-        } => alu_immediate(op, rd, rs1, immediate),
-        Op::Alu { op, rd, rs1, rs2 } => r_word(
-            0b0110011,
-            bits(rd),
-            alu_funct3(op),
-            rs1,
-            bits(rs2),
-            alu_funct7(op),
-        ),
+        } => immediate_word(0b0010011, op, rd, rs1, immediate),
+        Op::Alu { op, rd, rs1, rs2 } => register_word(0b0110011, op, rd, rs1, bits(rs2)),
         Op::WordImmediate {
             op,
             rd,
             rs1,
             immediate,
-        } => word_immediate(op, rd, rs1, immediate),
-        Op::Word { op, rd, rs1, rs2 } => r_word(
-            0b0111011,
-            bits(rd),
-            word_funct3(op),
-            rs1,
-            bits(rs2),
-            word_funct7(op),
-        ),
+        } => immediate_word(0b0011011, counterpart(op), rd, rs1, immediate),
+        Op::Word { op, rd, rs1, rs2 } => {
+            register_word(0b0111011, counterpart(op), rd, rs1, bits(rs2))
+        }
         Op::Fence => 0x0FF0_000F,
         Op::FenceI => 0x0000_100F,
         Op::LoadReserved { width, rd, rs1 } => atomic(width, rd, rs1, 0, 0b0001000),
@@ -128,41 +117,26 @@ pub fn encode(op: &Op) -> u32
     }
 }
 
-#[tactic(auto, using(crate::proofs::Shifts::shift_fits), unfolding(crate::specs::Words::immediate_word))]
-fn alu_immediate(op: AluOp, rd: Reg, rs1: Reg, immediate: u64) -> u32
-    requires { alu_immediate_fits op immediate ≡ true }
-    ensures { result ≡ immediate_word (is_shift op) 0b0010011 rd (alu_funct3 op) rs1 immediate (alu_funct7 op) }
+// The R format with an op's funct3 and funct7, and in place of rs2 a register or an amount.
+#[tactic(auto, unfolding(crate::specs::Words::register_word))]
+fn register_word(opcode: u32, op: AluOp, rd: Reg, rs1: Reg, rs2: u32) -> u32
+    requires opcode { opcode < 2 ^ 7 }
+    requires rs2 { rs2 < 2 ^ 6 }
+    ensures { result ≡ register_word opcode op rd rs1 rs2 }
 {
-    if is_shift(op) {
-        r_word(
-            0b0010011,
-            bits(rd),
-            alu_funct3(op),
-            rs1,
-            immediate as u32,
-            alu_funct7(op),
-        )
-    } else {
-        i_word(0b0010011, rd, alu_funct3(op), bits(rs1), immediate)
-    }
+    r_word(opcode, bits(rd), alu_funct3(op), rs1, rs2, alu_funct7(op))
 }
 
-#[tactic(auto, using(crate::proofs::Shifts::word_shift_fits), unfolding(crate::specs::Words::immediate_word))]
-fn word_immediate(op: WordOp, rd: Reg, rs1: Reg, immediate: u64) -> u32
-    requires { word_immediate_fits op immediate ≡ true }
-    ensures { result ≡ immediate_word (is_word_shift op) 0b0011011 rd (word_funct3 op) rs1 immediate (word_funct7 op) }
+#[tactic(auto, unfolding(crate::specs::Words::immediate_word))]
+fn immediate_word(opcode: u32, op: AluOp, rd: Reg, rs1: Reg, immediate: u64) -> u32
+    requires opcode { opcode < 2 ^ 7 }
+    requires amount { is_shift op ≡ true → immediate < 2 ^ 6 }
+    ensures { result ≡ immediate_word opcode op rd rs1 immediate }
 {
-    if is_word_shift(op) {
-        r_word(
-            0b0011011,
-            bits(rd),
-            word_funct3(op),
-            rs1,
-            immediate as u32,
-            word_funct7(op),
-        )
+    if is_shift(op) {
+        register_word(opcode, op, rd, rs1, immediate as u32)
     } else {
-        i_word(0b0011011, rd, word_funct3(op), bits(rs1), immediate)
+        i_word(opcode, rd, alu_funct3(op), bits(rs1), immediate)
     }
 }
 

@@ -1,7 +1,8 @@
 // When the fields of an op fit.
 
 ghost use Rattle.std.specs.Prelude.{◌≡◌};
-ghost use Rattle.rv64_asm.specs.Fitting.{alu_immediate_fits, fits, has_guest_fetch, has_load, in_range, in_steps, is_atomic_width, source_fits, word_immediate_fits};
+ghost use Rattle.rv64_asm.specs.Fitting.{fits, has_guest_fetch, has_load, in_range, in_steps};
+ghost use Rattle.rv64_asm.specs.Fitting.{alu_immediate_fits, is_atomic_width, source_fits, word_immediate_fits};
 
 use arch_defs::Width;
 use op_defs::{AluOp, CsrSource, Op, WordOp};

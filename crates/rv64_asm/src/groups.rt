@@ -1,7 +1,8 @@
 // funct3, funct7 and the like, of the groups of instructions.
 
 ghost use Rattle.std.specs.Prelude.{◌≡◌, ◌<◌, ◌^◌};
-ghost use Rattle.rv64_asm.specs.Words.{test_funct3, width_code, load_funct3, alu_funct3, alu_funct7, word_funct3, word_funct7, is_shift, is_word_shift, amo_funct7, csr_code, guest_load_rs2};
+ghost use Rattle.rv64_asm.specs.Words.{test_funct3, width_code, load_funct3, alu_funct3, alu_funct7};
+ghost use Rattle.rv64_asm.specs.Words.{amo_funct7, counterpart, csr_code, guest_load_rs2, is_shift};
 
 use arch_defs::Width;
 use op_defs::{AluOp, AmoOp, CsrOp, Test, WordOp};
@@ -77,30 +78,22 @@ pub fn alu_funct7(op: AluOp) -> u32
     }
 }
 
-#[tactic(auto, unfolding(crate::specs::Words::word_funct3))]
-pub fn word_funct3(op: WordOp) -> u32
-    ensures value { result ≡ word_funct3 op }
-    ensures small { result < 2 ^ 3 }
+/// The op on 64 bits that has the funct3 and the funct7 of an op on words.
+#[tactic(auto, unfolding(crate::specs::Words::counterpart))]
+pub fn counterpart(op: WordOp) -> AluOp
+    ensures { result ≡ counterpart op }
 {
     match op {
-        WordOp::Add | WordOp::Sub | WordOp::Mul => 0b000,
-        WordOp::Sll => 0b001,
-        WordOp::Div => 0b100,
-        WordOp::Srl | WordOp::Sra | WordOp::Divu => 0b101,
-        WordOp::Rem => 0b110,
-        WordOp::Remu => 0b111,
-    }
-}
-
-#[tactic(auto, unfolding(crate::specs::Words::word_funct7))]
-pub fn word_funct7(op: WordOp) -> u32
-    ensures value { result ≡ word_funct7 op }
-    ensures small { result < 127 }
-{
-    match op {
-        WordOp::Sub | WordOp::Sra => 0b0100000,
-        WordOp::Mul | WordOp::Div | WordOp::Divu | WordOp::Rem | WordOp::Remu => 0b0000001,
-        _ => 0,
+        WordOp::Add => AluOp::Add,
+        WordOp::Sub => AluOp::Sub,
+        WordOp::Sll => AluOp::Sll,
+        WordOp::Srl => AluOp::Srl,
+        WordOp::Sra => AluOp::Sra,
+        WordOp::Mul => AluOp::Mul,
+        WordOp::Div => AluOp::Div,
+        WordOp::Divu => AluOp::Divu,
+        WordOp::Rem => AluOp::Rem,
+        WordOp::Remu => AluOp::Remu,
     }
 }
 
@@ -111,16 +104,6 @@ pub fn is_shift(op: AluOp) -> bool
 {
     match op {
         AluOp::Sll | AluOp::Srl | AluOp::Sra => true,
-        _ => false,
-    }
-}
-
-#[tactic(auto, unfolding(crate::specs::Words::is_word_shift))]
-pub fn is_word_shift(op: WordOp) -> bool
-    ensures { result ≡ is_word_shift op }
-{
-    match op {
-        WordOp::Sll | WordOp::Srl | WordOp::Sra => true,
         _ => false,
     }
 }

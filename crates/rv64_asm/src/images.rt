@@ -1,8 +1,11 @@
 // Images: ops with labels, and bytes placed over them.
 
-ghost use Rattle.std.specs.Prelude.{◌≡◌, ◌+◌, ◌^◌, ◌≤◌, ◌⊎◌, ◌++◌, [], ◌∷◌, true, Some, None, length, is_some, IfOk, IfErr, OnOk, OnErr};
+ghost use Rattle.std.specs.Prelude.{◌≡◌, ◌≢◌, ◌+◌, ◌^◌, ◌≤◌, true, Some, None, Err, length, is_some};
+ghost use Rattle.std.specs.Prelude.{IfOk, IfErr, OnOk, OnErr, IsErrOf};
 ghost use Rattle.rv64_asm.specs.Fitting.{fits};
-ghost use Rattle.rv64_asm.specs.Plans.{code, empty_plan, first_fault, index_of, is_aimed, IsImage};
+ghost use Rattle.rv64_asm.specs.Plans.{empty_plan, index_of, is_aimed, with_item, with_label, with_piece};
+ghost use Rattle.rv64_asm.specs.Plans.{code, first_fault, plan_fault, plan_of, IsImage};
+ghost use Rattle.rv64_asm.specs.declared.faults.AsmFault.{AsmFault};
 ghost use Rattle.rv64_asm.specs.declared.faults.AsmFault.TheVariants.{NoMemory};
 
 use crate::faults::AsmFault;
@@ -43,7 +46,7 @@ impl Image {
     /// Pushes an op whose fields fit.
     pub fn push(&mut self, op: Op) -> Result<(), AllocError>
         requires { fits op ≡ true }
-        ensures ok { OnOk result (self.new ≡ record self.old { items = self.old.items ++ record { op = op; target = None } ∷ [] }) }
+        ensures ok { OnOk result (self.new ≡ with_item self.old (record { op = op; target = None })) }
         ensures err { OnErr result (self.new ≡ self.old) }
     {
         self.lines.push(Line::of(op))?;
@@ -53,7 +56,7 @@ impl Image {
     /// Pushes a branch or JAL, whose offset will be the distance to a label.
     pub fn push_to(&mut self, op: Op, label: u32) -> Result<(), AllocError>
         requires { is_aimed op ≡ true }
-        ensures ok { OnOk result (self.new ≡ record self.old { items = self.old.items ++ record { op = op; target = Some label } ∷ [] }) }
+        ensures ok { OnOk result (self.new ≡ with_item self.old (record { op = op; target = Some label })) }
         ensures err { OnErr result (self.new ≡ self.old) }
     {
         self.lines.push(Line::to(op, label))?;
@@ -63,7 +66,7 @@ impl Image {
     /// Sets a label, which is not set yet, at the next op.
     pub fn label(&mut self, id: u32) -> Result<(), AllocError>
         requires { index_of self.old.labels id ≡ None }
-        ensures ok { OnOk result (self.new ≡ record self.old { labels = self.old.labels ++ record { id = id; index = length self.old.items } ∷ [] }) }
+        ensures ok { OnOk result (self.new ≡ with_label self.old id) }
         ensures err { OnErr result (self.new ≡ self.old) }
     {
         let index = self.lines.len() as u64;
@@ -81,7 +84,7 @@ impl Image {
     /// Places bytes, over ops wherever these are pushed, and over bytes placed before.
     pub fn place(&mut self, at: u64, bytes: &[u8]) -> Result<(), AllocError>
         requires { at + length bytes.now ≤ 2 ^ 26 }
-        ensures ok { OnOk result (self.new ≡ record self.old { pieces = self.old.pieces ++ record { at = at; bytes = bytes.now } ∷ [] }) }
+        ensures ok { OnOk result (self.new ≡ with_piece self.old (record { at = at; bytes = bytes.now })) }
         ensures err { OnErr result (self.new ≡ self.old) }
     {
         let alloc = *self.pieces.allocator();
@@ -92,61 +95,75 @@ impl Image {
 
     /// The bytes of the image: the ops' words, over them the placed bytes, and zeros in the gaps.
     ///
-    /// Refuses the first op whose label is not set (`NoLabel`) or too far away (`TooFar`), and where there is no
-    /// memory (`NoMemory`).
+    /// Refuses the first op whose label is not set (`NoLabel`) or too far away (`TooFar`), before any memory
+    /// is taken; so want of memory (`NoMemory`) never stands in its place.
+    #[tactic(auto, using(crate::proofs::Faultless::wants_none))]
     pub fn finish(self) -> Result<Vec<u8>, AsmFault>
-        ensures ok { OnOk result (first_fault self.labels 0 self.items ≡ None) }
+        ensures ok { OnOk result (plan_fault self ≡ None) }
         ensures image { IfOk result (λ v. IsImage self v.items) }
-        ensures err { IfErr result (λ e. (e ≡ NoMemory) ⊎ (first_fault self.labels 0 self.items ≡ Some e)) }
+        ensures fault { (e : AsmFault) → plan_fault self ≡ Some e → result ≡ Err e }
+        ensures err { IfErr result (λ e. e ≢ NoMemory → plan_fault self ≡ Some e) }
+        ensures memory { IsErrOf result NoMemory → plan_fault self ≡ None }
     {
-        bytes_of(
+        if let Some(fault) = first_fault(self.lines.as_slice(), self.labels.as_slice()) {
+            return Err(fault);
+        }
+        let bytes = bytes_of(
             self.lines.as_slice(),
             self.labels.as_slice(),
             self.pieces.as_slice(),
             *self.lines.allocator(),
-        )
+        );
+        match bytes {
+            Ok(bytes) => Ok(bytes),
+            Err(_) => Err(AsmFault::NoMemory),
+        }
     }
 }
 
-// The ops' words, with pieces laid over them.
+// The first fault of ops.
+#[tactic(auto, using(crate::proofs::Loops::faults))]
+fn first_fault(lines: &[Line], labels: &[Label]) -> Option<AsmFault>
+    ensures { result ≡ first_fault labels.now 0 lines.now }
+{
+    let mut index = 0;
+    while index < lines.len() {
+        let fault = lines[index].fault(labels, index as u64);
+        if fault.is_some() {
+            return fault;
+        }
+        index += 1;
+    }
+    None
+}
+
+// The words of ops without a fault, with pieces laid over them.
 fn bytes_of(
     lines: &[Line],
     labels: &[Label],
     pieces: &[Piece],
     alloc: Global,
-) -> Result<Vec<u8>, AsmFault>
-    ensures ok { OnOk result (first_fault labels.now 0 lines.now ≡ None) }
-    ensures image { IfOk result (λ v. IsImage (record { items = lines.now; labels = labels.now; pieces = pieces.now }) v.items) }
-    ensures err { IfErr result (λ e. (e ≡ NoMemory) ⊎ (first_fault labels.now 0 lines.now ≡ Some e)) }
+) -> Result<Vec<u8>, AllocError>
+    requires { first_fault labels.now 0 lines.now ≡ None }
+    ensures { IfOk result (λ v. IsImage (plan_of lines.now labels.now pieces.now) v.items) }
 {
-    let mut bytes = match assemble(lines, labels, alloc) {
-        Ok(bytes) => bytes,
-        Err(fault) => return Err(fault),
-    };
+    let mut bytes = assemble(lines, labels, alloc)?;
     let size = (bytes.len() as u64).max(last_end(pieces));
-    let Ok(()) = bytes.resize(size as usize, 0) else {
-        return Err(AsmFault::NoMemory);
-    };
+    bytes.resize(size as usize, 0)?;
     lay_all(bytes.as_mut_slice(), pieces);
     Ok(bytes)
 }
 
-// The words of ops, one after the other.
-fn assemble(lines: &[Line], labels: &[Label], alloc: Global) -> Result<Vec<u8>, AsmFault>
-    ensures ok { OnOk result (first_fault labels.now 0 lines.now ≡ None) }
-    ensures code { IfOk result (λ v. v.items ≡ code labels.now 0 lines.now) }
-    ensures err { IfErr result (λ e. (e ≡ NoMemory) ⊎ (first_fault labels.now 0 lines.now ≡ Some e)) }
+// The words of ops without a fault, one after the other.
+fn assemble(lines: &[Line], labels: &[Label], alloc: Global) -> Result<Vec<u8>, AllocError>
+    requires { first_fault labels.now 0 lines.now ≡ None }
+    ensures { IfOk result (λ v. v.items ≡ code labels.now 0 lines.now) }
 {
     let mut bytes = Vec::new(alloc);
     let mut index = 0;
     while index < lines.len() {
-        let word = match lines[index].word(labels, index as u64) {
-            Ok(word) => word,
-            Err(fault) => return Err(fault),
-        };
-        let Ok(()) = bytes.extend_from_slice(&word.to_le_bytes()) else {
-            return Err(AsmFault::NoMemory);
-        };
+        let word = lines[index].word(labels, index as u64);
+        bytes.extend_from_slice(&word.to_le_bytes())?;
         index += 1;
     }
     Ok(bytes)

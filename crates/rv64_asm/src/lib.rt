@@ -15,7 +15,7 @@ pub use encoding::encode;
 pub use faults::AsmFault;
 pub use fitting::fits;
 pub use images::Image;
-pub use laws::decodes_back;
+pub use laws::{decoded_fits, decodes_back};
 
 #[cfg(test)]
 mod coding_tests;

@@ -1,9 +1,10 @@
 // The ops of an image, and its labels.
 
-ghost use Rattle.std.specs.Prelude.{◌≡◌, ℕ, true, Some, None, option_map, unwrap_or, drop, IfOk, IfErr, OnOk, OnErr};
+ghost use Rattle.std.specs.Prelude.{◌≡◌, true, Some, None};
 ghost use Rattle.rv64_asm.specs.Fitting.{fits};
 ghost use Rattle.rv64_asm.specs.Words.{encoded};
-ghost use Rattle.rv64_asm.specs.Plans.{is_aimed, with_offset, distance, index_of, filled, fault_of, fault_at, reaching};
+ghost use Rattle.rv64_asm.specs.Plans.{with_offset, distance, index_of, filled, reaching};
+ghost use Rattle.rv64_asm.specs.Plans.{fault_of, fault_at, fault_of_offset};
 
 use crate::encoding::encode;
 use crate::faults::AsmFault;
@@ -97,40 +98,67 @@ impl Line {
         }
     }
 
-    /// The word of the op, its offset filled in.
-    #[tactic(auto, unfolding(crate::specs::Plans::filled, crate::specs::Plans::fault_of))]
-    pub fn word(&self, labels: &[Label], index: u64) -> Result<u32, AsmFault>
-        ensures fault { OnOk result (fault_of labels.now index self.now ≡ None) }
-        ensures word { IfOk result (λ w. w ≡ encoded (filled labels.now index self.now)) }
-        ensures err { IfErr result (λ e. fault_of labels.now index self.now ≡ Some e) }
+    /// Why there is no word for the op, if there is none.
+    #[tactic(auto, unfolding(crate::specs::Plans::fault_of))]
+    pub fn fault(&self, labels: &[Label], index: u64) -> Option<AsmFault>
+        ensures { result ≡ fault_of labels.now index self.now }
     {
         match self.target {
-            None => Ok(encode(&self.op)),
-            Some(id) => aimed_word(self.op, id, index, index_of(labels, id)),
+            None => None,
+            Some(id) => fault_at(index, self.op, id, index_of(labels, id)),
+        }
+    }
+
+    /// The word of an op that has one, its offset filled in.
+    #[tactic(auto, unfolding(crate::specs::Plans::filled))]
+    pub fn word(&self, labels: &[Label], index: u64) -> u32
+        requires { fault_of labels.now index self.now ≡ None }
+        ensures { result ≡ encoded (filled labels.now index self.now) }
+    {
+        match self.target {
+            None => encode(&self.op),
+            Some(id) => encode(&reaching(index, self.op, index_of(labels, id))),
         }
     }
 }
 
-/// The word of an op at an index that is aimed at a label, which may be set.
-fn aimed_word(op: Op, id: u32, index: u64, to: Option<u64>) -> Result<u32, AsmFault>
-    ensures fault { OnOk result (fault_at index op id to ≡ None) }
-    ensures word { IfOk result (λ w. w ≡ encoded (reaching index op to)) }
-    ensures err { IfErr result (λ e. fault_at index op id to ≡ Some e) }
+fn fault_at(index: u64, op: Op, id: u32, to: Option<u64>) -> Option<AsmFault>
+    ensures { result ≡ fault_at index op id to }
 {
-    let Some(to) = to else {
-        return Err(AsmFault::NoLabel(id));
-    };
-    let offset = to.wrapping_sub(index).wrapping_mul(4);
-    let op = with_offset(op, offset);
-    if fits(&op) {
-        Ok(encode(&op))
-    } else {
-        Err(AsmFault::TooFar(offset.cast_signed()))
+    match to {
+        None => Some(AsmFault::NoLabel(id)),
+        Some(to) => fault_of_offset(distance(index, to), op),
     }
 }
 
+fn fault_of_offset(offset: u64, op: Op) -> Option<AsmFault>
+    ensures { result ≡ fault_of_offset offset op }
+{
+    if fits(&with_offset(offset, op)) {
+        None
+    } else {
+        Some(AsmFault::TooFar(offset.cast_signed()))
+    }
+}
+
+fn reaching(index: u64, op: Op, to: Option<u64>) -> Op
+    ensures { result ≡ reaching index op to }
+{
+    match to {
+        None => op,
+        Some(to) => with_offset(distance(index, to), op),
+    }
+}
+
+/// The distance in bytes from the op at an index to that at another.
+fn distance(from: u64, to: u64) -> u64
+    ensures { result ≡ distance from to }
+{
+    to.wrapping_sub(from).wrapping_mul(4)
+}
+
 #[tactic(auto, unfolding(crate::specs::Plans::with_offset))]
-fn with_offset(op: Op, offset: u64) -> Op
+fn with_offset(offset: u64, op: Op) -> Op
     ensures { result ≡ with_offset offset op }
 {
     match op {

@@ -1,8 +1,8 @@
 // Bytes that are placed in an image.
 
-ghost use Rattle.std.specs.Prelude.{◌≡◌, ℕ, ◌+◌, ◌^◌, ◌<◌, ◌≤◌, length, slice_index, unwrap_or, IfOk};
+ghost use Rattle.std.specs.Prelude.{◌≡◌, ◌+◌, ◌^◌, ◌≤◌, length, IfOk};
 ghost use Rattle.arch_defs.specs.Memory.{pasted};
-ghost use Rattle.rv64_asm.specs.Plans.{covering, last_end, own, piece_end};
+ghost use Rattle.rv64_asm.specs.Plans.{covering, last_end, own, piece_end, LaidOver};
 
 use std::alloc::{AllocError, Global};
 use std::marker::Model;
@@ -49,7 +49,7 @@ impl Piece {
     /// Lays it over bytes.
     fn lay(&self, bytes: &mut [u8])
         requires { piece_end self.now ≤ length bytes.old }
-        ensures bytes { (place : ℕ) → slice_index bytes.new place ≡ unwrap_or (own self.now place) (slice_index bytes.old place) }
+        ensures bytes { LaidOver (own self.now) bytes.old bytes.new }
         ensures size { length bytes.new ≡ length bytes.old }
     {
         if !self.bytes.is_empty() {
@@ -82,7 +82,7 @@ pub fn last_end(pieces: &[Piece]) -> u64
 /// Lays all over bytes, the oldest first.
 pub fn lay_all(bytes: &mut [u8], pieces: &[Piece])
     requires { last_end pieces.now ≤ length bytes.old }
-    ensures bytes { (place : ℕ) → slice_index bytes.new place ≡ unwrap_or (covering pieces.now place) (slice_index bytes.old place) }
+    ensures bytes { LaidOver (covering pieces.now) bytes.old bytes.new }
     ensures size { length bytes.new ≡ length bytes.old }
 {
     for piece in pieces {

@@ -47,7 +47,8 @@ pub fn decode(bits: u32) -> Option<Op>
 }
 
 fn jump_by_register(bits: u32) -> Option<Op>
-    ensures { result ≡ (if funct3 bits == 0 then Some (Jalr (rd bits) (rs1 bits) (i_immediate bits)) else None) }
+    ensures { result
+        ≡ (if funct3 bits == 0 then Some (Jalr (rd bits) (rs1 bits) (i_immediate bits)) else None) }
 {
     if funct3(bits) == 0 {
         Some(Op::Jalr {

@@ -1,15 +1,15 @@
 // Arithmetic on registers and immediates.
 
 ghost use Rattle.std.specs.Prelude.{◌≡◌};
-ghost use Rattle.op_defs.specs.Table.{alu_op_of, base_op_of, base_word_op_of, immediate_of, immediate_op_of, multiply_op_of, multiply_word_op_of, register_of, shift_of, word_immediate_of, word_of, word_op_of, word_shift_of};
+ghost use Rattle.op_defs.specs.Table.{alu_op_of, base_op_of, base_word_op_of, immediate_arithmetic_of, immediate_op_of, multiply_op_of, multiply_word_op_of, register_arithmetic_of, shift_of, word_immediate_arithmetic_of, word_arithmetic_of, word_op_of, word_shift_of};
 
 use crate::fields::{funct3, funct7, i_immediate, rd, rs1, rs2};
 use op_defs::{AluOp, Op, WordOp};
 
 /// OP-IMM.
-#[tactic(auto, unfolding(op_defs::specs::Table::immediate_of))]
+#[tactic(auto, unfolding(op_defs::specs::Table::immediate_arithmetic_of))]
 pub fn immediate(bits: u32) -> Option<Op>
-    ensures { result ≡ immediate_of bits }
+    ensures { result ≡ immediate_arithmetic_of bits }
 {
     if (bits >> 12) & 3 == 1 {
         return match shift(funct3(bits), bits >> 26) {
@@ -58,9 +58,9 @@ fn shift(funct3: u32, upper: u32) -> Option<AluOp>
 }
 
 /// OP.
-#[tactic(auto, unfolding(op_defs::specs::Table::register_of))]
+#[tactic(auto, unfolding(op_defs::specs::Table::register_arithmetic_of))]
 pub fn register(bits: u32) -> Option<Op>
-    ensures { result ≡ register_of bits }
+    ensures { result ≡ register_arithmetic_of bits }
 {
     match alu_op(funct7(bits), funct3(bits)) {
         Some(op) => Some(Op::Alu {
@@ -119,9 +119,9 @@ fn multiply_op(funct3: u32) -> AluOp
 }
 
 /// OP-IMM-32.
-#[tactic(auto, unfolding(op_defs::specs::Table::word_immediate_of))]
+#[tactic(auto, unfolding(op_defs::specs::Table::word_immediate_arithmetic_of))]
 pub fn word_immediate(bits: u32) -> Option<Op>
-    ensures { result ≡ word_immediate_of bits }
+    ensures { result ≡ word_immediate_arithmetic_of bits }
 {
     if funct3(bits) == 0 {
         return Some(Op::WordImmediate {
@@ -155,9 +155,9 @@ fn word_shift(funct3: u32, funct7: u32) -> Option<WordOp>
 }
 
 /// OP-32.
-#[tactic(auto, unfolding(op_defs::specs::Table::word_of))]
+#[tactic(auto, unfolding(op_defs::specs::Table::word_arithmetic_of))]
 pub fn word(bits: u32) -> Option<Op>
-    ensures { result ≡ word_of bits }
+    ensures { result ≡ word_arithmetic_of bits }
 {
     match word_op(funct7(bits), funct3(bits)) {
         Some(op) => Some(Op::Word {

@@ -568,7 +568,8 @@ fn systems(rt: HostRuntime) {
     ] {
         assert_eq!(rt; decode(bits), Some(op));
     }
-    // FENCE, FENCE.TSO, PAUSE, and FENCE with all of its fields; FENCE.I, and the same with all of its fields.
+    // FENCE, FENCE.TSO, PAUSE, and FENCE with all of its fields; FENCE.I, and the same with all of its
+    // fields.
     for (bits, op) in [
         (0x0FF0_000F, Op::Fence),
         (0x8330_000F, Op::Fence),

@@ -9,8 +9,9 @@ use Rattle.arch_defs.specs.declared.walks.TableEntry.{TableEntry}
 use Rattle.arch_defs.specs.declared.walks.WalkEnd.TheVariants.{Leaf, PageFault}
 use Rattle.arch_defs.specs.declared.walks.Next.{Next}
 use Rattle.arch_defs.specs.declared.walks.Next.TheVariants.{Ends, Below}
-use Rattle.arch_defs.specs.Entries.{table_entry, is_valid, is_leaf, is_aligned, is_marked, leaf_entry, pointer_next, entry_next}
-use Rattle.arch_defs.specs.Walk.{EntryReading, levels, is_canonical, place_of, index, index_bits, Met, met_in, read_next, next_of, later, path_from, path, end_of, walk, walk_from}
+use Rattle.arch_defs.specs.TableEntries.{table_entry, is_valid, is_leaf, is_aligned, is_marked, leaf_entry, pointer_next, entry_next}
+use Rattle.arch_defs.specs.Walk.{EntryReading, levels, is_canonical, place_of, index, index_bits, Met, met_in, read_next, next_of, later, path_from, path, end_of, walk}
+use Rattle.stage_walk.specs.ByLevels.{walk_from}
 use Rattle.stage_walk.specs.Laws.{SameOn, PathsAlike, WalksAlike, GoesOn, IsLinked, PathIsLinked, LinkedIsPath, EndsByLevels, LiesInTable, AllAligned, PlacesAligned}
 use Rattle.stage_walk.proofs.Levels.{walk_starts, walk_refused}
 

@@ -9,7 +9,7 @@ use Rattle.arch_defs.specs.declared.walks.WalkEnd.TheVariants.{Leaf, PageFault}
 use Rattle.arch_defs.specs.declared.walks.Next.{Next}
 use Rattle.arch_defs.specs.declared.walks.Next.TheVariants.{Ends, Below}
 use Rattle.arch_defs.specs.Bits.{field}
-use Rattle.arch_defs.specs.Entries.{table_entry, is_valid, is_leaf, is_aligned, is_marked, span, leaf_entry, pointer_next, entry_next}
+use Rattle.arch_defs.specs.TableEntries.{table_entry, is_valid, is_leaf, is_aligned, is_marked, span, leaf_entry, pointer_next, entry_next}
 use Rattle.arch_defs.specs.Walk.{EntryReading, levels, is_canonical, place_of, Met, met_in, read_next, next_of, later, path_from, path, or_else, end_of, walk}
 use Rattle.stage_walk.proofs.Fitting.{few_levels}
 use Rattle.stage_walk.specs.Laws.{HasValid, AllValid, EntriesValid, IsTranslated, IsLeafOf, LastIsLeaf, LeafAddress}

@@ -6,7 +6,8 @@ use Rattle.arch_defs.specs.declared.walks.WalkEnd.{WalkEnd}
 use Rattle.arch_defs.specs.declared.walks.WalkEnd.TheVariants.{PageFault}
 use Rattle.arch_defs.specs.declared.walks.Next.{Next}
 use Rattle.arch_defs.specs.declared.walks.Next.TheVariants.{Ends, Below}
-use Rattle.arch_defs.specs.Walk.{EntryReading, levels, is_canonical, met_in, next_of, later, path_from, path, or_else, end_of, walk, followed, walk_from}
+use Rattle.arch_defs.specs.Walk.{EntryReading, levels, is_canonical, met_in, next_of, later, path_from, path, or_else, end_of, walk}
+use Rattle.stage_walk.specs.ByLevels.{followed, walk_from}
 
 -- the end of the entries met is the end level by level
 pub end_from : (reading : EntryReading) (shape : Shape) (va : ℕ) (access : Access) (level table : ℕ)

@@ -5,7 +5,7 @@ use Rattle.arch_defs.specs.declared.walks.WalkEnd.{WalkEnd}
 use Rattle.arch_defs.specs.declared.walks.WalkEnd.TheVariants.{Leaf, PageFault, FetchEnd}
 use Rattle.arch_defs.specs.declared.walks.Next.{Next}
 use Rattle.arch_defs.specs.declared.walks.Next.TheVariants.{Ends, Below}
-use Rattle.arch_defs.specs.Entries.{span}
+use Rattle.arch_defs.specs.TableEntries.{span}
 
 -- a leaf's frame is a physical page number and the first of its page, and its level is one of so many
 pub record LeafFits (levels : ℕ) (leaf : LeafEntry) : Type 0 where

@@ -8,8 +8,9 @@ use Rattle.arch_defs.specs.declared.walks.WalkEnd.TheVariants.{Leaf, PageFault}
 use Rattle.arch_defs.specs.declared.walks.Next.{Next}
 use Rattle.arch_defs.specs.declared.walks.Next.TheVariants.{Ends, Below}
 use Rattle.arch_defs.specs.Bits.{field}
-use Rattle.arch_defs.specs.Entries.{table_entry, is_valid}
-use Rattle.arch_defs.specs.Walk.{EntryReading, levels, table_size, is_canonical, place_of, Met, met_in, next_of, path, walk, walk_from, leaf_address}
+use Rattle.arch_defs.specs.TableEntries.{table_entry, is_valid}
+use Rattle.arch_defs.specs.Walk.{EntryReading, levels, table_size, is_canonical, place_of, Met, met_in, next_of, path, walk, leaf_address}
+use Rattle.stage_walk.specs.ByLevels.{walk_from}
 
 -- another reading gives at the place of each entry met what was read there
 abbrev pub SameOn : EntryReading → List Met → Type 0
@@ -19,11 +20,13 @@ SameOn other (m ∷ ms) = (other m.place ≡ m.read) × SameOn other ms
 -- a walk depends on the entries that it met alone
 abbrev pub PathsAlike : Type 0
 PathsAlike = (reading other : EntryReading) (root : ℕ) (shape : Shape) (va : ℕ) (access : Access)
-    → SameOn other (path reading root shape va access) → path other root shape va access ≡ path reading root shape va access
+    → SameOn other (path reading root shape va access)
+    → path other root shape va access ≡ path reading root shape va access
 
 abbrev pub WalksAlike : Type 0
 WalksAlike = (reading other : EntryReading) (root : ℕ) (shape : Shape) (va : ℕ) (access : Access)
-    → SameOn other (path reading root shape va access) → walk other root shape va access ≡ walk reading root shape va access
+    → SameOn other (path reading root shape va access)
+    → walk other root shape va access ≡ walk reading root shape va access
 
 -- after an entry that ends the walk there is none, and else the table that it names is next
 abbrev pub GoesOn : (ℕ → Type 0) → Next → List Met → Type 0
@@ -34,15 +37,18 @@ GoesOn from (Below table) ms = from table
 abbrev pub IsLinked : EntryReading → Shape → ℕ → Access → ℕ → List Met → ℕ → Type 0
 IsLinked reading shape va access level [] table = ⊥
 IsLinked reading shape va access level (m ∷ ms) table =
-    (m ≡ met_in reading shape va level table) × GoesOn (IsLinked reading shape va access (level - 1) ms) (next_of access m) ms
+    (m ≡ met_in reading shape va level table)
+    × GoesOn (IsLinked reading shape va access (level - 1) ms) (next_of access m) ms
 
 -- the entries met are such a list from the root on, and the only one
 abbrev pub PathIsLinked : Type 0
-PathIsLinked = (reading : EntryReading) (root : ℕ) (shape : Shape) (va : ℕ) (access : Access) → is_canonical shape va ≡ true
+PathIsLinked = (reading : EntryReading) (root : ℕ) (shape : Shape) (va : ℕ) (access : Access)
+    → is_canonical shape va ≡ true
     → IsLinked reading shape va access (levels shape - 1) (path reading root shape va access) root
 
 abbrev pub LinkedIsPath : Type 0
-LinkedIsPath = (reading : EntryReading) (root : ℕ) (shape : Shape) (va : ℕ) (access : Access) (ms : List Met) → is_canonical shape va ≡ true
+LinkedIsPath = (reading : EntryReading) (root : ℕ) (shape : Shape) (va : ℕ) (access : Access) (ms : List Met)
+    → is_canonical shape va ≡ true
     → IsLinked reading shape va access (levels shape - 1) ms root → ms ≡ path reading root shape va access
 
 -- the walk ends as the plain recursion by levels does
@@ -54,7 +60,8 @@ EndsByLevels = (reading : EntryReading) (root : ℕ) (shape : Shape) (va : ℕ) 
 -- an entry lies in its table
 abbrev pub LiesInTable : Type 0
 LiesInTable = (shape : Shape) (level table va : ℕ)
-    → (4096 * table ≤ place_of shape level table va) × (place_of shape level table va + 8 ≤ 4096 * table + table_size shape level)
+    → (4096 * table ≤ place_of shape level table va)
+    × (place_of shape level table va + 8 ≤ 4096 * table + table_size shape level)
 
 -- and the place of each entry met is a multiple of its size
 abbrev pub AllAligned : List Met → Type 0
@@ -62,7 +69,8 @@ AllAligned [] = Unit {0}
 AllAligned (m ∷ ms) = (m.place % 8 ≡ 0) × AllAligned ms
 
 abbrev pub PlacesAligned : Type 0
-PlacesAligned = (reading : EntryReading) (root : ℕ) (shape : Shape) (va : ℕ) (access : Access) → AllAligned (path reading root shape va access)
+PlacesAligned = (reading : EntryReading) (root : ℕ) (shape : Shape) (va : ℕ) (access : Access)
+    → AllAligned (path reading root shape va access)
 
 -- an entry that was read is valid
 abbrev pub HasValid : Result ℕ Trap → Type 0
@@ -78,8 +86,9 @@ abbrev pub EntriesValid : Type 0
 EntriesValid = (reading : EntryReading) (root : ℕ) (shape : Shape) (va : ℕ) (access : Access)
     → walk reading root shape va access ≢ PageFault → AllValid (path reading root shape va access)
 
--- the physical address that step 8 of the standard's algorithm makes of a leaf's page number (Privileged Architecture
--- 20211203, 4.3.2): the page offset is the address's, and in a superpage the low parts of the page number are the address's too
+-- the physical address that step 8 of the standard's algorithm makes of a leaf's page number (Privileged
+-- Architecture 20211203, 4.3.2): the page offset is the address's, and in a superpage the low parts of the
+-- page number are the address's too
 pub record IsTranslated (level frame va pa : ℕ) : Type 0 where
   pub offset : field 0 12 pa ≡ field 0 12 va
   pub low : (i : ℕ) → i < level → field (12 + 9 * i) 9 pa ≡ field (12 + 9 * i) 9 va
@@ -87,7 +96,8 @@ pub record IsTranslated (level frame va pa : ℕ) : Type 0 where
 
 -- a leaf comes from an entry that was read at its level
 abbrev pub IsLeafOf : LeafEntry → ℕ → Met → Type 0
-IsLeafOf leaf va m = (word : ℕ) × (m.read ≡ Ok word) × (m.level ≡ leaf.level) × IsTranslated leaf.level (table_entry word).frame va (leaf_address leaf va)
+IsLeafOf leaf va m = (word : ℕ) × (m.read ≡ Ok word) × (m.level ≡ leaf.level)
+    × IsTranslated leaf.level (table_entry word).frame va (leaf_address leaf va)
 
 abbrev pub LastIsLeaf : LeafEntry → ℕ → List Met → Type 0
 LastIsLeaf leaf va [] = ⊥
@@ -96,5 +106,6 @@ LastIsLeaf leaf va (m ∷ (n ∷ ms)) = LastIsLeaf leaf va (n ∷ ms)
 
 -- the address under a walk's leaf is the one that the standard's formula makes of the last entry met
 abbrev pub LeafAddress : Type 0
-LeafAddress = (reading : EntryReading) (root : ℕ) (shape : Shape) (va : ℕ) (access : Access) (leaf : LeafEntry)
+LeafAddress = (reading : EntryReading) (root : ℕ) (shape : Shape) (va : ℕ) (access : Access)
+    (leaf : LeafEntry)
     → walk reading root shape va access ≡ Leaf leaf → LastIsLeaf leaf va (path reading root shape va access)

@@ -1,2 +1,3 @@
+pub mod ByLevels
 pub mod Ends
 pub mod Laws

@@ -2,7 +2,7 @@
 
 ghost use Rattle.std.specs.Prelude.{⊤, ◌≡◌, ◌+◌, ◌<◌, ◌^◌, ◌==◌, [], ◌∷◌, codes};
 ghost use Rattle.std.specs.Int.RustNames.{bit_and};
-ghost use Rattle.arch_defs.specs.Entries.{table_entry, is_valid, is_leaf, is_aligned, is_marked, needs_dirty, leaf_next, pointer_next, entry_next};
+ghost use Rattle.arch_defs.specs.TableEntries.{table_entry, is_valid, is_leaf, is_aligned, is_marked, needs_dirty, leaf_next, pointer_next, entry_next};
 ghost use Rattle.stage_walk.specs.Ends.{NextFits};
 
 use arch_defs::{Access, LeafEntry, Next, TableEntry, WalkEnd};
@@ -49,7 +49,7 @@ impl Flags for EntryBits {
 }
 
 /// An entry in named parts.
-#[tactic(auto, using(crate::proofs::Flag::flags), unfolding(arch_defs::specs::Entries::table_entry))]
+#[tactic(auto, using(crate::proofs::Flag::flags), unfolding(arch_defs::specs::TableEntries::table_entry))]
 pub fn table_entry(word: u64) -> TableEntry
     ensures value { result ≡ table_entry word }
     ensures frame { result.frame < 2 ^ 44 }
@@ -131,7 +131,7 @@ fn pointer_next(level: u8, entry: &TableEntry) -> Next
 }
 
 /// What an entry that is met at a level says to the walk.
-#[tactic(auto, unfolding(arch_defs::specs::Entries::entry_next))]
+#[tactic(auto, unfolding(arch_defs::specs::TableEntries::entry_next))]
 pub fn entry_next(level: u8, access: Access, entry: &TableEntry) -> Next
     requires level { level < 3 }
     requires frame { entry.now.frame < 2 ^ 44 }

@@ -45,7 +45,10 @@ struct Chain {
 }
 
 impl Fetch for Chain {
-    ghost reading = { λ c place. if place == 0x1_0028 then Ok c.root else if place == 0x2_0030 then Ok c.middle else if place == 0x3_0038 then c.low else Err c.otherwise };
+    ghost reading = { λ c place. if place == 0x1_0028 then Ok c.root
+        else if place == 0x2_0030 then Ok c.middle
+        else if place == 0x3_0038 then c.low
+        else Err c.otherwise };
 
     fn pte_at(&self, place: u64) -> Result<u64, Trap> {
         if place == 0x1_0028 {

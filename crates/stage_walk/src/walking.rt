@@ -10,10 +10,12 @@ use crate::places::{is_canonical, levels, place_of};
 use arch_defs::{Access, Next, Shape, WalkEnd};
 
 /// What the entry for an address in the table of a frame says to the walk.
+#[inline(always)]
 #[tactic(auto, using(crate::proofs::Fitting::few_levels, crate::proofs::Fitting::next_fits))]
 fn visit<F: Fetch>(fetch: &F, shape: Shape, va: u64, access: Access, level: u8, table: u64) -> Next
     requires level { level < levels shape }
     requires table { table < 2 ^ 44 }
+    requires backed { F.is_backed fetch.now }
     ensures next { result ≡ next_of access (met_in (F.reading fetch.now) shape va level table) }
     ensures fits { NextFits (levels shape) result }
 {
@@ -25,9 +27,11 @@ fn visit<F: Fetch>(fetch: &F, shape: Shape, va: u64, access: Access, level: u8, 
 }
 
 /// Walks the table whose root is this frame, for an access at an address.
+#[inline(always)]
 #[tactic(auto, using(crate::proofs::Levels::steps))]
 pub fn walk<F: Fetch>(fetch: &F, root: u64, shape: Shape, va: u64, access: Access) -> WalkEnd
-    requires { root < 2 ^ 44 }
+    requires root { root < 2 ^ 44 }
+    requires backed { F.is_backed fetch.now }
     ensures end { result ≡ walk (F.reading fetch.now) root shape va access }
     ensures fits { EndFits (levels shape) result }
 {

@@ -6,18 +6,22 @@ use Rattle.machine_defs.specs.Outcomes.{Outcome}
 use Rattle.machine_defs.specs.Outcomes as outcome
 use Rattle.machine_defs.specs.Privileges.{refused}
 use Rattle.system_ops.specs.declared.executing.Executed.{Executed}
-use Rattle.system_ops.specs.declared.executing.Executed.TheVariants.{Done, Waits, Unbuilt, Refused}
+use Rattle.system_ops.specs.declared.executing.Executed.TheVariants.{Done, Waits, Fenced, Accesses, Outside, Refused}
 
 -- how the instruction of this word ended, by the answer and the state after it
 abbrev pub outcome_of : ℕ → Executed → Virtual → Outcome
 outcome_of word Done state = outcome.Done state None System
 outcome_of word Waits state = outcome.Waits state
-outcome_of word Unbuilt state = outcome.Unbuilt
-outcome_of word (Refused end) state = refused word end
+outcome_of word (Fenced fence) state = outcome.Fenced state fence
+outcome_of word (Accesses access) state = outcome.Accesses access
+outcome_of word Outside state = outcome.Outside
+outcome_of word (Refused end) state = refused state word end
 
 -- where the instruction was not made
 abbrev pub IfNotMade : Executed → Type 0 → Type 0
 IfNotMade Done P = ⊤
 IfNotMade Waits P = ⊤
-IfNotMade Unbuilt P = P
+IfNotMade (Fenced fence) P = ⊤
+IfNotMade (Accesses access) P = P
+IfNotMade Outside P = P
 IfNotMade (Refused end) P = P

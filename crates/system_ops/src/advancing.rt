@@ -1,8 +1,7 @@
 // What an instruction that is made does beside its own effect.
 
 ghost use Rattle.std.specs.Prelude.{◌≡◌};
-ghost use Rattle.machine_defs.specs.Outcomes.{sets};
-ghost use Rattle.machine_defs.specs.Privileges.{passed};
+ghost use Rattle.machine_defs.specs.Outcomes.{passed, sets};
 
 use arch_defs::{Reg, Virtual};
 

@@ -1,17 +1,17 @@
 // How each of these instructions ends.
 
 ghost use Rattle.std.specs.Prelude.{◌≡◌, ℕ};
-ghost use Rattle.machine_defs.specs.Outcomes.{Trapped};
-ghost use Rattle.machine_defs.specs.Privileges.{privileged, refused};
+ghost use Rattle.machine_defs.specs.Privileges.{decided, privileged, refusal_code};
 ghost use Rattle.system_ops.specs.Executions.{outcome_of, IfNotMade};
 
 use crate::csrs::access;
-use crate::fences::fence;
-use crate::hypervisors::{access_guest, fence_guest};
+use crate::fences::{fence, fence_guest, fence_virtual};
+use crate::guest_accesses::access_guest;
+use crate::outside::{end_outside, is_outside};
 use crate::returns::return_from_trap;
 use crate::waits::wait;
-use arch_defs::{CsrEnd, ILLEGAL_INSTRUCTION, VIRTUAL_INSTRUCTION, Virtual};
-use op_defs::Privileged;
+use arch_defs::{CsrEnd, Fence, ILLEGAL_INSTRUCTION, VIRTUAL_INSTRUCTION, Virtual};
+use op_defs::{GuestAccess, Privileged};
 
 /// How an instruction ended.
 #[derive(Clone, Copy, Debug, PartialEq, Eq)]
@@ -20,16 +20,31 @@ pub enum Executed {
     Done,
     /// It was a WFI, and was made but for the wait.
     Waits,
-    /// It is allowed with V = 0, and not built so far.
-    Unbuilt,
+    /// It was an HFENCE.GVMA, and was made but for the cached translations, of which it names these.
+    Fenced(Fence),
+    /// It is an HLV, HLVX or HSV, and is allowed to make this access as VS or VU.
+    Accesses(GuestAccess),
+    /// It is allowed, and outside what is built so far.
+    Outside,
     /// The mode does not allow it: an illegal instruction, or a virtual one.
     Refused(CsrEnd),
 }
 
-/// Makes what an instruction asks for, unless its mode does not allow it or it is not built so far.
-#[tactic(auto, unfolding(machine_defs::specs::Privileges::privileged))]
+/// Makes what an instruction asks for, where its mode allows it and it is not outside what is built so far.
+#[tactic(auto, using(crate::proofs::Inside::stays), unfolding(machine_defs::specs::Privileges::privileged))]
 pub fn execute(state: &mut Virtual, effect: Privileged) -> Executed
     ensures ends { (word : ℕ) → privileged state.old word effect ≡ outcome_of word result state.new }
+    ensures stays { IfNotMade result (state.new ≡ state.old) }
+{
+    if is_outside(state.mode, &effect) {
+        return end_outside(state, effect);
+    }
+    decide(state, effect)
+}
+
+/// Makes what an instruction asks for, unless its mode does not allow it.
+pub fn decide(state: &mut Virtual, effect: Privileged) -> Executed
+    ensures ends { (word : ℕ) → decided state.old word effect ≡ outcome_of word result state.new }
     ensures stays { IfNotMade result (state.new ≡ state.old) }
 {
     match effect {
@@ -43,14 +58,15 @@ pub fn execute(state: &mut Virtual, effect: Privileged) -> Executed
         Privileged::Sret => return_from_trap(state),
         Privileged::Wfi => wait(state),
         Privileged::SfenceVma => fence(state),
-        Privileged::HypervisorFence => fence_guest(state),
-        Privileged::GuestAccess => access_guest(state),
+        Privileged::HfenceVvma => fence_virtual(state),
+        Privileged::HfenceGvma(named) => fence_guest(state, named),
+        Privileged::GuestAccess(made) => access_guest(state, made),
     }
 }
 
-/// The code of the exception of an instruction that the mode does not allow (Privileged Architecture 20211203, 8.6.1).
-pub fn code_of(end: CsrEnd) -> u64
-    ensures { (word : ℕ) → refused word end ≡ Trapped result word }
+/// The code of the exception of a refused instruction (Privileged Architecture 20211203, 8.6.1).
+pub fn refusal_code(end: CsrEnd) -> u64
+    ensures { result ≡ refusal_code end }
 {
     match end {
         CsrEnd::Illegal => ILLEGAL_INSTRUCTION,

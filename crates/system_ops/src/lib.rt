@@ -5,10 +5,12 @@ mod advancing;
 mod csrs;
 mod executing;
 mod fences;
-mod hypervisors;
+mod guest_accesses;
+mod outside;
 mod returns;
 #[cfg(test)]
 mod tests;
 mod waits;
 
-pub use executing::{Executed, code_of, execute};
+pub use advancing::{pass, set};
+pub use executing::{Executed, execute, refusal_code};

@@ -17,7 +17,7 @@ fn leave(state: &mut Virtual)
     state.mode = sret(&mut state.csrs, &mut state.regs, state.mode);
 }
 
-/// SRET, which hstatus.VTSR keeps from VS (8.2.1). One of HS that sets V is not built so far.
+/// SRET, which hstatus.VTSR keeps from VS (8.2.1).
 pub fn return_from_trap(state: &mut Virtual) -> Executed
     ensures ends { (word : ℕ) → returned_in state.old word state.old.mode ≡ outcome_of word result state.new }
     ensures stays { IfNotMade result (state.new ≡ state.old) }
@@ -26,7 +26,6 @@ pub fn return_from_trap(state: &mut Virtual) -> Executed
         Mode::U => Executed::Refused(CsrEnd::Illegal),
         Mode::VU => Executed::Refused(CsrEnd::Virtual),
         Mode::VS if state.csrs.hstatus.vtsr => Executed::Refused(CsrEnd::Virtual),
-        Mode::HS if state.csrs.hstatus.spv => Executed::Unbuilt,
         Mode::HS | Mode::VS => {
             leave(state);
             Executed::Done

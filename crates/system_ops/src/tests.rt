@@ -1,8 +1,11 @@
-// Values worked out from the Privileged Architecture 20211203 and from chapter 9 of the Unprivileged ISA 20191213.
+// Values worked out from the Privileged Architecture 20211203 and from chapter 9 of the Unprivileged ISA
+// 20191213.
 
 use crate::{Executed, execute};
-use arch_defs::{CsrEnd, Csrs, Interrupts, Mode, Reg, SupervisorRoot, SupervisorStatus, Virtual};
-use op_defs::{CsrOp, Privileged};
+use arch_defs::{
+    CsrEnd, Csrs, Fence, Interrupts, Mode, Reg, SupervisorRoot, SupervisorStatus, Virtual, Width,
+};
+use op_defs::{CsrOp, GuestAccess, Privileged};
 
 const START: u64 = 0x8000_0000;
 
@@ -10,7 +13,7 @@ const DONE: Executed = Executed::Done;
 
 const WAITS: Executed = Executed::Waits;
 
-const UNBUILT: Executed = Executed::Unbuilt;
+const OUTSIDE: Executed = Executed::Outside;
 
 const ILLEGAL: Executed = Executed::Refused(CsrEnd::Illegal);
 
@@ -80,9 +83,9 @@ fn trapping(vtvm: bool, vtw: bool, vtsr: bool) -> Csrs {
     csrs
 }
 
-// CSRRW, CSRRS and CSRRC on sscratch with 1100 in it: what it has then. rd gets 1100. A register operand may have
-// 64 bits, an immediate has five. CSRRS and CSRRC write unless the operand is x0 or the immediate 0; CSRRW always does
-// (Unprivileged ISA, 9.1).
+// CSRRW, CSRRS and CSRRC on sscratch with 1100 in it: what it has then. rd gets 1100. A register operand may
+// have 64 bits, an immediate has five. CSRRS and CSRRC write unless the operand is x0 or the immediate 0;
+// CSRRW always does (Unprivileged ISA, 9.1).
 #[test]
 fn operations(rt: HostRuntime) {
     for (op, operand, writes, want) in [
@@ -130,8 +133,9 @@ fn last_address(rt: HostRuntime) {
     assert_eq!(rt; (state.csrs.vs.scratch, state.csrs.hs.scratch), (8, 0));
 }
 
-// Numbers in HS, U, VS and VU, read and written: sstatus, sie, satp, scounteren and sscratch; vsstatus, vsatp, hstatus
-// and hgatp; mstatus, cycle and two more that name nothing; time and hgeip, which are read-only (2.1, 8.6.1).
+// Numbers in HS, U, VS and VU, read and written: sstatus, sie, satp, scounteren and sscratch; vsstatus,
+// vsatp, hstatus and hgatp; mstatus, cycle and two more that name nothing; time and hgeip, which are
+// read-only (2.1, 8.6.1).
 #[test]
 fn numbers(rt: HostRuntime) {
     for number in [0x100, 0x104, 0x180, 0x106, 0x140] {
@@ -140,7 +144,7 @@ fn numbers(rt: HostRuntime) {
         assert_eq!(rt; ends(timed(true), &writes(number, 0)), want, "{number:x}");
     }
     for number in [0x200, 0x280, 0x600, 0x680] {
-        let want = (UNBUILT, ILLEGAL, VIRTUAL, VIRTUAL);
+        let want = (OUTSIDE, ILLEGAL, VIRTUAL, VIRTUAL);
         assert_eq!(rt; ends(timed(true), &reads(number)), want, "{number:x}");
         assert_eq!(rt; ends(timed(true), &writes(number, 0)), want, "{number:x}");
     }
@@ -163,15 +167,15 @@ fn numbers(rt: HostRuntime) {
 fn read_only_registers(rt: HostRuntime) {
     for op in [CsrOp::Set, CsrOp::Clear] {
         let time = csr(op, 0xC01, 0, false);
-        assert_eq!(rt; ends(timed(true), &time), (UNBUILT, UNBUILT, DONE, DONE));
+        assert_eq!(rt; ends(timed(true), &time), (OUTSIDE, OUTSIDE, DONE, DONE));
         assert_eq!(rt;
             ends(timed(false), &time),
-            (UNBUILT, ILLEGAL, VIRTUAL, VIRTUAL)
+            (OUTSIDE, ILLEGAL, VIRTUAL, VIRTUAL)
         );
         let hgeip = csr(op, 0xE12, 0, false);
         assert_eq!(rt;
             ends(timed(true), &hgeip),
-            (UNBUILT, ILLEGAL, VIRTUAL, VIRTUAL)
+            (OUTSIDE, ILLEGAL, VIRTUAL, VIRTUAL)
         );
         for mode in [Mode::VS, Mode::VU] {
             let (_, state) = after(timed(true), mode, &time);
@@ -214,7 +218,7 @@ fn aliases(rt: HostRuntime) {
     );
 }
 
-// satp in VS with VTVM (8.2.1); what is refused, or not built, changes neither the registers nor rd and pc.
+// satp in VS with VTVM (8.2.1); what is refused, or outside, changes neither the registers nor rd and pc.
 #[test]
 fn not_made(rt: HostRuntime) {
     let csrs = trapping(true, false, false);
@@ -222,7 +226,7 @@ fn not_made(rt: HostRuntime) {
         (Mode::VS, writes(0x180, (8 << 60) + 3), VIRTUAL),
         (Mode::VS, reads(0x180), VIRTUAL),
         (Mode::VS, writes(0x240, 9), VIRTUAL),
-        (Mode::HS, writes(0x240, 9), UNBUILT),
+        (Mode::HS, writes(0x240, 9), OUTSIDE),
         (Mode::U, writes(0x140, 9), ILLEGAL),
         (Mode::VU, writes(0x140, 9), VIRTUAL),
     ] {
@@ -237,14 +241,14 @@ fn not_made(rt: HostRuntime) {
     );
 }
 
-// SRET in HS goes to U and HS by SPP, in VS to VU and VS (4.1.1, 8.6.4). One in HS with SPV, which sets V, is not built so far.
+// SRET in HS goes to each mode by SPV and SPP, in VS to VU and VS by SPP (4.1.1, 8.6.4).
 #[test]
 fn returns(rt: HostRuntime) {
     for (mode, spv, spp, want, to, pc) in [
         (Mode::HS, false, false, DONE, Mode::U, START + 0x100),
         (Mode::HS, false, true, DONE, Mode::HS, START + 0x100),
-        (Mode::HS, true, false, UNBUILT, Mode::HS, START),
-        (Mode::HS, true, true, UNBUILT, Mode::HS, START),
+        (Mode::HS, true, false, DONE, Mode::VU, START + 0x100),
+        (Mode::HS, true, true, DONE, Mode::VS, START + 0x100),
         (Mode::VS, false, false, DONE, Mode::VU, START + 0x200),
         (Mode::VS, true, true, DONE, Mode::VS, START + 0x200),
     ] {
@@ -299,30 +303,107 @@ fn trapping_bits(rt: HostRuntime) {
     }
 }
 
-// HFENCE is for HS alone; HLV, HLVX and HSV are for HS, and for U with HU (8.2.1, 8.6.1).
-#[test]
-fn hypervisor_instructions(rt: HostRuntime) {
-    let closed = Csrs::at_reset();
-    let mut open = closed;
-    open.hstatus.hu = true;
-    let fence = Privileged::HypervisorFence;
-    let access = Privileged::GuestAccess;
-    assert_eq!(rt; ends(closed, &fence), (UNBUILT, ILLEGAL, VIRTUAL, VIRTUAL));
-    assert_eq!(rt; ends(open, &fence), (UNBUILT, ILLEGAL, VIRTUAL, VIRTUAL));
-    assert_eq!(rt; ends(closed, &access), (UNBUILT, ILLEGAL, VIRTUAL, VIRTUAL));
-    assert_eq!(rt; ends(open, &access), (UNBUILT, UNBUILT, VIRTUAL, VIRTUAL));
+// The registers at reset, with HU or without.
+fn with_hu(hu: bool) -> Csrs {
+    let mut csrs = Csrs::at_reset();
+    csrs.hstatus.hu = hu;
+    csrs
 }
 
-// WFI and SFENCE.VMA change nothing but pc.
+// HFENCE is for HS alone, also with HU (8.6.1). That of the guest's table says what it names.
+#[test]
+fn hypervisor_fences(rt: HostRuntime) {
+    let named = Fence {
+        vmid: Some(3),
+        page: Some(0x8_0000),
+    };
+    let all = Fence {
+        vmid: None,
+        page: None,
+    };
+    for hu in [false, true] {
+        let csrs = with_hu(hu);
+        for (effect, in_hs) in [
+            (Privileged::HfenceVvma, OUTSIDE),
+            (Privileged::HfenceGvma(named), Executed::Fenced(named)),
+            (Privileged::HfenceGvma(all), Executed::Fenced(all)),
+        ] {
+            let want = (in_hs, ILLEGAL, VIRTUAL, VIRTUAL);
+            assert_eq!(rt; ends(csrs, &effect), want, "{effect:?}");
+        }
+    }
+}
+
+// The instruction of an access of HLV, HLVX or HSV.
+fn asking(access: &GuestAccess) -> Privileged {
+    Privileged::GuestAccess(*access)
+}
+
+// Its ends in HS, U, VS and VU, by HU.
+fn ends_of(access: &GuestAccess, hu: bool) -> (Executed, Executed, Executed, Executed) {
+    let in_u = if hu {
+        Executed::Accesses(*access)
+    } else {
+        ILLEGAL
+    };
+    (Executed::Accesses(*access), in_u, VIRTUAL, VIRTUAL)
+}
+
+// HLV, HLVX and HSV are for HS, and for U with HU (8.2.1, 8.6.1). They are left to be made, and change
+// nothing.
+#[test]
+fn guest_accesses(rt: HostRuntime) {
+    for access in [
+        GuestAccess::Loads {
+            address: 0x1004,
+            width: Width::Word,
+            signed: true,
+            rd: Reg::new(5),
+        },
+        GuestAccess::LoadsCode {
+            address: 0x1004,
+            width: Width::Half,
+            rd: Reg::new(5),
+        },
+        GuestAccess::Stores {
+            address: 0x1008,
+            width: Width::Double,
+            value: 9,
+        },
+    ] {
+        let effect = asking(&access);
+        for hu in [false, true] {
+            let want = ends_of(&access, hu);
+            assert_eq!(rt; ends(with_hu(hu), &effect), want, "{effect:?}");
+        }
+        let (_, state) = after(timed(true), Mode::HS, &effect);
+        assert_eq!(rt; state, with_pc(timed(true), Mode::HS, START));
+    }
+}
+
+// The state of `after` with this pc and nothing else changed.
+fn with_pc(csrs: Csrs, mode: Mode, pc: u64) -> Virtual {
+    let mut state = Virtual::starting_at(mode, pc);
+    state.csrs = csrs;
+    state.regs.x[5] = 7;
+    state
+}
+
+// WFI, SFENCE.VMA and HFENCE.GVMA change nothing but pc.
 #[test]
 fn only_the_pc_goes_on(rt: HostRuntime) {
-    for mode in [Mode::HS, Mode::VS] {
-        for effect in [Privileged::Wfi, Privileged::SfenceVma] {
-            let (_, state) = after(timed(true), mode, &effect);
-            let mut want = Virtual::starting_at(mode, START + 4);
-            want.csrs = timed(true);
-            want.regs.x[5] = 7;
-            assert_eq!(rt; state, want);
-        }
+    let guest_fence = Privileged::HfenceGvma(Fence {
+        vmid: None,
+        page: None,
+    });
+    for (mode, effect) in [
+        (Mode::HS, Privileged::Wfi),
+        (Mode::HS, Privileged::SfenceVma),
+        (Mode::HS, guest_fence),
+        (Mode::VS, Privileged::Wfi),
+        (Mode::VS, Privileged::SfenceVma),
+    ] {
+        let (_, state) = after(timed(true), mode, &effect);
+        assert_eq!(rt; state, with_pc(timed(true), mode, START + 4));
     }
 }

@@ -150,6 +150,12 @@ nothing_due csrs mode e f = none_of (due csrs mode) (λ code h.
     elim (one_of (supervisor_bit csrs.sie code) (guest_bit csrs.hie code) (due_is_enabled csrs mode code h))
     [ inl p ↦ supervisor_clear csrs.sie code e p | inr p ↦ guest_clear csrs.hie code f p ])
 
+-- and nothing where nothing is pending
+pub nothing_pending : (csrs : Csrs) (mode : Mode) → csrs.sip ≡ clear_interrupts → csrs.hvip ≡ clear_interrupts → due csrs mode ≡ None
+nothing_pending csrs mode e f = none_of (due csrs mode) (λ code h.
+    elim (one_of (supervisor_bit csrs.sip code) (guest_bit csrs.hvip code) (due_is_pending csrs mode code h))
+    [ inl p ↦ supervisor_clear csrs.sip code e p | inr p ↦ guest_clear csrs.hvip code f p ])
+
 -- an interrupt that the orders hold and that is ready is found
 neither : (a b : Option ℕ) → option_or a b ≡ None → (a ≡ None) × (b ≡ None)
 neither (Some y) b h = absurd cc

@@ -1,8 +1,7 @@
 // The target of a trap, and its entry (Privileged Architecture 20211203, 8.2.1, 8.2.2, 8.6.2 and 8.6.3).
 
 ghost use Rattle.std.specs.Prelude.{◌≡◌, IsTrue};
-ghost use Rattle.arch_defs.specs.Interrupts.{interrupt_of};
-ghost use Rattle.arch_defs.specs.Traps.{cause_of, entered_bank, entered_hs, entered_vs, exception, handler_of, has_guest_address, htinst_of, is_address_code, is_delegated, is_supervisor, is_virtual, target, vs_code_of};
+ghost use Rattle.arch_defs.specs.Traps.{cause_of, entered_bank, entered_hs, entered_vs, handler_of, htinst_of, htval_of, is_delegated, is_guest_page_fault, is_supervisor, is_virtual, target, vs_code_of};
 
 use crate::interrupts::guest_bit;
 use arch_defs::{Bank, Csrs, Level, Mode, Regs, Trap};
@@ -26,43 +25,6 @@ pub fn target(csrs: &Csrs, mode: Mode, trap: &Trap) -> Level
     }
 }
 
-/// Whether an exception from this mode writes a guest virtual address to stval, which is a trap's `gva`.
-/// `by_guest_access` says that the access of HLV, HLVX or HSV caused it.
-pub fn has_guest_address(mode: Mode, by_guest_access: bool, code: u64) -> bool
-    ensures { result ≡ has_guest_address mode by_guest_access code }
-{
-    (by_guest_access || is_virtual(mode)) && is_address_code(code)
-}
-
-/// The trap of an exception from this mode, which no access of HLV, HLVX or HSV caused and which has no guest
-/// physical address.
-pub fn exception(mode: Mode, cause: u64, tval: u64) -> Trap
-    ensures { result ≡ exception mode cause tval }
-{
-    Trap {
-        cause,
-        interrupt: false,
-        tval,
-        tval2: 0,
-        gva: has_guest_address(mode, false, cause),
-        implicit: false,
-    }
-}
-
-/// The trap of the interrupt with this code.
-pub fn interrupt_trap(code: u64) -> Trap
-    ensures { result ≡ interrupt_of code }
-{
-    Trap {
-        cause: code,
-        interrupt: true,
-        tval: 0,
-        tval2: 0,
-        gva: false,
-        implicit: false,
-    }
-}
-
 /// Takes a trap from this mode into HS, at the pc of `regs`. Gives the mode, HS.
 #[tactic(auto, unfolding(arch_defs::specs::Traps::entered_hs))]
 pub fn enter_hs(csrs: &mut Csrs, regs: &mut Regs, mode: Mode, trap: &Trap) -> Mode
@@ -78,7 +40,7 @@ pub fn enter_hs(csrs: &mut Csrs, regs: &mut Regs, mode: Mode, trap: &Trap) -> Mo
     if is_virtual(mode) {
         csrs.hstatus.spvp = is_supervisor(mode);
     }
-    csrs.htval = trap.tval2;
+    csrs.htval = htval_of(trap);
     csrs.htinst = htinst_of(trap);
     regs.pc = handler;
     Mode::HS
@@ -136,10 +98,27 @@ fn handler_of(tvec: u64, interrupt: bool, code: u64) -> u64
     }
 }
 
+/// Whether a trap is a guest-page fault: of a fetch, a load, or a store or atomic operation.
+fn is_guest_page_fault(trap: &Trap) -> bool
+    ensures { result ≡ is_guest_page_fault trap.now }
+{
+    !trap.interrupt && matches!(trap.cause, 20 | 21 | 23)
+}
+
+fn htval_of(trap: &Trap) -> u64
+    ensures { result ≡ htval_of trap.now }
+{
+    if is_guest_page_fault(trap) {
+        trap.tval2
+    } else {
+        0
+    }
+}
+
 fn htinst_of(trap: &Trap) -> u64
     ensures { result ≡ htinst_of trap.now }
 {
-    if trap.tval2 != 0 && trap.implicit {
+    if is_guest_page_fault(trap) && trap.implicit && trap.tval2 != 0 {
         IMPLICIT_READ
     } else {
         0
@@ -167,13 +146,8 @@ fn is_delegated(csrs: &Csrs, interrupt: bool, code: u64) -> bool
     }
 }
 
-fn is_address_code(code: u64) -> bool
-    ensures { result ≡ is_address_code code }
-{
-    matches!(code, 0 | 1 | 3..=7 | 12 | 13 | 15 | 20 | 21 | 23)
-}
-
-pub(crate) fn is_virtual(mode: Mode) -> bool
+/// V, the virtualization mode.
+pub fn is_virtual(mode: Mode) -> bool
     ensures { result ≡ is_virtual mode }
 {
     matches!(mode, Mode::VS | Mode::VU)

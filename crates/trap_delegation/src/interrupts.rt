@@ -10,8 +10,19 @@ use arch_defs::{
 
 /// The code of the interrupt that is due, without scause's bit 63; none exactly where none is due. The
 /// interrupts that go to HS come before those of VS.
-#[tactic(auto, unfolding(arch_defs::specs::Interrupts::due))]
+#[tactic(auto, using(crate::proofs::Due::nothing_pending))]
 pub fn pending(csrs: &Csrs, mode: Mode) -> Option<u64>
+    ensures { result ≡ due csrs.now mode }
+{
+    if csrs.sip == Interrupts::clear() && csrs.hvip == Interrupts::clear() {
+        return None;
+    }
+    first_due(csrs, mode)
+}
+
+// The first that is due of those that are pending.
+#[tactic(auto, unfolding(arch_defs::specs::Interrupts::due))]
+fn first_due(csrs: &Csrs, mode: Mode) -> Option<u64>
     ensures { result ≡ due csrs.now mode }
 {
     due_for_hs(csrs, mode).or(due_for_vs(csrs, mode))

@@ -2,13 +2,18 @@
 #![tactic(auto)]
 
 mod entering;
+mod exceptions;
 mod interrupts;
 mod laws;
 mod returning;
 #[cfg(test)]
 mod tests;
 
-pub use entering::{enter_hs, enter_vs, exception, has_guest_address, interrupt_trap, target};
+pub use entering::{enter_hs, enter_vs, is_virtual, target};
+pub use exceptions::{
+    access_fault, exception, has_guest_address, interrupt_trap, misaligned_fault, page_fault,
+    unplaced_fault,
+};
 pub use interrupts::pending;
 pub use laws::{due_is_taken, entries_leave, returns_restore, trap_targets};
 pub use returning::sret;

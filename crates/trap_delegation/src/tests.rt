@@ -2,10 +2,13 @@
 // level, 2, 6, 10 of the VS level (8.6.1).
 
 use crate::{
-    due_is_taken, enter_hs, enter_vs, entries_leave, has_guest_address, interrupt_trap, pending,
-    returns_restore, sret, target, trap_targets,
+    access_fault, due_is_taken, enter_hs, enter_vs, entries_leave, has_guest_address,
+    interrupt_trap, misaligned_fault, page_fault, pending, returns_restore, sret, target,
+    trap_targets, unplaced_fault,
 };
-use arch_defs::{Bank, Csrs, Interrupts, Level, Mode, Regs, SupervisorStatus, Trap};
+use arch_defs::{
+    Access, Bank, Csrs, Interrupts, Level, Mode, Regs, SupervisorStatus, Trap, Unplaced,
+};
 
 const START: u64 = 0x8000_0000;
 
@@ -97,7 +100,7 @@ fn after_page_fault(mode: Mode, before: bool) -> Csrs {
         interrupt: false,
         tval: 0x1234,
         tval2: 0x400,
-        gva: has_guest_address(mode, false, 21),
+        gva: has_guest_address(mode, 21),
         implicit: true,
     };
     enter_hs(&mut csrs, &mut regs, mode, &trap);
@@ -295,24 +298,88 @@ fn guest_page_fault(rt: HostRuntime) {
     }
 }
 
-// GVA: codes 0, 1, 3 to 7, 12, 13, 15, 20, 21, 23 with V = 1, or of the access of HLV, HLVX or HSV.
+// htval and htinst after a trap of an implicit read that has a guest physical address: they get it of
+// guest-page faults alone, codes 20, 21 and 23 (8.2.8, 8.2.9). htinst is 0 where htval is.
+#[test]
+fn only_guest_page_faults(rt: HostRuntime) {
+    for (cause, interrupt, tval2, htval, htinst) in [
+        (20, false, 0x400, 0x400, 0x3000),
+        (21, false, 0x400, 0x400, 0x3000),
+        (23, false, 0x400, 0x400, 0x3000),
+        (21, false, 0, 0, 0),
+        (13, false, 0x400, 0, 0),
+        (5, false, 0x400, 0, 0),
+        (22, false, 0x400, 0, 0),
+        (21, true, 0x400, 0, 0),
+        (9, true, 0x400, 0, 0),
+    ] {
+        let mut csrs = Csrs::at_reset();
+        csrs.htval = 7;
+        csrs.htinst = 7;
+        let mut regs = Regs::starting_at(START);
+        let trap = Trap {
+            cause,
+            interrupt,
+            tval: 0,
+            tval2,
+            gva: true,
+            implicit: true,
+        };
+        enter_hs(&mut csrs, &mut regs, Mode::VS, &trap);
+        assert_eq!(rt; (csrs.htval, csrs.htinst), (htval, htinst), "{cause}");
+    }
+}
+
+// GVA: codes 0, 1, 3 to 7, 12, 13, 15, 20, 21, 23 with V = 1, as which HLV, HLVX and HSV make their access
+// too.
 #[test]
 fn guest_addresses(rt: HostRuntime) {
-    for (mode, by_guest_access, code, answer) in [
-        (Mode::VS, false, 13, true),
-        (Mode::VU, false, 0, true),
-        (Mode::VS, false, 2, false),
-        (Mode::VU, false, 8, false),
-        (Mode::VS, false, 22, false),
-        (Mode::HS, false, 13, false),
-        (Mode::HS, true, 21, true),
-        (Mode::U, true, 2, false),
+    for (mode, code, answer) in [
+        (Mode::VS, 13, true),
+        (Mode::VU, 0, true),
+        (Mode::VS, 21, true),
+        (Mode::VS, 2, false),
+        (Mode::VU, 2, false),
+        (Mode::VU, 8, false),
+        (Mode::VS, 22, false),
+        (Mode::HS, 13, false),
+        (Mode::U, 21, false),
     ] {
-        assert_eq!(rt;
-            has_guest_address(mode, by_guest_access, code),
-            answer,
-            "{code}"
-        );
+        assert_eq!(rt; has_guest_address(mode, code), answer, "{code}");
+    }
+}
+
+// The faults of a fetch, a load, a load of HLVX and a store: misaligned, access and page fault (table 4.2).
+#[test]
+fn faults(rt: HostRuntime) {
+    for (access, misaligned, without_place, untranslated) in [
+        (Access::Fetch, 0, 1, 12),
+        (Access::Load, 4, 5, 13),
+        (Access::ExecLoad, 4, 5, 13),
+        (Access::Store, 6, 7, 15),
+    ] {
+        assert_eq!(rt; misaligned_fault(access), misaligned);
+        assert_eq!(rt; access_fault(access), without_place);
+        assert_eq!(rt; page_fault(access), untranslated);
+    }
+}
+
+// An access that has no place gets the fault of its own kind, also where the read of an entry for it has
+// none; GVA as the mode of the access says.
+#[test]
+fn unplaced(rt: HostRuntime) {
+    for (mode, gva) in [(Mode::HS, false), (Mode::VU, true)] {
+        let unplaced = Unplaced {
+            address: 0x6000,
+            kind: Access::Implicit,
+            access: Access::Store,
+            va: 0x1238,
+            mode,
+        };
+        let mut want = exception(7);
+        want.tval = 0x1238;
+        want.gva = gva;
+        assert_eq!(rt; unplaced_fault(&unplaced), want);
     }
 }
 

@@ -1,5 +1,6 @@
 use Rattle.std.proofs.Common.{◌≡◌, ◌^◌, ◌<◌, ◌≤◌}
-use Rattle.arch_defs.specs.Walk.{levels, walk, walk_from}
+use Rattle.arch_defs.specs.Walk.{levels, walk}
+use Rattle.stage_walk.specs.ByLevels.{walk_from}
 use Rattle.stage_walk.proofs.walking.walk.Given as goal
 
 abbrev pub invariant-loop-level : goal.invariant-loop-level
