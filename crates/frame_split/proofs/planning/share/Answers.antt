@@ -1,0 +1,55 @@
+use Rattle.std.proofs.Common.{◌≡◌, ◌++◌, [], ◌∷◌, ◌≤◌, length, arith, rules, get_or, subst}
+use Rattle.std.proofs.lemmas.List.{get_or_default}
+use Rattle.arch_defs.specs.declared.needs.Need.{Need}
+use Rattle.frame_split.specs.Shares.{SoFar}
+use Rattle.frame_split.proofs.Sharing.{so_far_none, so_far_more, so_far_all}
+use Rattle.frame_split.proofs.Sums.{blocks_more, roots_more}
+use Rattle.frame_split.proofs.planning.share.Goals as goal
+
+pub loop-i-init : goal.loop-i-init
+loop-i-init c =
+    rw c.in-Ok.ensures.items
+    (so_far_none c.args.needs.now c.args.start c.args.frames c.requires.blocks c.requires.roots c.requires.tables c.requires.aligned)
+
+pub part_at-part-requires-clause-blocks : goal.part_at-part-requires-clause-blocks
+part_at-part-requires-clause-blocks c =
+    omega (
+      arith,
+      c.loop-i.invariant.blocks,
+      c.loop-i.invariant.from.1,
+      blocks_more c.args.needs.now c.loop-i.i (record { blocks = 0; spaces = 0; entries = 0 }) c.loop-i-test.true,
+    )
+
+pub part_at-part-requires-clause-roots : goal.part_at-part-requires-clause-roots
+part_at-part-requires-clause-roots c =
+    omega (
+      arith,
+      c.loop-i.invariant.roots,
+      c.loop-i.invariant.from.2,
+      roots_more c.args.needs.now c.loop-i.i (record { blocks = 0; spaces = 0; entries = 0 }) c.loop-i-test.true,
+    )
+
+pub part_at-part-requires-clause-small : goal.part_at-part-requires-clause-small
+part_at-part-requires-clause-small c = omega (arith, c.loop-i.invariant.tables, c.requires.most)
+
+pub after-free-requires-clause-room : goal.after-free-requires-clause-room
+after-free-requires-clause-room c = (
+  omega (arith, c.loop-i.invariant.blocks, c.loop-i.invariant.from.1, c.loop-i.invariant.roots, c.loop-i.invariant.from.2, c.loop-i.invariant.tables, c.requires.most),
+  omega (arith, c.loop-i.invariant.roots, c.loop-i.invariant.from.2, c.loop-i.invariant.tables, c.requires.most),
+  omega (arith, c.loop-i.invariant.tables, c.requires.most),
+)
+
+pub loop-i-preserved : goal.loop-i-preserved
+loop-i-preserved c =
+    let need : Need = get_or c.args.needs.now c.loop-i.i (record { blocks = 0; spaces = 0; entries = 0 }) in
+    let pushed : c.push.new.self.items ≡ c.loop-i.parts.items ++ c.part_at-part.result ∷ [] = search rules in
+    rw (pushed, c.after-free.ensures)
+    (so_far_more c.args.needs.now c.loop-i.i c.loop-i.parts.items c.args.start c.loop-i.free c.args.frames need c.part_at-part.result
+    c.loop-i.invariant c.loop-i-test.true (get_or_default c.args.needs.now c.loop-i.i (record { blocks = 0; spaces = 0; entries = 0 }) need c.loop-i-test.true)
+    c.part_at-part.ensures.meets c.part_at-part.ensures.once c.part_at-part.ensures.between)
+
+pub returns : goal.returns
+returns c =
+    let last : c.loop-i.i ≡ length c.args.needs.now = omega (arith, c.loop-i-test.false, c.loop-i.auto.i-end) in
+    so_far_all c.args.needs.now c.loop-i.parts.items c.args.start c.loop-i.free c.args.frames
+    (subst (λ i. SoFar c.args.needs.now i c.loop-i.parts.items c.args.start c.loop-i.free c.args.frames) last c.loop-i.invariant)

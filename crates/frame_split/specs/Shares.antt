@@ -1,0 +1,105 @@
+-- How machine memory is shared out.
+use Rattle.std.specs.Prelude.{ℕ, ◌≡◌, ◌≢◌, ◌+◌, ◌*◌, ◌%◌, ◌<◌, ◌≤◌, true, List, [], ◌∷◌, length, get_or, drop, slice_index}
+use Rattle.arch_defs.specs.declared.needs.Need.{Need}
+use Rattle.frame_split.specs.declared.planning.Free.{Free}
+use Rattle.frame_split.specs.declared.faults.PlanFault.{PlanFault}
+use Rattle.frame_split.specs.declared.faults.PlanFault.TheVariants.{NoMemory, TooMuch}
+use Rattle.arch_defs.specs.Frames.{in_blocks, Apart, LieIn}
+use Rattle.arch_defs.specs.Layouts.{Layout, NamesEachOnce, in_tables, root_frames, table_frames, named_by}
+use Rattle.arch_defs.specs.Needs.{IsNeed, frames_needed, Meets}
+
+-- the frames that all of them need
+abbrev pub frames_of_all : List Need → ℕ
+frames_of_all [] = 0
+frames_of_all (need ∷ needs) = frames_needed need + frames_of_all needs
+
+abbrev pub AreNeeds : List Need → Type 0
+AreNeeds needs = (i : ℕ) (d : Need) → i < length needs → IsNeed (get_or needs i d)
+
+-- each guest gets a part of the size that it needs
+abbrev pub MeetEach : List Need → List Layout → Type 0
+MeetEach needs parts =
+    (i : ℕ) (n : Need) (d : Layout) → i < length needs → Meets (get_or needs i n) (get_or parts i d)
+
+-- no frame is in two parts
+abbrev pub ArePairwiseApart : List Layout → Type 0
+ArePairwiseApart parts =
+    (i j : ℕ) (d : Layout) → i < length parts → j < length parts → i ≢ j
+    → Apart (named_by (get_or parts i d)) (named_by (get_or parts j d))
+
+-- each part names no frame twice, and lies in memory of so many frames
+abbrev pub AreSound : List Layout → ℕ → Type 0
+AreSound parts frames =
+    (i : ℕ) (d : Layout) → i < length parts
+    → NamesEachOnce (get_or parts i d) × LieIn (named_by (get_or parts i d)) (frames * 4096)
+
+-- all blocks come before all roots, and these before all other tables
+abbrev pub BlocksComeFirst : List Layout → Type 0
+BlocksComeFirst parts = (i j f g : ℕ) (d : Layout) → i < length parts → j < length parts
+    → in_blocks ((get_or parts i d).blocks) f ≡ true → in_tables (get_or parts j d) g ≡ true → f < g
+
+abbrev pub RootsComeNext : List Layout → Type 0
+RootsComeNext parts = (i j f g : ℕ) (d : Layout) → i < length parts → j < length parts
+    → root_frames (get_or parts i d) f ≡ true → table_frames (get_or parts j d) g ≡ true → f < g
+
+-- parts for these needs in memory of so many frames
+pub record IsSplit (needs : List Need) (parts : List Layout) (frames : ℕ) : Type 0 where
+  pub count : length parts ≡ length needs
+  pub meet : MeetEach needs parts
+  pub apart : ArePairwiseApart parts
+  pub sound : AreSound parts frames
+  pub blocks_first : BlocksComeFirst parts
+  pub roots_next : RootsComeNext parts
+
+-- where to go on: the first free block, the first free frame for roots, and that for other tables
+abbrev pub after : Need → Free → Free
+after need free = record {
+  block = free.block + need.blocks;
+  root = free.root + 4 * (1 + need.spaces);
+  table = free.table + (1 + need.spaces * (2 * need.entries));
+}
+
+-- a part lies between two such places
+pub record LiesBetween (from to : Free) (part : Layout) : Type 0 where
+  pub blocks_from : (i : ℕ) → i < length part.blocks → from.block ≤ slice_index part.blocks i
+  pub blocks_to : (i : ℕ) → i < length part.blocks → slice_index part.blocks i < to.block
+  pub roots_from : from.root ≤ part.first_root
+  pub roots_to : part.first_root + 4 * (1 + part.spaces) ≤ to.root
+  pub tables_from : from.table ≤ part.first_table
+  pub tables_to : part.first_table + (1 + part.spaces * (2 * part.entries)) ≤ to.table
+
+-- the blocks end where the roots begin or before, and the roots where the other tables do
+pub record IsOrdered (from to : Free) : Type 0 where
+  pub blocks : 512 * to.block ≤ from.root
+  pub roots : to.root ≤ from.table
+
+-- the blocks, roots and other table frames that all of them need
+abbrev pub blocks_of_all : List Need → ℕ
+blocks_of_all [] = 0
+blocks_of_all (need ∷ needs) = need.blocks + blocks_of_all needs
+
+abbrev pub roots_of_all : List Need → ℕ
+roots_of_all [] = 0
+roots_of_all (need ∷ needs) = 1 + need.spaces + roots_of_all needs
+
+abbrev pub tables_of_all : List Need → ℕ
+tables_of_all [] = 0
+tables_of_all (need ∷ needs) = 1 + need.spaces * (2 * need.entries) + tables_of_all needs
+
+-- the parts of the needs so far, from one place to another, and what is still to be shared out up to the ends
+pub record SoFar (needs : List Need) (done : ℕ) (parts : List Layout) (start free : Free) (frames : ℕ) : Type 0 where
+  pub count : length parts ≡ done
+  pub meet : (i : ℕ) (n : Need) (d : Layout) → i < done → Meets (get_or needs i n) (get_or parts i d)
+  pub apart : ArePairwiseApart parts
+  pub once : (i : ℕ) (d : Layout) → i < done → NamesEachOnce (get_or parts i d)
+  pub between : (i : ℕ) (d : Layout) → i < done → LiesBetween start free (get_or parts i d)
+  pub blocks : 512 * (free.block + blocks_of_all (drop done needs)) ≤ start.root
+  pub roots : free.root + 4 * roots_of_all (drop done needs) ≤ start.table
+  pub tables : free.table + tables_of_all (drop done needs) ≤ frames
+  pub aligned : free.root % 4 ≡ 0
+  pub from : (start.block ≤ free.block) × (start.root ≤ free.root) × (start.table ≤ free.table)
+
+-- why there is no plan: want of memory, or the sum of the needs
+abbrev pub Causes : PlanFault → List Need → Type 0
+Causes NoMemory needs = Unit {0}
+Causes (TooMuch sum) needs = (sum ≡ frames_of_all needs) × (131072 < sum)

@@ -1,0 +1,14 @@
+// Why there is no plan.
+
+use std::alloc::AllocError;
+use thiserror::Error;
+
+/// Why machine memory can't be shared out.
+#[derive(Clone, Copy, Debug, PartialEq, Eq, Error)]
+pub enum PlanFault {
+    #[error("out of memory")]
+    NoMemory,
+    /// The guests need so many frames, more than there are.
+    #[error("{0} frames are too many")]
+    TooMuch(u64),
+}

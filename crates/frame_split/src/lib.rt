@@ -1,0 +1,11 @@
+// How machine memory is shared out among guests.
+#![tactic(auto)]
+
+mod faults;
+mod planning;
+#[cfg(test)]
+mod tests;
+
+pub use arch_defs::{Need, Part};
+pub use faults::PlanFault;
+pub use planning::{MOST_FRAMES, Split, plan};

@@ -1,0 +1,175 @@
+// The plan: all blocks first, then all roots, then all other tables, so that no frame is lost.
+
+ghost use Rattle.std.specs.Prelude.{◌≡◌, ℕ, ◌+◌, ◌*◌, ◌%◌, ◌<◌, ◌≤◌, ◌^◌, length, slice_index, IfOk, IfErr, IfSome};
+ghost use Rattle.arch_defs.specs.Layouts.{NamesEachOnce};
+ghost use Rattle.arch_defs.specs.Needs.{IsNeed, Meets};
+ghost use Rattle.frame_split.specs.Shares.{AreNeeds, Causes, IsSplit, LiesBetween, after, frames_of_all, blocks_of_all, roots_of_all, tables_of_all};
+
+use crate::faults::PlanFault;
+use arch_defs::{BLOCK_FRAMES, MOST_BLOCKS, Need, Part};
+use std::alloc::Global;
+
+/// The most frames of machine memory.
+pub const MOST_FRAMES: u64 = 131_072;
+
+/// The parts of guests, in their order, and the frames of machine memory that they lie in.
+#[derive(Drop)]
+pub struct Split {
+    pub parts: Vec<Part>,
+    pub frames: u64,
+}
+
+// The first free block, the first free frame for roots, and that for other tables.
+#[derive(Clone, Copy)]
+pub struct Free {
+    block: u64,
+    root: u64,
+    table: u64,
+}
+
+// What all guests need.
+#[derive(Clone, Copy)]
+struct Totals {
+    blocks: u64,
+    roots: u64,
+    tables: u64,
+}
+
+/// Shares out machine memory: each guest gets a part of the size that it needs, all blocks come first,
+/// then all roots, then all other tables. There is no plan exactly where the needs sum to more than
+/// 131,072 frames, but for want of memory.
+pub fn plan(alloc: Global, needs: &[Need]) -> Result<Split, PlanFault>
+    requires few { length needs.now ≤ 16 }
+    requires needs { AreNeeds needs.now }
+    ensures split { IfOk result (λ s. IsSplit needs.now s.parts.items s.frames) }
+    ensures frames { IfOk result (λ s. s.frames ≡ frames_of_all needs.now) }
+    ensures fits { IfOk result (λ s. s.frames ≤ 131072) }
+    ensures refused { IfErr result (λ fault. Causes fault needs.now) }
+{
+    let totals = all_needed(needs);
+    let frames = BLOCK_FRAMES * totals.blocks + 4 * totals.roots + totals.tables;
+    if frames > MOST_FRAMES {
+        return Err(PlanFault::TooMuch(frames));
+    }
+    let root = BLOCK_FRAMES * totals.blocks;
+    let start = Free {
+        block: 0,
+        root,
+        table: root + 4 * totals.roots,
+    };
+    match share(alloc, needs, start, frames) {
+        Some(parts) => Ok(Split { parts, frames }),
+        None => Err(PlanFault::NoMemory),
+    }
+}
+
+// The blocks, roots and other table frames that all of them need.
+fn all_needed(needs: &[Need]) -> Totals
+    requires few { length needs.now ≤ 16 }
+    requires needs { AreNeeds needs.now }
+    ensures blocks { result.blocks ≡ blocks_of_all needs.now }
+    ensures roots { result.roots ≡ roots_of_all needs.now }
+    ensures tables { result.tables ≡ tables_of_all needs.now }
+    ensures few { (result.blocks ≤ 512) × (result.roots ≤ 144) × (result.tables ≤ 65552) }
+{
+    let mut totals = Totals {
+        blocks: 0,
+        roots: 0,
+        tables: 0,
+    };
+    for i in 0..needs.len() {
+        totals = with_need(totals, &needs[i]);
+    }
+    totals
+}
+
+fn with_need(totals: Totals, need: &Need) -> Totals
+    requires need { IsNeed need.now }
+    requires room { (totals.blocks ≤ 2 ^ 32) × (totals.roots ≤ 2 ^ 32) × (totals.tables ≤ 2 ^ 32) }
+    ensures blocks { result.blocks ≡ totals.blocks + need.now.blocks }
+    ensures roots { result.roots ≡ totals.roots + (1 + need.now.spaces) }
+    ensures tables { result.tables ≡ totals.tables + (1 + need.now.spaces * (2 * need.now.entries)) }
+    ensures few { (result.blocks ≤ totals.blocks + 32) × (result.roots ≤ totals.roots + 9)
+        × (result.tables ≤ totals.tables + 4097) }
+{
+    Totals {
+        blocks: totals.blocks + need.blocks,
+        roots: totals.roots + 1 + need.spaces,
+        tables: totals.tables + 1 + need.spaces * (2 * need.entries),
+    }
+}
+
+// The parts from these places on.
+fn share(alloc: Global, needs: &[Need], start: Free, frames: u64) -> Option<Vec<Part>>
+    requires needs { AreNeeds needs.now }
+    requires blocks { 512 * (start.block + blocks_of_all needs.now) ≤ start.root }
+    requires roots { start.root + 4 * roots_of_all needs.now ≤ start.table }
+    requires tables { start.table + tables_of_all needs.now ≤ frames }
+    requires aligned { start.root % 4 ≡ 0 }
+    requires most { frames ≤ 131072 }
+    ensures { IfSome result (λ parts. IsSplit needs.now parts.items frames) }
+{
+    let Ok(mut parts) = Vec::with_capacity(alloc, needs.len()) else {
+        return None;
+    };
+    let mut free = start;
+    for i in 0..needs.len() {
+        let need = needs[i];
+        let part = part_at(&need, free);
+        if parts.push(part).is_err() {
+            return None;
+        }
+        free = after(&need, free);
+    }
+    Some(parts)
+}
+
+// Where to go on after a part.
+fn after(need: &Need, free: Free) -> Free
+    requires need { IsNeed need.now }
+    requires room { (free.block ≤ 2 ^ 32) × (free.root ≤ 2 ^ 32) × (free.table ≤ 2 ^ 32) }
+    ensures { result ≡ after need.now free }
+{
+    Free {
+        block: free.block + need.blocks,
+        root: free.root + 4 * (1 + need.spaces),
+        table: free.table + (1 + need.spaces * (2 * need.entries)),
+    }
+}
+
+// The part of the next guest.
+fn part_at(need: &Need, free: Free) -> Part
+    requires need { IsNeed need.now }
+    requires blocks { 512 * (free.block + need.now.blocks) ≤ free.root }
+    requires roots { free.root + 4 * (1 + need.now.spaces) ≤ free.table }
+    requires aligned { free.root % 4 ≡ 0 }
+    requires small { free.table ≤ 131072 }
+    ensures meets { Meets need.now result }
+    ensures once { NamesEachOnce result }
+    ensures between { LiesBetween free (after need.now free) result }
+{
+    let slots = numbers(free.block, need.blocks);
+    let part = Part::new(
+        &slots[..need.blocks as usize],
+        free.root as u32,
+        free.table as u32,
+        need.spaces as u16,
+        need.entries as u16,
+    );
+    part.names_each_once();
+    part
+}
+
+// So many numbers from a first one on.
+fn numbers(first: u64, count: u64) -> [u32; MOST_BLOCKS]
+    requires most { count ≤ 32 }
+    requires small { first + count ≤ 2 ^ 32 }
+    ensures numbers { (i : ℕ) → i < count → slice_index result i ≡ first + i }
+    ensures slots { length result ≡ 32 }
+{
+    let mut slots = [0; MOST_BLOCKS];
+    for i in 0..count as usize {
+        slots[i] = (first + i as u64) as u32;
+    }
+    slots
+}

@@ -1,0 +1,2 @@
+pub mod HostTable
+pub mod Walks

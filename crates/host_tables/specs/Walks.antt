@@ -1,0 +1,52 @@
+-- What the walk of a host table gives.
+use Rattle.std.specs.Prelude.{ℕ, ◌≡◌, ◌+◌, ◌-◌, ◌*◌, ◌/◌, ◌%◌, ◌≤◌, ◌^◌, ◌&&◌, Bool, true, List, Ok, length, slice_index, nat_le, nat_lt, if◌then◌else◌}
+use Rattle.arch_defs.specs.declared.modes.Access.{Access}
+use Rattle.arch_defs.specs.declared.registers.GuestRoot.TheVariants as root
+use Rattle.arch_defs.specs.declared.walks.Shape.TheVariants.{Sv39x4}
+use Rattle.arch_defs.specs.declared.walks.WalkEnd.{WalkEnd}
+use Rattle.arch_defs.specs.declared.walks.WalkEnd.TheVariants.{Leaf, PageFault}
+use Rattle.arch_defs.specs.Frames.{Frames, LieIn}
+use Rattle.arch_defs.specs.Layouts.{Layout, host_frames, named_by}
+use Rattle.arch_defs.specs.Memory.{ram_base, block_size, load}
+use Rattle.arch_defs.specs.Ram.{host_answer}
+use Rattle.arch_defs.specs.SecondStage.{second_under}
+use Rattle.arch_defs.specs.Walk.{EntryReading, walk}
+use Rattle.host_tables.specs.HostTable.{IsHostTable}
+
+-- a reading of places gives the aligned doublewords of memory in these frames
+abbrev pub ReadsIn : Frames → List ℕ → EntryReading → Type 0
+ReadsIn frames memory reading =
+    (place : ℕ) → frames (place / 4096) ≡ true → place % 8 ≡ 0 → reading place ≡ Ok (load memory place 8)
+
+-- in RAM a leaf of 2 MiB with all permissions, which names the block, and no leaf elsewhere
+abbrev pub host_walk : List ℕ → ℕ → WalkEnd
+host_walk blocks address =
+    if nat_le ram_base address && nat_lt address (ram_base + length blocks * block_size)
+    then Leaf (record {
+      frame =
+          slice_index blocks ((address - ram_base) / block_size) * 512;
+      level = 1;
+      r = true;
+      w = true;
+      x = true;
+      u = true;
+    })
+    else PageFault
+
+-- the walk of such a table is that, for each address and each kind of access, whatever reads memory
+abbrev pub WalksToRam : Layout → Type 0
+WalksToRam part = (memory : List ℕ) (reading : EntryReading) (address : ℕ) (access : Access)
+    → IsHostTable part memory → ReadsIn (host_frames part) memory reading
+    → walk reading part.first_root Sv39x4 address access ≡ host_walk part.blocks address
+
+-- memory of at most 512 MiB holds such a part, with its host table
+pub record IsHeld (part : Layout) (memory : List ℕ) : Type 0 where
+  pub size : length memory ≤ 2 ^ 29
+  pub lies : LieIn (named_by part) (length memory)
+  pub table : IsHostTable part memory
+
+-- the second stage by that table has each guest physical address of RAM at its place, and no other
+abbrev pub GivesRam : Layout → Type 0
+GivesRam part = (memory : List ℕ) (mxr : Bool) (vmid address : ℕ) (access : Access) → IsHeld part memory
+    → second_under 0 memory mxr (root.Sv39x4 vmid part.first_root) address access
+    ≡ host_answer part.blocks address

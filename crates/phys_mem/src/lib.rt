@@ -1,0 +1,14 @@
+// Machine memory, whatever is read and written as it is, and one guest's RAM in it.
+#![tactic(auto)]
+
+mod accesses;
+mod memory;
+mod ram;
+mod slices;
+#[cfg(test)]
+mod tests;
+
+pub use accesses::Mem;
+pub use arch_defs::{BLOCK_SIZE, FRAME_SIZE, Part};
+pub use memory::{MOST_FRAMES, PhysMem};
+pub use ram::{RAM_BASE, Ram};

@@ -1,0 +1,172 @@
+// Machine memory.
+
+ghost use Rattle.std.specs.Prelude.{◌≡◌, ℕ, ◌+◌, ◌*◌, ◌%◌, ◌<◌, ◌≤◌, ⊤, length, IfOk};
+ghost use Rattle.byteorder.specs.Endian.{little_bytes};
+ghost use Rattle.arch_defs.specs.Memory.{load, pasted, zeros};
+ghost use Rattle.phys_mem.specs.Accesses.{IsWidth, is_inside, number_at, bytes_with, frame_of};
+
+use crate::accesses::Mem;
+use crate::slices::{bytes_of, clear, copy, number, paste};
+use arch_defs::FRAME_SIZE;
+use byteorder::{ByteOrder, LittleEndian};
+use std::alloc::{AllocError, Global};
+use std::marker::Model;
+
+/// The most frames of machine memory.
+pub const MOST_FRAMES: u64 = 131_072;
+
+/// Machine memory: whole frames of bytes, which contracts see as the list of the bytes.
+#[derive(Drop)]
+pub struct PhysMem {
+    bytes: Vec<u8>,
+}
+
+impl Model for PhysMem {
+    ghost use Rattle.std.specs.Prelude.{◌≡◌, ℕ, ◌%◌, ◌^◌, ◌≤◌, List, vec_len};
+
+    ghost Value = { List ℕ };
+
+    ghost view = { λ m. m.bytes.items };
+
+    ghost invariant = { λ m. (vec_len m.bytes % 4096 ≡ 0) × (vec_len m.bytes ≤ 2 ^ 29) };
+}
+
+impl PhysMem {
+    /// So many frames of zeros.
+    #[tactic(auto, unfolding(arch_defs::specs::Memory::zeros))]
+    pub fn new(alloc: Global, frames: u64) -> Result<PhysMem, AllocError>
+        requires some { 1 ≤ frames }
+        requires most { frames ≤ 131072 }
+        ensures { IfOk result (λ m. m ≡ zeros (frames * 4096)) }
+    {
+        Ok(PhysMem {
+            bytes: vec![in alloc; 0u8; (frames * FRAME_SIZE) as usize]?,
+        })
+    }
+
+    /// How many bytes there are.
+    pub fn size(&self) -> u64
+        ensures size { result ≡ length self.now }
+        ensures whole { result % 4096 ≡ 0 }
+        ensures most { result ≤ 131072 * 4096 }
+    {
+        self.bytes.len() as u64
+    }
+
+    /// The number of `width` bytes at a place that is a multiple of it, little endian.
+    #[tactic(auto, using(crate::proofs::Places::fits))]
+    pub fn load(&self, at: u64, width: u8) -> u64
+        requires width { IsWidth width }
+        requires inside { at < length self.now }
+        requires aligned { at % width ≡ 0 }
+        ensures { result ≡ load self.now at width }
+    {
+        number(&self.bytes[at as usize..], width)
+    }
+
+    /// The word of four bytes at a place that is a multiple of 4, little endian.
+    pub fn load_word(&self, at: u64) -> u32
+        requires inside { at < length self.now }
+        requires aligned { at % 4 ≡ 0 }
+        ensures { result ≡ load self.now at 4 }
+    {
+        LittleEndian::read_u32(&self.bytes[at as usize..])
+    }
+
+    /// Writes the low `width` bytes of a value at a place that is a multiple of it, little endian.
+    #[tactic(auto, using(crate::proofs::Places::fits))]
+    pub fn store(&mut self, at: u64, width: u8, value: u64)
+        requires width { IsWidth width }
+        requires inside { at < length self.old }
+        requires aligned { at % width ≡ 0 }
+        ensures { self.new ≡ pasted self.old at (little_bytes width value) }
+    {
+        let piece = bytes_of(value);
+        let bytes = self.bytes.as_mut_slice();
+        let at = at as usize;
+        match width {
+            1 => paste(bytes, at, &piece[..1]),
+            2 => paste(bytes, at, &piece[..2]),
+            4 => paste(bytes, at, &piece[..4]),
+            _ => paste(bytes, at, &piece),
+        }
+    }
+
+    /// The bytes of a frame.
+    pub fn frame(&self, n: u64) -> &[u8]
+        requires { n * 4096 + 4096 ≤ length self.now }
+        ensures { result.now ≡ frame_of n self.now }
+    {
+        let bytes = self.bytes.as_slice();
+        let at = (n * FRAME_SIZE) as usize;
+        &bytes[at..at + FRAME_SIZE as usize]
+    }
+
+    /// Fills a frame with zeros.
+    pub fn zero_frame(&mut self, n: u64)
+        requires { n * 4096 + 4096 ≤ length self.old }
+        ensures { self.new ≡ pasted self.old (n * 4096) (zeros 4096) }
+    {
+        let bytes = self.bytes.as_mut_slice();
+        let at = (n * FRAME_SIZE) as usize;
+        clear(bytes, at, FRAME_SIZE as usize);
+    }
+
+    /// Fills a frame with the bytes of another one.
+    pub fn copy_frame(&mut self, from: u64, to: u64)
+        requires from { from * 4096 + 4096 ≤ length self.old }
+        requires to { to * 4096 + 4096 ≤ length self.old }
+        ensures { self.new ≡ pasted self.old (to * 4096) (frame_of from self.old) }
+    {
+        let bytes = self.bytes.as_mut_slice();
+        let source = (from * FRAME_SIZE) as usize;
+        let target = (to * FRAME_SIZE) as usize;
+        copy(bytes, source, target, FRAME_SIZE as usize);
+    }
+
+    /// Fills so many bytes from a place on with zeros.
+    pub fn clear(&mut self, at: u64, count: u64)
+        requires { at + count ≤ length self.old }
+        ensures { self.new ≡ pasted self.old at (zeros count) }
+    {
+        clear(self.bytes.as_mut_slice(), at as usize, count as usize);
+    }
+
+    /// Lays bytes over those from a place on.
+    pub fn copy_in(&mut self, at: u64, bytes: &[u8])
+        requires { at + length bytes.now ≤ length self.old }
+        ensures { self.new ≡ pasted self.old at bytes.now }
+    {
+        paste(self.bytes.as_mut_slice(), at as usize, bytes);
+    }
+}
+
+// Machine memory has base 0.
+impl Mem for PhysMem {
+    ghost base = { λ _. 0 };
+
+    ghost bytes = { λ m. m };
+
+    ghost is_backed = { λ _. ⊤ };
+
+    ghost keeps = { λ _ _. ⊤ };
+
+    #[tactic(auto, using(crate::proofs::Places::fits))]
+    fn get(&self, at: u64, width: u8) -> Option<u64> {
+        if at < self.size() {
+            Some(self.load(at, width))
+        } else {
+            None
+        }
+    }
+
+    #[tactic(auto, using(crate::proofs::Places::fits))]
+    fn set(&mut self, at: u64, width: u8, value: u64) -> bool {
+        if at < self.size() {
+            self.store(at, width, value);
+            true
+        } else {
+            false
+        }
+    }
+}

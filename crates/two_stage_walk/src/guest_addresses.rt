@@ -1,0 +1,139 @@
+// The second stage, whose table lies in memory itself.
+
+ghost use Rattle.std.specs.Prelude.{◌≡◌, ◌^◌, ◌%◌, ◌<◌, IfSome, length};
+ghost use Rattle.arch_defs.specs.SecondStage.{guest_end, guest_root_frame, second_root_of, guest_walk, has_frame_of, memory_words, second_now, walked};
+ghost use Rattle.arch_defs.specs.Memory.{bare};
+ghost use Rattle.arch_defs.specs.Translation.{unread};
+ghost use Rattle.stage_walk.specs.Ends.{EndFits};
+ghost use Rattle.two_stage_walk.specs.Places.{IsPlaceOf, IsWhole, LeafIn};
+
+use crate::virtual_addresses::{leaf_address, unread};
+use arch_defs::{Access, Csrs, GuestRoot, GuestWalkEnd, Mode, Shape, Trap, WalkEnd};
+use phys_mem::Mem;
+use stage_walk::{Fetch, permits_second, walk};
+use trap_delegation::is_virtual;
+
+/// Memory as what a walk reads its entries from.
+#[derive_where(Clone, Copy)]
+struct Words<'a, M> {
+    mem: &'a M,
+}
+
+impl<M: Mem> Fetch for Words<'_, M> {
+    ghost reading = { λ w. memory_words (M.base w.mem.now) (M.bytes w.mem.now) };
+
+    ghost is_backed = { λ w. M.is_backed w.mem.now };
+
+    fn pte_at(&self, place: u64) -> Result<u64, Trap> {
+        match self.mem.get(place, 8) {
+            Some(word) => Ok(word),
+            None => Err(unread(place)),
+        }
+    }
+}
+
+// Whether memory has the frame that a place is in. Memory is of whole frames, so its byte tells it.
+#[tactic(auto, using(crate::proofs::Frames::byte_of_frame))]
+fn has_frame_of<M: Mem>(mem: &M, place: u64) -> bool
+    requires backed { M.is_backed mem.now }
+    requires whole { IsWhole (M.base mem.now) (M.bytes mem.now) }
+    ensures { result ≡ has_frame_of (M.base mem.now) (M.bytes mem.now) place }
+{
+    mem.get(place, 1).is_some()
+}
+
+// What the end of a walk is to an access.
+fn guest_end<M: Mem>(mem: &M, mxr: bool, address: u64, kind: Access, end: WalkEnd) -> GuestWalkEnd
+    requires backed { M.is_backed mem.now }
+    requires whole { IsWhole (M.base mem.now) (M.bytes mem.now) }
+    requires fits { EndFits 3 end }
+    ensures value { result ≡ guest_end (M.base mem.now) (M.bytes mem.now) mxr address kind end }
+    ensures leaf { LeafIn (M.base mem.now) (M.bytes mem.now) address result }
+{
+    match end {
+        WalkEnd::Leaf(leaf) => {
+            if !permits_second(mxr, kind, &leaf) {
+                GuestWalkEnd::GuestPageFault
+            } else if has_frame_of(mem, leaf_address(&leaf, address)) {
+                GuestWalkEnd::Leaf(leaf)
+            } else {
+                GuestWalkEnd::AccessFault
+            }
+        }
+        WalkEnd::PageFault => GuestWalkEnd::GuestPageFault,
+        WalkEnd::FetchEnd { .. } => GuestWalkEnd::AccessFault,
+    }
+}
+
+/// The walk of the second-stage table at hgatp's page, for an access of a kind at a guest physical address.
+/// `mxr` is sstatus.MXR.
+#[inline(always)]
+#[tactic(auto, unfolding(arch_defs::specs::SecondStage::guest_walk))]
+pub fn guest_walk<M: Mem>(mem: &M, mxr: bool, page: u64, address: u64, kind: Access) -> GuestWalkEnd
+    requires backed { M.is_backed mem.now }
+    requires whole { IsWhole (M.base mem.now) (M.bytes mem.now) }
+    ensures value { result ≡ guest_walk (M.base mem.now) (M.bytes mem.now) mxr page address kind }
+    ensures leaf { LeafIn (M.base mem.now) (M.bytes mem.now) address result }
+{
+    let root = page / 4 % 0x400_0000_0000 * 4;
+    let end = walk(&Words { mem }, root, Shape::Sv39x4, address, kind);
+    guest_end(mem, mxr, address, kind, end)
+}
+
+// The place that the walk of a table gives.
+#[inline(never)]
+fn walked<M: Mem>(mem: &M, mxr: bool, page: u64, address: u64, kind: Access) -> Option<u64>
+    requires backed { M.is_backed mem.now }
+    requires whole { IsWhole (M.base mem.now) (M.bytes mem.now) }
+    ensures place { result ≡ walked (M.base mem.now) (M.bytes mem.now) mxr page address kind }
+    ensures inside { IfSome result (λ place. IsPlaceOf (M.base mem.now) (M.bytes mem.now) address place) }
+{
+    match guest_walk(mem, mxr, page, address, kind) {
+        GuestWalkEnd::Leaf(leaf) => Some(leaf_address(&leaf, address)),
+        GuestWalkEnd::GuestPageFault | GuestWalkEnd::AccessFault => None,
+    }
+}
+
+// Bare passes on each address inside memory.
+fn bare<M: Mem>(mem: &M, address: u64, kind: Access) -> Option<u64>
+    requires backed { M.is_backed mem.now }
+    ensures place { result ≡ bare (M.base mem.now) (length (M.bytes mem.now)) address kind }
+    ensures inside { IfSome result (λ place. IsPlaceOf (M.base mem.now) (M.bytes mem.now) address place) }
+{
+    if mem.get(address, 1).is_some() {
+        Some(address)
+    } else {
+        None
+    }
+}
+
+/// The table of a mode's second stage: hgatp's with V = 1, and none with V = 0.
+pub fn second_root_of(csrs: &Csrs, mode: Mode) -> GuestRoot
+    ensures { result ≡ second_root_of csrs.now mode }
+{
+    if is_virtual(mode) {
+        csrs.hgatp
+    } else {
+        GuestRoot::Bare
+    }
+}
+
+/// The second stage as the registers and memory are: the place that it gives an access of a kind at a guest
+/// physical address as a mode.
+pub fn second_place<M: Mem>(
+    mem: &M,
+    csrs: &Csrs,
+    mode: Mode,
+    address: u64,
+    kind: Access,
+) -> Option<u64>
+    requires backed { M.is_backed mem.now }
+    requires whole { IsWhole (M.base mem.now) (M.bytes mem.now) }
+    ensures place { result ≡ second_now csrs.now mode (M.base mem.now) (M.bytes mem.now) address kind }
+    ensures inside { IfSome result (λ place. IsPlaceOf (M.base mem.now) (M.bytes mem.now) address place) }
+{
+    match second_root_of(csrs, mode) {
+        GuestRoot::Bare => bare(mem, address, kind),
+        GuestRoot::Sv39x4 { page, .. } => walked(mem, csrs.hs.status.mxr, page, address, kind),
+    }
+}

@@ -1,0 +1,165 @@
+// The first stage, whose table is read through the second.
+
+ghost use Rattle.std.specs.Prelude.{◌≡◌, ◌^◌, ◌%◌, ◌<◌};
+ghost use Rattle.arch_defs.specs.Memory.{reading_of};
+ghost use Rattle.arch_defs.specs.SecondStage.{second_now};
+ghost use Rattle.arch_defs.specs.Translation.{bank_of, entry_words_through, first_stage, found_by, privilege_of, unread};
+ghost use Rattle.arch_defs.specs.declared.walks.Shape.TheVariants.{Sv39};
+ghost use Rattle.arch_defs.specs.Walk.{leaf_address, walk};
+ghost use Rattle.stage_walk.specs.Ends.{EndFits, LeafFits};
+ghost use Rattle.two_stage_walk.specs.Places.{IsPlaceOf, IsWhole, KeepsOffset};
+
+use crate::guest_addresses::second_place;
+use arch_defs::{
+    Access, Bank, Csrs, Found, LOAD_ACCESS_FAULT, LeafEntry, Mode, Privilege, Shape,
+    SupervisorRoot, Trap, WalkEnd,
+};
+use phys_mem::Mem;
+use stage_walk::{Fetch, permits_first, walk};
+
+/// Memory as what the first stage of a mode reads its entries from: each at the place that the second
+/// stage has for it.
+#[derive_where(Clone, Copy)]
+struct Entries<'a, M> {
+    mem: &'a M,
+    csrs: &'a Csrs,
+    mode: Mode,
+}
+
+impl<M: Mem> Fetch for Entries<'_, M> {
+    ghost reading = { λ e. entry_words_through
+        (second_now e.csrs.now e.mode (M.base e.mem.now) (M.bytes e.mem.now))
+        (reading_of (M.base e.mem.now) (M.bytes e.mem.now)) };
+
+    ghost is_backed = { λ e. M.is_backed e.mem.now × IsWhole (M.base e.mem.now) (M.bytes e.mem.now) };
+
+    fn pte_at(&self, place: u64) -> Result<u64, Trap> {
+        match second_place(self.mem, self.csrs, self.mode, place, Access::Implicit) {
+            Some(at) => Ok(word_at(self.mem, at)),
+            None => Err(unread(place)),
+        }
+    }
+}
+
+// The doubleword at a place of memory.
+#[tactic(auto, using(crate::proofs::Frames::doubleword))]
+fn word_at<M: Mem>(mem: &M, place: u64) -> u64
+    requires backed { M.is_backed mem.now }
+    requires whole { IsWhole (M.base mem.now) (M.bytes mem.now) }
+    requires inside { IsPlaceOf (M.base mem.now) (M.bytes mem.now) place place }
+    requires aligned { place % 8 ≡ 0 }
+    ensures { result ≡ reading_of (M.base mem.now) (M.bytes mem.now) place 8 }
+{
+    match mem.get(place, 8) {
+        Some(word) => word,
+        None => unreachable!(),
+    }
+}
+
+/// The trap of the read of an entry by itself, where the second stage has no place for it.
+pub fn unread(at: u64) -> Trap
+    ensures { result ≡ unread at }
+{
+    Trap {
+        cause: LOAD_ACCESS_FAULT,
+        interrupt: false,
+        tval: at,
+        tval2: 0,
+        gva: false,
+        implicit: true,
+    }
+}
+
+/// The registers of the level whose table translates for a mode.
+pub fn bank_of(csrs: &Csrs, mode: Mode) -> Bank
+    ensures { result ≡ bank_of csrs.now mode }
+{
+    match mode {
+        Mode::HS | Mode::U => csrs.hs,
+        Mode::VS | Mode::VU => csrs.vs,
+    }
+}
+
+/// As whom a mode's accesses are translated: with V = 1 sstatus.MXR counts beside vsstatus.MXR
+/// (Privileged Architecture 20211203, 4.1.1.2 and 8.5).
+pub fn privilege_of(csrs: &Csrs, mode: Mode) -> Privilege
+    ensures { result ≡ privilege_of csrs.now mode }
+{
+    let status = bank_of(csrs, mode).status;
+    Privilege {
+        user: matches!(mode, Mode::U | Mode::VU),
+        sum: status.sum,
+        mxr: status.mxr || csrs.hs.status.mxr,
+    }
+}
+
+/// The physical address of an address under a leaf.
+pub fn leaf_address(leaf: &LeafEntry, va: u64) -> u64
+    requires { LeafFits 3 leaf.now }
+    ensures value { result ≡ leaf_address leaf.now va }
+    ensures offset { result % 4096 ≡ va % 4096 }
+    ensures small { result < 2 ^ 56 }
+{
+    let first = 4096 * leaf.frame;
+    match leaf.level {
+        0 => first + va % 0x1000,
+        1 => first + va % 0x20_0000,
+        _ => first + va % 0x4000_0000,
+    }
+}
+
+/// What the end of a first-stage walk is to an access.
+pub fn found_by(privilege: Privilege, access: Access, va: u64, end: WalkEnd) -> Found
+    requires { EndFits 3 end }
+    ensures value { result ≡ found_by privilege access va end }
+    ensures offset { KeepsOffset va result }
+{
+    match end {
+        WalkEnd::Leaf(leaf) => {
+            if permits_first(privilege, access, &leaf) {
+                Found::Passes(leaf_address(&leaf, va))
+            } else {
+                Found::PageFaults
+            }
+        }
+        WalkEnd::PageFault => Found::PageFaults,
+        WalkEnd::FetchEnd { place, .. } => Found::Lacks(place),
+    }
+}
+
+// What the walk of the table of this page makes of a virtual address.
+fn found_in_table<M: Mem>(
+    mem: &M,
+    csrs: &Csrs,
+    mode: Mode,
+    page: u64,
+    va: u64,
+    access: Access,
+) -> Found
+    requires backed { M.is_backed mem.now }
+    requires whole { IsWhole (M.base mem.now) (M.bytes mem.now) }
+    ensures value { result ≡ found_by (privilege_of csrs.now mode) access va
+        (walk (entry_words_through (second_now csrs.now mode (M.base mem.now) (M.bytes mem.now))
+        (reading_of (M.base mem.now) (M.bytes mem.now))) (page % 2 ^ 44) Sv39 va access) }
+    ensures offset { KeepsOffset va result }
+{
+    let entries = Entries { mem, csrs, mode };
+    let end = walk(&entries, page % 0x1000_0000_0000, Shape::Sv39, va, access);
+    found_by(privilege_of(csrs, mode), access, va, end)
+}
+
+/// What the first stage makes of a virtual address for an access as a mode. Its entries are read where the
+/// second stage has them.
+#[tactic(auto, unfolding(arch_defs::specs::Translation::first_stage))]
+pub fn first_stage<M: Mem>(mem: &M, csrs: &Csrs, mode: Mode, va: u64, access: Access) -> Found
+    requires backed { M.is_backed mem.now }
+    requires whole { IsWhole (M.base mem.now) (M.bytes mem.now) }
+    ensures value { result ≡ first_stage (second_now csrs.now mode (M.base mem.now) (M.bytes mem.now))
+        (reading_of (M.base mem.now) (M.bytes mem.now)) csrs.now mode va access }
+    ensures offset { KeepsOffset va result }
+{
+    match bank_of(csrs, mode).atp {
+        SupervisorRoot::Bare => Found::Passes(va),
+        SupervisorRoot::Sv39 { page, .. } => found_in_table(mem, csrs, mode, page, va, access),
+    }
+}
