@@ -1,22 +1,23 @@
 -- One instruction of the lone machine, and the same on the hart.
-use Rattle.std.specs.Prelude.{◌==◌, ◌||◌, option_and_then}
+use Rattle.std.specs.Prelude.{◌==◌, option_and_then}
 use Rattle.std.proofs.Common.{cond, ◌≡◌, ℕ, ◌%◌, ◌^◌, ◌<◌, Option, Some, None, Bool, true, false, refl, ap, arith}
 use Rattle.arch_defs.specs.declared.modes.Access.{Access}
 use Rattle.arch_defs.specs.declared.modes.Access.TheVariants.{Fetch, Load, Store, ExecLoad, Implicit}
 use Rattle.arch_defs.specs.declared.modes.Mode.{Mode}
 use Rattle.arch_defs.specs.declared.modes.Mode.TheVariants.{HS, U, VS, VU}
-use Rattle.arch_defs.specs.declared.modes.TheConstants.{INSTRUCTION_MISALIGNED, LOAD_MISALIGNED, STORE_MISALIGNED}
-use Rattle.arch_defs.specs.declared.registers.Csrs.{Csrs}
+use Rattle.arch_defs.specs.declared.modes.TheConstants.{ECALL_FROM_USER, ILLEGAL_INSTRUCTION, INSTRUCTION_MISALIGNED}
+use Rattle.arch_defs.specs.declared.registers.GuestRoot.{GuestRoot}
 use Rattle.arch_defs.specs.declared.registers.Regs.{Regs}
 use Rattle.arch_defs.specs.declared.registers.Virtual.{Virtual}
 use Rattle.arch_defs.specs.declared.walks.Found.{Found}
 use Rattle.arch_defs.specs.declared.walks.Found.TheVariants.{Passes, PageFaults, Lacks}
 use Rattle.arch_defs.specs.declared.widths.Width.{Width}
+use Rattle.arch_defs.specs.declared.widths.Width.TheVariants.{Word}
 use Rattle.arch_defs.specs.Bits.{add64}
 use Rattle.arch_defs.specs.Memory.{Reading, SecondStage}
 use Rattle.arch_defs.specs.Registers.{advanced, read}
-use Rattle.arch_defs.specs.Translation.{first_stage, found_under}
-use Rattle.arch_defs.specs.Traps.{is_virtual, page_fault}
+use Rattle.arch_defs.specs.Translation.{first_stage}
+use Rattle.arch_defs.specs.Traps.{exception, is_virtual, misaligned_fault, page_fault}
 use Rattle.arch_defs.specs.Widths.{bytes_in, extended}
 use Rattle.op_defs.specs.declared.ops.AmoOp.{AmoOp}
 use Rattle.op_defs.specs.declared.ops.Op.{Op}
@@ -26,40 +27,15 @@ use Rattle.op_defs.specs.declared.ops.Effect.TheVariants.{Sets, Raises, Loads, S
 use Rattle.op_defs.specs.Arithmetic.{amo}
 use Rattle.op_defs.specs.Meaning.{branch, holds, jump, meaning, next}
 use Rattle.op_defs.specs.Table.{op_of}
-use Rattle.machine_defs.specs.Core.{Located, At, Fails, aligned, attempted, attempted_at, called_from, core, decoded, executed, fetched, is_reserved, loaded_at, located, located_at, located_by, modified_at, reserved_at, stored_at, write, word_at}
-use Rattle.machine_defs.specs.Outcomes.{Outcome, Trapped, sets}
+use Rattle.machine_defs.specs.Core.{Located, At, Fails, called_from, core, decoded, executed, fetched, is_reserved, loaded_at, located, located_at, located_by, modified_at, own_access, reserved_at, stored_at, stored_if, stored_if_reserved, storing, word_at}
+use Rattle.machine_defs.specs.Outcomes.{Trapped, sets}
+use Rattle.world_switch.specs.Hosting.{hosted, hosted_csrs, hosted_mode}
+use Rattle.world_switch.proofs.Undone.{translates_alike}
 use Rattle.guest_exit.specs.Following.{privileged_in, privileged_of}
-use Rattle.guest_exit.specs.Hosting.{hosted, hosted_csrs, hosted_mode}
 use Rattle.guest_exit.proofs.Privileged.{privileged_stands}
-use Rattle.guest_exit.proofs.Stands.{Own, Call, Stands, ends, is_own}
+use Rattle.guest_exit.proofs.Stands.{Own, Call, SameMade, SamePlace, Stands, ended_stands, is_own, leaves}
 
--- the hart has no sstatus.MXR of its own
-or_false : (b : Bool) → (b || false) ≡ b
-or_false true = refl
-or_false false = refl
-
--- an access is translated alike
-same_found : (second : SecondStage) (reading : Reading) (csrs : Csrs) (mode : Mode) (va : ℕ) (access : Access) → is_virtual mode ≡ false
-    → first_stage second reading (hosted_csrs csrs) (hosted_mode mode) va access ≡ first_stage second reading csrs mode va access
-unfolding first_stage
-same_found second reading csrs HS va access own =
-    ap (λ mxr. found_under second reading (record { user = false; sum = csrs.hs.status.sum; mxr = mxr }) va access csrs.hs.atp) (or_false csrs.hs.status.mxr)
-same_found second reading csrs U va access own =
-    ap (λ mxr. found_under second reading (record { user = true; sum = csrs.hs.status.sum; mxr = mxr }) va access csrs.hs.atp) (or_false csrs.hs.status.mxr)
-same_found second reading csrs VS va access own = cc
-same_found second reading csrs VU va access own = cc
-
--- and through both stages
-same_place : (second : SecondStage) (reading : Reading) (s : Virtual) (va : ℕ) (access : Access) → is_virtual s.mode ≡ false
-    → located second reading (hosted s) va access ≡ located second reading s va access
-same_place second reading s va access own = ap (located_by second va access) (same_found second reading s.csrs s.mode va access own)
-
--- how an access that could not be made ends, in both
-abbrev Fine : Virtual → Located → Type 0
-Fine s (At place) = Unit {0}
-Fine s (Fails outcome) = Stands s outcome outcome
-
--- a page fault is the guest's own
+-- the faults of an access are the guest's own
 page_fault_own : (access : Access) → is_own (page_fault access) ≡ true
 page_fault_own Fetch = refl
 page_fault_own Load = refl
@@ -67,64 +43,88 @@ page_fault_own Store = refl
 page_fault_own ExecLoad = refl
 page_fault_own Implicit = refl
 
--- each place that an access has is so
-fine_at : (s : Virtual) (access : Access) (va address : ℕ) (place : Option ℕ) → Fine s (located_at access va address place)
-fine_at s access va address (Some place) = tt
-fine_at s access va address None = refl
+misaligned_own : (access : Access) → is_own (misaligned_fault access) ≡ true
+misaligned_own Fetch = refl
+misaligned_own Load = refl
+misaligned_own Store = refl
+misaligned_own ExecLoad = refl
+misaligned_own Implicit = refl
 
-fine_by : (s : Virtual) (second : SecondStage) (va : ℕ) (access : Access) (found : Found) → Fine s (located_by second va access found)
-fine_by s second va access (Passes address) = fine_at s access va address (second address access)
-fine_by s second va access PageFaults = Own refl (page_fault_own access)
-fine_by s second va access (Lacks place) = refl
+-- where an access is made, link by link
+at_alike : (root : GuestRoot) (s : Virtual) (va : ℕ) (access : Access) (address : ℕ) (place : Option ℕ)
+    → SamePlace root s (located_at s.mode va access address place) (located_at (hosted_mode s.mode) va access address place)
+at_alike root s va access address (Some place) = refl
+at_alike root s va access address None = (refl, refl)
 
-fine : (s : Virtual) (second : SecondStage) (reading : Reading) (va : ℕ) (access : Access) → Fine s (located second reading s va access)
-fine s second reading va access = fine_by s second va access (first_stage second reading s.csrs s.mode va access)
+by_alike : (root : GuestRoot) (s : Virtual) (second : SecondStage) (va : ℕ) (access : Access) (found : Found)
+    → SamePlace root s (located_by second s.mode va access found) (located_by second (hosted_mode s.mode) va access found)
+by_alike root s second va access (Passes address) = at_alike root s va access address (second address access)
+by_alike root s second va access PageFaults = Own (page_fault access) va refl refl (page_fault_own access)
+by_alike root s second va access (Lacks place) = (refl, refl)
+
+located_alike : (root : GuestRoot) (s : Virtual) (second : SecondStage) (reading : Reading) (va : ℕ) (access : Access) → is_virtual s.mode ≡ false
+    → SamePlace root s (located second reading s.csrs s.mode va access) (located second reading (hosted_csrs root s.csrs) (hosted_mode s.mode) va access)
+located_alike root s second reading va access own =
+    rw (translates_alike root second reading s.csrs s.mode va access own) (by_alike root s second va access (first_stage second reading s.csrs s.mode va access))
+
+access_alike : (root : GuestRoot) (s : Virtual) (second : SecondStage) (reading : Reading) (va : ℕ) (width : Width) (access : Access) → is_virtual s.mode ≡ false
+    → SamePlace root s (own_access second reading s va width access) (own_access second reading (hosted root s) va width access)
+access_alike root s second reading va width access own =
+    elim (va % bytes_in width == 0) as (λ b.
+    SamePlace root s (cond b (located second reading s.csrs s.mode va access) (Fails (Trapped (exception s.mode (misaligned_fault access) va))))
+    (cond b (located second reading (hosted_csrs root s.csrs) (hosted_mode s.mode) va access) (Fails (Trapped (exception (hosted_mode s.mode) (misaligned_fault access) va)))))
+    [ true ↦ located_alike root s second reading va access own | false ↦ Own (misaligned_fault access) va refl refl (misaligned_own access) ]
 
 -- each kind of access, by where it is made
-loaded_stands : (reading : Reading) (s : Virtual) (word : ℕ) (width : Width) (signed : Bool) (rd : ℕ) (place : Located) → is_virtual s.mode ≡ false → Fine s place
-    → Stands s (loaded_at reading s word width signed rd place) (loaded_at reading (hosted s) word width signed rd place)
-loaded_stands reading s word width signed rd (At place) own fine = ends s word (sets s rd (extended width signed (reading place (bytes_in width)))).regs s.reservation None own
-loaded_stands reading s word width signed rd (Fails outcome) own fine = fine
+loaded_alike : (root : GuestRoot) (reading : Reading) (s : Virtual) (width : Width) (signed : Bool) (rd : ℕ) (own hart : Located) → is_virtual s.mode ≡ false → SamePlace root s own hart
+    → SameMade root s (loaded_at reading s width signed rd own) (loaded_at reading (hosted root s) width signed rd hart)
+loaded_alike root reading s width signed rd (At own) (At hart) mode same =
+    rw same (leaves root s (sets s rd (extended width signed (reading hart (bytes_in width)))).regs s.reservation None mode)
+loaded_alike root reading s width signed rd (Fails own) (Fails hart) mode stands = stands
+loaded_alike root reading s width signed rd (At own) (Fails hart) mode never = absurd never
+loaded_alike root reading s width signed rd (Fails own) (At hart) mode never = absurd never
 
-stored_stands : (s : Virtual) (word : ℕ) (width : Width) (value : ℕ) (place : Located) → is_virtual s.mode ≡ false → Fine s place
-    → Stands s (stored_at s word width value place) (stored_at (hosted s) word width value place)
-stored_stands s word width value (At place) own fine = ends s word (sets s 0 0).regs s.reservation (write place width value) own
-stored_stands s word width value (Fails outcome) own fine = fine
+stored_alike : (root : GuestRoot) (s : Virtual) (width : Width) (value : ℕ) (own hart : Located) → is_virtual s.mode ≡ false → SamePlace root s own hart
+    → SameMade root s (stored_at s width value own) (stored_at (hosted root s) width value hart)
+stored_alike root s width value (At own) (At hart) mode same = rw same (leaves root s (sets s 0 0).regs s.reservation (storing hart width value) mode)
+stored_alike root s width value (Fails own) (Fails hart) mode stands = stands
+stored_alike root s width value (At own) (Fails hart) mode never = absurd never
+stored_alike root s width value (Fails own) (At hart) mode never = absurd never
 
-reserved_stands : (reading : Reading) (s : Virtual) (word : ℕ) (width : Width) (rd : ℕ) (place : Located) → is_virtual s.mode ≡ false → Fine s place
-    → Stands s (reserved_at reading s word width rd place) (reserved_at reading (hosted s) word width rd place)
-reserved_stands reading s word width rd (At place) own fine =
-    ends s word (sets s rd (extended width true (reading place (bytes_in width)))).regs (Some (place, bytes_in width)) None own
-reserved_stands reading s word width rd (Fails outcome) own fine = fine
+reserved_alike : (root : GuestRoot) (reading : Reading) (s : Virtual) (width : Width) (rd : ℕ) (own hart : Located) → is_virtual s.mode ≡ false → SamePlace root s own hart
+    → SameMade root s (reserved_at reading s width rd own) (reserved_at reading (hosted root s) width rd hart)
+reserved_alike root reading s width rd (At own) (At hart) mode same =
+    rw same (leaves root s (sets s rd (extended width true (reading hart (bytes_in width)))).regs (Some (hart, bytes_in width)) None mode)
+reserved_alike root reading s width rd (Fails own) (Fails hart) mode stands = stands
+reserved_alike root reading s width rd (At own) (Fails hart) mode never = absurd never
+reserved_alike root reading s width rd (Fails own) (At hart) mode never = absurd never
 
-try_stands : (s : Virtual) (word : ℕ) (width : Width) (value rd place : ℕ) (held : Bool) → is_virtual s.mode ≡ false
-    → Stands s (attempted s word width value rd place held) (attempted (hosted s) word width value rd place held)
-try_stands s word width value rd place true own = ends s word (sets s rd 0).regs None (write place width value) own
-try_stands s word width value rd place false own = ends s word (sets s rd 1).regs None None own
+stored_if_alike : (root : GuestRoot) (s : Virtual) (held : Bool) (width : Width) (value rd place : ℕ) → is_virtual s.mode ≡ false
+    → SameMade root s (stored_if held s width value rd place) (stored_if held (hosted root s) width value rd place)
+stored_if_alike root s true width value rd place mode = leaves root s (sets s rd 0).regs None (storing place width value) mode
+stored_if_alike root s false width value rd place mode = leaves root s (sets s rd 1).regs None None mode
 
-attempted_stands : (s : Virtual) (word : ℕ) (width : Width) (value rd : ℕ) (place : Located) → is_virtual s.mode ≡ false → Fine s place
-    → Stands s (attempted_at s word width value rd place) (attempted_at (hosted s) word width value rd place)
-attempted_stands s word width value rd (At place) own fine = try_stands s word width value rd place (is_reserved s.reservation place width) own
-attempted_stands s word width value rd (Fails outcome) own fine = fine
+conditional_alike : (root : GuestRoot) (s : Virtual) (width : Width) (value rd : ℕ) (own hart : Located) → is_virtual s.mode ≡ false → SamePlace root s own hart
+    → SameMade root s (stored_if_reserved s width value rd own) (stored_if_reserved (hosted root s) width value rd hart)
+conditional_alike root s width value rd (At own) (At hart) mode same = rw same (stored_if_alike root s (is_reserved s.reservation hart width) width value rd hart mode)
+conditional_alike root s width value rd (Fails own) (Fails hart) mode stands = stands
+conditional_alike root s width value rd (At own) (Fails hart) mode never = absurd never
+conditional_alike root s width value rd (Fails own) (At hart) mode never = absurd never
 
-modified_stands : (reading : Reading) (s : Virtual) (word : ℕ) (o : AmoOp) (width : Width) (operand rd : ℕ) (place : Located) → is_virtual s.mode ≡ false → Fine s place
-    → Stands s (modified_at reading s word o width operand rd place) (modified_at reading (hosted s) word o width operand rd place)
-modified_stands reading s word o width operand rd (At place) own fine =
-    ends s word (sets s rd (extended width true (reading place (bytes_in width)))).regs s.reservation (write place width (amo o width (reading place (bytes_in width)) operand)) own
-modified_stands reading s word o width operand rd (Fails outcome) own fine = fine
-
--- the test of alignment comes first in both
-aligned_stands : (s : Virtual) (address : ℕ) (width : Width) (cause : ℕ) (o o' : Outcome) → is_own cause ≡ true → Stands s o o'
-    → Stands s (aligned address width cause o) (aligned address width cause o')
-aligned_stands s address width cause o o' own stands =
-    elim (address % bytes_in width == 0) as (λ b. Stands s (cond b o (Trapped cause address)) (cond b o' (Trapped cause address))) [ true ↦ stands | false ↦ Own refl own ]
+modified_alike : (root : GuestRoot) (reading : Reading) (s : Virtual) (o : AmoOp) (width : Width) (operand rd : ℕ) (own hart : Located) → is_virtual s.mode ≡ false → SamePlace root s own hart
+    → SameMade root s (modified_at reading s o width operand rd own) (modified_at reading (hosted root s) o width operand rd hart)
+modified_alike root reading s o width operand rd (At own) (At hart) mode same =
+    rw same (leaves root s (sets s rd (extended width true (reading hart (bytes_in width)))).regs s.reservation (storing hart width (amo o width (reading hart (bytes_in width)) operand)) mode)
+modified_alike root reading s o width operand rd (Fails own) (Fails hart) mode stands = stands
+modified_alike root reading s o width operand rd (At own) (Fails hart) mode never = absurd never
+modified_alike root reading s o width operand rd (Fails own) (At hart) mode never = absurd never
 
 -- a call of the environment
-called_stands : (s : Virtual) (mode : Mode) → is_virtual mode ≡ false → Stands s (called_from mode) (called_from (hosted_mode mode))
-called_stands s HS own = Call refl refl
-called_stands s U own = Own refl refl
-called_stands s VS own = cc
-called_stands s VU own = cc
+called_alike : (root : GuestRoot) (s : Virtual) (mode : Mode) → is_virtual mode ≡ false → Stands root (record s { mode = mode }) (called_from mode) (called_from (hosted_mode mode))
+called_alike root s HS own = Call refl refl
+called_alike root s U own = Own ECALL_FROM_USER 0 refl refl refl
+called_alike root s VS own = cc
+called_alike root s VU own = cc
 
 -- an instruction raises the guest's own exceptions alone
 abbrev IsFine : Effect → Type 0
@@ -169,54 +169,48 @@ meaning_fine (op.GuestLoad width signed rd rs1) regs = tt
 meaning_fine (op.GuestFetch width rd rs1) regs = tt
 meaning_fine (op.GuestStore width rs1 rs2) regs = tt
 
--- what an instruction asks for, a word that was read, and what was fetched
-executed_stands : (second : SecondStage) (reading : Reading) (s : Virtual) (word : ℕ) (effect : Effect) → is_virtual s.mode ≡ false → IsFine effect
-    → word < 2 ^ 32 → privileged_in word s.regs ≡ privileged_of effect → Stands s (executed second reading s word effect) (executed second reading (hosted s) word effect)
-executed_stands second reading s word (Sets rd value next) own good small decided = ends s word (advanced s.regs rd value next) s.reservation None own
-executed_stands second reading s word (Raises cause tval) own good small decided = Own refl good
-executed_stands second reading s word (Loads address width signed rd) own good small decided =
-    rw (same_place second reading s address Load own)
-    (aligned_stands s address width LOAD_MISALIGNED _ _ refl (loaded_stands reading s word width signed rd _ own (fine s second reading address Load)))
-executed_stands second reading s word (Stores address width value) own good small decided =
-    rw (same_place second reading s address Store own)
-    (aligned_stands s address width STORE_MISALIGNED _ _ refl (stored_stands s word width value _ own (fine s second reading address Store)))
-executed_stands second reading s word (Reserves address width rd) own good small decided =
-    rw (same_place second reading s address Load own)
-    (aligned_stands s address width LOAD_MISALIGNED _ _ refl (reserved_stands reading s word width rd _ own (fine s second reading address Load)))
-executed_stands second reading s word (StoresReserved address width value rd) own good small decided =
-    rw (same_place second reading s address Store own)
-    (aligned_stands s address width STORE_MISALIGNED _ _ refl (attempted_stands s word width value rd _ own (fine s second reading address Store)))
-executed_stands second reading s word (Modifies o address width operand rd) own good small decided =
-    rw (same_place second reading s address Store own)
-    (aligned_stands s address width STORE_MISALIGNED _ _ refl (modified_stands reading s word o width operand rd _ own (fine s second reading address Store)))
-executed_stands second reading s word Calls own good small decided = called_stands s s.mode own
-executed_stands second reading s word (Privileged p) own good small decided = privileged_stands s word p own small decided
+-- what an effect does, what a decoded word does, and what was fetched
+executed_alike : (root : GuestRoot) (second : SecondStage) (reading : Reading) (s : Virtual) (word : ℕ) (effect : Effect) → is_virtual s.mode ≡ false → IsFine effect
+    → word < 2 ^ 32 → privileged_in word s.regs ≡ privileged_of effect → SameMade root s (executed second reading s word effect) (executed second reading (hosted root s) word effect)
+executed_alike root second reading s word (Sets rd value next) own good small decided = leaves root s (advanced s.regs rd value next) s.reservation None own
+executed_alike root second reading s word (Raises cause tval) own good small decided = Own cause tval refl refl good
+executed_alike root second reading s word (Loads address width signed rd) own good small decided =
+    loaded_alike root reading s width signed rd _ _ own (access_alike root s second reading address width Load own)
+executed_alike root second reading s word (Stores address width value) own good small decided =
+    stored_alike root s width value _ _ own (access_alike root s second reading address width Store own)
+executed_alike root second reading s word (Reserves address width rd) own good small decided =
+    reserved_alike root reading s width rd _ _ own (access_alike root s second reading address width Load own)
+executed_alike root second reading s word (StoresReserved address width value rd) own good small decided =
+    conditional_alike root s width value rd _ _ own (access_alike root s second reading address width Store own)
+executed_alike root second reading s word (Modifies o address width operand rd) own good small decided =
+    modified_alike root reading s o width operand rd _ _ own (access_alike root s second reading address width Store own)
+executed_alike root second reading s word Calls own good small decided = called_alike root s s.mode own
+executed_alike root second reading s word (Privileged p) own good small decided = privileged_stands root s word p own small decided
 
 -- which instructions the mode decides on is read off the word
 decided_by : (word : ℕ) (o : Op) (regs : Regs) → op_of word ≡ Some o → privileged_in word regs ≡ privileged_of (meaning o regs)
 unfolding privileged_in
 decided_by word o regs e = ap (option_and_then (λ p. privileged_of (meaning p regs))) e
 
-decoded_stands : (second : SecondStage) (reading : Reading) (s : Virtual) (word : ℕ) (o : Option Op) → is_virtual s.mode ≡ false → word < 2 ^ 32 → op_of word ≡ o
-    → Stands s (decoded second reading s word o) (decoded second reading (hosted s) word o)
-decoded_stands second reading s word (Some o) own small e = executed_stands second reading s word (meaning o s.regs) own (meaning_fine o s.regs) small (decided_by word o s.regs e)
-decoded_stands second reading s word None own small e = Own refl refl
+decoded_stands : (root : GuestRoot) (second : SecondStage) (reading : Reading) (s : Virtual) (word : ℕ) (o : Option Op) → is_virtual s.mode ≡ false → word < 2 ^ 32 → op_of word ≡ o
+    → Stands root s (decoded second reading s word o) (decoded second reading (hosted root s) word o)
+decoded_stands root second reading s word (Some o) own small e =
+    ended_stands root s s.regs.pc word _ _ (executed_alike root second reading s word (meaning o s.regs) own (meaning_fine o s.regs) small (decided_by word o s.regs e))
+decoded_stands root second reading s word None own small e = Own ILLEGAL_INSTRUCTION word refl refl refl
 
 -- what is fetched is a word of 32 bits
 is_word : (n : ℕ) → n % 2 ^ 32 < 2 ^ 32
 is_word n = omega arith
 
-fetched_stands : (second : SecondStage) (reading : Reading) (s : Virtual) (place : Located) → is_virtual s.mode ≡ false → Fine s place
-    → Stands s (fetched second reading s place) (fetched second reading (hosted s) place)
-fetched_stands second reading s (At place) own fine = decoded_stands second reading s (word_at reading place) (op_of (word_at reading place)) own (is_word (reading place 4)) refl
-fetched_stands second reading s (Fails outcome) own fine = fine
+fetched_stands : (root : GuestRoot) (second : SecondStage) (reading : Reading) (s : Virtual) (own hart : Located) → is_virtual s.mode ≡ false → SamePlace root s own hart
+    → Stands root s (fetched second reading s own) (fetched second reading (hosted root s) hart)
+fetched_stands root second reading s (At own) (At hart) mode same =
+    rw same (decoded_stands root second reading s (word_at reading hart) (op_of (word_at reading hart)) mode (is_word (reading hart 4)) refl)
+fetched_stands root second reading s (Fails own) (Fails hart) mode stands = stands
+fetched_stands root second reading s (At own) (Fails hart) mode never = absurd never
+fetched_stands root second reading s (Fails own) (At hart) mode never = absurd never
 
 -- one instruction of the lone machine with V = 0, and the same on the hart
-pub core_stands : (second : SecondStage) (reading : Reading) (s : Virtual) → is_virtual s.mode ≡ false → Stands s (core second reading s) (core second reading (hosted s))
+pub core_stands : (root : GuestRoot) (second : SecondStage) (reading : Reading) (s : Virtual) → is_virtual s.mode ≡ false → Stands root s (core second reading s) (core second reading (hosted root s))
 unfolding core
-core_stands second reading s own =
-    elim (s.regs.pc % 4 == 0) as (λ b. Stands s (cond b (fetched second reading s (located second reading s s.regs.pc Fetch)) (Trapped INSTRUCTION_MISALIGNED s.regs.pc))
-    (cond b (fetched second reading (hosted s) (located second reading (hosted s) s.regs.pc Fetch)) (Trapped INSTRUCTION_MISALIGNED s.regs.pc))) [
-      | true ↦ rw (same_place second reading s s.regs.pc Fetch own) (fetched_stands second reading s _ own (fine s second reading s.regs.pc Fetch))
-      | false ↦ Own refl refl
-    ]
+core_stands root second reading s own = fetched_stands root second reading s _ _ own (access_alike root s second reading s.regs.pc Word Fetch own)

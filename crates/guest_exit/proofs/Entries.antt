@@ -1,32 +1,38 @@
 -- What an entry of the hart for one step is to the lone machine.
-use Rattle.std.proofs.Common.{◌≡◌, ℕ, zero, suc, ◌+◌, ◌%◌, ◌^◌, ◌<◌, ◌≤◌, List, [], ◌∷◌, Some, Bool, true, false, refl, ap, sym, subst, arith}
-use Rattle.arch_defs.specs.declared.levels.Level.TheVariants as level
+use Rattle.std.specs.Prelude.{◌||◌, nat_le, option_and_then}
+use Rattle.std.proofs.Common.{cond, ◌≡◌, ℕ, zero, suc, ◌+◌, ◌%◌, ◌^◌, ◌<◌, ◌≤◌, List, [], ◌∷◌, Option, Some, None, Bool, true, false, refl, ap, sym, subst, arith, ◌∙◌}
+use Rattle.std.proofs.lemmas.List.{append-nil}
+use Rattle.std.proofs.lemmas.List.Sums.{sum_by-append}
 use Rattle.arch_defs.specs.declared.modes.Trap.{Trap}
+use Rattle.arch_defs.specs.declared.registers.GuestRoot.{GuestRoot}
 use Rattle.arch_defs.specs.declared.registers.Virtual.{Virtual}
+use Rattle.arch_defs.specs.Frames.{Only, in_blocks}
+use Rattle.arch_defs.specs.Interrupts.{due, interrupt_of}
+use Rattle.arch_defs.specs.Layouts.{Layout}
+use Rattle.arch_defs.specs.Ram.{ram_of}
+use Rattle.arch_defs.specs.Traps.{is_virtual}
+use Rattle.arch_defs.proofs.FrameSets.{only_both, only_none}
 use Rattle.machine_defs.specs.declared.events.Event.{Event}
 use Rattle.machine_defs.specs.declared.events.Event.TheVariants as event
-use Rattle.machine_defs.specs.Machine.{Machine, is_built, ticked, trapped, try}
-use Rattle.machine_defs.specs.Runs.{event_in, left_by, pc_and_word, trace_of}
+use Rattle.machine_defs.specs.declared.guests.Status.TheVariants.{Running}
+use Rattle.machine_defs.specs.HostPlaces.{in_ram, memory_place}
+use Rattle.machine_defs.specs.Machine.{Machine, Platform, informed, is_outside, ticked, timed, trapped, try, try_under}
+use Rattle.machine_defs.specs.Outside.{has_input}
+use Rattle.machine_defs.specs.Runs.{event_in, events, left_by, pc_and_word, run, trace_of}
+use Rattle.machine_defs.specs.Renaming.{ReservesHeld, renamed}
+use Rattle.machine_defs.proofs.Running.{events_compose, events_running, runs_compose, step_running}
 use Rattle.rv64_hart.specs.declared.harts.Why.{Why}
 use Rattle.rv64_hart.specs.declared.harts.Why.TheVariants.{Limit, Exit, VsTrap}
 use Rattle.rv64_hart.specs.Counts.{IsRaisedBy}
 use Rattle.rv64_hart.specs.Steps.{HartEnd, Goes, Exits, Progress, progress, progressed, enters_vs, hart_step, hart_steps, one_more, is_vs_trap, IsWhy}
-use Rattle.guest_exit.specs.Entering.{Enters, steps_in}
-use Rattle.guest_exit.specs.Following.{Follows, IsLeft, event_for, host_takes, virt_after}
-use Rattle.guest_exit.specs.Hosting.{fixed_up, hosted, saved}
-use Rattle.arch_defs.specs.Interrupts.{due, interrupt_of}
-use Rattle.guest_exit.proofs.Followed.{followed}
-
--- what the guest has after the hart's step, by whether it entered VS by a trap
-abbrev after : Bool → Virtual → Virtual → Virtual
-after true state before = fixed_up (saved state before)
-after false state before = saved state before
-
-after_event : (e : Event) (state before : Virtual) → virt_after e state before ≡ after (enters_vs e) state before
-after_event (event.Plain pc word) state before = refl
-after_event (event.Trap level.VS interrupt) state before = refl
-after_event (event.Trap level.HS interrupt) state before = refl
-after_event event.System state before = refl
+use Rattle.host_tables.proofs.Held.{held_stays}
+use Rattle.world_switch.specs.Hosting.{fixed_up, host_root, hosted, loaded, saved, saved_mode, taken_back}
+use Rattle.world_switch.proofs.Undone.{load_after_save, save_after_load, saved_is_own, virtual_mode}
+use Rattle.guest_exit.specs.Entering.{Hands, IsStopped, Lasts, moved}
+use Rattle.guest_exit.specs.Following.{Follows, IsAt, IsLeft, Keeps, event_for, host_takes}
+use Rattle.guest_exit.proofs.Followed.{followed, is_own_mode}
+use Rattle.guest_exit.proofs.Interrupts.{never_due}
+use Rattle.guest_exit.proofs.Stands.{none_written}
 
 -- the machine's event has the hart's part in the account
 one_trace : (e : Event) → trace_of (event_for e ∷ []) ≡ pc_and_word e
@@ -37,75 +43,266 @@ one_trace event.System = omega arith
 mod_mod : (n : ℕ) → n % 2 ^ 64 % 2 ^ 64 ≡ n % 2 ^ 64
 mod_mod n = omega arith
 
--- a step that the hart made is the machine's
-record MadeBy (m : Machine) (end : HartEnd) (t : ℕ) (q : Progress) : Type 0 where
-  goes : (e : Event) × (end ≡ Goes q.state q.memory e) × (enters_vs e ≡ q.trapped)
-  step : left_by m (try m) ≡ ticked (record m { virt = after q.trapped q.state m.virt; ram = q.memory })
+-- the machine after one step of the hart, by whether that was a trap into VS
+abbrev after_step : Machine → Bool → Virtual → List ℕ → Machine
+after_step m trapped hart ram =
+    record m { platform = ticked (record m.platform { virt = taken_back trapped hart m.platform.virt }); ram = ram }
+
+-- and after so many, which leave it this state
+abbrev pub placed : Machine → Virtual → List ℕ → ℕ → Machine
+placed m virt ram n = record m { platform = moved m.platform virt n; ram = ram }
+
+-- a step that the hart made in a part of machine memory is the machine's
+record MadeBy (part : Layout) (m : Machine) (memory : List ℕ) (t : ℕ) (q : Progress) : Type 0 where
+  own : Virtual
+  state : q.state ≡ renamed (memory_place part.blocks) own
+  step : left_by m (try m) ≡ after_step m q.trapped own (ram_of part.blocks q.memory)
+  keeps : Keeps (host_root part) m.platform.virt own
+  held : ReservesHeld (in_ram part.blocks) own.reservation
+  only : Only (in_blocks part.blocks) memory q.memory
   trace : IsRaisedBy (trace_of (event_in (try m))) t q.trace
 
-made : (m : Machine) (end : HartEnd) (t : ℕ) (q : Progress) → Follows m end → progressed true t end ≡ Some q → MadeBy m end t q
-made m (Goes state memory e) t q follows some =
+made : (part : Layout) (m : Machine) (memory : List ℕ) (end : HartEnd) (t : ℕ) (q : Progress) → Follows part m memory end → progressed true t end ≡ Some q
+    → MadeBy part m memory t q
+made part m memory (Goes state changed e) t q by some =
     let state_is : state ≡ q.state = cc in
-    let memory_is : memory ≡ q.memory = cc in
+    let memory_is : changed ≡ q.memory = cc in
     let trace_is : (t + pc_and_word e) % 2 ^ 64 ≡ q.trace = cc in
     let trapped_is : enters_vs e ≡ q.trapped = cc in
     record {
-      goes = (e, rw (state_is, memory_is) refl, trapped_is);
-      step = rw (follows, after_event e state m.virt, ← state_is, ← memory_is, ← trapped_is) refl;
-      trace = rw (follows, one_trace e, ← trace_is) (mod_mod (t + pc_and_word e));
+      own = by.own;
+      state = rw (← state_is) by.state;
+      step = rw (by.step, ← memory_is, ← trapped_is) refl;
+      keeps = by.keeps;
+      held = by.held;
+      only = rw (← memory_is) by.only;
+      trace = rw (by.step, one_trace e, ← trace_is) (mod_mod (t + pc_and_word e));
     }
-made m (Exits trap) t q follows some = cc
+made part m memory (Exits trap) t q by some = cc
 
--- none or one step
-none_taken : (p q : Progress) (n : ℕ) → n < 1 → hart_steps true n p ≡ Some q → p ≡ q
-unfolding hart_steps
-none_taken p q zero h e = cc
-none_taken p q (suc n) h e = absurd (omega arith)
+-- so many steps of the hart are a run of the machine
+pub record Ran (part : Layout) (m : Machine) (memory : List ℕ) (t n : ℕ) (q : Progress) : Type 0 where
+  pub own : Virtual
+  pub state : q.state ≡ renamed (memory_place part.blocks) own
+  pub machine : run m n ≡ placed m (taken_back q.trapped own m.platform.virt) (ram_of part.blocks q.memory) n
+  pub keeps : Keeps (host_root part) m.platform.virt own
+  pub held : ReservesHeld (in_ram part.blocks) own.reservation
+  pub only : Only (in_blocks part.blocks) memory q.memory
+  pub trace : IsRaisedBy (trace_of (events m n)) t q.trace
 
-one_taken : (p q : Progress) (n : ℕ) → n ≡ 1 → p.trapped ≡ false → hart_steps true n p ≡ Some q → progressed true p.trace (hart_step p.state p.memory) ≡ Some q
-unfolding hart_steps one_more
-one_taken p q n one fresh e = let there : hart_steps true 1 p ≡ Some q = subst (λ k. hart_steps true k p ≡ Some q) one e in rw fresh at there
+-- what the clock sets has not changed
+record IsTold (p : Platform) (n : ℕ) : Type 0 where
+  timer : nat_le p.timer (p.clock + n) ≡ p.virt.csrs.sip.timer
+  external : has_input p.inputs (p.clock + n) ≡ p.virt.csrs.sip.external
+  none : has_input p.inputs (p.clock + n) ≡ false
 
--- how many steps an entry made
-pub taken_is : (p : Progress) (state : Virtual) (memory : List ℕ) (t taken : ℕ) (why : Why) → p.trapped ≡ false → taken ≤ 1
-    → hart_steps true taken p ≡ Some (progress state memory t (is_vs_trap why)) → IsWhy 1 taken state memory why → taken ≡ steps_in why
-taken_is p state memory t taken Limit fresh within e why = why
-taken_is p state memory t taken (Exit trap) fresh within e (none, exits) = omega arith
-taken_is p state memory t zero VsTrap fresh within e why = let same = none_taken p _ zero (omega arith) e in
-    let never : false ≡ true = rw (← fresh) (ap (λ p. p.trapped) same) in cc
-taken_is p state memory t (suc zero) VsTrap fresh within e why = refl
-taken_is p state memory t (suc (suc n)) VsTrap fresh within e why = absurd (omega arith)
+second_false : (a b : Bool) → (a || b) ≡ false → b ≡ false
+second_false true b e = cc
+second_false false b e = e
 
--- what one entry is to the machine
-pub entered : (m : Machine) (virt state : Virtual) (memory memory' : List ℕ) (t t' taken : ℕ) (why : Why)
-    → m.virt ≡ virt → m.ram ≡ memory → is_built m ≡ true → host_takes virt ≡ false → taken ≤ 1
-    → hart_steps true taken (progress (hosted virt) memory t false) ≡ Some (progress state memory' t' (is_vs_trap why))
-    → IsWhy 1 taken state memory' why → Enters m why state memory' t t'
-entered m virt state memory memory' t t' taken Limit virt_is ram_is built own within e why =
-    let by = made m _ t (progress state memory' t' false) (followed m built (rw virt_is own))
-    (rw (virt_is, ram_is) (one_taken (progress (hosted virt) memory t false) _ taken why refl e)) in
-    record { goes = by.goes; step = by.step; trace = by.trace }
-entered m virt state memory memory' t t' taken VsTrap virt_is ram_is built own within e why =
-    let one = taken_is (progress (hosted virt) memory t false) state memory' t' taken VsTrap refl within e why in
-    let by = made m _ t (progress state memory' t' true) (followed m built (rw virt_is own))
-    (rw (virt_is, ram_is) (one_taken (progress (hosted virt) memory t false) _ taken one refl e)) in
-    record { goes = by.goes; step = by.step; trace = by.trace }
-entered m virt state memory memory' t t' taken (Exit trap) virt_is ram_is built own within e (none, exits) =
-    let same = none_taken (progress (hosted virt) memory t false) _ taken none e in
-    let state_is : hosted virt ≡ state = ap (λ p. p.state) same in
-    let memory_is : memory ≡ memory' = ap (λ p. p.memory) same in
+told : (p : Platform) (limit n : ℕ) → Lasts p limit → n < limit → IsTold p n
+told p limit n lasts h =
+    let timer_is : nat_le p.timer p.clock ≡ p.virt.csrs.sip.timer = ap (λ p. p.virt.csrs.sip.timer) lasts.current in
+    let external_is : has_input p.inputs p.clock ≡ p.virt.csrs.sip.external = ap (λ p. p.virt.csrs.sip.external) lasts.current in
+    let none = second_false (is_virtual p.virt.mode) (has_input p.inputs p.clock) lasts.inside in
+    let timer_stays = lasts.timer n h in
+    let inputs_stay = lasts.inputs n h in
+    record { timer = rw timer_stays timer_is; external = rw inputs_stay external_is; none = rw inputs_stay none }
+
+-- before a step of an entry the hart stands for the machine, and the step is not the host's
+record IsReady (part : Layout) (p : Platform) (hart : Virtual) : Type 0 where
+  inside : is_outside p ≡ false
+  own : host_takes p.virt ≡ false
+  stands : loaded part p.virt ≡ hart
+
+inside_by : (a b : Bool) → a ≡ false → b ≡ false → (a || b) ≡ false
+inside_by a b e f = rw (e, f) refl
+
+stands_again : (root : GuestRoot) (v hart : Virtual) (timer external : Bool) (clock : ℕ) → Keeps root v hart → timer ≡ hart.csrs.hvip.timer
+    → external ≡ hart.csrs.hvip.external → hosted root (record (saved hart v) { csrs = timed (saved hart v).csrs clock timer external }) ≡ hart
+stands_again root v hart timer external clock keeps e f = rw (e, f) (load_after_save root v hart keeps.csrs.rest keeps.mode)
+
+own_at : (m : Machine) (limit n : ℕ) (hart : Virtual) (ram : List ℕ) → Lasts m.platform limit → n < limit → run m n ≡ placed m (saved hart m.platform.virt) ram n
+    → host_takes (moved m.platform (saved hart m.platform.virt) n).virt ≡ false
+unfolding run
+own_at m limit zero hart ram lasts h e = subst (λ m. host_takes m.platform.virt ≡ false) e lasts.own
+own_at m limit (suc n) hart ram lasts h e =
+    let some : 1 < limit = omega (arith, h) in
+    never_due (moved m.platform (saved hart m.platform.virt) (suc n)).virt.csrs (saved_mode hart.mode) (saved_is_own hart.mode) (lasts.interrupts some)
+
+ready : (part : Layout) (m : Machine) (limit n : ℕ) (own state : Virtual) (ram : List ℕ) → Lasts m.platform limit → n < limit → Keeps (host_root part) m.platform.virt own
+    → state ≡ renamed (memory_place part.blocks) own → run m n ≡ placed m (saved own m.platform.virt) ram n
+    → IsReady part (moved m.platform (saved own m.platform.virt) n) state
+ready part m limit n own state ram lasts h keeps is e =
+    let t = told m.platform limit n lasts h in
+    let again = stands_again (host_root part) m.platform.virt own (nat_le m.platform.timer (m.platform.clock + n)) (has_input m.platform.inputs (m.platform.clock + n)) (m.platform.clock + n) keeps
+    (rw t.timer (sym keeps.csrs.timer)) (rw t.external (sym keeps.csrs.external)) in
     record {
-      exits = rw (virt_is, ram_is, state_is, memory_is) exits;
-      hart_is = rw virt_is (sym state_is);
-      memory_is = rw ram_is (sym memory_is);
-      trace = sym (ap (λ p. p.trace) same);
+      inside = inside_by (is_virtual (saved_mode own.mode)) (has_input m.platform.inputs (m.platform.clock + n)) (saved_is_own own.mode) t.none;
+      own = own_at m limit n own ram lasts h e;
+      stands = ap (renamed (memory_place part.blocks)) again ∙ sym is;
     }
+
+-- one step further
+one_more_of : (a n : ℕ) → a + n + 1 ≡ a + (n + 1)
+one_more_of a n = omega arith
+
+abbrev at_clock : Machine → Virtual → List ℕ → ℕ → ℕ → Machine
+at_clock m virt memory clock steps = record m { platform = informed (record m.platform { virt = virt; clock = clock; steps = steps }); ram = memory }
+
+further_by : (m : Machine) (virt : Virtual) (memory : List ℕ) (a b c d : ℕ) → a ≡ b → c ≡ d → at_clock m virt memory a c ≡ at_clock m virt memory b d
+further_by m virt memory a b c d e f = rw (e, f) refl
+
+further : (m : Machine) (hart after : Virtual) (memory changed : List ℕ) (n : ℕ) (trapped : Bool)
+    → after_step (placed m (saved hart m.platform.virt) memory n) trapped after changed
+    ≡ placed m (taken_back trapped after m.platform.virt) changed (n + 1)
+further m hart after memory changed n true = further_by m (fixed_up (saved after m.platform.virt)) changed _ _ _ _ (one_more_of m.platform.clock n) (one_more_of m.platform.steps n)
+further m hart after memory changed n false = further_by m (saved after m.platform.virt) changed _ _ _ _ (one_more_of m.platform.clock n) (one_more_of m.platform.steps n)
+
+keeps_on : (root : GuestRoot) (p : Platform) (n : ℕ) (hart after : Virtual) → IsTold p n → Keeps root (moved p (saved hart p.virt) n).virt after → Keeps root p.virt after
+keeps_on root p n hart after t keeps =
+    record {
+      csrs = record { rest = keeps.csrs.rest; timer = rw (← t.timer) keeps.csrs.timer; external = rw (← t.external) keeps.csrs.external };
+      mode = keeps.mode;
+    }
+
+raised_then : (a b t u w : ℕ) → IsRaisedBy a t u → IsRaisedBy b u w → IsRaisedBy (a + b) t w
+raised_then a b t u w e f = omega (arith, e, f)
+
+pub one_run : (m : Machine) → m.platform.status ≡ Running → run m 1 ≡ left_by m (try m)
+unfolding run
+one_run m h = step_running m h
+
+pub one_event : (m : Machine) → m.platform.status ≡ Running → events m 1 ≡ event_in (try m)
+unfolding events
+one_event m h = rw (events_running m h) (append-nil (event_in (try m)))
+
+-- the machine of one step more
+pub run_further : (m placed : Machine) (n : ℕ) → run m n ≡ placed → placed.platform.status ≡ Running → run m (n + 1) ≡ left_by placed (try placed)
+run_further m placed n e h = rw (← runs_compose m n 1, e) (one_run placed h)
+
+pub trace_further : (m placed : Machine) (n t u w : ℕ) → run m n ≡ placed → placed.platform.status ≡ Running → IsRaisedBy (trace_of (events m n)) t u
+    → IsRaisedBy (trace_of (event_in (try placed))) u w → IsRaisedBy (trace_of (events m (n + 1))) t w
+trace_further m placed n t u w e h before one =
+    rw (← events_compose m n 1, e, one_event placed h, sum_by-append pc_and_word (events m n) (event_in (try placed)))
+    (raised_then _ _ t u w before one)
+
+ran_one : (part : Layout) (m : Machine) (memory : List ℕ) (limit t n : ℕ) (p q : Progress) → m.platform.status ≡ Running → Lasts m.platform limit → IsAt part m memory
+    → n < limit → Ran part m memory t n p → p.trapped ≡ false → progressed true p.trace (hart_step p.state p.memory) ≡ Some q → Ran part m memory t (n + 1) q
+ran_one part m memory limit t n p q running lasts at h ran fresh some =
+    let v = m.platform.virt in
+    let ram = ram_of part.blocks p.memory in
+    let there : run m n ≡ placed m (saved ran.own v) ram n = rw fresh at ran.machine in
+    let now = placed m (saved ran.own v) ram n in
+    let is = ready part m limit n ran.own p.state ram lasts h ran.keeps ran.state there in
+    let placed_at : IsAt part now p.memory = record {
+      once = at.once;
+      held = held_stays part memory p.memory at.once at.held ran.only;
+      ram = refl;
+      reserved = ran.held;
+    } in
+    let follows : Follows part now p.memory (hart_step p.state p.memory) =
+    subst (λ hart. Follows part now p.memory (hart_step hart p.memory)) is.stands (followed part now p.memory is.inside is.own placed_at) in
+    let by = made part now p.memory (hart_step p.state p.memory) p.trace q follows some in
+    record {
+      own = by.own;
+      state = by.state;
+      machine = rw (run_further m now n there running, by.step) (further m ran.own by.own ram (ram_of part.blocks q.memory) n q.trapped);
+      keeps = keeps_on (host_root part) m.platform n ran.own by.own (told m.platform limit n lasts h) by.keeps;
+      held = by.held;
+      only = only_both (in_blocks part.blocks) memory p.memory q.memory ran.only by.only;
+      trace = trace_further m now n t p.trace q.trace there running ran.trace by.trace;
+    }
+
+-- a step that the hart has made, if the run did not end before it
+fresh_of : (b : Bool) (o : Option Progress) (q : Progress) → cond b None o ≡ Some q → (b ≡ false) × (o ≡ Some q)
+fresh_of true o q e = cc
+fresh_of false o q e = (refl, e)
+
+one_more_is : (p q : Progress) → one_more true p ≡ Some q → (p.trapped ≡ false) × (progressed true p.trace (hart_step p.state p.memory) ≡ Some q)
+unfolding one_more
+one_more_is p q e = fresh_of p.trapped (progressed true p.trace (hart_step p.state p.memory)) q e
+
+-- the value before a step that gave one
+before_of : {A B : Type 0} (f : A → Option B) (o : Option A) (after : B) → option_and_then f o ≡ Some after → (before : A) × (o ≡ Some before) × (f before ≡ Some after)
+before_of f None after e = cc
+before_of f (Some before) after e = (before, refl, e)
+
+ran_next : (part : Layout) (m : Machine) (memory : List ℕ) (limit t n : ℕ) (o : Option Progress) (q : Progress) → m.platform.status ≡ Running → Lasts m.platform limit
+    → IsAt part m memory → n < limit → ((p : Progress) → o ≡ Some p → Ran part m memory t n p) → option_and_then (one_more true) o ≡ Some q → Ran part m memory t (n + 1) q
+ran_next part m memory limit t n o q running lasts at h before e =
+    let there = before_of (one_more true) o q e in
+    let is = one_more_is there.0 q there.2 in
+    ran_one part m memory limit t n there.0 q running lasts at h (before there.0 there.1) is.0 is.1
+
+none_more_of : (a : ℕ) → a + 0 ≡ a
+none_more_of a = omega arith
+
+ran_none : (part : Layout) (m : Machine) (memory : List ℕ) (limit t : ℕ) → Lasts m.platform limit → IsAt part m memory
+    → Ran part m memory t zero (progress (loaded part m.platform.virt) memory t false)
+unfolding run events
+ran_none part m memory limit t lasts at =
+    let v = m.platform.virt in
+    let back : saved (hosted (host_root part) v) v ≡ v = save_after_load (host_root part) v (is_own_mode m.platform lasts.inside) in
+    let there : at_clock m v m.ram m.platform.clock m.platform.steps ≡ m = ap (λ p. record m { platform = p }) lasts.current in
+    let none = further_by m v m.ram _ _ _ _ (none_more_of m.platform.clock) (none_more_of m.platform.steps) in
+    let same : placed m v m.ram 0 ≡ m = rw none there in
+    record {
+      own = hosted (host_root part) v;
+      state = refl;
+      machine = rw (← at.ram) (sym (subst (λ virt. placed m virt m.ram 0 ≡ m) (sym back) same));
+      keeps = record { csrs = none_written (host_root part) v.csrs; mode = virtual_mode v.mode };
+      held = at.reserved;
+      only = only_none (in_blocks part.blocks) memory;
+      trace = ap (λ n. n % 2 ^ 64) (sym (none_more_of t));
+    }
+
+-- so many steps of an entry
+pub ran : (part : Layout) (m : Machine) (memory : List ℕ) (limit t : ℕ) → m.platform.status ≡ Running → Lasts m.platform limit → IsAt part m memory → (n : ℕ) → n ≤ limit
+    → (q : Progress) → hart_steps true n (progress (loaded part m.platform.virt) memory t false) ≡ Some q → Ran part m memory t n q
+unfolding hart_steps
+ran part m memory limit t running lasts at zero h q e =
+    let is : progress (loaded part m.platform.virt) memory t false ≡ q = cc in subst (Ran part m memory t zero) is (ran_none part m memory limit t lasts at)
+ran part m memory limit t running lasts at (suc n) h q e =
+    let one : n + 1 ≡ suc n = omega arith in
+    let within : n < limit = omega (arith, h) in
+    let before : n ≤ limit = omega (arith, h) in
+    subst (λ k. Ran part m memory t k q) one
+    (ran_next part m memory limit t n (hart_steps true n (progress (loaded part m.platform.virt) memory t false)) q running lasts at within
+    (λ p some. ran part m memory limit t running lasts at n before p some) e)
+
+-- a trap into VS is a step
+some_taken : (p : Progress) (state : Virtual) (memory : List ℕ) (t taken : ℕ) → p.trapped ≡ false
+    → hart_steps true taken p ≡ Some (progress state memory t true) → 0 < taken
+unfolding hart_steps
+some_taken p state memory t zero fresh e =
+    let same : p ≡ progress state memory t true = cc in
+    let never : false ≡ true = rw (← fresh) (ap (λ p. p.trapped) same) in cc
+some_taken p state memory t (suc n) fresh e = omega arith
+
+-- why an entry ended
+pub stopped : (part : Layout) (m : Machine) (memory : List ℕ) (limit t : ℕ) (state : Virtual) (changed : List ℕ) (t' taken : ℕ) (why : Why) → m.platform.status ≡ Running
+    → Lasts m.platform limit → IsAt part m memory → taken ≤ limit
+    → hart_steps true taken (progress (loaded part m.platform.virt) memory t false) ≡ Some (progress state changed t' (is_vs_trap why))
+    → IsWhy limit taken state changed why → IsStopped part (run m taken) changed limit taken why
+stopped part m memory limit t state changed t' taken Limit running lasts at within e why = why
+stopped part m memory limit t state changed t' taken VsTrap running lasts at within e why =
+    some_taken (progress (loaded part m.platform.virt) memory t false) state changed t' taken refl e
+stopped part m memory limit t state changed t' taken (Exit trap) running lasts at within e (fewer, exits) =
+    let is = ran part m memory limit t running lasts at taken within (progress state changed t' false) e in
+    let r = ready part m limit taken is.own state (ram_of part.blocks changed) lasts fewer is.keeps is.state is.machine in (
+      fewer,
+      subst (λ m. Hands part m changed trap) (sym is.machine)
+          (record { inside = r.inside; own = r.own; exits = subst (λ hart. hart_step hart changed ≡ Exits trap) (sym r.stands) exits }),
+    )
 
 -- a step that the hart has left to the host
-pub left : (m : Machine) (trap : Trap) → is_built m ≡ true → host_takes m.virt ≡ false → hart_step (hosted m.virt) m.ram ≡ Exits trap → IsLeft m (try m) trap
-left m trap built own exits = let there : Follows m (Exits trap) = subst (λ end. Follows m end) exits (followed m built own) in there
+pub left : (part : Layout) (m : Machine) (memory : List ℕ) (trap : Trap) → is_outside m.platform ≡ false → host_takes m.platform.virt ≡ false → IsAt part m memory
+    → hart_step (loaded part m.platform.virt) memory ≡ Exits trap → IsLeft m (try m) trap
+left part m memory trap inside own at exits =
+    let there : Follows part m memory (Exits trap) = subst (λ end. Follows part m memory end) exits (followed part m memory inside own at) in there
 
 -- an interrupt that is due
-pub interrupted : (m : Machine) (code : ℕ) → is_built m ≡ true → due m.virt.csrs m.virt.mode ≡ Some code → try m ≡ trapped m (interrupt_of code)
-unfolding try
-interrupted m code built is = rw (built, is) refl
+pub interrupted : (m : Machine) (code : ℕ) → is_outside m.platform ≡ false → due m.platform.virt.csrs m.platform.virt.mode ≡ Some code → try m ≡ trapped m (interrupt_of code)
+unfolding try_under
+interrupted m code inside is = rw (inside, is) refl

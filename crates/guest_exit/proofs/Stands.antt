@@ -1,73 +1,101 @@
 -- What an instruction is on the hart, by what it is to the lone machine for which the hart stands.
 use Rattle.std.specs.Prelude.{◌==◌, ◌&&◌, nat_lt}
-use Rattle.std.proofs.Common.{cond, ◌≡◌, ℕ, ◌^◌, ◌<◌, Option, Some, None, Bool, true, false, refl, ap, sym}
-use Rattle.arch_defs.specs.declared.modes.Mode.{Mode}
-use Rattle.arch_defs.specs.declared.modes.Mode.TheVariants.{HS, U, VS, VU}
+use Rattle.std.proofs.Common.{cond, ◌≡◌, ℕ, ◌^◌, ◌<◌, Option, Some, None, Bool, true, false, refl, sym}
+use Rattle.arch_defs.specs.declared.modes.Trap.{Trap}
 use Rattle.arch_defs.specs.declared.modes.TheConstants.{ECALL_FROM_VS, VIRTUAL_INSTRUCTION}
 use Rattle.arch_defs.specs.declared.registers.Csrs.{Csrs}
+use Rattle.arch_defs.specs.declared.registers.GuestRoot.{GuestRoot}
 use Rattle.arch_defs.specs.declared.registers.Regs.{Regs}
 use Rattle.arch_defs.specs.declared.registers.Virtual.{Virtual}
 use Rattle.arch_defs.specs.Bits.{field}
-use Rattle.arch_defs.specs.Memory.{Write}
-use Rattle.arch_defs.specs.Traps.{is_virtual}
+use Rattle.arch_defs.specs.Memory.{Stored}
+use Rattle.arch_defs.specs.Traps.{exception, is_virtual}
 use Rattle.op_defs.specs.declared.ops.Privileged.{Privileged}
 use Rattle.op_defs.specs.Table.{is_system}
 use Rattle.machine_defs.specs.declared.events.Event.TheVariants.{Plain, System}
-use Rattle.machine_defs.specs.Core.{event_of}
-use Rattle.machine_defs.specs.Outcomes.{Outcome, Done, Trapped, Stuck, Called, Waits, Unbuilt}
+use Rattle.machine_defs.specs.Core.{Located, At, Fails, Made, Leaves, Ends, ended, event_of}
+use Rattle.machine_defs.specs.Outcomes.{Outcome, Done, Trapped, Stuck, Called, Waits, Fenced, Accesses, Outside}
 use Rattle.machine_defs.specs.Privileges.{privileged}
-use Rattle.guest_exit.specs.Following.{event_for, privileged_in, virt_after}
-use Rattle.guest_exit.specs.Hosting.{hosted, hosted_csrs, hosted_mode, own_exceptions, saved, saved_csrs, saved_mode}
+use Rattle.rv64_hart.specs.Steps.{enters_vs}
+use Rattle.world_switch.specs.Hosting.{hosted, hosted_csrs, hosted_mode, own_exceptions, saved, saved_csrs, taken_back}
+use Rattle.world_switch.specs.Laws.{KeepsHidden}
+use Rattle.world_switch.proofs.Undone.{own_mode, virtual_mode}
+use Rattle.guest_exit.specs.Following.{Keeps, event_for, privileged_in}
 
 -- whether an exception is the guest's own, which the hart takes into VS
 abbrev pub is_own : ℕ → Bool
 is_own cause = nat_lt cause 64 && (field cause 1 own_exceptions == 1)
 
 -- what a trap on the hart is: the lone machine's own, its call of the environment, or an instruction that its mode decides on
-pub data Traps (s : Virtual) (lone : Outcome) (cause tval : ℕ) : Type 0 where
-  Own : lone ≡ Trapped cause tval → is_own cause ≡ true → Traps s lone cause tval
-  Call : cause ≡ ECALL_FROM_VS → lone ≡ Called → Traps s lone cause tval
-  Left : cause ≡ VIRTUAL_INSTRUCTION → tval < 2 ^ 32 → (p : Privileged) → privileged_in tval s.regs ≡ Some p → lone ≡ privileged s tval p → Traps s lone cause tval
+pub data Traps (s : Virtual) (lone : Outcome) (trap : Trap) : Type 0 where
+  Own : (cause tval : ℕ) → trap ≡ exception (hosted_mode s.mode) cause tval → lone ≡ Trapped (exception s.mode cause tval)
+      → is_own cause ≡ true → Traps s lone trap
+  Call : trap ≡ exception (hosted_mode s.mode) ECALL_FROM_VS 0 → lone ≡ Called → Traps s lone trap
+  Left : (tval : ℕ) → trap ≡ exception (hosted_mode s.mode) VIRTUAL_INSTRUCTION tval → tval < 2 ^ 32 → (p : Privileged)
+      → privileged_in tval s.regs ≡ Some p → lone ≡ privileged s tval p → Traps s lone trap
 
 -- what an outcome on the hart is to the lone machine in this state
-abbrev pub Stands : Virtual → Outcome → Outcome → Type 0
-Stands s lone (Done hart write event) = lone ≡ Done (virt_after event hart s) write (event_for event)
-Stands s lone (Trapped cause tval) = Traps s lone cause tval
-Stands s lone (Stuck address kind access va) = lone ≡ Stuck address kind access va
-Stands s lone Called = ⊥
-Stands s lone (Waits hart) = ⊥
-Stands s lone Unbuilt = ⊥
+abbrev pub Stands : (root : GuestRoot) → Virtual → Outcome → Outcome → Type 0
+Stands root s lone (Done hart stored event) =
+    (lone ≡ Done (taken_back (enters_vs event) hart s) stored (event_for event)) × Keeps root s hart
+Stands root s lone (Trapped trap) = Traps s lone trap
+Stands root s lone (Stuck unplaced) = (lone ≡ Stuck (record unplaced { mode = s.mode })) × (unplaced.mode ≡ hosted_mode s.mode)
+Stands root s lone Called = ⊥
+Stands root s lone (Waits hart) = ⊥
+Stands root s lone (Fenced hart fence) = ⊥
+Stands root s lone (Accesses access) = ⊥
+Stands root s lone Outside = ⊥
 
--- a mode with V = 0 comes back
-own_mode : (mode : Mode) → is_virtual mode ≡ false → saved_mode (hosted_mode mode) ≡ mode
-own_mode HS own = refl
-own_mode U own = refl
-own_mode VS own = cc
-own_mode VU own = cc
+-- where an access is made, in both
+abbrev pub SamePlace : (root : GuestRoot) → Virtual → Located → Located → Type 0
+SamePlace root s (At own) (At hart) = own ≡ hart
+SamePlace root s (Fails own) (Fails hart) = Stands root s own hart
+SamePlace root s (At own) (Fails hart) = ⊥
+SamePlace root s (Fails own) (At hart) = ⊥
 
--- what the hart does not change comes back too
-kept : (s : Virtual) (regs : Regs) (hart lone : Csrs) (place : Option (ℕ × ℕ)) → is_virtual s.mode ≡ false → saved_csrs hart s.csrs ≡ lone
-    → saved (record (hosted s) { regs = regs; csrs = hart; reservation = place }) s ≡ record s { regs = regs; csrs = lone; reservation = place }
-kept s regs hart lone place own same = rw (same, own_mode s.mode own) refl
+-- what an instruction leaves, in both
+abbrev pub SameMade : (root : GuestRoot) → Virtual → Made → Made → Type 0
+SameMade root s (Leaves own stored) (Leaves hart stored') = (own ≡ saved hart s) × (stored ≡ stored') × Keeps root s hart
+SameMade root s (Ends own) (Ends hart) = Stands root s own hart
+SameMade root s (Leaves own stored) (Ends hart) = ⊥
+SameMade root s (Ends own) (Leaves hart stored') = ⊥
+
+-- what the hart does not change comes back
+pub kept : (root : GuestRoot) (s : Virtual) (regs : Regs) (hart own : Csrs) (place : Option (ℕ × ℕ)) → is_virtual s.mode ≡ false → saved_csrs hart s.csrs ≡ own
+    → record s { regs = regs; csrs = own; reservation = place } ≡ saved (record (hosted root s) { regs = regs; csrs = hart; reservation = place }) s
+kept root s regs hart own place mode same = sym (rw (same, own_mode s.mode mode) refl)
+
+-- and the hart keeps what it does not have for the guest
+pub none_written : (root : GuestRoot) (csrs : Csrs) → KeepsHidden root csrs (hosted_csrs root csrs)
+none_written root csrs = record { rest = refl; timer = refl; external = refl }
+
+as_loaded : (root : GuestRoot) (s : Virtual) (regs : Regs) (place : Option (ℕ × ℕ)) → Keeps root s (record (hosted root s) { regs = regs; reservation = place })
+as_loaded root s regs place = record { csrs = none_written root s.csrs; mode = virtual_mode s.mode }
 
 -- an instruction that changes registers, memory and the reservation alone
-made : (s : Virtual) (word : ℕ) (regs : Regs) (place : Option (ℕ × ℕ)) (write : Option Write) (system : Bool) → is_virtual s.mode ≡ false
-    → Stands s (Done (record s { regs = regs; reservation = place }) write (cond system System (Plain s.regs.pc word)))
-    (Done (record (hosted s) { regs = regs; reservation = place }) write (cond system System (Plain s.regs.pc word)))
-made s word regs place write true own = ap (λ v. Done v write System) (sym (kept s regs (hosted_csrs s.csrs) s.csrs place own refl))
-made s word regs place write false own = ap (λ v. Done v write (Plain s.regs.pc word)) (sym (kept s regs (hosted_csrs s.csrs) s.csrs place own refl))
-
--- the same, by whether its word is of opcode SYSTEM
-pub ends : (s : Virtual) (word : ℕ) (regs : Regs) (place : Option (ℕ × ℕ)) (write : Option Write) → is_virtual s.mode ≡ false
-    → Stands s (Done (record s { regs = regs; reservation = place }) write (event_of s.regs.pc word))
-    (Done (record (hosted s) { regs = regs; reservation = place }) write (event_of s.regs.pc word))
-ends s word regs place write own = made s word regs place write (is_system word) own
+pub leaves : (root : GuestRoot) (s : Virtual) (regs : Regs) (place : Option (ℕ × ℕ)) (stored : Option Stored) → is_virtual s.mode ≡ false
+    → SameMade root s (Leaves (record s { regs = regs; reservation = place }) stored) (Leaves (record (hosted root s) { regs = regs; reservation = place }) stored)
+leaves root s regs place stored mode = (kept root s regs (hosted_csrs root s.csrs) s.csrs place mode refl, refl, as_loaded root s regs place)
 
 -- an instruction that changes registers, control and status registers among them
-pub ends_csrs : (s : Virtual) (regs : Regs) (hart lone : Csrs) → is_virtual s.mode ≡ false → saved_csrs hart s.csrs ≡ lone
-    → Stands s (Done (record s { regs = regs; csrs = lone }) None System) (Done (record (hosted s) { regs = regs; csrs = hart }) None System)
-ends_csrs s regs hart lone own same = ap (λ v. Done v None System) (sym (kept s regs hart lone s.reservation own same))
+pub ends_csrs : (root : GuestRoot) (s : Virtual) (regs : Regs) (hart own : Csrs) → is_virtual s.mode ≡ false → saved_csrs hart s.csrs ≡ own
+    → KeepsHidden root s.csrs hart → Stands root s (Done (record s { regs = regs; csrs = own }) None System) (Done (record (hosted root s) { regs = regs; csrs = hart }) None System)
+ends_csrs root s regs hart own mode same keeps =
+    (rw (← kept root s regs hart own s.reservation mode same) refl, record { csrs = keeps; mode = virtual_mode s.mode })
 
 -- an instruction that the hart leaves to the host
-pub left : (s : Virtual) (word : ℕ) (p : Privileged) → word < 2 ^ 32 → privileged_in word s.regs ≡ Some p → Traps s (privileged s word p) VIRTUAL_INSTRUCTION word
-left s word p small e = Left refl small p e refl
+pub left : (s : Virtual) (word : ℕ) (p : Privileged) → word < 2 ^ 32 → privileged_in word s.regs ≡ Some p
+    → Traps s (privileged s word p) (exception (hosted_mode s.mode) VIRTUAL_INSTRUCTION word)
+left s word p small e = Left word refl small p e refl
+
+-- what was left, with the event of the step
+with_event : (root : GuestRoot) (s : Virtual) (pc word : ℕ) (system : Bool) (own hart : Made) → SameMade root s own hart
+    → Stands root s (ended (cond system System (Plain pc word)) own) (ended (cond system System (Plain pc word)) hart)
+with_event root s pc word true (Leaves own stored) (Leaves hart stored') (same, write, keeps) = (rw (same, write) refl, keeps)
+with_event root s pc word false (Leaves own stored) (Leaves hart stored') (same, write, keeps) = (rw (same, write) refl, keeps)
+with_event root s pc word system (Ends own) (Ends hart) stands = stands
+with_event root s pc word system (Leaves own stored) (Ends hart) never = absurd never
+with_event root s pc word system (Ends own) (Leaves hart stored') never = absurd never
+
+pub ended_stands : (root : GuestRoot) (s : Virtual) (pc word : ℕ) (own hart : Made) → SameMade root s own hart → Stands root s (ended (event_of pc word) own) (ended (event_of pc word) hart)
+ended_stands root s pc word own hart same = with_event root s pc word (is_system word) own hart same

@@ -1,13 +1,18 @@
 -- What one step of the hart is to the guest's lone machine, with V = 0.
-use Rattle.std.specs.Prelude.{ℕ, ◌≡◌, ◌≢◌, ◌<◌, ◌^◌, ◌==◌, ◌||◌, Bool, false, Option, Some, None, option_and_then, IsSomeAnd}
+use Rattle.std.specs.Prelude.{ℕ, ◌≡◌, ◌≢◌, ◌<◌, ◌^◌, ◌==◌, ◌||◌, Bool, true, false, Option, Some, None, option_and_then, if◌then◌else◌, IsSomeAnd, List}
 use Rattle.arch_defs.specs.declared.levels.Level.TheVariants as level
 use Rattle.arch_defs.specs.declared.levels.TheConstants.{VS_SOFTWARE, VS_TIMER, VS_EXTERNAL}
 use Rattle.arch_defs.specs.declared.modes.Trap.{Trap}
-use Rattle.arch_defs.specs.declared.modes.TheConstants.{VIRTUAL_INSTRUCTION}
+use Rattle.arch_defs.specs.declared.modes.TheConstants.{INSTRUCTION_ACCESS_FAULT, INSTRUCTION_GUEST_PAGE_FAULT, LOAD_ACCESS_FAULT, LOAD_GUEST_PAGE_FAULT, STORE_ACCESS_FAULT, STORE_GUEST_PAGE_FAULT, VIRTUAL_INSTRUCTION}
 use Rattle.arch_defs.specs.declared.registers.Regs.{Regs}
 use Rattle.arch_defs.specs.declared.registers.Virtual.{Virtual}
-use Rattle.arch_defs.specs.Interrupts.{due}
-use Rattle.arch_defs.specs.Registers.{read, a7}
+use Rattle.arch_defs.specs.declared.registers.Csrs.{Csrs}
+use Rattle.arch_defs.specs.declared.registers.GuestRoot.{GuestRoot}
+use Rattle.arch_defs.specs.Frames.{Only, in_blocks}
+use Rattle.arch_defs.specs.Interrupts.{due, is_ready_for_hs}
+use Rattle.arch_defs.specs.Layouts.{Layout, NamesEachOnce}
+use Rattle.arch_defs.specs.Ram.{ram_of}
+use Rattle.arch_defs.specs.Traps.{exception, is_virtual}
 use Rattle.op_defs.specs.declared.ops.Effect.{Effect}
 use Rattle.op_defs.specs.declared.ops.Effect.TheVariants as effect
 use Rattle.op_defs.specs.declared.ops.Privileged.{Privileged}
@@ -15,15 +20,25 @@ use Rattle.op_defs.specs.Meaning.{meaning}
 use Rattle.op_defs.specs.Table.{op_of}
 use Rattle.machine_defs.specs.declared.events.Event.{Event}
 use Rattle.machine_defs.specs.declared.events.Event.TheVariants as event
-use Rattle.machine_defs.specs.Machine.{Machine, Tried, Ended, concluded, environment, ticked, try}
+use Rattle.machine_defs.specs.HostPlaces.{in_ram, memory_place}
+use Rattle.machine_defs.specs.Machine.{Machine, Tried, called_by, concluded, environment, stepped_to, trapped, try}
 use Rattle.machine_defs.specs.Privileges.{privileged}
-use Rattle.rv64_hart.specs.Steps.{HartEnd, Goes, Exits}
-use Rattle.guest_exit.specs.Hosting.{fixed_up, saved}
+use Rattle.machine_defs.specs.Renaming.{ReservesHeld, renamed}
+use Rattle.host_tables.specs.Walks.{IsHeld}
+use Rattle.rv64_hart.specs.Steps.{HartEnd, Goes, Exits, enters_vs}
+use Rattle.world_switch.specs.Hosting.{host_root, taken_back}
+use Rattle.world_switch.specs.Laws.{KeepsHidden}
 
 -- whether an interrupt is one of VS, which the hart does not have for a guest with V = 0
 abbrev pub is_guest_code : Option ℕ → Bool
 is_guest_code None = false
 is_guest_code (Some code) = code == VS_SOFTWARE || code == VS_TIMER || code == VS_EXTERNAL
+
+-- whether an interrupt of VS is pending, enabled and not delegated: with V = 0 the host must take it once HS
+-- takes interrupts
+abbrev pub host_may_take : Csrs → Bool
+host_may_take csrs =
+    is_ready_for_hs csrs VS_EXTERNAL || is_ready_for_hs csrs VS_SOFTWARE || is_ready_for_hs csrs VS_TIMER
 
 -- whether the interrupt that is due with V = 0 is one that the host must take
 abbrev pub host_takes : Virtual → Bool
@@ -35,13 +50,6 @@ event_for (event.Plain pc word) = event.Plain pc word
 event_for (event.Trap into interrupt) = event.Trap level.HS interrupt
 event_for event.System = event.System
 
--- what the guest has after it
-abbrev pub virt_after : Event → Virtual → Virtual → Virtual
-virt_after (event.Plain pc word) hart before = saved hart before
-virt_after (event.Trap level.VS interrupt) hart before = fixed_up (saved hart before)
-virt_after (event.Trap level.HS interrupt) hart before = saved hart before
-virt_after event.System hart before = saved hart before
-
 -- the effect of the instruction that a word is, if the mode decides on it
 abbrev pub privileged_of : Effect → Option Privileged
 privileged_of (effect.Privileged p) = Some p
@@ -50,16 +58,63 @@ privileged_of _ = None
 unfoldable pub privileged_in : ℕ → Regs → Option Privileged
 privileged_in word regs = option_and_then (λ op. privileged_of (meaning op regs)) (op_of word)
 
--- a step that the hart has left to the host: an instruction that the mode decides on, or else a call of the environment
+-- the lone machine's access fault for a guest-page fault of the host table
+abbrev pub access_fault_for : ℕ → ℕ
+access_fault_for code =
+    if code == INSTRUCTION_GUEST_PAGE_FAULT then INSTRUCTION_ACCESS_FAULT
+    else if code == LOAD_GUEST_PAGE_FAULT then LOAD_ACCESS_FAULT else STORE_ACCESS_FAULT
+
+abbrev pub is_guest_page_code : ℕ → Bool
+is_guest_page_code code =
+    code == INSTRUCTION_GUEST_PAGE_FAULT || code == LOAD_GUEST_PAGE_FAULT || code == STORE_GUEST_PAGE_FAULT
+
+-- a step that the hart has left to the host: an instruction that the mode decides on, an access outside RAM,
+-- or else a call of the environment
 pub record IsLeft (m : Machine) (tried : Tried) (trap : Trap) : Type 0 where
   pub word : trap.cause ≡ VIRTUAL_INSTRUCTION → trap.tval < 2 ^ 32
-  pub decided : trap.cause ≡ VIRTUAL_INSTRUCTION → IsSomeAnd (privileged_in trap.tval m.virt.regs) (λ p. tried ≡ concluded m (privileged m.virt trap.tval p))
-  pub called : trap.cause ≢ VIRTUAL_INSTRUCTION → tried ≡ environment m (read m.virt.regs a7)
+  pub decided : trap.cause ≡ VIRTUAL_INSTRUCTION
+      → IsSomeAnd (privileged_in trap.tval m.platform.virt.regs) (λ p. tried
+      ≡ concluded m (privileged m.platform.virt trap.tval p))
+  pub faulted : is_guest_page_code trap.cause ≡ true
+      → tried ≡ trapped m (exception m.platform.virt.mode (access_fault_for trap.cause) trap.tval)
+  pub called : trap.cause ≢ VIRTUAL_INSTRUCTION → is_guest_page_code trap.cause ≡ false
+      → tried ≡ called_by m (environment m.platform)
+
+-- the hart still stands for a guest with what it has run, but for what is saved of it
+pub record Keeps (root : GuestRoot) (before hart : Virtual) : Type 0 where
+  pub csrs : KeepsHidden root before.csrs hart.csrs
+  pub mode : is_virtual hart.mode ≡ true
+
+-- the step of the machine that a step of the hart is
+abbrev pub step_for : Machine → Virtual → Bool → List ℕ → Event → Tried
+step_for m hart trapped memory event =
+    stepped_to (record m {
+      ram =
+          memory;
+    }) (record m.platform { virt = taken_back trapped hart m.platform.virt }) event
+
+-- a step that the hart has made in a part of machine memory is the machine's: the hart's state is the one
+-- that stands for the machine after it, with its reservation's place in memory
+pub record IsMade (part : Layout) (m : Machine) (tried : Tried) (memory : List ℕ) (hart : Virtual)
+    (changed : List ℕ) (event : Event) : Type 0 where
+  pub own : Virtual
+  pub state : hart ≡ renamed (memory_place part.blocks) own
+  pub step : tried ≡ step_for m own (enters_vs event) (ram_of part.blocks changed) (event_for event)
+  pub keeps : Keeps (host_root part) m.platform.virt own
+  pub held : ReservesHeld (in_ram part.blocks) own.reservation
+  pub only : Only (in_blocks part.blocks) memory changed
 
 -- what a step of the hart is to a try of the machine for which it stands
-abbrev pub FollowsTry : Machine → Tried → HartEnd → Type 0
-FollowsTry m tried (Goes state memory event) = tried ≡ Ended (ticked (record m { virt = virt_after event state m.virt; ram = memory })) (event_for event)
-FollowsTry m tried (Exits trap) = IsLeft m tried trap
+abbrev pub FollowsTry : Layout → Machine → Tried → List ℕ → HartEnd → Type 0
+FollowsTry part m tried memory (Goes hart changed event) = IsMade part m tried memory hart changed event
+FollowsTry part m tried memory (Exits trap) = IsLeft m tried trap
 
-abbrev pub Follows : Machine → HartEnd → Type 0
-Follows m end = FollowsTry m (try m) end
+abbrev pub Follows : Layout → Machine → List ℕ → HartEnd → Type 0
+Follows part m memory end = FollowsTry part m (try m) memory end
+
+-- a machine's RAM is that of a part of machine memory, with its host table, and its reservation is in RAM
+pub record IsAt (part : Layout) (m : Machine) (memory : List ℕ) : Type 0 where
+  pub once : NamesEachOnce part
+  pub held : IsHeld part memory
+  pub ram : m.ram ≡ ram_of part.blocks memory
+  pub reserved : ReservesHeld (in_ram part.blocks) m.platform.virt.reservation

@@ -1,13 +1,14 @@
--- A guest, as its lone machine over the bytes of its RAM.
-use Rattle.std.specs.Prelude.{ℕ, ◌≡◌, true, List, []}
-use Rattle.machine_defs.specs.Machine.{Machine, is_built}
+-- A guest, as its lone machine over the bytes of its RAM in machine memory.
+use Rattle.std.specs.Prelude.{ℕ, ◌≡◌, List, []}
+use Rattle.arch_defs.specs.Ram.{ram_of}
+use Rattle.machine_defs.specs.Machine.{Machine, Platform}
 use Rattle.guest_exit.specs.declared.guests.Guest.{Guest}
+use Rattle.guest_exit.specs.Following.{IsAt}
 
--- the lone machine without its RAM; nothing that is built so far enters a space
-abbrev pub seen : Guest → Machine
+-- the lone machine's platform
+abbrev pub seen : Guest → Platform
 seen guest = record {
   virt = guest.virt;
-  ram = [];
   clock = guest.clock;
   timer = guest.timer;
   inputs = guest.console.inputs;
@@ -15,15 +16,24 @@ seen guest = record {
   console_room = guest.console.room;
   steps = guest.steps;
   status = guest.status;
+}
+
+-- the lone machine; nothing that is built so far enters a space
+abbrev pub machine_of : Guest → List ℕ → Machine
+machine_of guest memory = record {
+  platform = seen guest;
+  ram = ram_of guest.part.blocks memory;
   spaces = [];
   space_room = guest.space_room;
   entry_room = guest.entry_room;
 }
 
--- the lone machine
-abbrev pub machine_of : Guest → List ℕ → Machine
-machine_of guest memory = record (seen guest) { ram = memory }
+-- what no step changes
+pub record StaysFixed (before after : Guest) : Type 0 where
+  pub part : after.part ≡ before.part
+  pub space_room : after.space_room ≡ before.space_room
+  pub entry_room : after.entry_room ≡ before.entry_room
 
--- whether the guest's next step may be built so far, as far as mode and inputs tell
-abbrev pub IsBuilt : Guest → Type 0
-IsBuilt guest = is_built (seen guest) ≡ true
+-- machine memory holds the guest's part, with its host table, and its reservation is in its RAM
+abbrev pub IsPlaced : Guest → List ℕ → Type 0
+IsPlaced guest memory = IsAt guest.part (machine_of guest memory) memory

@@ -1,12 +1,10 @@
 // Calls of the execution environment.
 
-ghost use Rattle.std.specs.Prelude.{◌≡◌, ◌+◌, ◌^◌, ◌<◌, ◌↔◌, ℕ, List};
-ghost use Rattle.arch_defs.specs.Registers.{read, a7};
+ghost use Rattle.std.specs.Prelude.{◌≡◌, ◌+◌, ◌^◌, ◌<◌};
 ghost use Rattle.machine_defs.specs.declared.guests.Status.TheVariants.{Running};
-ghost use Rattle.machine_defs.specs.Machine.{answered, environment, put, stopped, ticked, unknown};
-ghost use Rattle.machine_defs.specs.Runs.{left_by};
-ghost use Rattle.guest_exit.specs.Entering.{status_after, steps_made};
-ghost use Rattle.guest_exit.specs.View.{seen};
+ghost use Rattle.machine_defs.specs.Machine.{answered, called, environment, put, stopped, ticked, unknown};
+ghost use Rattle.guest_exit.specs.Entering.{after_call, status_after, steps_made};
+ghost use Rattle.guest_exit.specs.View.{StaysFixed, seen};
 
 use crate::guests::Guest;
 use crate::handling::Handled;
@@ -21,11 +19,11 @@ pub fn call(guest: &mut Guest) -> Handled
     requires running { guest.old.status ≡ Running }
     requires clock { guest.old.clock < 2 ^ 63 }
     requires steps { guest.old.steps < 2 ^ 61 }
-    ensures step { seen guest.new
-        ≡ left_by (seen guest.old) (environment (seen guest.old) (read guest.old.virt.regs a7)) }
+    ensures step { seen guest.new ≡ after_call (seen guest.old) (environment (seen guest.old)) }
     ensures status { guest.new.status ≡ status_after result }
     ensures made { guest.new.steps ≡ guest.old.steps + steps_made result }
     ensures clock { guest.new.clock ≡ guest.old.clock + steps_made result }
+    ensures fixed { StaysFixed guest.old guest.new }
 {
     match guest.virt.regs.read(Reg::new(17)) {
         1 => {
@@ -51,9 +49,10 @@ pub fn call(guest: &mut Guest) -> Handled
 fn put(guest: &mut Guest)
     requires clock { guest.old.clock < 2 ^ 63 }
     requires steps { guest.old.steps < 2 ^ 61 }
-    ensures machine { seen guest.new ≡ ticked (put (seen guest.old)) }
+    ensures platform { seen guest.new ≡ ticked (put (seen guest.old)) }
     ensures made { guest.new.steps ≡ guest.old.steps + 1 }
     ensures clock { guest.new.clock ≡ guest.old.clock + 1 }
+    ensures fixed { StaysFixed guest.old guest.new }
 {
     let byte = (guest.virt.regs.read(Reg::new(10)) & 0xFF) as u8;
     if guest.console.put(byte) {
@@ -67,9 +66,10 @@ fn put(guest: &mut Guest)
 fn stop(guest: &mut Guest)
     requires clock { guest.old.clock < 2 ^ 63 }
     requires steps { guest.old.steps < 2 ^ 61 }
-    ensures machine { seen guest.new ≡ ticked (stopped (seen guest.old)) }
+    ensures platform { seen guest.new ≡ ticked (stopped (seen guest.old)) }
     ensures made { guest.new.steps ≡ guest.old.steps + 1 }
     ensures clock { guest.new.clock ≡ guest.old.clock + 1 }
+    ensures fixed { StaysFixed guest.old guest.new }
 {
     guest.virt.regs.pc = guest.virt.regs.pc.wrapping_add(4);
     guest.status = Status::Stopped;
@@ -80,9 +80,10 @@ fn stop(guest: &mut Guest)
 fn refuse(guest: &mut Guest)
     requires clock { guest.old.clock < 2 ^ 63 }
     requires steps { guest.old.steps < 2 ^ 61 }
-    ensures machine { seen guest.new ≡ ticked (unknown (seen guest.old)) }
+    ensures platform { seen guest.new ≡ ticked (unknown (seen guest.old)) }
     ensures made { guest.new.steps ≡ guest.old.steps + 1 }
     ensures clock { guest.new.clock ≡ guest.old.clock + 1 }
+    ensures fixed { StaysFixed guest.old guest.new }
 {
     let pc = guest.virt.regs.pc;
     guest.virt.regs.advance(Reg::new(11), 0, pc);
@@ -93,9 +94,10 @@ fn refuse(guest: &mut Guest)
 fn answer(guest: &mut Guest, value: u64)
     requires clock { guest.old.clock < 2 ^ 63 }
     requires steps { guest.old.steps < 2 ^ 61 }
-    ensures machine { seen guest.new ≡ ticked (answered (seen guest.old) value) }
+    ensures platform { seen guest.new ≡ ticked (answered (seen guest.old) value) }
     ensures made { guest.new.steps ≡ guest.old.steps + 1 }
     ensures clock { guest.new.clock ≡ guest.old.clock + 1 }
+    ensures fixed { StaysFixed guest.old guest.new }
 {
     let next = guest.virt.regs.pc.wrapping_add(4);
     guest.virt.regs.advance(Reg::new(10), value, next);

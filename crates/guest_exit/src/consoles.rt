@@ -1,9 +1,11 @@
 // A guest's console.
 
-ghost use Rattle.std.specs.Prelude.{◌≡◌, ◌≢◌, ◌+◌, ◌≤◌, [], ◌∷◌, ◌++◌, true, length, nat_lt, IfOk};
-ghost use Rattle.machine_defs.specs.Machine.{has_input};
+ghost use Rattle.std.specs.Prelude.{◌≡◌, ◌≢◌, ◌+◌, ◌≤◌, [], ◌∷◌, ◌++◌, ℕ, true, length, nat_lt, IfOk};
+ghost use Rattle.machine_defs.specs.Outside.{has_input};
 ghost use Rattle.guest_exit.specs.Consoles.{Held};
+ghost use Rattle.guest_exit.specs.Entering.{Stays};
 
+use crate::limits::steps_before;
 use machine_defs::Inputs;
 use std::alloc::{AllocError, Global};
 use std::marker::Model;
@@ -62,6 +64,20 @@ impl Console {
         match self.inputs.as_slice().first() {
             Some(&(moment, _)) => moment <= clock,
             None => false,
+        }
+    }
+
+    /// How many of at most so many steps begin before the moment of the first unread input, where it is ahead
+    /// of the clock.
+    pub fn steps_before_input(&self, clock: u64, most: u64) -> u64
+        ensures stays { Stays (has_input self.now.inputs) clock result }
+        ensures some { 1 ≤ most → 1 ≤ result }
+        ensures most { result ≤ most }
+        ensures largest { (n : ℕ) → n ≤ most → Stays (has_input self.now.inputs) clock n → n ≤ result }
+    {
+        match self.inputs.as_slice().first() {
+            Some(&(moment, _)) => steps_before(moment, clock, most),
+            None => most,
         }
     }
 

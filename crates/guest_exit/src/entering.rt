@@ -1,65 +1,63 @@
 // One entry of the hart.
 
-ghost use Rattle.std.specs.Prelude.{◌≡◌, ◌+◌, ◌^◌, ◌<◌, ◌≤◌, false, true};
+ghost use Rattle.std.specs.Prelude.{◌≡◌, ◌+◌, ◌^◌, ◌<◌, ◌≤◌, Some, false, true};
+ghost use Rattle.arch_defs.specs.Frames.{Only, in_blocks};
 ghost use Rattle.machine_defs.specs.declared.guests.Status.TheVariants.{Running};
-ghost use Rattle.machine_defs.specs.Machine.{Machine, is_built};
-ghost use Rattle.guest_exit.specs.Entering.{Enters, left_after, steps_in};
-ghost use Rattle.guest_exit.specs.Following.{host_takes};
-ghost use Rattle.guest_exit.specs.View.{IsBuilt, machine_of};
+ghost use Rattle.machine_defs.specs.Runs.{events, run, trace_of};
+ghost use Rattle.rv64_hart.specs.Counts.{IsRaisedBy};
+ghost use Rattle.rv64_hart.specs.Steps.{hart_steps, is_vs_trap, progress};
+ghost use Rattle.world_switch.specs.Hosting.{loaded};
+ghost use Rattle.guest_exit.specs.Entering.{IsStopped, Lasts};
+ghost use Rattle.guest_exit.specs.View.{IsPlaced, StaysFixed, machine_of, seen};
 
 use crate::guests::Guest;
-use crate::hosting::{fix_up, hosted, save};
-use arch_defs::Virtual;
-use rv64_hart::{Hart, PhysMem, Stop, Tally, Why};
+use phys_mem::PhysMem;
+use rv64_hart::{Hart, Stop, Tally, Why};
+use world_switch::load;
 
-/// Enters the hart for one step of the guest. Where the hart makes it, it is the lone machine's, and the guest has
-/// what the hart has for it, fixed up after a trap into VS. Where the hart stops before it, at a trap to its HS,
-/// guest and memory are as they were, and the step is for `handle`.
-pub fn enter(guest: &mut Guest, hart: &mut Hart, memory: &mut PhysMem, tally: &mut Tally) -> Stop
+/// Enters the hart for at most `limit` steps of the guest, which are steps of its lone machine, and gives the
+/// guest what the hart then has for it. After `Exit` the machine's next step is for `handle`.
+pub fn enter(
+    guest: &mut Guest,
+    hart: &mut Hart,
+    memory: &mut PhysMem,
+    limit: u64,
+    tally: &mut Tally,
+) -> Stop
     requires running { guest.old.status ≡ Running }
-    requires built { IsBuilt guest.old }
-    requires own { host_takes guest.old.virt ≡ false }
+    requires placed { IsPlaced guest.old memory.old }
+    requires lasts { Lasts (seen guest.old) limit }
     requires clock { guest.old.clock ≤ 2 ^ 62 + guest.old.steps }
-    requires steps { guest.old.steps < 2 ^ 61 }
+    requires steps { guest.old.steps + limit ≤ 2 ^ 61 }
     requires entries { tally.old.entries < 2 ^ 62 }
-    requires taken { tally.old.taken < 2 ^ 62 }
+    requires taken { tally.old.taken + limit ≤ 2 ^ 62 }
 
-    ensures step { Enters (machine_of guest.old memory.old) result.why hart.new.state memory.new tally.old.trace tally.new.trace }
-    ensures machine { machine_of guest.new memory.new ≡ left_after (machine_of guest.old memory.old) result.why hart.new.state memory.new }
-    ensures made { result.taken ≡ steps_in result.why }
+    ensures run { machine_of guest.new memory.new ≡ run (machine_of guest.old memory.old) result.taken }
+    ensures why { IsStopped guest.old.part (machine_of guest.new memory.new) memory.new
+        limit result.taken result.why }
+    ensures within { result.taken ≤ limit }
+    ensures hart { hart_steps true result.taken
+        (progress (loaded guest.old.part guest.old.virt) memory.old tally.old.trace false)
+        ≡ Some (progress hart.new.state memory.new tally.new.trace (is_vs_trap result.why)) }
+    ensures trace { IsRaisedBy (trace_of (events (machine_of guest.old memory.old) result.taken))
+        tally.old.trace tally.new.trace }
+    ensures only { Only (in_blocks guest.old.part.blocks) memory.old memory.new }
+    ensures placed { IsPlaced guest.new memory.new }
+    ensures fixed { StaysFixed guest.old guest.new }
+    ensures entries { tally.new.entries ≡ tally.old.entries + 1 }
+    ensures taken { tally.new.taken ≡ tally.old.taken + result.taken }
     ensures status { guest.new.status ≡ Running }
     ensures steps { guest.new.steps ≡ guest.old.steps + result.taken }
     ensures clock { guest.new.clock ≡ guest.old.clock + result.taken }
-    ensures entries { tally.new.entries ≡ tally.old.entries + 1 }
-    ensures taken { tally.new.taken ≡ tally.old.taken + result.taken }
 {
-    let stop = run_once(&guest.virt, hart, memory, tally);
-    match stop.why {
-        Why::Limit => {
-            save(&mut guest.virt, hart.state());
-            guest.tick();
-            stop
-        }
-        Why::VsTrap => {
-            save(&mut guest.virt, hart.state());
-            fix_up(&mut guest.virt);
-            guest.tick();
-            stop
-        }
-        Why::Exit(_) => stop,
-    }
+    *hart.state_mut() = load(&guest.virt, &guest.part);
+    let stop = hart.run(memory, limit, true, tally);
+    guest.take_steps(hart.state(), is_vs_trap(&stop.why), stop.taken);
+    stop
 }
 
-// One step of the hart as it stands for a guest, watched for a trap into VS.
-fn run_once(virt: &Virtual, hart: &mut Hart, memory: &mut PhysMem, tally: &mut Tally) -> Stop
-    requires entries { tally.old.entries < 2 ^ 62 }
-    requires taken { tally.old.taken < 2 ^ 62 }
-    ensures step { (m : Machine) → m.virt ≡ virt.now → m.ram ≡ memory.old → is_built m ≡ true → host_takes virt.now ≡ false
-        → Enters m result.why hart.new.state memory.new tally.old.trace tally.new.trace }
-    ensures made { result.taken ≡ steps_in result.why }
-    ensures entries { tally.new.entries ≡ tally.old.entries + 1 }
-    ensures taken { tally.new.taken ≡ tally.old.taken + result.taken }
+fn is_vs_trap(why: &Why) -> bool
+    ensures { result ≡ is_vs_trap why.now }
 {
-    *hart.state_mut() = hosted(virt);
-    hart.run(memory, 1, true, tally)
+    matches!(why, Why::VsTrap)
 }

@@ -1,17 +1,19 @@
 // A guest with V = 0 on the hart.
 
-ghost use Rattle.std.specs.Prelude.{◌≡◌, ◌+◌, ◌^◌, ◌<◌, ℕ, List, [], IfOk};
-ghost use Rattle.arch_defs.specs.Registers.{virtual_at};
-ghost use Rattle.machine_defs.specs.Machine.{informed, is_built, ticked};
-ghost use Rattle.guest_exit.specs.View.{seen};
+ghost use Rattle.std.specs.Prelude.{◌≡◌, ◌+◌, ◌^◌, ◌<◌, ◌≤◌};
+ghost use Rattle.machine_defs.specs.Machine.{informed, is_outside, ticked};
+ghost use Rattle.guest_exit.specs.Entering.{GivesSteps};
+ghost use Rattle.guest_exit.specs.View.{StaysFixed, seen};
 
 use crate::consoles::Console;
-use arch_defs::{Mode, Virtual};
+use arch_defs::{Mode, Part, Virtual};
 use machine_defs::Status;
+use world_switch::take_back;
 
-/// What the host keeps of a guest beside its RAM, which contracts see with it as the lone machine.
+/// What the host keeps of a guest beside its RAM. Contracts see it with the RAM as the lone machine.
 #[derive(Drop)]
 pub struct Guest {
+    pub part: Part,
     pub virt: Virtual,
     pub clock: u64,
     pub timer: u64,
@@ -26,8 +28,10 @@ impl Guest {
     /// Sets the registers that the clock sets: the pending timer and external interrupt of sip, and time
     /// (Privileged Architecture 20211203, 4.1.3).
     pub fn inform(&mut self)
-        ensures machine { seen self.new ≡ informed (seen self.old) }
-        ensures stays { (self.new.status ≡ self.old.status) × (self.new.steps ≡ self.old.steps) × (self.new.clock ≡ self.old.clock) }
+        ensures platform { seen self.new ≡ informed (seen self.old) }
+        ensures stays { (self.new.status ≡ self.old.status) × (self.new.steps ≡ self.old.steps)
+            × (self.new.clock ≡ self.old.clock) }
+        ensures fixed { StaysFixed self.old self.new }
     {
         self.virt.csrs.sip.timer = self.timer <= self.clock;
         self.virt.csrs.sip.external = self.console.has_input(self.clock);
@@ -38,21 +42,38 @@ impl Guest {
     pub(crate) fn tick(&mut self)
         requires clock { self.old.clock < 2 ^ 63 }
         requires steps { self.old.steps < 2 ^ 61 }
-        ensures machine { seen self.new ≡ ticked (seen self.old) }
+        ensures platform { seen self.new ≡ ticked (seen self.old) }
         ensures made { self.new.steps ≡ self.old.steps + 1 }
         ensures clock { self.new.clock ≡ self.old.clock + 1 }
         ensures status { self.new.status ≡ self.old.status }
+        ensures fixed { StaysFixed self.old self.new }
     {
         self.clock += 1;
         self.steps += 1;
         self.inform();
     }
+
+    /// The hart has made so many steps for the guest, the last of which was a trap into VS or was not.
+    pub(crate) fn take_steps(&mut self, hart: &Virtual, trapped: bool, taken: u64)
+        requires clock { self.old.clock < 2 ^ 63 }
+        requires steps { self.old.steps + taken ≤ 2 ^ 61 }
+        ensures platform { GivesSteps self.old.part (seen self.old) hart.now trapped taken (seen self.new) }
+        ensures made { self.new.steps ≡ self.old.steps + taken }
+        ensures clock { self.new.clock ≡ self.old.clock + taken }
+        ensures status { self.new.status ≡ self.old.status }
+        ensures fixed { StaysFixed self.old self.new }
+    {
+        take_back(hart, &self.part, trapped, &mut self.virt);
+        self.clock += taken;
+        self.steps += taken;
+        self.inform();
+    }
 }
 
-/// Whether the guest's next step may be built so far, as far as mode and inputs tell: V = 0, and no input's
-/// moment has come.
-pub fn is_built(guest: &Guest) -> bool
-    ensures { result ≡ is_built (seen guest.now) }
+/// Whether the guest's next step begins outside what is built so far: with V = 1, or where an input's moment
+/// has come.
+pub fn is_outside(guest: &Guest) -> bool
+    ensures { result ≡ is_outside (seen guest.now) }
 {
-    matches!(guest.virt.mode, Mode::HS | Mode::U) && !guest.console.has_input(guest.clock)
+    matches!(guest.virt.mode, Mode::VS | Mode::VU) || guest.console.has_input(guest.clock)
 }

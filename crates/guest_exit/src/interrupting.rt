@@ -2,11 +2,11 @@
 
 ghost use Rattle.std.specs.Prelude.{◌≡◌, ◌+◌, ◌^◌, ◌<◌, ◌≤◌, ℕ, List, Some, false, true};
 ghost use Rattle.machine_defs.specs.declared.guests.Status.TheVariants.{Running};
-ghost use Rattle.machine_defs.specs.Machine.{try};
+ghost use Rattle.machine_defs.specs.Machine.{is_outside, try};
 ghost use Rattle.machine_defs.specs.Runs.{event_in, instruction_count, left_by};
 ghost use Rattle.guest_exit.specs.Entering.{IsQuiet};
 ghost use Rattle.guest_exit.specs.Following.{host_takes, is_guest_code};
-ghost use Rattle.guest_exit.specs.View.{IsBuilt, machine_of};
+ghost use Rattle.guest_exit.specs.View.{IsPlaced, StaysFixed, machine_of, seen};
 
 use crate::guests::Guest;
 use crate::trapping::take;
@@ -17,17 +17,22 @@ use trap_delegation::{interrupt_trap, pending};
 /// (Privileged Architecture 20211203, 8.2.3). Answers whether there was one, which is a step.
 pub fn interrupt(guest: &mut Guest) -> bool
     requires running { guest.old.status ≡ Running }
-    requires built { IsBuilt guest.old }
+    requires inside { is_outside (seen guest.old) ≡ false }
     requires clock { guest.old.clock ≤ 2 ^ 62 + guest.old.steps }
     requires steps { guest.old.steps < 2 ^ 61 }
     ensures which { result ≡ host_takes guest.old.virt }
-    ensures step { result ≡ true → (memory : List ℕ) → machine_of guest.new memory ≡ left_by (machine_of guest.old memory) (try (machine_of guest.old memory)) }
+    ensures step { result ≡ true → (memory : List ℕ)
+        → machine_of guest.new memory
+        ≡ left_by (machine_of guest.old memory) (try (machine_of guest.old memory)) }
     ensures quiet { result ≡ true → (memory : List ℕ) → IsQuiet (machine_of guest.old memory) }
-    ensures none { result ≡ true → (memory : List ℕ) → instruction_count (event_in (try (machine_of guest.old memory))) ≡ 0 }
+    ensures none { result ≡ true → (memory : List ℕ)
+        → instruction_count (event_in (try (machine_of guest.old memory))) ≡ 0 }
+    ensures placed { (memory : List ℕ) → IsPlaced guest.old memory → IsPlaced guest.new memory }
     ensures status { guest.new.status ≡ Running }
     ensures made { result ≡ true → guest.new.steps ≡ guest.old.steps + 1 }
     ensures clock { result ≡ true → guest.new.clock ≡ guest.old.clock + 1 }
     ensures stays { result ≡ false → guest.new ≡ guest.old }
+    ensures fixed { StaysFixed guest.old guest.new }
 {
     match pending(&guest.virt.csrs, guest.virt.mode) {
         Some(code) => {

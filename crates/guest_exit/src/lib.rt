@@ -1,4 +1,4 @@
-// Between the host and the hart: one step of a guest on the hart, and what the hart leaves to the host.
+// Between the host and the hart: steps of a guest on the hart, and what the hart leaves to the host.
 #![tactic(auto)]
 
 mod calls;
@@ -6,14 +6,15 @@ mod consoles;
 mod entering;
 mod guests;
 mod handling;
-mod hosting;
 mod interrupting;
+mod limits;
 #[cfg(test)]
 mod tests;
 mod trapping;
 
 pub use consoles::Console;
 pub use entering::enter;
-pub use guests::{Guest, is_built};
+pub use guests::{Guest, is_outside};
 pub use handling::{Handled, handle};
 pub use interrupting::interrupt;
+pub use limits::limit;

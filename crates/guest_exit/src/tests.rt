@@ -1,10 +1,13 @@
-ghost use Rattle.std.specs.Prelude.{◌≡◌, ◌+◌, ◌^◌, ◌<◌, ◌≤◌, IfOk, length};
+ghost use Rattle.std.specs.Prelude.{◌≡◌, ◌≤◌, None, IfOk, IfSome, length};
 ghost use Rattle.machine_defs.specs.declared.guests.Status.TheVariants.{Running};
+ghost use Rattle.guest_exit.specs.View.{IsPlaced};
 
-use crate::{Console, Guest, Handled, enter, handle, interrupt, is_built};
-use arch_defs::{Mode, Reg, Virtual};
+use crate::{Console, Guest, Handled, enter, handle, interrupt, is_outside, limit};
+use arch_defs::{Mode, Part, Reg, Virtual};
+use host_tables::build;
 use machine_defs::{Inputs, Status};
-use rv64_hart::{Hart, MACHINE_BASE, PhysMem, Tally, Why};
+use phys_mem::{PhysMem, RAM_BASE};
+use rv64_hart::{Hart, Stop, Tally, Why};
 use std::alloc::{AllocError, Global};
 use std::test::Fail;
 
@@ -18,13 +21,19 @@ enum By {
     Nobody,
 }
 
-// A guest at the start of RAM, in this mode, with a console of one byte.
+// The frames of a machine memory of two blocks.
+const FRAMES: u64 = 1024;
+
+// A guest at the start of RAM, in this mode, with a console of one byte. Its RAM is block 1 of machine memory;
+// frames 0 to 4 have its host table.
 fn guest(alloc: Global, mode: Mode) -> Result<Guest, AllocError>
-    ensures { IfOk result (λ g. (g.status ≡ Running) × (g.clock ≡ 0) × (g.steps ≡ 0)) }
+    ensures { IfOk result (λ g. (g.status ≡ Running) × (g.clock ≡ 0) × (g.steps ≡ 0)
+        × (g.virt.reservation ≡ None)) }
 {
     let inputs = Inputs::from_vec(Vec::new(alloc));
     Ok(Guest {
-        virt: Virtual::starting_at(mode, MACHINE_BASE),
+        part: Part::new(&[1], 0, 4, 0, 0),
+        virt: Virtual::starting_at(mode, RAM_BASE),
         clock: 0,
         timer: u64::MAX,
         console: Console::new(alloc, 1, inputs)?,
@@ -35,23 +44,58 @@ fn guest(alloc: Global, mode: Mode) -> Result<Guest, AllocError>
     })
 }
 
-// One step of the guest on RAM of one frame that begins with this word.
+// Machine memory of so many frames with the guest's image and host table, if that is enough.
+fn placed(
+    alloc: Global,
+    guest: &Guest,
+    image: &[u8],
+    frames: u64,
+) -> Result<Option<PhysMem>, AllocError>
+    requires some { 1 ≤ frames }
+    requires most { frames ≤ 131072 }
+    requires unreserved { guest.now.virt.reservation ≡ None }
+    ensures { IfOk result (λ found. IfSome found (λ memory. IsPlaced guest.now memory)) }
+{
+    let mut memory = PhysMem::new(alloc, frames)?;
+    let at = 0x20_0000;
+    if memory.size() < at || memory.size() - at < image.len() as u64 {
+        return Ok(None);
+    }
+    memory.copy_in(at, image);
+    let size = memory.size();
+    if !guest.part.lies_in(size) {
+        return Ok(None);
+    }
+    build(&mut memory, &guest.part, guest.part.blocks().len() as u64);
+    guest.part.names_each_once();
+    Ok(Some(memory))
+}
+
+// One step of the guest on an image of this word.
 fn one(alloc: Global, guest: &mut Guest, word: u32) -> Result<By, AllocError>
     requires running { guest.old.status ≡ Running }
     requires clock { guest.old.clock ≡ 0 }
     requires steps { guest.old.steps ≡ 0 }
+    requires unreserved { guest.old.virt.reservation ≡ None }
 {
-    let mut memory = PhysMem::new(alloc, 1)?;
-    if memory.size() > 0 {
-        memory.store(0, 4, word as u64);
-    }
-    if !is_built(guest) {
+    guest.inform();
+    let Some(mut memory) = placed(alloc, guest, &word.to_le_bytes(), FRAMES)? else {
+        return Ok(By::Nobody);
+    };
+    if is_outside(guest) {
         return Ok(By::Nobody);
     }
     if interrupt(guest) {
         return Ok(By::HostByInterrupt);
     }
-    let stop = enter(guest, &mut Hart::new(), &mut memory, &mut Tally::new());
+    let limit = limit(guest, 1);
+    let stop = enter(
+        guest,
+        &mut Hart::new(),
+        &mut memory,
+        limit,
+        &mut Tally::new(),
+    );
     Ok(match stop.why {
         Why::Limit => By::Hart,
         Why::VsTrap => By::HartByTrap,
@@ -133,6 +177,38 @@ fn the_host_refuses_in_user_mode(rt: HostRuntime) -> Result<(), Fail> {
     Ok(())
 }
 
+// A fetch, a load and a store outside RAM are access faults of the guest's, which the host makes: the host table
+// has no place for them.
+#[test]
+fn accesses_outside_ram(rt: HostRuntime) -> Result<(), Fail> {
+    for (word, cause, tval) in [
+        (0x0002_B503, 5, 0x8020_0000), // ld x10, 0(x5)
+        (0x0052_B023, 7, 0x8020_0000), // sd x5, 0(x5)
+        (0xFF82_B503, 0, 0), // ld x10, -8(x5), the last place of RAM
+    ] {
+        let mut guest = guest(rt.alloc(), Mode::HS)?;
+        guest.virt.regs.advance(Reg::new(5), 0x8020_0000, RAM_BASE);
+        guest.virt.csrs.hs.tvec = 0x8000_0100;
+        let by = one(rt.alloc(), &mut guest, word)?;
+        let made = if cause == 0 {
+            By::Hart
+        } else {
+            By::Host(Handled::Stepped)
+        };
+        assert_eq!(rt; by, made, "{word:#x}");
+        let csrs = guest.virt.csrs;
+        assert_eq!(rt; (csrs.hs.cause, csrs.hs.tval), (cause, tval));
+        assert_eq!(rt; (csrs.htval, csrs.hstatus.gva), (0, false));
+        assert_eq!(rt; (guest.clock, guest.steps), (1, 1));
+    }
+    let mut guest = guest(rt.alloc(), Mode::HS)?;
+    guest.virt.regs.pc = 0x7FFF_FFFC;
+    assert_eq!(rt; one(rt.alloc(), &mut guest, 0)?, By::Host(Handled::Stepped));
+    let csrs = guest.virt.csrs;
+    assert_eq!(rt; (csrs.hs.cause, csrs.hs.tval), (1, 0x7FFF_FFFC));
+    Ok(())
+}
+
 #[test]
 fn the_host_makes_sret(rt: HostRuntime) -> Result<(), Fail> {
     let mut guest = guest(rt.alloc(), Mode::HS)?;
@@ -191,9 +267,9 @@ fn calls(rt: HostRuntime) -> Result<(), Fail> {
         (2, Handled::Outside, 65, 9),
     ] {
         let mut guest = guest(rt.alloc(), Mode::HS)?;
-        guest.virt.regs.advance(Reg::new(17), number, MACHINE_BASE);
-        guest.virt.regs.advance(Reg::new(10), 65, MACHINE_BASE);
-        guest.virt.regs.advance(Reg::new(11), 9, MACHINE_BASE);
+        guest.virt.regs.advance(Reg::new(17), number, RAM_BASE);
+        guest.virt.regs.advance(Reg::new(10), 65, RAM_BASE);
+        guest.virt.regs.advance(Reg::new(11), 9, RAM_BASE);
         assert_eq!(rt; one(rt.alloc(), &mut guest, 0x0000_0073)?, By::Host(by));
         let regs = guest.virt.regs;
         assert_eq!(rt;
@@ -205,7 +281,8 @@ fn calls(rt: HostRuntime) -> Result<(), Fail> {
     Ok(())
 }
 
-// An interrupt of VS that is not delegated is one for the host; sip's is the hart's, at its place in stvec's table.
+// An interrupt of VS that is not delegated is one for the host; sip's is the hart's, at its place in stvec's
+// table.
 #[test]
 fn interrupts(rt: HostRuntime) -> Result<(), Fail> {
     let mut guest = guest(rt.alloc(), Mode::HS)?;
@@ -227,13 +304,107 @@ fn interrupts(rt: HostRuntime) -> Result<(), Fail> {
 
 // In U, where SIE has no part.
 fn guest_with_software_interrupt(alloc: Global) -> Result<Guest, AllocError>
-    ensures { IfOk result (λ g. (g.status ≡ Running) × (g.clock ≡ 0) × (g.steps ≡ 0)) }
+    ensures { IfOk result (λ g. (g.status ≡ Running) × (g.clock ≡ 0) × (g.steps ≡ 0)
+        × (g.virt.reservation ≡ None)) }
 {
     let mut guest = guest(alloc, Mode::U)?;
     guest.virt.csrs.sip.software = true;
     guest.virt.csrs.sie.software = true;
     guest.virt.csrs.hs.tvec = 0x8000_0101;
     Ok(guest)
+}
+
+// One entry of the guest on this image, if its next step is the hart's.
+fn entered(
+    alloc: Global,
+    guest: &mut Guest,
+    image: &[u8],
+    most: u64,
+    tally: &mut Tally,
+) -> Result<Option<Stop>, AllocError>
+    requires running { guest.old.status ≡ Running }
+    requires clock { guest.old.clock ≡ 0 }
+    requires steps { guest.old.steps ≡ 0 }
+    requires unreserved { guest.old.virt.reservation ≡ None }
+    requires some { 1 ≤ most }
+    requires few { most ≤ 100 }
+    requires entries { tally.old.entries ≡ 0 }
+    requires taken { tally.old.taken ≡ 0 }
+{
+    guest.inform();
+    let Some(mut memory) = placed(alloc, guest, image, FRAMES)? else {
+        return Ok(None);
+    };
+    if is_outside(guest) {
+        return Ok(None);
+    }
+    if interrupt(guest) {
+        return Ok(None);
+    }
+    let limit = limit(guest, most);
+    Ok(Some(enter(guest, &mut Hart::new(), &mut memory, limit, tally)))
+}
+
+// Three times x5 += 1, and a jump back: 00128293, 00128293, 00128293, FF5FF06F (jal x0, -12).
+const COUNTS: [u8; 16] = [
+    0x93, 0x82, 0x12, 0x00, 0x93, 0x82, 0x12, 0x00, 0x93, 0x82, 0x12, 0x00, 0x6F, 0xF0, 0x5F, 0xFF,
+];
+
+// One entry makes ten steps: 3 + 3 additions and 2 jumps, and 2 additions.
+#[test]
+fn an_entry_of_many_steps(rt: HostRuntime) -> Result<(), Fail> {
+    let mut guest = guest(rt.alloc(), Mode::U)?;
+    let mut tally = Tally::new();
+    let stop = entered(rt.alloc(), &mut guest, &COUNTS, 10, &mut tally)?;
+    assert_eq!(rt;
+        stop,
+        Some(Stop {
+            taken: 10,
+            why: Why::Limit
+        })
+    );
+    assert_eq!(rt; guest.virt.regs.read(Reg::new(5)), 8);
+    assert_eq!(rt; guest.virt.regs.pc, 0x8000_0008);
+    assert_eq!(rt;
+        (guest.clock, guest.steps, guest.virt.csrs.time),
+        (10, 10, 10)
+    );
+    assert_eq!(rt; (tally.entries(), tally.taken()), (1, 10));
+    Ok(())
+}
+
+// An entry ends after the step at which the timer comes due, and before an input's moment; it is for one step where an
+// interrupt of VS waits until HS takes interrupts. A timer that has come ends none.
+#[test]
+fn entries_end_before_what_the_clock_changes(rt: HostRuntime) -> Result<(), Fail> {
+    for (timer, moment, waits, taken) in [
+        (5, 20, false, 5),
+        (10, 20, false, 10),
+        (20, 7, false, 7),
+        (0, 20, false, 10),
+        (20, 20, true, 1),
+    ] {
+        let mut inputs = Vec::new(rt.alloc());
+        inputs.push((moment, 65))?;
+        let mut guest = guest(rt.alloc(), Mode::HS)?;
+        guest.console = Console::new(rt.alloc(), 1, Inputs::from_vec(inputs))?;
+        guest.timer = timer;
+        guest.virt.csrs.hvip.software = waits;
+        guest.virt.csrs.hie.software = waits;
+        let mut tally = Tally::new();
+        let stop = entered(rt.alloc(), &mut guest, &COUNTS, 10, &mut tally)?;
+        assert_eq!(rt;
+            stop,
+            Some(Stop {
+                taken,
+                why: Why::Limit
+            })
+        );
+        assert_eq!(rt; guest.virt.csrs.sip.timer, timer <= taken);
+        assert_eq!(rt; is_outside(&guest), moment <= taken);
+        assert_eq!(rt; (guest.clock, guest.steps), (taken, taken));
+    }
+    Ok(())
 }
 
 #[test]

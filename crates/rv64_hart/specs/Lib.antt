@@ -1,4 +1,6 @@
 pub mod Counts
 pub mod Endings
+pub mod Laws
 pub mod Loans
+pub mod MachineMemory
 pub mod Steps

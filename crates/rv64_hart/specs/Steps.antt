@@ -1,51 +1,62 @@
--- Steps of the hart, whose state has V = 1 wherever a guest is on it, and whose second stage is Bare whatever hgatp says.
-use Rattle.std.specs.Prelude.{ℕ, zero, suc, ◌+◌, ◌%◌, ◌^◌, ◌<◌, ◌≡◌, List, Option, Some, None, Bool, true, false, ◌&&◌, ⊤, length, option_and_then, if◌then◌else◌}
+-- Steps of the hart, whose state has V = 1 wherever a guest is on it, and whose second stage is the walk of
+-- its own hgatp's table (Privileged Architecture 20211203, 8.2.2 and 8.6, for its traps).
+use Rattle.std.specs.Prelude.{ℕ, zero, suc, ◌+◌, ◌%◌, ◌^◌, ◌<◌, ◌≡◌, List, Option, Some, None, Bool, true, false, ◌&&◌, ⊤, option_and_then, if◌then◌else◌}
 use Rattle.arch_defs.specs.declared.levels.Level.{Level}
 use Rattle.arch_defs.specs.declared.levels.Level.TheVariants as level
 use Rattle.arch_defs.specs.declared.modes.Mode.{Mode}
 use Rattle.arch_defs.specs.declared.modes.Trap.{Trap}
 use Rattle.arch_defs.specs.declared.modes.TheConstants.{ECALL_FROM_HS, ILLEGAL_INSTRUCTION}
+use Rattle.arch_defs.specs.declared.registers.Csrs.{Csrs}
 use Rattle.arch_defs.specs.declared.registers.Virtual.{Virtual}
 use Rattle.arch_defs.specs.Interrupts.{due, interrupt_of}
-use Rattle.arch_defs.specs.Memory.{bare, reading_of, written}
-use Rattle.arch_defs.specs.Traps.{access_fault, entered_at, exception, target}
+use Rattle.arch_defs.specs.Memory.{with_stored}
+use Rattle.arch_defs.specs.SecondStage.{unplaced_trap}
+use Rattle.arch_defs.specs.Traps.{entered_at, exception, target}
 use Rattle.machine_defs.specs.declared.events.Event.{Event}
 use Rattle.machine_defs.specs.declared.events.Event.TheVariants as event
 use Rattle.machine_defs.specs.Core.{core}
-use Rattle.machine_defs.specs.Outcomes.{Outcome, Done, Trapped, Stuck, Called, Waits, Unbuilt}
+use Rattle.machine_defs.specs.Outcomes.{Outcome, Done, Trapped, Stuck, Called, Waits, Fenced, Accesses, Outside}
 use Rattle.machine_defs.specs.Runs.{pc_and_word}
-use Rattle.rv64_hart.specs.declared.steps.TheConstants.{MACHINE_BASE}
 use Rattle.rv64_hart.specs.declared.harts.Why.{Why}
 use Rattle.rv64_hart.specs.declared.harts.Why.TheVariants.{Limit, Exit, VsTrap}
+use Rattle.rv64_hart.specs.MachineMemory.{reading_of_memory, second_of_memory}
 
--- what a step asks for, before it is known where its trap goes: the state, the memory and what it was, or a trap
+-- what a step asks for, before it is known where its trap goes: the state, the memory and what the step was,
+-- or a trap
 pub data Attempt : Type 0 where
   Makes : Virtual → List ℕ → Event → Attempt
   Raises : Trap → Attempt
 
--- what the outcome of an instruction is to the hart, whose second stage is Bare: a place that it does not have is an access
--- fault. With V = 1 there is no call from HS, and nothing that is not built
-abbrev pub attempt_of : Mode → List ℕ → Outcome → Attempt
-attempt_of mode memory (Done state write event) = Makes state (written MACHINE_BASE write memory) event
-attempt_of mode memory (Trapped cause tval) = Raises (exception mode cause tval)
-attempt_of mode memory (Stuck address kind access va) = Raises (exception mode (access_fault access) va)
-attempt_of mode memory Called = Raises (exception mode ECALL_FROM_HS 0)
-attempt_of mode memory (Waits state) = Makes state memory event.System
-attempt_of mode memory Unbuilt = Raises (exception mode ILLEGAL_INSTRUCTION 0)
+-- what the outcome of an instruction is to the hart: an access for which its second stage has no place is the
+-- trap that the walk of now makes of it. A WFI does not wait, and a fence changes nothing, since the hart
+-- walks memory as it is. With V = 1 there is no call from HS, no access as somebody else, and nothing outside
+abbrev pub attempt_of : Csrs → Mode → List ℕ → Outcome → Attempt
+attempt_of csrs mode memory (Done state stored event) = Makes state (with_stored 0 stored memory) event
+attempt_of csrs mode memory (Trapped trap) = Raises trap
+attempt_of csrs mode memory (Stuck unplaced) = Raises (unplaced_trap csrs 0 memory unplaced)
+attempt_of csrs mode memory Called = Raises (exception mode ECALL_FROM_HS 0)
+attempt_of csrs mode memory (Waits state) = Makes state memory event.System
+attempt_of csrs mode memory (Fenced state fence) = Makes state memory event.System
+attempt_of csrs mode memory (Accesses access) = Raises (exception mode ILLEGAL_INSTRUCTION 0)
+attempt_of csrs mode memory Outside = Raises (exception mode ILLEGAL_INSTRUCTION 0)
 
 -- the due interrupt, or one instruction over machine memory
 abbrev pub next_attempt : Virtual → List ℕ → Option ℕ → Attempt
 next_attempt state memory (Some code) = Raises (interrupt_of code)
-next_attempt state memory None = attempt_of state.mode memory (core (bare MACHINE_BASE (length memory)) (reading_of MACHINE_BASE memory) state)
+next_attempt state memory None =
+    attempt_of state.csrs state.mode memory
+    (core (second_of_memory state memory) (reading_of_memory memory) state)
 
--- how a step of the hart ends: the state, the memory and what the step was, or a trap to HS, before which nothing changes
+-- how a step of the hart ends: the state, the memory and what the step was, or a trap to HS, before which
+-- nothing changes
 pub data HartEnd : Type 0 where
   Goes : Virtual → List ℕ → Event → HartEnd
   Exits : Trap → HartEnd
 
 -- a trap into VS is taken, and one to HS is left
 abbrev pub trapped_to : Virtual → List ℕ → Trap → Level → HartEnd
-trapped_to state memory trap level.VS = Goes (entered_at state trap level.VS) memory (event.Trap level.VS trap.interrupt)
+trapped_to state memory trap level.VS =
+    Goes (entered_at state trap level.VS) memory (event.Trap level.VS trap.interrupt)
 trapped_to state memory trap level.HS = Exits trap
 
 abbrev pub end_by : Virtual → List ℕ → Attempt → HartEnd
@@ -64,7 +75,8 @@ pub record Progress : Type 0 where
   pub trapped : Bool
 
 abbrev pub progress : Virtual → List ℕ → ℕ → Bool → Progress
-progress state memory trace trapped = record { state = state; memory = memory; trace = trace; trapped = trapped }
+progress state memory trace trapped =
+    record { state = state; memory = memory; trace = trace; trapped = trapped }
 
 -- whether a step entered VS by a trap
 abbrev pub enters_vs : Event → Bool

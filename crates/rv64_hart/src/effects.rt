@@ -1,14 +1,16 @@
 // What an instruction asks for, and what it is to the account.
 
 ghost use Rattle.std.specs.Prelude.{◌≡◌};
+ghost use Rattle.op_defs.specs.declared.ops.Effect.TheVariants as effect;
 ghost use Rattle.op_defs.specs.declared.ops.Effect.TheVariants.{Sets, Raises};
-ghost use Rattle.op_defs.specs.Meaning.{address_at, branch, even, holds, is_none, jump, meaning, operand_of, writes};
+ghost use Rattle.op_defs.specs.declared.ops.Privileged.TheVariants as privileged;
+ghost use Rattle.op_defs.specs.Meaning.{address_at, branch, even, fence_named, holds, is_none, jump, meaning, named_by, operand_of, writes};
 ghost use Rattle.machine_defs.specs.Core.{event_of};
 
-use arch_defs::{BREAKPOINT, INSTRUCTION_MISALIGNED, Reg, Regs};
+use arch_defs::{BREAKPOINT, Fence, INSTRUCTION_MISALIGNED, Reg, Regs};
 use int_ops::{alu, word_alu};
 use machine_defs::Event;
-use op_defs::{CsrOp, CsrSource, Effect, Op, Privileged, Test};
+use op_defs::{CsrOp, CsrSource, Effect, GuestAccess, Op, Privileged, Test};
 
 /// What an instruction asks for, read off the registers.
 #[tactic(auto, unfolding(op_defs::specs::Meaning::meaning))]
@@ -123,12 +125,31 @@ pub fn effect_of(op: &Op, regs: &Regs) -> Effect
             rd,
         }),
         Op::SfenceVma { .. } => Effect::Privileged(Privileged::SfenceVma),
-        Op::HfenceVvma { .. } | Op::HfenceGvma { .. } => {
-            Effect::Privileged(Privileged::HypervisorFence)
+        Op::HfenceVvma { .. } => Effect::Privileged(Privileged::HfenceVvma),
+        Op::HfenceGvma { rs1, rs2 } => {
+            Effect::Privileged(Privileged::HfenceGvma(fence_named(rs1, rs2, regs)))
         }
-        Op::GuestLoad { .. } | Op::GuestFetch { .. } | Op::GuestStore { .. } => {
-            Effect::Privileged(Privileged::GuestAccess)
-        }
+        Op::GuestLoad {
+            width,
+            signed,
+            rd,
+            rs1,
+        } => guest_access(GuestAccess::Loads {
+            address: regs.read(rs1),
+            width,
+            signed,
+            rd,
+        }),
+        Op::GuestFetch { width, rd, rs1 } => guest_access(GuestAccess::LoadsCode {
+            address: regs.read(rs1),
+            width,
+            rd,
+        }),
+        Op::GuestStore { width, rs1, rs2 } => guest_access(GuestAccess::Stores {
+            address: regs.read(rs1),
+            width,
+            value: regs.read(rs2),
+        }),
     }
 }
 
@@ -136,6 +157,33 @@ fn set(rd: Reg, value: u64, next: u64) -> Effect
     ensures { result ≡ Sets rd value next }
 {
     Effect::Sets { rd, value, next }
+}
+
+fn guest_access(access: GuestAccess) -> Effect
+    ensures { result ≡ effect.Privileged (privileged.GuestAccess access) }
+{
+    Effect::Privileged(Privileged::GuestAccess(access))
+}
+
+// The operand of a fence: what a register has, if it is not x0.
+fn named_by(register: Reg, value: u64) -> Option<u64>
+    ensures { result ≡ named_by register value }
+{
+    if register.number() == 0 {
+        None
+    } else {
+        Some(value)
+    }
+}
+
+// What HFENCE.GVMA names: a VMID of 7 bits by rs2, and a page by rs1, which has an address divided by 4.
+fn fence_named(rs1: Reg, rs2: Reg, regs: &Regs) -> Fence
+    ensures { result ≡ fence_named rs1 rs2 regs.now }
+{
+    Fence {
+        vmid: named_by(rs2, regs.read(rs2) % 0x80),
+        page: named_by(rs1, regs.read(rs1) >> 10),
+    }
 }
 
 fn address_at(regs: &Regs, rs1: Reg, offset: u64) -> u64

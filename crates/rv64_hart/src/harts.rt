@@ -1,17 +1,17 @@
 // The hart: one step of it, and runs of steps.
 
-ghost use Rattle.std.specs.Prelude.{◌≡◌, ◌+◌, ◌^◌, ◌<◌, ◌≤◌, Some, false};
+ghost use Rattle.std.specs.Prelude.{◌≡◌, ◌+◌, ◌^◌, ◌<◌, ◌≤◌, Some, false, IfErr, OnErr};
 ghost use Rattle.std.specs.Borrow.{sem};
 ghost use Rattle.arch_defs.specs.Registers.{virtual_at};
-ghost use Rattle.rv64_hart.specs.Endings.{counted_of, IfStops, made_in};
+ghost use Rattle.rv64_hart.specs.Endings.{counted_of, made_in};
 ghost use Rattle.rv64_hart.specs.Loans.{LendsState};
 ghost use Rattle.rv64_hart.specs.Steps.{Exits, enters_vs, hart_step, hart_steps, one_more, progress, is_vs_trap, IsWhy};
 
-use crate::memory::PhysMem;
-use crate::steps::{StepEnd, step};
+use crate::steps::step;
 use crate::tallies::Tally;
 use arch_defs::{Level, Mode, Trap, Virtual};
 use machine_defs::Event;
+use phys_mem::PhysMem;
 
 /// What the hart has of registers, CSRs, mode and reservation: the same as a lone machine, with the
 /// hart's own values.
@@ -35,15 +35,7 @@ pub struct Stop {
     pub why: Why,
 }
 
-// What a step was to the run that counted it: the run goes on, ends after it, or ends before it.
-#[derive(Clone, Copy)]
-pub(crate) enum Counted {
-    GoesOn,
-    EnteredVs,
-    Stops(Trap),
-}
-
-/// The hart, with V = 1 and its own second stage Bare.
+/// The hart. Both stages of its translation walk their tables in machine memory as it is.
 #[derive(Debug, Drop)]
 pub struct Hart {
     state: HartState,
@@ -82,7 +74,8 @@ impl Hart {
         requires taken { tally.old.taken + limit ≤ 2 ^ 62 }
 
         // So many steps of the hart and no others.
-        ensures steps { hart_steps watch result.taken (progress self.old.state memory.old tally.old.trace false)
+        ensures steps { hart_steps watch result.taken
+            (progress self.old.state memory.old tally.old.trace false)
             ≡ Some (progress self.new.state memory.new tally.new.trace (is_vs_trap result.why)) }
         ensures why { IsWhy limit result.taken self.new.state memory.new result.why }
         ensures within { result.taken ≤ limit }
@@ -93,14 +86,14 @@ impl Hart {
         tally.enter();
         for taken in 0..limit {
             match counted_step(&mut self.state, memory, watch, tally) {
-                Counted::GoesOn => {}
-                Counted::EnteredVs => {
+                Ok(false) => {}
+                Ok(true) => {
                     return Stop {
                         taken: taken + 1,
                         why: Why::VsTrap,
                     };
                 }
-                Counted::Stops(trap) => {
+                Err(trap) => {
                     return Stop {
                         taken,
                         why: Why::Exit(trap),
@@ -115,32 +108,30 @@ impl Hart {
     }
 }
 
-// One step, told to the tally where it is made.
+// One step, told to the tally where it is made: whether the run ends after it, or the trap that ends the run
+// before it.
 #[tactic(auto, unfolding(crate::specs::Steps::one_more))]
 fn counted_step(
     state: &mut HartState,
     memory: &mut PhysMem,
     watch: bool,
     tally: &mut Tally,
-) -> Counted
+) -> Result<bool, Trap>
     requires { tally.old.taken < 2 ^ 62 }
     ensures steps { one_more watch (progress state.old memory.old tally.old.trace false)
         ≡ counted_of result (progress state.new memory.new tally.new.trace) }
-    ensures stops { IfStops result (λ trap. hart_step state.new memory.new ≡ Exits trap) }
-    ensures stays { IfStops result (λ trap. (state.new ≡ state.old) × (memory.new ≡ memory.old) × (tally.new ≡ tally.old)) }
+    ensures stops { IfErr result (λ trap. hart_step state.new memory.new ≡ Exits trap) }
+    ensures stays { OnErr result
+        ((state.new ≡ state.old) × (memory.new ≡ memory.old) × (tally.new ≡ tally.old)) }
     ensures taken { tally.new.taken ≡ tally.old.taken + made_in result }
     ensures entries { tally.new.entries ≡ tally.old.entries }
 {
     match step(state, memory) {
-        StepEnd::Exits(trap) => Counted::Stops(trap),
-        StepEnd::Made(event) => {
+        Ok(event) => {
             tally.count(&event);
-            if watch && enters_vs(&event) {
-                Counted::EnteredVs
-            } else {
-                Counted::GoesOn
-            }
+            Ok(watch && enters_vs(&event))
         }
+        Err(trap) => Err(trap),
     }
 }
 

@@ -1,11 +1,11 @@
-// The hart on which all guests run, with V = 1 over machine memory, and the account of what it did.
+// The hart on which all guests run, by both stages of translation over machine memory, and the account of
+// what it did.
 #![tactic(auto)]
 
 mod accesses;
 mod effects;
 mod harts;
-mod memory;
-mod physical;
+mod laws;
 mod steps;
 mod tallies;
 #[cfg(test)]
@@ -15,15 +15,16 @@ mod tests;
 #[cfg(test)]
 mod tests_control;
 #[cfg(test)]
+mod tests_host_table;
+#[cfg(test)]
 mod tests_memory;
 #[cfg(test)]
 mod tests_translation;
 #[cfg(test)]
 mod tests_traps;
-mod translation;
 
 pub use effects::effect_of;
 pub use harts::{Hart, HartState, Stop, Why};
-pub use memory::{FRAME_SIZE, PhysMem};
-pub use steps::MACHINE_BASE;
+pub use laws::guest_page_faults_exit;
+pub use phys_mem::PhysMem;
 pub use tallies::Tally;

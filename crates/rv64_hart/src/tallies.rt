@@ -68,7 +68,10 @@ impl Tally {
     // The hart has made a step.
     pub(crate) fn count(&mut self, event: &Event)
         requires { self.old.taken < 2 ^ 62 }
-        ensures { self.new ≡ record self.old { taken = self.old.taken + 1; trace = (self.old.trace + pc_and_word event.now) % 2 ^ 64 } }
+        ensures { self.new ≡ record self.old {
+          taken = self.old.taken + 1;
+          trace = (self.old.trace + pc_and_word event.now) % 2 ^ 64;
+        } }
     {
         self.taken += 1;
         if let Event::Plain { pc, word } = event {

@@ -4,19 +4,24 @@
 
 ghost use Rattle.std.specs.Prelude.{◌≡◌, ◌≤◌, ◌⊎◌};
 
-use crate::{Hart, HartState, MACHINE_BASE, PhysMem, Stop, Tally, Why};
+use crate::{Hart, HartState, PhysMem, Stop, Tally, Why};
 use arch_defs::{Mode, Trap, Virtual};
 use std::alloc::{AllocError, Global};
 use std::process::Abort;
 use std::test::Fail;
 
-// Memory is of two frames. x8 has the address of the second, which begins with this doubleword; all else is zero.
-pub const DATA: u64 = MACHINE_BASE + 0x1000;
+// Where a program begins, with hgatp Bare: at the start of memory.
+pub const START: u64 = 0;
+
+// Memory is of two frames. x8 has the address of the second, which begins with this doubleword; all else is
+// zero.
+pub const DATA: u64 = START + 0x1000;
 
 pub const HELD: u64 = 0xFEDC_BA98_7654_3210;
 
 // A program from the start of memory on, with registers that it is given, how many steps it makes, the cause
-// and tval of the trap at which it exits, and what some registers, the doubleword and the reservation are then.
+// and tval of the trap at which it exits, and what some registers, the doubleword and the reservation are
+// after it.
 pub struct Row {
     pub name: &'static str,
     pub code: &'static [u32],
@@ -28,9 +33,21 @@ pub struct Row {
     pub reserved: Option<(u64, u8)>,
 }
 
+// A row that is given nothing, makes no step, and leaves the doubleword and the reservation as they were.
+pub const ROW: Row = Row {
+    name: "",
+    code: &[],
+    given: &[],
+    taken: 0,
+    exit: (0, 0),
+    gives: &[],
+    held: HELD,
+    reserved: None,
+};
+
 // The state in which a program begins.
 pub fn started(given: &[(usize, u64)]) -> HartState {
-    let mut state = Virtual::starting_at(Mode::VS, MACHINE_BASE);
+    let mut state = Virtual::starting_at(Mode::VS, START);
     state.regs.x[8] = DATA;
     for &(register, value) in given {
         if register < 32 {
@@ -76,8 +93,8 @@ pub fn ran(hart: &mut Hart, memory: &mut PhysMem, given: &[(usize, u64)]) -> Sto
     hart.run(memory, 100, false, &mut Tally::new())
 }
 
-// The trap of a cause. With V = 1 stval has a guest virtual address but for an illegal or virtual instruction and a
-// call.
+// The trap of a cause. With V = 1 stval has a guest virtual address but for an illegal or virtual instruction
+// and a call.
 pub fn trap(cause: u64, tval: u64) -> Trap {
     Trap {
         cause,

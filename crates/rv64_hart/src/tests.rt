@@ -1,9 +1,14 @@
 ghost use Rattle.std.specs.Prelude.{◌≤◌};
 
-use crate::{Hart, MACHINE_BASE, PhysMem, Stop, Tally, Why};
-use arch_defs::{Reg, Trap};
+use crate::test_programs::START;
+use crate::{Hart, PhysMem, Stop, Tally, Why, effect_of};
+use arch_defs::{Fence, Reg, Regs, Trap, Width};
+use op_defs::{Effect, GuestAccess, Op, Privileged};
 use std::alloc::{AllocError, Global};
 use std::test::Fail;
+
+// The last word of the addresses.
+const LAST_WORD: u64 = 0xFFFF_FFFF_FFFF_FFFC;
 
 // Memory of so many frames that begins with these words.
 fn memory_of(alloc: Global, frames: u64, words: &[u32]) -> Result<PhysMem, AllocError>
@@ -51,7 +56,7 @@ fn runs_a_program(rt: HostRuntime) -> Result<(), Fail> {
         0xFFDF_F06F, // 10: jal x0, -4          1 1111111110 1 11111111 00000 1101111
     ];
     let mut memory = memory_of(rt.alloc(), 1, &words)?;
-    let mut hart = hart_at(MACHINE_BASE);
+    let mut hart = hart_at(START);
     let mut tally = Tally::new();
     let none = hart.run(&mut memory, 0, false, &mut tally);
     assert_eq!(rt;
@@ -69,7 +74,7 @@ fn runs_a_program(rt: HostRuntime) -> Result<(), Fail> {
             why: Why::Limit
         }
     );
-    assert_eq!(rt; hart.state().regs.pc, 0x8000_0008);
+    assert_eq!(rt; hart.state().regs.pc, START + 8);
     let to_call = hart.run(&mut memory, 10, true, &mut tally);
     assert_eq!(rt;
         to_call,
@@ -82,14 +87,14 @@ fn runs_a_program(rt: HostRuntime) -> Result<(), Fail> {
     // -1, bit 31 repeated, the address after the jump at 08, and the call itself.
     assert_eq!(rt; hart.state().regs.read(Reg::new(5)), 0xFFFF_FFFF_FFFF_FFFF);
     assert_eq!(rt; hart.state().regs.read(Reg::new(6)), 0xFFFF_FFFF_8000_0000);
-    assert_eq!(rt; hart.state().regs.read(Reg::new(1)), 0x8000_000C);
+    assert_eq!(rt; hart.state().regs.read(Reg::new(1)), START + 12);
     assert_eq!(rt; hart.state().regs.read(Reg::new(0)), 0);
-    assert_eq!(rt; hart.state().regs.pc, 0x8000_000C);
+    assert_eq!(rt; hart.state().regs.pc, START + 12);
 
-    // The sum of the four words made is 2_804F_F728, and that of their pcs 4 * 8000_0000 + 1C.
+    // The sum of the four words made is 2_804F_F728, and that of their pcs 1C.
     assert_eq!(rt; tally.entries(), 3);
     assert_eq!(rt; tally.taken(), 4);
-    assert_eq!(rt; tally.trace(), 0x4_804F_F744);
+    assert_eq!(rt; tally.trace(), 0x2_804F_F744);
     Ok(())
 }
 
@@ -97,11 +102,11 @@ fn runs_a_program(rt: HostRuntime) -> Result<(), Fail> {
 #[test]
 fn exits_before_what_traps(rt: HostRuntime) -> Result<(), Fail> {
     for (word, pc, cause, tval, gva) in [
-        (0x0000_0073, 0x8000_0000, 10, 0, false), // ecall
-        (0x0000_0000, 0x8000_0000, 2, 0, false), // no instruction
-        (0x0000_0073, 0x8000_1000, 1, 0x8000_1000, true), // past the one frame
-        (0x0000_0073, 0x7FFF_FFFC, 1, 0x7FFF_FFFC, true), // below it
-        (0x0020_006F, 0x8000_0000, 0, 0x8000_0002, true), // jal x0, +2
+        (0x0000_0073, START, 10, 0, false), // ecall
+        (0x0000_0000, START, 2, 0, false), // no instruction
+        (0x0000_0073, 0x1000, 1, 0x1000, true), // past the one frame
+        (0x0000_0073, LAST_WORD, 1, LAST_WORD, true), // at the end of the addresses
+        (0x0020_006F, START, 0, START + 2, true), // jal x0, +2
     ] {
         let mut memory = memory_of(rt.alloc(), 1, &[word])?;
         let mut hart = hart_at(pc);
@@ -133,4 +138,72 @@ fn reads_little_endian(rt: HostRuntime) -> Result<(), Fail> {
         assert_eq!(rt; memory.load_word(4), 0x8807_0605);
     }
     Ok(())
+}
+
+// What HFENCE.GVMA names: a page by rs1, which has the address shifted right by 2, and a VMID of 7 bits by
+// rs2; all where the operand is x0, but not where another register has 0 (Privileged Architecture, 8.3.2).
+#[test]
+fn fences_of_guests(rt: HostRuntime) {
+    let mut regs = Regs::starting_at(START);
+    regs.x[5] = 0x2000_0CFF; // 0x8000_33FC shifted right by 2
+    regs.x[6] = 0x83;
+    for (rs1, rs2, page, vmid) in [
+        (0, 0, None, None),
+        (5, 0, Some(0x8_0003), None),
+        (0, 6, None, Some(3)),
+        (5, 6, Some(0x8_0003), Some(3)),
+        (7, 7, Some(0), Some(0)),
+    ] {
+        let op = Op::HfenceGvma {
+            rs1: Reg::new(rs1),
+            rs2: Reg::new(rs2),
+        };
+        let effect = Effect::Privileged(Privileged::HfenceGvma(Fence { vmid, page }));
+        assert_eq!(rt; effect_of(&op, &regs), effect);
+    }
+}
+
+// HLV, HLVX and HSV have their address in rs1 and no offset (Privileged Architecture, 8.3.1).
+#[test]
+fn accesses_of_guests(rt: HostRuntime) {
+    let mut regs = Regs::starting_at(START);
+    regs.x[5] = 0x1004;
+    regs.x[6] = 9;
+    let (rd, rs1, rs2) = (Reg::new(7), Reg::new(5), Reg::new(6));
+    let width = Width::Word;
+    for (op, access) in [
+        (
+            Op::GuestLoad {
+                width,
+                signed: true,
+                rd,
+                rs1,
+            },
+            GuestAccess::Loads {
+                address: 0x1004,
+                width,
+                signed: true,
+                rd,
+            },
+        ),
+        (
+            Op::GuestFetch { width, rd, rs1 },
+            GuestAccess::LoadsCode {
+                address: 0x1004,
+                width,
+                rd,
+            },
+        ),
+        (
+            Op::GuestStore { width, rs1, rs2 },
+            GuestAccess::Stores {
+                address: 0x1004,
+                width,
+                value: 9,
+            },
+        ),
+    ] {
+        let effect = Effect::Privileged(Privileged::GuestAccess(access));
+        assert_eq!(rt; effect_of(&op, &regs), effect);
+    }
 }

@@ -1,6 +1,6 @@
 // Loads, stores, reservations and atomic memory operations.
 
-use crate::test_programs::{HELD, Row, check};
+use crate::test_programs::{ROW, Row, START, check};
 use std::test::Fail;
 
 // Loads and stores.
@@ -21,9 +21,8 @@ static ACCESSES: [Row; 7] = [
             0x0074_0003, // lb x0, 7(x8)
             0x0010_0073, // ebreak
         ],
-        given: &[],
         taken: 11,
-        exit: (3, 0x8000_002C),
+        exit: (3, START + 0x2C),
         gives: &[
             (5, 16),
             (6, 0xFFFF_FFFF_FFFF_FFFE),
@@ -37,8 +36,7 @@ static ACCESSES: [Row; 7] = [
             (15, 0xFEDC_BA98_7654_3210),
             (0, 0),
         ],
-        held: 0xFEDC_BA98_7654_3210,
-        reserved: None,
+        ..ROW
     },
     Row {
         name: "stores by width",
@@ -57,7 +55,7 @@ static ACCESSES: [Row; 7] = [
         ],
         given: &[(5, 0x1122_3344_5566_7788)],
         taken: 10,
-        exit: (3, 0x8000_0028),
+        exit: (3, START + 0x28),
         gives: &[
             (6, 0xFEDC_BA98_7654_8810),
             (7, 0xFEDC_BA98_7788_8810),
@@ -67,7 +65,7 @@ static ACCESSES: [Row; 7] = [
             (12, 17),
         ],
         held: 0x5566_7788_7788_8810,
-        reserved: None,
+        ..ROW
     },
     Row {
         name: "a store of a doubleword over the held one",
@@ -77,10 +75,9 @@ static ACCESSES: [Row; 7] = [
         ],
         given: &[(5, 0x1122_3344_5566_7788)],
         taken: 1,
-        exit: (3, 0x8000_0004),
-        gives: &[],
+        exit: (3, START + 4),
         held: 0x1122_3344_5566_7788,
-        reserved: None,
+        ..ROW
     },
     Row {
         name: "offsets below the register",
@@ -90,12 +87,12 @@ static ACCESSES: [Row; 7] = [
             0xFE04_8C23, // sb x0, -8(x9)
             0x0010_0073, // ebreak
         ],
-        given: &[(9, 0x8000_1008)],
+        given: &[(9, START + 0x1008)],
         taken: 3,
-        exit: (3, 0x8000_000C),
+        exit: (3, START + 0xC),
         gives: &[(5, 0x7654_3210), (6, 0xFFFF_FFFF_FEDC_BA98)],
         held: 0xFEDC_BA98_7654_3200,
-        reserved: None,
+        ..ROW
     },
     Row {
         name: "the last bytes of memory",
@@ -104,12 +101,11 @@ static ACCESSES: [Row; 7] = [
             0xFFF4_C303, // lbu x6, -1(x9)
             0x0010_0073, // ebreak
         ],
-        given: &[(5, 0x1122_3344_5566_7788), (9, 0x8000_2000)],
+        given: &[(5, 0x1122_3344_5566_7788), (9, START + 0x2000)],
         taken: 2,
-        exit: (3, 0x8000_0008),
+        exit: (3, START + 8),
         gives: &[(6, 17)],
-        held: 0xFEDC_BA98_7654_3210,
-        reserved: None,
+        ..ROW
     },
     Row {
         name: "a load into its own base register",
@@ -117,12 +113,10 @@ static ACCESSES: [Row; 7] = [
             0x0004_3403, // ld x8, 0(x8)
             0x0010_0073, // ebreak
         ],
-        given: &[],
         taken: 1,
-        exit: (3, 0x8000_0004),
+        exit: (3, START + 4),
         gives: &[(8, 0xFEDC_BA98_7654_3210)],
-        held: 0xFEDC_BA98_7654_3210,
-        reserved: None,
+        ..ROW
     },
     Row {
         name: "FENCE and FENCE.I go on",
@@ -132,12 +126,10 @@ static ACCESSES: [Row; 7] = [
             0x0010_0293, // addi x5, x0, 1
             0x0010_0073, // ebreak
         ],
-        given: &[],
         taken: 3,
-        exit: (3, 0x8000_000C),
+        exit: (3, START + 0xC),
         gives: &[(5, 1), (0, 0)],
-        held: 0xFEDC_BA98_7654_3210,
-        reserved: None,
+        ..ROW
     },
 ];
 
@@ -153,10 +145,10 @@ static RESERVATIONS: [Row; 15] = [
         ],
         given: &[(6, 9), (7, 0xDEAD_BEEF_1122_3344), (9, 9), (10, 5)],
         taken: 3,
-        exit: (3, 0x8000_000C),
+        exit: (3, START + 0xC),
         gives: &[(5, 0x7654_3210), (6, 0), (9, 1)],
         held: 0xFEDC_BA98_1122_3344,
-        reserved: None,
+        ..ROW
     },
     Row {
         name: "SC.D after LR.W fails and ends the reservation",
@@ -168,10 +160,9 @@ static RESERVATIONS: [Row; 15] = [
         ],
         given: &[(6, 9), (7, 0x1122_3344_5566_7788), (9, 9)],
         taken: 3,
-        exit: (3, 0x8000_000C),
+        exit: (3, START + 0xC),
         gives: &[(5, 0x7654_3210), (6, 1), (9, 1)],
-        held: 0xFEDC_BA98_7654_3210,
-        reserved: None,
+        ..ROW
     },
     Row {
         name: "SC.W after LR.D fails",
@@ -182,10 +173,9 @@ static RESERVATIONS: [Row; 15] = [
         ],
         given: &[(6, 9), (7, 0x1122_3344_5566_7788)],
         taken: 2,
-        exit: (3, 0x8000_0008),
+        exit: (3, START + 8),
         gives: &[(5, 0xFEDC_BA98_7654_3210), (6, 1)],
-        held: 0xFEDC_BA98_7654_3210,
-        reserved: None,
+        ..ROW
     },
     Row {
         name: "SC without LR",
@@ -196,10 +186,9 @@ static RESERVATIONS: [Row; 15] = [
         ],
         given: &[(6, 9), (7, 0x1122_3344_5566_7788), (9, 9)],
         taken: 2,
-        exit: (3, 0x8000_0008),
+        exit: (3, START + 8),
         gives: &[(6, 1), (9, 1)],
-        held: 0xFEDC_BA98_7654_3210,
-        reserved: None,
+        ..ROW
     },
     Row {
         name: "a store between LR and SC leaves the reservation",
@@ -213,7 +202,7 @@ static RESERVATIONS: [Row; 15] = [
         ],
         given: &[(6, 9), (7, 0x1122_3344_5566_7788), (9, 77)],
         taken: 5,
-        exit: (3, 0x8000_0014),
+        exit: (3, START + 0x14),
         gives: &[
             (5, 0xFEDC_BA98_7654_3210),
             (10, 0x1122_3344_5566_7788),
@@ -221,7 +210,7 @@ static RESERVATIONS: [Row; 15] = [
             (6, 0),
         ],
         held: 77,
-        reserved: None,
+        ..ROW
     },
     Row {
         name: "SC at another place fails",
@@ -234,14 +223,13 @@ static RESERVATIONS: [Row; 15] = [
         given: &[
             (6, 9),
             (7, 0x1122_3344_5566_7788),
-            (9, 0x8000_1004),
+            (9, START + 0x1004),
             (10, 9),
         ],
         taken: 3,
-        exit: (3, 0x8000_000C),
+        exit: (3, START + 0xC),
         gives: &[(6, 1), (10, 1)],
-        held: 0xFEDC_BA98_7654_3210,
-        reserved: None,
+        ..ROW
     },
     Row {
         name: "LR.W extends the sign, and reserves",
@@ -249,12 +237,12 @@ static RESERVATIONS: [Row; 15] = [
             0x1004_A2AF, // lr.w x5, (x9)
             0x0010_0073, // ebreak
         ],
-        given: &[(9, 0x8000_1004)],
+        given: &[(9, START + 0x1004)],
         taken: 1,
-        exit: (3, 0x8000_0004),
+        exit: (3, START + 4),
         gives: &[(5, 0xFFFF_FFFF_FEDC_BA98)],
-        held: 0xFEDC_BA98_7654_3210,
-        reserved: Some((0x8000_1004, 4)),
+        reserved: Some((START + 0x1004, 4)),
+        ..ROW
     },
     Row {
         name: "a second LR takes the place of the first",
@@ -263,12 +251,12 @@ static RESERVATIONS: [Row; 15] = [
             0x1004_B32F, // lr.d x6, (x9)
             0x0010_0073, // ebreak
         ],
-        given: &[(9, 0x8000_1008)],
+        given: &[(9, START + 0x1008)],
         taken: 2,
-        exit: (3, 0x8000_0008),
+        exit: (3, START + 8),
         gives: &[(6, 0)],
-        held: 0xFEDC_BA98_7654_3210,
-        reserved: Some((0x8000_1008, 8)),
+        reserved: Some((START + 0x1008, 8)),
+        ..ROW
     },
     Row {
         name: "LR into x0 reserves too",
@@ -276,12 +264,11 @@ static RESERVATIONS: [Row; 15] = [
             0x1004_302F, // lr.d x0, (x8)
             0x0010_0073, // ebreak
         ],
-        given: &[],
         taken: 1,
-        exit: (3, 0x8000_0004),
+        exit: (3, START + 4),
         gives: &[(0, 0)],
-        held: 0xFEDC_BA98_7654_3210,
-        reserved: Some((0x8000_1000, 8)),
+        reserved: Some((START + 0x1000, 8)),
+        ..ROW
     },
     Row {
         name: "SC into x0, made and not made",
@@ -293,10 +280,10 @@ static RESERVATIONS: [Row; 15] = [
         ],
         given: &[(7, 0x1122_3344_5566_7788), (9, 5)],
         taken: 3,
-        exit: (3, 0x8000_000C),
+        exit: (3, START + 0xC),
         gives: &[(0, 0)],
         held: 0x1122_3344_5566_7788,
-        reserved: None,
+        ..ROW
     },
     Row {
         name: "SC into the register that it stores",
@@ -306,12 +293,12 @@ static RESERVATIONS: [Row; 15] = [
             0x1874_33AF, // sc.d x7, x7, (x8)
             0x0010_0073, // ebreak
         ],
-        given: &[(7, 0x1122_3344_5566_7788), (9, 0x8000_1000)],
+        given: &[(7, 0x1122_3344_5566_7788), (9, START + 0x1000)],
         taken: 3,
-        exit: (3, 0x8000_000C),
+        exit: (3, START + 0xC),
         gives: &[(7, 0)],
         held: 0x1122_3344_5566_7788,
-        reserved: None,
+        ..ROW
     },
     Row {
         name: "an SC that traps keeps the reservation",
@@ -319,12 +306,12 @@ static RESERVATIONS: [Row; 15] = [
             0x1004_22AF, // lr.w x5, (x8)
             0x1874_A32F, // sc.w x6, x7, (x9)
         ],
-        given: &[(6, 9), (9, 0x8000_1002)],
+        given: &[(6, 9), (9, START + 0x1002)],
         taken: 1,
-        exit: (6, 0x8000_1002),
+        exit: (6, START + 0x1002),
         gives: &[(6, 9)],
-        held: 0xFEDC_BA98_7654_3210,
-        reserved: Some((0x8000_1000, 4)),
+        reserved: Some((START + 0x1000, 4)),
+        ..ROW
     },
     Row {
         name: "an SC outside memory keeps the reservation",
@@ -332,12 +319,12 @@ static RESERVATIONS: [Row; 15] = [
             0x1004_32AF, // lr.d x5, (x8)
             0x1874_B32F, // sc.d x6, x7, (x9)
         ],
-        given: &[(6, 9), (9, 0x8000_2000)],
+        given: &[(6, 9), (9, START + 0x2000)],
         taken: 1,
-        exit: (7, 0x8000_2000),
+        exit: (7, START + 0x2000),
         gives: &[(6, 9)],
-        held: 0xFEDC_BA98_7654_3210,
-        reserved: Some((0x8000_1000, 8)),
+        reserved: Some((START + 0x1000, 8)),
+        ..ROW
     },
     Row {
         name: "reservations apart, with LR",
@@ -352,9 +339,8 @@ static RESERVATIONS: [Row; 15] = [
         given: &[(10, 9)],
         taken: 5,
         exit: (10, 0),
-        gives: &[(5, 0x8000_0000), (6, 0x0297), (10, 48), (17, 1)],
-        held: 0xFEDC_BA98_7654_3210,
-        reserved: None,
+        gives: &[(5, START), (6, 0x0297), (10, 48), (17, 1)],
+        ..ROW
     },
     Row {
         name: "reservations apart, without LR",
@@ -368,9 +354,8 @@ static RESERVATIONS: [Row; 15] = [
         given: &[(10, 9)],
         taken: 4,
         exit: (10, 0),
-        gives: &[(5, 0x8000_0000), (10, 49), (17, 1)],
-        held: 0xFEDC_BA98_7654_3210,
-        reserved: None,
+        gives: &[(5, START), (10, 49), (17, 1)],
+        ..ROW
     },
 ];
 
@@ -383,12 +368,12 @@ static ATOMICS: [Row; 9] = [
             0x0064_A3AF, // amoadd.w x7, x6, (x9)
             0x0010_0073, // ebreak
         ],
-        given: &[(6, 0xDEAD_BEEF_0000_0001), (9, 0x8000_1004)],
+        given: &[(6, 0xDEAD_BEEF_0000_0001), (9, START + 0x1004)],
         taken: 2,
-        exit: (3, 0x8000_0008),
+        exit: (3, START + 8),
         gives: &[(5, 0x7654_3210), (7, 0xFFFF_FFFF_FEDC_BA98)],
         held: 0xFEDC_BA99_7654_3211,
-        reserved: None,
+        ..ROW
     },
     Row {
         name: "AMOADD.W wraps in its word",
@@ -398,10 +383,10 @@ static ATOMICS: [Row; 9] = [
         ],
         given: &[(6, 0x89AB_CDF0)],
         taken: 1,
-        exit: (3, 0x8000_0004),
+        exit: (3, START + 4),
         gives: &[(5, 0x7654_3210)],
         held: 0xFEDC_BA98_0000_0000,
-        reserved: None,
+        ..ROW
     },
     Row {
         name: "AMOMIN.W and AMOMAX.W are signed",
@@ -411,16 +396,16 @@ static ATOMICS: [Row; 9] = [
             0x0044_2503, // lw x10, 4(x8)
             0x0010_0073, // ebreak
         ],
-        given: &[(6, 0xDEAD_BEEF_0000_0001), (9, 0x8000_1004)],
+        given: &[(6, 0xDEAD_BEEF_0000_0001), (9, START + 0x1004)],
         taken: 3,
-        exit: (3, 0x8000_000C),
+        exit: (3, START + 0xC),
         gives: &[
             (5, 0xFFFF_FFFF_FEDC_BA98),
             (7, 0xFFFF_FFFF_FEDC_BA98),
             (10, 1),
         ],
         held: 0x0001_7654_3210,
-        reserved: None,
+        ..ROW
     },
     Row {
         name: "AMOMAXU.W and AMOMINU.W are not",
@@ -430,16 +415,16 @@ static ATOMICS: [Row; 9] = [
             0x0044_2503, // lw x10, 4(x8)
             0x0010_0073, // ebreak
         ],
-        given: &[(6, 0xDEAD_BEEF_0000_0001), (9, 0x8000_1004)],
+        given: &[(6, 0xDEAD_BEEF_0000_0001), (9, START + 0x1004)],
         taken: 3,
-        exit: (3, 0x8000_000C),
+        exit: (3, START + 0xC),
         gives: &[
             (5, 0xFFFF_FFFF_FEDC_BA98),
             (7, 0xFFFF_FFFF_FEDC_BA98),
             (10, 1),
         ],
         held: 0x0001_7654_3210,
-        reserved: None,
+        ..ROW
     },
     Row {
         name: "AMOMIN.D and AMOMAX.D",
@@ -450,10 +435,10 @@ static ATOMICS: [Row; 9] = [
         ],
         given: &[(6, 1)],
         taken: 2,
-        exit: (3, 0x8000_0008),
+        exit: (3, START + 8),
         gives: &[(5, 0xFEDC_BA98_7654_3210), (7, 0xFEDC_BA98_7654_3210)],
         held: 1,
-        reserved: None,
+        ..ROW
     },
     Row {
         name: "AMOMAXU.D and AMOMINU.D",
@@ -464,10 +449,10 @@ static ATOMICS: [Row; 9] = [
         ],
         given: &[(6, 1)],
         taken: 2,
-        exit: (3, 0x8000_0008),
+        exit: (3, START + 8),
         gives: &[(5, 0xFEDC_BA98_7654_3210), (7, 0xFEDC_BA98_7654_3210)],
         held: 1,
-        reserved: None,
+        ..ROW
     },
     Row {
         name: "AMOXOR.D, AMOAND.D and AMOOR.D",
@@ -483,14 +468,14 @@ static ATOMICS: [Row; 9] = [
             (11, 0x8000_0000_0000_0000),
         ],
         taken: 3,
-        exit: (3, 0x8000_000C),
+        exit: (3, START + 0xC),
         gives: &[
             (5, 0xFEDC_BA98_7654_3210),
             (7, 0x0123_4567_89AB_CDEF),
             (10, 0x00EF),
         ],
         held: 0x8000_0000_0000_00EF,
-        reserved: None,
+        ..ROW
     },
     Row {
         name: "AMOSWAP into x0 stores too",
@@ -500,10 +485,10 @@ static ATOMICS: [Row; 9] = [
         ],
         given: &[(6, 0x1122_3344_5566_7788)],
         taken: 1,
-        exit: (3, 0x8000_0004),
+        exit: (3, START + 4),
         gives: &[(0, 0)],
         held: 0x1122_3344_5566_7788,
-        reserved: None,
+        ..ROW
     },
     Row {
         name: "AMOADD into its operand, and AMOSWAP into its address",
@@ -514,10 +499,9 @@ static ATOMICS: [Row; 9] = [
         ],
         given: &[(6, 1)],
         taken: 2,
-        exit: (3, 0x8000_0008),
+        exit: (3, START + 8),
         gives: &[(6, 0xFEDC_BA98_7654_3210), (8, 0x7654_3211)],
-        held: 0xFEDC_BA98_7654_3210,
-        reserved: None,
+        ..ROW
     },
 ];
 

@@ -3,7 +3,7 @@
 // the format of 4.4.1: the physical page number from bit 10 on, D A G U X W R V in bits 7 to 0.
 
 use crate::test_programs::{DATA, HELD, doubleword, put, trap};
-use crate::{Hart, MACHINE_BASE, PhysMem, Stop, Tally, Why};
+use crate::{Hart, PhysMem, Stop, Tally, Why};
 use arch_defs::{Mode, SupervisorRoot, Virtual};
 use std::alloc::{AllocError, Global};
 use std::process::Abort;
@@ -12,13 +12,15 @@ use std::test::Fail;
 // Memory is of eight frames: code, data, the root, a table of level 1, one of level 0, and three of data.
 const FRAMES: u64 = 8;
 
-const ROOT: u64 = 0x8_0002;
+const ROOT: u64 = 2;
 
 // The code's own addresses are mapped by a leaf of 1 GiB in entry 2 of the root.
+const CODE: u64 = 0x8000_0000;
+
 const CODE_ENTRY: u64 = 0x2010;
 
-// Index 5 at level 2, 6 at level 1 and 7 at level 0: the places of its entries, and the pointers to the tables
-// of levels 1 and 0.
+// Index 5 at level 2, 6 at level 1 and 7 at level 0: the places of its entries, and the pointers to the
+// tables of levels 1 and 0.
 const ADDRESS: u64 = 0x1_40C0_7000;
 
 const TOP: u64 = 0x2028;
@@ -27,14 +29,14 @@ const MIDDLE: u64 = 0x3030;
 
 const LOW: u64 = 0x4038;
 
-const TO_LEVEL_1: u64 = 0x2000_0C01;
+const TO_LEVEL_1: u64 = 0x0C01;
 
-const TO_LEVEL_0: u64 = 0x2000_1001;
+const TO_LEVEL_0: u64 = 0x1001;
 
 // The frame of a 4 KiB leaf for the data, and of leaves of 2 MiB and 1 GiB, which begin with machine memory.
-const SMALL: u64 = 0x2000_0400;
+const SMALL: u64 = 0x0400;
 
-const LARGE: u64 = 0x2000_0000;
+const LARGE: u64 = 0;
 
 const LOAD: u32 = 0x0004_B283; // ld x5, 0(x9)
 
@@ -69,7 +71,7 @@ const ACCESS_FAULTS: Ends = (5, 7, 1);
 // A hart at one instruction with x9 as its address, and memory with the tables that these entries make.
 fn hart_for(accessor: Accessor, address: u64) -> Hart {
     let (mode, sum, mxr, hs_mxr) = accessor;
-    let mut state = Virtual::starting_at(mode, MACHINE_BASE);
+    let mut state = Virtual::starting_at(mode, CODE);
     state.csrs.vs.atp = SupervisorRoot::Sv39 {
         asid: 3,
         page: ROOT,
@@ -132,7 +134,7 @@ fn check_one(
     } else if is_jump {
         Why::Exit(trap(3, target))
     } else {
-        Why::Exit(trap(3, MACHINE_BASE + 4))
+        Why::Exit(trap(3, CODE + 4))
     };
     let taken = if cause == 0 || is_jump { 1 } else { 0 };
     assert_eq!(rt; stop, Stop { taken, why }, "{name}");
@@ -188,7 +190,7 @@ static LEAVES: [(&'static str, Accessor, u64, Ends); 23] = [
     (
         "a frame of the last bits",
         SUPERVISOR,
-        0x003F_FFFF_DFFF_F800 + 0xCF,
+        0x003F_FFFF_FFFF_F800 + 0xCF,
         ACCESS_FAULTS,
     ),
 ];
@@ -206,8 +208,8 @@ fn small_pages(rt: HostRuntime) -> Result<(), Fail> {
     Ok(())
 }
 
-// Other walks: the name, the entries, the address, and what the accesses end in. The offset in a page of 2 MiB
-// or of 1 GiB is 7000; entry 256 of the root is that of the lowest address with bit 38.
+// Other walks: the name, the entries, the address, and what the accesses end in. The offset in a page of 2
+// MiB or of 1 GiB is 7000; entry 256 of the root is that of the lowest address with bit 38.
 static WALKS: [(&'static str, &'static [(u64, u64)], u64, Ends); 14] = [
     (
         "2 MiB",
@@ -255,13 +257,13 @@ static WALKS: [(&'static str, &'static [(u64, u64)], u64, Ends); 14] = [
     ),
     (
         "a table past memory",
-        &[(TOP, 0x2000_2001)],
+        &[(TOP, 0x2001)],
         ADDRESS,
         ACCESS_FAULTS,
     ),
     (
-        "a table below memory",
-        &[(TOP, TO_LEVEL_1), (MIDDLE, 0x0001)],
+        "a table of the last bits",
+        &[(TOP, TO_LEVEL_1), (MIDDLE, 0x003F_FFFF_FFFF_FC01)],
         ADDRESS,
         ACCESS_FAULTS,
     ),
@@ -330,11 +332,12 @@ fn places_are_physical(rt: HostRuntime) -> Result<(), Fail> {
     Ok(())
 }
 
-// Page faults that hedeleg has, of a load in VS and of a fetch in VU after the jump: vsepc, vscause and vstval.
+// Page faults that hedeleg has, of a load in VS and of a fetch in VU after the jump: vsepc, vscause and
+// vstval.
 #[test]
 fn delegated_page_faults(rt: HostRuntime) -> Result<(), Fail> {
     for (accessor, code, limit, epc, cause, tval) in [
-        (SUPERVISOR, LOAD, 1, MACHINE_BASE, 13, ADDRESS),
+        (SUPERVISOR, LOAD, 1, CODE, 13, ADDRESS),
         (USER, JUMP, 2, 0x1_40C0_7008, 12, 0x1_40C0_7008),
     ] {
         let (mode, _, _, _) = accessor;

@@ -3,12 +3,12 @@
 
 ghost use Rattle.std.specs.Prelude.{◌≤◌};
 
-use crate::test_programs::{loaded, put, trap};
-use crate::{Hart, HartState, MACHINE_BASE, PhysMem, Stop, Tally, Why};
+use crate::test_programs::{START, loaded, put, trap};
+use crate::{Hart, HartState, PhysMem, Stop, Tally, Why};
 use arch_defs::{Interrupts, Mode, SupervisorStatus, Trap, Virtual};
 use std::test::Fail;
 
-const HANDLER: u64 = MACHINE_BASE + 0x100;
+const HANDLER: u64 = START + 0x100;
 
 const ADDI: u32 = 0x0012_8293; // addi x5, x5, 1
 
@@ -24,10 +24,13 @@ const TIMER: Interrupts = Interrupts {
     external: false,
 };
 
-// A state at the start of memory, with vstvec at the handler and all registers of VS else zero.
+// A state at the start of memory, with vstvec, vsepc and vstval at the handler, and all registers of VS else
+// zero.
 fn state_in(mode: Mode) -> HartState {
-    let mut state = Virtual::starting_at(mode, MACHINE_BASE);
+    let mut state = Virtual::starting_at(mode, START);
     state.csrs.vs.tvec = HANDLER;
+    state.csrs.vs.epc = HANDLER;
+    state.csrs.vs.tval = HANDLER;
     state.regs.x[5] = 5;
     state.regs.x[6] = 6;
     state
@@ -69,7 +72,7 @@ fn delegated_exceptions(rt: HostRuntime) -> Result<(), Fail> {
         (LOAD, 0x0020, Mode::VU, false, 5, 0x9000_0000),
         (0x0014_A283, 0x0010, Mode::VS, false, 4, 0x9000_0001), // lw x5, 1(x9)
         (ECALL, 0x0100, Mode::VU, true, 8, 0),
-        (EBREAK, 0x0008, Mode::VS, true, 3, MACHINE_BASE),
+        (EBREAK, 0x0008, Mode::VS, true, 3, START),
         (0x0000_0000, 0x0004, Mode::VU, true, 2, 0),
     ] {
         let mut memory = loaded(rt.alloc(), 2, &[code])?;
@@ -81,7 +84,7 @@ fn delegated_exceptions(rt: HostRuntime) -> Result<(), Fail> {
         let why = Why::Limit;
         assert_eq!(rt; stop, Stop { taken: 1, why }, "{cause}");
         let vs = after.csrs.vs;
-        assert_eq!(rt; (vs.epc, vs.cause, vs.tval), (MACHINE_BASE, cause, tval));
+        assert_eq!(rt; (vs.epc, vs.cause, vs.tval), (START, cause, tval));
         assert_eq!(rt; vs.status, status(false, sie, mode == Mode::VS));
         assert_eq!(rt; (after.mode, after.regs.pc), (Mode::VS, HANDLER));
         assert_eq!(rt; after.regs.x, state.regs.x);
@@ -119,11 +122,11 @@ fn exceptions_to_hs(rt: HostRuntime) -> Result<(), Fail> {
 #[test]
 fn watched_runs_end_in_vs(rt: HostRuntime) -> Result<(), Fail> {
     for (watch, limit, taken, why, pc, trace) in [
-        (true, 10, 3, Why::VsTrap, HANDLER, 0x1_0025_052A),
-        (true, 3, 3, Why::VsTrap, HANDLER, 0x1_0025_052A),
-        (true, 2, 2, Why::Limit, MACHINE_BASE + 8, 0x1_0025_052A),
-        (false, 3, 3, Why::Limit, HANDLER, 0x1_0025_052A),
-        (false, 4, 4, Why::Limit, HANDLER + 4, 0x1_8037_88BD),
+        (true, 10, 3, Why::VsTrap, HANDLER, 0x0025_052A),
+        (true, 3, 3, Why::VsTrap, HANDLER, 0x0025_052A),
+        (true, 2, 2, Why::Limit, START + 8, 0x0025_052A),
+        (false, 3, 3, Why::Limit, HANDLER, 0x0025_052A),
+        (false, 4, 4, Why::Limit, HANDLER + 4, 0x0037_88BD),
     ] {
         let mut memory = loaded(rt.alloc(), 2, &[ADDI, ADDI, ECALL])?;
         put(&mut memory, 0x100, 4, ADDI as u64);
@@ -140,8 +143,8 @@ fn watched_runs_end_in_vs(rt: HostRuntime) -> Result<(), Fail> {
     Ok(())
 }
 
-// A trap of the timer of VS, which is code 6 in hvip, hie and hideleg and 5 in vscause: at the base of vstvec,
-// or with its mode 1 at 4 times the code beyond it; before the instruction, which would trap.
+// A trap of the timer of VS, which is code 6 in hvip, hie and hideleg and 5 in vscause: at the base of
+// vstvec, or with its mode 1 at 4 times the code beyond it; before the instruction, which would trap.
 #[test]
 fn interrupts_to_vs(rt: HostRuntime) -> Result<(), Fail> {
     for (mode, sie, tvec, pc) in [
@@ -156,10 +159,7 @@ fn interrupts_to_vs(rt: HostRuntime) -> Result<(), Fail> {
         let why = Why::VsTrap;
         assert_eq!(rt; stop, Stop { taken: 1, why });
         let vs = after.csrs.vs;
-        assert_eq!(rt;
-            (vs.epc, vs.cause, vs.tval),
-            (MACHINE_BASE, (1 << 63) + 5, 0)
-        );
+        assert_eq!(rt; (vs.epc, vs.cause, vs.tval), (START, (1 << 63) + 5, 0));
         assert_eq!(rt; vs.status, status(false, sie, mode == Mode::VS));
         assert_eq!(rt; (after.mode, after.regs.pc), (Mode::VS, pc));
     }
@@ -236,8 +236,8 @@ fn registers_in_vs(rt: HostRuntime) -> Result<(), Fail> {
     Ok(())
 }
 
-// SRET in VS goes to the mode of vsstatus.SPP at vsepc, with SIE = SPIE, SPIE = 1 and SPP = 0; with VTSR it is
-// a virtual instruction.
+// SRET in VS goes to the mode of vsstatus.SPP at vsepc, with SIE = SPIE, SPIE = 1 and SPP = 0; with VTSR it
+// is a virtual instruction.
 #[test]
 fn returns_from_vs(rt: HostRuntime) -> Result<(), Fail> {
     for (spp, vtsr, mode) in [
@@ -265,7 +265,8 @@ fn returns_from_vs(rt: HostRuntime) -> Result<(), Fail> {
     Ok(())
 }
 
-// WFI, SFENCE.VMA and HFENCE.GVMA, by mode and by VTW and VTVM: made, or the code of the exception.
+// WFI, SFENCE.VMA, HFENCE.VVMA, HFENCE.GVMA and HLV.W, by mode and by VTW and VTVM: made, or the code of the
+// exception.
 #[test]
 fn waits_and_fences(rt: HostRuntime) -> Result<(), Fail> {
     for (code, mode, traps, cause) in [
@@ -275,7 +276,10 @@ fn waits_and_fences(rt: HostRuntime) -> Result<(), Fail> {
         (0x1200_0073, Mode::VS, false, 0),
         (0x1200_0073, Mode::VS, true, 22),
         (0x1200_0073, Mode::VU, false, 22),
+        (0x2200_0073, Mode::VS, false, 22),
         (0x6200_0073, Mode::VS, false, 22),
+        (0x6200_0073, Mode::VU, false, 22),
+        (0x6803_42F3, Mode::VS, false, 22),
     ] {
         let mut memory = loaded(rt.alloc(), 2, &[code])?;
         let mut state = state_in(mode);
@@ -285,7 +289,7 @@ fn waits_and_fences(rt: HostRuntime) -> Result<(), Fail> {
         if cause == 0 {
             let why = Why::Limit;
             assert_eq!(rt; stop, Stop { taken: 1, why });
-            assert_eq!(rt; after.regs.pc, MACHINE_BASE + 4);
+            assert_eq!(rt; after.regs.pc, START + 4);
         } else {
             let why = Why::Exit(trap(cause, code as u64));
             assert_eq!(rt; stop, Stop { taken: 0, why });

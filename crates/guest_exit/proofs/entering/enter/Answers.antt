@@ -1,28 +1,49 @@
-use Rattle.std.proofs.Common.{ap, refl}
-use Rattle.machine_defs.specs.Machine.{Machine}
+use Rattle.std.proofs.Common.{ap, sym, subst}
+use Rattle.arch_defs.specs.Ram.{ram_of}
+use Rattle.rv64_hart.specs.Steps.{is_vs_trap, progress}
+use Rattle.guest_exit.specs.Entering.{IsStopped}
 use Rattle.guest_exit.specs.View.{machine_of}
+use Rattle.guest_exit.proofs.Entries.{ran, stopped}
+use Rattle.guest_exit.proofs.Placed.{placed_after}
 use Rattle.guest_exit.proofs.entering.enter.Goals as goal
 
-pub returns-in-Limit-clause-step : goal.returns-in-Limit-clause-step
-returns-in-Limit-clause-step c =
-    c.run_once-stop.ensures.step (machine_of c.args.guest.now c.args.memory.now) refl refl c.requires.built c.requires.own
+pub returns-clause-run : goal.returns-clause-run
+returns-clause-run c =
+    let part = c.args.guest.now.part in
+    let m = machine_of c.args.guest.now c.args.memory.now in
+    let q = progress c.run-stop.new.self.state c.run-stop.new.memory c.run-stop.new.tally.trace (is_vs_trap c.run-stop.result.why) in
+    let is = ran part m c.args.memory.now c.args.limit c.args.tally.now.trace c.requires.running c.requires.lasts c.requires.placed c.run-stop.result.taken c.run-stop.ensures.within q
+    (rw c.load.ensures at c.run-stop.ensures.steps) in
+    let given = (rw (c.is_vs_trap.ensures, c.state.ensures) at c.take_steps.ensures.platform) is.own is.held is.state in
+    let fixed = c.take_steps.ensures.fixed in
+    rw (is.machine, fixed.part, fixed.space_room, fixed.entry_room) (ap (λ p. record m { platform = p; ram = ram_of part.blocks c.run-stop.new.memory }) given)
 
-pub returns-in-Limit-clause-machine : goal.returns-in-Limit-clause-machine
-returns-in-Limit-clause-machine c =
-    rw c.in-Limit.is (ap {A = Machine} (λ m. record m { ram = c.run_once-stop.new.memory }) (rw (c.save.ensures, c.state.ensures) at c.tick.ensures.machine))
+pub returns-clause-trace : goal.returns-clause-trace
+returns-clause-trace c =
+    let m = machine_of c.args.guest.now c.args.memory.now in
+    let q = progress c.run-stop.new.self.state c.run-stop.new.memory c.run-stop.new.tally.trace (is_vs_trap c.run-stop.result.why) in
+    let is = ran c.args.guest.now.part m c.args.memory.now c.args.limit c.args.tally.now.trace c.requires.running c.requires.lasts c.requires.placed c.run-stop.result.taken c.run-stop.ensures.within q
+    (rw c.load.ensures at c.run-stop.ensures.steps) in
+    is.trace
 
-pub returns-in-VsTrap-clause-step : goal.returns-in-VsTrap-clause-step
-returns-in-VsTrap-clause-step c =
-    c.run_once-stop.ensures.step (machine_of c.args.guest.now c.args.memory.now) refl refl c.requires.built c.requires.own
+pub returns-clause-only : goal.returns-clause-only
+returns-clause-only c =
+    let m = machine_of c.args.guest.now c.args.memory.now in
+    let q = progress c.run-stop.new.self.state c.run-stop.new.memory c.run-stop.new.tally.trace (is_vs_trap c.run-stop.result.why) in
+    let is = ran c.args.guest.now.part m c.args.memory.now c.args.limit c.args.tally.now.trace c.requires.running c.requires.lasts c.requires.placed c.run-stop.result.taken c.run-stop.ensures.within q
+    (rw c.load.ensures at c.run-stop.ensures.steps) in
+    is.only
 
-pub returns-in-VsTrap-clause-machine : goal.returns-in-VsTrap-clause-machine
-returns-in-VsTrap-clause-machine c =
-    rw c.in-VsTrap.is (ap {A = Machine} (λ m. record m { ram = c.run_once-stop.new.memory })
-    (rw (c.fix_up.ensures, c.save-in-VsTrap.ensures, c.state-in-VsTrap.ensures) at c.tick-in-VsTrap.ensures.machine))
+pub returns-clause-why : goal.returns-clause-why
+returns-clause-why c =
+    let part = c.args.guest.now.part in
+    let m = machine_of c.args.guest.now c.args.memory.now in
+    let why = c.run-stop.result.why in
+    let is = stopped part m c.args.memory.now c.args.limit c.args.tally.now.trace c.run-stop.new.self.state c.run-stop.new.memory c.run-stop.new.tally.trace c.run-stop.result.taken why
+    c.requires.running c.requires.lasts c.requires.placed c.run-stop.ensures.within (rw c.load.ensures at c.run-stop.ensures.steps) c.run-stop.ensures.why in
+    subst (λ m. IsStopped part m c.run-stop.new.memory c.args.limit c.run-stop.result.taken why) (sym (returns-clause-run c)) is
 
-pub returns-in-Exit-clause-step : goal.returns-in-Exit-clause-step
-returns-in-Exit-clause-step c =
-    c.run_once-stop.ensures.step (machine_of c.args.guest.now c.args.memory.now) refl refl c.requires.built c.requires.own
-
-pub returns-in-Exit-clause-machine : goal.returns-in-Exit-clause-machine
-returns-in-Exit-clause-machine c = rw c.in-Exit.is refl
+pub returns-clause-placed : goal.returns-clause-placed
+returns-clause-placed c =
+    placed_after c.args.guest.now c.take_steps.new.self c.args.memory.now c.run-stop.new.memory c.run-stop.result.taken
+    c.requires.placed c.take_steps.ensures.fixed (returns-clause-only c) (returns-clause-run c)

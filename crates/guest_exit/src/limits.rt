@@ -1,0 +1,62 @@
+// How long one entry of the hart may last.
+
+ghost use Rattle.std.specs.Prelude.{◌≡◌, ◌≤◌, ◌&&◌, ℕ, false, true, nat_le, if◌then◌else◌};
+ghost use Rattle.machine_defs.specs.Machine.{informed, is_outside};
+ghost use Rattle.guest_exit.specs.Entering.{Lasts, Stays};
+ghost use Rattle.guest_exit.specs.Following.{host_may_take, host_takes};
+ghost use Rattle.guest_exit.specs.View.{seen};
+
+use crate::guests::Guest;
+use arch_defs::Csrs;
+
+/// The largest limit, of at most so many steps, at which nothing that the hart does not have for the guest
+/// changes before the last step begins: 1 where an interrupt of VS waits that the host has to take, and else
+/// up to the timer or the first unread input, where that is ahead of the clock.
+pub fn limit(guest: &Guest, most: u64) -> u64
+    requires inside { is_outside (seen guest.now) ≡ false }
+    requires current { informed (seen guest.now) ≡ seen guest.now }
+    requires own { host_takes guest.now.virt ≡ false }
+    requires some { 1 ≤ most }
+    ensures lasts { Lasts (seen guest.now) result }
+    ensures some { 1 ≤ result }
+    ensures most { result ≤ most }
+    ensures largest { (n : ℕ) → n ≤ most → Lasts (seen guest.now) n → n ≤ result }
+{
+    if host_may_take(&guest.virt.csrs) {
+        return 1;
+    }
+    let before_timer = steps_before(guest.timer, guest.clock, most);
+    guest.console.steps_before_input(guest.clock, before_timer)
+}
+
+/// How many of at most so many steps begin before this moment, where it is ahead of the clock.
+pub(crate) fn steps_before(moment: u64, clock: u64, most: u64) -> u64
+    ensures stays { Stays (nat_le moment) clock result }
+    ensures some { 1 ≤ most → 1 ≤ result }
+    ensures most { result ≤ most }
+    ensures largest { (n : ℕ) → n ≤ most → Stays (nat_le moment) clock n → n ≤ result }
+{
+    if clock < moment && moment - clock < most {
+        moment - clock
+    } else {
+        most
+    }
+}
+
+// Whether an interrupt of VS is pending, enabled and not delegated.
+fn host_may_take(csrs: &Csrs) -> bool
+    ensures { result ≡ host_may_take csrs.now }
+{
+    let pending = csrs.hvip;
+    let enabled = csrs.hie;
+    let delegated = csrs.hideleg;
+    is_left(pending.external, enabled.external, delegated.external)
+        || is_left(pending.software, enabled.software, delegated.software)
+        || is_left(pending.timer, enabled.timer, delegated.timer)
+}
+
+fn is_left(pending: bool, enabled: bool, delegated: bool) -> bool
+    ensures { result ≡ (pending && enabled && (if delegated then false else true)) }
+{
+    pending && enabled && !delegated
+}

@@ -1,0 +1,10 @@
+// The world switch: what the hart has for a guest, and what the guest has after the hart has run.
+#![tactic(auto)]
+
+mod laws;
+mod switching;
+#[cfg(test)]
+mod tests;
+
+pub use laws::{accesses_alike, load_and_save, traps_alike};
+pub use switching::{fix_up, load, save, take_back};

@@ -1,0 +1,184 @@
+// Values worked out from the Privileged Architecture 20211203, 8.2 and 8.6, and places by hand: a block is
+// 2,097,152 bytes, 200000 in hexadecimal.
+
+ghost use Rattle.std.specs.Prelude.{◌≡◌, [], ◌∷◌, Some, true};
+ghost use Rattle.arch_defs.specs.Layouts.{names_each_once};
+ghost use Rattle.machine_defs.specs.HostPlaces.{in_ram};
+
+use crate::{fix_up, load, save, take_back};
+use arch_defs::{GuestRoot, Interrupts, Mode, Part, Virtual};
+
+const START: u64 = 0x8000_0000;
+
+const TIMER: Interrupts = Interrupts {
+    software: false,
+    timer: true,
+    external: false,
+};
+
+// A part with these blocks.
+fn part_of(blocks: &[u32], first_root: u32, first_table: u32) -> Part
+    requires { names_each_once (record {
+      blocks = blocks.now;
+      first_root = first_root;
+      first_table = first_table;
+      spaces = 0;
+      entries = 0;
+    }) ≡ true }
+    ensures { result.blocks ≡ blocks.now }
+{
+    Part::new(blocks, first_root, first_table, 0, 0)
+}
+
+// A part whose blocks are not in order.
+fn part() -> Part
+    ensures { result.blocks ≡ 5 ∷ 2 ∷ [] }
+{
+    part_of(&[5, 2], 8, 12)
+}
+
+// A guest in this mode whose registers differ from one another and from those at reset.
+fn guest(mode: Mode) -> Virtual
+    ensures { result.reservation ≡ Some (0x80000000, 4) }
+{
+    let mut virt = Virtual::starting_at(mode, START);
+    virt.regs.x[5] = 7;
+    virt.csrs.hs.tvec = 0x8000_0100;
+    virt.csrs.vs.tvec = 0x8000_0200;
+    virt.csrs.sie = TIMER;
+    virt.csrs.sip.software = true;
+    virt.csrs.scounteren_tm = true;
+    virt.csrs.hstatus.gva = true;
+    virt.csrs.hstatus.spv = true;
+    virt.csrs.hstatus.spvp = true;
+    virt.csrs.htval = 0x400;
+    virt.csrs.htinst = 0x3000;
+    virt.reservation = Some((START, 4));
+    virt
+}
+
+// The hart's VS is the guest's HS, and its VU the guest's U: each exception that V = 0 raises, and each
+// interrupt, is delegated to VS; WFI and SRET trap (8.2.1, 8.2.2).
+#[test]
+fn loaded(rt: HostRuntime) {
+    let part = part();
+    for (mode, hosted) in [(Mode::HS, Mode::VS), (Mode::U, Mode::VU)] {
+        let virt = guest(mode);
+        let hart = load(&virt, &part);
+        assert_eq!(rt; (hart.mode, hart.regs), (hosted, virt.regs));
+        assert_eq!(rt; hart.csrs.vs, virt.csrs.hs);
+        assert_eq!(rt;
+            (hart.csrs.hie, hart.csrs.hvip),
+            (virt.csrs.sie, virt.csrs.sip)
+        );
+        for code in [0, 1, 2, 3, 4, 5, 6, 7, 8, 12, 13, 15] {
+            assert!(rt; (hart.csrs.hedeleg >> code) & 1 == 1, "{code}");
+        }
+        for code in [9, 10, 20, 21, 22, 23] {
+            assert!(rt; (hart.csrs.hedeleg >> code) & 1 == 0, "{code}");
+        }
+        let all = hart.csrs.hideleg;
+        assert!(rt; all.software && all.timer && all.external);
+        assert!(rt; hart.csrs.hstatus.vtw && hart.csrs.hstatus.vtsr);
+        assert!(rt; !hart.csrs.hs.status.mxr && !hart.csrs.hcounteren_tm);
+    }
+}
+
+// The host table's root is that of the part: hgatp has MODE 8 (Sv39x4), VMID 0 and PPN 8 (8.2.10).
+#[test]
+fn under_the_host_table(rt: HostRuntime) {
+    let hart = load(&guest(Mode::HS), &part());
+    assert_eq!(rt; hart.csrs.hgatp, GuestRoot::Sv39x4 { vmid: 0, page: 8 });
+}
+
+// What the hart reserves for a guest that reserves eight bytes at this address, and what the guest has back.
+fn reserved_at(address: u64, part: &Part) -> (Option<(u64, u8)>, Option<(u64, u8)>)
+    requires { in_ram part.now.blocks address ≡ true }
+{
+    let mut virt = Virtual::starting_at(Mode::HS, START);
+    virt.reservation = Some((address, 8));
+    let hart = load(&virt, part);
+    let mut after = Virtual::starting_at(Mode::HS, START);
+    take_back(&hart, part, false, &mut after);
+    (hart.reservation, after.reservation)
+}
+
+// The first 200000 bytes of RAM are block 5, from A00000 on, and the next ones block 2, from 400000 on.
+#[test]
+fn reservations(rt: HostRuntime) {
+    let part = part();
+    assert_eq!(rt;
+        reserved_at(0x8000_0000, &part),
+        (Some((0x00A0_0000, 8)), Some((0x8000_0000, 8)))
+    );
+    assert_eq!(rt;
+        reserved_at(0x801F_FFF8, &part),
+        (Some((0x00BF_FFF8, 8)), Some((0x801F_FFF8, 8)))
+    );
+    assert_eq!(rt;
+        reserved_at(0x8020_1238, &part),
+        (Some((0x0040_1238, 8)), Some((0x8020_1238, 8)))
+    );
+    assert_eq!(rt;
+        reserved_at(0x803F_FFF8, &part),
+        (Some((0x005F_FFF8, 8)), Some((0x803F_FFF8, 8)))
+    );
+}
+
+// A guest without a reservation has none on the hart, and one that the hart has lost is lost.
+#[test]
+fn no_reservation(rt: HostRuntime) {
+    let part = part();
+    let virt = Virtual::starting_at(Mode::HS, START);
+    assert_eq!(rt; load(&virt, &part).reservation, None);
+    let mut virt = guest(Mode::HS);
+    let mut hart = load(&virt, &part);
+    hart.reservation = None;
+    take_back(&hart, &part, false, &mut virt);
+    assert_eq!(rt; virt.reservation, None);
+}
+
+// What was loaded and taken back is as it was. What is saved has the reservation of the hart.
+#[test]
+fn saved(rt: HostRuntime) {
+    let part = part();
+    for mode in [Mode::HS, Mode::U] {
+        let virt = guest(mode);
+        let hart = load(&virt, &part);
+        let mut after = virt;
+        take_back(&hart, &part, false, &mut after);
+        assert_eq!(rt; after, virt);
+        save(&hart, &mut after);
+        assert_eq!(rt; after.reservation, Some((0x00A0_0000, 4)));
+        after.reservation = virt.reservation;
+        assert_eq!(rt; after, virt);
+    }
+}
+
+// A trap from V = 0 into HS clears GVA, SPV, htval and htinst, and leaves SPVP (8.2.1, 8.2.8, 8.2.9).
+#[test]
+fn fixed_up(rt: HostRuntime) {
+    let mut virt = guest(Mode::HS);
+    fix_up(&mut virt);
+    let status = virt.csrs.hstatus;
+    assert_eq!(rt; (status.gva, status.spv, status.spvp), (false, false, true));
+    assert_eq!(rt; (virt.csrs.htval, virt.csrs.htinst), (0, 0));
+}
+
+// After a run whose last step was a trap into VS what is saved is fixed up too.
+#[test]
+fn taken_back(rt: HostRuntime) {
+    let part = part();
+    let virt = guest(Mode::U);
+    let mut hart = load(&virt, &part);
+    hart.mode = Mode::VS;
+    hart.csrs.vs.cause = 8;
+    for trapped in [false, true] {
+        let mut after = virt;
+        take_back(&hart, &part, trapped, &mut after);
+        assert_eq!(rt; (after.mode, after.csrs.hs.cause), (Mode::HS, 8));
+        assert_eq!(rt; after.csrs.hstatus.spv, !trapped);
+        assert_eq!(rt; after.csrs.htval, if trapped { 0 } else { 0x400 });
+        assert_eq!(rt; after.csrs.vs, virt.csrs.vs);
+    }
+}
