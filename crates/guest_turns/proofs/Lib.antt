@@ -1,2 +1,10 @@
+pub mod Accounts
+pub mod Among
+pub mod Current
+pub mod Placing
+pub mod Starting
 pub mod Steps
+pub mod TestGuests
+pub mod TurnLists
 pub mod Turns
+pub mod Updating

@@ -1,2 +1,5 @@
+pub mod Hosted
+pub mod Hosting
 pub mod Limits
+pub mod TurnLists
 pub mod View

@@ -1,11 +1,28 @@
 -- What a host can boot.
-use Rattle.std.specs.Prelude.{◌*◌, ◌≤◌, length}
-use Rattle.machine_defs.specs.declared.guests.GuestSpec.{GuestSpec}
+use Rattle.std.specs.Prelude.{ℕ, ◌*◌, ◌≤◌, List, length, map}
+use Rattle.arch_defs.specs.declared.needs.Need.{Need}
 use Rattle.arch_defs.specs.Memory.{block_size}
+use Rattle.frame_split.specs.Shares.{frames_of_all}
+use Rattle.machine_defs.specs.declared.guests.GuestSpec.{GuestSpec}
 
--- a guest whose blocks and console are within the limits, and whose image fits
+-- a guest that is within the limits, and whose image fits (own)
 pub record IsBootable (guest : GuestSpec) : Type 0 where
   pub some_block : 1 ≤ guest.blocks
   pub blocks : guest.blocks ≤ 32
+  pub some_space : 1 ≤ guest.spaces
+  pub spaces : guest.spaces ≤ 8
+  pub some_entries : 16 ≤ guest.entries
+  pub entries : guest.entries ≤ 256
   pub console : guest.console ≤ 1048576
   pub image : length guest.image ≤ guest.blocks * block_size
+
+-- what a guest needs of machine memory
+abbrev pub need_of : GuestSpec → Need
+need_of guest = record { blocks = guest.blocks; spaces = guest.spaces; entries = guest.entries }
+
+abbrev pub needs_of : List GuestSpec → List Need
+needs_of guests = map need_of guests
+
+-- the frames that all of them need
+abbrev pub frames_for : List GuestSpec → ℕ
+frames_for guests = frames_of_all (needs_of guests)

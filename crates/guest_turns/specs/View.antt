@@ -1,12 +1,16 @@
--- A host, as the lone machine of its guest.
-use Rattle.std.specs.Prelude.{◌+◌, ◌^◌, ◌≤◌}
-use Rattle.machine_defs.specs.Machine.{Machine}
-use Rattle.guest_exit.specs.View as guest
+-- A host, as the lone machines of its guests.
+use Rattle.std.specs.Prelude.{map}
+use Rattle.guest_exit.specs.View.{machine_of}
 use Rattle.guest_turns.specs.declared.hosts.Host.TheInside.{Inside}
+use Rattle.guest_turns.specs.Hosted.{Hosted}
+use Rattle.guest_turns.specs.Hosting.{AreHosted, parts_of}
 
-abbrev pub machine_of : Inside → Machine
-machine_of host = guest.machine_of host.guest host.memory
+abbrev pub hosted : Inside → Hosted
+hosted host = record {
+  machines = map (λ guest. machine_of guest host.memory) host.guests.items;
+  parts = parts_of host.guests.items;
+  memory = host.memory;
+}
 
--- the clock is bounded by the steps
 abbrev pub IsHost : Inside → Type 0
-IsHost host = host.guest.clock ≤ 2 ^ 62 + host.guest.steps
+IsHost host = AreHosted host.guests.items host.memory

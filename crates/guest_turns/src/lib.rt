@@ -1,8 +1,12 @@
-// The guests on the hart: a turn of steps for a guest, which are the steps of its lone machine.
+// The guests on the hart: turns of steps, which are the steps of their lone machines.
 #![tactic(auto)]
 
+mod booting;
 mod hosts;
+mod laws;
 #[cfg(test)]
 mod tests;
+mod turning;
 
-pub use hosts::{FRAMES_PER_BLOCK, Host};
+pub use hosts::Host;
+pub use laws::{turns_are_apart, turns_count_alike};

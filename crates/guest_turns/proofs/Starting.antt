@@ -1,0 +1,276 @@
+-- Guests at their start, in their parts of machine memory.
+use Rattle.std.proofs.Common.{◌≡◌, ◌≢◌, ℕ, ◌+◌, ◌*◌, ◌<◌, ◌≤◌, ◌^◌, ◌⊎◌, inl, inr, List, [], ◌∷◌, ◌++◌, None, length, get_or, map, refl, ap, sym, subst, ◌∙◌, arith}
+use Rattle.std.specs.List.{All}
+use Rattle.std.proofs.lemmas.Bool.{cases_eq}
+use Rattle.std.proofs.lemmas.List.{ext_get_or, get_or-map, get_or_append_left, get_or_default, get_or_push, length-map, length_push}
+use Rattle.arch_defs.specs.Frames.{LieIn, Only, Same, in_blocks}
+use Rattle.arch_defs.specs.Layouts.{Layout, NamesEachOnce, host_frames, in_tables, named_by}
+use Rattle.arch_defs.specs.Memory.{block_size, loaded, zeros}
+use Rattle.arch_defs.specs.Needs.{IsNeed}
+use Rattle.arch_defs.specs.Ram.{ram_of}
+use Rattle.arch_defs.proofs.FrameSets.{apart_within, kept, left_within, only_both, only_more, same_fewer}
+use Rattle.arch_defs.proofs.Images.{length_zeros}
+use Rattle.arch_defs.proofs.RamBlocks.{blocks_lie_in, ram_kept}
+use Rattle.arch_defs.proofs.Rooms.{first_lies}
+use Rattle.frame_split.specs.Shares.{AreNeeds, IsSplit}
+use Rattle.host_tables.specs.HostTable.{IsHostTable}
+use Rattle.host_tables.specs.Walks.{IsHeld}
+use Rattle.machine_defs.specs.declared.guests.GuestSpec.{GuestSpec}
+use Rattle.machine_defs.specs.HostPlaces.{in_ram}
+use Rattle.machine_defs.specs.Machine.{Machine, Platform, informed, start}
+use Rattle.machine_defs.specs.Renaming.{ReservesHeld}
+use Rattle.guest_exit.specs.declared.guests.Guest.{Guest}
+use Rattle.guest_exit.specs.Following.{IsAt}
+use Rattle.guest_exit.specs.View.{machine_of, seen}
+use Rattle.guest_turns.specs.Hosted.{no_machine, no_part}
+use Rattle.guest_turns.specs.Hosting.{AreAtStart, AreHosted, AreLaidOut, IsAtStart, IsHosted, parts_of}
+use Rattle.guest_turns.specs.Limits.{IsBootable, frames_for, need_of, needs_of}
+use Rattle.guest_turns.proofs.Among.{machines_of}
+use Rattle.guest_turns.proofs.Placing.{host_in_part, host_in_tables, part_ram_kept, table_kept}
+
+-- what bootable guests need is within the limits, and some frames are needed
+is_need : (guest : GuestSpec) → IsBootable guest → IsNeed (need_of guest)
+is_need guest is = record { blocks = is.blocks; spaces = is.spaces; entries = is.entries }
+
+pub are_needs : (guests : List GuestSpec) → All IsBootable guests → AreNeeds (needs_of guests)
+are_needs [] each i d h = absurd (omega arith)
+are_needs (guest ∷ guests) each i d h =
+    let inside : i < length (guest ∷ guests) = rw (length-map (guest ∷ guests) need_of) at h in
+    rw (get_or-map need_of (guest ∷ guests) i guest d inside) (is_need (get_or (guest ∷ guests) i guest) (each i guest inside))
+
+pub some_frames : (guests : List GuestSpec) → 1 ≤ length guests → 1 ≤ frames_for guests
+some_frames [] some = absurd (omega arith)
+some_frames (guest ∷ guests) some = omega arith
+
+-- a part for a guest, in memory of so many bytes
+pub record IsPartFor (guest : GuestSpec) (part : Layout) (size : ℕ) : Type 0 where
+  pub bootable : IsBootable guest
+  pub blocks : length part.blocks ≡ guest.blocks
+  pub once : NamesEachOnce part
+  pub lies : LieIn (named_by part) size
+
+pub part_for : (guests : List GuestSpec) (parts : List Layout) (frames i : ℕ) (guest : GuestSpec) (part : Layout) → All IsBootable guests
+    → IsSplit (needs_of guests) parts frames → i < length guests → guest ≡ get_or guests i guest → part ≡ get_or parts i part
+    → IsPartFor guest part (frames * 4096)
+part_for guests parts frames i guest part each split inside guest_is part_is = record {
+  bootable = subst IsBootable (sym guest_is) (each i guest inside);
+  blocks = ap (λ part. length part.blocks) part_is ∙ (split.meet i (need_of guest) part needed).blocks ∙ ap (λ need. need.blocks) need_is ∙ ap (λ guest. guest.blocks) (sym guest_is);
+  once = subst NamesEachOnce (sym part_is) sound.0;
+  lies = subst (λ part. LieIn (named_by part) (frames * 4096)) (sym part_is) sound.1;
+}
+  where
+    needed : i < length (needs_of guests)
+    needed = rw (length-map guests need_of) inside
+
+    need_is : get_or (needs_of guests) i (need_of guest) ≡ need_of (get_or guests i guest)
+    need_is = get_or-map need_of guests i guest (need_of guest) inside
+
+    sound : NamesEachOnce (get_or parts i part) × LieIn (named_by (get_or parts i part)) (frames * 4096)
+    sound = split.sound i part (rw split.count needed)
+
+-- one part more is laid out
+earlier : (i j : ℕ) → j < i + 1 → j ≢ i → j < i
+earlier i j h other = omega (arith, h, other)
+
+pub laid_more : (guests : List GuestSpec) (parts : List Layout) (frames i : ℕ) (guest : GuestSpec) (part : Layout) (memory between new : List ℕ)
+    → IsSplit (needs_of guests) parts frames → length memory ≡ frames * 4096 → i < length guests → guest ≡ get_or guests i guest → part ≡ get_or parts i part
+    → IsPartFor guest part (frames * 4096) → AreLaidOut guests parts i memory
+    → ram_of part.blocks between ≡ loaded (length part.blocks * block_size) guest.image → Only (in_blocks part.blocks) memory between
+    → IsHostTable part new → Only (host_frames part) between new → AreLaidOut guests parts (i + 1) new
+laid_more guests parts frames i guest part memory between new split size inside guest_is part_is for laid ram blocks table tables =
+    record { ram = rams; tables = each_table }
+  where
+    count : length parts ≡ length guests
+    count = split.count ∙ length-map guests need_of
+
+    only : Only (named_by part) memory new
+    only = only_both (named_by part) memory between new
+        (only_more (in_blocks part.blocks) (named_by part) memory between (left_within (in_blocks part.blocks) (in_tables part)) blocks)
+        (only_more (host_frames part) (named_by part) between new (host_in_part part) tables)
+
+    at_i : (d : Layout) → get_or parts i d ≡ part
+    at_i d = get_or_default parts i d part (rw count inside) ∙ sym part_is
+
+    others : (j : ℕ) (d : Layout) → j < length guests → j ≢ i → Same (named_by (get_or parts j d)) memory new
+    others j d h other =
+        kept (named_by (get_or parts j d)) (named_by part) memory new
+        (rw (← at_i d) (split.apart j i d (rw count h) (rw count inside) other)) only
+
+    own_ram : ram_of part.blocks new ≡ loaded (guest.blocks * block_size) guest.image
+    own_ram =
+        ram_kept part.blocks between new (rw blocks.size (blocks_lie_in part.blocks (length memory) (first_lies (in_blocks part.blocks) (in_tables part) (length memory) (rw size for.lies))))
+        (kept (in_blocks part.blocks) (host_frames part) between new
+        (apart_within (in_blocks part.blocks) (host_frames part) (in_tables part) (host_in_tables part) for.once.tables) tables)
+        ∙ ram ∙ ap (λ n. loaded (n * block_size) guest.image) for.blocks
+
+    rams : (j : ℕ) (s : GuestSpec) (d : Layout) → j < i + 1 → ram_of (get_or parts j d).blocks new ≡ loaded ((get_or guests j s).blocks * block_size) (get_or guests j s).image
+    rams j s d h = by (cases_eq j i)
+      where
+        spec_is : get_or guests i s ≡ guest
+        spec_is = get_or_default guests i s guest inside ∙ sym guest_is
+
+        by : (j ≡ i) ⊎ (j ≡ i → ⊥) → ram_of (get_or parts j d).blocks new ≡ loaded ((get_or guests j s).blocks * block_size) (get_or guests j s).image
+        by (inl same) =
+            subst (λ j. ram_of (get_or parts j d).blocks new ≡ loaded ((get_or guests j s).blocks * block_size) (get_or guests j s).image) (sym same)
+            (ap (λ part. ram_of part.blocks new) (at_i d) ∙ own_ram ∙ ap (λ guest. loaded (guest.blocks * block_size) guest.image) (sym spec_is))
+        by (inr other) =
+            let before : j < i = earlier i j h other in
+            let j_in : j < length guests = omega (arith, before, inside) in
+            part_ram_kept (get_or parts j d) memory new (others j d j_in other)
+            (blocks_lie_in (get_or parts j d).blocks (length memory) (first_lies (in_blocks (get_or parts j d).blocks) (in_tables (get_or parts j d)) (length memory)
+            (rw size (split.sound j d (rw count j_in)).1)))
+            ∙ laid.ram j s d before
+
+    each_table : (j : ℕ) (d : Layout) → j < i + 1 → IsHostTable (get_or parts j d) new
+    each_table j d h = by (cases_eq j i)
+      where
+        by : (j ≡ i) ⊎ (j ≡ i → ⊥) → IsHostTable (get_or parts j d) new
+        by (inl same) = subst (λ j. IsHostTable (get_or parts j d) new) (sym same) (rw (at_i d) table)
+        by (inr other) =
+            let before : j < i = earlier i j h other in
+            let j_in : j < length guests = omega (arith, before, inside) in
+            table_kept (get_or parts j d) memory new
+            (same_fewer (host_frames (get_or parts j d)) (named_by (get_or parts j d)) memory new (host_in_part (get_or parts j d)) (others j d j_in other))
+            (laid.tables j d before)
+
+-- one guest more is at its start
+pub started_more : (specs : List GuestSpec) (parts : List Layout) (guests : List Guest) (i : ℕ) (spec : GuestSpec) (part : Layout) (guest : Guest)
+    → i ≡ length specs → i < length parts → part ≡ get_or parts i part → AreAtStart specs parts guests → IsAtStart spec part guest
+    → AreAtStart (specs ++ spec ∷ []) parts (guests ++ guest ∷ [])
+started_more specs parts guests i spec part guest at inside part_is so_far one =
+    record { count = length_push guests guest ∙ ap (λ n. n + 1) so_far.count ∙ sym (length_push specs spec); each = each }
+  where
+    each : (j : ℕ) (s : GuestSpec) (p : Layout) (d : Guest) → j < length (specs ++ spec ∷ [])
+        → IsAtStart (get_or (specs ++ spec ∷ []) j s) (get_or parts j p) (get_or (guests ++ guest ∷ []) j d)
+    each j s p d h = by (cases_eq j i)
+      where
+        part_there : get_or parts i p ≡ part
+        part_there = get_or_default parts i p part inside ∙ sym part_is
+
+        there : IsAtStart (get_or (specs ++ spec ∷ []) i s) (get_or parts i p) (get_or (guests ++ guest ∷ []) i d)
+        there = rw (get_or_push specs spec s i (sym at), part_there, get_or_push guests guest d i (so_far.count ∙ sym at)) one
+
+        by : (j ≡ i) ⊎ (j ≡ i → ⊥) → IsAtStart (get_or (specs ++ spec ∷ []) j s) (get_or parts j p) (get_or (guests ++ guest ∷ []) j d)
+        by (inl same) = subst (λ j. IsAtStart (get_or (specs ++ spec ∷ []) j s) (get_or parts j p) (get_or (guests ++ guest ∷ []) j d)) (sym same) there
+        by (inr other) =
+            let before : j < length specs = omega (arith, length_push specs spec, h, at, other) in
+            let guest_in : j < length guests = omega (arith, before, so_far.count) in
+            rw (get_or_append_left specs (spec ∷ []) s j before, get_or_append_left guests (guest ∷ []) d j guest_in) (so_far.each j s p d before)
+
+-- a guest at its start is in its part
+nothing_reserved : (spec : GuestSpec) → (start spec).platform.virt.reservation ≡ None
+unfolding start
+nothing_reserved spec = refl
+
+at_start_current : (spec : GuestSpec) → informed (start spec).platform ≡ (start spec).platform
+unfolding start
+at_start_current spec = refl
+
+at_start_clock : (spec : GuestSpec) → (start spec).platform.clock ≡ 0
+unfolding start
+at_start_clock spec = refl
+
+pub no_steps : (spec : GuestSpec) → (start spec).platform.steps ≡ 0
+unfolding start
+no_steps spec = refl
+
+memory_size : (frames size : ℕ) → frames ≤ 131072 → size ≡ frames * 4096 → size ≤ 2 ^ 29
+memory_size frames size few is = omega (arith, few, is)
+
+bounded : (clock steps : ℕ) → clock ≡ 0 → clock ≤ 2 ^ 62 + steps
+bounded clock steps is = omega (arith, is)
+
+hosted_at_start : (spec : GuestSpec) (part : Layout) (guest : Guest) (memory : List ℕ) → IsAtStart spec part guest → NamesEachOnce part → IsHeld part memory
+    → IsHosted guest memory
+hosted_at_start spec part guest memory at once held = record {
+  placed = subst (λ part. IsAt part (machine_of guest memory) memory) (sym at.own_part) (record { once = once; held = held; ram = ap (λ part. ram_of part.blocks memory) at.own_part; reserved = reserved });
+  clock = bounded guest.clock guest.steps (ap (λ p. p.clock) at.platform ∙ at_start_clock spec);
+  current = ap informed at.platform ∙ at_start_current spec ∙ sym at.platform;
+}
+  where
+    reserved : ReservesHeld (in_ram part.blocks) guest.virt.reservation
+    reserved = subst (λ r. ReservesHeld (in_ram part.blocks) r) (sym (ap (λ p. p.virt.reservation) at.platform ∙ nothing_reserved spec)) tt
+
+-- and is the machine at its start
+as_parts : (platform : Platform) (ram : List ℕ) (space_room entry_room : ℕ) (spec : GuestSpec) → platform ≡ (start spec).platform
+    → ram ≡ loaded (spec.blocks * block_size) spec.image → space_room ≡ spec.spaces → entry_room ≡ spec.entries
+    → (record { platform = platform; ram = ram; spaces = []; space_room = space_room; entry_room = entry_room }) ≡ start spec
+unfolding start
+as_parts platform ram space_room entry_room spec p r s e = rw (p, r, s, e) refl
+
+machine_at_start : (spec : GuestSpec) (part : Layout) (guest : Guest) (memory : List ℕ) → IsAtStart spec part guest
+    → ram_of part.blocks memory ≡ loaded (spec.blocks * block_size) spec.image → machine_of guest memory ≡ start spec
+machine_at_start spec part guest memory at ram =
+    as_parts (seen guest) (ram_of guest.part.blocks memory) guest.space_room guest.entry_room spec at.platform
+    (ap (λ part. ram_of part.blocks memory) at.own_part ∙ ram) at.spaces at.entries
+
+-- what was booted
+pub record AreBooted (specs : List GuestSpec) (parts : List Layout) (guests : List Guest) (memory : List ℕ) : Type 0 where
+  pub hosted : AreHosted guests memory
+  pub machines : machines_of guests memory ≡ map start specs
+  pub parts_are : parts_of guests ≡ parts
+
+booted_from : (first : GuestSpec) (one : Guest) (specs : List GuestSpec) (parts : List Layout) (frames : ℕ) (guests : List Guest) (memory : List ℕ) → length specs ≤ 16
+    → IsSplit (needs_of specs) parts frames → frames ≤ 131072 → length memory ≡ frames * 4096 → AreLaidOut specs parts (length specs) memory
+    → AreAtStart specs parts guests → AreBooted specs parts guests memory
+booted_from first one specs parts frames guests memory few split most size laid at =
+    record { hosted = record { few = rw at.count few; each = each; apart = rw parts_are split.apart }; machines = machines; parts_are = parts_are }
+  where
+    count : length parts ≡ length specs
+    count = split.count ∙ length-map specs need_of
+
+    own_part : (i : ℕ) (d : Guest) → i < length specs → (get_or guests i d).part ≡ get_or parts i no_part
+    own_part i d h = (at.each i first no_part d h).own_part
+
+    parts_are : parts_of guests ≡ parts
+    parts_are =
+        ext_get_or no_part (parts_of guests) parts (length-map guests (λ guest. guest.part) ∙ at.count ∙ sym count)
+        (λ i h.
+        let guest_in : i < length guests = rw (length-map guests (λ guest. guest.part)) at h in
+        get_or-map (λ guest. guest.part) guests i one no_part guest_in ∙ own_part i one (rw at.count at guest_in))
+
+    each : (i : ℕ) (d : Guest) → i < length guests → IsHosted (get_or guests i d) memory
+    each i d h =
+        let inside : i < length specs = rw at.count at h in
+        let sound = split.sound i no_part (rw count inside) in
+        hosted_at_start (get_or specs i first) (get_or parts i no_part) (get_or guests i d) memory (at.each i first no_part d inside) sound.0
+        (record { size = memory_size frames (length memory) most size; lies = rw size sound.1; table = laid.tables i no_part inside })
+
+    machines : machines_of guests memory ≡ map start specs
+    machines =
+        ext_get_or no_machine (machines_of guests memory) (map start specs)
+        (length-map guests (λ guest. machine_of guest memory) ∙ at.count ∙ sym (length-map specs start))
+        (λ i h.
+        let guest_in : i < length guests = rw (length-map guests (λ guest. machine_of guest memory)) at h in
+        let inside : i < length specs = rw at.count at guest_in in
+        get_or-map (λ guest. machine_of guest memory) guests i one no_machine guest_in
+        ∙ machine_at_start (get_or specs i first) (get_or parts i no_part) (get_or guests i one) memory (at.each i first no_part one inside) (laid.ram i first no_part inside)
+        ∙ sym (get_or-map start specs i first no_machine inside))
+
+pub booted : (specs : List GuestSpec) (parts : List Layout) (frames : ℕ) (guests : List Guest) (memory : List ℕ) → 1 ≤ length specs → length specs ≤ 16
+    → IsSplit (needs_of specs) parts frames → frames ≤ 131072 → length memory ≡ frames * 4096 → AreLaidOut specs parts (length specs) memory
+    → AreAtStart specs parts guests → AreBooted specs parts guests memory
+booted [] parts frames guests memory some few split most size laid at = absurd (omega arith)
+booted (first ∷ specs) parts frames [] memory some few split most size laid at = absurd (omega (arith, at.count))
+booted (first ∷ specs) parts frames (one ∷ guests) memory some few split most size laid at =
+    booted_from first one (first ∷ specs) parts frames (one ∷ guests) memory few split most size laid at
+
+-- so no step is made
+steps_zero : (specs : List GuestSpec) → All (λ m. m.platform.steps ≡ 0) (map start specs)
+steps_zero [] g d inside = absurd (omega arith)
+steps_zero (first ∷ specs) g d inside =
+    ap (λ m. m.platform.steps) (get_or-map start (first ∷ specs) g first d (rw length-map at inside)) ∙ no_steps (get_or (first ∷ specs) g first)
+
+pub none_made : (specs : List GuestSpec) (machines : List Machine) → machines ≡ map start specs → All (λ m. m.platform.steps ≡ 0) machines
+none_made specs machines is = subst (All (λ m. m.platform.steps ≡ 0)) (sym is) (steps_zero specs)
+
+-- all of it, with the slices that the calls take
+pub booted_by : (specs : List GuestSpec) (shared laid_out : List GuestSpec) (parts laid_parts start_parts : List Layout) (frames : ℕ) (guests : List Guest)
+    (fresh memory : List ℕ) → 1 ≤ length specs → length specs ≤ 16 → frames_for specs ≤ 131072 → shared ≡ specs → laid_out ≡ specs → laid_parts ≡ parts → start_parts ≡ parts
+    → IsSplit (needs_of shared) parts frames → frames ≡ frames_for shared → fresh ≡ zeros (frames * 4096) → length memory ≡ length fresh
+    → AreLaidOut laid_out laid_parts (length laid_out) memory → AreAtStart specs start_parts guests → AreBooted specs parts guests memory
+booted_by specs shared laid_out parts laid_parts start_parts frames guests fresh memory some few most shared_is laid_is laid_parts_are start_parts_are split frames_are fresh_is size laid started =
+    booted specs parts (frames_for specs) guests memory some few
+    (rw (frames_are, shared_is) at split) most
+    (size ∙ ap length fresh_is ∙ length_zeros (frames * 4096) ∙ ap (λ n. n * 4096) (frames_are ∙ ap frames_for shared_is))
+    (rw (laid_is, laid_parts_are) at laid) (rw start_parts_are at started)

@@ -1,0 +1,58 @@
+use Rattle.std.proofs.Common.{◌+◌, ap, subst, sym, ◌∙◌}
+use Rattle.arch_defs.specs.Frames.{Only, in_blocks}
+use Rattle.machine_defs.specs.Runs.{run}
+use Rattle.guest_turns.specs.Hosting.{IsHosted}
+use Rattle.guest_turns.specs.TurnLists.{updated}
+use Rattle.guest_turns.proofs.Among.{among, host_machine, host_part, turned, written_machine}
+use Rattle.guest_turns.proofs.hosts.Host.turn.Goals as goal
+
+pub turn_of-requires-clause-hosted : goal.turn_of-requires-clause-hosted
+turn_of-requires-clause-hosted c =
+    let host = c.self.inside in
+    let inside = among host.guests.items host.memory _ c.args.g c.self.view_is c.requires.guest in
+    subst (λ guest. IsHosted guest host.memory) (sym c.index_mut-guest.ensures.value) (c.self.invariant.each c.args.g c.index_mut-guest.result.now inside)
+
+pub invariant_of-self : goal.invariant_of-self
+invariant_of-self c =
+    let host = c.self.inside in
+    let inside = among host.guests.items host.memory _ c.args.g c.self.view_is c.requires.guest in
+    (turned host.guests.items host.memory c.args.g c.args.k c.index_mut-guest.result.now c.turn_of.new.guest c.turn_of.new.memory
+    c.self.invariant inside c.index_mut-guest.ensures.value c.turn_of.ensures.run c.turn_of.ensures.hosted).hosted
+
+pub returns-clause-machines : goal.returns-clause-machines
+returns-clause-machines c =
+    let host = c.self.inside in
+    let inside = among host.guests.items host.memory _ c.args.g c.self.view_is c.requires.guest in
+    (turned host.guests.items host.memory c.args.g c.args.k c.index_mut-guest.result.now c.turn_of.new.guest c.turn_of.new.memory
+    c.self.invariant inside c.index_mut-guest.ensures.value c.turn_of.ensures.run c.turn_of.ensures.hosted).machines
+    ∙ ap (λ host. updated c.args.g (λ m. run m c.args.k) host.machines) c.self.view_is
+
+pub returns-clause-parts : goal.returns-clause-parts
+returns-clause-parts c =
+    let host = c.self.inside in
+    let inside = among host.guests.items host.memory _ c.args.g c.self.view_is c.requires.guest in
+    (turned host.guests.items host.memory c.args.g c.args.k c.index_mut-guest.result.now c.turn_of.new.guest c.turn_of.new.memory
+    c.self.invariant inside c.index_mut-guest.ensures.value c.turn_of.ensures.run c.turn_of.ensures.hosted).parts
+    ∙ ap (λ host. host.parts) c.self.view_is
+
+pub returns-clause-isolated : goal.returns-clause-isolated
+returns-clause-isolated c =
+    let host = c.self.inside in
+    let inside = among host.guests.items host.memory _ c.args.g c.self.view_is c.requires.guest in
+    let part = host_part host.guests.items host.memory _ c.args.g c.index_mut-guest.result.now c.self.view_is inside c.index_mut-guest.ensures.value in
+    rw part (subst (λ host. Only (in_blocks c.index_mut-guest.result.now.part.blocks) host.memory c.turn_of.new.memory) c.self.view_is c.turn_of.ensures.run.only)
+
+pub returns-clause-made : goal.returns-clause-made
+returns-clause-made c =
+    let host = c.self.inside in
+    let inside = among host.guests.items host.memory _ c.args.g c.self.view_is c.requires.guest in
+    let before = host_machine host.guests.items host.memory _ c.args.g c.index_mut-guest.result.now c.self.view_is inside c.index_mut-guest.ensures.value in
+    let after = written_machine host.guests.items c.turn_of.new.memory c.args.g c.turn_of.new.guest inside in
+    ap (λ m. m.platform.steps + c.turn_of.result) before ∙ c.turn_of.ensures.made ∙ ap (λ m. m.platform.steps) (sym after)
+
+pub returns-clause-fewer : goal.returns-clause-fewer
+returns-clause-fewer c = λ fewer still.
+    let host = c.self.inside in
+    let inside = among host.guests.items host.memory _ c.args.g c.self.view_is c.requires.guest in
+    let after = written_machine host.guests.items c.turn_of.new.memory c.args.g c.turn_of.new.guest inside in
+    c.turn_of.ensures.fewer fewer (ap (λ m. m.platform.status) (sym after) ∙ still)

@@ -1,0 +1,104 @@
+// Guests in machine memory, at their start.
+
+ghost use Rattle.std.specs.Prelude.{◌≡◌, ◌*◌, ◌≤◌, length, All, IfOk};
+ghost use Rattle.frame_split.specs.Shares.{IsSplit};
+ghost use Rattle.guest_turns.specs.Hosting.{AreAtStart, AreLaidOut, IsAtStart};
+ghost use Rattle.guest_turns.specs.Limits.{IsBootable, frames_for, needs_of};
+
+use arch_defs::{Mode, Need, Part, Virtual};
+use frame_split::{PlanFault, Split, plan};
+use guest_exit::{Console, Guest};
+use guest_loader::load;
+use host_tables::build;
+use machine_defs::{GuestSpec, Status};
+use phys_mem::{PhysMem, RAM_BASE};
+use std::alloc::{AllocError, Global};
+
+/// The parts of guests.
+pub fn share(alloc: Global, guests: &[GuestSpec]) -> Result<Split, AllocError>
+    requires few { length guests.now ≤ 16 }
+    requires each { All IsBootable guests.now }
+    requires frames { frames_for guests.now ≤ 131072 }
+    ensures split { IfOk result (λ split. IsSplit (needs_of guests.now) split.parts.items split.frames) }
+    ensures frames { IfOk result (λ split. split.frames ≡ frames_for guests.now) }
+{
+    let needs = needs(alloc, guests)?;
+    match plan(alloc, needs.as_slice()) {
+        Ok(split) => Ok(split),
+        Err(PlanFault::NoMemory) => Err(AllocError),
+        Err(PlanFault::TooMuch(_)) => unreachable!(),
+    }
+}
+
+// What the guests need.
+fn needs(alloc: Global, guests: &[GuestSpec]) -> Result<Vec<Need>, AllocError>
+    ensures { IfOk result (λ needs. needs.items ≡ needs_of guests.now) }
+{
+    let mut needs = Vec::with_capacity(alloc, guests.len())?;
+    for guest in guests {
+        needs.push(Need {
+            blocks: guest.blocks,
+            spaces: guest.spaces,
+            entries: guest.entries,
+        })?;
+    }
+    Ok(needs)
+}
+
+/// Loads the guests' images into their parts, and writes their host tables.
+pub fn lay_out(memory: &mut PhysMem, guests: &[GuestSpec], parts: &[Part])
+    requires each { All IsBootable guests.now }
+    requires split { IsSplit (needs_of guests.now) parts.now (frames_for guests.now) }
+    requires size { length memory.old ≡ frames_for guests.now * 4096 }
+    ensures laid { AreLaidOut guests.now parts.now (length guests.now) memory.new }
+    ensures size { length memory.new ≡ length memory.old }
+{
+    for i in 0..guests.len() {
+        let guest = &guests[i];
+        let part = &parts[i];
+        load(memory, part, guest.image.as_slice());
+        build(memory, part, guest.blocks);
+    }
+}
+
+/// The guests at their start, in their parts.
+pub fn guests_at_start(
+    alloc: Global,
+    specs: Vec<GuestSpec>,
+    parts: &[Part],
+) -> Result<Vec<Guest>, AllocError>
+    requires each { All IsBootable specs.items }
+    requires parts { length parts.now ≡ length specs.items }
+    ensures { IfOk result (λ guests. AreAtStart specs.items parts.now guests.items) }
+{
+    let mut guests = Vec::with_capacity(alloc, specs.len())?;
+    let mut i = 0;
+    for spec in specs {
+        let part = parts[i];
+        guests.push(guest_at_start(alloc, spec, part)?)?;
+        i += 1;
+    }
+    Ok(guests)
+}
+
+// A guest at its start.
+#[tactic(auto, unfolding(machine_defs::specs::Machine::start))]
+fn guest_at_start(alloc: Global, spec: GuestSpec, part: Part) -> Result<Guest, AllocError>
+    requires { IsBootable spec }
+    ensures { IfOk result (λ guest. IsAtStart spec part guest) }
+{
+    let console = Console::new(alloc, spec.console, spec.inputs)?;
+    let mut guest = Guest {
+        part,
+        virt: Virtual::starting_at(Mode::HS, RAM_BASE),
+        clock: 0,
+        timer: u64::MAX,
+        console,
+        steps: 0,
+        status: Status::Running,
+        space_room: spec.spaces,
+        entry_room: spec.entries,
+    };
+    guest.inform();
+    Ok(guest)
+}

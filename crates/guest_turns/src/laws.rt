@@ -1,0 +1,18 @@
+// Laws of turns.
+
+ghost use Rattle.guest_turns.specs.TurnLists.{OrderHasNoEffect, RunsItsOwnTurns, RunsMakeAtMost, TurnsCountAlike, TurnsKeepCount};
+
+/// After turns of guests in any order each lone machine has run for the sum of the steps of its own turns. So
+/// the order of turns of different guests has no effect.
+pub fn turns_are_apart()
+    ensures own { RunsItsOwnTurns }
+    ensures count { TurnsKeepCount }
+    ensures order { OrderHasNoEffect }
+{}
+
+/// Whatever is counted of events, such as the sum of pc and word of the plain steps, turns in any order count
+/// for as much as the lone machines' own runs. A run of `k` makes at most `k` steps.
+pub fn turns_count_alike()
+    ensures alike { TurnsCountAlike }
+    ensures most { RunsMakeAtMost }
+{}
