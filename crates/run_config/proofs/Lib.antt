@@ -1,4 +1,9 @@
+pub mod Accepted
+pub mod Found
+pub mod Guesting
 pub mod Items
-pub mod Keys
-pub mod Limits
+pub mod Known
+pub mod Pairing
+pub mod Tabling
 pub mod Texts
+pub mod Within

@@ -1,16 +1,6 @@
--- The settings that a `Config` keeps.
-use Rattle.std.specs.Prelude.{string_bytes}
-use Rattle.run_config.specs.Settings.{Settings}
-use Rattle.run_config.specs.declared.settings.Config.TheInside.{Inside}
+-- What a `Config` keeps.
+use Rattle.run_config.specs.Configurations.{Configuration}
+use Rattle.run_config.specs.declared.configuration.Config.TheInside.{Inside}
 
-abbrev pub settings_kept : Inside → Settings
-settings_kept c = record {
-  name = string_bytes c.name;
-  image = string_bytes c.image;
-  blocks = c.blocks;
-  spaces = c.spaces;
-  entries = c.entries;
-  console = c.console;
-  quantum = c.quantum;
-  rounds = c.rounds;
-}
+abbrev pub kept : Inside → Configuration
+kept c = record { guests = c.guests.items; turns = c.turns }

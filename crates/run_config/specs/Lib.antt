@@ -1,4 +1,12 @@
 pub mod Accept
+pub mod Answers
+pub mod Configurations
+pub mod Faults
+pub mod Guests
 pub mod Kept
+pub mod Keys
 pub mod Seen
-pub mod Settings
+pub mod Tables
+pub mod Tests
+pub mod Turns
+pub mod Values

@@ -1,16 +1,27 @@
-//! The configuration of a run: a TOML document that describes one guest.
+//! The configuration of a run, format 1: a TOML document that describes the guests and their turns.
 //!
-//! `read` takes the bytes of the document and answers its settings, as a `Config`, exactly where
-//! `accept` of `specs/Accept.antt` has them. A `Config` is seen by clauses as the `Settings` of
-//! `specs/Settings.antt`, which are always within their limits.
+//! `read` takes the bytes of the document. It answers the configuration that `accept` of
+//! `specs/Accept.antt` has for them, or the first fault.
 #![tactic(auto)]
 
-mod document;
+mod configuration;
+mod ends;
+mod faults;
+mod guests;
+mod inputs;
+mod keys;
+mod pairs;
 mod reading;
+mod schedules;
 mod settings;
 #[cfg(test)]
 mod tests;
 mod values;
 
-pub use reading::{ReadEnd, accepted_is_within_limits, read};
-pub use settings::Config;
+pub use configuration::Config;
+pub use ends::ReadEnd;
+pub use faults::ConfigFault;
+pub use guests::{FileName, GuestSettings};
+pub use keys::ConfigKey;
+pub use reading::{accepted_is_within_limits, read};
+pub use turn_plan::Turns;

@@ -1,73 +1,199 @@
 //! Reads a configuration.
 
-ghost use Rattle.std.specs.Prelude.{◌≡◌, ◌<◌, length, IfOk, IsErrOf};
-ghost use Rattle.toml.specs.View.{table_view};
-ghost use Rattle.run_config.specs.Accept.{accept, tree_of, AcceptedIsWithinLimits};
-ghost use Rattle.run_config.specs.Settings.{IsWithinLimits};
+ghost use Rattle.std.specs.Prelude.{◌≡◌, ◌<◌, ◌≤◌, false, length, map, [], ◌∷◌, Some, None, Ok, Err, IfOk, IfSome, OnOk, option_map};
+ghost use Rattle.std.specs.Str.{is_utf8};
+ghost use Rattle.toml.specs.View.{view, items_view, table_view};
+ghost use Rattle.run_config.specs.declared.ends.ReadEnd.TheVariants.{Refused};
+ghost use Rattle.run_config.specs.declared.faults.ConfigFault.TheVariants as fault;
+ghost use Rattle.run_config.specs.Accept.{accept, array_length, configuration_of, document_fault, guests_at, guests_in, has_format, tree_of, AcceptedIsWithinLimits};
+ghost use Rattle.run_config.specs.Answers.{IfRefused};
+ghost use Rattle.run_config.specs.Configurations.{IsWithinLimits};
+ghost use Rattle.run_config.specs.Guests.{guests_fault, settings_of};
+ghost use Rattle.run_config.specs.Seen.{tables_seen};
+ghost use Rattle.run_config.specs.Values.{tables_of};
 
-use crate::document::settings_of;
-use crate::settings::Config;
-use std::alloc::Global;
-use thiserror::Error;
-use toml::Table;
+use crate::configuration::Config;
+use crate::ends::ReadEnd;
+use crate::faults::ConfigFault;
+use crate::guests::GuestSettings;
+use crate::keys::ConfigKey;
+use crate::schedules::turns_at;
+use crate::settings::settings_of;
+use crate::values::{has_only, number_within, value_at};
+use std::alloc::{AllocError, Global};
+use toml::{Table, Value};
 
 /// The most bytes that a configuration has.
 const MOST_BYTES: usize = 65_536;
 
-/// Why no configuration was read.
-#[derive(Clone, Copy, Debug, PartialEq, Eq, Error)]
-pub enum ReadEnd {
-    #[error("out of memory")]
-    NoMemory,
-    #[error("the configuration is refused")]
-    Refused,
-}
+/// The most guests.
+const MOST_GUESTS: usize = 16;
+
+/// All keys that the document may have.
+const DOCUMENT_KEYS: [ConfigKey; 5] = [
+    ConfigKey::Format,
+    ConfigKey::Guest,
+    ConfigKey::Turns,
+    ConfigKey::Quantum,
+    ConfigKey::Rounds,
+];
 
 /// The document that the bytes spell.
 #[tactic(auto, unfolding(crate::specs::Accept::tree_of), using(crate::proofs::Texts::texts))]
 fn tree(alloc: Global, bytes: &[u8]) -> Result<Table, ReadEnd>
     ensures ok { IfOk result (λ t. tree_of bytes.now ≡ Some (table_view t)) }
-    ensures refused { IsErrOf result ReadEnd.Refused → tree_of bytes.now ≡ None }
+    ensures refused { IfRefused result (λ f. (f ≡ fault.NotToml) × (tree_of bytes.now ≡ None)) }
+    ensures no_text { is_utf8 bytes.now ≡ false → result ≡ Err (Refused fault.NotToml) }
 {
-    match toml::table_from_slice(alloc, bytes) {
+    let Ok(text) = str::from_utf8(bytes) else {
+        return Err(ReadEnd::Refused(ConfigFault::NotToml))
+    };
+    match toml::table_from_str(alloc, text) {
         Ok(table) => Ok(table),
         Err(error) => {
             if error.is_memory() {
                 Err(ReadEnd::NoMemory)
             } else {
-                Err(ReadEnd::Refused)
+                Err(ReadEnd::Refused(ConfigFault::NotToml))
             }
         }
     }
 }
 
-/// Reads a configuration from its bytes. They are refused exactly where `accept` has no settings for
-/// them; more than 65,536 bytes are refused before anything is parsed, and so with no need of memory.
-/// For fewer, want of memory may stand in the place of each other answer.
-#[tactic(auto, unfolding(crate::specs::Accept::accept))]
-pub fn read(alloc: Global, bytes: &[u8]) -> Result<Config, ReadEnd>
-    ensures accepted { IfOk result (λ c. accept bytes.now ≡ Some c) }
-    ensures refused { IsErrOf result ReadEnd.Refused → accept bytes.now ≡ None }
-    ensures too_long { 65536 < length bytes.now → result ≡ Err ReadEnd.Refused }
-    ensures limits { IfOk result IsWithinLimits }
+/// Whether `format` is the integer 1.
+#[tactic(auto, unfolding(crate::specs::Accept::has_format))]
+fn has_format(document: &Table) -> bool
+    ensures { result ≡ has_format (table_view document.now) }
 {
-    if bytes.len() > MOST_BYTES {
-        return Err(ReadEnd::Refused);
-    }
-    let document = match tree(alloc, bytes) {
-        Ok(document) => document,
-        Err(end) => return Err(end),
-    };
-    let Some(seen) = settings_of(&document) else {
-        return Err(ReadEnd::Refused)
-    };
-    match Config::kept(alloc, seen) {
-        Ok(config) => Ok(config),
-        Err(_) => Err(ReadEnd::NoMemory),
+    match value_at(document, ConfigKey::Format) {
+        Some(value) => number_within(1, 1, value).is_some(),
+        None => false,
     }
 }
 
-/// The settings of each accepted configuration are within their limits.
+/// The tables that all of these values are.
+#[tactic(auto, using(crate::proofs::Tabling::tables))]
+fn all_tables<'a>(alloc: Global, values: &'a [Value]) -> Result<Option<Vec<&'a Table>>, AllocError>
+    ensures { IfOk result (λ o. option_map (λ v. tables_seen v.items) o ≡ tables_of (items_view values.now)) }
+{
+    let mut tables = Vec::new(alloc);
+    for value in values {
+        let Some(table) = value.as_table() else {
+            return Ok(None)
+        };
+        tables.push(table)?;
+    }
+    Ok(Some(tables))
+}
+
+/// The tables of the guests, where there is an array of 1 to 16 tables.
+#[tactic(auto, unfolding(crate::specs::Accept::guests_at))]
+fn guests_at<'a>(alloc: Global, document: &'a Table) -> Result<Option<Vec<&'a Table>>, AllocError>
+    ensures tables { IfOk result (λ o. option_map (λ v. tables_seen v.items) o
+        ≡ guests_at (table_view document.now)) }
+    ensures some { IfOk result (λ o. IfSome o (λ v. 1 ≤ length v.items)) }
+    ensures few { IfOk result (λ o. IfSome o (λ v. length v.items ≤ 16)) }
+{
+    let Some(value) = value_at(document, ConfigKey::Guest) else {
+        return Ok(None)
+    };
+    let Some(values) = value.as_array() else {
+        return Ok(None)
+    };
+    let Some(guests) = all_tables(alloc, values)? else {
+        return Ok(None)
+    };
+    if 1 <= guests.len() && guests.len() <= MOST_GUESTS {
+        Ok(Some(guests))
+    } else {
+        Ok(None)
+    }
+}
+
+/// How many items the array of guests has, where there is an array.
+#[tactic(auto, unfolding(crate::specs::Accept::array_length), using(crate::proofs::Items::items))]
+fn array_length(document: &Table) -> Option<i64>
+    ensures { result ≡ array_length (table_view document.now) }
+{
+    let value = value_at(document, ConfigKey::Guest)?;
+    let items = value.as_array()?;
+    Some(items.len() as i64)
+}
+
+/// The settings of the guests whose tables these are.
+#[tactic(auto, unfolding(crate::specs::Guests::guests_fault), using(crate::proofs::Guesting::guests))]
+fn all_settings(alloc: Global, tables: &[&Table]) -> Result<Vec<GuestSettings>, ReadEnd>
+    requires few { length tables.now ≤ 16 }
+    ensures passed { OnOk result (guests_fault [] (tables_seen tables.now) ≡ None) }
+    ensures count { IfOk result (λ gs. length gs.items ≡ length tables.now) }
+    ensures settings { IfOk result (λ gs. gs.items ≡ map settings_of (tables_seen tables.now)) }
+    ensures refused { IfRefused result (λ f. guests_fault [] (tables_seen tables.now) ≡ Some f) }
+{
+    let mut guests = Vec::new(alloc);
+    for table in tables {
+        let guest = settings_of(alloc, guests.as_slice(), table)?;
+        guests.push(guest)?;
+    }
+    Ok(guests)
+}
+
+/// The configuration that a document says.
+#[tactic(auto, unfolding(crate::specs::Accept::document_fault, crate::specs::Accept::configuration_of, crate::specs::Accept::guests_in, crate::specs::Tests::missing))]
+fn configuration_of(alloc: Global, document: &Table) -> Result<Config, ReadEnd>
+    ensures passed { OnOk result (document_fault (table_view document.now) ≡ None) }
+    ensures configuration { IfOk result (λ c. c ≡ configuration_of (table_view document.now)) }
+    ensures refused { IfRefused result (λ f. document_fault (table_view document.now) ≡ Some f) }
+{
+    if !has_format(document) {
+        return Err(ReadEnd::Refused(ConfigFault::Format));
+    }
+    if value_at(document, ConfigKey::Guest).is_none() {
+        return Err(ReadEnd::Refused(ConfigFault::Missing {
+            guest: None,
+            key: ConfigKey::Guest,
+        }));
+    }
+    let Some(tables) = guests_at(alloc, document)? else {
+        return Err(ReadEnd::Refused(ConfigFault::Range {
+            guest: None,
+            key: ConfigKey::Guest,
+            value: array_length(document),
+        }))
+    };
+    let guests = all_settings(alloc, tables.as_slice())?;
+    let Some(turns) = turns_at(alloc, guests.len() as u32, document)? else {
+        return Err(ReadEnd::Refused(ConfigFault::Turns))
+    };
+    if !has_only(document, &DOCUMENT_KEYS) {
+        return Err(ReadEnd::Refused(ConfigFault::Extra { guest: None }));
+    }
+    Ok(Config::new(guests, turns))
+}
+
+/// Reads a configuration from its bytes: the one that `accept` has for them, or the first fault.
+///
+/// More than 65,536 bytes, and bytes that are no UTF-8, are refused before any memory is taken, so that want
+/// of memory never stands in the place of these two refusals. The document takes memory from its first value
+/// on, so want of memory may stand in the place of each other answer.
+#[tactic(auto, unfolding(crate::specs::Accept::accept, crate::specs::Accept::fault_of, crate::specs::Accept::document_of))]
+pub fn read(alloc: Global, bytes: &[u8]) -> Result<Config, ReadEnd>
+    ensures accepted { IfOk result (λ c. accept bytes.now ≡ Ok c) }
+    ensures refused { IfRefused result (λ f. accept bytes.now ≡ Err f) }
+    ensures too_long { 65536 < length bytes.now → result ≡ Err (Refused fault.TooLong) }
+    ensures no_text { length bytes.now ≤ 65536 → is_utf8 bytes.now ≡ false
+        → result ≡ Err (Refused fault.NotToml) }
+    ensures limits { IfOk result IsWithinLimits }
+{
+    if bytes.len() > MOST_BYTES {
+        return Err(ReadEnd::Refused(ConfigFault::TooLong));
+    }
+    match tree(alloc, bytes) {
+        Ok(document) => configuration_of(alloc, &document),
+        Err(end) => Err(end),
+    }
+}
+
+/// Each accepted configuration is within its limits.
 pub fn accepted_is_within_limits()
     ensures { AcceptedIsWithinLimits }
 {}

@@ -1,118 +1,210 @@
-//! A configuration that was accepted.
+//! The tests of a guest, in their order.
 
-ghost use Rattle.std.specs.Prelude.{◌≡◌, IfOk};
-ghost use Rattle.run_config.specs.Seen.{settings_seen};
-ghost use Rattle.run_config.specs.Settings.{IsWithinLimits};
+ghost use Rattle.std.specs.Prelude.{◌≡◌, ◌≤◌, [], ◌∷◌, bytes_eq, length, Some, None, IfOk, IfErr, OnOk};
+ghost use Rattle.std.specs.List.{list_any};
+ghost use Rattle.toml.specs.Data.{as_integer, as_str};
+ghost use Rattle.toml.specs.View.{view, table_view};
+ghost use Rattle.run_config.specs.declared.faults.ConfigFault.TheVariants as fault;
+ghost use Rattle.run_config.specs.Answers.{IfRefused};
+ghost use Rattle.run_config.specs.Guests.{absent_key, wrong_value, guest_fault, is_new_name, settings_of};
+ghost use Rattle.run_config.specs.Seen.{HasValues, names_of, settings_seen};
+ghost use Rattle.run_config.specs.Tables.{any_text, text_of, integer_of};
+ghost use Rattle.run_config.specs.Tests.{first_fault, missing, wrong_kind};
+ghost use Rattle.run_config.specs.Values.{number_at, number_within, text_at, value_at};
 
-use crate::document::SettingsRef;
+use crate::ends::ReadEnd;
+use crate::faults::ConfigFault;
+use crate::guests::{FileName, GuestSettings};
+use crate::inputs::inputs_at;
+use crate::keys::ConfigKey;
+use crate::values::{has_length, has_only, is_name, number_within, value_at};
+use machine_defs::{Inputs, Name};
 use std::alloc::{AllocError, Global};
-use std::marker::Model;
+use toml::{Table, Value};
 
-/// The settings of a configuration that was accepted.
-#[derive(Debug, Drop)]
-pub struct Config {
-    name: String,
-    image: String,
+/// All keys that a guest may have.
+const GUEST_KEYS: [ConfigKey; 7] = [
+    ConfigKey::Name,
+    ConfigKey::Image,
+    ConfigKey::Blocks,
+    ConfigKey::Spaces,
+    ConfigKey::Entries,
+    ConfigKey::Console,
+    ConfigKey::Input,
+];
+
+/// The settings of a guest whose values are of their kinds, with the texts still the document's.
+#[derive(Clone, Copy, Debug)]
+pub struct GuestRef<'a> {
+    name: &'a str,
+    image: &'a str,
     blocks: u64,
     spaces: u64,
     entries: u64,
     console: u64,
-    quantum: u64,
-    rounds: u64,
 }
 
-impl Model for Config {
-    ghost use Rattle.std.specs.Prelude.{string_bytes};
-    ghost use Rattle.run_config.specs.Settings.{Settings, IsWithinLimits};
-
-    ghost Value = { Settings };
-
-    ghost use Rattle.run_config.specs.Kept.{settings_kept};
-
-    ghost view = { settings_kept };
-
-    ghost invariant = { λ c. IsWithinLimits (settings_kept c) };
+/// The value of a key that a guest must have.
+#[tactic(auto, unfolding(crate::specs::Tests::missing))]
+fn required<'a>(table: &'a Table, guest: u32, key: ConfigKey) -> Result<&'a Value, ConfigFault>
+    ensures value { IfOk result (λ v. value_at key (table_view table.now) ≡ Some (view v.now)) }
+    ensures passed { OnOk result (missing (Some guest) (table_view table.now) key ≡ None) }
+    ensures refused { IfErr result (λ f. missing (Some guest) (table_view table.now) key ≡ Some f) }
+{
+    match value_at(table, key) {
+        Some(value) => Ok(value),
+        None => Err(ConfigFault::Missing {
+            guest: Some(guest),
+            key,
+        }),
+    }
 }
 
-impl Config {
-    /// Keeps settings that stand in a document.
-    pub(crate) fn kept(alloc: Global, seen: SettingsRef<'_>) -> Result<Self, AllocError>
-        requires { IsWithinLimits (settings_seen seen) }
-        ensures { IfOk result (λ c. c ≡ settings_seen seen.entry) }
-    {
-        Ok(Config {
-            name: String::from_str(alloc, seen.name)?,
-            image: String::from_str(alloc, seen.image)?,
-            blocks: seen.blocks,
-            spaces: seen.spaces,
-            entries: seen.entries,
-            console: seen.console,
-            quantum: seen.quantum,
-            rounds: seen.rounds,
-        })
+/// The fault of a value that is not as its key's row of the table says.
+fn range_fault(guest: u32, key: ConfigKey, value: &Value) -> ConfigFault
+    ensures { result ≡ fault.Range (Some guest) key (as_integer (view value.now)) }
+{
+    ConfigFault::Range {
+        guest: Some(guest),
+        key,
+        value: value.as_integer(),
     }
+}
 
-    /// What the report calls the guest.
-    pub fn name(&self) -> &str
-        ensures value { result.now ≡ self.now.name }
-        ensures limits { IsWithinLimits self.now }
-    {
-        self.name.as_str()
+/// The text that a value is.
+#[tactic(auto, unfolding(crate::specs::Tests::wrong_kind, crate::specs::Values::is_of))]
+fn text_in<'a>(value: &'a Value, guest: u32, key: ConfigKey) -> Result<&'a str, ConfigFault>
+    ensures text { IfOk result (λ t. as_str (view value.now) ≡ Some t.now) }
+    ensures passed { OnOk result (wrong_kind guest (key, any_text) (view value.now) ≡ None) }
+    ensures refused { IfErr result (λ f. wrong_kind guest (key, any_text) (view value.now) ≡ Some f) }
+{
+    match value.as_str() {
+        Some(text) => Ok(text),
+        None => Err(range_fault(guest, key, value)),
     }
+}
 
-    /// The name of the file that holds the guest's image.
-    pub fn image(&self) -> &str
-        ensures value { result.now ≡ self.now.image }
-        ensures limits { IsWithinLimits self.now }
-    {
-        self.image.as_str()
+/// The file name that a value is: a text of 1 to 255 bytes.
+#[tactic(auto, unfolding(crate::specs::Tests::wrong_kind, crate::specs::Values::is_of))]
+fn file_name_in<'a>(value: &'a Value, guest: u32, key: ConfigKey) -> Result<&'a str, ConfigFault>
+    ensures text { IfOk result (λ t. as_str (view value.now) ≡ Some t.now) }
+    ensures passed { OnOk result (wrong_kind guest (key, text_of 1 255) (view value.now) ≡ None) }
+    ensures refused { IfErr result (λ f. wrong_kind guest (key, text_of 1 255) (view value.now) ≡ Some f) }
+{
+    let Some(text) = value.as_str() else {
+        return Err(range_fault(guest, key, value))
+    };
+    if has_length(1, 255, text) {
+        Ok(text)
+    } else {
+        Err(range_fault(guest, key, value))
     }
+}
 
-    /// The guest's RAM, in blocks of 2 MiB.
-    pub fn blocks(&self) -> u64
-        ensures value { result ≡ self.now.blocks }
-        ensures limits { IsWithinLimits self.now }
-    {
-        self.blocks
+/// The number that a value is, within these limits.
+#[tactic(auto, unfolding(crate::specs::Tests::wrong_kind, crate::specs::Values::is_of))]
+fn number_in(
+    value: &Value,
+    guest: u32,
+    key: ConfigKey,
+    low: u64,
+    high: u64,
+) -> Result<u64, ConfigFault>
+    ensures number { IfOk result (λ n. number_within low high (view value.now) ≡ Some n) }
+    ensures passed { OnOk result (wrong_kind guest (key, integer_of low high) (view value.now) ≡ None) }
+    ensures refused { IfErr result (λ f.
+        wrong_kind guest (key, integer_of low high) (view value.now) ≡ Some f) }
+{
+    match number_within(low, high, value) {
+        Some(number) => Ok(number),
+        None => Err(range_fault(guest, key, value)),
     }
+}
 
-    /// How many lists of cached second-stage translations the guest has.
-    pub fn spaces(&self) -> u64
-        ensures value { result ≡ self.now.spaces }
-        ensures limits { IsWithinLimits self.now }
-    {
-        self.spaces
-    }
+/// The settings of a guest that has each key that it must have, each with a value of its kind.
+#[tactic(auto, unfolding(crate::specs::Guests::absent_key, crate::specs::Guests::wrong_value, crate::specs::Tests::out_of_range), using(crate::proofs::Found::found))]
+fn values_of<'a>(table: &'a Table, guest: u32) -> Result<GuestRef<'a>, ConfigFault>
+    ensures passed { OnOk result (absent_key guest (table_view table.now) ≡ None) }
+    ensures of_kind { OnOk result (wrong_value guest (table_view table.now) ≡ None) }
+    ensures values { IfOk result (λ r. HasValues r (table_view table.now)) }
+    ensures refused { IfErr result (λ f. first_fault (absent_key guest (table_view table.now)
+        ∷ wrong_value guest (table_view table.now) ∷ []) ≡ Some f) }
+{
+    let name = required(table, guest, ConfigKey::Name)?;
+    let image = required(table, guest, ConfigKey::Image)?;
+    let blocks = required(table, guest, ConfigKey::Blocks)?;
+    let spaces = required(table, guest, ConfigKey::Spaces)?;
+    let entries = required(table, guest, ConfigKey::Entries)?;
+    let console = required(table, guest, ConfigKey::Console)?;
+    Ok(GuestRef {
+        name: text_in(name, guest, ConfigKey::Name)?,
+        image: file_name_in(image, guest, ConfigKey::Image)?,
+        blocks: number_in(blocks, guest, ConfigKey::Blocks, 1, 32)?,
+        spaces: number_in(spaces, guest, ConfigKey::Spaces, 1, 8)?,
+        entries: number_in(entries, guest, ConfigKey::Entries, 16, 256)?,
+        console: number_in(console, guest, ConfigKey::Console, 0, 1_048_576)?,
+    })
+}
 
-    /// How many entries each of those lists has.
-    pub fn entries(&self) -> u64
-        ensures value { result ≡ self.now.entries }
-        ensures limits { IsWithinLimits self.now }
-    {
-        self.entries
-    }
+/// Whether a guest before has the name.
+fn is_taken(guests: &[GuestSettings], name: &str) -> bool
+    ensures { result ≡ list_any (λ guest. bytes_eq name.now guest.name) guests.now }
+{
+    guests
+        .iter()
+        .any(|guest| name.as_bytes() == guest.name.as_slice())
+}
 
-    /// How many bytes the guest's console keeps.
-    pub fn console(&self) -> u64
-        ensures value { result ≡ self.now.console }
-        ensures limits { IsWithinLimits self.now }
-    {
-        self.console
-    }
+/// Whether the name has its form, and no guest before has it.
+#[tactic(auto, unfolding(crate::specs::Guests::is_new_name), using(crate::proofs::Guesting::names))]
+fn is_new_name(guests: &[GuestSettings], name: &str) -> bool
+    ensures { result ≡ is_new_name (names_of guests.now) name.now }
+{
+    is_name(name) && !is_taken(guests, name)
+}
 
-    /// The steps of each turn.
-    pub fn quantum(&self) -> u64
-        ensures value { result ≡ self.now.quantum }
-        ensures limits { IsWithinLimits self.now }
-    {
-        self.quantum
-    }
+/// Keeps the settings of a guest.
+fn kept(
+    alloc: Global,
+    seen: GuestRef<'_>,
+    inputs: Vec<(u64, u8)>,
+) -> Result<GuestSettings, AllocError>
+    ensures { IfOk result (λ g. g ≡ settings_seen seen.entry inputs.items) }
+{
+    Ok(GuestSettings {
+        name: Name::from_vec(Vec::from_slice(alloc, seen.name.as_bytes())?),
+        image: FileName::from_string(String::from_str(alloc, seen.image)?),
+        blocks: seen.blocks,
+        spaces: seen.spaces,
+        entries: seen.entries,
+        console: seen.console,
+        inputs: Inputs::from_vec(inputs),
+    })
+}
 
-    /// How many turns the guest has.
-    pub fn rounds(&self) -> u64
-        ensures value { result ≡ self.now.rounds }
-        ensures limits { IsWithinLimits self.now }
-    {
-        self.rounds
+/// The settings of the next guest after these.
+#[tactic(auto, unfolding(crate::specs::Guests::guest_fault, crate::specs::Guests::settings_of))]
+pub fn settings_of(
+    alloc: Global,
+    before: &[GuestSettings],
+    table: &Table,
+) -> Result<GuestSettings, ReadEnd>
+    requires few { length before.now ≤ 16 }
+    ensures passed { OnOk result (guest_fault (names_of before.now) (table_view table.now) ≡ None) }
+    ensures settings { IfOk result (λ g. g ≡ settings_of (table_view table.now)) }
+    ensures refused { IfRefused result (λ f.
+        guest_fault (names_of before.now) (table_view table.now) ≡ Some f) }
+{
+    let guest = before.len() as u32;
+    let seen = values_of(table, guest)?;
+    if !is_new_name(before, seen.name) {
+        return Err(ReadEnd::Refused(ConfigFault::Name { guest }));
     }
+    let Some(inputs) = inputs_at(alloc, table)? else {
+        return Err(ReadEnd::Refused(ConfigFault::Input { guest }))
+    };
+    if !has_only(table, &GUEST_KEYS) {
+        return Err(ReadEnd::Refused(ConfigFault::Extra { guest: Some(guest) }));
+    }
+    Ok(kept(alloc, seen, inputs)?)
 }

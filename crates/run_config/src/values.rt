@@ -1,17 +1,18 @@
-//! The steps that find one value of a document.
+//! What stands at a key of a table.
 
-ghost use Rattle.std.specs.Prelude.{◌≡◌, bytes_eq, map, option_map, string_bytes};
+ghost use Rattle.std.specs.Prelude.{◌≡◌, ◌≤◌, bytes_eq, option_map, string_bytes, IfSome};
 ghost use Rattle.std.specs.BTreeMap.{keys};
 ghost use Rattle.std.specs.Char.{is_ascii_alphanumeric};
 ghost use Rattle.std.specs.List.{list_all, list_any};
 ghost use Rattle.toml.specs.Data.{get_member};
-ghost use Rattle.toml.specs.View.{view, table_view, array_view};
-ghost use Rattle.run_config.specs.Accept.{has_length, has_only, in_range, integer_at, is_file_name, is_name, only_item, only_table_at, text_at};
+ghost use Rattle.toml.specs.View.{view, table_view};
+ghost use Rattle.run_config.specs.Keys.{name_of};
+ghost use Rattle.run_config.specs.Values.{has_length, has_only, is_name, natural, number_within, value_at};
 
-use toml::value::Array;
+use crate::keys::ConfigKey;
 use toml::{Table, Value};
 
-/// The value at a key.
+/// The value at a key of this text.
 #[tactic(auto, using(toml::proofs::Views::table_get))]
 fn member_at<'a>(table: &'a Table, key: &str) -> Option<&'a Value>
     ensures { option_map (λ v. view v.now) result ≡ get_member key.now (table_view table.now) }
@@ -19,14 +20,33 @@ fn member_at<'a>(table: &'a Table, key: &str) -> Option<&'a Value>
     table.get(key)
 }
 
-/// The number, where it is not negative and within these limits.
-#[tactic(auto, unfolding(crate::specs::Accept::in_range))]
-fn in_range(number: i64, low: u64, high: u64) -> Option<u64>
-    ensures { result ≡ in_range number low high }
+/// The value at a key.
+#[tactic(auto, unfolding(crate::specs::Values::value_at))]
+pub fn value_at<'a>(table: &'a Table, key: ConfigKey) -> Option<&'a Value>
+    ensures { option_map (λ v. view v.now) result ≡ value_at key (table_view table.now) }
 {
-    let Ok(number) = u64::try_from(number) else {
+    member_at(table, key.text())
+}
+
+/// The integer as a number, where it is not negative.
+#[tactic(auto, unfolding(crate::specs::Values::natural))]
+pub fn natural(integer: i64) -> Option<u64>
+    ensures { result ≡ natural integer }
+{
+    let Ok(number) = u64::try_from(integer) else {
         return None
     };
+    Some(number)
+}
+
+/// The number that a value is, where it is an integer and within these limits.
+#[tactic(auto, unfolding(crate::specs::Values::number_within))]
+pub fn number_within(low: u64, high: u64, value: &Value) -> Option<u64>
+    ensures number { result ≡ number_within low high (view value.now) }
+    ensures most { IfSome result (λ number. number ≤ high) }
+{
+    let integer = value.as_integer()?;
+    let number = natural(integer)?;
     if low <= number && number <= high {
         Some(number)
     } else {
@@ -34,52 +54,10 @@ fn in_range(number: i64, low: u64, high: u64) -> Option<u64>
     }
 }
 
-/// The integer at a key, within these limits.
-#[tactic(auto, unfolding(crate::specs::Accept::integer_at))]
-pub fn integer_at(table: &Table, key: &str, low: u64, high: u64) -> Option<u64>
-    ensures { result ≡ integer_at (table_view table.now) key.now low high }
-{
-    let value = member_at(table, key)?;
-    let number = value.as_integer()?;
-    in_range(number, low, high)
-}
-
-/// The text at a key.
-#[tactic(auto, unfolding(crate::specs::Accept::text_at))]
-pub fn text_at<'a>(table: &'a Table, key: &str) -> Option<&'a str>
-    ensures { option_map (λ t. t.now) result ≡ text_at (table_view table.now) key.now }
-{
-    let value = member_at(table, key)?;
-    value.as_str()
-}
-
-/// The item of an array that has just one.
-#[tactic(auto, unfolding(crate::specs::Accept::only_item), using(crate::proofs::Items::only_item_of_more))]
-fn only_item(items: &Array) -> Option<&Value>
-    ensures { option_map (λ v. view v.now) result ≡ only_item (array_view items.now) }
-{
-    match items.as_slice() {
-        [] => None,
-        [item] => Some(item),
-        [_, _, ..] => None,
-    }
-}
-
-/// The table at a key that holds an array of just one table.
-#[tactic(auto, unfolding(crate::specs::Accept::only_table_at))]
-pub fn only_table_at<'a>(table: &'a Table, key: &str) -> Option<&'a Table>
-    ensures { option_map (λ t. table_view t.now) result ≡ only_table_at (table_view table.now) key.now }
-{
-    let value = member_at(table, key)?;
-    let items = value.as_array()?;
-    let item = only_item(items)?;
-    item.as_table()
-}
-
 /// Whether the text has at least and at most so many bytes.
-#[tactic(auto, unfolding(crate::specs::Accept::has_length))]
-fn has_length(text: &str, low: usize, high: usize) -> bool
-    ensures { result ≡ has_length text.now low high }
+#[tactic(auto, unfolding(crate::specs::Values::has_length))]
+pub fn has_length(low: usize, high: usize, text: &str) -> bool
+    ensures { result ≡ has_length low high text.now }
 {
     low <= text.len() && text.len() <= high
 }
@@ -94,38 +72,32 @@ fn is_alphanumeric(text: &str) -> bool
 }
 
 /// Whether the text is 1 to 32 ASCII letters and digits.
-#[tactic(auto, unfolding(crate::specs::Accept::is_name))]
+#[tactic(auto, unfolding(crate::specs::Values::is_name))]
 pub fn is_name(text: &str) -> bool
     ensures { result ≡ is_name text.now }
 {
-    has_length(text, 1, 32) && is_alphanumeric(text)
+    has_length(1, 32, text) && is_alphanumeric(text)
 }
 
-/// Whether the text is 1 to 255 bytes long.
-pub fn is_file_name(text: &str) -> bool
-    ensures { result ≡ is_file_name text.now }
+/// Whether the text is one of these keys.
+fn is_among(text: &str, known: &[ConfigKey]) -> bool
+    ensures { result ≡ list_any (λ key. bytes_eq text.now (name_of key)) known.now }
 {
-    has_length(text, 1, 255)
-}
-
-/// Whether the key is one of these.
-fn is_among(key: &str, known: &[&str]) -> bool
-    ensures { result ≡ list_any (λ other. bytes_eq key.now other.now) known.now }
-{
-    known.iter().any(|&other| key == other)
+    known.iter().any(|key| text == key.text())
 }
 
 /// Whether each key of the table is one of these.
-fn are_among(table: &Table, known: &[&str]) -> bool
-    ensures { result ≡ list_all (λ key. list_any (λ other. bytes_eq (string_bytes key) other.now) known.now) (keys table.now) }
+fn are_among(table: &Table, known: &[ConfigKey]) -> bool
+    ensures { result ≡ list_all (λ text. list_any (λ key. bytes_eq (string_bytes text) (name_of key))
+        known.now) (keys table.now) }
 {
     table.keys().all(|key| is_among(key.as_str(), known))
 }
 
 /// Whether the table has no key beyond these.
-#[tactic(auto, using(crate::proofs::Keys::has_only_by_keys))]
-pub fn has_only(table: &Table, known: &[&str]) -> bool
-    ensures { result ≡ has_only (table_view table.now) (map (λ k. k.now) known.now) }
+#[tactic(auto, using(crate::proofs::Known::has_only_by_keys))]
+pub fn has_only(table: &Table, known: &[ConfigKey]) -> bool
+    ensures { result ≡ has_only known.now (table_view table.now) }
 {
     are_among(table, known)
 }

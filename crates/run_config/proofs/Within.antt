@@ -1,0 +1,179 @@
+-- What is accepted is within its limits.
+use Rattle.std.proofs.Common.{◌≡◌, ℕ, ◌-◌, ◌^◌, ◌<◌, ◌≤◌, nat_le, Bool, true, false, ◌&&◌, not, List, [], ◌∷◌, ◌++◌, length, map, Option, Some, None, is_some, unwrap_or, refl, subst, arith}
+use Rattle.std.proofs.lemmas.Bool.{and_parts}
+use Rattle.std.proofs.lemmas.Bool.Decides.{nat_tests}
+use Rattle.std.proofs.lemmas.List.Elements.{All-nil, All-cons, All-weaker}
+use Rattle.std.proofs.lemmas.Option.{option_and_then_some, same_Some}
+use Rattle.std.specs.Char.{is_ascii_alphanumeric}
+use Rattle.std.specs.List.{All, list_all, list_any}
+use Rattle.std.specs.Option.{option_map_or}
+use Rattle.std.specs.Str.{bytes_eq}
+use Rattle.toml.specs.Data.{Data, Items, no_items, item, Members, as_integer, as_str, as_array}
+use Rattle.run_config.specs.declared.keys.ConfigKey.{ConfigKey}
+use Rattle.run_config.specs.declared.keys.ConfigKey.TheVariants as key
+use Rattle.run_config.specs.declared.faults.ConfigFault.{ConfigFault}
+use Rattle.run_config.specs.Guests.{absent_key, wrong_value, guest_fault, guests_fault, inputs_at, inputs_in, is_new_name, optional_inputs, rise_from, settings_of}
+use Rattle.run_config.specs.Configurations.{IsGuestWithin}
+use Rattle.run_config.specs.Tables.{Kind, any_text, text_of, integer_of}
+use Rattle.run_config.specs.Tests.{unless, first_fault, missing, out_of_range, wrong_kind}
+use Rattle.run_config.specs.Values.{holds, has_length, is_name, is_of, natural, number_at, number_within, pair_within, pairs_within, text_at, two_items, value_at}
+use Rattle.run_config.proofs.Found.{number_found, text_found}
+
+-- of tests without a fault the first has none, and the others have none
+pub first_none : (o : Option ConfigFault) (rest : List (Option ConfigFault)) → first_fault (o ∷ rest) ≡ None → (o ≡ None) × (first_fault rest ≡ None)
+first_none None rest e = (refl, e)
+first_none (Some f) rest e = cc
+
+pub unless_none : (b : Bool) (f : ConfigFault) → unless b f ≡ None → b ≡ true
+unless_none true f e = refl
+unless_none false f e = cc
+
+pub is_some_value : {A : Type 0} (o : Option A) → is_some o ≡ true → (x : A) × (o ≡ Some x)
+is_some_value None e = cc
+is_some_value (Some x) e = (x, refl)
+
+pub holds-some : (b : Bool) (u : Unit {0}) → holds b ≡ Some u → b ≡ true
+holds-some true u e = refl
+holds-some false u e = cc
+
+pub number_within-some : (low high : ℕ) (value : Data) (n : ℕ) → number_within low high value ≡ Some n → (low ≤ n) × (n ≤ high)
+unfolding number_within
+number_within-some low high value n e =
+    option_and_then_some _ (as_integer value) n e (λ z is e.
+    option_and_then_some _ (natural z) n e (λ m is_m e.
+    option_and_then_some _ (holds (nat_le low m && nat_le m high)) n e (λ u held e.
+    let parts = and_parts (nat_le low m) (nat_le m high) (holds-some _ u held) in
+    let same : m ≡ n = same_Some m n e in
+    let least : low ≤ m = grind (arith, nat_tests, parts.0) in
+    let most : m ≤ high = grind (arith, nat_tests, parts.1) in
+    subst (λ k. (low ≤ k) × (k ≤ high)) same (least, most))))
+
+-- a key that is there, with a value of its kind
+pub found_of_kind : (g : Option ℕ) (i : ℕ) (t : Members) (k : ConfigKey) (kind : Kind) → missing g t k ≡ None → out_of_range i t (k, kind) ≡ None → (value : Data) × (value_at k t ≡ Some value) × (is_of kind value ≡ true)
+unfolding missing out_of_range wrong_kind
+found_of_kind g i t k kind there fits =
+    let (value, is) = is_some_value (value_at k t) (unless_none _ _ there) in
+    (value, is, unless_none _ _ (rw is at fits))
+
+number_row : (g : Option ℕ) (i : ℕ) (t : Members) (k : ConfigKey) (low high : ℕ) → missing g t k ≡ None → out_of_range i t (k, integer_of low high) ≡ None → (low ≤ number_at k t) × (number_at k t ≤ high)
+unfolding is_of
+number_row g i t k low high there fits =
+    let (value, is, of) = found_of_kind g i t k (integer_of low high) there fits in
+    let (n, number) = is_some_value (number_within low high value) of in
+    rw (← number_found k t low high value n is number) (number_within-some low high value n number)
+
+has_length-true : (low high : ℕ) (text : List ℕ) → has_length low high text ≡ true → (low ≤ length text) × (length text ≤ high)
+unfolding has_length
+has_length-true low high text e = grind (arith, nat_tests)
+
+or_false : {A : Type 0} (test : A → Bool) (o : Option A) → option_map_or test o false ≡ true → (x : A) × (o ≡ Some x) × (test x ≡ true)
+or_false test None e = cc
+or_false test (Some x) e = (x, refl, e)
+
+text_row : (g : Option ℕ) (i : ℕ) (t : Members) (k : ConfigKey) (low high : ℕ) → missing g t k ≡ None → out_of_range i t (k, text_of low high) ≡ None → (low ≤ length (text_at k t)) × (length (text_at k t) ≤ high)
+unfolding is_of
+text_row g i t k low high there fits =
+    let (value, is, of) = found_of_kind g i t k (text_of low high) there fits in
+    let (text, is_text, long) = or_false (has_length low high) (as_str value) of in
+    rw (← text_found k t value text is is_text) (has_length-true low high text long)
+
+name-within : (names : List (List ℕ)) (name : List ℕ) → is_new_name names name ≡ true → (1 ≤ length name) × (length name ≤ 32)
+unfolding is_new_name is_name
+name-within names name e =
+    has_length-true 1 32 name (and_parts (has_length 1 32 name) (list_all is_ascii_alphanumeric name) (and_parts (is_name name) (not (list_any (bytes_eq name) names)) e).0).0
+
+-- a pair of at most these two
+abbrev pub IsAtMost : ℕ → ℕ → ℕ × ℕ → Type 0
+IsAtMost a b p = (p.0 ≤ a) × (p.1 ≤ b)
+
+pair_at_most : (a b : ℕ) (value : Data) (p : ℕ × ℕ) → pair_within a b value ≡ Some p → IsAtMost a b p
+unfolding pair_within
+pair_at_most a b value p e =
+    option_and_then_some _ (as_array value) p e (λ items _ e.
+    option_and_then_some _ (two_items items) p e (λ two _ e.
+    option_and_then_some _ (number_within 0 a two.0) p e (λ first is_first e.
+    option_and_then_some _ (number_within 0 b two.1) p e (λ second is_second e.
+    subst (IsAtMost a b) (same_Some (first, second) p e) ((number_within-some 0 a two.0 first is_first).1, (number_within-some 0 b two.1 second is_second).1)))))
+
+pub pairs_at_most : (a b : ℕ) (items : Items) (ps : List (ℕ × ℕ)) → pairs_within a b items ≡ Some ps → All (IsAtMost a b) ps
+unfolding pairs_within
+pairs_at_most a b no_items ps e = subst (All (IsAtMost a b)) (same_Some [] ps e) (All-nil (IsAtMost a b))
+pairs_at_most a b (item value rest) ps e =
+    option_and_then_some _ (pair_within a b value) ps e (λ p is_p e.
+    option_and_then_some _ (pairs_within a b rest) ps e (λ more is_more e.
+    subst (All (IsAtMost a b)) (same_Some (p ∷ more) ps e) (All-cons (IsAtMost a b) p more (pair_at_most a b value p is_p) (pairs_at_most a b rest more is_more))))
+
+record AreInputs (ps : List (ℕ × ℕ)) : Type 0 where
+  few : length ps ≤ 65536
+  rise : rise_from 0 ps ≡ true
+  within : All (IsAtMost (2 ^ 62 - 1) 255) ps
+
+inputs_fit : (o : Option Data) (ps : List (ℕ × ℕ)) → optional_inputs o ≡ Some ps → AreInputs ps
+unfolding inputs_in rise_from
+inputs_fit None ps e = subst AreInputs (same_Some [] ps e) (record { few = omega arith; rise = refl; within = All-nil _ })
+inputs_fit (Some value) ps e =
+    option_and_then_some _ (as_array value) ps e (λ items _ e.
+    option_and_then_some _ (pairs_within (2 ^ 62 - 1) 255 items) ps e (λ inputs is_inputs e.
+    option_and_then_some _ (holds (nat_le (length inputs) 65536 && rise_from 0 inputs)) ps e (λ u held e.
+    let parts = and_parts (nat_le (length inputs) 65536) (rise_from 0 inputs) (holds-some _ u held) in
+    let few : length inputs ≤ 65536 = grind (arith, nat_tests, parts.0) in
+    subst AreInputs (same_Some inputs ps e) (record { few = few; rise = parts.1; within = pairs_at_most _ _ items inputs is_inputs }))))
+
+inputs_within : (t : Members) → is_some (inputs_at t) ≡ true → AreInputs (unwrap_or (inputs_at t) [])
+unfolding inputs_at
+inputs_within t e =
+    let (ps, is) = is_some_value (inputs_at t) e in
+    rw is (inputs_fit (value_at key.Input t) ps is)
+
+pub guest_within : (names : List (List ℕ)) (t : Members) → guest_fault names t ≡ None → IsGuestWithin (settings_of t)
+unfolding guest_fault absent_key wrong_value settings_of
+guest_within names t e =
+    let n = length names in
+    let (absent, e) = first_none (absent_key n t) _ e in
+    let (wrong, e) = first_none (wrong_value n t) _ e in
+    let (named, e) = first_none (unless (is_new_name names (text_at key.Name t)) _) _ e in
+    let (input, e) = first_none (unless (is_some (inputs_at t)) _) _ e in
+    let (a-name, r) = first_none (missing (Some n) t key.Name) _ absent in
+    let (a-image, r) = first_none (missing (Some n) t key.Image) _ r in
+    let (a-blocks, r) = first_none (missing (Some n) t key.Blocks) _ r in
+    let (a-spaces, r) = first_none (missing (Some n) t key.Spaces) _ r in
+    let (a-entries, r) = first_none (missing (Some n) t key.Entries) _ r in
+    let (a-console, r) = first_none (missing (Some n) t key.Console) _ r in
+    let (w-name, w) = first_none (out_of_range n t (key.Name, any_text)) _ wrong in
+    let (w-image, w) = first_none (out_of_range n t (key.Image, text_of 1 255)) _ w in
+    let (w-blocks, w) = first_none (out_of_range n t (key.Blocks, integer_of 1 32)) _ w in
+    let (w-spaces, w) = first_none (out_of_range n t (key.Spaces, integer_of 1 8)) _ w in
+    let (w-entries, w) = first_none (out_of_range n t (key.Entries, integer_of 16 256)) _ w in
+    let (w-console, w) = first_none (out_of_range n t (key.Console, integer_of 0 1048576)) _ w in
+    let name = name-within names (text_at key.Name t) (unless_none _ _ named) in
+    let image = text_row (Some n) n t key.Image 1 255 a-image w-image in
+    let blocks = number_row (Some n) n t key.Blocks 1 32 a-blocks w-blocks in
+    let spaces = number_row (Some n) n t key.Spaces 1 8 a-spaces w-spaces in
+    let entries = number_row (Some n) n t key.Entries 16 256 a-entries w-entries in
+    let console = number_row (Some n) n t key.Console 0 1048576 a-console w-console in
+    let inputs = inputs_within t (unless_none _ _ input) in
+    record {
+      name_some = name.0;
+      name_most = name.1;
+      image_some = image.0;
+      image_most = image.1;
+      blocks_some = blocks.0;
+      blocks_most = blocks.1;
+      spaces_some = spaces.0;
+      spaces_most = spaces.1;
+      entries_least = entries.0;
+      entries_most = entries.1;
+      console_most = console.1;
+      inputs_most = inputs.few;
+      inputs_rise = inputs.rise;
+      inputs_below = All-weaker (IsAtMost (2 ^ 62 - 1) 255) (λ input. input.0 < 2 ^ 62) (λ p most. omega (arith, most.0)) _ inputs.within;
+      inputs_bytes = All-weaker (IsAtMost (2 ^ 62 - 1) 255) (λ input. input.1 < 256) (λ p most. omega (arith, most.1)) _ inputs.within;
+    }
+
+pub guests_within : (names : List (List ℕ)) (ts : List Members) → guests_fault names ts ≡ None → All IsGuestWithin (map settings_of ts)
+unfolding guests_fault
+guests_within names [] e = All-nil IsGuestWithin
+guests_within names (t ∷ ts) e =
+    let (here, e) = first_none (guest_fault names t) _ e in
+    let (more, e) = first_none (guests_fault (names ++ text_at key.Name t ∷ []) ts) _ e in
+    All-cons IsGuestWithin (settings_of t) (map settings_of ts) (guest_within names t here) (guests_within (names ++ text_at key.Name t ∷ []) ts more)

@@ -1,0 +1,41 @@
+-- What a configuration says, and within which limits.
+use Rattle.std.specs.Prelude.{ℕ, ◌<◌, ◌≤◌, ◌^◌, true, ◌≡◌, List, length}
+use Rattle.std.specs.List.{All}
+use Rattle.run_config.specs.declared.guests.GuestSettings.{GuestSettings}
+use Rattle.run_config.specs.Guests.{rise_from}
+
+-- the guests in their order, and the turns: pairs of a guest's number and a number of steps
+pub record Configuration : Type 0 where
+  pub guests : List GuestSettings
+  pub turns : List (ℕ × ℕ)
+
+-- what holds of the settings of each guest that is accepted
+pub record IsGuestWithin (g : GuestSettings) : Type 0 where
+  pub name_some : 1 ≤ length g.name
+  pub name_most : length g.name ≤ 32
+  pub image_some : 1 ≤ length g.image
+  pub image_most : length g.image ≤ 255
+  pub blocks_some : 1 ≤ g.blocks
+  pub blocks_most : g.blocks ≤ 32
+  pub spaces_some : 1 ≤ g.spaces
+  pub spaces_most : g.spaces ≤ 8
+  pub entries_least : 16 ≤ g.entries
+  pub entries_most : g.entries ≤ 256
+  pub console_most : g.console ≤ 1048576
+  pub inputs_most : length g.inputs ≤ 65536
+  pub inputs_rise : rise_from 0 g.inputs ≡ true
+  pub inputs_below : All (λ input. input.0 < 2 ^ 62) g.inputs
+  pub inputs_bytes : All (λ input. input.1 < 256) g.inputs
+
+-- a turn of one of so many guests, of at most 2^32 steps
+pub record IsTurnWithin (guests : ℕ) (turn : ℕ × ℕ) : Type 0 where
+  pub guest : turn.0 < guests
+  pub steps : turn.1 ≤ 2 ^ 32
+
+-- what holds of each configuration that is accepted
+pub record IsWithinLimits (c : Configuration) : Type 0 where
+  pub guests_some : 1 ≤ length c.guests
+  pub guests_most : length c.guests ≤ 16
+  pub each_guest : All IsGuestWithin c.guests
+  pub turns_most : length c.turns ≤ 2 ^ 20
+  pub each_turn : All (IsTurnWithin (length c.guests)) c.turns

@@ -1,0 +1,31 @@
+-- Tests in their order, and the first fault that they find.
+use Rattle.std.specs.Prelude.{ℕ, Bool, true, false, List, [], ◌∷◌, Option, Some, None, is_some}
+use Rattle.toml.specs.Data.{Data, Members, as_integer}
+use Rattle.run_config.specs.declared.keys.ConfigKey.{ConfigKey}
+use Rattle.run_config.specs.declared.faults.ConfigFault.{ConfigFault}
+use Rattle.run_config.specs.declared.faults.ConfigFault.TheVariants as fault
+use Rattle.run_config.specs.Tables.{Kind}
+use Rattle.run_config.specs.Values.{◌>>=◌, value_at, is_of}
+
+-- the fault, unless the test is passed
+abbrev pub unless : Bool → ConfigFault → Option ConfigFault
+unless true found = None
+unless false found = Some found
+
+-- the first fault of these tests
+abbrev pub first_fault : List (Option ConfigFault) → Option ConfigFault
+first_fault [] = None
+first_fault (None ∷ tests) = first_fault tests
+first_fault (Some found ∷ tests) = Some found
+
+-- the key must be there: in a guest's table, or in the document where no guest is named
+unfoldable pub missing : Option ℕ → Members → ConfigKey → Option ConfigFault
+missing guest table key = unless (is_some (value_at key table)) (fault.Missing guest key)
+
+-- a value must be of the kind that its row of the table says
+unfoldable pub wrong_kind : ℕ → ConfigKey × Kind → Data → Option ConfigFault
+wrong_kind guest row value = unless (is_of row.1 value) (fault.Range (Some guest) row.0 (as_integer value))
+
+-- the same of the value at the key of a row, where there is one
+unfoldable pub out_of_range : ℕ → Members → ConfigKey × Kind → Option ConfigFault
+out_of_range guest table row = value_at row.0 table >>= wrong_kind guest row

@@ -1,0 +1,57 @@
+//! The settings of a guest.
+
+ghost use Rattle.std.specs.Prelude.{◌≡◌};
+
+use machine_defs::{Inputs, Name};
+use std::marker::Model;
+
+/// The name of a file, as text.
+#[derive(Debug, Drop)]
+pub struct FileName {
+    text: String,
+}
+
+impl Model for FileName {
+    ghost use Rattle.std.specs.Prelude.{ℕ, List, string_bytes};
+
+    ghost Value = { List ℕ };
+
+    ghost view = { λ f. string_bytes f.text };
+}
+
+impl FileName {
+    ghost use Rattle.std.specs.Prelude.{string_bytes};
+
+    /// The name of this text.
+    pub fn from_string(text: String) -> FileName
+        ensures { result ≡ string_bytes text }
+    {
+        FileName { text }
+    }
+
+    /// The text of the name.
+    pub fn as_str(&self) -> &str
+        ensures { result.now ≡ self.now }
+    {
+        self.text.as_str()
+    }
+}
+
+/// What a configuration says of a guest.
+#[derive(Debug, Drop)]
+pub struct GuestSettings {
+    /// What the report calls it: ASCII letters and digits.
+    pub name: Name,
+    /// The name of the file that holds its image.
+    pub image: FileName,
+    /// Its RAM, in blocks of 2,097,152 bytes.
+    pub blocks: u64,
+    /// How many lists of cached second-stage translations it has.
+    pub spaces: u64,
+    /// How many entries each of those lists has.
+    pub entries: u64,
+    /// How many bytes its console keeps.
+    pub console: u64,
+    /// The bytes that come to its console, each with its moment.
+    pub inputs: Inputs,
+}

@@ -1,0 +1,44 @@
+//! The keys of a configuration.
+
+ghost use Rattle.std.specs.Prelude.{◌≡◌};
+ghost use Rattle.run_config.specs.Keys.{name_of};
+
+/// A key of the document or of a guest.
+#[derive(Clone, Copy, Debug, PartialEq, Eq)]
+pub enum ConfigKey {
+    Format,
+    Guest,
+    Turns,
+    Quantum,
+    Rounds,
+    Name,
+    Image,
+    Blocks,
+    Spaces,
+    Entries,
+    Console,
+    Input,
+}
+
+impl ConfigKey {
+    /// The key as it is written.
+    #[tactic(auto, unfolding(crate::specs::Keys::name_of))]
+    pub fn text(self) -> &'static str
+        ensures { result.now ≡ name_of self }
+    {
+        match self {
+            ConfigKey::Format => "format",
+            ConfigKey::Guest => "guest",
+            ConfigKey::Turns => "turns",
+            ConfigKey::Quantum => "quantum",
+            ConfigKey::Rounds => "rounds",
+            ConfigKey::Name => "name",
+            ConfigKey::Image => "image",
+            ConfigKey::Blocks => "blocks",
+            ConfigKey::Spaces => "spaces",
+            ConfigKey::Entries => "entries",
+            ConfigKey::Console => "console",
+            ConfigKey::Input => "input",
+        }
+    }
+}
