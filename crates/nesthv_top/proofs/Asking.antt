@@ -1,97 +1,310 @@
--- The reads of a command, one after the other.
-use Rattle.std.proofs.Common.{IsSome, option_and_then, ◌≡◌, ℕ, zero, suc, ◌≤◌, List, [], ◌∷◌, ◌++◌, Option, Some, None, take, refl, ap, sym, subst, append_assoc, length, arith}
+-- The reads of a command, and the plan that they give.
+use Rattle.std.proofs.Common.{cond, ◌≡◌, ◌∙◌, ℕ, zero, suc, ◌+◌, ◌-◌, ◌<◌, ◌≤◌, ◌==◌, List, [], ◌∷◌, Option, Some, None, Result, Ok, Err, length, take, Bool, false, true, nat_le, refl, ap, sym, subst, arith}
+use Rattle.std.proofs.lemmas.Bool.{eq-eqb}
+use Rattle.std.proofs.lemmas.List.{take_all, length-map}
 use Rattle.outside.specs.Asks.{Ask}
-use Rattle.outside.specs.Files.{Files}
-use Rattle.run_config.specs.Accept.{accept}
-use Rattle.run_config.specs.Settings.{Settings}
+use Rattle.outside.specs.Faults.{Rose}
+use Rattle.outside.specs.Files.{Files, GivesFile}
+use Rattle.machine_defs.specs.declared.guests.GuestSpec.{GuestSpec}
+use Rattle.run_config.specs.declared.faults.ConfigFault.{ConfigFault}
+use Rattle.run_config.specs.declared.faults.ConfigFault.TheVariants as fault
+use Rattle.run_config.specs.Accept as config
+use Rattle.run_config.specs.Accept.{accept, fault_of}
+use Rattle.run_config.specs.Configurations.{Configuration}
+use Rattle.run_config.specs.Tests.{first_fault, unless}
+use Rattle.nesthv_top.specs.declared.ends.Ended.TheVariants as ended
 use Rattle.nesthv_top.specs.declared.ends.LoadEnd.{LoadEnd}
 use Rattle.nesthv_top.specs.declared.ends.LoadEnd.TheVariants.{Refused, ReadFault, NoMemory}
-use Rattle.nesthv_top.specs.Ends.{RefusesOnly, made_by, added_by, IfFailed, IfWanting}
-use Rattle.nesthv_top.specs.Plans.{Plan, config_most, image_most, content, planned, planned_by}
-use Rattle.nesthv_top.specs.Reads.{ask, config_asks, image_asks, failed_at}
-use Rattle.nesthv_top.specs.Statuses.{AskedMore, IsFailedRead, IsWanting}
+use Rattle.nesthv_top.specs.Commands.{Run}
+use Rattle.nesthv_top.specs.Endings.{IsFirstRead, SaysOfReads}
+use Rattle.nesthv_top.specs.Ends.{ended_by, IfFailed, IfWanting, RefusesOnly}
+use Rattle.nesthv_top.specs.Loads.{AreRead, IsStopped}
+use Rattle.nesthv_top.specs.Plans.{Plan, config_most, content, fault_in, frames_fault, guest_of, guests_of, image_of, images_fault, planned, planned_by, planned_if, unless_fault}
+use Rattle.nesthv_top.specs.Reads.{accepted_asks, ask, config_asks, failed_at, frames_after, image_ask, image_asks, AskedMore, AskedSome, BeginsWithConfig, IsFailedRead}
+use Rattle.nesthv_top.proofs.Imaging.{asked_then, asks_all, first_of, one_is, rest_is}
 
--- what was asked after two steps
-asked_then : (xs ys : List Ask) (before between after : Option (List Ask)) → AskedMore xs before between → AskedMore ys between after → AskedMore (xs ++ ys) before after
-asked_then xs ys (Some asks) between after first second = rw (second, first) (ap Some (append_assoc asks xs ys))
-asked_then xs ys None between after first second = rw (second, first) refl
+-- a configuration that was accepted is not too long
+short_if : (short : Bool) (tree rest : Option ConfigFault) (what c : Configuration)
+    → config.unless_fault (first_fault (unless short fault.TooLong ∷ tree ∷ rest ∷ [])) what ≡ Ok c → short ≡ true
+short_if true tree rest what c e = refl
+short_if false tree rest what c e = cc
 
--- a configuration that gave no settings asks for no image
-first_reads : (read : Ask) (settings : Option Settings) (end : LoadEnd) → RefusesOnly end settings → IfFailed end (λ n. n ≡ 1) → IfWanting end (λ n. n ≤ 1)
-    → made_by (read ∷ []) end ≡ made_by (read ∷ image_asks settings) end
-first_reads read settings Refused none number wanting = rw none refl
-first_reads read settings (ReadFault n) none number wanting = rw number refl
-first_reads read settings (NoMemory zero) none number wanting = refl
-first_reads read settings (NoMemory (suc zero)) none number wanting = refl
-first_reads read settings (NoMemory (suc (suc n))) none number wanting = absurd (omega arith)
+at_most : (n : ℕ) → nat_le n 65536 ≡ true → n ≤ 65536
+at_most n e = grind (arith, e)
 
-pub first_ends : (read : Ask) (settings : Option Settings) (end : LoadEnd) (before after : Option (List Ask))
-    → RefusesOnly end settings → IfFailed end (λ n. n ≡ 1) → IfWanting end (λ n. n ≤ 1)
-    → AskedMore (made_by (read ∷ []) end) before after → AskedMore (made_by (read ∷ image_asks settings) end) before after
-first_ends read settings end before after none number wanting asked =
-    subst (λ reads. AskedMore reads before after) (first_reads read settings end none number wanting) asked
+pub accepted_short : (bytes : List ℕ) (c : Configuration) → accept bytes ≡ Ok c → length bytes ≤ 65536
+unfolding accept fault_of
+accepted_short bytes c e = at_most (length bytes) (short_if (nat_le (length bytes) 65536) _ _ _ c e)
 
--- the read of the image comes second
-second_reads : (read image : Ask) (end : LoadEnd) → IfFailed end (λ n. n ≡ 2) → IfWanting end (λ n. n ≡ 1)
-    → read ∷ added_by image end ≡ made_by (read ∷ image ∷ []) end
-second_reads read image Refused number wanting = refl
-second_reads read image (ReadFault n) number wanting = rw number refl
-second_reads read image (NoMemory n) number wanting = rw wanting refl
-
-pub second_ends : (read : Ask) (settings : Option Settings) (s : Settings) (end : LoadEnd) (before between after : Option (List Ask))
-    → settings ≡ Some s → IfFailed end (λ n. n ≡ 2) → IfWanting end (λ n. n ≡ 1)
-    → AskedMore (read ∷ []) before between → AskedMore (added_by (ask s.image (image_most s)) end) between after
-    → AskedMore (made_by (read ∷ image_asks settings) end) before after
-second_ends read settings s end before between after some number wanting first second =
-    subst (λ o. AskedMore (made_by (read ∷ image_asks o) end) before after) (sym some)
-    (subst (λ reads. AskedMore reads before after) (second_reads read (ask s.image (image_most s)) end number wanting)
-    (asked_then (read ∷ []) (added_by (ask s.image (image_most s)) end) before between after first second))
-
-pub both_made : (read : Ask) (settings : Option Settings) (s : Settings) (before between after : Option (List Ask))
-    → settings ≡ Some s → AskedMore (read ∷ []) before between → AskedMore (ask s.image (image_most s) ∷ []) between after
-    → AskedMore (read ∷ image_asks settings) before after
-both_made read settings s before between after some first second =
-    subst (λ o. AskedMore (read ∷ image_asks o) before after) (sym some)
-    (asked_then (read ∷ []) (ask s.image (image_most s) ∷ []) before between after first second)
-
--- a command has at most two reads
-two_reads : (read : Ask) (settings : Option Settings) → take 2 (read ∷ image_asks settings) ≡ read ∷ image_asks settings
-two_reads read (Some settings) = refl
-two_reads read None = refl
-
-pub whole_reads : (read : Ask) (settings : Option Settings) (before after : Option (List Ask))
-    → AskedMore (read ∷ image_asks settings) before after → AskedMore (take 2 (read ∷ image_asks settings)) before after
-whole_reads read settings before after asked = subst (λ reads. AskedMore reads before after) (sym (two_reads read settings)) asked
-
--- the same for an equal number of reads
-pub failed_made : (n n' : ℕ) (reads : List Ask) (before after : Option (List Ask)) → n ≡ n' → (1 ≤ n) × (n ≤ length reads)
-    → AskedMore (failed_at n reads) before after → IsFailedRead n' reads before after
-failed_made n n' reads before after e (some, number) asked =
-    subst (λ k. IsFailedRead k reads before after) e (record { some = some; number = number; asked = asked })
-
-pub read_number : (n n' : ℕ) → n ≡ n' → (1 ≤ n) × (n ≤ 2) → (1 ≤ n') × (n' ≤ 2)
-read_number n n' e bounds = subst (λ k. (1 ≤ k) × (k ≤ 2)) e bounds
-
-pub wanting_made : (n n' : ℕ) (plan : Option Plan) (reads : List Ask) (before after : Option (List Ask)) → n ≡ n'
-    → (n ≤ length reads) × (n ≡ 2 → IsSome plan) → AskedMore (take n reads) before after → IsWanting n' plan reads before after
-wanting_made n n' plan reads before after e (number, late) asked =
-    subst (λ k. IsWanting k plan reads before after) e (record { number = number; late = late; asked = asked })
-
--- where there is a plan, both reads were to be made
-two_asks : (files : Files) (read : Ask) (settings : Option Settings) (plan : Plan) → option_and_then (planned_by files) settings ≡ Some plan
-    → 2 ≤ length (read ∷ image_asks settings)
-two_asks files read (Some settings) plan e = omega arith
-two_asks files read None plan e = cc
-
-pub both_asked : (files : Files) (name : List ℕ) (plan : Plan) → planned files name ≡ Some plan → 2 ≤ length (config_asks files name)
+-- the plan of a configuration that was accepted, and its reads
+planned_is : (f : Files) (name : List ℕ) (c : Configuration) → accept (content f name config_most) ≡ Ok c → planned f name ≡ planned_by f c
 unfolding planned
-both_asked files name plan e = two_asks files (ask name config_most) (accept (content files name config_most)) plan e
+planned_is f name c accepted = ap (planned_if f) accepted
 
--- and memory that is wanting after them
-pub wanting_late : (files : Files) (name : List ℕ) (plan : Plan) (before after : Option (List Ask)) → planned files name ≡ Some plan
-    → AskedMore (config_asks files name) before after → IsWanting 2 (planned files name) (config_asks files name) before after
-wanting_late files name plan before after e asked = record {
-  number = both_asked files name plan e;
-  late = λ _. subst IsSome (sym e) refl;
-  asked = whole_reads (ask name config_most) (accept (content files name config_most)) before after asked;
+asks_are : (f : Files) (name : List ℕ) (c : Configuration) → accept (content f name config_most) ≡ Ok c
+    → config_asks f name ≡ ask name config_most ∷ image_asks f c.guests
+asks_are f name c accepted = rw accepted refl
+
+refused_by : (f : Files) (c : Configuration) (found : ConfigFault) → first_fault (images_fault f 0 c.guests ∷ frames_fault (guests_of f c.guests) ∷ []) ≡ Some found
+    → planned_by f c ≡ Err found
+unfolding planned_by
+refused_by f c found e = ap (λ fault. unless_fault fault (record { guests = guests_of f c.guests; turns = c.turns })) e
+
+faultless : (f : Files) (c : Configuration) → first_fault (images_fault f 0 c.guests ∷ frames_fault (guests_of f c.guests) ∷ []) ≡ None
+    → planned_by f c ≡ Ok (record { guests = guests_of f c.guests; turns = c.turns })
+unfolding planned_by
+faultless f c e = ap (λ fault. unless_fault fault (record { guests = guests_of f c.guests; turns = c.turns })) e
+
+-- a count of faults that rose in the second step rose
+rose_since : (before between after : ℕ) → before ≤ between → Rose between after → Rose before after
+rose_since before between after le rose = grind (arith, le, rose)
+
+-- a read that failed, and want of memory, after the first read
+failed_further : (a : Ask) (asks : List Ask) (n : ℕ) → 1 ≤ n - 1 → failed_at n (a ∷ asks) ≡ a ∷ failed_at (n - 1) asks
+failed_further a asks zero some = absurd (omega (arith, some))
+failed_further a asks (suc zero) some = absurd (omega (arith, some))
+failed_further a asks (suc (suc n)) some = rw (one_less (suc n), one_less n) refl
+  where
+    one_less : (n : ℕ) → suc n - 1 ≡ n
+    one_less n = omega arith
+
+taken_further : (a : Ask) (asks : List Ask) (n : ℕ) → 1 ≤ n → take n (a ∷ asks) ≡ a ∷ take (n - 1) asks
+taken_further a asks zero some = absurd (omega (arith, some))
+taken_further a asks (suc n) some = rw (one_less n) refl
+  where
+    one_less : (n : ℕ) → suc n - 1 ≡ n
+    one_less n = omega arith
+
+frames_later : (f : Files) (n : ℕ) (c : Configuration) → n < length c.guests → frames_after f n c ≡ None
+frames_later f n c less = ap (λ b. cond b (frames_fault (guests_of f c.guests)) None) (not_equal n (length c.guests) less)
+  where
+    not_equal : (a b : ℕ) → a < b → (a == b) ≡ false
+    not_equal a b less = grind (arith, less)
+
+-- what the store tells is the same after the first step
+told_since : {S : Type 0} (files : S → Option Files) (old mid : S) (f : Files) → files mid ≡ files old → files old ≡ Some f → files mid ≡ Some f
+told_since files old mid f stays told = stays ∙ told
+
+-- where some read was made, the first was that of the configuration
+later_first : {S : Type 0} (asked : S → Option (List Ask)) (name : List ℕ) (n : ℕ) (old new : S) → 1 ≤ n → BeginsWithConfig (Some (Run name)) (asked old) (asked new)
+    → IsFirstRead asked (Some (Run name)) (ended.NoMemory n) old new
+later_first asked name zero old new some begins = absurd (omega (arith, some))
+later_first asked name (suc n) old new some begins = begins
+
+-- the end of a command whose images' reads stopped
+pub images_stop : {S : Type 0} (files : S → Option Files) (asked : S → Option (List Ask)) (faults : S → ℕ)
+    (name : List ℕ) (c : Configuration) (end : LoadEnd) (old mid new : S)
+    → ((f : Files) → files old ≡ Some f → accept (content f name config_most) ≡ Ok c)
+    → AskedMore (ask name config_most ∷ []) (asked old) (asked mid)
+    → ((f : Files) → files mid ≡ Some f → IsStopped f c.guests end (asked mid) (asked new)) → AskedSome (asked mid) (asked new)
+    → files mid ≡ files old → files new ≡ files mid → faults old ≤ faults mid → faults mid ≤ faults new
+    → IfFailed end (λ n. (2 ≤ n) × (n ≤ 17) × Rose (faults mid) (faults new)) → IfWanting end (λ n. 1 ≤ n)
+    → SaysOfReads files asked faults (Some (Run name)) (ended_by end) old new
+images_stop files asked faults name c (Refused found) old mid new accepted first stopped some stays stays' count count' cause memory = record {
+  words = refl;
+  plan = λ f told.
+      let is = stopped f (stays ∙ told) in
+      ap fault_in (planned_is f name c (accepted f told) ∙ refused_by f c found (one_is (images_fault f 0 c.guests) (frames_fault (guests_of f c.guests)) found is.0));
+  cause = tt;
+  first = (false, some.0, asked_then (ask name config_most ∷ []) some.0 (asked old) (asked mid) (asked new) first some.1);
+  reads = λ f told.
+      subst (λ asks. AskedMore asks (asked old) (asked new)) (sym (asks_are f name c (accepted f told)))
+      (asked_then (ask name config_most ∷ []) (image_asks f c.guests) (asked old) (asked mid) (asked new) first (stopped f (stays ∙ told)).1);
+  stays = stays' ∙ stays;
+  count = omega (arith, count, count');
+}
+images_stop files asked faults name c (ReadFault n) old mid new accepted first stopped some stays stays' count count' cause memory = record {
+  words = refl;
+  plan = λ f told. tt;
+  cause = (omega (arith, cause.0), cause.1, rose_since (faults old) (faults mid) (faults new) count cause.2);
+  first = (false, some.0, asked_then (ask name config_most ∷ []) some.0 (asked old) (asked mid) (asked new) first some.1);
+  reads = λ f told.
+      let is = stopped f (stays ∙ told) in
+      subst (λ asks. IsFailedRead n asks (asked old) (asked new)) (sym (asks_are f name c (accepted f told))) (record {
+        some = omega (arith, cause.0);
+        number = omega (arith, is.number);
+        asked = subst (λ asks. AskedMore asks (asked old) (asked new)) (sym (failed_further (ask name config_most) (image_asks f c.guests) n is.some))
+            (asked_then (ask name config_most ∷ []) (failed_at (n - 1) (image_asks f c.guests)) (asked old) (asked mid) (asked new) first is.asked);
+      });
+  stays = stays' ∙ stays;
+  count = omega (arith, count, count');
+}
+images_stop files asked faults name c (NoMemory n) old mid new accepted first stopped some stays stays' count count' cause memory = record {
+  words = refl;
+  plan = λ f told. tt;
+  cause = tt;
+  first = later_first asked name n old new memory (false, some.0, asked_then (ask name config_most ∷ []) some.0 (asked old) (asked mid) (asked new) first some.1);
+  reads = λ f told.
+      let is = stopped f (stays ∙ told) in
+      let asks = asks_are f name c (accepted f told) in
+      record {
+        number = subst (λ asks. n ≤ length asks) (sym asks) (omega (arith, is.0, is.1.number));
+        early = λ _. accepted_short (content f name config_most) c (accepted f told);
+        later = λ _. rw (accepted f told) (rest_is (images_fault f 0 (take (n - 1) c.guests)) (frames_after f (n - 1) c) is.1.fault ∙ frames_later f (n - 1) c is.1.more);
+        asked = subst (λ asks. AskedMore (take n asks) (asked old) (asked new)) (sym asks)
+            (subst (λ asks. AskedMore asks (asked old) (asked new)) (sym (taken_further (ask name config_most) (image_asks f c.guests) n is.0))
+            (asked_then (ask name config_most ∷ []) (take (n - 1) (image_asks f c.guests)) (asked old) (asked mid) (asked new) first is.1.asked));
+      };
+  stays = stays' ∙ stays;
+  count = omega (arith, count, count');
+}
+
+-- the configuration is refused
+content_is : (told : Option Files) (f : Files) (name : List ℕ) (most : ℕ) (bytes : List ℕ) → GivesFile told name most bytes → told ≡ Some f → content f name most ≡ bytes
+content_is (Some g) f name most bytes gives e = let same : g ≡ f = cc in rw (← same, gives) refl
+content_is None f name most bytes gives e = cc
+
+refused_config : (f : Files) (name : List ℕ) (found : ConfigFault) → accept (content f name config_most) ≡ Err found → planned f name ≡ Err found
+unfolding planned
+refused_config f name found refused = ap (planned_if f) refused
+
+pub config_stop : {S : Type 0} (files : S → Option Files) (asked : S → Option (List Ask)) (faults : S → ℕ) (name bytes : List ℕ) (found : ConfigFault) (old new : S)
+    → GivesFile (files old) name config_most bytes → accept bytes ≡ Err found → AskedMore (ask name config_most ∷ []) (asked old) (asked new)
+    → files new ≡ files old → faults old ≤ faults new → SaysOfReads files asked faults (Some (Run name)) (ended.Refused found) old new
+config_stop files asked faults name bytes found old new gives refused made stays count = record {
+  words = refl;
+  plan = λ f told. ap fault_in (refused_config f name found (at f told));
+  cause = tt;
+  first = (false, [], made);
+  reads = λ f told. subst (λ config. AskedMore (ask name config_most ∷ accepted_asks f config) (asked old) (asked new)) (sym (at f told)) made;
+  stays = stays;
+  count = count;
+}
+  where
+    at : (f : Files) → files old ≡ Some f → accept (content f name config_most) ≡ Err found
+    at f told = ap accept (content_is (files old) f name config_most bytes gives told) ∙ refused
+
+-- the plan of guests whose images were all read
+pub planned_as : (f : Files) (name : List ℕ) (c : Configuration) (guests : List GuestSpec) → accept (content f name config_most) ≡ Ok c
+    → images_fault f 0 c.guests ≡ None → guests ≡ guests_of f c.guests → frames_fault guests ≡ None
+    → planned f name ≡ Ok (record { guests = guests; turns = c.turns })
+planned_as f name c guests accepted fit are few =
+    let frames : frames_fault (guests_of f c.guests) ≡ None = subst (λ guests. frames_fault guests ≡ None) are few in
+    planned_is f name c accepted ∙ faultless f c (rest_is (images_fault f 0 c.guests) (frames_fault (guests_of f c.guests)) fit ∙ frames)
+    ∙ ap (λ guests. Ok (record { guests = guests; turns = c.turns })) (sym are)
+
+pub refused_as : (f : Files) (name : List ℕ) (c : Configuration) (guests : List GuestSpec) (found : ConfigFault) → accept (content f name config_most) ≡ Ok c
+    → images_fault f 0 c.guests ≡ None → guests ≡ guests_of f c.guests → frames_fault guests ≡ Some found → planned f name ≡ Err found
+refused_as f name c guests found accepted fit are many =
+    let frames : frames_fault (guests_of f c.guests) ≡ Some found = subst (λ guests. frames_fault guests ≡ Some found) are many in
+    planned_is f name c accepted ∙ refused_by f c found (rest_is (images_fault f 0 c.guests) (frames_fault (guests_of f c.guests)) fit ∙ frames)
+
+-- a refusal by an image says which fault
+pub stopped_plan : (f : Files) (name : List ℕ) (c : Configuration) (end : LoadEnd) (before after : Option (List Ask)) → accept (content f name config_most) ≡ Ok c
+    → IsStopped f c.guests end before after → RefusesOnly end (planned f name)
+stopped_plan f name c (Refused found) before after accepted stopped =
+    planned_is f name c accepted ∙ refused_by f c found (one_is (images_fault f 0 c.guests) (frames_fault (guests_of f c.guests)) found stopped.0)
+stopped_plan f name c (ReadFault n) before after accepted stopped = tt
+stopped_plan f name c (NoMemory n) before after accepted stopped = tt
+
+-- all images were read, and the frames are few enough, or not
+pub all_read : {S : Type 0} (files : S → Option Files) (asked : S → Option (List Ask)) (faults : S → ℕ)
+    (name : List ℕ) (c : Configuration) (guests : List GuestSpec) (old mid new : S)
+    → ((f : Files) → files old ≡ Some f → accept (content f name config_most) ≡ Ok c)
+    → AskedMore (ask name config_most ∷ []) (asked old) (asked mid)
+    → ((f : Files) → files mid ≡ Some f → AreRead f c.guests guests (asked mid) (asked new)) → AskedSome (asked mid) (asked new)
+    → files mid ≡ files old → files new ≡ files mid → faults old ≤ faults mid → faults mid ≤ faults new
+    → frames_fault guests ≡ None → SaysOfReads files asked faults (Some (Run name)) ended.Done old new
+all_read files asked faults name c guests old mid new accepted first read some stays stays' count count' frames = record {
+  words = refl;
+  plan = λ f told. rw (planned_as f name c guests (accepted f told) (read f (stays ∙ told)).fault (read f (stays ∙ told)).guests_are frames) refl;
+  cause = tt;
+  first = (false, some.0, asked_then (ask name config_most ∷ []) some.0 (asked old) (asked mid) (asked new) first some.1);
+  reads = λ f told.
+      subst (λ asks. AskedMore asks (asked old) (asked new)) (sym (asks_are f name c (accepted f told)))
+      (asked_then (ask name config_most ∷ []) (image_asks f c.guests) (asked old) (asked mid) (asked new) first (read f (stays ∙ told)).asked);
+  stays = stays' ∙ stays;
+  count = omega (arith, count, count');
+}
+
+pub frames_stop : {S : Type 0} (files : S → Option Files) (asked : S → Option (List Ask)) (faults : S → ℕ)
+    (name : List ℕ) (c : Configuration) (guests : List GuestSpec) (found : ConfigFault) (old mid new : S)
+    → ((f : Files) → files old ≡ Some f → accept (content f name config_most) ≡ Ok c)
+    → AskedMore (ask name config_most ∷ []) (asked old) (asked mid)
+    → ((f : Files) → files mid ≡ Some f → AreRead f c.guests guests (asked mid) (asked new)) → AskedSome (asked mid) (asked new)
+    → files mid ≡ files old → files new ≡ files mid → faults old ≤ faults mid → faults mid ≤ faults new
+    → frames_fault guests ≡ Some found → SaysOfReads files asked faults (Some (Run name)) (ended.Refused found) old new
+frames_stop files asked faults name c guests found old mid new accepted first read some stays stays' count count' frames = record {
+  words = refl;
+  plan = λ f told. ap fault_in (refused_as f name c guests found (accepted f told) (read f (stays ∙ told)).fault (read f (stays ∙ told)).guests_are frames);
+  cause = tt;
+  first = (false, some.0, asked_then (ask name config_most ∷ []) some.0 (asked old) (asked mid) (asked new) first some.1);
+  reads = λ f told.
+      subst (λ asks. AskedMore asks (asked old) (asked new)) (sym (asks_are f name c (accepted f told)))
+      (asked_then (ask name config_most ∷ []) (image_asks f c.guests) (asked old) (asked mid) (asked new) first (read f (stays ∙ told)).asked);
+  stays = stays' ∙ stays;
+  count = omega (arith, count, count');
+}
+
+-- memory is wanting after all reads
+no_more : (asks : List Ask) (n : ℕ) → length asks ≤ n → take n asks ≡ asks
+no_more asks n less = take_all n asks less
+
+plan_parts : (f : Files) (c : Configuration) (plan : Plan) (fault : Option ConfigFault) → unless_fault fault (record { guests = guests_of f c.guests; turns = c.turns }) ≡ Ok plan
+    → (fault ≡ None) × (guests_of f c.guests ≡ plan.guests)
+plan_parts f c plan None e =
+    let whole : Plan = record { guests = guests_of f c.guests; turns = c.turns } in
+    let same : whole ≡ plan = cc in (refl, ap (λ plan. plan.guests) same)
+plan_parts f c plan (Some found) e = cc
+
+record IsReadWhole (f : Files) (c : Configuration) (count : ℕ) : Type 0 where
+  images : images_fault f 0 c.guests ≡ None
+  frames : frames_fault (guests_of f c.guests) ≡ None
+  guests : count ≡ length c.guests
+
+read_whole : (f : Files) (c : Configuration) (plan : Plan) → planned_by f c ≡ Ok plan → IsReadWhole f c (length plan.guests)
+unfolding planned_by
+read_whole f c plan e =
+    let parts = plan_parts f c plan (first_fault (images_fault f 0 c.guests ∷ frames_fault (guests_of f c.guests) ∷ [])) e in
+    let both = first_of (images_fault f 0 c.guests) (frames_fault (guests_of f c.guests)) parts.0 in
+    record {
+      images = both.0;
+      frames = both.1;
+      guests = sym (ap length parts.1) ∙ length-map c.guests (λ guest. guest_of guest (image_of f guest));
+    }
+
+accepted_for : (f : Files) (name : List ℕ) (plan : Plan) (config : Result Configuration ConfigFault) → planned_if f config ≡ Ok plan
+    → (c : Configuration) × (config ≡ Ok c) × (planned_by f c ≡ Ok plan)
+accepted_for f name plan (Ok c) e = (c, refl, e)
+accepted_for f name plan (Err found) e = cc
+
+planned_for : (f : Files) (name : List ℕ) (plan : Plan) → planned f name ≡ Ok plan
+    → (c : Configuration) × (accept (content f name config_most) ≡ Ok c) × (planned_by f c ≡ Ok plan)
+unfolding planned
+planned_for f name plan e = accepted_for f name plan (accept (content f name config_most)) e
+
+frames_now : (f : Files) (c : Configuration) (n : ℕ) → n ≡ length c.guests → frames_after f n c ≡ frames_fault (guests_of f c.guests)
+frames_now f c n e = ap (λ b. cond b (frames_fault (guests_of f c.guests)) None) (equal n (length c.guests) e)
+  where
+    equal : (a b : ℕ) → a ≡ b → (a == b) ≡ true
+    equal a b e = eq-eqb a b e
+
+whole_asks : (f : Files) (c : Configuration) → images_fault f 0 c.guests ≡ None → length (image_asks f c.guests) ≡ length c.guests
+whole_asks f c fit = ap length (asks_all f 0 c.guests fit) ∙ length-map c.guests image_ask
+
+pub late_wanting : {S : Type 0} (files : S → Option Files) (asked : S → Option (List Ask)) (faults : S → ℕ) (name : List ℕ) (plan : Plan) (old new : S)
+    → ((f : Files) → files old ≡ Some f → planned f name ≡ Ok plan) → SaysOfReads files asked faults (Some (Run name)) ended.Done old new
+    → SaysOfReads files asked faults (Some (Run name)) (ended.NoMemory (1 + length plan.guests)) old new
+late_wanting files asked faults name plan old new is made = record {
+  words = refl;
+  plan = λ f told. tt;
+  cause = tt;
+  first = later_first asked name (1 + length plan.guests) old new (omega arith) made.first;
+  reads = λ f told.
+      let there = planned_for f name plan (is f told) in
+      let c = there.0 in
+      let whole = read_whole f c plan there.2 in
+      let asks = asks_are f name c there.1 in
+      let count : length (ask name config_most ∷ image_asks f c.guests) ≡ 1 + length plan.guests = omega (arith, whole_asks f c whole.images, whole.guests) in
+      let less : 1 + length plan.guests - 1 ≡ length c.guests = omega (arith, whole.guests) in
+      record {
+        number = subst (λ asks. 1 + length plan.guests ≤ length asks) (sym asks) (omega (arith, count));
+        early = λ _. accepted_short (content f name config_most) c there.1;
+        later = λ _. rw (less, there.1) (rw (take_all (length c.guests) c.guests (omega arith))
+            (rest_is (images_fault f 0 c.guests) (frames_after f (length c.guests) c) whole.images ∙ frames_now f c (length c.guests) refl ∙ whole.frames));
+        asked = subst (λ reads. AskedMore reads (asked old) (asked new)) (sym (no_more (config_asks f name) (1 + length plan.guests)
+            (subst (λ asks. length asks ≤ 1 + length plan.guests) (sym asks) (omega (arith, count))))) (made.reads f told);
+      };
+  stays = made.stays;
+  count = made.count;
 }

@@ -1,3 +1,9 @@
+pub mod Accounting
 pub mod Asking
-pub mod Rounds
+pub mod Framing
+pub mod Imaging
+pub mod Reporting
+pub mod Sectioning
 pub mod Telling
+pub mod TurnEvents
+pub mod Turning

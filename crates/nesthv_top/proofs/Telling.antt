@@ -1,39 +1,66 @@
--- What a status tells of the reads, by the end that it stands for.
-use Rattle.std.proofs.Common.{◌≡◌, ◌≢◌, ℕ, ◌≤◌, List, Option, Some, take, arith}
+-- What a status tells, by the end that it stands for.
+use Rattle.std.proofs.Common.{◌≡◌, ◌≢◌, ℕ, ◌≤◌, List, Option, Some, refl, arith}
 use Rattle.outside.specs.Asks.{Ask}
 use Rattle.outside.specs.Files.{Files}
 use Rattle.nesthv_top.specs.declared.ends.Ended.{Ended}
 use Rattle.nesthv_top.specs.declared.ends.Ended.TheVariants.{Done, NoCommand, Refused, ReadFault, WriteFault, NoMemory}
-use Rattle.nesthv_top.specs.Plans.{Plan}
+use Rattle.nesthv_top.specs.Commands.{Command}
+use Rattle.nesthv_top.specs.Endings.{IsAsked, IsLineOf, IfReadFault}
 use Rattle.nesthv_top.specs.Lines.{read_line}
-use Rattle.nesthv_top.specs.Statuses.{status_of, AskedMore, IsFailedRead, IsWanting, IsAsked, IsLineOf, IfReadFault}
+use Rattle.nesthv_top.specs.Reads.{asks_of, AskedMore, IsFailedRead, IsWanting}
+use Rattle.nesthv_top.specs.Statuses.{status_of}
 use Rattle.nesthv_top.specs.Written.{IsTold}
 
-pub all_asked : (status : ℕ) (ended : Ended) (plan : Option Plan) (reads : List Ask) (before after : Option (List Ask)) → status ≡ status_of ended → status ≢ 3 → status ≢ 5
-    → IsAsked ended plan reads before after → AskedMore reads before after
-all_asked status Done plan reads before after e no_read memory asked = asked
-all_asked status NoCommand plan reads before after e no_read memory asked = asked
-all_asked status Refused plan reads before after e no_read memory asked = asked
-all_asked status (ReadFault n) plan reads before after e no_read memory asked = absurd (no_read e)
-all_asked status WriteFault plan reads before after e no_read memory asked = asked
-all_asked status (NoMemory n) plan reads before after e no_read memory asked = absurd (memory e)
+-- the ends of the statuses 0 and 4
+pub done_is : (ended : Ended) → status_of ended ≡ 0 → ended ≡ Done
+done_is Done e = refl
+done_is NoCommand e = absurd (omega (arith, e))
+done_is (Refused found) e = absurd (omega (arith, e))
+done_is (ReadFault n) e = absurd (omega (arith, e))
+done_is WriteFault e = absurd (omega (arith, e))
+done_is (NoMemory n) e = absurd (omega (arith, e))
 
-pub read_failed : {E : Type 0} (stands_for : E → List ℕ → Type 0) (faults : E → ℕ) (old new : E) (status : ℕ) (ended : Ended)
-    (files_told : Option Files) (plan : Files → Option Plan) (reads : Files → List Ask) (before after : Option (List Ask)) → status ≡ status_of ended → status ≡ 3
-    → IsLineOf stands_for faults old new ended → IfReadFault ended (λ n. (1 ≤ n) × (n ≤ 2)) → ((files : Files) → files_told ≡ Some files → IsAsked ended (plan files) (reads files) before after)
-    → (n : ℕ) × IsTold stands_for faults old new (read_line n) × (1 ≤ n) × (n ≤ 2) × ((files : Files) → files_told ≡ Some files → IsFailedRead n (reads files) before after)
-read_failed stands_for faults old new status Done files_told plan reads before after e three line number asked = absurd (omega arith)
-read_failed stands_for faults old new status NoCommand files_told plan reads before after e three line number asked = absurd (omega arith)
-read_failed stands_for faults old new status Refused files_told plan reads before after e three line number asked = absurd (omega arith)
-read_failed stands_for faults old new status (ReadFault n) files_told plan reads before after e three line number asked = (n, line, number.0, number.1, asked)
-read_failed stands_for faults old new status WriteFault files_told plan reads before after e three line number asked = absurd (omega arith)
-read_failed stands_for faults old new status (NoMemory n) files_told plan reads before after e three line number asked = absurd (omega arith)
+pub write_is : (ended : Ended) → status_of ended ≡ 4 → ended ≡ WriteFault
+write_is Done e = absurd (omega (arith, e))
+write_is NoCommand e = absurd (omega (arith, e))
+write_is (Refused found) e = absurd (omega (arith, e))
+write_is (ReadFault n) e = absurd (omega (arith, e))
+write_is WriteFault e = refl
+write_is (NoMemory n) e = absurd (omega (arith, e))
 
-pub memory_wanting : (status : ℕ) (ended : Ended) (plan : Option Plan) (reads : List Ask) (before after : Option (List Ask)) → status ≡ status_of ended → status ≡ 5
-    → IsAsked ended plan reads before after → (n : ℕ) × IsWanting n plan reads before after
-memory_wanting status Done plan reads before after e five asked = absurd (omega arith)
-memory_wanting status NoCommand plan reads before after e five asked = absurd (omega arith)
-memory_wanting status Refused plan reads before after e five asked = absurd (omega arith)
-memory_wanting status (ReadFault n) plan reads before after e five asked = absurd (omega arith)
-memory_wanting status WriteFault plan reads before after e five asked = absurd (omega arith)
-memory_wanting status (NoMemory n) plan reads before after e five asked = (n, asked)
+pub all_asked : (ended : Ended) (files : Files) (command : Option Command) (before after : Option (List Ask))
+    → status_of ended ≢ 3 → status_of ended ≢ 5 → IsAsked ended files command before after
+    → AskedMore (asks_of files command) before after
+all_asked Done files command before after no_read memory asked = asked
+all_asked NoCommand files command before after no_read memory asked = asked
+all_asked (Refused found) files command before after no_read memory asked = asked
+all_asked (ReadFault n) files command before after no_read memory asked = absurd (no_read refl)
+all_asked WriteFault files command before after no_read memory asked = asked
+all_asked (NoMemory n) files command before after no_read memory asked = absurd (memory refl)
+
+-- what status 5 tells of the reads
+pub memory_wanting : (ended : Ended) (files : Files) (command : Option Command) (before after : Option (List Ask))
+    → status_of ended ≡ 5 → IsAsked ended files command before after
+    → (n : ℕ) × IsWanting n files command before after
+memory_wanting Done files command before after e asked = absurd (omega (arith, e))
+memory_wanting NoCommand files command before after e asked = absurd (omega (arith, e))
+memory_wanting (Refused found) files command before after e asked = absurd (omega (arith, e))
+memory_wanting (ReadFault n) files command before after e asked = absurd (omega (arith, e))
+memory_wanting WriteFault files command before after e asked = absurd (omega (arith, e))
+memory_wanting (NoMemory n) files command before after e asked = (n, asked)
+
+-- what status 3 tells of the reads and of the line
+pub read_failed : {E : Type 0} (stands_for : E → List ℕ → Type 0) (faults : E → ℕ) (old new : E) (rose : Type 0)
+    (ended : Ended) (told : Option Files) (command : Option Command) (before after : Option (List Ask))
+    → status_of ended ≡ 3 → IsLineOf stands_for faults ended old new
+    → IfReadFault ended (λ n. (1 ≤ n) × (n ≤ 17) × rose)
+    → ((files : Files) → told ≡ Some files → IsAsked ended files command before after)
+    → (n : ℕ) × IsTold stands_for faults old new (read_line n) × (1 ≤ n) × (n ≤ 17)
+    × ((files : Files) → told ≡ Some files → IsFailedRead n (asks_of files command) before after)
+read_failed stands_for faults old new rose Done told command before after e line number asked = absurd (omega (arith, e))
+read_failed stands_for faults old new rose NoCommand told command before after e line number asked = absurd (omega (arith, e))
+read_failed stands_for faults old new rose (Refused found) told command before after e line number asked = absurd (omega (arith, e))
+read_failed stands_for faults old new rose (ReadFault n) told command before after e line (some, number, cause) asked =
+    (n, line, some, number, asked)
+read_failed stands_for faults old new rose WriteFault told command before after e line number asked = absurd (omega (arith, e))
+read_failed stands_for faults old new rose (NoMemory n) told command before after e line number asked = absurd (omega (arith, e))

@@ -12,7 +12,8 @@ is_plain (first ∷ rest) = not (nat_eq first 45)
 
 -- the command of the words after the program's name
 abbrev pub asked_by : List (List ℕ) → Option Command
-asked_by (verb ∷ config ∷ []) = if bytes_eq verb (codes "run") && is_plain config then Some (Run config) else None
+asked_by (verb ∷ config ∷ []) =
+    if bytes_eq verb (codes "run") && is_plain config then Some (Run config) else None
 asked_by words = None
 
 -- the command of all words; the first is the program's name, and is not looked at

@@ -1,34 +1,38 @@
 -- What each end of a step says.
-use Rattle.std.specs.Prelude.{◌≡◌, ℕ, List, [], ◌∷◌, Option, Some, None, Result, Ok, Err, take, ⊤}
+use Rattle.std.specs.Prelude.{◌≡◌, ℕ, List, [], ◌∷◌, Result, Ok, Err, ⊤}
 use Rattle.outside.specs.Asks.{Ask}
+use Rattle.run_config.specs.declared.faults.ConfigFault.{ConfigFault}
+use Rattle.nesthv_top.specs.declared.ends.Ended.{Ended}
+use Rattle.nesthv_top.specs.declared.ends.Ended.TheVariants as ended
 use Rattle.nesthv_top.specs.declared.ends.LoadEnd.{LoadEnd}
 use Rattle.nesthv_top.specs.declared.ends.LoadEnd.TheVariants.{Refused, ReadFault, NoMemory}
-use Rattle.nesthv_top.specs.Reads.{failed, failed_at}
+use Rattle.nesthv_top.specs.Reads.{failed}
 
--- a refusal says that nothing is defined; a failed read and want of memory say nothing of it
-abbrev pub RefusesOnly : {B : Type 0} → LoadEnd → Option B → Type 0
-RefusesOnly Refused defined = defined ≡ None
+-- a refusal says which fault is defined; a failed read and want of memory say nothing of it
+abbrev pub RefusesOnly : {B : Type 0} → LoadEnd → Result B ConfigFault → Type 0
+RefusesOnly (Refused found) defined = defined ≡ Err found
 RefusesOnly (ReadFault n) defined = ⊤
 RefusesOnly (NoMemory n) defined = ⊤
 
 -- what a step answers is what is defined
-abbrev pub Answers : {A B : Type 0} → (A → B) → Result A LoadEnd → Option B → Type 0
-Answers seen (Ok a) defined = defined ≡ Some (seen a)
+abbrev pub Answers : {A B : Type 0} → (A → B) → Result A LoadEnd → Result B ConfigFault → Type 0
+Answers seen (Ok a) defined = defined ≡ Ok (seen a)
 Answers seen (Err end) defined = RefusesOnly end defined
 
--- which of the reads that are to be made were made, by the end
-abbrev pub made_by : List Ask → LoadEnd → List Ask
-made_by reads Refused = reads
-made_by reads (ReadFault n) = failed_at n reads
-made_by reads (NoMemory n) = take n reads
+-- the end of the command whose step ended so
+abbrev pub ended_by : LoadEnd → Ended
+ended_by (Refused found) = ended.Refused found
+ended_by (ReadFault n) = ended.ReadFault n
+ended_by (NoMemory n) = ended.NoMemory n
 
-abbrev pub made_of : {A : Type 0} → List Ask → Result A LoadEnd → List Ask
-made_of reads (Ok a) = reads
-made_of reads (Err end) = made_by reads end
+-- the same for a step that went well, where nothing that follows refuses or fails
+abbrev pub ended_of : {A : Type 0} → Result A LoadEnd → Ended
+ended_of (Ok a) = ended.Done
+ended_of (Err end) = ended_by end
 
--- which reads the read of an image adds
+-- which reads the read of one file adds
 abbrev pub added_by : Ask → LoadEnd → List Ask
-added_by read Refused = read ∷ []
+added_by read (Refused found) = read ∷ []
 added_by read (ReadFault n) = failed (read ∷ [])
 added_by read (NoMemory n) = []
 
@@ -36,9 +40,19 @@ abbrev pub added_of : {A : Type 0} → Ask → Result A LoadEnd → List Ask
 added_of read (Ok a) = read ∷ []
 added_of read (Err end) = added_by read end
 
+-- a fact for a refusal, by its fault
+abbrev pub IfRefusal : LoadEnd → (ConfigFault → Type 0) → Type 0
+IfRefusal (Refused found) P = P found
+IfRefusal (ReadFault n) P = ⊤
+IfRefusal (NoMemory n) P = ⊤
+
+abbrev pub IfRefused : {A : Type 0} → Result A LoadEnd → (ConfigFault → Type 0) → Type 0
+IfRefused (Ok a) P = ⊤
+IfRefused (Err end) P = IfRefusal end P
+
 -- a fact for a failed read, by its number
 abbrev pub IfFailed : LoadEnd → (ℕ → Type 0) → Type 0
-IfFailed Refused P = ⊤
+IfFailed (Refused found) P = ⊤
 IfFailed (ReadFault n) P = P n
 IfFailed (NoMemory n) P = ⊤
 
@@ -48,7 +62,7 @@ IfReadFault (Err end) P = IfFailed end P
 
 -- a fact for want of memory, by how many reads were made
 abbrev pub IfWanting : LoadEnd → (ℕ → Type 0) → Type 0
-IfWanting Refused P = ⊤
+IfWanting (Refused found) P = ⊤
 IfWanting (ReadFault n) P = ⊤
 IfWanting (NoMemory n) P = P n
 

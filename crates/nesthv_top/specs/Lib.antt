@@ -1,8 +1,11 @@
 pub mod Commands
+pub mod Endings
 pub mod Ends
 pub mod Lines
+pub mod Loads
 pub mod Plans
 pub mod Reads
+pub mod Runnings
 pub mod Seen
 pub mod Statuses
 pub mod Written

@@ -1,11 +1,32 @@
 -- The lines that tell of a status.
-use Rattle.std.specs.Prelude.{ℕ, List, ◌++◌, codes, decimal}
+use Rattle.std.specs.Prelude.{ℕ, ℤ, List, [], ◌++◌, Option, Some, None, codes, decimal}
+use Rattle.std.specs.Fmt.{signed_decimal}
+use Rattle.run_config.specs.declared.faults.ConfigFault.{ConfigFault}
+use Rattle.run_config.specs.declared.keys.ConfigKey.{ConfigKey}
+use Rattle.run_config.specs.Faults.{fault_guest, fault_key, fault_number, fault_value}
+use Rattle.run_config.specs.Keys.{name_of}
 
 abbrev pub usage_line : List ℕ
 usage_line = codes "nesthv: usage: run CONFIG | replay CONFIG REPORT | check CONFIG | work SEED SIZE\n"
 
-abbrev pub configuration_line : List ℕ
-configuration_line = codes "nesthv: configuration fault 2\n"
+-- what a fault keeps
+abbrev pub guest_text : Option ℕ → List ℕ
+guest_text None = []
+guest_text (Some guest) = codes " guest " ++ decimal guest
+
+abbrev pub key_text : Option ConfigKey → List ℕ
+key_text None = []
+key_text (Some key) = codes " key " ++ name_of key
+
+abbrev pub value_text : Option ℤ → List ℕ
+value_text None = []
+value_text (Some value) = codes " value " ++ signed_decimal value
+
+-- the configuration has this fault
+unfoldable pub configuration_line : ConfigFault → List ℕ
+configuration_line found = codes "nesthv: configuration fault " ++ decimal (fault_number found)
+    ++ guest_text (fault_guest found) ++ key_text (fault_key found) ++ value_text (fault_value found)
+    ++ codes "\n"
 
 -- the read of this number failed
 abbrev pub read_line : ℕ → List ℕ

@@ -1,29 +1,57 @@
--- What a command does with the files: the guest that it runs, for how many steps, and the report.
-use Rattle.std.specs.Prelude.{ℕ, ◌+◌, ◌*◌, List, [], Option, Some, None, length, nat_le, unwrap_or, option_and_then, if◌then◌else◌}
-use Rattle.machine_defs.specs.declared.guests.GuestSpec.{GuestSpec}
+-- What a command does with the files: the guests that it runs, their turns, and the report.
+use Rattle.std.specs.Prelude.{ℕ, ◌+◌, ◌*◌, List, [], ◌∷◌, ◌++◌, Option, Some, None, Result, Ok, Err, Bool, length, map, nat_le, sum_by, unwrap_or}
 use Rattle.arch_defs.specs.Memory.{block_size}
+use Rattle.guest_turns.specs.Limits.{frames_for}
+use Rattle.machine_defs.specs.declared.events.Event.{Event}
+use Rattle.machine_defs.specs.declared.guests.GuestSpec.{GuestSpec}
 use Rattle.machine_defs.specs.Machine.{start}
 use Rattle.machine_defs.specs.Report.{section}
-use Rattle.machine_defs.specs.Runs.{events}
-use Rattle.machine_defs.specs.declared.events.Event.{Event}
 use Rattle.outside.specs.Files.{Files, read_of}
+use Rattle.run_config.specs.declared.faults.ConfigFault.{ConfigFault}
+use Rattle.run_config.specs.declared.faults.ConfigFault.TheVariants as fault
+use Rattle.run_config.specs.declared.guests.GuestSettings.{GuestSettings}
 use Rattle.run_config.specs.Accept.{accept}
-use Rattle.run_config.specs.Settings.{Settings}
+use Rattle.run_config.specs.Configurations.{Configuration}
+use Rattle.run_config.specs.Tests.{first_fault, unless}
+use Rattle.guest_turns.specs.TurnLists.{own_events, own_steps}
 use Rattle.nesthv_top.specs.Commands.{Command, Run}
 
 -- the first bytes of a file; one that is not there counts as empty
 abbrev pub content : Files → List ℕ → ℕ → List ℕ
 content files name most = unwrap_or (read_of (files.bytes_of name) files.absent_is_empty most) []
 
--- at most how many bytes of a configuration are asked for, and of an image: one more than may be
+-- at most how many bytes of a configuration are asked for, and of a guest's image: one more than may be
 abbrev pub config_most : ℕ
 config_most = 65537
 
-abbrev pub image_most : Settings → ℕ
-image_most settings = settings.blocks * block_size + 1
+abbrev pub ram_size : GuestSettings → ℕ
+ram_size guest = guest.blocks * block_size
 
--- the guest of a configuration, with its image
-abbrev pub guest_of : Settings → List ℕ → GuestSpec
+abbrev pub image_most : GuestSettings → ℕ
+image_most guest = ram_size guest + 1
+
+-- what is read of a guest's image
+abbrev pub image_of : Files → GuestSettings → List ℕ
+image_of files guest = content files guest.image (image_most guest)
+
+-- whether an image is not longer than its guest's RAM
+abbrev pub fits : GuestSettings → List ℕ → Bool
+fits guest image = nat_le (length image) (ram_size guest)
+
+-- the fault of an image that is longer: the guest's number, and how many bytes were read (own)
+abbrev pub image_fault : ℕ → GuestSettings → List ℕ → Option ConfigFault
+image_fault number guest image = unless (fits guest image) (fault.ImageLong number (length image))
+
+-- the first fault of the images of guests, in their order, after so many other guests
+unfoldable pub images_fault : Files → ℕ → List GuestSettings → Option ConfigFault
+images_fault files before [] = None
+images_fault files before (guest ∷ rest) = first_fault (
+    image_fault before guest (image_of files guest)
+    ∷ images_fault files (before + 1) rest
+    ∷ [])
+
+-- a guest of these settings, with its image
+abbrev pub guest_of : GuestSettings → List ℕ → GuestSpec
 guest_of settings image = record {
   name = settings.name;
   image = image;
@@ -31,40 +59,77 @@ guest_of settings image = record {
   spaces = settings.spaces;
   entries = settings.entries;
   console = settings.console;
-  inputs = [];
+  inputs = settings.inputs;
 }
 
--- a guest, and the steps of its turns
+abbrev pub guests_of : Files → List GuestSettings → List GuestSpec
+guests_of files guests = map (λ guest. guest_of guest (image_of files guest)) guests
+
+-- the fault of guests that need more frames than machine memory has, which is 131,072 (own)
+abbrev pub frames_fault : List GuestSpec → Option ConfigFault
+frames_fault guests = unless (nat_le (frames_for guests) 131072) (fault.Frames (frames_for guests))
+
+-- guests, and their turns
 pub record Plan : Type 0 where
-  pub guest : GuestSpec
-  pub steps : ℕ
+  pub guests : List GuestSpec
+  pub turns : List (ℕ × ℕ)
 
--- the plan of a configuration with this image, if that is not longer than RAM
-abbrev pub with_image : Settings → List ℕ → Option Plan
-with_image settings image = if nat_le (length image) (settings.blocks * block_size)
-    then Some (record { guest = guest_of settings image; steps = settings.quantum * settings.rounds }) else None
+-- the plan, unless there is a fault
+abbrev pub unless_fault : Option ConfigFault → Plan → Result Plan ConfigFault
+unless_fault None plan = Ok plan
+unless_fault (Some found) plan = Err found
 
-abbrev pub planned_by : Files → Settings → Option Plan
-planned_by files settings = with_image settings (content files settings.image (image_most settings))
+-- the plan of a configuration, or the first fault of its images, and then of its frames (own)
+unfoldable pub planned_by : Files → Configuration → Result Plan ConfigFault
+planned_by files c =
+    let guests = guests_of files c.guests in
+    unless_fault (first_fault (images_fault files 0 c.guests ∷ frames_fault guests ∷ []))
+    (record { guests = guests; turns = c.turns })
 
--- the plan of the configuration of this name, if it is accepted
-unfoldable pub planned : Files → List ℕ → Option Plan
-planned files name = option_and_then (planned_by files) (accept (content files name config_most))
+abbrev pub planned_if : Files → Result Configuration ConfigFault → Result Plan ConfigFault
+planned_if files (Ok c) = planned_by files c
+planned_if files (Err found) = Err found
 
--- the plan of a command
+-- the plan of the configuration of this name, or its first fault
+unfoldable pub planned : Files → List ℕ → Result Plan ConfigFault
+planned files name = planned_if files (accept (content files name config_most))
+
+-- the one and the other
+abbrev pub plan_in : Result Plan ConfigFault → Option Plan
+plan_in (Ok plan) = Some plan
+plan_in (Err found) = None
+
+abbrev pub fault_in : Result Plan ConfigFault → Option ConfigFault
+fault_in (Ok plan) = None
+fault_in (Err found) = Some found
+
+-- the plan of a command, and the first fault of its configuration
 abbrev pub plan_of : Files → Option Command → Option Plan
-plan_of files (Some (Run name)) = planned files name
+plan_of files (Some (Run name)) = plan_in (planned files name)
 plan_of files None = None
 
--- the report of a plan: the section of the guest's lone machine
+abbrev pub fault_of : Files → Option Command → Option ConfigFault
+fault_of files (Some (Run name)) = fault_in (planned files name)
+fault_of files None = None
+
+-- the sections of guests, in order, after so many other guests: each for the steps of its own turns
+unfoldable pub sections : ℕ → List GuestSpec → List (ℕ × ℕ) → List ℕ
+sections before [] turns = []
+sections before (guest ∷ rest) turns =
+    section guest (own_steps before turns) ++ sections (before + 1) rest turns
+
+-- the report of a plan
 unfoldable pub report_of : Plan → List ℕ
-report_of plan = section plan.guest plan.steps
+report_of plan = sections 0 plan.guests plan.turns
 
--- the steps of a plan, if there is one
-abbrev pub steps_of : Option Plan → ℕ
-steps_of (Some plan) = plan.steps
-steps_of None = 0
-
--- the events of the lone machine's run
+-- the events of the runs of the guests' lone machines, one guest after another
 unfoldable pub events_of : Plan → List Event
-events_of plan = events (start plan.guest) plan.steps
+events_of plan = own_events plan.turns (map start plan.guests)
+
+-- the steps of all turns of a plan, if there is one
+abbrev pub turn_steps : List (ℕ × ℕ) → ℕ
+turn_steps turns = sum_by (λ turn. turn.1) turns
+
+abbrev pub steps_of : Option Plan → ℕ
+steps_of (Some plan) = turn_steps plan.turns
+steps_of None = 0

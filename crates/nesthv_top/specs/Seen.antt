@@ -1,6 +1,10 @@
 -- The command and the plan that the program's own values stand for.
-use Rattle.std.specs.Prelude.{◌≡◌, ◌*◌, ◌^◌, ◌≤◌, length}
-use Rattle.guest_turns.specs.Limits.{IsBootable}
+use Rattle.std.specs.List.{All}
+use Rattle.std.specs.Prelude.{◌≡◌, ◌≤◌, ℕ, List, map}
+use Rattle.machine_defs.specs.declared.guests.GuestSpec.{GuestSpec}
+use Rattle.guest_turns.specs.Limits.{IsBootable, frames_for}
+use Rattle.run_config.specs.declared.guests.GuestSettings.{GuestSettings}
+use Rattle.run_config.specs.Configurations.{IsWithinLimits}
 use Rattle.nesthv_top.specs.declared.commands.Request.{Request}
 use Rattle.nesthv_top.specs.declared.commands.Request.TheVariants as request
 use Rattle.nesthv_top.specs.declared.ends.Job.{Job}
@@ -10,13 +14,19 @@ use Rattle.nesthv_top.specs.Plans.{Plan}
 abbrev pub command_seen : Request → Command
 command_seen (request.Run config) = Run config.now
 
-abbrev pub plan_in : Job → Plan
-plan_in job = record { guest = job.guest; steps = job.quantum * job.rounds }
+abbrev pub plan_seen : Job → Plan
+plan_seen job = record { guests = job.guests.items; turns = job.config.turns }
+
+-- the names of guests, and those that a configuration says
+abbrev pub names_of : List GuestSpec → List (List ℕ)
+names_of guests = map (λ guest. guest.name) guests
+
+abbrev pub names_in : List GuestSettings → List (List ℕ)
+names_in guests = map (λ guest. guest.name) guests
 
 -- a job that an accepted configuration gives
 pub record IsJob (job : Job) : Type 0 where
-  pub guest : IsBootable job.guest
-  pub same_name : job.name ≡ job.guest.name
-  pub short_name : length job.name ≤ 32
-  pub short_turn : job.quantum ≤ 2 ^ 32
-  pub few_turns : job.rounds ≤ 2 ^ 20
+  pub limits : IsWithinLimits job.config
+  pub names : names_of job.guests.items ≡ names_in job.config.guests
+  pub guests : All IsBootable job.guests.items
+  pub frames : frames_for job.guests.items ≤ 131072

@@ -1,22 +1,21 @@
 // How the steps of a command end.
 
-use machine_defs::{GuestSpec, Name};
+use machine_defs::GuestSpec;
+use run_config::{Config, ConfigFault};
 
 /// Why a configuration gave no job. Reads are numbered from 1; want of memory tells how many were made.
 #[derive(Clone, Copy, Debug, PartialEq, Eq)]
 pub enum LoadEnd {
-    Refused,
+    Refused(ConfigFault),
     ReadFault(u64),
     NoMemory(u64),
 }
 
-/// A guest to be run, with the name that its section has.
+/// Guests to be run, with the configuration that says their names and their turns.
 #[derive(Debug, Drop)]
 pub struct Job {
-    pub name: Name,
-    pub guest: GuestSpec,
-    pub quantum: u64,
-    pub rounds: u64,
+    pub config: Config,
+    pub guests: Vec<GuestSpec>,
 }
 
 /// Why a job was not done.
@@ -31,7 +30,7 @@ pub enum RunEnd {
 pub enum Ended {
     Done,
     NoCommand,
-    Refused,
+    Refused(ConfigFault),
     ReadFault(u64),
     WriteFault,
     NoMemory(u64),

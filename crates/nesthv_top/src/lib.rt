@@ -6,11 +6,15 @@ mod ends;
 mod lines;
 mod loading;
 mod obeying;
+mod programs;
 mod running;
 #[cfg(test)]
 mod tests;
 #[cfg(test)]
+mod tests_guests;
+#[cfg(test)]
 mod tests_kernel;
 mod top;
 
+pub use programs::program;
 pub use top::nesthv;

@@ -1,79 +1,106 @@
 // From a job to its report.
 
-ghost use Rattle.std.specs.Prelude.{◌≡◌, ◌+◌, ◌*◌, ◌^◌, ◌≤◌, IsErrOf, OnOk};
-ghost use Rattle.machine_defs.specs.Runs.{run, events, plain_count, trace_of};
+ghost use Rattle.std.specs.Prelude.{◌≡◌, ◌+◌, ◌^◌, ◌≤◌, ℕ, ◌<◌, is_ok, length, IsErrOf, OnErr, OnOk};
+ghost use Rattle.std.specs.List.{All};
+ghost use Rattle.machine_defs.specs.Runs.{plain_count, trace_of};
 ghost use Rattle.outside.specs.Faults.{Rose};
+ghost use Rattle.outside.specs.Pieces.{Puts};
+ghost use Rattle.guest_turns.specs.TurnLists.{turn_events, with_turns};
 ghost use Rattle.rv64_hart.specs.Counts.{IsRaisedBy};
-ghost use Rattle.nesthv_top.specs.Plans.{report_of, events_of};
-ghost use Rattle.nesthv_top.specs.Seen.{plan_in, IsJob};
+ghost use Rattle.run_config.specs.Configurations.{IsGuestWithin, IsTurnWithin};
+ghost use Rattle.nesthv_top.specs.Plans.{report_of, events_of, steps_of, turn_steps};
+ghost use Rattle.nesthv_top.specs.Runnings.{sections_of};
+ghost use Rattle.nesthv_top.specs.Seen.{names_in, plan_seen, IsJob};
 ghost use Rattle.nesthv_top.specs.Written.{IsWritten};
 
 use crate::ends::{Job, RunEnd};
 use guest_turns::Host;
-use outside::Sink;
+use outside::{Sink, SinkFault};
 use report::{GuestLine, section};
+use run_config::GuestSettings;
 use rv64_hart::Tally;
 use std::alloc::Global;
 
-/// Runs a job's guest, and puts the report.
-#[tactic(auto, unfolding(crate::specs::Plans::report_of, crate::specs::Plans::events_of))]
+/// Runs a job's guests, each for its turns, and puts the report.
 pub fn run<O: Sink>(alloc: Global, job: Job, out: &mut O, tally: &mut Tally) -> Result<(), RunEnd>
     requires job { IsJob job }
     requires entries { tally.old.entries ≤ 2 ^ 61 }
     requires taken { tally.old.taken ≤ 2 ^ 61 }
 
-    ensures written { IsWritten O.stands_for out.old out.new result (report_of (plan_in job)) }
+    ensures written { IsWritten O.stands_for out.old out.new result (report_of (plan_seen job)) }
     ensures cause { IsErrOf result RunEnd.WriteFault → Rose (O.faults out.old) (O.faults out.new) }
     ensures count { O.faults out.old ≤ O.faults out.new }
     ensures stays { O.made_with out.new ≡ O.made_with out.old }
 
     ensures idle { IsErrOf result RunEnd.NoMemory → tally.new ≡ tally.old }
     ensures entries_grow { tally.old.entries ≤ tally.new.entries }
-    ensures entries_most { tally.new.entries ≤ tally.old.entries + (plan_in job).steps }
+    ensures entries_most { tally.new.entries ≤ tally.old.entries + turn_steps (plan_seen job).turns }
     ensures taken_grow { tally.old.taken ≤ tally.new.taken }
-    ensures taken_most { tally.new.taken ≤ tally.old.taken + (plan_in job).steps }
-    ensures taken_least { OnOk result (tally.old.taken + plain_count (events_of (plan_in job)) ≤ tally.new.taken) }
-    ensures trace { OnOk result (IsRaisedBy (trace_of (events_of (plan_in job))) tally.old.trace tally.new.trace) }
+    ensures taken_most { tally.new.taken ≤ tally.old.taken + turn_steps (plan_seen job).turns }
+    ensures taken_least { OnOk result
+        (tally.old.taken + plain_count (events_of (plan_seen job)) ≤ tally.new.taken) }
+    ensures trace { OnOk result
+        (IsRaisedBy (trace_of (events_of (plan_seen job))) tally.old.trace tally.new.trace) }
 {
-    let Job {
-        name,
-        guest,
-        quantum,
-        rounds,
-    } = job;
-    let mut host = match Host::boot(alloc, guest) {
+    let Job { config, guests } = job;
+    let mut host = match Host::boot(alloc, guests) {
         Ok(host) => host,
         Err(_) => return Err(RunEnd::NoMemory),
     };
-    run_rounds(&mut host, quantum, rounds, tally);
-    let line = GuestLine {
-        name: &name,
-        status: host.status(),
-        steps: host.steps(),
-    };
-    match section(&line, host.console(), out) {
+    run_turns(&mut host, config.turns().as_slice(), tally);
+    match put_sections(&host, config.guests(), out) {
         Ok(()) => Ok(()),
         Err(_) => Err(RunEnd::WriteFault),
     }
 }
 
-// Gives a guest so many turns of `quantum` steps.
-#[tactic(auto, using(crate::proofs::Rounds::rounds))]
-fn run_rounds(host: &mut Host, quantum: u64, rounds: u64, tally: &mut Tally)
-    requires fresh { host.old.steps ≡ 0 }
-    requires short { quantum ≤ 2 ^ 32 }
-    requires few { rounds ≤ 2 ^ 20 }
+// Makes the turns, in order.
+fn run_turns(host: &mut Host, turns: &[(u32, u64)], tally: &mut Tally)
+    requires fresh { All (λ m. m.platform.steps ≡ 0) host.old.machines }
+    requires few { length turns.now ≤ 2 ^ 20 }
+    requires short { All (IsTurnWithin (length host.old.machines)) turns.now }
     requires entries { tally.old.entries ≤ 2 ^ 61 }
     requires taken { tally.old.taken ≤ 2 ^ 61 }
 
-    ensures run { host.new ≡ run host.old (quantum * rounds) }
+    ensures machines { host.new.machines ≡ with_turns turns.now host.old.machines }
     ensures entries_grow { tally.old.entries ≤ tally.new.entries }
-    ensures entries_most { tally.new.entries ≤ tally.old.entries + quantum * rounds }
-    ensures taken_most { tally.new.taken ≤ tally.old.taken + quantum * rounds }
-    ensures taken_least { tally.old.taken + plain_count (events host.old (quantum * rounds)) ≤ tally.new.taken }
-    ensures trace { IsRaisedBy (trace_of (events host.old (quantum * rounds))) tally.old.trace tally.new.trace }
+    ensures entries_most { tally.new.entries ≤ tally.old.entries + turn_steps turns.now }
+    ensures taken_most { tally.new.taken ≤ tally.old.taken + turn_steps turns.now }
+    ensures taken_least { tally.old.taken + plain_count (turn_events turns.now host.old.machines)
+        ≤ tally.new.taken }
+    ensures trace { IsRaisedBy (trace_of (turn_events turns.now host.old.machines))
+        tally.old.trace tally.new.trace }
 {
-    for _round in 0..rounds {
-        host.turn(quantum, tally);
+    for &(guest, steps) in turns {
+        host.turn(guest, steps, tally);
     }
+}
+
+// Puts the section of each guest, in order.
+fn put_sections<O: Sink>(
+    host: &Host,
+    guests: &[GuestSettings],
+    out: &mut O,
+) -> Result<(), SinkFault>
+    requires count { length host.now.machines ≡ length guests.now }
+    requires few { length guests.now ≤ 16 }
+    requires names { All IsGuestWithin guests.now }
+    ensures bytes { Puts O.stands_for out.old out.new (is_ok result)
+        (sections_of (names_in guests.now) host.now.machines) }
+    ensures cause { OnErr result (Rose (O.faults out.old) (O.faults out.new)) }
+    ensures count { O.faults out.old ≤ O.faults out.new }
+    ensures stays { O.made_with out.new ≡ O.made_with out.old }
+{
+    for i in 0..guests.len() {
+        let line = GuestLine {
+            name: &guests[i].name,
+            status: host.status(i as u32),
+            steps: host.steps(i as u32),
+        };
+        match section(&line, host.console(i as u32), out) {
+            Ok(()) => {}
+            Err(fault) => return Err(fault),
+        }
+    }
+    Ok(())
 }

@@ -1,11 +1,11 @@
-use crate::nesthv;
-use outside::{Asked, ListSink, MapStore, Word};
+use crate::{nesthv, program};
+use outside::{Asked, CleanSink, ListSink, MapStore, Word};
 use rv64_hart::Tally;
 use std::alloc::{AllocError, Global};
 use std::test::Fail;
 
 /// Puts `A` on the console, and stops: 5 steps, of which two are calls.
-const PUTS_A: [u32; 5] = [
+pub const PUTS_A: [u32; 5] = [
     0x0010_0893, // addi a7, zero, 1
     0x0410_0513, // addi a0, zero, 65
     0x0000_0073, // ecall
@@ -14,7 +14,7 @@ const PUTS_A: [u32; 5] = [
 ];
 
 /// Reserves the place of the first instruction, stores there, and puts 0 where the store was made, 1 where not.
-const RESERVES: [u32; 8] = [
+pub const RESERVES: [u32; 8] = [
     0x0000_0297, // auipc t0, 0
     0x1002_A32F, // lr.w t1, (t0)
     0x1802_A52F, // sc.w a0, zero, (t0)
@@ -26,7 +26,7 @@ const RESERVES: [u32; 8] = [
 ];
 
 /// The same without the reservation.
-const DOES_NOT_RESERVE: [u32; 7] = [
+pub const DOES_NOT_RESERVE: [u32; 7] = [
     0x0000_0297, // auipc t0, 0
     0x1802_A52F, // sc.w a0, zero, (t0)
     0x0305_0513, // addi a0, a0, 48
@@ -36,31 +36,67 @@ const DOES_NOT_RESERVE: [u32; 7] = [
     0x0000_0073, // ecall
 ];
 
-/// examples/squares: the squares of 0 to 9 in decimal, each on a line. A square of d digits takes 7 + 11 d steps, and
-/// four steps stand before and after them: 4 + 10 * 7 + 11 * 16.
+/// The words of examples/squares, which prints the squares of 0 to 9, each line of squares.s beside its word
+/// (`examples/words squares`). A square of d digits takes 7 + 11 d steps, and four steps stand before and
+/// after them: 4 + 10 * 7 + 11 * 16.
 const SQUARES: [u32; 22] = [
-    0x0010_0117,
-    0x0000_0413,
-    0x0284_05B3,
-    0x0001_0293,
-    0x00A0_0313,
-    0x0265_F3B3,
-    0x0265_D5B3,
-    0x0303_8393,
-    0xFFF2_8293,
-    0x0072_8023,
-    0xFE05_96E3,
-    0x0002_C503,
-    0x0010_0893,
-    0x0000_0073,
-    0x0012_8293,
-    0xFE22_E8E3,
-    0x00A0_0513,
-    0x0000_0073,
-    0x0014_0413,
-    0xFA64_4EE3,
-    0x0080_0893,
-    0x0000_0073,
+    0x0010_0117, // _start: auipc sp, 0x100
+    0x0000_0413, // li s0, 0
+    0x0284_05B3, // square: mul a1, s0, s0
+    0x0001_0293, // mv t0, sp
+    0x00A0_0313, // li t1, 10
+    0x0265_F3B3, // digit: remu t2, a1, t1
+    0x0265_D5B3, // divu a1, a1, t1
+    0x0303_8393, // addi t2, t2, 48
+    0xFFF2_8293, // addi t0, t0, -1
+    0x0072_8023, // sb t2, 0(t0)
+    0xFE05_96E3, // bnez a1, digit
+    0x0002_C503, // print: lbu a0, 0(t0)
+    0x0010_0893, // li a7, 1
+    0x0000_0073, // ecall
+    0x0012_8293, // addi t0, t0, 1
+    0xFE22_E8E3, // bltu t0, sp, print
+    0x00A0_0513, // li a0, 10
+    0x0000_0073, // ecall
+    0x0014_0413, // addi s0, s0, 1
+    0xFA64_4EE3, // blt s0, t1, square
+    0x0080_0893, // li a7, 8
+    0x0000_0073, // ecall
+];
+
+/// Sets stvec to `HANDLER`. What is tried stands behind it, at 0x8000000C.
+const SETS_HANDLER: [u32; 3] = [
+    0x0000_0297, // auipc t0, 0
+    0x0402_8293, // addi t0, t0, 64
+    0x1052_9073, // csrrw zero, stvec, t0
+];
+
+/// Where the handler stands in an image.
+const HANDLER_AT: usize = 64;
+
+/// Puts scause as a digit, a space, and stval as sixteen hexadecimal digits, and stops: 10 + 16 * 11 steps.
+const HANDLER: [u32; 21] = [
+    0x0010_0893, // addi a7, zero, 1
+    0x1420_2573, // csrrs a0, scause, zero
+    0x0305_0513, // addi a0, a0, 48
+    0x0000_0073, // ecall
+    0x0200_0513, // addi a0, zero, 32
+    0x0000_0073, // ecall
+    0x1430_2473, // csrrs s0, stval, zero
+    0x0400_0493, // addi s1, zero, 64
+    0xFFC4_8493, // addi s1, s1, -4
+    0x0094_5533, // srl a0, s0, s1
+    0x00F5_7513, // andi a0, a0, 15
+    0x0065_0293, // addi t0, a0, 6
+    0x0042_D293, // srli t0, t0, 4
+    0x0032_9313, // slli t1, t0, 3
+    0x4053_0333, // sub t1, t1, t0
+    0x0065_0533, // add a0, a0, t1
+    0x0305_0513, // addi a0, a0, 48
+    0x0000_0073, // ecall
+    0xFC04_9CE3, // bne s1, zero, -40
+    0x0080_0893, // addi a7, zero, 8
+    0x0000_0073, // ecall
 ];
 
 /// The bytes of a block of RAM.
@@ -69,7 +105,7 @@ const BLOCK: usize = 2_097_152;
 const USAGE: &[u8] =
     b"nesthv: usage: run CONFIG | replay CONFIG REPORT | check CONFIG | work SEED SIZE\n";
 
-const RUN: [&str; 3] = ["nesthv", "run", "k"];
+pub const RUN: [&str; 3] = ["nesthv", "run", "k"];
 
 /// Which read, put on `out` and put on `err` fails, and takes nothing; 0 where none does.
 #[derive(Clone, Copy)]
@@ -131,7 +167,7 @@ pub fn image(alloc: Global, words: &[u32], length: usize) -> Result<Vec<u8>, All
     Ok(bytes)
 }
 
-fn words_of(alloc: Global, texts: &[&str]) -> Result<Vec<Word>, AllocError> {
+pub fn words_of(alloc: Global, texts: &[&str]) -> Result<Vec<Word>, AllocError> {
     let mut words = Vec::new(alloc);
     for text in texts {
         words.push(Word::new(alloc, text)?)?;
@@ -139,13 +175,21 @@ fn words_of(alloc: Global, texts: &[&str]) -> Result<Vec<Word>, AllocError> {
     Ok(words)
 }
 
-fn sink(alloc: Global, failing: u64) -> Result<ListSink, AllocError> {
+pub fn sink(alloc: Global, failing: u64) -> Result<ListSink, AllocError> {
     let mut sink = ListSink::new(alloc, 256)?;
     sink.fail_at(failing, 0)?;
     Ok(sink)
 }
 
-/// Calls `nesthv` with these words on a store with the configuration `k` and the image `a.bin`.
+/// A store with the configuration `k` and the image `a.bin`.
+fn store_of(alloc: Global, config: &str, image: &[u8]) -> Result<MapStore, AllocError> {
+    let mut store = MapStore::new(alloc);
+    store.insert("k", config.as_bytes())?;
+    store.insert("a.bin", image)?;
+    Ok(store)
+}
+
+/// Calls `nesthv` with these words on a store with this configuration and image.
 fn outcome(
     alloc: Global,
     texts: &[&str],
@@ -154,9 +198,7 @@ fn outcome(
     failing: Failing,
 ) -> Result<Left, AllocError> {
     let words = words_of(alloc, texts)?;
-    let mut store = MapStore::new(alloc);
-    store.insert("k", config.as_bytes())?;
-    store.insert("a.bin", image)?;
+    let mut store = store_of(alloc, config, image)?;
     store.fail_at(failing.read)?;
     let mut out = sink(alloc, failing.put)?;
     let mut err = sink(alloc, failing.err)?;
@@ -188,7 +230,7 @@ fn first_bytes(rt: HostRuntime) -> Result<(), Fail> {
     let image = image(rt.alloc(), &PUTS_A, 0)?;
     let left = outcome(rt.alloc(), &RUN, config.as_str(), image.as_slice(), NONE)?;
     assert!(rt; left.is(0, b"guest a stopped steps 5 bytes 1\nA\n", b""));
-    assert_eq!(rt; left.tally.entries(), 5);
+    assert_eq!(rt; left.tally.entries(), 2);
     assert_eq!(rt; left.tally.taken(), 3);
     assert_eq!(rt; left.tally.trace(), 0x1_84A0_1649);
     match left.store.asked() {
@@ -197,6 +239,28 @@ fn first_bytes(rt: HostRuntime) -> Result<(), Fail> {
         }
         asked => assert!(rt; false, "{} reads", asked.len()),
     }
+    Ok(())
+}
+
+#[test]
+fn whole_program(rt: HostRuntime) -> Result<(), Fail> {
+    let config = config(rt.alloc(), 10_000, 1, 16, 100)?;
+    let image = image(rt.alloc(), &PUTS_A, 0)?;
+    let mut store = store_of(rt.alloc(), config.as_str(), image.as_slice())?;
+    let mut out = sink(rt.alloc(), 0)?;
+    let mut err = sink(rt.alloc(), 0)?;
+    let words = Err(AllocError);
+    let status = program(rt.alloc(), words, &mut store, &mut out, &mut err);
+    assert_eq!(rt; status, 5);
+    assert_eq!(rt; (store.asked().len(), out.bytes().len()), (0, 0));
+    assert_eq!(rt; err.bytes(), b"nesthv: out of memory\n".as_slice());
+    let words = Ok(words_of(rt.alloc(), &RUN)?);
+    let status = program(rt.alloc(), words, &mut store, &mut out, &mut CleanSink);
+    assert_eq!(rt; status, 0);
+    assert_eq!(rt;
+        out.bytes(),
+        b"guest a stopped steps 5 bytes 1\nA\n".as_slice()
+    );
     Ok(())
 }
 
@@ -219,27 +283,9 @@ fn is_reported(alloc: Global, case: Case<'_>, report: &str) -> Result<bool, Allo
 }
 
 /// Images, each with its length if zeros come after the instructions, and the report of one turn of 10,000 steps.
-const IMAGES: [(&[u32], usize, &str); 18] = [
-    // lui t0, 1; the word 0 is illegal: the trap goes to address 0, where each fetch is an access fault, and so on
-    (
-        &[0x0000_12B7, 0],
-        0,
-        "guest a running steps 10000 bytes 0\n\n",
-    ),
-    // no instruction at all
-    (&[], 0, "guest a running steps 10000 bytes 0\n\n"),
+const IMAGES: [(&[u32], usize, &str); 11] = [
     // jal zero, 0
     (&[0x0000_006F], 0, "guest a running steps 10000 bytes 0\n\n"),
-    // jal zero, 2, which is misaligned
-    (&[0x0020_006F], 0, "guest a running steps 10000 bytes 0\n\n"),
-    // jal zero, -4, out of memory
-    (&[0xFFDF_F06F], 0, "guest a running steps 10000 bytes 0\n\n"),
-    // lw zero, 2(zero), which is misaligned
-    (&[0x0020_2003], 0, "guest a running steps 10000 bytes 0\n\n"),
-    // csrrs a0, cycle, zero, which is unlisted
-    (&[0xC000_2573], 0, "guest a running steps 10000 bytes 0\n\n"),
-    // csrrw zero, time, zero, which is read-only
-    (&[0xC010_1073], 0, "guest a running steps 10000 bytes 0\n\n"),
     // ecall with a7 = 0
     (&[0x0000_0073], 0, "guest a outside steps 0 bytes 0\n\n"),
     // lui t0, 1; wfi
@@ -277,6 +323,98 @@ fn reports_of_images(rt: HostRuntime) -> Result<(), Fail> {
             console: 100,
         };
         assert!(rt; is_reported(rt.alloc(), case, report)?, "{report}");
+    }
+    Ok(())
+}
+
+/// Instructions that trap behind `SETS_HANDLER`, each with its report: the three steps before them, those that
+/// they make, the trap, and the 186 steps of the handler, which puts code and value.
+const TRAPS: [(&[u32], &str); 12] = [
+    // lui t0, 1; the word 0 is illegal
+    (
+        &[0x0000_12B7, 0],
+        "guest a stopped steps 191 bytes 18\n2 0000000000000000\n",
+    ),
+    // no instruction at all
+    (
+        &[],
+        "guest a stopped steps 190 bytes 18\n2 0000000000000000\n",
+    ),
+    // jal zero, 2, which is misaligned
+    (
+        &[0x0020_006F],
+        "guest a stopped steps 190 bytes 18\n0 000000008000000E\n",
+    ),
+    // jal zero, -16, out of memory: the jump is made, and the fetch traps
+    (
+        &[0xFF1F_F06F],
+        "guest a stopped steps 191 bytes 18\n1 000000007FFFFFFC\n",
+    ),
+    // ebreak
+    (
+        &[0x0010_0073],
+        "guest a stopped steps 190 bytes 18\n3 000000008000000C\n",
+    ),
+    // lw zero, 2(zero), which is misaligned
+    (
+        &[0x0020_2003],
+        "guest a stopped steps 190 bytes 18\n4 0000000000000002\n",
+    ),
+    // lw zero, 0(zero), where there is no memory
+    (
+        &[0x0000_2003],
+        "guest a stopped steps 190 bytes 18\n5 0000000000000000\n",
+    ),
+    // sw zero, 2(zero), which is misaligned
+    (
+        &[0x0000_2123],
+        "guest a stopped steps 190 bytes 18\n6 0000000000000002\n",
+    ),
+    // sw zero, 0(zero), where there is no memory
+    (
+        &[0x0000_2023],
+        "guest a stopped steps 190 bytes 18\n7 0000000000000000\n",
+    ),
+    // csrrs a0, cycle, zero, which is unlisted
+    (
+        &[0xC000_2573],
+        "guest a stopped steps 190 bytes 18\n2 00000000C0002573\n",
+    ),
+    // csrrw zero, time, zero, which is read-only
+    (
+        &[0xC010_1073],
+        "guest a stopped steps 190 bytes 18\n2 00000000C0101073\n",
+    ),
+    // mret, which is not in the table
+    (
+        &[0x3020_0073],
+        "guest a stopped steps 190 bytes 18\n2 0000000030200073\n",
+    ),
+];
+
+/// The handler, and these instructions behind those that set it.
+fn trapping_image(alloc: Global, words: &[u32]) -> Result<Vec<u8>, AllocError> {
+    let mut bytes = image(alloc, &SETS_HANDLER, 0)?;
+    for word in words {
+        bytes.extend_from_slice(&word.to_le_bytes())?;
+    }
+    if bytes.len() < HANDLER_AT {
+        bytes.resize(HANDLER_AT, 0)?;
+    }
+    for word in HANDLER {
+        bytes.extend_from_slice(&word.to_le_bytes())?;
+    }
+    Ok(bytes)
+}
+
+#[test]
+fn reports_of_traps(rt: HostRuntime) -> Result<(), Fail> {
+    for (words, report) in TRAPS {
+        let image = trapping_image(rt.alloc(), words)?;
+        assert!(rt;
+            is_reported_of_bytes(rt.alloc(), image.as_slice(), report)?,
+            "{report}"
+        );
     }
     Ok(())
 }
@@ -360,14 +498,30 @@ fn words_refused(rt: HostRuntime) -> Result<(), Fail> {
 
 #[test]
 fn configurations_refused(rt: HostRuntime) -> Result<(), Fail> {
-    for (entries, length, reads) in [(15, 0, 1), (257, 0, 1), (16, BLOCK + 1, 2)] {
+    for (entries, length, reads, line) in [
+        (
+            15,
+            0,
+            1,
+            "nesthv: configuration fault 4 guest 0 key entries value 15\n",
+        ),
+        (
+            257,
+            0,
+            1,
+            "nesthv: configuration fault 4 guest 0 key entries value 257\n",
+        ),
+        (
+            16,
+            BLOCK + 1,
+            2,
+            "nesthv: configuration fault 10 guest 0 value 2097153\n",
+        ),
+    ] {
         let config = config(rt.alloc(), 10_000, 1, entries, 100)?;
         let image = image(rt.alloc(), &PUTS_A, length)?;
         let left = outcome(rt.alloc(), &RUN, config.as_str(), image.as_slice(), NONE)?;
-        assert!(rt;
-            left.is(2, b"", b"nesthv: configuration fault 2\n"),
-            "{entries}"
-        );
+        assert!(rt; left.is(2, b"", line.as_bytes()), "{line}");
         assert_eq!(rt;
             (left.store.asked().len(), left.tally.entries()),
             (reads, 0)
@@ -427,7 +581,7 @@ const INTERRUPTED: [u32; 13] = [
 ];
 
 /// The instructions and the tables.
-fn supervisor_image(alloc: Global) -> Result<Vec<u8>, AllocError> {
+pub fn supervisor_image(alloc: Global) -> Result<Vec<u8>, AllocError> {
     let mut bytes = image(alloc, &SUPERVISOR, 0)?;
     for (offset, value) in TABLES {
         if bytes.len() < offset {

@@ -1,14 +1,16 @@
-use Rattle.std.proofs.Common.{arith, ℕ, ◌+◌, List, ◌++◌, length, take, Bool, true, false}
-use Rattle.std.proofs.lemmas.Grind.{common_steps}
+use Rattle.std.proofs.Common.{arith, ◌≡◌, ℕ, ◌+◌, List, [], ◌∷◌, ◌++◌, length, take, Bool, true, false}
+use Rattle.std.proofs.lemmas.Grind.{common_steps, flat_map-append}
 use Rattle.std.proofs.lemmas.List.{append_assoc, take-append-le}
 use Rattle.std.proofs.Math.Seq.{take-append-add}
+use Rattle.outside.specs.Faults.{one_more}
+use Rattle.outside.specs.ListSinks.{SinkState, IsMadeOf}
 use Rattle.outside.specs.Pieces.{Appends, Puts}
 
--- two pieces one after the other are their concatenation
-pub appends_then : {S : Type 0} (stands_for : S → List ℕ → Type 0) (old mid new : S) (a b : List ℕ)
+-- two lists one after the other are their concatenation
+pub appends_then : {S A : Type 0} (stands_for : S → List A → Type 0) (old mid new : S) (a b : List A)
     → Appends stands_for old mid a → Appends stands_for mid new b → Appends stands_for old new (a ++ b)
 appends_then stands_for old mid new a b first second =
-    λ bytes stood. rw (← append_assoc bytes a b) (second (bytes ++ a) (first bytes stood))
+    λ before stood. rw (← append_assoc before a b) (second (before ++ a) (first before stood))
 
 -- after a piece that was taken, what the next put did is done of both
 pub puts_then : {S : Type 0} (stands_for : S → List ℕ → Type 0) (old mid new : S) (ok : Bool) (a b : List ℕ)
@@ -25,3 +27,11 @@ puts_stopped stands_for old new a b (n, within, stopped) =
 
 -- what a caller that writes several pieces needs
 pub ruleset pieces = (appends_then, puts_then, puts_stopped)
+
+-- one more piece was taken
+pub made_of_more : (old new : SinkState) (pieces : List (List ℕ)) (piece : List ℕ) → new.bytes ≡ old.bytes ++ piece → new.puts ≡ one_more old.puts
+    → IsMadeOf old pieces → IsMadeOf new (pieces ++ piece ∷ [])
+made_of_more old new pieces piece bytes puts made = record {
+  bytes = grind (arith, common_steps, flat_map-append, bytes, made.bytes);
+  puts = grind (arith, common_steps, puts, made.puts);
+}

@@ -1,3 +1,4 @@
+pub mod Arguments
 pub mod Files
 pub mod Asks
 pub mod Faults
@@ -6,3 +7,4 @@ pub mod Named
 pub mod MapStores
 pub mod ListSinks
 pub mod CleanStores
+pub mod FileStores

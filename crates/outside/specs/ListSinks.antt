@@ -1,4 +1,5 @@
-use Rattle.std.specs.Prelude.{ℕ, ◌-◌, ◌&&◌, min, Bool, List, [], length, take, nat_eq, nat_le, find, Option, is_none, option_map, unwrap_or, if◌then◌else◌, ◌++◌}
+use Rattle.std.specs.Prelude.{◌≡◌, ℕ, ◌-◌, ◌^◌, ◌&&◌, min, Bool, List, [], length, take, nat_eq, nat_le, find, Option, is_none, option_map, unwrap_or, if◌then◌else◌, ◌++◌}
+use Rattle.std.specs.List.{flat_map}
 use Rattle.outside.specs.Faults.{one_more}
 
 -- what a `ListSink` holds: its bytes and the room for them, the numbers of the puts that are to fail,
@@ -34,3 +35,9 @@ after held piece = record held {
   puts = one_more held.puts;
   faults = if is_taken held piece then held.faults else one_more held.faults;
 }
+
+-- the sink's puts took these pieces: they make up its bytes, and are as many as its puts, whose count stands
+-- still at its last value
+pub record IsMadeOf (held : SinkState) (pieces : List (List ℕ)) : Type 0 where
+  pub bytes : held.bytes ≡ flat_map (λ piece. piece) pieces
+  pub puts : held.puts ≡ min (length pieces) (2 ^ 64 - 1)

@@ -7,6 +7,8 @@ pub struct CleanSink;
 impl Sink for CleanSink {
     ghost stands_for = { λ _ _. ⊥ };
 
+    ghost took = { λ _ _. ⊥ };
+
     ghost faults = { λ _. 0 };
 
     fn put(&mut self, _piece: &[u8]) -> Result<(), SinkFault> {

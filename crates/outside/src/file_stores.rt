@@ -1,5 +1,4 @@
-ghost use Rattle.std.specs.Prelude.{◌≡◌, ◌≤◌, ◌↔◌, length, None, is_ok, IfOk, IsErrOf, if◌then◌else◌};
-ghost use Rattle.std.specs.IoError.{error_kind};
+ghost use Rattle.std.specs.Prelude.{◌≡◌, ◌≤◌, ◌↔◌, length, Some, None, is_some, is_ok, is_err, IfOk, IsErrOf, if◌then◌else◌};
 ghost use Rattle.outside.specs.Files.{GivesFile};
 ghost use Rattle.outside.specs.Faults.{Rose, one_more};
 
@@ -15,56 +14,48 @@ use std::{fs, io};
 pub struct FileStore<'a, R> {
     rt: &'a R,
     faults: u64,
+    error: Option<ErrorKind>,
 }
 
 impl<'a, R> Model for FileStore<'a, R> {
-    ghost use Rattle.std.specs.Prelude.{ℕ};
+    ghost use Rattle.outside.specs.FileStores.{FileState};
 
-    ghost Value = { ℕ };
+    ghost Value = { FileState };
 
-    ghost view = { λ s. s.faults };
+    ghost view = { λ s. record { faults = s.faults; error = s.error } };
 }
 
 impl<'a, R> FileStore<'a, R> {
     pub fn new(rt: &'a R) -> FileStore<'a, R>
-        ensures { result ≡ 0 }
+        ensures { result ≡ record { faults = 0; error = None } }
     {
-        FileStore { rt, faults: 0 }
+        FileStore {
+            rt,
+            faults: 0,
+            error: None,
+        }
     }
 
     pub fn faults(&self) -> u64
-        ensures { result ≡ self.now }
+        ensures { result ≡ self.now.faults }
     {
         self.faults
     }
-}
 
-fn fault_of(error: &io::Error) -> StoreFault
-    ensures { (result ≡ StoreFault.NoMemory) ↔ (error_kind error.now ≡ ErrorKind.OutOfMemory) }
-{
-    if error.kind() == ErrorKind::OutOfMemory {
-        StoreFault::NoMemory
-    } else {
-        StoreFault::Failed
+    /// The kind of the system's error at the last read, if there was one.
+    pub fn error(&self) -> Option<ErrorKind>
+        ensures { result ≡ self.now.error }
+    {
+        self.error
     }
 }
 
-fn first_bytes<R: Files>(
-    rt: &R,
-    alloc: Global,
-    name: &str,
-    most: u64,
-) -> Result<Vec<u8>, StoreFault>
+fn first_bytes<R: Files>(rt: &R, alloc: Global, name: &str, most: u64) -> io::Result<Vec<u8>>
     ensures { IfOk result (λ v. length v.items ≤ most) }
 {
-    let file = match fs::open(rt, name) {
-        Ok(file) => file,
-        Err(error) => return Err(fault_of(&error)),
-    };
+    let file = fs::open(rt, name)?;
     let mut bytes = Vec::new(alloc);
-    if let Err(error) = file.take(most).read_to_end(&mut bytes) {
-        return Err(fault_of(&error));
-    }
+    file.take(most).read_to_end(&mut bytes)?;
     // Cuts nothing off, but no clause of `take` says so.
     bytes.truncate(most as usize);
     Ok(bytes)
@@ -75,19 +66,35 @@ impl<'a, R: Files> Store for FileStore<'a, R> {
 
     ghost asked = { λ _. None };
 
-    ghost faults = { λ s. s };
+    ghost faults = { λ s. s.faults };
 
     fn read(&mut self, alloc: Global, name: &str, most: u64) -> Result<Vec<u8>, StoreFault>
         ensures bytes { IfOk result (λ v. GivesFile None name.now most v.items) }
         ensures short { IfOk result (λ v. length v.items ≤ most) }
-        ensures cause { IsErrOf result StoreFault.Failed → Rose self.old self.new }
-        ensures count { self.old ≤ self.new }
-        ensures leaves { self.new ≡ (if is_ok result then self.old else one_more self.old) }
+        ensures cause { IsErrOf result StoreFault.Failed → Rose self.old.faults self.new.faults }
+        ensures count { self.old.faults ≤ self.new.faults }
+        ensures leaves { self.new.faults
+            ≡ (if is_ok result then self.old.faults else one_more self.old.faults) }
+
+        // An error of the system is a fault; it is want of memory exactly where its kind says so.
+        ensures error { is_some self.new.error ≡ is_err result }
+        ensures memory { IsErrOf result StoreFault.NoMemory
+            ↔ (self.new.error ≡ Some ErrorKind.OutOfMemory) }
     {
-        let result = first_bytes(self.rt, alloc, name, most);
-        if result.is_err() {
-            self.faults = self.faults.saturating_add(1);
+        match first_bytes(self.rt, alloc, name, most) {
+            Ok(bytes) => {
+                self.error = None;
+                Ok(bytes)
+            }
+            Err(error) => {
+                self.error = Some(error.kind());
+                self.faults = self.faults.saturating_add(1);
+                if error.kind() == ErrorKind::OutOfMemory {
+                    Err(StoreFault::NoMemory)
+                } else {
+                    Err(StoreFault::Failed)
+                }
+            }
         }
-        result
     }
 }

@@ -1,6 +1,7 @@
 //! What a program reads from and writes to: named files and streams of bytes, real ones and ones in memory.
 #![tactic(auto)]
 
+pub use arguments::{Arguments, ProcessArguments, words_of};
 pub use clean_sinks::CleanSink;
 pub use clean_stores::CleanStore;
 pub use file_stores::FileStore;
@@ -11,6 +12,7 @@ pub use std_sinks::StdSink;
 pub use stores::{Store, StoreFault};
 pub use words::Word;
 
+mod arguments;
 mod clean_sinks;
 mod clean_stores;
 mod file_stores;

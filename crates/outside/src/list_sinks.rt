@@ -1,5 +1,5 @@
 ghost use Rattle.std.specs.Prelude.{◌≡◌, ◌≤◌, ◌∷◌, [], ◌++◌, is_ok, OnOk, OnErr, IfOk};
-ghost use Rattle.outside.specs.Pieces.{Puts};
+ghost use Rattle.outside.specs.Pieces.{Appends, Puts};
 
 use crate::sinks::{Sink, SinkFault};
 use std::alloc::{AllocError, Global};
@@ -99,14 +99,18 @@ impl ListSink {
 }
 
 impl Sink for ListSink {
-    ghost use Rattle.outside.specs.ListSinks.{after, is_taken};
+    ghost use Rattle.outside.specs.ListSinks.{after, is_taken, IsMadeOf};
 
     ghost stands_for = { λ s bytes. s.bytes ≡ bytes };
 
+    ghost took = { IsMadeOf };
+
     ghost faults = { λ s. s.faults };
 
+    #[tactic(auto, using(crate::proofs::Pieces::made_of_more))]
     fn put(&mut self, piece: &[u8]) -> Result<(), SinkFault>
         ensures bytes { Puts (λ s bytes. s.bytes ≡ bytes) self.old self.new (is_ok result) piece.now }
+        ensures piece { OnOk result (Appends IsMadeOf self.old self.new (piece.now ∷ [])) }
         ensures count { self.old.faults ≤ self.new.faults }
         ensures answer { is_ok result ≡ is_taken self.old piece.now }
         ensures leaves { self.new ≡ after self.old piece.now }

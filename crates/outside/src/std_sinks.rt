@@ -46,6 +46,8 @@ fn write_through<W: Write>(to: &mut W, piece: &[u8]) -> io::Result<()>
 impl<W: Write> Sink for StdSink<W> {
     ghost stands_for = { λ _ _. ⊥ };
 
+    ghost took = { λ _ _. ⊥ };
+
     ghost faults = { λ s. s.1 };
 
     fn put(&mut self, piece: &[u8]) -> Result<(), SinkFault>

@@ -3,12 +3,14 @@ ghost use Rattle.outside.specs.Pieces.{Puts};
 ghost use Rattle.outside.specs.Faults.{Rose};
 
 use crate::{
-    Asked, CleanSink, CleanStore, FileStore, ListSink, MapStore, Sink, SinkFault, StdSink, Store,
-    StoreFault, Word,
+    Asked, CleanSink, CleanStore, FileStore, ListSink, MapStore, ProcessArguments, Sink, SinkFault,
+    StdSink, Store, StoreFault, Word, words_of,
 };
 use std::alloc::{AllocError, Global};
+use std::env::FillError;
 use std::io;
-use std::io::Write;
+use std::io::{ErrorKind, Write};
+use std::rt::Env;
 use std::test::Fail;
 
 #[tactic(auto, using(crate::proofs::Pieces::pieces))]
@@ -145,6 +147,7 @@ fn file_store_reads_files(rt: HostRuntime) -> Result<(), Fail> {
         );
     }
     assert_eq!(rt; store.faults(), 1);
+    assert_eq!(rt; store.error(), Some(ErrorKind::NotFound));
     std::fs::remove_file(&rt, "outside-test.bin")?;
     Ok(())
 }
@@ -174,4 +177,56 @@ fn std_sink_counts_faults(rt: HostRuntime) {
     assert_eq!(rt; sink.put(b"def"), Err(SinkFault::Failed));
     assert_eq!(rt; sink.put(b""), Ok(()));
     assert_eq!(rt; sink.faults(), 1);
+}
+
+/// A process with these arguments.
+#[derive(Drop)]
+struct Given<'a> {
+    arguments: &'a [&'a [u8]],
+}
+
+impl Env for Given<'_> {
+    fn arg(&self, i: usize, buf: &mut [u8]) -> Result<usize, FillError> {
+        let Some(bytes) = self.arguments.get(i) else {
+            return Err(FillError::NotPresent);
+        };
+        if bytes.len() > buf.len() {
+            return Err(FillError::TooLong);
+        }
+        buf[..bytes.len()].copy_from_slice(bytes);
+        Ok(bytes.len())
+    }
+
+    fn var(&self, _name: &str, _buf: &mut [u8]) -> Result<usize, FillError> {
+        Err(FillError::NotPresent)
+    }
+
+    fn var_at(&self, _i: usize, _buf: &mut [u8]) -> Result<usize, FillError> {
+        Err(FillError::NotPresent)
+    }
+}
+
+#[test]
+fn each_argument_is_a_word(rt: HostRuntime) -> Result<(), Fail> {
+    let long = [b'l'; 300];
+    let given = Given {
+        arguments: &[b"nesthv", b"", b"\xC3\xA4", b"a\xFFb", &long],
+    };
+    let words = words_of(&ProcessArguments::new(&given), rt.alloc())?;
+    assert_eq!(rt; words.len(), 5);
+    for (word, text) in words
+        .iter()
+        .zip([b"nesthv".as_slice(), b"", b"\xC3\xA4", b"", &long])
+    {
+        assert_eq!(rt; word.as_str().as_bytes(), text);
+    }
+    Ok(())
+}
+
+#[test]
+fn no_argument_no_word(rt: HostRuntime) -> Result<(), Fail> {
+    let given = Given { arguments: &[] };
+    let words = words_of(&ProcessArguments::new(&given), rt.alloc())?;
+    assert!(rt; words.is_empty());
+    Ok(())
 }

@@ -16,8 +16,8 @@ fn word(status: Status) -> &'static [u8]
     }
 }
 
-/// The line that heads a section, with its line feed. At most 101 bytes: a name of 32, a word of 7, two numbers of
-/// 20 digits, and 22 bytes between them.
+/// The line that heads a section, with its line feed. At most 101 bytes: a name of 32, a word of 7, two
+/// numbers of 20 digits, and 22 bytes between them.
 #[tactic(auto, unfolding(machine_defs::specs::Report::header))]
 pub fn header_line(name: &[u8], status: Status, steps: u64, bytes: u64) -> ArrayVec<u8, 128>
     requires { length name.now ≤ 32 }

@@ -1,7 +1,8 @@
-ghost use Rattle.std.specs.Prelude.{◌≡◌, ◌≤◌, ◌++◌, length, is_ok, OnErr};
+ghost use Rattle.std.specs.Prelude.{◌≡◌, ◌≤◌, ◌∷◌, ◌++◌, length, is_ok, OnOk, OnErr};
 ghost use Rattle.machine_defs.specs.Report.{section_text};
 ghost use Rattle.outside.specs.Faults.{Rose};
-ghost use Rattle.outside.specs.Pieces.{Puts};
+ghost use Rattle.outside.specs.Pieces.{Appends, Puts};
+ghost use Rattle.report.specs.Puts.{unless_empty, section_pieces};
 
 use crate::headers::header_line;
 use machine_defs::{Name, Status};
@@ -16,9 +17,10 @@ pub struct GuestLine<'a> {
 }
 
 // Puts one piece and, unless that is empty, another.
-#[tactic(auto, using(outside::proofs::Pieces::puts_then))]
+#[tactic(auto, using(outside::proofs::Pieces::puts_then, outside::proofs::Pieces::appends_then))]
 fn put_both<S: Sink>(first: &[u8], second: &[u8], out: &mut S) -> Result<(), SinkFault>
     ensures bytes { Puts S.stands_for out.old out.new (is_ok result) (first.now ++ second.now) }
+    ensures pieces { OnOk result (Appends S.took out.old out.new (first.now ∷ unless_empty second.now)) }
     ensures cause { OnErr result (Rose (S.faults out.old) (S.faults out.new)) }
     ensures count { S.faults out.old ≤ S.faults out.new }
     ensures stays { S.made_with out.new ≡ S.made_with out.old }
@@ -30,13 +32,15 @@ fn put_both<S: Sink>(first: &[u8], second: &[u8], out: &mut S) -> Result<(), Sin
     }
 }
 
-/// Puts a guest's section into a sink: one put for the header with its line feed, one for the console unless that
-/// is empty, and one for the last line feed. Takes no memory.
-#[tactic(auto, using(outside::proofs::Pieces::puts_then))]
+/// Puts a guest's section into a sink: one put for the header with its line feed, one for the console unless
+/// that is empty, and one for the last line feed. It has no allocator.
+#[tactic(auto, using(outside::proofs::Pieces::puts_then, outside::proofs::Pieces::appends_then))]
 pub fn section<S: Sink>(line: &GuestLine, console: &[u8], out: &mut S) -> Result<(), SinkFault>
     requires { length line.now.name.now ≤ 32 }
     ensures bytes { Puts S.stands_for out.old out.new (is_ok result)
         (section_text line.now.name.now line.now.status line.now.steps console.now) }
+    ensures pieces { OnOk result (Appends S.took out.old out.new
+        (section_pieces line.now.name.now line.now.status line.now.steps console.now)) }
     ensures cause { OnErr result (Rose (S.faults out.old) (S.faults out.new)) }
     ensures count { S.faults out.old ≤ S.faults out.new }
     ensures stays { S.made_with out.new ≡ S.made_with out.old }

@@ -1,19 +1,47 @@
-use Rattle.nesthv_top.proofs.Asking.{first_ends, second_ends, both_made}
+use Rattle.std.proofs.Common.{◌≡◌, Some, None, ◌∙◌, sym, ap}
+use Rattle.nesthv_top.specs.Plans.{frames_fault}
+use Rattle.nesthv_top.proofs.Asking.{all_read, frames_stop, images_stop, planned_as, refused_as, stopped_plan}
 use Rattle.nesthv_top.proofs.loading.load.Goals as goal
 
-pub returns-in-Err-clause-asked : goal.returns-in-Err-clause-asked
-returns-in-Err-clause-asked g c = λ files told.
-    let e = c.in-Err.ensures in
-    first_ends _ _ c.in-Err.end _ _ (e.accepted files told) e.first e.memory e.asked
-
-pub returns-in-Err-read_image-clause-asked : goal.returns-in-Err-read_image-clause-asked
-returns-in-Err-read_image-clause-asked g c = λ files told.
+pub returns-in-Err-read_guests-clause-reads : goal.returns-in-Err-read_guests-clause-reads
+returns-in-Err-read_guests-clause-reads g c =
     let e = c.in-Ok.ensures in
-    let f = c.in-Err-read_image.ensures in
-    second_ends _ _ c.in-Ok.config c.in-Err-read_image.end _ _ _ (e.accepted files told) f.second f.memory e.asked f.asked
+    let f = c.in-Err-read_guests.ensures in
+    images_stop g.S.Store.files g.S.Store.asked g.S.Store.faults c.args.name.now c.in-Ok.config c.in-Err-read_guests.end c.args.store.now c.read_config.new.store c.read_guests.new.store
+    e.accepted e.asked (rw c.guests.ensures.guests at f.stopped) f.asked e.stays f.stays e.count f.count f.cause f.memory
 
-pub returns-in-Ok-job_of-clause-asked : goal.returns-in-Ok-job_of-clause-asked
-returns-in-Ok-job_of-clause-asked g c = λ files told.
+pub returns-in-Err-read_guests-clause-planned : goal.returns-in-Err-read_guests-clause-planned
+returns-in-Err-read_guests-clause-planned g c = λ files told.
     let e = c.in-Ok.ensures in
-    let f = c.in-Ok-read_image.ensures in
-    both_made _ _ c.in-Ok.config _ _ _ (e.accepted files told) e.asked f.asked
+    let stopped = rw c.guests.ensures.guests at c.in-Err-read_guests.ensures.stopped in
+    stopped_plan files c.args.name.now c.in-Ok.config c.in-Err-read_guests.end _ _ (e.accepted files told) (stopped files (e.stays ∙ told))
+
+pub returns-in-Some-clause-reads : goal.returns-in-Some-clause-reads
+returns-in-Some-clause-reads g c =
+    let e = c.in-Ok.ensures in
+    let f = c.in-Ok-read_guests.ensures in
+    let fault : frames_fault c.in-Ok-read_guests.guests.items ≡ Some c.in-Some.fault = ap frames_fault (sym c.as_slice.ensures.value) ∙ sym c.frames_fault.ensures ∙ c.in-Some.is in
+    frames_stop g.S.Store.files g.S.Store.asked g.S.Store.faults c.args.name.now c.in-Ok.config c.in-Ok-read_guests.guests.items c.in-Some.fault c.args.store.now
+    c.read_config.new.store c.read_guests.new.store e.accepted e.asked (rw c.guests.ensures.guests at f.read) f.asked e.stays f.stays e.count f.count fault
+
+pub returns-in-Some-clause-planned : goal.returns-in-Some-clause-planned
+returns-in-Some-clause-planned g c = λ files told.
+    let e = c.in-Ok.ensures in
+    let read = (rw c.guests.ensures.guests at c.in-Ok-read_guests.ensures.read) files (e.stays ∙ told) in
+    let fault : frames_fault c.in-Ok-read_guests.guests.items ≡ Some c.in-Some.fault = ap frames_fault (sym c.as_slice.ensures.value) ∙ sym c.frames_fault.ensures ∙ c.in-Some.is in
+    refused_as files c.args.name.now c.in-Ok.config c.in-Ok-read_guests.guests.items c.in-Some.fault (e.accepted files told) read.fault read.guests_are fault
+
+pub returns-in-None-clause-reads : goal.returns-in-None-clause-reads
+returns-in-None-clause-reads g c =
+    let e = c.in-Ok.ensures in
+    let f = c.in-Ok-read_guests.ensures in
+    let none : frames_fault c.in-Ok-read_guests.guests.items ≡ None = ap frames_fault (sym c.as_slice.ensures.value) ∙ sym c.frames_fault.ensures ∙ c.in-None.is in
+    all_read g.S.Store.files g.S.Store.asked g.S.Store.faults c.args.name.now c.in-Ok.config c.in-Ok-read_guests.guests.items c.args.store.now
+    c.read_config.new.store c.read_guests.new.store e.accepted e.asked (rw c.guests.ensures.guests at f.read) f.asked e.stays f.stays e.count f.count none
+
+pub returns-in-None-clause-planned : goal.returns-in-None-clause-planned
+returns-in-None-clause-planned g c = λ files told.
+    let e = c.in-Ok.ensures in
+    let read = (rw c.guests.ensures.guests at c.in-Ok-read_guests.ensures.read) files (e.stays ∙ told) in
+    let none : frames_fault c.in-Ok-read_guests.guests.items ≡ None = ap frames_fault (sym c.as_slice.ensures.value) ∙ sym c.frames_fault.ensures ∙ c.in-None.is in
+    planned_as files c.args.name.now c.in-Ok.config c.in-Ok-read_guests.guests.items (e.accepted files told) read.fault read.guests_are none

@@ -1,28 +1,21 @@
-use Rattle.std.proofs.Common.{sym}
-use Rattle.nesthv_top.proofs.Asking.{failed_made, read_number, wanting_made, wanting_late}
+use Rattle.nesthv_top.specs.Seen.{plan_seen}
+use Rattle.nesthv_top.proofs.Accounting.{counted, counted_in_part}
+use Rattle.nesthv_top.proofs.Asking.{late_wanting}
 use Rattle.nesthv_top.proofs.obeying.run_configuration.Goals as goal
 
-pub returns-in-Err-Refused-clause-asked : goal.returns-in-Err-Refused-clause-asked
-returns-in-Err-Refused-clause-asked g c = λ files told.
-    rw c.in-Err-Refused.field-0-is at (c.in-Err-Refused.ensures.asked files told)
+pub returns-in-Err-NoMemory-run-clause-reads : goal.returns-in-Err-NoMemory-run-clause-reads
+returns-in-Err-NoMemory-run-clause-reads g c =
+    rw c.as_slice.ensures.value (late_wanting g.S.Store.files g.S.Store.asked g.S.Store.faults c.args.config.now (plan_seen c.in-Ok.job) c.args.store.now c.load.new.store
+    c.in-Ok.ensures.planned c.in-Ok.ensures.reads)
 
-pub returns-in-Err-ReadFault-clause-asked : goal.returns-in-Err-ReadFault-clause-asked
-returns-in-Err-ReadFault-clause-asked g c = λ files told.
-    failed_made c.in-Err-ReadFault.number _ _ _ _ (sym c.in-Err-ReadFault.number-is)
-    (rw c.in-Err-ReadFault.field-0-is at (c.in-Err-ReadFault.ensures.number files told))
-    (rw c.in-Err-ReadFault.field-0-is at (c.in-Err-ReadFault.ensures.asked files told))
+pub returns-in-Ok-run-clause-account : goal.returns-in-Ok-run-clause-account
+returns-in-Ok-run-clause-account g c =
+    let run = c.in-Ok-run.ensures in
+    counted (g.S.Store.files c.args.store.now) c.args.config.now c.in-Ok.job c.args.tally.now c.run.new.tally c.in-Ok.ensures.planned c.in-Ok.ensures.job.limits
+    (record { entries_grow = run.entries_grow; entries_most = run.entries_most; taken_grow = run.taken_grow; taken_most = run.taken_most }) run.taken_least run.trace
 
-pub returns-in-Err-ReadFault-clause-read_number : goal.returns-in-Err-ReadFault-clause-read_number
-returns-in-Err-ReadFault-clause-read_number g c =
-    read_number c.in-Err-ReadFault.number _ (sym c.in-Err-ReadFault.number-is)
-    (rw c.in-Err-ReadFault.field-0-is at c.in-Err-ReadFault.ensures.first_or_second)
-
-pub returns-in-Err-NoMemory-clause-asked : goal.returns-in-Err-NoMemory-clause-asked
-returns-in-Err-NoMemory-clause-asked g c = λ files told.
-    wanting_made c.in-Err-NoMemory.reads _ _ _ _ _ (sym c.in-Err-NoMemory.reads-is)
-    (rw c.in-Err-NoMemory.field-0-is at (c.in-Err-NoMemory.ensures.wanting files told))
-    (rw c.in-Err-NoMemory.field-0-is at (c.in-Err-NoMemory.ensures.asked files told))
-
-pub returns-in-Err-NoMemory-run-clause-asked : goal.returns-in-Err-NoMemory-run-clause-asked
-returns-in-Err-NoMemory-run-clause-asked g c = λ files told.
-    wanting_late files c.args.config.now _ _ _ (c.in-Ok.ensures.planned files told) (c.in-Ok.ensures.asked files told)
+pub returns-in-Err-WriteFault-clause-account : goal.returns-in-Err-WriteFault-clause-account
+returns-in-Err-WriteFault-clause-account g c =
+    let run = c.in-Err-WriteFault.ensures in
+    counted_in_part (g.S.Store.files c.args.store.now) c.args.config.now c.in-Ok.job c.args.tally.now c.run.new.tally c.in-Ok.ensures.planned c.in-Ok.ensures.job.limits
+    (record { entries_grow = run.entries_grow; entries_most = run.entries_most; taken_grow = run.taken_grow; taken_most = run.taken_most })

@@ -1,0 +1,11 @@
+use Rattle.std.proofs.Common.{◌≡◌, Err}
+use Rattle.run_config.specs.Accept.{accept}
+use Rattle.nesthv_top.proofs.Asking.{config_stop}
+use Rattle.nesthv_top.proofs.loading.read_config.Goals as goal
+
+pub returns-in-Err-Refused-clause-ended : goal.returns-in-Err-Refused-clause-ended
+returns-in-Err-Refused-clause-ended g c =
+    let read = c.in-Ok.ensures in
+    let refused = rw c.in-Err-Refused.field-0-is at c.in-Err-Refused.ensures.refused in
+    let here : accept c.in-Ok.bytes.items ≡ Err c.in-Err-Refused.fault = rw (← c.as_slice.ensures.value) refused in
+    config_stop _ _ _ _ c.in-Ok.bytes.items c.in-Err-Refused.fault _ _ read.bytes here read.asked read.stays read.count

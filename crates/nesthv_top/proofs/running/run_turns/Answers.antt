@@ -1,0 +1,41 @@
+use Rattle.std.proofs.Common.{◌<◌, length, get_or, refl, arith}
+use Rattle.nesthv_top.proofs.Turning.{bounded, left_next, taken_in_all, traced_in_all}
+use Rattle.nesthv_top.proofs.running.run_turns.Goals as goal
+
+pub turn-requires-clause-steps : goal.turn-requires-clause-steps
+turn-requires-clause-steps c =
+    let b = bounded _ c.args.turns.now _ _ c.loop-guest.guest-index (0, 0) _ _ c.requires.few c.requires.short c.loop-guest-test.true c.loop-guest.invariant in
+    let turn = get_or c.args.turns.now c.loop-guest.guest-index (0, 0) in
+    let inside : turn.0 < length c.loop-guest.host.machines =
+    rw c.loop-guest.invariant.count (c.requires.short c.loop-guest.guest-index (0, 0) c.loop-guest-test.true).guest in
+    omega (arith, b.0, b.1, c.loop-guest.invariant.steps turn.0 inside)
+
+pub turn-requires-clause-entries : goal.turn-requires-clause-entries
+turn-requires-clause-entries c =
+    let b = bounded _ c.args.turns.now _ _ c.loop-guest.guest-index (0, 0) _ _ c.requires.few c.requires.short c.loop-guest-test.true c.loop-guest.invariant in
+    omega (arith, b.0, b.1, c.loop-guest.invariant.entries_most, c.requires.entries)
+
+pub turn-requires-clause-taken : goal.turn-requires-clause-taken
+turn-requires-clause-taken c =
+    let b = bounded _ c.args.turns.now _ _ c.loop-guest.guest-index (0, 0) _ _ c.requires.few c.requires.short c.loop-guest-test.true c.loop-guest.invariant in
+    omega (arith, b.0, b.1, c.loop-guest.invariant.taken_most, c.requires.taken)
+
+pub loop-guest-preserved : goal.loop-guest-preserved
+loop-guest-preserved c =
+    left_next c.args.turns.now c.args.host.now.machines c.args.tally.now c.loop-guest.guest-index _ _ c.turn.result (0, 0) c.loop-guest.host.machines c.loop-guest.tally
+    c.turn.new.self.machines c.turn.new.tally c.loop-guest-test.true refl c.loop-guest.invariant (record {
+      machines = c.turn.ensures.machines;
+      made = c.turn.ensures.made;
+      most = c.turn.ensures.most;
+      entries_grow = c.turn.ensures.entries_grow;
+      entries_most = c.turn.ensures.entries_most;
+      taken_least = c.turn.ensures.taken_least;
+      taken_most = c.turn.ensures.taken_most;
+      trace = c.turn.ensures.trace;
+    })
+
+pub returns-clause-taken_least : goal.returns-clause-taken_least
+returns-clause-taken_least c = taken_in_all c.args.turns.now _ _ c.loop-guest.guest-index _ _ c.loop-guest-test.false c.loop-guest.invariant
+
+pub returns-clause-trace : goal.returns-clause-trace
+returns-clause-trace c = traced_in_all c.args.turns.now _ _ c.loop-guest.guest-index _ _ c.loop-guest-test.false c.loop-guest.invariant
