@@ -1,0 +1,192 @@
+-- The second stage by a tidy space's table.
+use Rattle.std.specs.Prelude.{◌&&◌, nat_le, nat_lt, option_map}
+use Rattle.std.proofs.Common.{◌≡◌, ℕ, ◌+◌, ◌-◌, ◌*◌, ◌/◌, ◌%◌, ◌<◌, ◌≤◌, ◌^◌, ◌⊎◌, inl, inr, Bool, true, false, not, List, Option, Some, None, length, slice_index, if◌then◌else◌, refl, sym, ap, ◌∙◌, arith}
+use Rattle.std.proofs.lemmas.Bool.{and_from, cases_Bool, le-leb, lt-ltb}
+use Rattle.arch_defs.specs.declared.cached.Entry.{Entry}
+use Rattle.arch_defs.specs.declared.guest_walks.GuestWalkEnd.TheVariants.{GuestPageFault}
+use Rattle.arch_defs.specs.declared.guest_walks.GuestWalkEnd.TheVariants as guest
+use Rattle.arch_defs.specs.declared.modes.Access.{Access}
+use Rattle.arch_defs.specs.declared.modes.Access.TheVariants.{Fetch, Load, Store, ExecLoad, Implicit}
+use Rattle.arch_defs.specs.declared.walks.LeafEntry.{LeafEntry}
+use Rattle.arch_defs.specs.declared.walks.WalkEnd.TheVariants.{Leaf, PageFault}
+use Rattle.arch_defs.specs.Frames.{Frames, LieIn, in_blocks}
+use Rattle.arch_defs.specs.Memory.{block_size, ram_base}
+use Rattle.arch_defs.specs.Permits.{permits_second}
+use Rattle.arch_defs.specs.Ram.{host_place}
+use Rattle.arch_defs.specs.SecondStage.{guest_end, guest_root_frame, guest_walk, has_bytes, memory_words, place_under}
+use Rattle.arch_defs.specs.Walk.{leaf_address}
+use Rattle.arch_defs.proofs.RamBlocks.{host_place_along, place_named}
+use Rattle.shadow_space.specs.CachedEntries.{CanFill, entry_at, leaf_of, place_by, second_by}
+use Rattle.shadow_space.specs.Folding.{ReadsIn, leaf_end}
+use Rattle.shadow_space.specs.Laws.{EntriesGiveRam, GivesEntries, LacksAreGuestPageFaults}
+use Rattle.shadow_space.specs.Shadows.{Shadow, Tidy, host_frame, own_frames, root_of}
+use Rattle.shadow_space.proofs.Finding.{found_has}
+use Rattle.shadow_space.proofs.Tidying.{folded, root_aligned, tables_placed, tidy_parts}
+
+-- its entries are read as memory has them
+from_zero : (n : ℕ) → n - 0 ≡ n
+from_zero n = omega arith
+
+entry_inside : (place size : ℕ) → place / 4096 * 4096 + 4096 ≤ size → place % 8 ≡ 0 → place + 8 ≤ size
+entry_inside place size lies eighth = omega (arith, lies, eighth)
+
+has : (memory : List ℕ) (place n : ℕ) → place + n ≤ length memory → has_bytes 0 memory place n ≡ true
+has memory place n h =
+    let low : nat_le 0 place ≡ true = le-leb 0 place (omega arith) in
+    let high : nat_le (place + n) (0 + length memory) ≡ true = le-leb (place + n) (0 + length memory) (omega (arith, h)) in
+    rw (low, high) refl
+
+reads : (frames : Frames) (memory : List ℕ) → LieIn frames (length memory) → ReadsIn frames memory (memory_words 0 memory)
+reads frames memory lie place is eighth =
+    rw (has memory place 8 (entry_inside place (length memory) (lie (place / 4096) is) eighth), from_zero place) refl
+
+-- the root is where hgatp's page says
+root_frame : (page : ℕ) → page % 4 ≡ 0 → page < 2 ^ 44 → guest_root_frame page ≡ page
+root_frame page aligned small = omega (arith, aligned, small)
+
+-- the walk's end for an entry
+pub walk_is : (space : Shadow) (memory : List ℕ) (mxr : Bool) (address : ℕ) (access : Access) → Tidy space memory
+    → guest_walk 0 memory mxr (root_of space) address access ≡ guest_end 0 memory mxr address access (leaf_end space.part.blocks access (entry_at (address / 4096) space.entries))
+unfolding guest_walk
+walk_is space memory mxr address access tidy =
+    let parts = tidy_parts space memory tidy in
+    let placed = tables_placed space (length memory) parts.is parts.lies in
+    let small = placed.root in
+    let root = root_frame (root_of space) (root_aligned space.part space.index parts.is.once) (omega (arith, small)) in
+    let walked = (folded space memory tidy).walks (memory_words 0 memory) address access (reads (own_frames space) memory parts.lies) in
+    rw (root, walked) refl
+
+-- the place of a page's byte under its leaf
+place_in_page : (blocks : List ℕ) (frame r : ℕ) → r < 4096 → ram_base ≤ frame * 4096
+    → host_place blocks (4096 * frame + r - ram_base) ≡ 4096 * host_frame blocks frame + r
+place_in_page blocks frame r small from =
+    ap (host_place blocks) (along frame r from)
+    ∙ host_place_along blocks (frame * 4096 - ram_base) r (fits frame r small from)
+    ∙ ap (λ n. n + r) (whole (slice_index blocks ((frame * 4096 - ram_base) / block_size)) frame from)
+  where
+    along : (frame r : ℕ) → 2147483648 ≤ frame * 4096 → 4096 * frame + r - 2147483648 ≡ frame * 4096 - 2147483648 + r
+    along frame r from = omega (arith, from)
+
+    fits : (frame r : ℕ) → r < 4096 → 2147483648 ≤ frame * 4096 → (frame * 4096 - 2147483648) % 2097152 + r < 2097152
+    fits frame r small from = omega (arith, small, from)
+
+    whole : (n frame : ℕ) → 2147483648 ≤ frame * 4096 → n * 2097152 + (frame * 4096 - 2147483648) % 2097152 ≡ 4096 * ((n * 2097152 + (frame * 4096 - 2147483648) % 2097152) / 4096)
+    whole n frame from = omega (arith, from)
+
+-- an entry's leaf in machine memory; permission does not depend on its frame
+abbrev host_leaf : List ℕ → Entry → LeafEntry
+host_leaf blocks e = record { frame = host_frame blocks e.frame; level = 0; r = e.r; w = e.w; x = e.x; u = true }
+
+permits_same : (mxr : Bool) (access : Access) (blocks : List ℕ) (e : Entry) → permits_second mxr access (host_leaf blocks e) ≡ permits_second mxr access (leaf_of e)
+unfolding permits_second
+permits_same mxr Fetch blocks e = refl
+permits_same mxr Load blocks e = refl
+permits_same mxr Store blocks e = refl
+permits_same mxr ExecLoad blocks e = refl
+permits_same mxr Implicit blocks e = refl
+
+never_written : (mxr : Bool) (e : Entry) → e.w ≡ false → permits_second mxr Store (leaf_of e) ≡ false
+unfolding permits_second
+never_written mxr e clean = clean
+
+dirty_end : (clean : Bool) (leaf : LeafEntry) → clean ≡ false → (if clean then PageFault else Leaf leaf) ≡ Leaf leaf
+dirty_end clean leaf is = rw is refl
+
+clean_end : (clean : Bool) (leaf : LeafEntry) → clean ≡ true → (if clean then PageFault else Leaf leaf) ≡ PageFault
+clean_end clean leaf is = rw is refl
+
+-- its frame is in memory
+in_memory : (frame r size : ℕ) → frame * 4096 + 4096 ≤ size → r < 4096 → (4096 * frame + r) / 4096 * 4096 + 4096 ≤ size
+in_memory frame r size lies small = omega (arith, lies, small)
+
+frame_lies : (blocks : List ℕ) (size : ℕ) (e : Entry) → LieIn (in_blocks blocks) size → CanFill blocks e → host_frame blocks e.frame * 4096 + 4096 ≤ size
+frame_lies blocks size e lie can =
+    let from = can.from in
+    let to = can.to in
+    lie (host_frame blocks e.frame) (place_named blocks (e.frame * 4096 - ram_base) (omega (arith, from, to)))
+
+module _ (blocks memory : List ℕ) (mxr : Bool) (address : ℕ) (lie : LieIn (in_blocks blocks) (length memory)) (e : Entry) (can : CanFill blocks e) where
+  -- the end under the leaf, by permission
+  by_permission : (access : Access) (p : Bool) → permits_second mxr access (leaf_of e) ≡ p
+      → guest_end 0 memory mxr address access (Leaf (host_leaf blocks e)) ≡ (if p then guest.Leaf (host_leaf blocks e) else GuestPageFault)
+  by_permission access true is =
+      let permits : permits_second mxr access (host_leaf blocks e) ≡ true = permits_same mxr access blocks e ∙ is in
+      let fits = in_memory (host_frame blocks e.frame) (address % 2 ^ 12) (length memory) (frame_lies blocks (length memory) e lie can) (omega arith) in
+      rw (permits, has memory ((4096 * host_frame blocks e.frame + address % 2 ^ 12) / 4096 * 4096) 4096 fits) refl
+  by_permission access false is =
+      let refuses : permits_second mxr access (host_leaf blocks e) ≡ false = permits_same mxr access blocks e ∙ is in rw refuses refl
+
+  end_is : (access : Access) → guest_end 0 memory mxr address access (leaf_end blocks access (Some e)) ≡ (if permits_second mxr access (leaf_of e) then guest.Leaf (host_leaf blocks e) else GuestPageFault)
+  end_is Fetch = by_permission Fetch (permits_second mxr Fetch (leaf_of e)) refl
+  end_is Load = by_permission Load (permits_second mxr Load (leaf_of e)) refl
+  end_is ExecLoad = by_permission ExecLoad (permits_second mxr ExecLoad (leaf_of e)) refl
+  end_is Implicit = by_permission Implicit (permits_second mxr Implicit (leaf_of e)) refl
+  end_is Store = by (cases_Bool e.w)
+    where
+      by : (e.w ≡ true) ⊎ (e.w ≡ false) → guest_end 0 memory mxr address Store (leaf_end blocks Store (Some e)) ≡ (if permits_second mxr Store (leaf_of e) then guest.Leaf (host_leaf blocks e) else GuestPageFault)
+      by (inl dirty) = ap (guest_end 0 memory mxr address Store) (dirty_end (not e.w) (host_leaf blocks e) (ap not dirty)) ∙ by_permission Store (permits_second mxr Store (leaf_of e)) refl
+      by (inr clean) = ap (guest_end 0 memory mxr address Store) (clean_end (not e.w) (host_leaf blocks e) (ap not clean)) ∙ sym (rw (never_written mxr e clean) refl)
+
+-- so the place is the entry's, in machine memory
+placed_by : (blocks : List ℕ) (mxr : Bool) (address : ℕ) (access : Access) (e : Entry) → CanFill blocks e → (p : Bool)
+    → place_under address (if p then guest.Leaf (host_leaf blocks e) else GuestPageFault)
+    ≡ option_map (λ place. host_place blocks (place - ram_base)) (if p then Some (leaf_address (leaf_of e) address) else None)
+placed_by blocks mxr address access e can true = ap Some (sym (place_in_page blocks e.frame (address % 4096) (omega arith) can.from))
+placed_by blocks mxr address access e can false = refl
+
+given : (blocks memory : List ℕ) (mxr : Bool) (address : ℕ) (access : Access) (o : Option Entry) → LieIn (in_blocks blocks) (length memory) → ((e : Entry) → o ≡ Some e → CanFill blocks e)
+    → place_under address (guest_end 0 memory mxr address access (leaf_end blocks access o)) ≡ option_map (λ place. host_place blocks (place - ram_base)) (place_by mxr address access o)
+given blocks memory mxr address access None lie can = refl
+given blocks memory mxr address access (Some e) lie can =
+    ap (place_under address) (end_is blocks memory mxr address lie e (can e refl) access) ∙ placed_by blocks mxr address access e (can e refl) (permits_second mxr access (leaf_of e))
+
+refused : (blocks memory : List ℕ) (mxr : Bool) (address : ℕ) (access : Access) (o : Option Entry) → LieIn (in_blocks blocks) (length memory) → ((e : Entry) → o ≡ Some e → CanFill blocks e)
+    → place_by mxr address access o ≡ None → guest_end 0 memory mxr address access (leaf_end blocks access o) ≡ GuestPageFault
+refused blocks memory mxr address access None lie can none = refl
+refused blocks memory mxr address access (Some e) lie can none =
+    end_is blocks memory mxr address lie e (can e refl) access ∙ by (permits_second mxr access (leaf_of e)) none
+  where
+    by : (p : Bool) → (if p then Some (leaf_address (leaf_of e) address) else None) ≡ None → (if p then guest.Leaf (host_leaf blocks e) else GuestPageFault) ≡ GuestPageFault
+    by true none = absurd cc
+    by false none = refl
+
+can_of : (space : Shadow) (memory : List ℕ) (page : ℕ) → Tidy space memory → (e : Entry) → entry_at page space.entries ≡ Some e → CanFill space.part.blocks e
+can_of space memory page tidy e found = (found_has (CanFill space.part.blocks) page space.entries e (tidy_parts space memory tidy).is.fill found).0
+
+pub gives : GivesEntries
+unfolding second_by
+gives space memory mxr vmid address access tidy lie =
+    ap (place_under address) (walk_is space memory mxr address access tidy)
+    ∙ given space.part.blocks memory mxr address access (entry_at (address / 4096) space.entries) lie (can_of space memory (address / 4096) tidy)
+
+pub lacks : LacksAreGuestPageFaults
+unfolding second_by
+lacks space memory mxr address access tidy lie none =
+    walk_is space memory mxr address access tidy
+    ∙ refused space.part.blocks memory mxr address access (entry_at (address / 4096) space.entries) lie (can_of space memory (address / 4096) tidy) none
+
+-- the place that an entry gives is in RAM
+page_in_ram : (frame r count place : ℕ) → 2147483648 ≤ frame * 4096 → frame * 4096 < 2147483648 + count * 2097152 → r < 4096 → 4096 * frame + r ≡ place
+    → (2147483648 ≤ place) × (place < 2147483648 + count * 2097152)
+page_in_ram frame r count place from to small is = (omega (arith, from, is), omega (arith, to, small, is))
+
+same_offset : (frame address place : ℕ) → 4096 * frame + address % 4096 ≡ place → place % 4096 ≡ address % 4096
+same_offset frame address place is = omega (arith, is)
+
+given_in_ram : (blocks : List ℕ) (mxr : Bool) (address place : ℕ) (access : Access) (o : Option Entry) → ((e : Entry) → o ≡ Some e → CanFill blocks e) → place_by mxr address access o ≡ Some place
+    → ((nat_le ram_base place && nat_lt place (ram_base + length blocks * block_size)) ≡ true) × (place % 4096 ≡ address % 4096)
+given_in_ram blocks mxr address place access None can is = absurd cc
+given_in_ram blocks mxr address place access (Some e) can is = by (permits_second mxr access (leaf_of e)) is
+  where
+    by : (p : Bool) → (if p then Some (leaf_address (leaf_of e) address) else None) ≡ Some place
+        → ((nat_le ram_base place && nat_lt place (ram_base + length blocks * block_size)) ≡ true) × (place % 4096 ≡ address % 4096)
+    by true is =
+        let there : 4096 * e.frame + address % 4096 ≡ place = cc in
+        let inside = page_in_ram e.frame (address % 4096) (length blocks) place (can e refl).from (can e refl).to (omega arith) there in
+        (and_from (nat_le ram_base place) (nat_lt place (ram_base + length blocks * block_size)) (le-leb ram_base place inside.0) (lt-ltb place (ram_base + length blocks * block_size) inside.1), same_offset e.frame address place there)
+    by false is = absurd cc
+
+pub in_ram : EntriesGiveRam
+unfolding second_by
+in_ram space memory mxr address place access tidy is =
+    given_in_ram space.part.blocks mxr address place access (entry_at (address / 4096) space.entries) (can_of space memory (address / 4096) tidy) is

@@ -1,0 +1,15 @@
+pub mod Adding
+pub mod Building
+pub mod Clearing
+pub mod Doublewords
+pub mod Entries
+pub mod Finding
+pub mod Following
+pub mod Giving
+pub mod Inserting
+pub mod Leafing
+pub mod Linking
+pub mod Lists
+pub mod Partings
+pub mod Slots
+pub mod Tidying

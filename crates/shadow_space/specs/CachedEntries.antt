@@ -1,0 +1,68 @@
+-- Lists of cached second-stage translations, oldest first (own, within what Privileged Architecture 20211203,
+-- 8.3.2 and 8.5, permits).
+use Rattle.std.specs.Prelude.{ℕ, ◌≡◌, ◌≢◌, ◌+◌, ◌-◌, ◌*◌, ◌/◌, ◌<◌, ◌≤◌, ◌^◌, Bool, true, not, ◌||◌, ◌==◌, List, [], ◌∷◌, ◌++◌, Option, Some, None, length, drop, find, filter, if◌then◌else◌}
+use Rattle.arch_defs.specs.declared.cached.Entry.{Entry}
+use Rattle.arch_defs.specs.declared.modes.Access.{Access}
+use Rattle.arch_defs.specs.declared.walks.LeafEntry.{LeafEntry}
+use Rattle.arch_defs.specs.Memory.{ram_base, block_size, SecondStage}
+use Rattle.arch_defs.specs.Permits.{permits_second}
+use Rattle.arch_defs.specs.TableEntries.{span}
+use Rattle.arch_defs.specs.Walk.{leaf_address}
+
+-- the entry of a page
+abbrev pub entry_at : ℕ → List Entry → Option Entry
+entry_at page entries = find (λ e. e.page == page) entries
+
+-- the entries of other pages
+abbrev pub without : ℕ → List Entry → List Entry
+without page entries = filter (λ e. not (e.page == page)) entries
+
+-- the last entries, at most so many
+abbrev pub newest : ℕ → List Entry → List Entry
+newest most entries = drop (length entries - most) entries
+
+-- after a fill: an entry of the same page is taken out, the new one goes last, and where there are more than
+-- there may be, the oldest is dropped
+unfoldable pub filled : ℕ → List Entry → Entry → List Entry
+filled most entries entry = newest most (without entry.page entries ++ entry ∷ [])
+
+-- the span of an entry's leaf holds a page: 1, 512 or 262,144 aligned pages by its level
+abbrev pub holds : ℕ → Entry → Bool
+holds page e = e.page / span e.level == page / span e.level
+
+-- after a fence that names a page
+unfoldable pub cut_by : ℕ → List Entry → List Entry
+cut_by page entries = filter (λ e. not (holds page e)) entries
+
+-- the level of an entry is one that a leaf can have
+abbrev pub HasLevel : Entry → Type 0
+HasLevel e = e.level ≤ 2
+
+-- an entry that a walk of a table of the shape Sv39x4 can give a guest whose RAM is of these blocks: its page
+-- is of an address of 41 bits, its frame in RAM, it can be read or executed, and written only where it can be
+-- read
+pub record CanFill (blocks : List ℕ) (e : Entry) : Type 0 where
+  pub page : e.page < 2 ^ 29
+  pub from : ram_base ≤ e.frame * 4096
+  pub to : e.frame * 4096 < ram_base + length blocks * block_size
+  pub level : HasLevel e
+  pub right : (e.r || e.x) ≡ true
+  pub write : e.w ≡ true → e.r ≡ true
+
+-- two entries are of different pages
+abbrev pub HasOtherPage : Entry → Entry → Type 0
+HasOtherPage a b = a.page ≢ b.page
+
+-- the leaf that an entry stands for: of this one page, whatever the level of the leaf that it was filled from
+abbrev pub leaf_of : Entry → LeafEntry
+leaf_of e = record { frame = e.frame; level = 0; r = e.r; w = e.w; x = e.x; u = true }
+
+-- the place of an address under the entry of its page, if that permits the access
+abbrev pub place_by : Bool → ℕ → Access → Option Entry → Option ℕ
+place_by mxr address access None = None
+place_by mxr address access (Some e) =
+    if permits_second mxr access (leaf_of e) then Some (leaf_address (leaf_of e) address) else None
+
+-- the second stage by these entries alone
+unfoldable pub second_by : List Entry → Bool → SecondStage
+second_by entries mxr address access = place_by mxr address access (entry_at (address / 4096) entries)

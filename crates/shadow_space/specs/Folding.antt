@@ -1,0 +1,74 @@
+-- The folded table: what its walk gives.
+use Rattle.std.specs.Prelude.{ℕ, ◌≡◌, ◌/◌, ◌%◌, true, not, ◌&&◌, List, [], ◌∷◌, Option, Some, None, Ok, if◌then◌else◌}
+use Rattle.arch_defs.specs.declared.cached.Entry.{Entry}
+use Rattle.arch_defs.specs.declared.modes.Access.{Access}
+use Rattle.arch_defs.specs.declared.walks.Shape.TheVariants.{Sv39x4}
+use Rattle.arch_defs.specs.declared.walks.TableEntry.{TableEntry}
+use Rattle.arch_defs.specs.declared.walks.WalkEnd.{WalkEnd}
+use Rattle.arch_defs.specs.declared.walks.WalkEnd.TheVariants.{Leaf, PageFault}
+use Rattle.arch_defs.specs.Frames.{Frames}
+use Rattle.arch_defs.specs.Memory.{load}
+use Rattle.arch_defs.specs.TableEntries.{needs_dirty, table_entry}
+use Rattle.arch_defs.specs.Walk.{EntryReading, Met, path, walk}
+use Rattle.shadow_space.specs.CachedEntries.{entry_at}
+use Rattle.shadow_space.specs.Shadows.{Shadow, host_frame, own_frames, root_of}
+
+-- a reading of places gives the aligned doublewords of memory in these frames
+abbrev pub ReadsIn : Frames → List ℕ → EntryReading → Type 0
+ReadsIn frames memory reading =
+    (place : ℕ) → frames (place / 4096) ≡ true → place % 8 ≡ 0 → reading place ≡ Ok (load memory place 8)
+
+-- the places of these entries lie in these frames
+abbrev pub LieWithin : Frames → List Met → Type 0
+LieWithin frames [] = Unit {0}
+LieWithin frames (m ∷ ms) = (frames (m.place / 4096) ≡ true) × LieWithin frames ms
+
+-- the walk's end for an entry: a leaf of 4 KiB with the host's frame and the entry's permissions. D is set
+-- where it can be written, so a store to another one is a page fault, and so is each access without an entry
+abbrev pub leaf_end : List ℕ → Access → Option Entry → WalkEnd
+leaf_end blocks access None = PageFault
+leaf_end blocks access (Some e) =
+    if needs_dirty access && not e.w then PageFault
+    else Leaf (record {
+      frame = host_frame blocks e.frame;
+      level = 0;
+      r = e.r;
+      w = e.w;
+      x = e.x;
+      u = true;
+    })
+
+-- an entry's leaf in named parts: the frame is the host's, R and X are as the entry has them, W and D both as
+-- its w, and V, U and A are set
+abbrev pub leaf_parts : List ℕ → Entry → TableEntry
+leaf_parts blocks e = record {
+  v = true;
+  r = e.r;
+  w = e.w;
+  x = e.x;
+  u = true;
+  a = true;
+  d = e.w;
+  reserved = 0;
+  frame = host_frame blocks e.frame;
+}
+
+-- the last of these entries is one of the last level, and reads so
+abbrev pub LastIs : TableEntry → List Met → Type 0
+LastIs e [] = ⊥
+LastIs e (m ∷ []) = (m.level ≡ 0) × ((word : ℕ) × (m.read ≡ Ok word) × (table_entry word ≡ e))
+LastIs e (m ∷ (n ∷ ms)) = LastIs e (n ∷ ms)
+
+-- whatever reads the space's own frames as memory has them, the walk gives each address the leaf of its
+-- page's entry, and none where there is no entry. That leaf is the last entry that it meets, and each lies in
+-- these frames
+pub record Folded (space : Shadow) (memory : List ℕ) : Type 0 where
+  pub walks : (reading : EntryReading) (va : ℕ) (access : Access) → ReadsIn (own_frames space) memory reading
+      → walk reading (root_of space) Sv39x4 va access
+      ≡ leaf_end space.part.blocks access (entry_at (va / 4096) space.entries)
+  pub leaf : (reading : EntryReading) (va : ℕ) (access : Access) (e : Entry)
+      → ReadsIn (own_frames space) memory reading → entry_at (va / 4096) space.entries ≡ Some e
+      → LastIs (leaf_parts space.part.blocks e) (path reading (root_of space) Sv39x4 va access)
+  pub inside : (reading : EntryReading) (va : ℕ) (access : Access)
+      → ReadsIn (own_frames space) memory reading
+      → LieWithin (own_frames space) (path reading (root_of space) Sv39x4 va access)

@@ -1,0 +1,6 @@
+pub mod CachedEntries
+pub mod Folding
+pub mod Laws
+pub mod Shadows
+pub mod Trees
+pub mod Words

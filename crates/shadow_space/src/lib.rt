@@ -1,0 +1,15 @@
+// A space of cached second-stage translations, folded into one table.
+#![tactic(auto)]
+
+mod laws;
+mod listing;
+mod spaces;
+#[cfg(test)]
+mod tests;
+mod writing;
+
+pub use arch_defs::{Entry, Part};
+pub use laws::{gives_entries, spaces_are_apart, tidy_is_folded, tidy_lasts, untouched_are_zeros};
+pub use listing::MOST_ENTRIES;
+pub use phys_mem::PhysMem;
+pub use spaces::Space;

@@ -1,0 +1,161 @@
+// A space.
+
+ghost use Rattle.std.specs.Prelude.{◌≡◌, ℕ, ◌+◌, ◌%◌, ◌<◌, ◌≤◌, ◌^◌, [], List, length};
+ghost use Rattle.arch_defs.specs.Frames.{LieIn, Only};
+ghost use Rattle.arch_defs.specs.Layouts.{NamesEachOnce, space_frames};
+ghost use Rattle.shadow_space.specs.CachedEntries.{CanFill, cut_by, filled};
+ghost use Rattle.shadow_space.specs.Folding.{Folded};
+ghost use Rattle.shadow_space.specs.Shadows.{AreZeros, HasSmallNumbers, Tidy, own_frames, root_of, tables_in};
+
+use crate::listing::{EntryList, cut, filled};
+use crate::writing::{Tables, rebuild};
+use arch_defs::{Entry, Part};
+use phys_mem::PhysMem;
+use std::marker::Model;
+
+/// A guest's space of cached second-stage translations, with a table of the shape Sv39x4 in the frames that
+/// its part has for this space. The table gives exactly the entries, at their places in machine memory.
+///
+/// Each call on memory asks that the space is tidy in it (`Tidy`), and leaves it so. Zeros are tidy for a new
+/// space.
+#[derive(Drop)]
+pub struct Space {
+    part: Part,
+    index: u64,
+    most: usize,
+    entries: EntryList,
+}
+
+impl Model for Space {
+    ghost use Rattle.shadow_space.specs.Shadows.{IsShadow, Shadow};
+
+    ghost Value = { Shadow };
+
+    ghost view = { λ s. record { part = s.part; index = s.index; most = s.most; entries = s.entries } };
+
+    ghost invariant = { λ s. IsShadow (record {
+      part = s.part;
+      index = s.index;
+      most = s.most;
+      entries = s.entries;
+    }) };
+}
+
+impl Space {
+    /// The space of a part with this number, of at most so many entries, without any. It keeps the part.
+    pub fn new(part: &Part, i: u64, entries: u64) -> Space
+        requires index { i < part.now.spaces }
+        requires few { entries ≤ 256 }
+        requires room { entries ≤ part.now.entries }
+        ensures part { result.part ≡ part.now }
+        ensures index { result.index ≡ i }
+        ensures most { result.most ≡ entries }
+        ensures empty { result.entries ≡ [] }
+        ensures tidy { (memory : List ℕ) → LieIn (space_frames part.now i) (length memory)
+            → AreZeros (space_frames part.now i) memory → Tidy result memory }
+    {
+        numbers_of(part);
+        Space {
+            part: *part,
+            index: i,
+            most: entries as usize,
+            entries: EntryList::new(),
+        }
+    }
+
+    /// The frame of the table's root, a multiple of four.
+    pub fn root(&self) -> u64
+        ensures value { result ≡ root_of self.now }
+        ensures aligned { result % 4 ≡ 0 }
+        ensures small { result < 2 ^ 44 }
+    {
+        tables_of(&self.part, self.index).root
+    }
+
+    /// Adds an entry, as the newest. An entry of the same page is dropped, and else, where there are as many
+    /// as there may be, the oldest one.
+    pub fn fill(&mut self, mem: &mut PhysMem, entry: Entry)
+        requires tidy { Tidy self.old mem.old }
+        requires entry { CanFill self.old.part.blocks entry }
+        ensures entries { self.new.entries ≡ filled self.old.most self.old.entries entry }
+        ensures part { self.new.part ≡ self.old.part }
+        ensures index { self.new.index ≡ self.old.index }
+        ensures most { self.new.most ≡ self.old.most }
+        ensures tidy { Tidy self.new mem.new }
+        ensures folded { Folded self.new mem.new }
+        ensures only { Only (own_frames self.old) mem.old mem.new }
+    {
+        self.entries = filled(self.most, self.entries.as_slice(), entry);
+        self.write(mem);
+    }
+
+    /// Drops the entries whose leaf's span holds a guest physical page.
+    pub fn cut(&mut self, mem: &mut PhysMem, page: u64)
+        requires tidy { Tidy self.old mem.old }
+        ensures entries { self.new.entries ≡ cut_by page self.old.entries }
+        ensures part { self.new.part ≡ self.old.part }
+        ensures index { self.new.index ≡ self.old.index }
+        ensures most { self.new.most ≡ self.old.most }
+        ensures tidy { Tidy self.new mem.new }
+        ensures folded { Folded self.new mem.new }
+        ensures only { Only (own_frames self.old) mem.old mem.new }
+    {
+        self.entries = cut(page, self.entries.as_slice());
+        self.write(mem);
+    }
+
+    /// Drops all entries.
+    pub fn wipe(&mut self, mem: &mut PhysMem)
+        requires tidy { Tidy self.old mem.old }
+        ensures entries { self.new.entries ≡ [] }
+        ensures part { self.new.part ≡ self.old.part }
+        ensures index { self.new.index ≡ self.old.index }
+        ensures most { self.new.most ≡ self.old.most }
+        ensures tidy { Tidy self.new mem.new }
+        ensures folded { Folded self.new mem.new }
+        ensures only { Only (own_frames self.old) mem.old mem.new }
+    {
+        self.entries = EntryList::new();
+        self.write(mem);
+    }
+
+    // Writes the table of the entries.
+    fn write(&self, mem: &mut PhysMem)
+        requires { LieIn (own_frames self.now) (length mem.old) }
+        ensures tidy { Tidy self.now mem.new }
+        ensures folded { Folded self.now mem.new }
+        ensures only { Only (own_frames self.now) mem.old mem.new }
+    {
+        let tables = tables_of(&self.part, self.index);
+        rebuild(mem, &self.part, &tables, self.entries.as_slice());
+    }
+}
+
+// What the type of a part keeps.
+fn numbers_of(part: &Part)
+    ensures once { NamesEachOnce part.now }
+    ensures small { HasSmallNumbers part.now }
+{
+    part.names_each_once();
+    part.blocks();
+    part.host_root();
+    part.host_table();
+    part.spaces();
+    part.entries();
+}
+
+// The frames that a part has for the tables of a space.
+#[tactic(auto, using(crate::proofs::Tidying::few_frames))]
+fn tables_of(part: &Part, index: u64) -> Tables
+    requires { index < 2 ^ 16 }
+    ensures value { result ≡ tables_in part.now index }
+    ensures aligned { result.root % 4 ≡ 0 }
+    ensures small { result.root + 4 < 2 ^ 44 }
+{
+    let count = 2 * part.entries();
+    Tables {
+        root: part.host_root() + 4 * (1 + index),
+        first: part.host_table() + 1 + index * count,
+        count,
+    }
+}
