@@ -1,0 +1,33 @@
+-- The inputs of a console, each a moment and a byte that is there from this moment of the clock on (own).
+use Rattle.std.specs.Prelude.{ℕ, ◌≤◌, ◌<◌, ◌^◌, Bool, false, List, [], ◌∷◌, Option, Some, None, All, length, nat_le, if◌then◌else◌}
+use Rattle.std.specs.List.Sorted.{IsNonDecreasingBy}
+
+-- what a console may be given: at most 65,536 inputs, with moments below 2^62, none less than the one before
+pub record AreInputs (inputs : List (ℕ × ℕ)) : Type 0 where
+  pub count : length inputs ≤ 65536
+  pub moments : All (λ input. input.0 < 2 ^ 62) inputs
+  pub order : IsNonDecreasingBy (λ input. input.0) inputs
+
+-- the moment of the first of the inputs that are unread
+abbrev pub next_input : List (ℕ × ℕ) → Option ℕ
+next_input [] = None
+next_input ((moment, byte) ∷ rest) = Some moment
+
+-- whether a moment has come
+abbrev pub has_come : Option ℕ → ℕ → Bool
+has_come None clock = false
+has_come (Some moment) clock = nat_le moment clock
+
+-- whether an unread input's moment has come, which is so where the first one's has
+abbrev pub has_input : List (ℕ × ℕ) → ℕ → Bool
+has_input inputs clock = has_come (next_input inputs) clock
+
+-- the byte of the first unread input, if its moment has come
+abbrev pub arrived : List (ℕ × ℕ) → ℕ → Option ℕ
+arrived [] clock = None
+arrived ((moment, byte) ∷ rest) clock = if nat_le moment clock then Some byte else None
+
+-- the inputs that are unread after it is read
+abbrev pub unread_after : List (ℕ × ℕ) → ℕ → List (ℕ × ℕ)
+unread_after [] clock = []
+unread_after ((moment, byte) ∷ rest) clock = if nat_le moment clock then rest else (moment, byte) ∷ rest

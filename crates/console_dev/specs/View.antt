@@ -1,0 +1,16 @@
+-- The fields of a console.
+use Rattle.std.specs.Prelude.{◌≤◌, drop, length, vec_capacity}
+use Rattle.std.specs.List.Sorted.{IsNonDecreasingBy}
+use Rattle.console_dev.specs.declared.consoles.Console.TheInside.{Inside}
+use Rattle.console_dev.specs.Held.{Held}
+
+-- the inputs from the first that is not read on
+abbrev pub held : Inside → Held
+held c = record { bytes = c.bytes.items; room = c.room; inputs = drop c.read c.inputs.items }
+
+-- the room is reserved and not exceeded, and the inputs stand in the order of their moments
+pub record IsSound (c : Inside) : Type 0 where
+  pub reserved : c.room ≤ vec_capacity c.bytes
+  pub within : length c.bytes.items ≤ c.room
+  pub read : c.read ≤ length c.inputs.items
+  pub order : IsNonDecreasingBy (λ input. input.0) c.inputs.items

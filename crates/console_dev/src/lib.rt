@@ -1,0 +1,8 @@
+// A guest's console: the bytes that it has put, and the inputs that come to it.
+#![tactic(auto)]
+
+mod consoles;
+#[cfg(test)]
+mod tests;
+
+pub use consoles::Console;

@@ -1,0 +1,4 @@
+pub mod Clocks
+pub mod Laws
+pub mod Times
+pub mod Waits
