@@ -1,0 +1,120 @@
+-- The front space of a pool and its table.
+use Rattle.std.proofs.Common.{◌≡◌, ℕ, zero, suc, ◌+◌, ◌-◌, ◌*◌, ◌%◌, ◌&&◌, ◌||◌, ◌⊎◌, inl, inr, true, false, List, [], ◌∷◌, Option, Some, None, length, get_or, nat_le, nat_lt, refl, sym, ap, subst, ◌∙◌, arith}
+use Rattle.std.specs.List.{cons_option, find, list_any}
+use Rattle.std.specs.Option.{option_map}
+use Rattle.std.proofs.lemmas.Bool.{cases_Bool}
+use Rattle.arch_defs.specs.declared.cached.Entry.{Entry}
+use Rattle.arch_defs.specs.declared.registers.GuestRoot.{GuestRoot}
+use Rattle.arch_defs.specs.declared.registers.GuestRoot.TheVariants as root
+use Rattle.arch_defs.specs.Frames.{LieIn, in_blocks}
+use Rattle.arch_defs.specs.Layouts.{Layout}
+use Rattle.arch_defs.specs.Memory.{ram_base, block_size}
+use Rattle.arch_defs.specs.Ram.{host_place}
+use Rattle.arch_defs.specs.SecondStage.{guest_walk, second_under}
+use Rattle.arch_defs.proofs.FrameSets.{same_fewer}
+use Rattle.machine_defs.specs.Machine.{Space}
+use Rattle.shadow_space.specs.CachedEntries.{second_by}
+use Rattle.shadow_space.specs.Shadows.{Shadow, Tidy, own_frames, root_of}
+use Rattle.shadow_space.proofs.Giving.{gives, in_ram, lacks}
+use Rattle.shadow_space.proofs.Tidying.{lasts}
+use Rattle.shadow_pool.specs.declared.slots.Slot.{Slot}
+use Rattle.shadow_pool.specs.Laws.{EnteredIsHeld, EnteredIsInFront, FrontGivesEntries, FrontGivesRam, FrontIs, FrontIsEnteredAgain, FrontLacksAreGuestPageFaults, TidyPoolLasts}
+use Rattle.shadow_pool.specs.Slots.{AreSlots, AreTidy, ComesBefore, frames_for, front_root, space_if, spaces_in}
+use Rattle.shadow_pool.specs.Spaces.{entered, found_or_empty, is_for, is_held, is_root}
+use Rattle.shadow_pool.proofs.Entering.{all_spare, entered_found}
+use Rattle.shadow_pool.proofs.Keys.{has_of, root_is, root_same}
+use Rattle.shadow_pool.proofs.Ordering.{pairs_first}
+use Rattle.shadow_pool.proofs.Tidying.{frames_within}
+
+-- a pool stays tidy
+pub pool_lasts : TidyPoolLasts
+pool_lasts pool old new same tidy = record {
+  slots = tidy.slots;
+  tables = λ k d h. lasts (get_or pool.slots k d).space old new
+      (same_fewer (own_frames (get_or pool.slots k d).space) (frames_for pool.part (length pool.slots)) old new (frames_within pool.part pool.most pool.slots tidy.slots k d h) same) (tidy.tables k d h);
+}
+
+-- the first table is that of the first space
+record IsFront (part : Layout) (memory : List ℕ) (frame : ℕ) (entries : List Entry) : Type 0 where
+  space : Shadow
+  tidy : Tidy space memory
+  part_is : space.part ≡ part
+  root_is : root_of space ≡ frame
+  entries_are : space.entries ≡ entries
+
+first_is : (slot : Slot) (rest : List Space) (front : Space) (others : List Space) → (slot.key ≡ None → rest ≡ []) → cons_option (space_if slot.key slot.space.entries) rest ≡ front ∷ others
+    → (slot.key ≡ Some front.key) × (slot.space.entries ≡ front.entries)
+first_is slot rest front others spare is = by slot.key refl
+  where
+    by : (o : Option GuestRoot) → slot.key ≡ o → (slot.key ≡ Some front.key) × (slot.space.entries ≡ front.entries)
+    by None none =
+        let nothing : [] ≡ front ∷ others = sym (spare none) ∙ ap (λ o. cons_option (space_if o slot.space.entries) rest) (sym none) ∙ is in
+        let count : 0 ≡ suc (length others) = ap length nothing in
+        absurd (omega (arith, count))
+    by (Some key) some =
+        let both : record { key = key; entries = slot.space.entries } ∷ rest ≡ front ∷ others = ap (λ o. cons_option (space_if o slot.space.entries) rest) (sym some) ∙ is in
+        (some ∙ ap (λ xs. Some (get_or xs 0 front).key) both, ap (λ xs. (get_or xs 0 front).entries) both)
+
+front_is : (part : Layout) (most : ℕ) (slots : List Slot) (memory : List ℕ) (front : Space) (others : List Space) → AreSlots part most slots → AreTidy slots memory → spaces_in slots ≡ front ∷ others
+    → IsFront part memory (front_root slots) front.entries
+front_is part most [] memory front others are tidy is = let some = are.some in absurd (omega (arith, some))
+front_is part most (slot ∷ slots) memory front others are tidy is = record {
+  space = slot.space;
+  tidy = tidy 0 slot (omega arith);
+  part_is = (are.each 0 slot (omega arith)).part;
+  root_is = refl;
+  entries_are = (first_is slot (spaces_in slots) front others (λ none. all_spare slots (λ k d h. (pairs_first ComesBefore slot slots are.order k d h).spare none)) is).1;
+}
+
+pub front_gives : FrontGivesEntries
+front_gives pool memory front others mxr vmid address access tidy lies is =
+    let f = front_is pool.part pool.most pool.slots memory front others tidy.slots tidy.tables is in
+    let space = f.space in
+    ap (λ frame. second_under 0 memory mxr (root.Sv39x4 vmid frame) address access) (sym f.root_is)
+    ∙ gives space memory mxr vmid address access f.tidy (subst (λ part. LieIn (in_blocks part.blocks) (length memory)) (sym f.part_is) lies)
+    ∙ ap (λ part. option_map (λ place. host_place part.blocks (place - ram_base)) (second_by space.entries mxr address access)) f.part_is
+    ∙ ap (λ entries. option_map (λ place. host_place pool.part.blocks (place - ram_base)) (second_by entries mxr address access)) f.entries_are
+
+pub front_lacks : FrontLacksAreGuestPageFaults
+front_lacks pool memory front others mxr address access tidy lies is none =
+    let f = front_is pool.part pool.most pool.slots memory front others tidy.slots tidy.tables is in
+    ap (λ frame. guest_walk 0 memory mxr frame address access) (sym f.root_is)
+    ∙ lacks f.space memory mxr address access f.tidy (subst (λ part. LieIn (in_blocks part.blocks) (length memory)) (sym f.part_is) lies)
+    (ap (λ entries. second_by entries mxr address access) f.entries_are ∙ none)
+
+pub front_in_ram : FrontGivesRam
+front_in_ram pool memory front others mxr address place access tidy is some =
+    let f = front_is pool.part pool.most pool.slots memory front others tidy.slots tidy.tables is in
+    subst (λ part. ((nat_le ram_base place && nat_lt place (ram_base + length part.blocks * block_size)) ≡ true) × (place % 4096 ≡ address % 4096)) f.part_is
+    (in_ram f.space memory mxr address place access f.tidy (ap (λ entries. second_by entries mxr address access) f.entries_are ∙ some))
+
+-- the space that was entered is in front
+found_for : (key : GuestRoot) (spaces : List Space) → (found_or_empty key (find (is_for key) spaces)).key ≡ key
+found_for key [] = refl
+found_for key (space ∷ spaces) = by (cases_Bool (is_root space.key key)) (found_for key spaces)
+  where
+    by : (is_root space.key key ≡ true) ⊎ (is_root space.key key ≡ false) → (found_or_empty key (find (is_for key) spaces)).key ≡ key → (found_or_empty key (find (is_for key) (space ∷ spaces))).key ≡ key
+    by (inl is) later = rw is (root_same space.key key is)
+    by (inr other) later = rw other later
+
+pub in_front : EnteredIsInFront
+unfolding entered
+in_front zero key spaces some = absurd (omega (arith, some))
+in_front (suc most) key spaces some = found_for key spaces
+
+first_held : (key : GuestRoot) (spaces : List Space) → FrontIs key spaces → is_held key spaces ≡ true
+first_held key [] is = absurd is
+first_held key (space ∷ spaces) is = ap (λ own. is_root own key || list_any (is_for key) spaces) is ∙ ap (λ same. same || list_any (is_for key) spaces) (root_is key)
+
+pub held : EnteredIsHeld
+held most key spaces some = first_held key (entered most key spaces) (in_front most key spaces some)
+
+-- it is entered once more
+once_more : (part : Layout) (most : ℕ) (slots : List Slot) (front : Space) (others : List Space) → AreSlots part most slots → spaces_in slots ≡ front ∷ others → entered (length slots) front.key (spaces_in slots) ≡ spaces_in slots
+once_more part most [] front others are is = let some = are.some in absurd (omega (arith, some))
+once_more part most (slot ∷ slots) front others are is =
+    let key = (first_is slot (spaces_in slots) front others (λ none. all_spare slots (λ k d h. (pairs_first ComesBefore slot slots are.order k d h).spare none)) is).0 in
+    sym (entered_found front.key (slot ∷ slots) 0 slot (omega arith) (has_of front.key slot key) are.order)
+
+pub again : FrontIsEnteredAgain
+again pool memory front others tidy is = once_more pool.part pool.most pool.slots front others tidy.slots is

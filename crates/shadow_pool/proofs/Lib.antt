@@ -1,0 +1,12 @@
+pub mod Apart
+pub mod Changing
+pub mod Entering
+pub mod Fencing
+pub mod Filling
+pub mod Front
+pub mod Fronting
+pub mod Keys
+pub mod Making
+pub mod Naming
+pub mod Ordering
+pub mod Tidying

@@ -1,0 +1,11 @@
+use Rattle.shadow_pool.proofs.Front.{again, held, in_front}
+use Rattle.shadow_pool.proofs.laws.entered_is_in_front.Goals as goal
+
+pub returns-clause-front : goal.returns-clause-front
+returns-clause-front c = in_front
+
+pub returns-clause-held : goal.returns-clause-held
+returns-clause-held c = held
+
+pub returns-clause-again : goal.returns-clause-again
+returns-clause-again c = again

@@ -1,0 +1,108 @@
+-- Laws of pools.
+use Rattle.std.specs.Prelude.{ℕ, ◌≡◌, ◌≢◌, ◌+◌, ◌-◌, ◌*◌, ◌/◌, ◌%◌, ◌≤◌, ◌^◌, ◌&&◌, Bool, true, List, [], ◌∷◌, Some, None, length, nat_le, nat_lt, option_map}
+use Rattle.arch_defs.specs.declared.guest_walks.GuestWalkEnd.TheVariants.{GuestPageFault}
+use Rattle.arch_defs.specs.declared.modes.Access.{Access}
+use Rattle.arch_defs.specs.declared.registers.GuestRoot.{GuestRoot}
+use Rattle.arch_defs.specs.declared.registers.GuestRoot.TheVariants as root
+use Rattle.arch_defs.specs.declared.registers.Regs.{Regs}
+use Rattle.arch_defs.specs.Frames.{Apart, LieIn, Same, Within, in_blocks}
+use Rattle.arch_defs.specs.Layouts.{Layout, host_frames, named_by}
+use Rattle.arch_defs.specs.Memory.{ram_base, block_size}
+use Rattle.arch_defs.specs.Ram.{host_place}
+use Rattle.arch_defs.specs.Registers.{read}
+use Rattle.arch_defs.specs.SecondStage.{guest_walk, second_under}
+use Rattle.machine_defs.specs.Machine.{Space}
+use Rattle.op_defs.specs.declared.ops.Effect.TheVariants.{Privileged}
+use Rattle.op_defs.specs.declared.ops.Op.TheVariants as op
+use Rattle.op_defs.specs.declared.ops.Privileged.TheVariants as privileged
+use Rattle.op_defs.specs.Meaning.{fence_named, meaning}
+use Rattle.shadow_space.specs.CachedEntries.{second_by}
+use Rattle.shadow_pool.specs.Slots.{Pooled, TidyPool, frames_for, front_root, pool_frames, room_of, spaces_of}
+use Rattle.shadow_pool.specs.Spaces.{entered, is_held}
+
+-- a pool stays tidy where the bytes of its own frames stay
+abbrev pub TidyPoolLasts : Type 0
+TidyPoolLasts = (pool : Pooled) (old new : List ℕ) → Same (pool_frames pool) old new → TidyPool pool old
+    → TidyPool pool new
+
+-- the second stage by the front table of a tidy pool is that by the entries of the front space, each place at
+-- its place in the blocks of the guest's RAM. MXR is sstatus's
+abbrev pub FrontGivesEntries : Type 0
+FrontGivesEntries = (pool : Pooled) (memory : List ℕ) (front : Space) (others : List Space) (mxr : Bool)
+    (vmid address : ℕ) (access : Access)
+    → TidyPool pool memory → LieIn (in_blocks pool.part.blocks) (length memory)
+    → spaces_of pool ≡ front ∷ others
+    → second_under 0 memory mxr (root.Sv39x4 vmid (front_root pool.slots)) address access
+    ≡ option_map (λ place. host_place pool.part.blocks (place - ram_base))
+    (second_by front.entries mxr address access)
+
+-- and an access that these entries give no place is a guest-page fault, never an access fault
+abbrev pub FrontLacksAreGuestPageFaults : Type 0
+FrontLacksAreGuestPageFaults = (pool : Pooled) (memory : List ℕ) (front : Space) (others : List Space)
+    (mxr : Bool) (address : ℕ) (access : Access)
+    → TidyPool pool memory → LieIn (in_blocks pool.part.blocks) (length memory)
+    → spaces_of pool ≡ front ∷ others
+    → second_by front.entries mxr address access ≡ None
+    → guest_walk 0 memory mxr (front_root pool.slots) address access ≡ GuestPageFault
+
+-- the places that they give are of the guest's RAM, with the offsets that the addresses have in pages
+abbrev pub FrontGivesRam : Type 0
+FrontGivesRam = (pool : Pooled) (memory : List ℕ) (front : Space) (others : List Space) (mxr : Bool)
+    (address place : ℕ) (access : Access)
+    → TidyPool pool memory → spaces_of pool ≡ front ∷ others
+    → second_by front.entries mxr address access ≡ Some place
+    → ((nat_le ram_base place && nat_lt place (ram_base + length pool.part.blocks * block_size)) ≡ true)
+    × (place % 4096 ≡ address % 4096)
+
+-- the frames of so many spaces are of the part, apart from its RAM and from its host table
+abbrev pub PoolLiesWithin : Layout → Type 0
+PoolLiesWithin part = (count : ℕ) → count ≤ part.spaces → Within (frames_for part count) (named_by part)
+
+abbrev pub RamIsApart : Layout → Type 0
+RamIsApart part = (count : ℕ) → count ≤ part.spaces → Apart (in_blocks part.blocks) (frames_for part count)
+
+abbrev pub HostFramesAreApart : Layout → Type 0
+HostFramesAreApart part = (count : ℕ) → count ≤ part.spaces → Apart (host_frames part) (frames_for part count)
+
+-- the front space is for this value of hgatp
+abbrev pub FrontIs : GuestRoot → List Space → Type 0
+FrontIs key [] = ⊥
+FrontIs key (space ∷ spaces) = space.key ≡ key
+
+-- the space that was entered is in front
+abbrev pub EnteredIsInFront : Type 0
+EnteredIsInFront = (most : ℕ) (key : GuestRoot) (spaces : List Space) → 1 ≤ most
+    → FrontIs key (entered most key spaces)
+
+-- and no more happens where it is entered once more
+abbrev pub FrontIsEnteredAgain : Type 0
+FrontIsEnteredAgain = (pool : Pooled) (memory : List ℕ) (front : Space) (others : List Space)
+    → TidyPool pool memory → spaces_of pool ≡ front ∷ others
+    → entered (room_of pool) front.key (spaces_of pool) ≡ spaces_of pool
+
+-- it is held
+abbrev pub EnteredIsHeld : Type 0
+EnteredIsHeld = (most : ℕ) (key : GuestRoot) (spaces : List Space) → 1 ≤ most
+    → is_held key (entered most key spaces) ≡ true
+
+-- the fence that an HFENCE.GVMA makes (Privileged Architecture 20211203, 8.3.2)
+abbrev pub InstructionMakesFence : Type 0
+InstructionMakesFence = (rs1 rs2 : ℕ) (regs : Regs)
+    → meaning (op.HfenceGvma rs1 rs2) regs ≡ Privileged (privileged.HfenceGvma (fence_named rs1 rs2 regs))
+
+-- the low 7 bits of rs2 are the VMID that it names, and rs2 as x0 names none
+abbrev pub FenceNamesVmid : Type 0
+FenceNamesVmid = (rs1 rs2 : ℕ) (regs : Regs) → rs2 ≢ 0
+    → (fence_named rs1 rs2 regs).vmid ≡ Some (read regs rs2 % 2 ^ 7)
+
+abbrev pub FenceNamesNoVmid : Type 0
+FenceNamesNoVmid = (rs1 : ℕ) (regs : Regs) → (fence_named rs1 0 regs).vmid ≡ None
+
+-- rs1 has a guest physical address shifted right by 2: the fence names the page of this address, and rs1 as
+-- x0 names none
+abbrev pub FenceNamesPage : Type 0
+FenceNamesPage = (rs1 rs2 address : ℕ) (regs : Regs) → rs1 ≢ 0 → read regs rs1 ≡ address / 2 ^ 2
+    → (fence_named rs1 rs2 regs).page ≡ Some (address / 4096)
+
+abbrev pub FenceNamesNoPage : Type 0
+FenceNamesNoPage = (rs2 : ℕ) (regs : Regs) → (fence_named 0 rs2 regs).page ≡ None

@@ -1,0 +1,131 @@
+-- A pool: tables for spaces, some of which are for a value of hgatp.
+use Rattle.std.specs.Prelude.{ℕ, ◌≡◌, ◌≢◌, ◌+◌, ◌*◌, ◌<◌, ◌≤◌, Bool, true, false, List, [], ◌∷◌, Option, Some, None, length}
+use Rattle.std.specs.List.{All, AllPairs, filter_map, slice_index_or}
+use Rattle.arch_defs.specs.declared.cached.Entry.{Entry}
+use Rattle.arch_defs.specs.declared.registers.GuestRoot.{GuestRoot}
+use Rattle.arch_defs.specs.Frames.{Frames, LieIn, joined, within}
+use Rattle.arch_defs.specs.Layouts.{Layout, NamesEachOnce, space_frames}
+use Rattle.machine_defs.specs.Machine.{Space}
+use Rattle.shadow_space.specs.Folding.{Folded}
+use Rattle.shadow_space.specs.Shadows.{AreZeros, Tidy, root_of}
+use Rattle.shadow_pool.specs.declared.slots.Slot.{Slot}
+use Rattle.shadow_pool.specs.Spaces.{is_root, left_by, vmid_of}
+use Rattle.arch_defs.specs.declared.cached.Fence.{Fence}
+
+-- whether a table is for a value of hgatp
+abbrev pub key_is : GuestRoot → Option GuestRoot → Bool
+key_is key None = false
+key_is key (Some other) = is_root other key
+
+abbrev pub has_key : GuestRoot → Slot → Bool
+has_key key slot = key_is key slot.key
+
+-- the space that a table has, if it is for a value of hgatp
+abbrev pub space_if : Option GuestRoot → List Entry → Option Space
+space_if None entries = None
+space_if (Some key) entries = Some (record { key = key; entries = entries })
+
+-- the spaces that tables have
+abbrev pub spaces_in : List Slot → List Space
+spaces_in slots = filter_map (λ slot. space_if slot.key slot.space.entries) slots
+
+-- the frame of the first table's root
+abbrev pub front_root : List Slot → ℕ
+front_root [] = 0
+front_root (slot ∷ slots) = root_of slot.space
+
+-- the frames that a part has for the tables of so many spaces
+abbrev pub frames_for : Layout → ℕ → Frames
+frames_for part count =
+    joined (within (part.first_root + 4) (4 * count))
+    (within (part.first_table + 1) (count * (2 * part.entries)))
+
+-- each table is tidy, and folded
+abbrev pub AreTidy : List Slot → List ℕ → Type 0
+AreTidy slots memory = All (λ slot. Tidy slot.space memory) slots
+
+abbrev pub AreFolded : List Slot → List ℕ → Type 0
+AreFolded slots memory = All (λ slot. Folded slot.space memory) slots
+
+-- a table of a part, with one of the first numbers and room for so many entries
+pub record IsSlot (layout : Layout) (room count : ℕ) (slot : Slot) : Type 0 where
+  pub part : slot.space.part ≡ layout
+  pub most : slot.space.most ≡ room
+  pub index : slot.space.index < count
+
+-- two tables have different numbers and different values of hgatp, and those without one come last
+pub record ComesBefore (a b : Slot) : Type 0 where
+  pub index : a.space.index ≢ b.space.index
+  pub key : (key : GuestRoot) → has_key key a ≡ true → has_key key b ≡ false
+  pub spare : a.key ≡ None → b.key ≡ None
+
+-- the tables of a pool: at least one, and no more than the part has spaces
+pub record AreSlots (part : Layout) (most : ℕ) (slots : List Slot) : Type 0 where
+  pub some : 1 ≤ length slots
+  pub own : length slots ≤ part.spaces
+  pub once : NamesEachOnce part
+  pub each : All (IsSlot part most (length slots)) slots
+  pub order : AllPairs ComesBefore slots
+
+-- a part without frames: that of no tables
+unfoldable pub no_part : Layout
+no_part = record { blocks = []; first_root = 0; first_table = 0; spaces = 0; entries = 0 }
+
+-- the part that tables are of, and room for how many entries each has: as the first of them
+abbrev pub part_of : List Slot → Layout
+part_of [] = no_part
+part_of (slot ∷ slots) = slot.space.part
+
+abbrev pub most_of : List Slot → ℕ
+most_of [] = 0
+most_of (slot ∷ slots) = slot.space.most
+
+-- tables of one pool
+abbrev pub ArePooled : List Slot → Type 0
+ArePooled slots = AreSlots (part_of slots) (most_of slots) slots
+
+-- a pool: the guest's part, at most how many entries a space has, and a table for each space that there may
+-- be
+pub record Pooled : Type 0 where
+  pub part : Layout
+  pub most : ℕ
+  pub slots : List Slot
+
+-- its spaces, the most recently entered first, and how many there may be
+abbrev pub spaces_of : Pooled → List Space
+spaces_of pool = spaces_in pool.slots
+
+abbrev pub room_of : Pooled → ℕ
+room_of pool = length pool.slots
+
+-- its frames
+abbrev pub pool_frames : Pooled → Frames
+pool_frames pool = frames_for pool.part (room_of pool)
+
+-- each of its tables is tidy
+pub record TidyPool (pool : Pooled) (memory : List ℕ) : Type 0 where
+  pub slots : AreSlots pool.part pool.most pool.slots
+  pub tables : AreTidy pool.slots memory
+
+-- a new table of a part, by its number: it is tidy in memory in which its frames are zeros
+pub record IsSpare (layout : Layout) (room number : ℕ) (slot : Slot) : Type 0 where
+  pub key : slot.key ≡ None
+  pub part : slot.space.part ≡ layout
+  pub most : slot.space.most ≡ room
+  pub index : slot.space.index ≡ number
+  pub tidy : (memory : List ℕ) → LieIn (space_frames layout number) (length memory)
+      → AreZeros (space_frames layout number) memory → Tidy slot.space memory
+
+-- the first tables of a part
+pub record AreSpare (part : Layout) (most count : ℕ) (slots : List Slot) : Type 0 where
+  pub number : length slots ≡ count
+  pub each : (k : ℕ) (d : Slot) → k < length slots → IsSpare part most k (slice_index_or slots k d)
+
+-- a table after a fence
+abbrev pub left_for : Fence → Option GuestRoot → List Entry → List Entry
+left_for fence None entries = entries
+left_for fence (Some key) entries = left_by fence (vmid_of key) entries
+
+abbrev pub fenced_slot : Fence → Slot → Slot
+fenced_slot fence slot =
+    record slot { space = record slot.space { entries = left_for fence slot.key slot.space.entries } }

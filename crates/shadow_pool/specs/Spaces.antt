@@ -1,0 +1,72 @@
+-- The spaces of cached second-stage translations of a guest, the most recently entered first, each for a
+-- whole value of hgatp (own, within what Privileged Architecture 20211203, 8.3.2 and 8.5, permits).
+use Rattle.std.specs.Prelude.{ℕ, ◌==◌, Bool, true, false, not, ◌&&◌, List, [], ◌∷◌, Option, Some, None, filter, find, map, take, if◌then◌else◌}
+use Rattle.std.specs.List.{list_any}
+use Rattle.arch_defs.specs.declared.cached.Entry.{Entry}
+use Rattle.arch_defs.specs.declared.cached.Fence.{Fence}
+use Rattle.arch_defs.specs.declared.registers.GuestRoot.{GuestRoot}
+use Rattle.arch_defs.specs.declared.registers.GuestRoot.TheVariants.{Bare, Sv39x4}
+use Rattle.machine_defs.specs.Machine.{Space}
+use Rattle.shadow_space.specs.CachedEntries.{filled, holds}
+
+-- two values of hgatp are the same: the VMID and the root's page too
+abbrev pub is_root : GuestRoot → GuestRoot → Bool
+is_root Bare Bare = true
+is_root Bare (Sv39x4 vmid page) = false
+is_root (Sv39x4 vmid page) Bare = false
+is_root (Sv39x4 vmid page) (Sv39x4 other_vmid other_page) = vmid == other_vmid && page == other_page
+
+abbrev pub is_for : GuestRoot → Space → Bool
+is_for key space = is_root space.key key
+
+-- there is a space for a value of hgatp
+abbrev pub is_held : GuestRoot → List Space → Bool
+is_held key spaces = list_any (is_for key) spaces
+
+-- the space for a value of hgatp, or an empty one where there is none
+abbrev pub found_or_empty : GuestRoot → Option Space → Space
+found_or_empty key (Some space) = space
+found_or_empty key None = record { key = key; entries = [] }
+
+-- after hgatp is entered: its space comes to the front, and where there are more than there may be, the last
+-- one is dropped
+unfoldable pub entered : ℕ → GuestRoot → List Space → List Space
+entered most key spaces =
+    take most (found_or_empty key (find (is_for key) spaces) ∷ filter (λ s. not (is_for key s)) spaces)
+
+-- after a fill of the space for a value of hgatp
+abbrev pub filled_if : ℕ → GuestRoot → Entry → Space → Space
+filled_if most key entry s = if is_for key s then record s { entries = filled most s.entries entry } else s
+
+unfoldable pub filled_in : ℕ → GuestRoot → Entry → List Space → List Space
+filled_in most key entry spaces = map (filled_if most key entry) spaces
+
+-- the VMID of a value of hgatp
+abbrev pub vmid_of : GuestRoot → ℕ
+vmid_of Bare = 0
+vmid_of (Sv39x4 vmid page) = vmid
+
+-- whether a fence names a VMID: any, where it names none (8.3.2)
+abbrev pub names_vmid : Option ℕ → ℕ → Bool
+names_vmid None vmid = true
+names_vmid (Some named) vmid = named == vmid
+
+-- whether it names a page of the leaf that an entry was filled from: any, where it names none
+abbrev pub names_page : Option ℕ → Entry → Bool
+names_page None e = true
+names_page (Some named) e = holds named e
+
+-- whether it names an entry of a space for this VMID
+abbrev pub names : Fence → ℕ → Entry → Bool
+names fence vmid e = names_vmid fence.vmid vmid && names_page fence.page e
+
+-- the entries that it does not name
+abbrev pub left_by : Fence → ℕ → List Entry → List Entry
+left_by fence vmid entries = filter (λ e. not (names fence vmid e)) entries
+
+abbrev pub fenced_space : Fence → Space → Space
+fenced_space fence s = record s { entries = left_by fence (vmid_of s.key) s.entries }
+
+-- after a fence: no space has an entry that it names, and each space stays
+unfoldable pub fenced : Fence → List Space → List Space
+fenced fence spaces = map (fenced_space fence) spaces

@@ -1,0 +1,47 @@
+// Laws of pools.
+
+ghost use Rattle.shadow_pool.specs.Laws.{EnteredIsHeld, EnteredIsInFront, FenceNamesNoPage, FenceNamesNoVmid, FenceNamesPage, FenceNamesVmid, FrontGivesEntries, FrontGivesRam, FrontIsEnteredAgain, FrontLacksAreGuestPageFaults, HostFramesAreApart, InstructionMakesFence, PoolLiesWithin, RamIsApart, TidyPoolLasts};
+
+use arch_defs::Part;
+
+/// A pool stays tidy in memory where the bytes of its own frames stay, whatever else changes.
+pub fn tidy_pool_lasts()
+    ensures { TidyPoolLasts }
+{}
+
+/// The second stage by the front table of a tidy pool, in memory that holds the guest's RAM, has each guest
+/// physical address where the entries of the front space have it, at its place in machine memory. Any other
+/// access is a guest-page fault. What the entries give is in the guest's RAM.
+pub fn front_gives_entries()
+    ensures places { FrontGivesEntries }
+    ensures faults { FrontLacksAreGuestPageFaults }
+    ensures ram { FrontGivesRam }
+{}
+
+/// The space that was entered is in front, so it is held, and stays there when it is entered once more.
+pub fn entered_is_in_front()
+    ensures front { EnteredIsInFront }
+    ensures held { EnteredIsHeld }
+    ensures again { FrontIsEnteredAgain }
+{}
+
+/// The frames that a part has for so many spaces are frames of the part, apart from its RAM and from its host
+/// table.
+pub fn pool_is_apart(part: &Part)
+    ensures within { PoolLiesWithin part.now }
+    ensures ram { RamIsApart part.now }
+    ensures host { HostFramesAreApart part.now }
+{
+    part.names_each_once();
+}
+
+/// What an HFENCE.GVMA names: a VMID by the low 7 bits of rs2, and a guest physical page by rs1, which has
+/// the address shifted right by 2. Where the register is x0, it names none (Privileged Architecture 20211203,
+/// 8.3.2).
+pub fn instruction_makes_fence()
+    ensures fence { InstructionMakesFence }
+    ensures vmid { FenceNamesVmid }
+    ensures no_vmid { FenceNamesNoVmid }
+    ensures page { FenceNamesPage }
+    ensures no_page { FenceNamesNoPage }
+{}

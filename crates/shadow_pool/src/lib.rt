@@ -1,0 +1,17 @@
+// The spaces of cached second-stage translations of a guest, each folded into a table of its own.
+#![tactic(auto)]
+
+mod laws;
+mod listing;
+mod pools;
+mod slots;
+#[cfg(test)]
+mod tests;
+
+pub use arch_defs::{Entry, Fence, GuestRoot, Part};
+pub use laws::{
+    entered_is_in_front, front_gives_entries, instruction_makes_fence, pool_is_apart,
+    tidy_pool_lasts,
+};
+pub use phys_mem::PhysMem;
+pub use pools::Pool;

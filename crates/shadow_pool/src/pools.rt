@@ -1,0 +1,147 @@
+// A pool of spaces.
+
+ghost use Rattle.std.specs.Prelude.{◌≡◌, ◌<◌, ◌≤◌, ◌%◌, ◌^◌, ℕ, List, [], length, true, IfOk};
+ghost use Rattle.arch_defs.specs.Frames.{LieIn, Only};
+ghost use Rattle.shadow_space.specs.CachedEntries.{CanFill};
+ghost use Rattle.shadow_space.specs.Shadows.{AreZeros};
+ghost use Rattle.shadow_pool.specs.Slots.{AreFolded, AreSpare, TidyPool, frames_for, front_root, pool_frames, room_of, spaces_of};
+ghost use Rattle.shadow_pool.specs.Spaces.{entered, fenced, filled_in, is_held};
+
+use crate::listing::{enter, fence, fill};
+use crate::slots::Slot;
+use arch_defs::{Entry, Fence, GuestRoot, Part};
+use phys_mem::PhysMem;
+use shadow_space::Space;
+use std::alloc::{AllocError, Global};
+use std::marker::Model;
+
+/// A guest's spaces of cached second-stage translations, each for a whole value of hgatp and with a folded
+/// table of its own.
+///
+/// Each call on memory asks that the pool is tidy in it (`TidyPool`), and leaves it so. Zeros are tidy for a
+/// new pool.
+#[derive(Drop)]
+pub struct Pool {
+    // Those in use come first, the most recently entered one before all others.
+    slots: Vec<Slot>,
+}
+
+impl Model for Pool {
+    ghost use Rattle.shadow_pool.specs.Slots.{ArePooled, Pooled, most_of, part_of};
+
+    ghost Value = { Pooled };
+
+    ghost view = { λ p. record {
+      part = part_of p.slots.items;
+      most = most_of p.slots.items;
+      slots = p.slots.items;
+    } };
+
+    ghost invariant = { λ p. ArePooled p.slots.items };
+}
+
+impl Pool {
+    /// A pool of at most so many spaces, of at most so many entries each, in the frames that a part has for
+    /// them. There are none yet. It may answer out of memory.
+    pub fn new(alloc: Global, part: &Part, spaces: u64, entries: u64) -> Result<Pool, AllocError>
+        requires some { 1 ≤ spaces }
+        requires own { spaces ≤ part.now.spaces }
+        requires few { entries ≤ 256 }
+        requires room { entries ≤ part.now.entries }
+        ensures part { IfOk result (λ pool. pool.part ≡ part.now) }
+        ensures most { IfOk result (λ pool. pool.most ≡ entries) }
+        ensures room { IfOk result (λ pool. room_of pool ≡ spaces) }
+        ensures empty { IfOk result (λ pool. spaces_of pool ≡ []) }
+        ensures tidy { IfOk result (λ pool. (memory : List ℕ) → LieIn (pool_frames pool) (length memory)
+            → AreZeros (pool_frames pool) memory → TidyPool pool memory) }
+    {
+        part.names_each_once();
+        let slots = spare_slots(alloc, part, spaces, entries)?;
+        Ok(Pool { slots })
+    }
+
+    /// Enters a value of hgatp, and answers the frame of the root of its space's table: the space with this
+    /// whole value comes to the front. If there is none, an empty one is put there, and where there are as
+    /// many as there may be, the last one is dropped.
+    pub fn enter(&mut self, mem: &mut PhysMem, key: GuestRoot) -> u64
+        requires tidy { TidyPool self.old mem.old }
+        ensures spaces { spaces_of self.new ≡ entered (room_of self.old) key (spaces_of self.old) }
+        ensures root { result ≡ front_root self.new.slots }
+        ensures aligned { result % 4 ≡ 0 }
+        ensures small { result < 2 ^ 44 }
+        ensures part { self.new.part ≡ self.old.part }
+        ensures most { self.new.most ≡ self.old.most }
+        ensures room { room_of self.new ≡ room_of self.old }
+        ensures tidy { TidyPool self.new mem.new }
+        ensures folded { AreFolded self.new.slots mem.new }
+        ensures only { Only (pool_frames self.old) mem.old mem.new }
+    {
+        enter(self.slots.as_mut_slice(), mem, key);
+        self.root()
+    }
+
+    /// The frame of the root of the front space's table, a multiple of four.
+    pub fn root(&self) -> u64
+        ensures value { result ≡ front_root self.now.slots }
+        ensures aligned { result % 4 ≡ 0 }
+        ensures small { result < 2 ^ 44 }
+    {
+        self.slots[0].space.root()
+    }
+
+    /// Fills an entry of the space for a value of hgatp: an entry of the same page is dropped, and else,
+    /// where there are as many as there may be, the oldest one.
+    pub fn fill(&mut self, mem: &mut PhysMem, key: GuestRoot, entry: Entry)
+        requires tidy { TidyPool self.old mem.old }
+        requires held { is_held key (spaces_of self.old) ≡ true }
+        requires entry { CanFill self.old.part.blocks entry }
+        ensures spaces { spaces_of self.new ≡ filled_in self.old.most key entry (spaces_of self.old) }
+        ensures root { front_root self.new.slots ≡ front_root self.old.slots }
+        ensures part { self.new.part ≡ self.old.part }
+        ensures most { self.new.most ≡ self.old.most }
+        ensures room { room_of self.new ≡ room_of self.old }
+        ensures tidy { TidyPool self.new mem.new }
+        ensures folded { AreFolded self.new.slots mem.new }
+        ensures only { Only (pool_frames self.old) mem.old mem.new }
+    {
+        fill(self.slots.as_mut_slice(), mem, key, entry);
+    }
+
+    /// Makes a fence: in each space whose VMID it names, or in every one where it names none, the entries are
+    /// dropped whose leaf's span holds the page that it names, or all where it names none.
+    pub fn fence(&mut self, mem: &mut PhysMem, named: Fence)
+        requires tidy { TidyPool self.old mem.old }
+        ensures spaces { spaces_of self.new ≡ fenced named (spaces_of self.old) }
+        ensures root { front_root self.new.slots ≡ front_root self.old.slots }
+        ensures part { self.new.part ≡ self.old.part }
+        ensures most { self.new.most ≡ self.old.most }
+        ensures room { room_of self.new ≡ room_of self.old }
+        ensures tidy { TidyPool self.new mem.new }
+        ensures folded { AreFolded self.new.slots mem.new }
+        ensures only { Only (pool_frames self.old) mem.old mem.new }
+    {
+        fence(self.slots.as_mut_slice(), mem, &named);
+    }
+}
+
+// The first tables of a part, for spaces that there are not yet.
+fn spare_slots(
+    alloc: Global,
+    part: &Part,
+    spaces: u64,
+    entries: u64,
+) -> Result<Vec<Slot>, AllocError>
+    requires own { spaces ≤ part.now.spaces }
+    requires few { entries ≤ 256 }
+    requires room { entries ≤ part.now.entries }
+    ensures { IfOk result (λ slots. AreSpare part.now entries spaces slots.items) }
+{
+    let mut slots = Vec::with_capacity(alloc, spaces as usize)?;
+    for i in 0..spaces {
+        slots.push(Slot {
+            key: None,
+            space: Space::new(part, i, entries),
+        })?;
+    }
+    Ok(slots)
+}
