@@ -1,0 +1,17 @@
+/* Lays the guest out in RAM, which begins at 0x80000000: the first instruction of start.s, the other code and
+   constants; from the next page on, variables and a stack of 64 KiB. RAM behind the image is zero, and so is .bss,
+   which is not in the image. */
+ENTRY(_start)
+
+SECTIONS
+{
+    . = 0x80000000;
+    .text : { *(.text.start) *(.text .text.*) }
+    .rodata : { *(.rodata .rodata.* .srodata .srodata.*) }
+    . = ALIGN(0x1000);
+    .data : { *(.data .data.* .sdata .sdata.*) }
+    .bss : { *(.bss .bss.* .sbss .sbss.* COMMON) }
+    . = ALIGN(16) + 0x10000;
+    stack_top = .;
+    /DISCARD/ : { *(.comment) *(.note .note.*) *(.riscv.attributes) *(.eh_frame) }
+}
