@@ -1,0 +1,530 @@
+-- What one instruction asks a second stage: at most eight addresses. Under a second stage that gives fewer
+-- places than another, but no others, it ends as under the other, or stops at one of what it asks the other.
+use Rattle.std.specs.Prelude.{Result, Ok, Err, ◌==◌, ◌&&◌, ◌||◌}
+use Rattle.std.proofs.Common.{cond, ◌≡◌, ℕ, zero, suc, ◌%◌, ◌^◌, ◌≤◌, ◌⊎◌, inl, inr, Bool, true, false, List, [], ◌∷◌, ◌++◌, length, Option, Some, None, refl, arith, length-append}
+use Rattle.arch_defs.specs.declared.csr_names.CsrEnd.{CsrEnd}
+use Rattle.arch_defs.specs.declared.csr_names.CsrEnd.TheVariants.{Illegal, Virtual as VirtualInstruction}
+use Rattle.arch_defs.specs.declared.modes.Access.{Access}
+use Rattle.arch_defs.specs.declared.modes.Access.TheVariants.{Fetch, Load, Store, Implicit}
+use Rattle.arch_defs.specs.declared.modes.Mode.{Mode}
+use Rattle.arch_defs.specs.declared.modes.Mode.TheVariants.{HS, U, VS, VU}
+use Rattle.arch_defs.specs.declared.registers.Csrs.{Csrs}
+use Rattle.arch_defs.specs.declared.registers.SupervisorRoot.{SupervisorRoot}
+use Rattle.arch_defs.specs.declared.registers.SupervisorRoot.TheVariants as root
+use Rattle.arch_defs.specs.declared.registers.Virtual.{Virtual}
+use Rattle.arch_defs.specs.declared.walks.Found.{Found}
+use Rattle.arch_defs.specs.declared.walks.Found.TheVariants.{Passes, PageFaults, Lacks}
+use Rattle.arch_defs.specs.declared.walks.Next.{Next}
+use Rattle.arch_defs.specs.declared.walks.Next.TheVariants.{Ends, Below}
+use Rattle.arch_defs.specs.declared.walks.Privilege.{Privilege}
+use Rattle.arch_defs.specs.declared.walks.Shape.{Shape}
+use Rattle.arch_defs.specs.declared.walks.Shape.TheVariants.{Sv39}
+use Rattle.arch_defs.specs.declared.walks.TableEntry.{TableEntry}
+use Rattle.arch_defs.specs.declared.walks.Unplaced.{Unplaced}
+use Rattle.arch_defs.specs.declared.walks.WalkEnd.{WalkEnd}
+use Rattle.arch_defs.specs.declared.walks.WalkEnd.TheVariants.{Leaf, PageFault, FetchEnd}
+use Rattle.arch_defs.specs.declared.widths.Width.{Width}
+use Rattle.arch_defs.specs.declared.widths.Width.TheVariants.{Word}
+use Rattle.arch_defs.specs.Access.{read, write}
+use Rattle.arch_defs.specs.Memory.{Reading, SecondStage}
+use Rattle.arch_defs.specs.Permits.{permits_first}
+use Rattle.arch_defs.specs.TableEntries.{entry_next, is_aligned, is_leaf, is_marked, is_valid, leaf_entry, leaf_next, pointer_next, table_entry}
+use Rattle.arch_defs.specs.Traps.{exception, misaligned_fault}
+use Rattle.arch_defs.specs.Translation.{bank_of, entry_word_at, entry_words_through, first_stage, found_by, found_under, privilege_of}
+use Rattle.arch_defs.specs.Walk.{EntryReading, Met, end_of, is_canonical, later, leaf_address, levels, met_in, next_of, or_else, path, path_from, place_of, read_next, walk}
+use Rattle.arch_defs.specs.Widths.{bytes_in}
+use Rattle.op_defs.specs.declared.ops.CsrOp.{CsrOp}
+use Rattle.op_defs.specs.declared.ops.Effect.{Effect}
+use Rattle.op_defs.specs.declared.ops.Effect.TheVariants.{Sets, Raises, Loads, Stores, Reserves, StoresReserved, Modifies, Calls, Privileged as Decides}
+use Rattle.op_defs.specs.declared.ops.GuestAccess.{GuestAccess}
+use Rattle.op_defs.specs.declared.ops.Op.{Op}
+use Rattle.op_defs.specs.declared.ops.Privileged.{Privileged}
+use Rattle.op_defs.specs.declared.ops.Privileged.TheVariants.{Csr, Sret, Wfi, SfenceVma, HfenceVvma, HfenceGvma, GuestAccess as Accessing}
+use Rattle.op_defs.specs.Meaning.{meaning}
+use Rattle.op_defs.specs.Table.{op_of}
+use Rattle.machine_defs.specs.declared.events.Event.{Event}
+use Rattle.machine_defs.specs.declared.events.Event.TheVariants.{System}
+use Rattle.machine_defs.specs.Core.{Located, At, Fails, Made, Leaves, Ends as Ended, accessed, called_from, core, decoded, ended, event_of, executed, fetched, is_reserved, loaded_at, located, located_at, located_by, modified_at, own_access, reserved_at, stored_at, stored_if, stored_if_reserved, word_at}
+use Rattle.machine_defs.specs.Outcomes.{Outcome, Done, Trapped, Stuck, Called, Waits, Fenced, Accesses, passed}
+use Rattle.machine_defs.specs.Outcomes as outcome
+use Rattle.machine_defs.specs.Outside.{is_outside}
+use Rattle.machine_defs.specs.Privileges.{combined, csr_accessed, csr_changed, csr_shown, decided, fenced_in, guest_accessed_in, held, in_hs, left_by_sret, privileged, refused, returned_in, unless_outside, waited_in}
+
+-- a number is one of these
+abbrev pub In : ℕ → List ℕ → Type 0
+In p [] = ⊥
+In p (q ∷ qs) = (q ≡ p) ⊎ In p qs
+
+in_left : (p : ℕ) (qs rs : List ℕ) → In p qs → In p (qs ++ rs)
+in_left p [] rs h = absurd h
+in_left p (q ∷ qs) rs (inl e) = inl e
+in_left p (q ∷ qs) rs (inr h) = inr (in_left p qs rs h)
+
+in_right : (p : ℕ) (qs rs : List ℕ) → In p rs → In p (qs ++ rs)
+in_right p [] rs h = h
+in_right p (q ∷ qs) rs h = inr (in_right p qs rs h)
+
+-- a second stage gives no place that another does not
+pub record IsWithin (small large : SecondStage) : Type 0 where
+  pub gives : (address place : ℕ) (kind : Access) → small address kind ≡ Some place → large address kind ≡ Some place
+
+-- what holds of both holds of either
+pub either : {A : Type 0} (P : A → Type 0) (b : Bool) (x y : A) → P x → P y → P (cond b x y)
+either P true x y of_x of_y = of_x
+either P false x y of_x of_y = of_y
+
+-- an access has no place under the smaller, and is one of these; and where it has none under the larger,
+-- something is so
+abbrev StopsAt : SecondStage → SecondStage → List ℕ → ℕ → Access → Type 0 → Type 0
+StopsAt small large asked address kind same =
+    In address asked × (small address kind ≡ None) × (large address kind ≡ None → same)
+
+stops_more : (small large : SecondStage) (asked more : List ℕ) (address : ℕ) (kind : Access) (same same' : Type 0)
+    → (In address asked → In address more) → (same → same') → StopsAt small large asked address kind same → StopsAt small large more address kind same'
+stops_more small large asked more address kind same same' wider then (inside, none, also) = (wider inside, none, λ n. then (also n))
+
+-- the ends of two walks
+abbrev EndsAlike : SecondStage → SecondStage → List ℕ → WalkEnd → WalkEnd → Type 0
+EndsAlike small large asked (Leaf leaf) other = other ≡ Leaf leaf
+EndsAlike small large asked PageFault other = other ≡ PageFault
+EndsAlike small large asked (FetchEnd place trap) other = StopsAt small large asked place Implicit (other ≡ FetchEnd place trap)
+
+ends_more : (small large : SecondStage) (asked : List ℕ) (at : ℕ) (end other : WalkEnd)
+    → EndsAlike small large asked end other → EndsAlike small large (at ∷ asked) end other
+ends_more small large asked at (Leaf leaf) other alike = alike
+ends_more small large asked at PageFault other alike = alike
+ends_more small large asked at (FetchEnd place trap) other alike =
+    stops_more small large asked (at ∷ asked) place Implicit (other ≡ FetchEnd place trap) (other ≡ FetchEnd place trap) (λ h. inr h) (λ e. e) alike
+
+-- an entry that was read is no end of reading
+abbrev IsRead : Next → Type 0
+IsRead (Ends (Leaf leaf)) = Unit {0}
+IsRead (Ends PageFault) = Unit {0}
+IsRead (Ends (FetchEnd place trap)) = ⊥
+IsRead (Below table) = Unit {0}
+
+leaf_is_read : (level : ℕ) (access : Access) (e : TableEntry) → IsRead (leaf_next level access e)
+leaf_is_read level access e = either IsRead (is_aligned level e.frame && is_marked access e) (Ends (Leaf (leaf_entry level e))) (Ends PageFault) tt tt
+
+pointer_is_read : (level : ℕ) (e : TableEntry) → IsRead (pointer_next level e)
+pointer_is_read level e = either IsRead (e.a || e.d || e.u || level == 0) (Ends PageFault) (Below e.frame) tt tt
+
+is_read : (level : ℕ) (access : Access) (e : TableEntry) → IsRead (entry_next level access e)
+unfolding entry_next
+is_read level access e = either IsRead (is_valid e) (cond (is_leaf e) (leaf_next level access e) (pointer_next level e)) (Ends PageFault)
+    (either IsRead (is_leaf e) (leaf_next level access e) (pointer_next level e) (leaf_is_read level access e) (pointer_is_read level e)) tt
+
+-- the places of the entries met
+abbrev pub places_of : List Met → List ℕ
+places_of [] = []
+places_of (m ∷ ms) = m.place ∷ places_of ms
+
+-- the walks from one entry on that was read
+next_alike : (small large : SecondStage) (access : Access) (at : ℕ) (from_small from_large : ℕ → List Met)
+    → ((table : ℕ) → EndsAlike small large (places_of (from_large table)) (end_of access (from_small table)) (end_of access (from_large table)))
+    → (next : Next) → IsRead next
+    → EndsAlike small large (at ∷ places_of (later from_large next)) (or_else (end_of access (later from_small next)) next) (or_else (end_of access (later from_large next)) next)
+next_alike small large access at from_small from_large below (Ends (Leaf leaf)) read = refl
+next_alike small large access at from_small from_large below (Ends PageFault) read = refl
+next_alike small large access at from_small from_large below (Ends (FetchEnd place trap)) read = absurd read
+next_alike small large access at from_small from_large below (Below table) read =
+    ends_more small large (places_of (from_large table)) at (end_of access (from_small table)) (end_of access (from_large table)) (below table)
+
+-- the walks from one entry on, by what the smaller has for it
+paths_alike : (small large : SecondStage) → IsWithin small large → (reading : Reading) (shape : Shape) (va : ℕ) (access : Access) (level table : ℕ)
+    → EndsAlike small large (places_of (path_from (entry_words_through large reading) shape va access level table))
+    (end_of access (path_from (entry_words_through small reading) shape va access level table))
+    (end_of access (path_from (entry_words_through large reading) shape va access level table))
+unfolding path_from end_of
+paths_alike small large w reading shape va access zero table = refl
+paths_alike small large w reading shape va access (suc level) table =
+    by (place_of shape level table va) (small (place_of shape level table va) Implicit) refl (λ t. paths_alike small large w reading shape va access level t)
+  where
+    by : (at : ℕ) (place : Option ℕ) → small at Implicit ≡ place
+        → ((t : ℕ) → EndsAlike small large (places_of (path_from (entry_words_through large reading) shape va access level t))
+        (end_of access (path_from (entry_words_through small reading) shape va access level t))
+        (end_of access (path_from (entry_words_through large reading) shape va access level t)))
+        → EndsAlike small large
+        (at ∷ places_of (later (path_from (entry_words_through large reading) shape va access level) (read_next level at access (entry_word_at reading at (large at Implicit)))))
+        (or_else (end_of access (later (path_from (entry_words_through small reading) shape va access level) (read_next level at access (entry_word_at reading at (small at Implicit)))))
+        (read_next level at access (entry_word_at reading at (small at Implicit))))
+        (or_else (end_of access (later (path_from (entry_words_through large reading) shape va access level) (read_next level at access (entry_word_at reading at (large at Implicit)))))
+        (read_next level at access (entry_word_at reading at (large at Implicit))))
+    by at (Some place) e below = rw (e, w.gives at place Implicit e)
+        (next_alike small large access at _ _ below (entry_next level access (table_entry (reading place 8))) (is_read level access (table_entry (reading place 8))))
+    by at None e below = rw e (inl refl, e, λ none. rw none refl)
+
+walks_alike : (small large : SecondStage) → IsWithin small large → (reading : Reading) (page : ℕ) (shape : Shape) (va : ℕ) (access : Access)
+    → EndsAlike small large (places_of (path (entry_words_through large reading) page shape va access))
+    (walk (entry_words_through small reading) page shape va access) (walk (entry_words_through large reading) page shape va access)
+unfolding walk path end_of
+walks_alike small large w reading page shape va access = by (is_canonical shape va)
+  where
+    by : (right : Bool)
+        → EndsAlike small large (places_of (cond right (path_from (entry_words_through large reading) shape va access (levels shape) page) []))
+        (end_of access (cond right (path_from (entry_words_through small reading) shape va access (levels shape) page) []))
+        (end_of access (cond right (path_from (entry_words_through large reading) shape va access (levels shape) page) []))
+    by true = paths_alike small large w reading shape va access (levels shape) page
+    by false = refl
+
+-- the first stage: the places of the entries that it reads
+abbrev pub read_for : SecondStage → Reading → ℕ → Access → SupervisorRoot → List ℕ
+read_for second reading va access root.Bare = []
+read_for second reading va access (root.Sv39 asid page) = places_of (path (entry_words_through second reading) (page % 2 ^ 44) Sv39 va access)
+
+abbrev FindsAlike : SecondStage → SecondStage → List ℕ → Found → Found → Type 0
+FindsAlike small large asked (Passes address) other = other ≡ Passes address
+FindsAlike small large asked PageFaults other = other ≡ PageFaults
+FindsAlike small large asked (Lacks place) other = StopsAt small large asked place Implicit (other ≡ Lacks place)
+
+found_alike : (small large : SecondStage) (asked : List ℕ) (privilege : Privilege) (access : Access) (va : ℕ) (end other : WalkEnd)
+    → EndsAlike small large asked end other → FindsAlike small large asked (found_by privilege access va end) (found_by privilege access va other)
+found_alike small large asked privilege access va (Leaf leaf) other alike = rw alike (both (permits_first privilege access leaf))
+  where
+    both : (permits : Bool) → FindsAlike small large asked (cond permits (Passes (leaf_address leaf va)) PageFaults) (cond permits (Passes (leaf_address leaf va)) PageFaults)
+    both true = refl
+    both false = refl
+found_alike small large asked privilege access va PageFault other alike = rw alike refl
+found_alike small large asked privilege access va (FetchEnd place trap) other alike =
+    stops_more small large asked asked place Implicit (other ≡ FetchEnd place trap) (found_by privilege access va other ≡ Lacks place) (λ h. h) (λ e. rw e refl) alike
+
+under_alike : (small large : SecondStage) → IsWithin small large → (reading : Reading) (privilege : Privilege) (va : ℕ) (access : Access) (atp : SupervisorRoot)
+    → FindsAlike small large (read_for large reading va access atp) (found_under small reading privilege va access atp) (found_under large reading privilege va access atp)
+under_alike small large w reading privilege va access root.Bare = refl
+under_alike small large w reading privilege va access (root.Sv39 asid page) =
+    found_alike small large _ privilege access va _ _ (walks_alike small large w reading (page % 2 ^ 44) Sv39 va access)
+
+-- an outcome, and whether something is so where it stops at no access
+abbrev OutcomeAlike : SecondStage → SecondStage → List ℕ → Outcome → Type 0 → Type 0
+OutcomeAlike small large asked (Stuck unplaced) same = StopsAt small large asked unplaced.address unplaced.kind same
+OutcomeAlike small large asked (Done state stored event) same = same
+OutcomeAlike small large asked (Trapped trap) same = same
+OutcomeAlike small large asked Called same = same
+OutcomeAlike small large asked (Waits state) same = same
+OutcomeAlike small large asked (Fenced state fence) same = same
+OutcomeAlike small large asked (Accesses access) same = same
+OutcomeAlike small large asked outcome.Outside same = same
+
+outcome_more : (small large : SecondStage) (asked more : List ℕ) (o : Outcome) (same same' : Type 0)
+    → ((p : ℕ) → In p asked → In p more) → (same → same') → OutcomeAlike small large asked o same → OutcomeAlike small large more o same'
+outcome_more small large asked more (Stuck unplaced) same same' wider then alike =
+    stops_more small large asked more unplaced.address unplaced.kind same same' (wider unplaced.address) then alike
+outcome_more small large asked more (Done state stored event) same same' wider then alike = then alike
+outcome_more small large asked more (Trapped trap) same same' wider then alike = then alike
+outcome_more small large asked more Called same same' wider then alike = then alike
+outcome_more small large asked more (Waits state) same same' wider then alike = then alike
+outcome_more small large asked more (Fenced state fence) same same' wider then alike = then alike
+outcome_more small large asked more (Accesses access) same same' wider then alike = then alike
+outcome_more small large asked more outcome.Outside same same' wider then alike = then alike
+
+-- where an access is made: it asks for the entries, and for the address that they give
+abbrev pub final : Found → List ℕ
+final (Passes address) = address ∷ []
+final PageFaults = []
+final (Lacks place) = []
+
+abbrev pub asked_for : SecondStage → Reading → Csrs → Mode → ℕ → Access → List ℕ
+asked_for second reading csrs mode va access =
+    read_for second reading va access (bank_of csrs mode).atp ++ final (first_stage second reading csrs mode va access)
+
+abbrev PlacesAlike : SecondStage → SecondStage → List ℕ → Located → Located → Type 0
+PlacesAlike small large asked (At place) other = other ≡ At place
+PlacesAlike small large asked (Fails o) other = OutcomeAlike small large asked o (other ≡ Fails o)
+
+by_alike : (small large : SecondStage) → IsWithin small large → (asked : List ℕ) (mode : Mode) (va : ℕ) (access : Access) (found other : Found)
+    → FindsAlike small large asked found other
+    → PlacesAlike small large (asked ++ final other) (located_by small mode va access found) (located_by large mode va access other)
+by_alike small large w asked mode va access (Passes address) other alike = rw alike (by (small address access) refl)
+  where
+    by : (place : Option ℕ) → small address access ≡ place
+        → PlacesAlike small large (asked ++ address ∷ []) (located_at mode va access address place) (located_at mode va access address (large address access))
+    by (Some place) e = rw (w.gives address place access e) refl
+    by None e = (in_right address asked (address ∷ []) (inl refl), e, λ none. rw none refl)
+by_alike small large w asked mode va access PageFaults other alike = rw alike refl
+by_alike small large w asked mode va access (Lacks place) other alike =
+    stops_more small large asked (asked ++ final other) place Implicit (other ≡ Lacks place)
+    (located_by large mode va access other ≡ Fails (Stuck (record { address = place; kind = Implicit; access = access; va = va; mode = mode })))
+    (in_left place asked (final other)) (λ e. rw e refl) alike
+
+located_alike : (small large : SecondStage) → IsWithin small large → (reading : Reading) (csrs : Csrs) (mode : Mode) (va : ℕ) (access : Access)
+    → PlacesAlike small large (asked_for large reading csrs mode va access) (located small reading csrs mode va access) (located large reading csrs mode va access)
+unfolding first_stage
+located_alike small large w reading csrs mode va access = by_alike small large w _ mode va access _ _
+    (under_alike small large w reading (privilege_of csrs mode) va access (bank_of csrs mode).atp)
+
+accessed_alike : (small large : SecondStage) → IsWithin small large → (reading : Reading) (csrs : Csrs) (mode : Mode) (va : ℕ) (width : Width) (access : Access)
+    → PlacesAlike small large (asked_for large reading csrs mode va access) (accessed small reading csrs mode va width access) (accessed large reading csrs mode va width access)
+accessed_alike small large w reading csrs mode va width access = by (va % bytes_in width == 0)
+  where
+    by : (whole : Bool) → PlacesAlike small large (asked_for large reading csrs mode va access)
+        (cond whole (located small reading csrs mode va access) (Fails (Trapped (exception mode (misaligned_fault access) va))))
+        (cond whole (located large reading csrs mode va access) (Fails (Trapped (exception mode (misaligned_fault access) va))))
+    by true = located_alike small large w reading csrs mode va access
+    by false = refl
+
+-- what an instruction leaves
+abbrev MadeAlike : SecondStage → SecondStage → List ℕ → Made → Made → Type 0
+MadeAlike small large asked (Leaves state stored) other = other ≡ Leaves state stored
+MadeAlike small large asked (Ended o) other = OutcomeAlike small large asked o (other ≡ Ended o)
+
+-- by where its access is made
+made_alike : (small large : SecondStage) (asked : List ℕ) (then : Located → Made) → ((o : Outcome) → then (Fails o) ≡ Ended o)
+    → ((place : ℕ) → MadeAlike small large asked (then (At place)) (then (At place))) → (a b : Located) → PlacesAlike small large asked a b
+    → MadeAlike small large asked (then a) (then b)
+made_alike small large asked then fails at (At place) b alike = rw alike (at place)
+made_alike small large asked then fails at (Fails o) b alike = rw (fails o)
+    (outcome_more small large asked asked o (b ≡ Fails o) (then b ≡ Ended o) (λ p h. h) (λ e. rw e (fails o)) alike)
+
+-- what the mode decides on stops at no access
+abbrev IsDecided : Outcome → Type 0
+IsDecided (Stuck unplaced) = ⊥
+IsDecided (Done state stored event) = Unit {0}
+IsDecided (Trapped trap) = Unit {0}
+IsDecided Called = Unit {0}
+IsDecided (Waits state) = Unit {0}
+IsDecided (Fenced state fence) = Unit {0}
+IsDecided (Accesses access) = Unit {0}
+IsDecided outcome.Outside = Unit {0}
+
+decided_alike : (small large : SecondStage) (asked : List ℕ) (o : Outcome) (same : Type 0) → IsDecided o → same → OutcomeAlike small large asked o same
+decided_alike small large asked (Stuck unplaced) same is held = absurd is
+decided_alike small large asked (Done state stored event) same is held = held
+decided_alike small large asked (Trapped trap) same is held = held
+decided_alike small large asked Called same is held = held
+decided_alike small large asked (Waits state) same is held = held
+decided_alike small large asked (Fenced state fence) same is held = held
+decided_alike small large asked (Accesses access) same is held = held
+decided_alike small large asked outcome.Outside same is held = held
+
+shown_decided : (s : Virtual) (word rd : ℕ) (value : Result ℕ CsrEnd) → IsDecided (csr_shown s word rd value)
+shown_decided s word rd (Ok value) = tt
+shown_decided s word rd (Err end) = tt
+
+changed_decided : (s : Virtual) (word rd value : ℕ) (csrs : Result Csrs CsrEnd) → IsDecided (csr_changed s word rd value csrs)
+changed_decided s word rd value (Ok csrs) = tt
+changed_decided s word rd value (Err end) = tt
+
+csr_decided : (s : Virtual) (word : ℕ) (o : CsrOp) (number operand : ℕ) (writes : Bool) (rd : ℕ) → IsDecided (csr_accessed s word o number operand writes rd)
+csr_decided s word o number operand true rd = let before = held (read s.csrs s.mode number) in
+    changed_decided s word rd before (write s.csrs s.mode number (combined o before operand))
+csr_decided s word o number operand false rd = shown_decided s word rd (read s.csrs s.mode number)
+
+sret_decided : (s : Virtual) (word : ℕ) (mode : Mode) → IsDecided (returned_in s word mode)
+sret_decided s word HS = tt
+sret_decided s word U = tt
+sret_decided s word VS = either IsDecided s.csrs.hstatus.vtsr (refused s word VirtualInstruction) (left_by_sret s) tt tt
+sret_decided s word VU = tt
+
+wfi_decided : (s : Virtual) (word : ℕ) (mode : Mode) → IsDecided (waited_in s word mode)
+wfi_decided s word HS = tt
+wfi_decided s word U = tt
+wfi_decided s word VS = either IsDecided s.csrs.hstatus.vtw (refused s word VirtualInstruction) (Waits (passed s)) tt tt
+wfi_decided s word VU = tt
+
+fence_decided : (s : Virtual) (word : ℕ) (mode : Mode) → IsDecided (fenced_in s word mode)
+fence_decided s word HS = tt
+fence_decided s word U = tt
+fence_decided s word VS = either IsDecided s.csrs.hstatus.vtvm (refused s word VirtualInstruction) (Done (passed s) None System) tt tt
+fence_decided s word VU = tt
+
+in_hs_decided : (s : Virtual) (word : ℕ) (o : Outcome) (mode : Mode) → IsDecided o → IsDecided (in_hs s word o mode)
+in_hs_decided s word o HS is = is
+in_hs_decided s word o U is = tt
+in_hs_decided s word o VS is = tt
+in_hs_decided s word o VU is = tt
+
+access_decided : (s : Virtual) (word : ℕ) (access : GuestAccess) (mode : Mode) → IsDecided (guest_accessed_in s word access mode)
+access_decided s word access HS = tt
+access_decided s word access U = either IsDecided s.csrs.hstatus.hu (Accesses access) (refused s word Illegal) tt tt
+access_decided s word access VS = tt
+access_decided s word access VU = tt
+
+by_mode_decided : (s : Virtual) (word : ℕ) (p : Privileged) → IsDecided (decided s word p)
+by_mode_decided s word (Csr o number operand writes rd) = csr_decided s word o number operand writes rd
+by_mode_decided s word Sret = sret_decided s word s.mode
+by_mode_decided s word Wfi = wfi_decided s word s.mode
+by_mode_decided s word SfenceVma = fence_decided s word s.mode
+by_mode_decided s word HfenceVvma = in_hs_decided s word (Done (passed s) None System) s.mode tt
+by_mode_decided s word (HfenceGvma fence) = in_hs_decided s word (Fenced (passed s) fence) s.mode tt
+by_mode_decided s word (Accessing access) = access_decided s word access s.mode
+
+unless_decided : (outside : Bool) (o : Outcome) → IsDecided o → IsDecided (unless_outside outside o)
+unless_decided outside (Trapped trap) is = tt
+unless_decided true o is = tt
+unless_decided false o is = is
+
+privileged_decided : (s : Virtual) (word : ℕ) (p : Privileged) → IsDecided (privileged s word p)
+unfolding privileged
+privileged_decided s word p = unless_decided (is_outside s.mode p) (decided s word p) (by_mode_decided s word p)
+
+called_decided : (mode : Mode) → IsDecided (called_from mode)
+called_decided HS = tt
+called_decided U = tt
+called_decided VS = tt
+called_decided VU = tt
+
+-- an effect
+abbrev pub asked_by_effect : SecondStage → Reading → Virtual → Effect → List ℕ
+asked_by_effect second reading state (Sets rd value next) = []
+asked_by_effect second reading state (Raises cause tval) = []
+asked_by_effect second reading state (Loads address width signed rd) = asked_for second reading state.csrs state.mode address Load
+asked_by_effect second reading state (Stores address width value) = asked_for second reading state.csrs state.mode address Store
+asked_by_effect second reading state (Reserves address width rd) = asked_for second reading state.csrs state.mode address Load
+asked_by_effect second reading state (StoresReserved address width value rd) = asked_for second reading state.csrs state.mode address Store
+asked_by_effect second reading state (Modifies o address width operand rd) = asked_for second reading state.csrs state.mode address Store
+asked_by_effect second reading state Calls = []
+asked_by_effect second reading state (Decides effect) = []
+
+executed_alike : (small large : SecondStage) → IsWithin small large → (reading : Reading) (s : Virtual) (word : ℕ) (effect : Effect)
+    → MadeAlike small large (asked_by_effect large reading s effect) (executed small reading s word effect) (executed large reading s word effect)
+executed_alike small large w reading s word (Sets rd value next) = refl
+executed_alike small large w reading s word (Raises cause tval) = refl
+executed_alike small large w reading s word (Loads address width signed rd) =
+    made_alike small large _ (loaded_at reading s width signed rd) (λ o. refl) (λ place. refl) _ _ (accessed_alike small large w reading s.csrs s.mode address width Load)
+executed_alike small large w reading s word (Stores address width value) =
+    made_alike small large _ (stored_at s width value) (λ o. refl) (λ place. refl) _ _ (accessed_alike small large w reading s.csrs s.mode address width Store)
+executed_alike small large w reading s word (Reserves address width rd) =
+    made_alike small large _ (reserved_at reading s width rd) (λ o. refl) (λ place. refl) _ _ (accessed_alike small large w reading s.csrs s.mode address width Load)
+executed_alike small large w reading s word (StoresReserved address width value rd) =
+    made_alike small large _ (stored_if_reserved s width value rd) (λ o. refl) (λ place. both place (is_reserved s.reservation place width)) _ _
+    (accessed_alike small large w reading s.csrs s.mode address width Store)
+  where
+    both : (place : ℕ) (reserved : Bool) → MadeAlike small large (asked_for large reading s.csrs s.mode address Store)
+        (stored_if reserved s width value rd place) (stored_if reserved s width value rd place)
+    both place true = refl
+    both place false = refl
+executed_alike small large w reading s word (Modifies o address width operand rd) =
+    made_alike small large _ (modified_at reading s o width operand rd) (λ o. refl) (λ place. refl) _ _ (accessed_alike small large w reading s.csrs s.mode address width Store)
+executed_alike small large w reading s word Calls = decided_alike small large [] (called_from s.mode) _ (called_decided s.mode) refl
+executed_alike small large w reading s word (Decides effect) = decided_alike small large [] (privileged s word effect) _ (privileged_decided s word effect) refl
+
+-- an instruction
+abbrev pub asked_by_op : SecondStage → Reading → Virtual → Option Op → List ℕ
+asked_by_op second reading state (Some o) = asked_by_effect second reading state (meaning o state.regs)
+asked_by_op second reading state None = []
+
+abbrev pub asked_at : SecondStage → Reading → Virtual → Located → List ℕ
+asked_at second reading state (At place) = asked_by_op second reading state (op_of (word_at reading place))
+asked_at second reading state (Fails o) = []
+
+pub asked : SecondStage → Reading → Virtual → List ℕ
+asked second reading state = asked_for second reading state.csrs state.mode state.regs.pc Fetch
+    ++ asked_at second reading state (own_access second reading state state.regs.pc Word Fetch)
+
+ended_alike : (small large : SecondStage) (asked : List ℕ) (event : Event) (made other : Made) → MadeAlike small large asked made other
+    → OutcomeAlike small large asked (ended event made) (ended event other ≡ ended event made)
+ended_alike small large asked event (Leaves state stored) other alike = rw alike refl
+ended_alike small large asked event (Ended o) other alike =
+    outcome_more small large asked asked o (other ≡ Ended o) (ended event other ≡ o) (λ p h. h) (λ e. rw e refl) alike
+
+decoded_alike : (small large : SecondStage) → IsWithin small large → (reading : Reading) (s : Virtual) (word : ℕ) (o : Option Op)
+    → OutcomeAlike small large (asked_by_op large reading s o) (decoded small reading s word o) (decoded large reading s word o ≡ decoded small reading s word o)
+decoded_alike small large w reading s word (Some o) =
+    ended_alike small large _ (event_of s.regs.pc word) _ _ (executed_alike small large w reading s word (meaning o s.regs))
+decoded_alike small large w reading s word None = refl
+
+fetched_alike : (small large : SecondStage) → IsWithin small large → (reading : Reading) (s : Virtual) (front : List ℕ) (a b : Located) → PlacesAlike small large front a b
+    → OutcomeAlike small large (front ++ asked_at large reading s b) (fetched small reading s a) (fetched large reading s b ≡ fetched small reading s a)
+fetched_alike small large w reading s front (At place) b alike = rw alike (behind (word_at reading place) (op_of (word_at reading place)))
+  where
+    behind : (word : ℕ) (o : Option Op) → OutcomeAlike small large (front ++ asked_by_op large reading s o) (decoded small reading s word o)
+        (decoded large reading s word o ≡ decoded small reading s word o)
+    behind word o = outcome_more small large (asked_by_op large reading s o) (front ++ asked_by_op large reading s o) (decoded small reading s word o)
+        (decoded large reading s word o ≡ decoded small reading s word o) (decoded large reading s word o ≡ decoded small reading s word o)
+        (λ p. in_right p front (asked_by_op large reading s o)) (λ e. e) (decoded_alike small large w reading s word o)
+fetched_alike small large w reading s front (Fails o) b alike =
+    outcome_more small large front (front ++ asked_at large reading s b) o (b ≡ Fails o) (fetched large reading s b ≡ o)
+    (λ p. in_left p front (asked_at large reading s b)) (λ e. rw e refl) alike
+
+core_alike : (small large : SecondStage) → IsWithin small large → (reading : Reading) (s : Virtual)
+    → OutcomeAlike small large (asked large reading s) (core small reading s) (core large reading s ≡ core small reading s)
+unfolding core asked
+core_alike small large w reading s = fetched_alike small large w reading s _ _ _ (accessed_alike small large w reading s.csrs s.mode s.regs.pc Word Fetch)
+
+-- at most eight
+few_met : (reading : EntryReading) (shape : Shape) (va : ℕ) (access : Access) (level table : ℕ) → length (places_of (path_from reading shape va access level table)) ≤ level
+unfolding path_from
+few_met reading shape va access zero table = omega arith
+few_met reading shape va access (suc level) table = by (next_of access (met_in reading shape va level table)) (λ t. few_met reading shape va access level t)
+  where
+    by : (next : Next) → ((t : ℕ) → length (places_of (path_from reading shape va access level t)) ≤ level)
+        → suc (length (places_of (later (path_from reading shape va access level) next))) ≤ suc level
+    by (Ends end) below = omega arith
+    by (Below t) below = let few = below t in omega arith
+
+few_read : (second : SecondStage) (reading : Reading) (va : ℕ) (access : Access) (atp : SupervisorRoot) → length (read_for second reading va access atp) ≤ 3
+unfolding path
+few_read second reading va access root.Bare = omega arith
+few_read second reading va access (root.Sv39 asid page) = by (is_canonical Sv39 va)
+  where
+    by : (right : Bool) → length (places_of (cond right (path_from (entry_words_through second reading) Sv39 va access 3 (page % 2 ^ 44)) [])) ≤ 3
+    by true = few_met (entry_words_through second reading) Sv39 va access 3 (page % 2 ^ 44)
+    by false = omega arith
+
+few_final : (found : Found) → length (final found) ≤ 1
+few_final (Passes address) = omega arith
+few_final PageFaults = omega arith
+few_final (Lacks place) = omega arith
+
+few_for : (second : SecondStage) (reading : Reading) (csrs : Csrs) (mode : Mode) (va : ℕ) (access : Access) → length (asked_for second reading csrs mode va access) ≤ 4
+few_for second reading csrs mode va access =
+    let entries = few_read second reading va access (bank_of csrs mode).atp in
+    let one = few_final (first_stage second reading csrs mode va access) in
+    let both = length-append (read_for second reading va access (bank_of csrs mode).atp) (final (first_stage second reading csrs mode va access)) in omega arith
+
+few_by_effect : (second : SecondStage) (reading : Reading) (s : Virtual) (effect : Effect) → length (asked_by_effect second reading s effect) ≤ 4
+few_by_effect second reading s (Sets rd value next) = omega arith
+few_by_effect second reading s (Raises cause tval) = omega arith
+few_by_effect second reading s (Loads address width signed rd) = few_for second reading s.csrs s.mode address Load
+few_by_effect second reading s (Stores address width value) = few_for second reading s.csrs s.mode address Store
+few_by_effect second reading s (Reserves address width rd) = few_for second reading s.csrs s.mode address Load
+few_by_effect second reading s (StoresReserved address width value rd) = few_for second reading s.csrs s.mode address Store
+few_by_effect second reading s (Modifies o address width operand rd) = few_for second reading s.csrs s.mode address Store
+few_by_effect second reading s Calls = omega arith
+few_by_effect second reading s (Decides effect) = omega arith
+
+few_by_op : (second : SecondStage) (reading : Reading) (s : Virtual) (o : Option Op) → length (asked_by_op second reading s o) ≤ 4
+few_by_op second reading s (Some o) = few_by_effect second reading s (meaning o s.regs)
+few_by_op second reading s None = omega arith
+
+few_at : (second : SecondStage) (reading : Reading) (s : Virtual) (a : Located) → length (asked_at second reading s a) ≤ 4
+few_at second reading s (At place) = few_by_op second reading s (op_of (word_at reading place))
+few_at second reading s (Fails o) = omega arith
+
+pub few_asked : (second : SecondStage) (reading : Reading) (s : Virtual) → length (asked second reading s) ≤ 8
+unfolding asked
+few_asked second reading s =
+    let fetch = few_for second reading s.csrs s.mode s.regs.pc Fetch in
+    let data_too = few_at second reading s (own_access second reading s s.regs.pc Word Fetch) in
+    let both = length-append (asked_for second reading s.csrs s.mode s.regs.pc Fetch) (asked_at second reading s (own_access second reading s s.regs.pc Word Fetch)) in omega arith
+
+-- where it stops under the smaller: at one of what it asks the larger; and if that has no place there either, it stops there too
+pub record Stops (small large : SecondStage) (reading : Reading) (s : Virtual) (unplaced : Unplaced) : Type 0 where
+  pub inside : In unplaced.address (asked large reading s)
+  pub none : small unplaced.address unplaced.kind ≡ None
+  pub also : large unplaced.address unplaced.kind ≡ None → core large reading s ≡ core small reading s
+
+pub stops : (small large : SecondStage) → IsWithin small large → (reading : Reading) (s : Virtual) (unplaced : Unplaced)
+    → core small reading s ≡ Stuck unplaced → Stops small large reading s unplaced
+stops small large w reading s unplaced e = by (core small reading s) e (core_alike small large w reading s)
+  where
+    by : (o : Outcome) → o ≡ Stuck unplaced → OutcomeAlike small large (asked large reading s) o (core large reading s ≡ core small reading s)
+        → Stops small large reading s unplaced
+    by o is alike = let at = rw is at alike in record { inside = at.0; none = at.1; also = at.2 }
+
+-- and else it ends as under the larger
+pub else_alike : (small large : SecondStage) → IsWithin small large → (reading : Reading) (s : Virtual)
+    → ((unplaced : Unplaced) → core small reading s ≡ Stuck unplaced → large unplaced.address unplaced.kind ≡ None)
+    → core large reading s ≡ core small reading s
+else_alike small large w reading s none = by (core small reading s) refl (core_alike small large w reading s)
+  where
+    by : (o : Outcome) → core small reading s ≡ o → OutcomeAlike small large (asked large reading s) o (core large reading s ≡ core small reading s)
+        → core large reading s ≡ core small reading s
+    by (Stuck unplaced) is (inside, lacks, also) = also (none unplaced is)
+    by (Done state stored event) is same = same
+    by (Trapped trap) is same = same
+    by Called is same = same
+    by (Waits state) is same = same
+    by (Fenced state fence) is same = same
+    by (Accesses access) is same = same
+    by outcome.Outside is same = same

@@ -1,0 +1,81 @@
+-- How a try changes the spaces.
+use Rattle.std.specs.Prelude.{◌&&◌, not}
+use Rattle.std.proofs.Common.{cond, ◌≡◌, ℕ, ◌∙◌, Bool, true, false, Option, Some, None, refl, sym, ap}
+use Rattle.arch_defs.specs.declared.cached.Fence.{Fence}
+use Rattle.arch_defs.specs.declared.levels.Level.{Level}
+use Rattle.arch_defs.specs.declared.levels.Level.TheVariants.{HS, VS}
+use Rattle.arch_defs.specs.declared.modes.Trap.{Trap}
+use Rattle.arch_defs.specs.declared.registers.Virtual.{Virtual}
+use Rattle.arch_defs.specs.Interrupts.{due, interrupt_of}
+use Rattle.arch_defs.specs.Memory.{SecondStage, ram_base, reading_of}
+use Rattle.arch_defs.specs.Registers.{read, a7}
+use Rattle.arch_defs.specs.SecondStage.{unplaced_trap}
+use Rattle.arch_defs.specs.Traps.{entered_at, entered_hs, entered_vs, is_virtual, target}
+use Rattle.machine_defs.specs.Core.{core}
+use Rattle.machine_defs.specs.Machine.{Machine, Platform, Tried, Ended, Outside, called_by, environment, trapped}
+use Rattle.machine_defs.specs.Outcomes.{Outcome, Done, Trapped, Stuck, Called, Waits, Fenced, Accesses}
+use Rattle.machine_defs.specs.Outcomes as outcome
+use Rattle.machine_defs.specs.Outside.{has_input}
+use Rattle.enough_tries.specs.Laws.{TriesChangeSpaces, spaces_left}
+use Rattle.enough_tries.specs.Spaces.{enter}
+use Rattle.enough_tries.specs.Tries.{concluded, enters, fence_of, fence_under, fence_with, spaces_after, tried_with, try_under}
+use Rattle.enough_tries.specs.WalkedEntries.{is_table}
+use Rattle.enough_tries.proofs.Asking.{either}
+use Rattle.enough_tries.proofs.Orderly.{CallKeeps, called_front, goes_to}
+
+-- the spaces of a try that ends
+abbrev SpacesAre : Machine → Option Fence → Tried → Type 0
+SpacesAre m fence (Ended after event) = after.spaces ≡ spaces_left m after.platform.virt fence
+SpacesAre m fence Outside = Unit {0}
+
+-- where no space is entered they stay
+stay : (m : Machine) (after : Virtual) → enters m.platform.virt after ≡ false → m.spaces ≡ spaces_after m after
+stay m after none = sym (ap (λ b. cond b (enter m.space_room after.csrs.hgatp m.spaces) m.spaces) none)
+
+flat : (virtual : Bool) → (not virtual && false) ≡ false
+flat true = refl
+flat false = refl
+
+-- a trap goes to HS, or from V = 1 to VS
+trap_enters : (s : Virtual) (trap : Trap) (level : Level) → (level ≡ VS → is_virtual s.mode ≡ true) → enters s (entered_at s trap level) ≡ false
+unfolding entered_hs entered_vs
+trap_enters s trap HS from = flat (is_virtual s.mode)
+trap_enters s trap VS from = ap (λ virtual. not virtual && is_table s.csrs.hgatp) (from refl)
+
+trapped_spaces : (m : Machine) (trap : Trap) → SpacesAre m None (trapped m trap)
+trapped_spaces m trap = let s = m.platform.virt in
+    stay m (entered_at s trap (target s.csrs s.mode trap)) (trap_enters s trap (target s.csrs s.mode trap) (goes_to s trap))
+
+-- a call leaves the mode
+same_mode : (s after : Virtual) → after.mode ≡ s.mode → enters s after ≡ false
+same_mode s after same = ap (λ mode. not (is_virtual s.mode) && (is_virtual mode && is_table after.csrs.hgatp)) same ∙ by (is_virtual s.mode)
+  where
+    by : (virtual : Bool) → (not virtual && (virtual && is_table after.csrs.hgatp)) ≡ false
+    by true = refl
+    by false = refl
+
+called_spaces : (m : Machine) (platform : Option Platform) → CallKeeps m.platform.virt platform → SpacesAre m None (called_by m platform)
+called_spaces m (Some platform) (mode, root) = stay m platform.virt (same_mode m.platform.virt platform.virt mode)
+called_spaces m None keeps = tt
+
+concluded_spaces : (m : Machine) (o : Outcome) → SpacesAre m (fence_of o) (concluded m o)
+concluded_spaces m (Done virt stored event) = refl
+concluded_spaces m (Trapped trap) = trapped_spaces m trap
+concluded_spaces m (Stuck unplaced) = trapped_spaces m (unplaced_trap m.platform.virt.csrs ram_base m.ram unplaced)
+concluded_spaces m Called = called_spaces m (environment m.platform) (called_front m.platform (read m.platform.virt.regs a7))
+concluded_spaces m (Waits virt) = tt
+concluded_spaces m (Fenced virt fence) = refl
+concluded_spaces m (Accesses access) = tt
+concluded_spaces m outcome.Outside = tt
+
+tried_spaces : (second : SecondStage) (m : Machine) (code : Option ℕ) → SpacesAre m (fence_with second m code) (tried_with second m code)
+tried_spaces second m (Some code) = trapped_spaces m (interrupt_of code)
+tried_spaces second m None = concluded_spaces m (core second (reading_of ram_base m.ram) m.platform.virt)
+
+try_spaces : (second : SecondStage) (m : Machine) → SpacesAre m (fence_under second m) (try_under second m)
+unfolding try_under fence_under
+try_spaces second m = either (SpacesAre m (fence_with second m (due m.platform.virt.csrs m.platform.virt.mode))) (has_input m.platform.inputs m.platform.clock) Outside
+    (tried_with second m (due m.platform.virt.csrs m.platform.virt.mode)) tt (tried_spaces second m (due m.platform.virt.csrs m.platform.virt.mode))
+
+pub tries_change_spaces : TriesChangeSpaces
+tries_change_spaces m after second event is = rw is at (try_spaces second m)

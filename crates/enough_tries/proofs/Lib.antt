@@ -1,0 +1,12 @@
+pub mod Asking
+pub mod Changing
+pub mod Counting
+pub mod Filling
+pub mod Fresh
+pub mod InRam
+pub mod Leaves
+pub mod Orderly
+pub mod Rooting
+pub mod Ruling
+pub mod Stepping
+pub mod Walks

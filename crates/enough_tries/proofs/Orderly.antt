@@ -1,0 +1,201 @@
+-- A machine that folds has the space of hgatp in front.
+use Rattle.std.specs.Prelude.{◌==◌, ◌&&◌, not, nat_lt, find}
+use Rattle.std.proofs.Common.{cond, ◌≡◌, ℕ, zero, suc, ◌≤◌, ◌∙◌, Bool, true, false, List, [], ◌∷◌, Option, Some, None, length, refl, sym, subst, ap, arith}
+use Rattle.std.proofs.lemmas.Bool.{and_from, and_parts, eqb-true}
+use Rattle.arch_defs.specs.declared.cached.Entry.{Entry}
+use Rattle.arch_defs.specs.declared.cached.Fence.{Fence}
+use Rattle.arch_defs.specs.declared.levels.Level.{Level}
+use Rattle.arch_defs.specs.declared.levels.Level.TheVariants.{HS, VS}
+use Rattle.arch_defs.specs.declared.modes.Trap.{Trap}
+use Rattle.arch_defs.specs.declared.registers.GuestRoot.{GuestRoot}
+use Rattle.arch_defs.specs.declared.registers.GuestRoot.TheVariants as root
+use Rattle.arch_defs.specs.declared.registers.Virtual.{Virtual}
+use Rattle.arch_defs.specs.Interrupts.{due, interrupt_of}
+use Rattle.arch_defs.specs.Memory.{SecondStage, ram_base, reading_of}
+use Rattle.arch_defs.specs.SecondStage.{unplaced_trap}
+use Rattle.arch_defs.specs.Traps.{entered_at, entered_hs, entered_vs, is_delegated, is_virtual, target}
+use Rattle.machine_defs.specs.declared.guests.Status.{Status}
+use Rattle.machine_defs.specs.declared.guests.Status.TheVariants as status
+use Rattle.machine_defs.specs.Machine.{Machine, Platform, Space, Tried, Ended, Outside, called, called_by, environment, start, trapped}
+use Rattle.machine_defs.specs.Outcomes.{Outcome, Done, Trapped, Stuck, Called, Waits, Fenced, Accesses}
+use Rattle.machine_defs.specs.Outcomes as outcome
+use Rattle.machine_defs.specs.Outside.{has_input, is_outside_call}
+use Rattle.machine_defs.specs.Runs.{left_by}
+use Rattle.arch_defs.specs.Registers.{read, a7}
+use Rattle.enough_tries.specs.Fills.{after_fill, after_fills, fill, filled_front, lacking, most_fills}
+use Rattle.enough_tries.specs.WalkedEntries.{folds, is_table}
+use Rattle.enough_tries.specs.Keeping.{FrontIs, IsOrderly, StartIsOrderly, StaysOrderly}
+use Rattle.enough_tries.specs.Laws.{FillsSufficeForGuests}
+use Rattle.enough_tries.specs.Spaces.{cut, enter, found_or_empty, is_root}
+use Rattle.enough_tries.specs.Steps.{run, step, step_within, stepped}
+use Rattle.enough_tries.specs.Tries.{concluded, second_of, spaces_after, tried_with, try, try_under}
+use Rattle.enough_tries.proofs.Asking.{either}
+use Rattle.enough_tries.proofs.Filling.{suffices}
+use Rattle.enough_tries.proofs.Rooting.{KeepsRoot, core_root}
+
+-- the front of a machine's spaces, if its state folds
+abbrev FrontOf : Virtual → List Space → Type 0
+FrontOf virt spaces = folds virt ≡ true → FrontIs virt.csrs.hgatp spaces
+
+-- the space of a value of hgatp is in front after it was entered
+same_root : (a b : GuestRoot) → is_root a b ≡ true → a ≡ b
+same_root root.Bare root.Bare is = refl
+same_root root.Bare (root.Sv39x4 vmid page) is = absurd cc
+same_root (root.Sv39x4 vmid page) root.Bare is = absurd cc
+same_root (root.Sv39x4 vmid page) (root.Sv39x4 vmid' page') is = let parts = and_parts (vmid == vmid') (page == page') is in
+    let one : vmid ≡ vmid' = eqb-true vmid vmid' parts.0 in let two : page ≡ page' = eqb-true page page' parts.1 in cc
+
+found_key : (key : GuestRoot) (spaces : List Space) (s : Space) → find (λ s. is_root s.key key) spaces ≡ Some s → s.key ≡ key
+found_key key [] s is = absurd cc
+found_key key (t ∷ ts) s is = by (is_root t.key key) refl is (λ later. found_key key ts s later)
+  where
+    by : (b : Bool) → is_root t.key key ≡ b → cond b (Some t) (find (λ s. is_root s.key key) ts) ≡ Some s → (find (λ s. is_root s.key key) ts ≡ Some s → s.key ≡ key) → s.key ≡ key
+    by true is_it is deeper = let one : t ≡ s = cc in ap (λ (s : Space). s.key) (sym one) ∙ same_root t.key key is_it
+    by false is_it is deeper = deeper is
+
+own_key : (key : GuestRoot) (spaces : List Space) (there : Option Space) → find (λ s. is_root s.key key) spaces ≡ there → (found_or_empty key there).key ≡ key
+own_key key spaces (Some s) is = found_key key spaces s is
+own_key key spaces None is = refl
+
+entered_front : (room : ℕ) → 1 ≤ room → (key : GuestRoot) (spaces : List Space) → FrontIs key (enter room key spaces)
+entered_front zero some key spaces = absurd (omega arith)
+entered_front (suc room) some key spaces = own_key key spaces (find (λ s. is_root s.key key) spaces) refl
+
+-- after a fill and a fence the same key is in front
+front_same : (key : GuestRoot) (most : ℕ) (spaces : List Space) (e : Entry) → FrontIs key spaces → FrontIs key (filled_front most spaces e)
+front_same key most [] e front = front
+front_same key most (s ∷ ss) e front = front
+
+cut_same : (key : GuestRoot) (fence : Fence) (spaces : List Space) → FrontIs key spaces → FrontIs key (cut fence spaces)
+cut_same key fence [] front = front
+cut_same key fence (s ∷ ss) front = front
+
+fills_same : (n : ℕ) (m : Machine) → FrontOf m.platform.virt m.spaces → FrontOf (after_fills n m).platform.virt (after_fills n m).spaces
+unfolding after_fills
+fills_same zero m front = front
+fills_same (suc n) m front = by (lacking m) (λ t. fills_same n t)
+  where
+    by : (there : Option Entry) → ((t : Machine) → FrontOf t.platform.virt t.spaces → FrontOf (after_fills n t).platform.virt (after_fills n t).spaces)
+        → FrontOf (after_fill (after_fills n) m there).platform.virt (after_fill (after_fills n) m there).spaces
+    by None deeper = front
+    by (Some e) deeper = deeper (fill m e) (λ folding. front_same m.platform.virt.csrs.hgatp m.entry_room m.spaces e (front folding))
+
+rooms_same : (n : ℕ) (m : Machine) → ((after_fills n m).space_room ≡ m.space_room) × ((after_fills n m).entry_room ≡ m.entry_room)
+unfolding after_fills
+rooms_same zero m = (refl, refl)
+rooms_same (suc n) m = by (lacking m) (λ t. rooms_same n t)
+  where
+    by : (there : Option Entry) → ((t : Machine) → ((after_fills n t).space_room ≡ t.space_room) × ((after_fills n t).entry_room ≡ t.entry_room))
+        → ((after_fill (after_fills n) m there).space_room ≡ m.space_room) × ((after_fill (after_fills n) m there).entry_room ≡ m.entry_room)
+    by None deeper = (refl, refl)
+    by (Some e) deeper = deeper (fill m e)
+
+-- what a try leaves
+abbrev TryKeeps : Machine → Tried → Type 0
+TryKeeps m (Ended after event) = FrontOf after.platform.virt after.spaces × (after.space_room ≡ m.space_room) × (after.entry_room ≡ m.entry_room)
+TryKeeps m Outside = Unit {0}
+
+-- a trap goes to HS, or from V = 1 to VS, and leaves hgatp
+trap_front : (s : Virtual) (spaces : List Space) → FrontOf s spaces → (trap : Trap) (level : Level) → (level ≡ VS → is_virtual s.mode ≡ true) → FrontOf (entered_at s trap level) spaces
+unfolding entered_hs entered_vs
+trap_front s spaces front trap HS from = λ folding. absurd cc
+trap_front s spaces front trap VS from = λ folding. front (and_from (is_virtual s.mode) (is_table s.csrs.hgatp) (from refl) folding)
+
+pub goes_to : (s : Virtual) (trap : Trap) → target s.csrs s.mode trap ≡ VS → is_virtual s.mode ≡ true
+unfolding target
+goes_to s trap is = by (is_virtual s.mode) (is_delegated s.csrs trap.interrupt trap.cause) is
+  where
+    by : (virtual delegated : Bool) → cond (virtual && delegated) VS HS ≡ VS → virtual ≡ true
+    by true delegated is = refl
+    by false delegated is = absurd cc
+
+trapped_front : (m : Machine) → FrontOf m.platform.virt m.spaces → (trap : Trap) → TryKeeps m (trapped m trap)
+trapped_front m front trap = let s = m.platform.virt in
+    (trap_front s m.spaces front trap (target s.csrs s.mode trap) (goes_to s trap), refl, refl)
+
+-- a call leaves the mode and hgatp
+abbrev pub CallKeeps : Virtual → Option Platform → Type 0
+CallKeeps s (Some p) = (p.virt.mode ≡ s.mode) × (p.virt.csrs.hgatp ≡ s.csrs.hgatp)
+CallKeeps s None = Unit {0}
+
+pub called_front : (p : Platform) (number : ℕ) → CallKeeps p.virt (called p number)
+called_front p number = either (CallKeeps p.virt) (number == 1) _ _
+    (either (λ (q : Platform). (q.virt.mode ≡ p.virt.mode) × (q.virt.csrs.hgatp ≡ p.virt.csrs.hgatp)) (nat_lt (length p.console) p.console_room) _ _ (refl, refl) (refl, refl))
+    (either (CallKeeps p.virt) (number == 8) _ _ (refl, refl) (either (CallKeeps p.virt) (is_outside_call number) _ _ tt (refl, refl)))
+
+stays_front : (s after : Virtual) (spaces : List Space) → after.mode ≡ s.mode → after.csrs.hgatp ≡ s.csrs.hgatp → FrontOf s spaces → FrontOf after spaces
+stays_front s after spaces mode root front folding =
+    let before : folds s ≡ true = ap (λ m. is_virtual m && is_table s.csrs.hgatp) (sym mode) ∙ ap (λ r. is_virtual after.mode && is_table r) (sym root) ∙ folding in
+    subst (λ key. FrontIs key spaces) (sym root) (front before)
+
+called_by_front : (m : Machine) → FrontOf m.platform.virt m.spaces → (platform : Option Platform) → CallKeeps m.platform.virt platform → TryKeeps m (called_by m platform)
+called_by_front m front (Some platform) (mode, root) = (stays_front m.platform.virt platform.virt m.spaces mode root front, refl, refl)
+called_by_front m front None keeps = tt
+
+-- an instruction that sets V enters a space, and another leaves hgatp where V is 1
+made_front : (m : Machine) → 1 ≤ m.space_room → FrontOf m.platform.virt m.spaces → (virt : Virtual)
+    → (is_virtual m.platform.virt.mode ≡ true → virt.csrs.hgatp ≡ m.platform.virt.csrs.hgatp) → FrontOf virt (spaces_after m virt)
+made_front m some front virt keeps folding = by (is_virtual m.platform.virt.mode) refl (folds virt) folding
+  where
+    before : is_virtual m.platform.virt.mode ≡ true → is_table virt.csrs.hgatp ≡ true → folds m.platform.virt ≡ true
+    before virtual table = and_from (is_virtual m.platform.virt.mode) (is_table m.platform.virt.csrs.hgatp) virtual (ap is_table (sym (keeps virtual)) ∙ table)
+
+    by : (virtual : Bool) → is_virtual m.platform.virt.mode ≡ virtual → (after : Bool) → after ≡ true
+        → FrontIs virt.csrs.hgatp (cond (not virtual && after) (enter m.space_room virt.csrs.hgatp m.spaces) m.spaces)
+    by true is after same = subst (λ key. FrontIs key m.spaces) (sym (keeps is)) (front (before is (and_parts (is_virtual virt.mode) (is_table virt.csrs.hgatp) folding).1))
+    by false is true same = entered_front m.space_room some virt.csrs.hgatp m.spaces
+    by false is false same = absurd cc
+
+concluded_front : (m : Machine) → 1 ≤ m.space_room → FrontOf m.platform.virt m.spaces → (o : Outcome) → KeepsRoot m.platform.virt o → TryKeeps m (concluded m o)
+concluded_front m some front (Done virt stored event) keeps = (made_front m some front virt keeps, refl, refl)
+concluded_front m some front (Trapped trap) keeps = trapped_front m front trap
+concluded_front m some front (Stuck unplaced) keeps = trapped_front m front (unplaced_trap m.platform.virt.csrs ram_base m.ram unplaced)
+concluded_front m some front Called keeps = called_by_front m front (environment m.platform) (called_front m.platform (read m.platform.virt.regs a7))
+concluded_front m some front (Waits virt) keeps = tt
+concluded_front m some front (Fenced virt fence) (mode, root) =
+    (stays_front m.platform.virt virt (cut fence m.spaces) mode root (λ folding. cut_same m.platform.virt.csrs.hgatp fence m.spaces (front folding)), refl, refl)
+concluded_front m some front (Accesses access) keeps = tt
+concluded_front m some front outcome.Outside keeps = tt
+
+tried_front : (m : Machine) → 1 ≤ m.space_room → FrontOf m.platform.virt m.spaces → (second : SecondStage) (code : Option ℕ) → TryKeeps m (tried_with second m code)
+tried_front m some front second (Some code) = trapped_front m front (interrupt_of code)
+tried_front m some front second None = concluded_front m some front _ (core_root m.platform.virt second (reading_of ram_base m.ram))
+
+try_front : (m : Machine) → 1 ≤ m.space_room → FrontOf m.platform.virt m.spaces → TryKeeps m (try m)
+unfolding try_under
+try_front m some front = either (TryKeeps m) (has_input m.platform.inputs m.platform.clock) Outside _ tt
+    (tried_front m some front (second_of m) (due m.platform.virt.csrs m.platform.virt.mode))
+
+-- so of a step and a run
+left_orderly : (m : Machine) → IsOrderly m → (t : Tried) → TryKeeps m t → IsOrderly (left_by m t)
+left_orderly m is (Ended after event) (front, spaces, entries) = record { entries = rw entries is.entries; spaces = rw spaces is.spaces; front = front }
+left_orderly m is Outside keeps = record { entries = is.entries; spaces = is.spaces; front = is.front }
+
+pub filled_orderly : (n : ℕ) (m : Machine) → IsOrderly m → IsOrderly (after_fills n m)
+filled_orderly n m is = let rooms = rooms_same n m in record { entries = rw rooms.1 is.entries; spaces = rw rooms.0 is.spaces; front = fills_same n m is.front }
+
+within_orderly : (n : ℕ) (m : Machine) → IsOrderly m → IsOrderly (step_within n m)
+within_orderly n m is = let last = filled_orderly n m is in left_orderly (after_fills n m) last (try (after_fills n m)) (try_front (after_fills n m) last.spaces last.front)
+
+stepped_orderly : (m : Machine) → IsOrderly m → (s : Status) → IsOrderly (stepped m s)
+stepped_orderly m is status.Running = within_orderly (most_fills m) m is
+stepped_orderly m is status.Waiting = is
+stepped_orderly m is status.Stopped = is
+stepped_orderly m is status.Outside = is
+
+step_orderly : (m : Machine) → IsOrderly m → IsOrderly (step m)
+unfolding step
+step_orderly m is = stepped_orderly m is m.platform.status
+
+pub stays_orderly : StaysOrderly
+unfolding run
+stays_orderly m zero is = is
+stays_orderly m (suc n) is = stays_orderly (step m) n (step_orderly m is)
+
+pub start_is_orderly : StartIsOrderly
+unfolding start
+start_is_orderly guest entries spaces = record { entries = entries; spaces = spaces; front = λ folding. absurd cc }
+
+-- so the fills of a guest's machine suffice after each run
+pub fills_suffice_for_guests : FillsSufficeForGuests
+fills_suffice_for_guests guest k entries spaces = suffices (run (start guest) k) (stays_orderly (start guest) k (start_is_orderly guest entries spaces)).entries

@@ -1,0 +1,73 @@
+-- The fills of a step: which cached translation a machine's next instruction lacks, and what fills leave
+-- (own, within what Privileged Architecture 20211203, 8.3.2 and 8.5, permits).
+use Rattle.std.specs.Prelude.{ℕ, zero, suc, ◌+◌, List, [], ◌∷◌, Option, Some, None, if◌then◌else◌}
+use Rattle.arch_defs.specs.declared.cached.Entry.{Entry}
+use Rattle.arch_defs.specs.declared.registers.Csrs.{Csrs}
+use Rattle.arch_defs.specs.declared.registers.Virtual.{Virtual}
+use Rattle.arch_defs.specs.Interrupts.{due}
+use Rattle.arch_defs.specs.Memory.{ram_base, reading_of}
+use Rattle.machine_defs.specs.Core.{core}
+use Rattle.machine_defs.specs.Machine.{Machine, Space}
+use Rattle.machine_defs.specs.Outcomes.{Outcome, Stuck}
+use Rattle.shadow_space.specs.CachedEntries.{filled, second_by}
+use Rattle.enough_tries.specs.WalkedEntries.{entry_now, folds}
+
+-- what an instruction lacks: where it stops at an access without a place, what is filled for that
+abbrev pub lacking_at : Csrs → List ℕ → Outcome → Option Entry
+lacking_at csrs ram (Stuck unplaced) = entry_now csrs ram unplaced.address unplaced.kind
+lacking_at csrs ram _ = None
+
+-- what the next instruction of a state that folds lacks under these entries
+unfoldable pub lacking_under : Virtual → List ℕ → List Entry → Option Entry
+lacking_under virt ram entries =
+    lacking_at virt.csrs ram (core (second_by entries virt.csrs.hs.status.mxr) (reading_of ram_base ram) virt)
+
+-- under those of the front space; where an interrupt is due, nothing
+abbrev pub lacking_with : Virtual → List ℕ → List Space → Option ℕ → Option Entry
+lacking_with virt ram [] code = None
+lacking_with virt ram (s ∷ ss) (Some code) = None
+lacking_with virt ram (s ∷ ss) None = lacking_under virt ram s.entries
+
+-- what the next try of a machine lacks
+unfoldable pub lacking : Machine → Option Entry
+lacking m = let virt = m.platform.virt in
+    if folds virt then lacking_with virt m.ram m.spaces (due virt.csrs virt.mode) else None
+
+-- an entry is filled into the front space
+abbrev pub filled_front : ℕ → List Space → Entry → List Space
+filled_front most [] e = []
+filled_front most (s ∷ ss) e = record s { entries = filled most s.entries e } ∷ ss
+
+abbrev pub fill : Machine → Entry → Machine
+fill m e = record m { spaces = filled_front m.entry_room m.spaces e }
+
+-- a machine after the fills of its next step, at most so many
+abbrev pub after_fill : (Machine → Machine) → Machine → Option Entry → Machine
+after_fill others m None = m
+after_fill others m (Some e) = others (fill m e)
+
+unfoldable pub after_fills : ℕ → Machine → Machine
+after_fills zero m = m
+after_fills (suc n) m = after_fill (after_fills n) m (lacking m)
+
+-- how many translations an instruction asks for at most: those of three first-stage entries and of the
+-- address itself, for pc and for the data
+abbrev pub needed : ℕ
+needed = 8
+
+-- how many fills a step makes at most
+abbrev pub most_fills : Machine → ℕ
+most_fills m = m.entry_room + needed
+
+-- the machine at the last try of its next step
+abbrev pub ready : Machine → Machine
+ready m = after_fills (most_fills m) m
+
+-- how many fills the next step of a machine makes, of at most so many
+abbrev pub counted : (Machine → ℕ) → Machine → Option Entry → ℕ
+counted others m None = 0
+counted others m (Some e) = others (fill m e) + 1
+
+unfoldable pub fills : ℕ → Machine → ℕ
+fills zero m = 0
+fills (suc n) m = counted (fills n) m (lacking m)

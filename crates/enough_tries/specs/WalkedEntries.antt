@@ -1,0 +1,52 @@
+-- What the walk of hgatp's table gives to be cached (own, within what Privileged Architecture 20211203, 8.3.2
+-- and 8.5, permits).
+use Rattle.std.specs.Prelude.{ℕ, ◌/◌, ◌&&◌, Bool, true, false, List, Option, Some, None}
+use Rattle.arch_defs.specs.declared.cached.Entry.{Entry}
+use Rattle.arch_defs.specs.declared.guest_walks.GuestWalkEnd.{GuestWalkEnd}
+use Rattle.arch_defs.specs.declared.guest_walks.GuestWalkEnd.TheVariants.{Leaf, GuestPageFault, AccessFault}
+use Rattle.arch_defs.specs.declared.modes.Access.{Access}
+use Rattle.arch_defs.specs.declared.registers.Csrs.{Csrs}
+use Rattle.arch_defs.specs.declared.registers.GuestRoot.{GuestRoot}
+use Rattle.arch_defs.specs.declared.registers.GuestRoot.TheVariants as root
+use Rattle.arch_defs.specs.declared.registers.Virtual.{Virtual}
+use Rattle.arch_defs.specs.declared.walks.LeafEntry.{LeafEntry}
+use Rattle.arch_defs.specs.Memory.{ram_base}
+use Rattle.arch_defs.specs.SecondStage.{guest_walk}
+use Rattle.arch_defs.specs.Traps.{is_virtual}
+use Rattle.arch_defs.specs.Walk.{leaf_address}
+
+-- whether hgatp names a table (8.2.10)
+abbrev pub is_table : GuestRoot → Bool
+is_table root.Bare = false
+is_table (root.Sv39x4 vmid page) = true
+
+-- whether a state's accesses go by cached translations: with V = 1, while hgatp names a table
+abbrev pub folds : Virtual → Bool
+folds virt = is_virtual virt.mode && is_table virt.csrs.hgatp
+
+-- the entry of an address's page under a leaf: it is for this one page, whatever the leaf's level
+abbrev pub entry_under : LeafEntry → ℕ → Entry
+entry_under leaf address = record {
+  page = address / 4096;
+  frame = leaf_address leaf address / 4096;
+  r = leaf.r;
+  w = leaf.w;
+  x = leaf.x;
+  level = leaf.level;
+}
+
+-- what is filled for an address by the end of a walk: a leaf permits the access, and its frame is in RAM
+abbrev pub entry_by_end : ℕ → GuestWalkEnd → Option Entry
+entry_by_end address (Leaf leaf) = Some (entry_under leaf address)
+entry_by_end address GuestPageFault = None
+entry_by_end address AccessFault = None
+
+-- by the walk of a table in RAM. MXR is sstatus's
+abbrev pub entry_by_table : Bool → List ℕ → ℕ → Access → GuestRoot → Option Entry
+entry_by_table mxr ram address kind root.Bare = None
+entry_by_table mxr ram address kind (root.Sv39x4 vmid page) =
+    entry_by_end address (guest_walk ram_base ram mxr page address kind)
+
+-- what is filled for an access of a kind at a guest physical address, as the registers and RAM are
+unfoldable pub entry_now : Csrs → List ℕ → ℕ → Access → Option Entry
+entry_now csrs ram address kind = entry_by_table csrs.hs.status.mxr ram address kind csrs.hgatp
