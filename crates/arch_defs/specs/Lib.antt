@@ -1,8 +1,13 @@
 pub mod Access
 pub mod Bits
+pub mod CachedEntries
+pub mod Calls
+pub mod Clocks
+pub mod Consoles
 pub mod CsrBits
 pub mod CsrNames
 pub mod Frames
+pub mod Inputs
 pub mod Interrupts
 pub mod Layouts
 pub mod Memory
@@ -12,8 +17,11 @@ pub mod Permits
 pub mod Ram
 pub mod Registers
 pub mod SecondStage
+pub mod Spaces
 pub mod TableEntries
 pub mod Translation
 pub mod Traps
+pub mod Waits
 pub mod Walk
+pub mod WalkedEntries
 pub mod Widths

@@ -2,7 +2,7 @@
 use Rattle.std.proofs.Common.{◌≡◌, ◌↔◌, ℕ, ◌<◌, List, [], ◌∷◌, false, All, arith, refl}
 use Rattle.std.proofs.lemmas.Grind.{common_steps}
 use Rattle.std.specs.List.Sorted.{IsNonDecreasingBy}
-use Rattle.console_dev.specs.Inputs.{has_input}
+use Rattle.arch_defs.specs.Inputs.{has_input}
 
 -- where the first one's moment is ahead, so is each one's
 all_ahead : (inputs : List (ℕ × ℕ)) (clock : ℕ) → IsNonDecreasingBy (λ input. input.0) inputs

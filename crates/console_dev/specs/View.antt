@@ -2,7 +2,7 @@
 use Rattle.std.specs.Prelude.{◌≤◌, drop, length, vec_capacity}
 use Rattle.std.specs.List.Sorted.{IsNonDecreasingBy}
 use Rattle.console_dev.specs.declared.consoles.Console.TheInside.{Inside}
-use Rattle.console_dev.specs.Held.{Held}
+use Rattle.arch_defs.specs.Consoles.{Held}
 
 -- the inputs from the first that is not read on
 abbrev pub held : Inside → Held

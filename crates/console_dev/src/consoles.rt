@@ -2,8 +2,8 @@
 
 ghost use Rattle.std.specs.Prelude.{◌≡◌, ◌≢◌, ◌↔◌, ◌<◌, ◌≤◌, [], ◌∷◌, ◌++◌, true, false, length, not, All, IfOk, IsTrue};
 ghost use Rattle.std.specs.List.Sorted.{IsNonDecreasingBy};
-ghost use Rattle.console_dev.specs.Held.{has_room};
-ghost use Rattle.console_dev.specs.Inputs.{AreInputs, arrived, has_input, next_input, unread_after};
+ghost use Rattle.arch_defs.specs.Consoles.{has_room};
+ghost use Rattle.arch_defs.specs.Inputs.{AreInputs, arrived, has_input, next_input, unread_after};
 
 use std::alloc::{AllocError, Global};
 use std::marker::Model;
@@ -20,7 +20,7 @@ pub struct Console {
 }
 
 impl Model for Console {
-    ghost use Rattle.console_dev.specs.Held.{Held};
+    ghost use Rattle.arch_defs.specs.Consoles.{Held};
 
     ghost Value = { Held };
 

@@ -1,5 +1,5 @@
 ghost use Rattle.std.specs.Prelude.{IfOk};
-ghost use Rattle.console_dev.specs.Inputs.{AreInputs};
+ghost use Rattle.arch_defs.specs.Inputs.{AreInputs};
 
 use crate::Console;
 use std::alloc::{AllocError, Global};

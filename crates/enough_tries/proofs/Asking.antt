@@ -355,7 +355,7 @@ unless_decided false o is = is
 
 privileged_decided : (s : Virtual) (word : ℕ) (p : Privileged) → IsDecided (privileged s word p)
 unfolding privileged
-privileged_decided s word p = unless_decided (is_outside s.mode p) (decided s word p) (by_mode_decided s word p)
+privileged_decided s word p = unless_decided (is_outside p) (decided s word p) (by_mode_decided s word p)
 
 called_decided : (mode : Mode) → IsDecided (called_from mode)
 called_decided HS = tt

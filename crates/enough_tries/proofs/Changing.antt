@@ -19,7 +19,7 @@ use Rattle.machine_defs.specs.Outside.{has_input}
 use Rattle.enough_tries.specs.Laws.{TriesChangeSpaces, spaces_left}
 use Rattle.enough_tries.specs.Spaces.{enter}
 use Rattle.enough_tries.specs.Tries.{concluded, enters, fence_of, fence_under, fence_with, spaces_after, tried_with, try_under}
-use Rattle.enough_tries.specs.WalkedEntries.{is_table}
+use Rattle.arch_defs.specs.WalkedEntries.{is_table}
 use Rattle.enough_tries.proofs.Asking.{either}
 use Rattle.enough_tries.proofs.Orderly.{CallKeeps, called_front, goes_to}
 

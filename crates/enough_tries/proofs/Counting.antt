@@ -8,7 +8,7 @@ use Rattle.std.proofs.lemmas.List.{append-nil, drop-append-le}
 use Rattle.std.proofs.lemmas.List.Elements.{All-append, All-drop, All-filter, All-head, All-nil, All-push, All-tail, filter-append}
 use Rattle.std.proofs.lemmas.List.Folds.{find-append}
 use Rattle.arch_defs.specs.declared.cached.Entry.{Entry}
-use Rattle.shadow_space.specs.CachedEntries.{entry_at, filled, without}
+use Rattle.arch_defs.specs.CachedEntries.{entry_at, filled, without}
 use Rattle.enough_tries.proofs.Asking.{In}
 
 -- the entry of a page: by the first entry and the others

@@ -12,9 +12,9 @@ use Rattle.arch_defs.specs.Permits.{permits_second}
 use Rattle.arch_defs.specs.Walk.{leaf_address}
 use Rattle.machine_defs.specs.Outcomes.{Outcome, Done, Trapped, Stuck, Called, Waits, Fenced, Accesses}
 use Rattle.machine_defs.specs.Outcomes as outcome
-use Rattle.shadow_space.specs.CachedEntries.{entry_at, leaf_of, place_by, second_by}
+use Rattle.arch_defs.specs.CachedEntries.{entry_at, leaf_of, place_by, second_by}
 use Rattle.enough_tries.specs.Fills.{lacking_at, lacking_under}
-use Rattle.enough_tries.specs.WalkedEntries.{entry_now}
+use Rattle.arch_defs.specs.WalkedEntries.{entry_now}
 use Rattle.enough_tries.proofs.Asking.{In, IsWithin, asked, few_asked, stops}
 use Rattle.enough_tries.proofs.Counting.{Counts, all_found, enough, filling, found_page}
 use Rattle.enough_tries.proofs.Walks.{now_for, now_one, now_page, now_permits, now_same}

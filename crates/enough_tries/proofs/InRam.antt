@@ -26,7 +26,8 @@ use Rattle.arch_defs.proofs.Pastes.{length_pasted}
 use Rattle.machine_defs.specs.declared.events.Event.{Event}
 use Rattle.machine_defs.specs.declared.guests.Status.{Status}
 use Rattle.machine_defs.specs.declared.guests.Status.TheVariants as status
-use Rattle.machine_defs.specs.Machine.{Machine, Platform, Space, Tried, Ended, Outside, called, called_by, environment, trapped}
+use Rattle.machine_defs.specs.Machine.{Machine, Platform, Tried, Ended, Outside, called, called_by, environment, trapped}
+use Rattle.arch_defs.specs.Spaces.{Space, found_or_empty, front, is_root}
 use Rattle.machine_defs.specs.Outcomes.{Outcome, Done, Trapped, Stuck, Called, Waits, Fenced, Accesses}
 use Rattle.machine_defs.specs.Outcomes as outcome
 use Rattle.machine_defs.specs.Outside.{has_input, is_outside_call}
@@ -34,11 +35,11 @@ use Rattle.machine_defs.specs.Renaming.{GivesHeld, LeavesHeld, Places, ReservesH
 use Rattle.machine_defs.specs.Reservations.{ReservesInRam, ram_places}
 use Rattle.machine_defs.specs.Runs.{left_by}
 use Rattle.machine_defs.proofs.Renaming.{stays_held}
-use Rattle.shadow_space.specs.CachedEntries.{entry_at, filled, leaf_of, place_by, second_by, without}
+use Rattle.arch_defs.specs.CachedEntries.{entry_at, filled, leaf_of, place_by, second_by, without}
 use Rattle.enough_tries.specs.Fills.{after_fill, after_fills, fill, filled_front, lacking, lacking_under, lacking_with, most_fills}
-use Rattle.enough_tries.specs.WalkedEntries.{entry_by_table, entry_now, folds}
+use Rattle.arch_defs.specs.WalkedEntries.{entry_by_table, entry_now, folds}
 use Rattle.enough_tries.specs.Keeping.{CachesInRam, IsInRam, StaysInRam}
-use Rattle.enough_tries.specs.Spaces.{cut, cut_one, enter, found_or_empty, front, is_root}
+use Rattle.enough_tries.specs.Spaces.{cut, cut_one, enter}
 use Rattle.enough_tries.specs.Steps.{run, step, step_within, stepped}
 use Rattle.enough_tries.specs.Tries.{concluded, enters, made, second_of, spaces_after, tried_with, try, try_under}
 use Rattle.enough_tries.proofs.Asking.{either}

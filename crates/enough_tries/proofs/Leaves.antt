@@ -17,8 +17,8 @@ use Rattle.arch_defs.specs.Memory.{block_size, ram_base}
 use Rattle.arch_defs.specs.SecondStage.{guest_root_frame, memory_words}
 use Rattle.arch_defs.specs.TableEntries.{entry_next, is_aligned, is_leaf, is_marked, is_valid, leaf_entry, table_entry}
 use Rattle.arch_defs.specs.Walk.{EntryReading, end_of, is_canonical, later, leaf_address, or_else, path, path_from, place_of, read_next, walk}
-use Rattle.shadow_space.specs.CachedEntries.{CanFill}
-use Rattle.enough_tries.specs.WalkedEntries.{entry_by_table, entry_now, entry_under}
+use Rattle.arch_defs.specs.CachedEntries.{CanFill}
+use Rattle.arch_defs.specs.WalkedEntries.{entry_by_table, entry_now, entry_under}
 use Rattle.enough_tries.specs.Laws.{FillsCanBeMade}
 use Rattle.enough_tries.proofs.Walks.{IsGiven, given}
 

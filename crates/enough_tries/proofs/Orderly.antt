@@ -16,17 +16,18 @@ use Rattle.arch_defs.specs.SecondStage.{unplaced_trap}
 use Rattle.arch_defs.specs.Traps.{entered_at, entered_hs, entered_vs, is_delegated, is_virtual, target}
 use Rattle.machine_defs.specs.declared.guests.Status.{Status}
 use Rattle.machine_defs.specs.declared.guests.Status.TheVariants as status
-use Rattle.machine_defs.specs.Machine.{Machine, Platform, Space, Tried, Ended, Outside, called, called_by, environment, start, trapped}
+use Rattle.machine_defs.specs.Machine.{Machine, Platform, Tried, Ended, Outside, called, called_by, environment, start, trapped}
+use Rattle.arch_defs.specs.Spaces.{Space, found_or_empty, is_root}
 use Rattle.machine_defs.specs.Outcomes.{Outcome, Done, Trapped, Stuck, Called, Waits, Fenced, Accesses}
 use Rattle.machine_defs.specs.Outcomes as outcome
 use Rattle.machine_defs.specs.Outside.{has_input, is_outside_call}
 use Rattle.machine_defs.specs.Runs.{left_by}
 use Rattle.arch_defs.specs.Registers.{read, a7}
 use Rattle.enough_tries.specs.Fills.{after_fill, after_fills, fill, filled_front, lacking, most_fills}
-use Rattle.enough_tries.specs.WalkedEntries.{folds, is_table}
+use Rattle.arch_defs.specs.WalkedEntries.{folds, is_table}
 use Rattle.enough_tries.specs.Keeping.{FrontIs, IsOrderly, StartIsOrderly, StaysOrderly}
 use Rattle.enough_tries.specs.Laws.{FillsSufficeForGuests}
-use Rattle.enough_tries.specs.Spaces.{cut, enter, found_or_empty, is_root}
+use Rattle.enough_tries.specs.Spaces.{cut, enter}
 use Rattle.enough_tries.specs.Steps.{run, step, step_within, stepped}
 use Rattle.enough_tries.specs.Tries.{concluded, second_of, spaces_after, tried_with, try, try_under}
 use Rattle.enough_tries.proofs.Asking.{either}

@@ -209,7 +209,7 @@ unless_root s false o keeps = keeps
 
 privileged_root : (s : Virtual) (word : ℕ) (p : Privileged) → KeepsRoot s (privileged s word p)
 unfolding privileged
-privileged_root s word p = unless_root s (is_outside s.mode p) (decided s word p) (decided_root s word p)
+privileged_root s word p = unless_root s (is_outside p) (decided s word p) (decided_root s word p)
 
 -- where an access is made, or how it ends
 abbrev LocatedKeeps : Virtual → Located → Type 0

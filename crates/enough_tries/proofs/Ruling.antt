@@ -11,16 +11,16 @@ use Rattle.arch_defs.specs.Traps.{is_virtual}
 use Rattle.arch_defs.specs.declared.registers.GuestRoot.{GuestRoot}
 use Rattle.arch_defs.specs.declared.registers.GuestRoot.TheVariants as root
 use Rattle.machine_defs.specs.Core.{core}
-use Rattle.machine_defs.specs.Machine.{Machine, Platform, Space, Outside}
+use Rattle.machine_defs.specs.Machine.{Machine, Platform, Outside}
+use Rattle.arch_defs.specs.Spaces.{Space, front}
 use Rattle.machine_defs.specs.Runs.{left_by}
 use Rattle.machine_defs.specs.Outcomes.{Stuck}
 use Rattle.machine_defs.specs.Outside.{has_input}
-use Rattle.shadow_space.specs.CachedEntries.{place_by, second_by}
+use Rattle.arch_defs.specs.CachedEntries.{place_by, second_by}
 use Rattle.enough_tries.specs.Fills.{most_fills, ready, lacking, lacking_at, lacking_under}
-use Rattle.enough_tries.specs.WalkedEntries.{entry_now, folds, is_table}
+use Rattle.arch_defs.specs.WalkedEntries.{entry_now, folds, is_table}
 use Rattle.enough_tries.specs.Keeping.{FrontIs, IsOrderly}
 use Rattle.enough_tries.specs.Laws.{LacksAreRead, StepsEndByRule, StopsAreFaults, TriesEndByRule, own_or_walked}
-use Rattle.enough_tries.specs.Spaces.{front}
 use Rattle.enough_tries.specs.Tries.{concluded, second_of, tried_with, try, try_under}
 use Rattle.enough_tries.proofs.Asking.{IsWithin, else_alike, stops}
 use Rattle.enough_tries.proofs.Filling.{lacking_front, machine, suffices}

@@ -30,8 +30,8 @@ use Rattle.arch_defs.specs.SecondStage.{guest_end, guest_root_frame, guest_walk,
 use Rattle.arch_defs.specs.Traps.{is_virtual}
 use Rattle.arch_defs.specs.TableEntries.{entry_next, is_aligned, is_leaf, is_marked, is_valid, leaf_entry, needs_dirty, pointer_next, table_entry}
 use Rattle.arch_defs.specs.Walk.{EntryReading, end_of, index, index_bits, is_canonical, later, leaf_address, levels, met_in, next_of, or_else, path, path_from, place_of, read_next, walk}
-use Rattle.shadow_space.specs.CachedEntries.{leaf_of, place_by}
-use Rattle.enough_tries.specs.WalkedEntries.{entry_by_end, entry_by_table, entry_now, entry_under, is_table}
+use Rattle.arch_defs.specs.CachedEntries.{leaf_of, place_by}
+use Rattle.arch_defs.specs.WalkedEntries.{entry_by_end, entry_by_table, entry_now, entry_under, is_table}
 use Rattle.enough_tries.specs.Laws.{FillsAreWalks, FillsServeThePage}
 
 -- what another kind of access needs of a leaf

@@ -7,10 +7,11 @@ use Rattle.arch_defs.specs.declared.registers.Virtual.{Virtual}
 use Rattle.arch_defs.specs.Interrupts.{due}
 use Rattle.arch_defs.specs.Memory.{ram_base, reading_of}
 use Rattle.machine_defs.specs.Core.{core}
-use Rattle.machine_defs.specs.Machine.{Machine, Space}
+use Rattle.machine_defs.specs.Machine.{Machine}
+use Rattle.arch_defs.specs.Spaces.{Space}
 use Rattle.machine_defs.specs.Outcomes.{Outcome, Stuck}
-use Rattle.shadow_space.specs.CachedEntries.{filled, second_by}
-use Rattle.enough_tries.specs.WalkedEntries.{entry_now, folds}
+use Rattle.arch_defs.specs.CachedEntries.{filled, second_by}
+use Rattle.arch_defs.specs.WalkedEntries.{entry_now, folds}
 
 -- what an instruction lacks: where it stops at an access without a place, what is filled for that
 abbrev pub lacking_at : Csrs → List ℕ → Outcome → Option Entry

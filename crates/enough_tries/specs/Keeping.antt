@@ -6,10 +6,11 @@ use Rattle.arch_defs.specs.declared.cached.Entry.{Entry}
 use Rattle.arch_defs.specs.declared.registers.GuestRoot.{GuestRoot}
 use Rattle.arch_defs.specs.Memory.{ram_base}
 use Rattle.machine_defs.specs.declared.guests.GuestSpec.{GuestSpec}
-use Rattle.machine_defs.specs.Machine.{Machine, Space, start}
+use Rattle.machine_defs.specs.Machine.{Machine, start}
+use Rattle.arch_defs.specs.Spaces.{Space}
 use Rattle.machine_defs.specs.Reservations.{ReservesInRam}
 use Rattle.enough_tries.specs.Fills.{needed}
-use Rattle.enough_tries.specs.WalkedEntries.{folds}
+use Rattle.arch_defs.specs.WalkedEntries.{folds}
 use Rattle.enough_tries.specs.Steps.{run}
 
 -- an entry's frame is in RAM of so many bytes

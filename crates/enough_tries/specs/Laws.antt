@@ -14,12 +14,13 @@ use Rattle.machine_defs.specs.declared.events.Event.{Event}
 use Rattle.machine_defs.specs.declared.guests.GuestSpec.{GuestSpec}
 use Rattle.machine_defs.specs.declared.guests.Status.TheVariants.{Running}
 use Rattle.machine_defs.specs.Core.{core}
-use Rattle.machine_defs.specs.Machine.{Machine, Space, Ended, start}
+use Rattle.machine_defs.specs.Machine.{Machine, Ended, start}
+use Rattle.arch_defs.specs.Spaces.{Space}
 use Rattle.machine_defs.specs.Outcomes.{Stuck}
 use Rattle.machine_defs.specs.Runs.{left_by}
-use Rattle.shadow_space.specs.CachedEntries.{CanFill, place_by}
+use Rattle.arch_defs.specs.CachedEntries.{CanFill, place_by}
 use Rattle.enough_tries.specs.Fills.{after_fills, fill, fills, lacking, lacking_at, most_fills, needed, ready}
-use Rattle.enough_tries.specs.WalkedEntries.{entry_now, folds}
+use Rattle.arch_defs.specs.WalkedEntries.{entry_now, folds}
 use Rattle.enough_tries.specs.Keeping.{IsOrderly}
 use Rattle.enough_tries.specs.Spaces.{cut}
 use Rattle.enough_tries.specs.Steps.{events, run, step, step_within}

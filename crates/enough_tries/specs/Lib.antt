@@ -5,4 +5,3 @@ pub mod Laws
 pub mod Spaces
 pub mod Steps
 pub mod Tries
-pub mod WalkedEntries

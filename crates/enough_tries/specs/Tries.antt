@@ -10,13 +10,14 @@ use Rattle.arch_defs.specs.Traps.{is_virtual}
 use Rattle.machine_defs.specs.declared.events.Event.{Event}
 use Rattle.machine_defs.specs.declared.events.Event.TheVariants as event
 use Rattle.machine_defs.specs.Core.{core}
-use Rattle.machine_defs.specs.Machine.{Machine, Space, Tried, Outside, called_by, environment, stepped_to, trapped}
+use Rattle.machine_defs.specs.Machine.{Machine, Tried, Outside, called_by, environment, stepped_to, trapped}
+use Rattle.arch_defs.specs.Spaces.{Space, front}
 use Rattle.machine_defs.specs.Outcomes.{Outcome, Done, Trapped, Stuck, Called, Waits, Fenced, Accesses}
 use Rattle.machine_defs.specs.Outcomes as outcome
 use Rattle.machine_defs.specs.Outside.{has_input}
-use Rattle.shadow_space.specs.CachedEntries.{second_by}
-use Rattle.enough_tries.specs.Spaces.{cut, enter, front}
-use Rattle.enough_tries.specs.WalkedEntries.{folds}
+use Rattle.arch_defs.specs.CachedEntries.{second_by}
+use Rattle.enough_tries.specs.Spaces.{cut, enter}
+use Rattle.arch_defs.specs.WalkedEntries.{folds}
 
 -- a machine's own second stage: the entries of the front space while it folds, else RAM as it is
 abbrev pub second_of : Machine → SecondStage

@@ -3,8 +3,8 @@
 ghost use Rattle.std.specs.Prelude.{◌≡◌, ◌↔◌};
 ghost use Rattle.arch_defs.specs.Bits.{add64};
 ghost use Rattle.arch_defs.specs.Registers.{a7, read};
-ghost use Rattle.virtual_timer.specs.Times.{Times};
-ghost use Rattle.see_calls.specs.Calls.{answering, environment, put, refusing, state_of};
+ghost use Rattle.arch_defs.specs.Clocks.{Times};
+ghost use Rattle.arch_defs.specs.Calls.{answering, environment, put, refusing, state_of};
 
 use arch_defs::{Reg, Regs};
 use console_dev::Console;

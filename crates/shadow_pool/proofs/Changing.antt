@@ -9,12 +9,11 @@ use Rattle.arch_defs.specs.declared.cached.Fence.{Fence}
 use Rattle.arch_defs.specs.declared.registers.GuestRoot.{GuestRoot}
 use Rattle.arch_defs.specs.Frames.{Only}
 use Rattle.arch_defs.proofs.FrameSets.{only_both, only_none}
-use Rattle.machine_defs.specs.Machine.{Space}
-use Rattle.shadow_space.specs.CachedEntries.{CanFill, filled}
+use Rattle.arch_defs.specs.Spaces.{Space, entered, fenced, filled_in}
+use Rattle.arch_defs.specs.CachedEntries.{CanFill, filled}
 use Rattle.shadow_space.specs.Shadows.{Shadow, Tidy, own_frames, root_of}
 use Rattle.shadow_pool.specs.declared.slots.Slot.{Slot}
 use Rattle.shadow_pool.specs.Slots.{ArePooled, AreTidy, fenced_slot, frames_for, front_root, has_key, most_of, part_of, spaces_in}
-use Rattle.shadow_pool.specs.Spaces.{entered, fenced, filled_in}
 use Rattle.shadow_pool.proofs.Entering.{entered_found, entered_new}
 use Rattle.shadow_pool.proofs.Filling.{fenced_spaces, filled_spaces, no_position}
 use Rattle.shadow_pool.proofs.Fronting.{IsKept, kept_pooled, last_moved, moved_count, moved_slots, new_slots}

@@ -7,10 +7,9 @@ use Rattle.std.proofs.lemmas.List.Edits.{length-remove}
 use Rattle.std.proofs.lemmas.List.Elements.{All-head, All-tail}
 use Rattle.arch_defs.specs.declared.cached.Entry.{Entry}
 use Rattle.arch_defs.specs.declared.registers.GuestRoot.{GuestRoot}
-use Rattle.machine_defs.specs.Machine.{Space}
+use Rattle.arch_defs.specs.Spaces.{Space, entered, found_or_empty, is_for}
 use Rattle.shadow_pool.specs.declared.slots.Slot.{Slot}
 use Rattle.shadow_pool.specs.Slots.{ComesBefore, has_key, key_is, space_if, spaces_in}
-use Rattle.shadow_pool.specs.Spaces.{entered, found_or_empty, is_for}
 use Rattle.shadow_pool.proofs.Keys.{key_of}
 use Rattle.shadow_pool.proofs.Ordering.{pairs_first, pairs_rest}
 

@@ -4,11 +4,11 @@ use Rattle.std.specs.List.{filter}
 use Rattle.arch_defs.specs.declared.cached.Entry.{Entry}
 use Rattle.arch_defs.specs.declared.cached.Fence.{Fence}
 use Rattle.arch_defs.specs.declared.registers.GuestRoot.{GuestRoot}
-use Rattle.shadow_space.specs.CachedEntries.{cut_by}
+use Rattle.arch_defs.specs.CachedEntries.{cut_by}
 use Rattle.shadow_space.specs.Shadows.{Shadow}
 use Rattle.shadow_pool.specs.declared.slots.Slot.{Slot}
 use Rattle.shadow_pool.specs.Slots.{fenced_slot, left_for}
-use Rattle.shadow_pool.specs.Spaces.{left_by, names, names_page, names_vmid, vmid_of}
+use Rattle.arch_defs.specs.Spaces.{left_by, names, names_page, names_vmid, vmid_of}
 
 -- a filter by what is the same for all entries
 none_named : (page : Option ℕ) (es : List Entry) → filter (λ e. not (false && names_page page e)) es ≡ es

@@ -12,15 +12,14 @@ use Rattle.arch_defs.specs.Memory.{ram_base, block_size}
 use Rattle.arch_defs.specs.Ram.{host_place}
 use Rattle.arch_defs.specs.SecondStage.{guest_walk, second_under}
 use Rattle.arch_defs.proofs.FrameSets.{same_fewer}
-use Rattle.machine_defs.specs.Machine.{Space}
-use Rattle.shadow_space.specs.CachedEntries.{second_by}
+use Rattle.arch_defs.specs.Spaces.{Space, entered, found_or_empty, is_for, is_held, is_root}
+use Rattle.arch_defs.specs.CachedEntries.{second_by}
 use Rattle.shadow_space.specs.Shadows.{Shadow, Tidy, own_frames, root_of}
 use Rattle.shadow_space.proofs.Giving.{gives, in_ram, lacks}
 use Rattle.shadow_space.proofs.Tidying.{lasts}
 use Rattle.shadow_pool.specs.declared.slots.Slot.{Slot}
 use Rattle.shadow_pool.specs.Laws.{EnteredIsHeld, EnteredIsInFront, FrontGivesEntries, FrontGivesRam, FrontIs, FrontIsEnteredAgain, FrontLacksAreGuestPageFaults, TidyPoolLasts}
 use Rattle.shadow_pool.specs.Slots.{AreSlots, AreTidy, ComesBefore, frames_for, front_root, space_if, spaces_in}
-use Rattle.shadow_pool.specs.Spaces.{entered, found_or_empty, is_for, is_held, is_root}
 use Rattle.shadow_pool.proofs.Entering.{all_spare, entered_found}
 use Rattle.shadow_pool.proofs.Keys.{has_of, root_is, root_same}
 use Rattle.shadow_pool.proofs.Ordering.{pairs_first}

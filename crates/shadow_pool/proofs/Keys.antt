@@ -6,7 +6,7 @@ use Rattle.arch_defs.specs.declared.registers.GuestRoot.{GuestRoot}
 use Rattle.arch_defs.specs.declared.registers.GuestRoot.TheVariants.{Bare, Sv39x4}
 use Rattle.shadow_pool.specs.declared.slots.Slot.{Slot}
 use Rattle.shadow_pool.specs.Slots.{ComesBefore, has_key, key_is}
-use Rattle.shadow_pool.specs.Spaces.{is_root}
+use Rattle.arch_defs.specs.Spaces.{is_root}
 
 pub root_is : (key : GuestRoot) → is_root key key ≡ true
 root_is Bare = refl

@@ -11,14 +11,13 @@ use Rattle.arch_defs.specs.Memory.{ram_base, block_size}
 use Rattle.arch_defs.specs.Ram.{host_place}
 use Rattle.arch_defs.specs.Registers.{read}
 use Rattle.arch_defs.specs.SecondStage.{guest_walk, second_under}
-use Rattle.machine_defs.specs.Machine.{Space}
+use Rattle.arch_defs.specs.Spaces.{Space, entered, is_held}
 use Rattle.op_defs.specs.declared.ops.Effect.TheVariants.{Privileged}
 use Rattle.op_defs.specs.declared.ops.Op.TheVariants as op
 use Rattle.op_defs.specs.declared.ops.Privileged.TheVariants as privileged
 use Rattle.op_defs.specs.Meaning.{fence_named, meaning}
-use Rattle.shadow_space.specs.CachedEntries.{second_by}
+use Rattle.arch_defs.specs.CachedEntries.{second_by}
 use Rattle.shadow_pool.specs.Slots.{Pooled, TidyPool, frames_for, front_root, pool_frames, room_of, spaces_of}
-use Rattle.shadow_pool.specs.Spaces.{entered, is_held}
 
 -- a pool stays tidy where the bytes of its own frames stay
 abbrev pub TidyPoolLasts : Type 0

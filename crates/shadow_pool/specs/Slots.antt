@@ -5,11 +5,10 @@ use Rattle.arch_defs.specs.declared.cached.Entry.{Entry}
 use Rattle.arch_defs.specs.declared.registers.GuestRoot.{GuestRoot}
 use Rattle.arch_defs.specs.Frames.{Frames, LieIn, joined, within}
 use Rattle.arch_defs.specs.Layouts.{Layout, NamesEachOnce, space_frames}
-use Rattle.machine_defs.specs.Machine.{Space}
+use Rattle.arch_defs.specs.Spaces.{Space, is_root, left_by, vmid_of}
 use Rattle.shadow_space.specs.Folding.{Folded}
 use Rattle.shadow_space.specs.Shadows.{AreZeros, Tidy, root_of}
 use Rattle.shadow_pool.specs.declared.slots.Slot.{Slot}
-use Rattle.shadow_pool.specs.Spaces.{is_root, left_by, vmid_of}
 use Rattle.arch_defs.specs.declared.cached.Fence.{Fence}
 
 -- whether a table is for a value of hgatp

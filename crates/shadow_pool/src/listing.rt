@@ -3,10 +3,10 @@
 ghost use Rattle.std.specs.Prelude.{◌≡◌, ◌∷◌, ◌<◌, length, remove, slice_index_or, true};
 ghost use Rattle.std.specs.List.{position};
 ghost use Rattle.arch_defs.specs.Frames.{Only};
-ghost use Rattle.shadow_space.specs.CachedEntries.{CanFill};
+ghost use Rattle.arch_defs.specs.CachedEntries.{CanFill};
 ghost use Rattle.shadow_pool.specs.declared.slots.Slot.{Slot};
 ghost use Rattle.shadow_pool.specs.Slots.{AreFolded, ArePooled, AreTidy, frames_for, front_root, has_key, most_of, part_of, spaces_in};
-ghost use Rattle.shadow_pool.specs.Spaces.{entered, fenced, filled_in, is_held};
+ghost use Rattle.arch_defs.specs.Spaces.{entered, fenced, filled_in, is_held};
 
 use crate::slots::Slot;
 use arch_defs::{Entry, Fence, GuestRoot};

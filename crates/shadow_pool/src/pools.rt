@@ -2,10 +2,10 @@
 
 ghost use Rattle.std.specs.Prelude.{◌≡◌, ◌<◌, ◌≤◌, ◌%◌, ◌^◌, ℕ, List, [], length, true, IfOk};
 ghost use Rattle.arch_defs.specs.Frames.{LieIn, Only};
-ghost use Rattle.shadow_space.specs.CachedEntries.{CanFill};
+ghost use Rattle.arch_defs.specs.CachedEntries.{CanFill};
 ghost use Rattle.shadow_space.specs.Shadows.{AreZeros};
 ghost use Rattle.shadow_pool.specs.Slots.{AreFolded, AreSpare, TidyPool, frames_for, front_root, pool_frames, room_of, spaces_of};
-ghost use Rattle.shadow_pool.specs.Spaces.{entered, fenced, filled_in, is_held};
+ghost use Rattle.arch_defs.specs.Spaces.{entered, fenced, filled_in, is_held};
 
 use crate::listing::{enter, fence, fill};
 use crate::slots::Slot;

@@ -2,10 +2,10 @@
 
 ghost use Rattle.std.specs.Prelude.{◌≡◌, [], Some};
 ghost use Rattle.arch_defs.specs.Frames.{Only};
-ghost use Rattle.shadow_space.specs.CachedEntries.{CanFill, filled};
+ghost use Rattle.arch_defs.specs.CachedEntries.{CanFill, filled};
 ghost use Rattle.shadow_space.specs.Shadows.{Tidy, own_frames};
 ghost use Rattle.shadow_pool.specs.Slots.{fenced_slot, has_key};
-ghost use Rattle.shadow_pool.specs.Spaces.{is_root, names_vmid, vmid_of};
+ghost use Rattle.arch_defs.specs.Spaces.{is_root, names_vmid, vmid_of};
 
 use arch_defs::{Entry, Fence, GuestRoot};
 use phys_mem::PhysMem;

@@ -5,7 +5,7 @@ use Rattle.std.proofs.lemmas.Bool.{cases_Bool, eq-eqb, ne_eqb, eqb-true}
 use Rattle.std.proofs.lemmas.List.{get_or-take, get_or_default, length-take, take_more}
 use Rattle.std.proofs.lemmas.List.Elements.{All-tail}
 use Rattle.arch_defs.specs.declared.cached.Entry.{Entry}
-use Rattle.shadow_space.specs.CachedEntries.{HasOtherPage, entry_at}
+use Rattle.arch_defs.specs.CachedEntries.{HasOtherPage, entry_at}
 use Rattle.shadow_space.specs.Shadows.{leaf_if, leaf_word, leaves}
 
 -- another page has the entry that it had

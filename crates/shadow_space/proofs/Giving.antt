@@ -16,7 +16,7 @@ use Rattle.arch_defs.specs.Ram.{host_place}
 use Rattle.arch_defs.specs.SecondStage.{guest_end, guest_root_frame, guest_walk, has_bytes, memory_words, place_under}
 use Rattle.arch_defs.specs.Walk.{leaf_address}
 use Rattle.arch_defs.proofs.RamBlocks.{host_place_along, place_named}
-use Rattle.shadow_space.specs.CachedEntries.{CanFill, entry_at, leaf_of, place_by, second_by}
+use Rattle.arch_defs.specs.CachedEntries.{CanFill, entry_at, leaf_of, place_by, second_by}
 use Rattle.shadow_space.specs.Folding.{ReadsIn, leaf_end}
 use Rattle.shadow_space.specs.Laws.{EntriesGiveRam, GivesEntries, LacksAreGuestPageFaults}
 use Rattle.shadow_space.specs.Shadows.{Shadow, Tidy, host_frame, own_frames, root_of}

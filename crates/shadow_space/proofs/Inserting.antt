@@ -6,7 +6,7 @@ use Rattle.arch_defs.specs.declared.cached.Entry.{Entry}
 use Rattle.arch_defs.specs.Frames.{Only}
 use Rattle.arch_defs.proofs.FrameSets.{only_both}
 use Rattle.shadow_space.specs.declared.writing.Tables.{Tables}
-use Rattle.shadow_space.specs.CachedEntries.{CanFill, HasOtherPage}
+use Rattle.arch_defs.specs.CachedEntries.{CanFill, HasOtherPage}
 use Rattle.shadow_space.specs.Shadows.{IsPlaced, Stands, leaf_word, leaves}
 use Rattle.shadow_space.specs.Trees.{Build, IsOwn, built, frames_of, slots, with_page, with_table}
 use Rattle.shadow_space.specs.Words.{below, linked, used_with, with_word}

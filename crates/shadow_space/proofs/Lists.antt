@@ -7,7 +7,7 @@ use Rattle.std.proofs.lemmas.List.Elements.{All-drop, All-filter, All-append, Al
 use Rattle.std.proofs.lemmas.List.Kept.{AllPairs-filter}
 use Rattle.std.proofs.lemmas.List.Quantifiers.{all_pairs_push}
 use Rattle.arch_defs.specs.declared.cached.Entry.{Entry}
-use Rattle.shadow_space.specs.CachedEntries.{CanFill, HasLevel, HasOtherPage, cut_by, filled, holds, newest, without}
+use Rattle.arch_defs.specs.CachedEntries.{CanFill, HasLevel, HasOtherPage, cut_by, filled, holds, newest, without}
 
 drop_before : (n : ℕ) (xs : List Entry) (e : Entry) → n ≤ length xs → drop n (xs ++ e ∷ []) ≡ drop n xs ++ e ∷ []
 drop_before zero xs e h = refl

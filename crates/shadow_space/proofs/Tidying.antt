@@ -16,7 +16,7 @@ use Rattle.arch_defs.specs.Walk.{EntryReading, path, walk}
 use Rattle.arch_defs.proofs.FrameSets.{in_range}
 use Rattle.stage_walk.proofs.Levels.{walk_refused, walk_starts}
 use Rattle.shadow_space.specs.declared.writing.Tables.{Tables}
-use Rattle.shadow_space.specs.CachedEntries.{CanFill, HasOtherPage, cut_by, entry_at, filled}
+use Rattle.arch_defs.specs.CachedEntries.{CanFill, HasOtherPage, cut_by, entry_at, filled}
 use Rattle.shadow_space.specs.Folding.{LastIs, LieWithin, ReadsIn, leaf_end, leaf_parts}
 use Rattle.shadow_space.specs.Laws.{TidyIsFolded, TidyLasts}
 use Rattle.shadow_space.specs.Shadows.{AreZeros, HasSmallNumbers, IsPlaced, IsShadow, IsTidy, Shadow, Stands, Tidy, host_frame, leaf_if, leaf_word, leaves, own_frames, root_of, tables_in}

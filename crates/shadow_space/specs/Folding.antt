@@ -10,7 +10,7 @@ use Rattle.arch_defs.specs.Frames.{Frames}
 use Rattle.arch_defs.specs.Memory.{load}
 use Rattle.arch_defs.specs.TableEntries.{needs_dirty, table_entry}
 use Rattle.arch_defs.specs.Walk.{EntryReading, Met, path, walk}
-use Rattle.shadow_space.specs.CachedEntries.{entry_at}
+use Rattle.arch_defs.specs.CachedEntries.{entry_at}
 use Rattle.shadow_space.specs.Shadows.{Shadow, host_frame, own_frames, root_of}
 
 -- a reading of places gives the aligned doublewords of memory in these frames

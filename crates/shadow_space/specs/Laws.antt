@@ -8,7 +8,7 @@ use Rattle.arch_defs.specs.Layouts.{Layout, host_frames, named_by, space_frames}
 use Rattle.arch_defs.specs.Memory.{ram_base, block_size, zeros}
 use Rattle.arch_defs.specs.Ram.{host_place}
 use Rattle.arch_defs.specs.SecondStage.{guest_walk, second_under}
-use Rattle.shadow_space.specs.CachedEntries.{second_by}
+use Rattle.arch_defs.specs.CachedEntries.{second_by}
 use Rattle.shadow_space.specs.Folding.{Folded}
 use Rattle.shadow_space.specs.Shadows.{AreZeros, Shadow, Tidy, own_frames, root_of}
 

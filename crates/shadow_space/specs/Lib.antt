@@ -1,4 +1,3 @@
-pub mod CachedEntries
 pub mod Folding
 pub mod Laws
 pub mod Shadows

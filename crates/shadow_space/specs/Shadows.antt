@@ -7,7 +7,7 @@ use Rattle.arch_defs.specs.Layouts.{Layout, NamesEachOnce, space_frames}
 use Rattle.arch_defs.specs.Memory.{ram_base}
 use Rattle.arch_defs.specs.Ram.{host_place}
 use Rattle.shadow_space.specs.declared.writing.Tables.{Tables}
-use Rattle.shadow_space.specs.CachedEntries.{CanFill, HasOtherPage, entry_at}
+use Rattle.arch_defs.specs.CachedEntries.{CanFill, HasOtherPage, entry_at}
 use Rattle.shadow_space.specs.Trees.{Build, Free, IsTree, Says, built, frames_of}
 use Rattle.shadow_space.specs.Words.{word}
 

@@ -2,7 +2,7 @@
 
 ghost use Rattle.std.specs.Prelude.{◌≡◌, ◌≤◌, ◌<◌, [], ◌∷◌, ◌++◌, length};
 ghost use Rattle.std.specs.List.{All};
-ghost use Rattle.shadow_space.specs.CachedEntries.{HasLevel, cut_by, filled, newest, without};
+ghost use Rattle.arch_defs.specs.CachedEntries.{HasLevel, cut_by, filled, newest, without};
 ghost use Rattle.arch_defs.specs.TableEntries.{span};
 
 use arch_defs::Entry;
@@ -107,7 +107,7 @@ fn newest(most: usize, entries: &[Entry]) -> &[Entry]
 }
 
 /// The list of at most so many entries after a fill of this one.
-#[tactic(auto, using(crate::proofs::Lists::filled_pushes), unfolding(crate::specs::CachedEntries::filled))]
+#[tactic(auto, using(crate::proofs::Lists::filled_pushes), unfolding(arch_defs::specs::CachedEntries::filled))]
 pub fn filled(most: usize, entries: &[Entry], entry: Entry) -> EntryList
     requires few { most ≤ 256 }
     requires fits { length entries.now ≤ most }
@@ -136,7 +136,7 @@ fn span(level: u8) -> u64
 }
 
 /// The list without the entries whose leaf's span holds a page.
-#[tactic(auto, unfolding(crate::specs::CachedEntries::cut_by))]
+#[tactic(auto, unfolding(arch_defs::specs::CachedEntries::cut_by))]
 pub fn cut(page: u64, entries: &[Entry]) -> EntryList
     requires few { length entries.now ≤ 256 }
     requires levels { All HasLevel entries.now }

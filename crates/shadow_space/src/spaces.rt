@@ -3,7 +3,7 @@
 ghost use Rattle.std.specs.Prelude.{◌≡◌, ℕ, ◌+◌, ◌%◌, ◌<◌, ◌≤◌, ◌^◌, [], List, length};
 ghost use Rattle.arch_defs.specs.Frames.{LieIn, Only};
 ghost use Rattle.arch_defs.specs.Layouts.{NamesEachOnce, space_frames};
-ghost use Rattle.shadow_space.specs.CachedEntries.{CanFill, cut_by, filled};
+ghost use Rattle.arch_defs.specs.CachedEntries.{CanFill, cut_by, filled};
 ghost use Rattle.shadow_space.specs.Folding.{Folded};
 ghost use Rattle.shadow_space.specs.Shadows.{AreZeros, HasSmallNumbers, Tidy, own_frames, root_of, tables_in};
 

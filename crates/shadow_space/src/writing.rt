@@ -3,7 +3,7 @@
 ghost use Rattle.std.specs.Prelude.{◌≡◌, ◌+◌, ◌*◌, ◌<◌, ◌≤◌, ◌^◌, length, take};
 ghost use Rattle.std.specs.List.{All, AllPairs};
 ghost use Rattle.arch_defs.specs.Frames.{Only};
-ghost use Rattle.shadow_space.specs.CachedEntries.{CanFill, HasOtherPage};
+ghost use Rattle.arch_defs.specs.CachedEntries.{CanFill, HasOtherPage};
 ghost use Rattle.shadow_space.specs.Trees.{RootIsApart, built, frames_of};
 ghost use Rattle.shadow_space.specs.Shadows.{AreZeros, IsPlaced, Stands, flag, leaf_word, leaves};
 ghost use Rattle.shadow_space.specs.Words.{below, linked, used_with, with_word, word};

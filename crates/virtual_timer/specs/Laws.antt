@@ -1,7 +1,7 @@
 -- Laws of waits.
 use Rattle.std.specs.Prelude.{ℕ, ◌≡◌, ◌<◌, ◌≤◌, ◌^◌, true, Option, Some, None, ◌⊎◌}
 use Rattle.arch_defs.specs.declared.registers.Interrupts.{Interrupts}
-use Rattle.virtual_timer.specs.Waits.{wake_moment}
+use Rattle.arch_defs.specs.Waits.{wake_moment}
 
 -- at a moment below 2^62 the timer or the first unread input comes, and sie enables its interrupt
 abbrev pub Wakes : Interrupts → ℕ → Option ℕ → ℕ → Type 0

@@ -1,4 +1,1 @@
-pub mod Clocks
 pub mod Laws
-pub mod Times
-pub mod Waits

@@ -2,8 +2,8 @@
 
 ghost use Rattle.std.specs.Prelude.{◌≡◌, ◌+◌, ◌^◌, ◌<◌, ◌≤◌, IsTrue};
 ghost use Rattle.std.specs.Option.{ForSome};
-ghost use Rattle.virtual_timer.specs.Clocks.{is_due, next_event, times_at_start};
-ghost use Rattle.virtual_timer.specs.Waits.{wake_moment};
+ghost use Rattle.arch_defs.specs.Clocks.{is_due, next_event, times_at_start};
+ghost use Rattle.arch_defs.specs.Waits.{wake_moment};
 
 use crate::waits::wake_moment;
 use arch_defs::Interrupts;
@@ -18,7 +18,7 @@ pub struct Clock {
 }
 
 impl Model for Clock {
-    ghost use Rattle.virtual_timer.specs.Times.{Times};
+    ghost use Rattle.arch_defs.specs.Clocks.{Times};
 
     ghost Value = { Times };
 

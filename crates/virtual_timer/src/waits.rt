@@ -1,7 +1,7 @@
 // The moment at which a wait ends.
 
 ghost use Rattle.std.specs.Prelude.{◌≡◌};
-ghost use Rattle.virtual_timer.specs.Waits.{coming, earlier, enabled, wake_moment};
+ghost use Rattle.arch_defs.specs.Waits.{coming, earlier, enabled, wake_moment};
 
 use arch_defs::Interrupts;
 

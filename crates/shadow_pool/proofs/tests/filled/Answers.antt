@@ -1,5 +1,5 @@
 use Rattle.std.proofs.Common.{◌≡◌, true, length, sym, subst}
-use Rattle.shadow_pool.specs.Spaces.{is_held}
+use Rattle.arch_defs.specs.Spaces.{is_held}
 use Rattle.shadow_pool.specs.Slots.{spaces_in}
 use Rattle.shadow_pool.proofs.Front.{held}
 use Rattle.shadow_pool.proofs.tests.filled.Goals as goal

@@ -1,6 +1,6 @@
 use Rattle.std.proofs.Common.{◌≡◌, ◌≤◌, not, length, take}
 use Rattle.std.specs.List.{filter}
-use Rattle.shadow_space.specs.CachedEntries.{holds}
+use Rattle.arch_defs.specs.CachedEntries.{holds}
 use Rattle.shadow_space.proofs.listing.cut.Given as goal
 
 abbrev pub invariant-loop-entry : goal.invariant-loop-entry

@@ -1,5 +1,5 @@
 use Rattle.std.proofs.Common.{◌≡◌, ◌≤◌, length, take}
-use Rattle.shadow_space.specs.CachedEntries.{without}
+use Rattle.arch_defs.specs.CachedEntries.{without}
 use Rattle.shadow_space.proofs.listing.without.Given as goal
 
 abbrev pub invariant-loop-entry : goal.invariant-loop-entry

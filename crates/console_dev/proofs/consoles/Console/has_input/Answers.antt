@@ -1,5 +1,5 @@
 use Rattle.std.proofs.Common.{◌≡◌, nat_le, rules}
-use Rattle.console_dev.specs.Inputs.{has_input}
+use Rattle.arch_defs.specs.Inputs.{has_input}
 use Rattle.console_dev.proofs.Arrivals.{none_exactly}
 use Rattle.console_dev.proofs.consoles.Console.has_input.Goals as goal
 

@@ -1,4 +1,4 @@
--- What contracts see of a console.
+-- A console.
 use Rattle.std.specs.Prelude.{ℕ, Bool, List, length, nat_lt}
 
 -- the bytes on it, how many it has room for, and the inputs that are unread, each a moment and a byte (own)

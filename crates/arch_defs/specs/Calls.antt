@@ -4,9 +4,9 @@ use Rattle.std.specs.Prelude.{ℕ, ◌-◌, ◌%◌, ◌^◌, ◌==◌, [], ◌�
 use Rattle.arch_defs.specs.declared.registers.Regs.{Regs}
 use Rattle.arch_defs.specs.Bits.{add64}
 use Rattle.arch_defs.specs.Registers.{a0, a1, a7, advanced, read}
-use Rattle.virtual_timer.specs.Times.{Times}
-use Rattle.console_dev.specs.Held.{Held, has_room}
-use Rattle.console_dev.specs.Inputs.{arrived, unread_after}
+use Rattle.arch_defs.specs.Clocks.{Times}
+use Rattle.arch_defs.specs.Consoles.{Held, has_room}
+use Rattle.arch_defs.specs.Inputs.{arrived, unread_after}
 
 -- what a call reads and changes: the registers, the clock and the console of the machine that calls
 pub record CallState : Type 0 where

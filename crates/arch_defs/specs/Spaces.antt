@@ -6,8 +6,17 @@ use Rattle.arch_defs.specs.declared.cached.Entry.{Entry}
 use Rattle.arch_defs.specs.declared.cached.Fence.{Fence}
 use Rattle.arch_defs.specs.declared.registers.GuestRoot.{GuestRoot}
 use Rattle.arch_defs.specs.declared.registers.GuestRoot.TheVariants.{Bare, Sv39x4}
-use Rattle.machine_defs.specs.Machine.{Space}
-use Rattle.shadow_space.specs.CachedEntries.{filled, holds}
+use Rattle.arch_defs.specs.CachedEntries.{filled, holds}
+
+-- the space of a value of hgatp: its cached translations, oldest first
+pub record Space : Type 0 where
+  pub key : GuestRoot
+  pub entries : List Entry
+
+-- the entries of the front space
+abbrev pub front : List Space → List Entry
+front [] = []
+front (s ∷ ss) = s.entries
 
 -- two values of hgatp are the same: the VMID and the root's page too
 abbrev pub is_root : GuestRoot → GuestRoot → Bool
