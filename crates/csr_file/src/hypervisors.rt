@@ -39,7 +39,7 @@ fn hstatus_of(value: u64) -> HypervisorStatus
 
 /// Codes 0 to 8, 12, 13 and 15.
 #[tactic(auto, unfolding(arch_defs::specs::CsrBits::hedeleg_bits))]
-fn hedeleg_bits(value: u64) -> u64
+pub fn hedeleg_bits(value: u64) -> u64
     ensures { result ≡ hedeleg_bits value }
 {
     (value & 0x1FF) + ((value >> 12) & 3) * 0x1000 + ((value >> 15) & 1) * 0x8000

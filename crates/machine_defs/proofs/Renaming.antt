@@ -194,7 +194,7 @@ unless_alike h held false o leaves = (refl, leaves)
 privileged_alike : (h : ℕ → ℕ) (held : Places) (s : Virtual) → ReservesHeld held s.reservation → (word : ℕ) (p : Privileged)
     → EndsAlike h held (privileged s word p) (privileged (renamed h s) word p)
 unfolding privileged
-privileged_alike h held s kept word p = let (e, leaves) = decided_alike h held s kept word p in rw e (unless_alike h held (is_outside s.mode p) (decided s word p) leaves)
+privileged_alike h held s kept word p = let (e, leaves) = decided_alike h held s kept word p in rw e (unless_alike h held (is_outside p) (decided s word p) leaves)
 
 -- by the effect
 executed_alike : {h : ℕ → ℕ} {held : Places} {own : SecondStage} {reading : Reading} {host : SecondStage} {other : Reading}

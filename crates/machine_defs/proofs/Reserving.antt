@@ -18,7 +18,7 @@ use Rattle.machine_defs.specs.declared.guests.Status.TheVariants as status
 use Rattle.machine_defs.specs.Machine.{Machine, Platform, Tried, Ended, Outside, called, called_by, concluded, environment, is_outside, made, second_of, trapped, tried_with, try, try_under}
 use Rattle.machine_defs.specs.Outcomes.{Outcome, Done, Trapped, Stuck, Called, Waits, Fenced, Accesses}
 use Rattle.machine_defs.specs.Outcomes as outcome
-use Rattle.machine_defs.specs.Outside.{is_outside_call, sets_v}
+use Rattle.machine_defs.specs.Outside.{is_outside_call, sets_v_under_table}
 use Rattle.machine_defs.specs.Renaming.{GivesHeld, LeavesHeld, Places, ReservesHeld, StoresHeld}
 use Rattle.machine_defs.specs.Reservations.{ReservesInRam, StaysInRam, ram_places}
 use Rattle.machine_defs.specs.Runs.{left_by, run, step, stepped}
@@ -87,7 +87,7 @@ made_keeps : (m : Machine) → length m.ram % 4096 ≡ 0 → (virt : Virtual) (s
     → StoresHeld (ram_places m) stored → ReservesHeld (ram_places m) virt.reservation → TryKeeps m (made m virt stored event)
 made_keeps m whole virt stored event stores reserves = let same = size_kept m stored whole stores in
     let reserves_after = subst (λ size. ReservesHeld (ram_of_size size) virt.reservation) (sym same) reserves in
-    either (TryKeeps m) (sets_v m.platform.virt virt) _ _ tt (reserves_after, same)
+    either (TryKeeps m) (sets_v_under_table m.platform.virt virt) _ _ tt (reserves_after, same)
 
 concluded_keeps : (m : Machine) → length m.ram % 4096 ≡ 0 → ReservesInRam m → (o : Outcome) → LeavesHeld (ram_places m) o → TryKeeps m (concluded m o)
 concluded_keeps m whole kept (Done virt stored event) (stores, reserves) = made_keeps m whole virt stored event stores reserves

@@ -2,29 +2,23 @@
 use Rattle.std.specs.Prelude.{ℕ, ◌+◌, ◌-◌, ◌*◌, ◌%◌, ◌^◌, Bool, Option, Some, None, List, [], ◌∷◌, ◌++◌, ◌==◌, length, nat_lt, nat_le, if◌then◌else◌}
 use Rattle.machine_defs.specs.declared.events.Event.{Event}
 use Rattle.machine_defs.specs.declared.events.Event.TheVariants as event
-use Rattle.arch_defs.specs.declared.cached.Entry.{Entry}
 use Rattle.machine_defs.specs.declared.guests.GuestSpec.{GuestSpec}
 use Rattle.machine_defs.specs.declared.guests.Status.{Status}
 use Rattle.machine_defs.specs.declared.guests.Status.TheVariants as status
 use Rattle.arch_defs.specs.declared.modes.Mode.TheVariants.{HS}
 use Rattle.arch_defs.specs.declared.modes.Trap.{Trap}
 use Rattle.arch_defs.specs.declared.registers.Csrs.{Csrs}
-use Rattle.arch_defs.specs.declared.registers.GuestRoot.{GuestRoot}
 use Rattle.arch_defs.specs.declared.registers.Virtual.{Virtual}
 use Rattle.arch_defs.specs.Bits.{add64}
 use Rattle.arch_defs.specs.Interrupts.{due, interrupt_of}
 use Rattle.arch_defs.specs.Memory.{SecondStage, Stored, ram_base, block_size, loaded, bare, reading_of, with_stored}
 use Rattle.arch_defs.specs.Registers.{read, advanced, a0, a1, a7, virtual_at}
+use Rattle.arch_defs.specs.Spaces.{Space}
 use Rattle.arch_defs.specs.Traps.{entered, target, unplaced_fault}
 use Rattle.machine_defs.specs.Core.{core}
 use Rattle.machine_defs.specs.Outcomes.{Outcome, Done, Trapped, Stuck, Called, Waits, Fenced, Accesses}
 use Rattle.machine_defs.specs.Outcomes as outcome
-use Rattle.machine_defs.specs.Outside.{begins_outside, has_input, is_outside_call, sets_v}
-
--- a list of cached second-stage translations, oldest first, for one value of hgatp
-pub record Space : Type 0 where
-  pub key : GuestRoot
-  pub entries : List Entry
+use Rattle.machine_defs.specs.Outside.{has_input, is_outside_call, sets_v_under_table}
 
 -- a machine without its RAM and its cached translations: registers, clock, timer, unread inputs with their
 -- moments, console bytes and how many it has room for, count of steps, and status. The execution environment
@@ -137,9 +131,9 @@ abbrev pub trapped : Machine → Trap → Tried
 trapped m trap = stepped_to m (record m.platform { virt = entered m.platform.virt trap })
     (event.Trap (target m.platform.virt.csrs m.platform.virt.mode trap) trap.interrupt)
 
--- an instruction is a step, with what it leaves and stores, if it does not set V
+-- an instruction is a step, with what it leaves and stores, if it does not set V while hgatp names a table
 abbrev pub made : Machine → Virtual → Option Stored → Event → Tried
-made m virt stored event = if sets_v m.platform.virt virt then Outside
+made m virt stored event = if sets_v_under_table m.platform.virt virt then Outside
     else let ram = with_stored ram_base stored m.ram in
     stepped_to (record m { ram = ram }) (record m.platform { virt = virt }) event
 
@@ -160,16 +154,17 @@ abbrev pub tried_with : SecondStage → Machine → Option ℕ → Tried
 tried_with second m (Some code) = trapped m (interrupt_of code)
 tried_with second m None = concluded m (core second (reading_of ram_base m.ram) m.platform.virt)
 
--- whether the next step of a platform begins outside what is built
+-- whether the next step of a platform begins outside what is built: an input's moment has come
 abbrev pub is_outside : Platform → Bool
-is_outside p = begins_outside p.virt.mode p.inputs p.clock
+is_outside p = has_input p.inputs p.clock
 
 -- one try under a second stage
 unfoldable pub try_under : SecondStage → Machine → Tried
 try_under second m = if is_outside m.platform then Outside
     else tried_with second m (due m.platform.virt.csrs m.platform.virt.mode)
 
--- the machine's own second stage: RAM as it is
+-- the machine's own second stage: RAM as it is. With V = 1 hgatp is Bare, since V is not set while it names a
+-- table, and HS alone writes it
 abbrev pub second_of : Machine → SecondStage
 second_of m = bare ram_base (length m.ram)
 

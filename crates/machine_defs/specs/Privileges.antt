@@ -116,4 +116,4 @@ unless_outside outside (Trapped trap) = Trapped trap
 unless_outside outside outcome = if outside then Outside else outcome
 
 unfoldable pub privileged : Virtual → ℕ → Privileged → Outcome
-privileged state word effect = unless_outside (is_outside state.mode effect) (decided state word effect)
+privileged state word effect = unless_outside (is_outside effect) (decided state word effect)

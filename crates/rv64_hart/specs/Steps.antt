@@ -29,7 +29,8 @@ pub data Attempt : Type 0 where
 
 -- what the outcome of an instruction is to the hart: an access for which its second stage has no place is the
 -- trap that the walk of now makes of it. A WFI does not wait, and a fence changes nothing, since the hart
--- walks memory as it is. With V = 1 there is no call from HS, no access as somebody else, and nothing outside
+-- walks memory as it is. With V = 1 there is no call from HS and no access as somebody else, and nothing is
+-- outside but a read of time with hcounteren.TM, which no guest's hart has
 abbrev pub attempt_of : Csrs → Mode → List ℕ → Outcome → Attempt
 attempt_of csrs mode memory (Done state stored event) = Makes state (with_stored 0 stored memory) event
 attempt_of csrs mode memory (Trapped trap) = Raises trap

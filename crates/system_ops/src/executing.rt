@@ -36,7 +36,7 @@ pub fn execute(state: &mut Virtual, effect: Privileged) -> Executed
     ensures ends { (word : ℕ) → privileged state.old word effect ≡ outcome_of word result state.new }
     ensures stays { IfNotMade result (state.new ≡ state.old) }
 {
-    if is_outside(state.mode, &effect) {
+    if is_outside(&effect) {
         return end_outside(state, effect);
     }
     decide(state, effect)

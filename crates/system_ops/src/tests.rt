@@ -144,7 +144,7 @@ fn numbers(rt: HostRuntime) {
         assert_eq!(rt; ends(timed(true), &writes(number, 0)), want, "{number:x}");
     }
     for number in [0x200, 0x280, 0x600, 0x680] {
-        let want = (OUTSIDE, ILLEGAL, VIRTUAL, VIRTUAL);
+        let want = (DONE, ILLEGAL, VIRTUAL, VIRTUAL);
         assert_eq!(rt; ends(timed(true), &reads(number)), want, "{number:x}");
         assert_eq!(rt; ends(timed(true), &writes(number, 0)), want, "{number:x}");
     }
@@ -167,7 +167,10 @@ fn numbers(rt: HostRuntime) {
 fn read_only_registers(rt: HostRuntime) {
     for op in [CsrOp::Set, CsrOp::Clear] {
         let time = csr(op, 0xC01, 0, false);
-        assert_eq!(rt; ends(timed(true), &time), (OUTSIDE, OUTSIDE, DONE, DONE));
+        assert_eq!(rt;
+            ends(timed(true), &time),
+            (OUTSIDE, OUTSIDE, OUTSIDE, OUTSIDE)
+        );
         assert_eq!(rt;
             ends(timed(false), &time),
             (OUTSIDE, ILLEGAL, VIRTUAL, VIRTUAL)
@@ -175,11 +178,13 @@ fn read_only_registers(rt: HostRuntime) {
         let hgeip = csr(op, 0xE12, 0, false);
         assert_eq!(rt;
             ends(timed(true), &hgeip),
-            (OUTSIDE, ILLEGAL, VIRTUAL, VIRTUAL)
+            (DONE, ILLEGAL, VIRTUAL, VIRTUAL)
         );
-        for mode in [Mode::VS, Mode::VU] {
+        let (_, state) = after(timed(true), Mode::HS, &hgeip);
+        assert_eq!(rt; (state.regs.x[5], state.regs.pc), (0, START + 4));
+        for mode in [Mode::HS, Mode::U, Mode::VS, Mode::VU] {
             let (_, state) = after(timed(true), mode, &time);
-            assert_eq!(rt; (state.regs.x[5], state.regs.pc), (2, START + 4));
+            assert_eq!(rt; (state.regs.x[5], state.regs.pc), (7, START));
         }
     }
 }
@@ -226,7 +231,8 @@ fn not_made(rt: HostRuntime) {
         (Mode::VS, writes(0x180, (8 << 60) + 3), VIRTUAL),
         (Mode::VS, reads(0x180), VIRTUAL),
         (Mode::VS, writes(0x240, 9), VIRTUAL),
-        (Mode::HS, writes(0x240, 9), OUTSIDE),
+        (Mode::HS, reads(0xC01), OUTSIDE),
+        (Mode::U, writes(0x240, 9), ILLEGAL),
         (Mode::U, writes(0x140, 9), ILLEGAL),
         (Mode::VU, writes(0x140, 9), VIRTUAL),
     ] {
@@ -239,6 +245,28 @@ fn not_made(rt: HostRuntime) {
         ends(csrs, &reads(0x180)),
         (DONE, ILLEGAL, VIRTUAL, VIRTUAL)
     );
+}
+
+// HS writes the registers of VS and its own of the rows from 600 on (8.2): vsscratch, vsatp, hedeleg, whose
+// bits are those of codes 0 to 8, 12, 13 and 15, hideleg and hie, hvip, and htimedelta.
+#[test]
+fn hypervisor_registers(rt: HostRuntime) {
+    for (number, value, shows) in [
+        (0x240, 9, 9),
+        (0x280, (8 << 60) + 3, (8 << 60) + 3),
+        (0x602, u64::MAX, 0xB1FF),
+        (0x603, u64::MAX, 0x444),
+        (0x604, u64::MAX, 0x444),
+        (0x645, 0x40, 0x40),
+        (0x605, u64::MAX, u64::MAX),
+        (0x606, u64::MAX, 2),
+    ] {
+        let (end, state) = after(timed(false), Mode::HS, &writes(number, value));
+        assert_eq!(rt; (end, state.regs.pc), (DONE, START + 4), "{number:x}");
+        assert_eq!(rt; state.csrs.hs, timed(false).hs);
+        let (end, state) = after(state.csrs, Mode::HS, &reads(number));
+        assert_eq!(rt; (end, state.regs.x[5]), (DONE, shows), "{number:x}");
+    }
 }
 
 // SRET in HS goes to each mode by SPV and SPP, in VS to VU and VS by SPP (4.1.1, 8.6.4).
@@ -324,7 +352,7 @@ fn hypervisor_fences(rt: HostRuntime) {
     for hu in [false, true] {
         let csrs = with_hu(hu);
         for (effect, in_hs) in [
-            (Privileged::HfenceVvma, OUTSIDE),
+            (Privileged::HfenceVvma, DONE),
             (Privileged::HfenceGvma(named), Executed::Fenced(named)),
             (Privileged::HfenceGvma(all), Executed::Fenced(all)),
         ] {
