@@ -32,23 +32,24 @@ use Rattle.machine_defs.specs.Outcomes.{Trapped, sets}
 use Rattle.world_switch.specs.Hosting.{hosted, hosted_csrs, hosted_mode}
 use Rattle.world_switch.proofs.Undone.{translates_alike}
 use Rattle.guest_exit.specs.Following.{privileged_in, privileged_of}
+use Rattle.guest_exit.proofs.Delegation.{IsOwn, own_0, own_12, own_13, own_15, own_2, own_3, own_4, own_6, own_8}
 use Rattle.guest_exit.proofs.Privileged.{privileged_stands}
-use Rattle.guest_exit.proofs.Stands.{Own, Call, SameMade, SamePlace, Stands, ended_stands, is_own, leaves}
+use Rattle.guest_exit.proofs.Stands.{Own, Call, Nested, SameMade, SamePlace, Stands, ended_stands, leaves}
 
 -- the faults of an access are the guest's own
-page_fault_own : (access : Access) → is_own (page_fault access) ≡ true
-page_fault_own Fetch = refl
-page_fault_own Load = refl
-page_fault_own Store = refl
-page_fault_own ExecLoad = refl
-page_fault_own Implicit = refl
+page_fault_own : (access : Access) → IsOwn (page_fault access)
+page_fault_own Fetch = own_12
+page_fault_own Load = own_13
+page_fault_own Store = own_15
+page_fault_own ExecLoad = own_13
+page_fault_own Implicit = own_13
 
-misaligned_own : (access : Access) → is_own (misaligned_fault access) ≡ true
-misaligned_own Fetch = refl
-misaligned_own Load = refl
-misaligned_own Store = refl
-misaligned_own ExecLoad = refl
-misaligned_own Implicit = refl
+misaligned_own : (access : Access) → IsOwn (misaligned_fault access)
+misaligned_own Fetch = own_0
+misaligned_own Load = own_4
+misaligned_own Store = own_6
+misaligned_own ExecLoad = own_4
+misaligned_own Implicit = own_4
 
 -- where an access is made, link by link
 at_alike : (root : GuestRoot) (s : Virtual) (va : ℕ) (access : Access) (address : ℕ) (place : Option ℕ)
@@ -62,78 +63,78 @@ by_alike root s second va access (Passes address) = at_alike root s va access ad
 by_alike root s second va access PageFaults = Own (page_fault access) va refl refl (page_fault_own access)
 by_alike root s second va access (Lacks place) = (refl, refl)
 
-located_alike : (root : GuestRoot) (s : Virtual) (second : SecondStage) (reading : Reading) (va : ℕ) (access : Access) → is_virtual s.mode ≡ false
-    → SamePlace root s (located second reading s.csrs s.mode va access) (located second reading (hosted_csrs root s.csrs) (hosted_mode s.mode) va access)
-located_alike root s second reading va access own =
-    rw (translates_alike root second reading s.csrs s.mode va access own) (by_alike root s second va access (first_stage second reading s.csrs s.mode va access))
+located_alike : (root : GuestRoot) (s : Virtual) (second : SecondStage) (reading : Reading) (va : ℕ) (access : Access)
+    → SamePlace root s (located second reading s.csrs s.mode va access) (located second reading (hosted_csrs root (is_virtual s.mode) s.csrs) (hosted_mode s.mode) va access)
+located_alike root s second reading va access =
+    rw (translates_alike root second reading s.csrs s.mode va access) (by_alike root s second va access (first_stage second reading s.csrs s.mode va access))
 
-access_alike : (root : GuestRoot) (s : Virtual) (second : SecondStage) (reading : Reading) (va : ℕ) (width : Width) (access : Access) → is_virtual s.mode ≡ false
+access_alike : (root : GuestRoot) (s : Virtual) (second : SecondStage) (reading : Reading) (va : ℕ) (width : Width) (access : Access)
     → SamePlace root s (own_access second reading s va width access) (own_access second reading (hosted root s) va width access)
-access_alike root s second reading va width access own =
+access_alike root s second reading va width access =
     elim (va % bytes_in width == 0) as (λ b.
     SamePlace root s (cond b (located second reading s.csrs s.mode va access) (Fails (Trapped (exception s.mode (misaligned_fault access) va))))
-    (cond b (located second reading (hosted_csrs root s.csrs) (hosted_mode s.mode) va access) (Fails (Trapped (exception (hosted_mode s.mode) (misaligned_fault access) va)))))
-    [ true ↦ located_alike root s second reading va access own | false ↦ Own (misaligned_fault access) va refl refl (misaligned_own access) ]
+    (cond b (located second reading (hosted_csrs root (is_virtual s.mode) s.csrs) (hosted_mode s.mode) va access) (Fails (Trapped (exception (hosted_mode s.mode) (misaligned_fault access) va)))))
+    [ true ↦ located_alike root s second reading va access | false ↦ Own (misaligned_fault access) va refl refl (misaligned_own access) ]
 
 -- each kind of access, by where it is made
-loaded_alike : (root : GuestRoot) (reading : Reading) (s : Virtual) (width : Width) (signed : Bool) (rd : ℕ) (own hart : Located) → is_virtual s.mode ≡ false → SamePlace root s own hart
+loaded_alike : (root : GuestRoot) (reading : Reading) (s : Virtual) (width : Width) (signed : Bool) (rd : ℕ) (own hart : Located) → SamePlace root s own hart
     → SameMade root s (loaded_at reading s width signed rd own) (loaded_at reading (hosted root s) width signed rd hart)
-loaded_alike root reading s width signed rd (At own) (At hart) mode same =
-    rw same (leaves root s (sets s rd (extended width signed (reading hart (bytes_in width)))).regs s.reservation None mode)
-loaded_alike root reading s width signed rd (Fails own) (Fails hart) mode stands = stands
-loaded_alike root reading s width signed rd (At own) (Fails hart) mode never = absurd never
-loaded_alike root reading s width signed rd (Fails own) (At hart) mode never = absurd never
+loaded_alike root reading s width signed rd (At own) (At hart) same =
+    rw same (leaves root s (sets s rd (extended width signed (reading hart (bytes_in width)))).regs s.reservation None)
+loaded_alike root reading s width signed rd (Fails own) (Fails hart) stands = stands
+loaded_alike root reading s width signed rd (At own) (Fails hart) never = absurd never
+loaded_alike root reading s width signed rd (Fails own) (At hart) never = absurd never
 
-stored_alike : (root : GuestRoot) (s : Virtual) (width : Width) (value : ℕ) (own hart : Located) → is_virtual s.mode ≡ false → SamePlace root s own hart
+stored_alike : (root : GuestRoot) (s : Virtual) (width : Width) (value : ℕ) (own hart : Located) → SamePlace root s own hart
     → SameMade root s (stored_at s width value own) (stored_at (hosted root s) width value hart)
-stored_alike root s width value (At own) (At hart) mode same = rw same (leaves root s (sets s 0 0).regs s.reservation (storing hart width value) mode)
-stored_alike root s width value (Fails own) (Fails hart) mode stands = stands
-stored_alike root s width value (At own) (Fails hart) mode never = absurd never
-stored_alike root s width value (Fails own) (At hart) mode never = absurd never
+stored_alike root s width value (At own) (At hart) same = rw same (leaves root s (sets s 0 0).regs s.reservation (storing hart width value))
+stored_alike root s width value (Fails own) (Fails hart) stands = stands
+stored_alike root s width value (At own) (Fails hart) never = absurd never
+stored_alike root s width value (Fails own) (At hart) never = absurd never
 
-reserved_alike : (root : GuestRoot) (reading : Reading) (s : Virtual) (width : Width) (rd : ℕ) (own hart : Located) → is_virtual s.mode ≡ false → SamePlace root s own hart
+reserved_alike : (root : GuestRoot) (reading : Reading) (s : Virtual) (width : Width) (rd : ℕ) (own hart : Located) → SamePlace root s own hart
     → SameMade root s (reserved_at reading s width rd own) (reserved_at reading (hosted root s) width rd hart)
-reserved_alike root reading s width rd (At own) (At hart) mode same =
-    rw same (leaves root s (sets s rd (extended width true (reading hart (bytes_in width)))).regs (Some (hart, bytes_in width)) None mode)
-reserved_alike root reading s width rd (Fails own) (Fails hart) mode stands = stands
-reserved_alike root reading s width rd (At own) (Fails hart) mode never = absurd never
-reserved_alike root reading s width rd (Fails own) (At hart) mode never = absurd never
+reserved_alike root reading s width rd (At own) (At hart) same =
+    rw same (leaves root s (sets s rd (extended width true (reading hart (bytes_in width)))).regs (Some (hart, bytes_in width)) None)
+reserved_alike root reading s width rd (Fails own) (Fails hart) stands = stands
+reserved_alike root reading s width rd (At own) (Fails hart) never = absurd never
+reserved_alike root reading s width rd (Fails own) (At hart) never = absurd never
 
-stored_if_alike : (root : GuestRoot) (s : Virtual) (held : Bool) (width : Width) (value rd place : ℕ) → is_virtual s.mode ≡ false
+stored_if_alike : (root : GuestRoot) (s : Virtual) (held : Bool) (width : Width) (value rd place : ℕ)
     → SameMade root s (stored_if held s width value rd place) (stored_if held (hosted root s) width value rd place)
-stored_if_alike root s true width value rd place mode = leaves root s (sets s rd 0).regs None (storing place width value) mode
-stored_if_alike root s false width value rd place mode = leaves root s (sets s rd 1).regs None None mode
+stored_if_alike root s true width value rd place = leaves root s (sets s rd 0).regs None (storing place width value)
+stored_if_alike root s false width value rd place = leaves root s (sets s rd 1).regs None None
 
-conditional_alike : (root : GuestRoot) (s : Virtual) (width : Width) (value rd : ℕ) (own hart : Located) → is_virtual s.mode ≡ false → SamePlace root s own hart
+conditional_alike : (root : GuestRoot) (s : Virtual) (width : Width) (value rd : ℕ) (own hart : Located) → SamePlace root s own hart
     → SameMade root s (stored_if_reserved s width value rd own) (stored_if_reserved (hosted root s) width value rd hart)
-conditional_alike root s width value rd (At own) (At hart) mode same = rw same (stored_if_alike root s (is_reserved s.reservation hart width) width value rd hart mode)
-conditional_alike root s width value rd (Fails own) (Fails hart) mode stands = stands
-conditional_alike root s width value rd (At own) (Fails hart) mode never = absurd never
-conditional_alike root s width value rd (Fails own) (At hart) mode never = absurd never
+conditional_alike root s width value rd (At own) (At hart) same = rw same (stored_if_alike root s (is_reserved s.reservation hart width) width value rd hart)
+conditional_alike root s width value rd (Fails own) (Fails hart) stands = stands
+conditional_alike root s width value rd (At own) (Fails hart) never = absurd never
+conditional_alike root s width value rd (Fails own) (At hart) never = absurd never
 
-modified_alike : (root : GuestRoot) (reading : Reading) (s : Virtual) (o : AmoOp) (width : Width) (operand rd : ℕ) (own hart : Located) → is_virtual s.mode ≡ false → SamePlace root s own hart
+modified_alike : (root : GuestRoot) (reading : Reading) (s : Virtual) (o : AmoOp) (width : Width) (operand rd : ℕ) (own hart : Located) → SamePlace root s own hart
     → SameMade root s (modified_at reading s o width operand rd own) (modified_at reading (hosted root s) o width operand rd hart)
-modified_alike root reading s o width operand rd (At own) (At hart) mode same =
-    rw same (leaves root s (sets s rd (extended width true (reading hart (bytes_in width)))).regs s.reservation (storing hart width (amo o width (reading hart (bytes_in width)) operand)) mode)
-modified_alike root reading s o width operand rd (Fails own) (Fails hart) mode stands = stands
-modified_alike root reading s o width operand rd (At own) (Fails hart) mode never = absurd never
-modified_alike root reading s o width operand rd (Fails own) (At hart) mode never = absurd never
+modified_alike root reading s o width operand rd (At own) (At hart) same =
+    rw same (leaves root s (sets s rd (extended width true (reading hart (bytes_in width)))).regs s.reservation (storing hart width (amo o width (reading hart (bytes_in width)) operand)))
+modified_alike root reading s o width operand rd (Fails own) (Fails hart) stands = stands
+modified_alike root reading s o width operand rd (At own) (Fails hart) never = absurd never
+modified_alike root reading s o width operand rd (Fails own) (At hart) never = absurd never
 
 -- a call of the environment
-called_alike : (root : GuestRoot) (s : Virtual) (mode : Mode) → is_virtual mode ≡ false → Stands root (record s { mode = mode }) (called_from mode) (called_from (hosted_mode mode))
-called_alike root s HS own = Call refl refl
-called_alike root s U own = Own ECALL_FROM_USER 0 refl refl refl
-called_alike root s VS own = cc
-called_alike root s VU own = cc
+called_alike : (root : GuestRoot) (s : Virtual) (mode : Mode) → Stands root (record s { mode = mode }) (called_from mode) (called_from (hosted_mode mode))
+called_alike root s HS = Call refl refl refl
+called_alike root s U = Own ECALL_FROM_USER 0 refl refl own_8
+called_alike root s VS = Nested refl refl refl
+called_alike root s VU = Own ECALL_FROM_USER 0 refl refl own_8
 
 -- an instruction raises the guest's own exceptions alone
 abbrev IsFine : Effect → Type 0
-IsFine (Raises cause tval) = is_own cause ≡ true
+IsFine (Raises cause tval) = IsOwn cause
 IsFine _ = Unit {0}
 
 jump_fine : (rd next target : ℕ) → IsFine (jump rd next target)
 jump_fine rd next target =
-    elim (target % 4 == 0) as (λ b. IsFine (cond b (Sets rd next target) (Raises INSTRUCTION_MISALIGNED target))) [ true ↦ tt | false ↦ refl ]
+    elim (target % 4 == 0) as (λ b. IsFine (cond b (Sets rd next target) (Raises INSTRUCTION_MISALIGNED target))) [ true ↦ tt | false ↦ own_0 ]
 
 branch_fine : (taken : Bool) (next target : ℕ) → IsFine (branch taken next target)
 branch_fine true next target = jump_fine 0 0 target
@@ -158,7 +159,7 @@ meaning_fine (op.LoadReserved width rd rs1) regs = tt
 meaning_fine (op.StoreConditional width rd rs1 rs2) regs = tt
 meaning_fine (op.Amo o width rd rs1 rs2) regs = tt
 meaning_fine op.Ecall regs = tt
-meaning_fine op.Ebreak regs = refl
+meaning_fine op.Ebreak regs = own_3
 meaning_fine op.Sret regs = tt
 meaning_fine op.Wfi regs = tt
 meaning_fine (op.Csr o source rd number) regs = tt
@@ -170,47 +171,47 @@ meaning_fine (op.GuestFetch width rd rs1) regs = tt
 meaning_fine (op.GuestStore width rs1 rs2) regs = tt
 
 -- what an effect does, what a decoded word does, and what was fetched
-executed_alike : (root : GuestRoot) (second : SecondStage) (reading : Reading) (s : Virtual) (word : ℕ) (effect : Effect) → is_virtual s.mode ≡ false → IsFine effect
+executed_alike : (root : GuestRoot) (second : SecondStage) (reading : Reading) (s : Virtual) (word : ℕ) (effect : Effect) → IsFine effect
     → word < 2 ^ 32 → privileged_in word s.regs ≡ privileged_of effect → SameMade root s (executed second reading s word effect) (executed second reading (hosted root s) word effect)
-executed_alike root second reading s word (Sets rd value next) own good small decided = leaves root s (advanced s.regs rd value next) s.reservation None own
-executed_alike root second reading s word (Raises cause tval) own good small decided = Own cause tval refl refl good
-executed_alike root second reading s word (Loads address width signed rd) own good small decided =
-    loaded_alike root reading s width signed rd _ _ own (access_alike root s second reading address width Load own)
-executed_alike root second reading s word (Stores address width value) own good small decided =
-    stored_alike root s width value _ _ own (access_alike root s second reading address width Store own)
-executed_alike root second reading s word (Reserves address width rd) own good small decided =
-    reserved_alike root reading s width rd _ _ own (access_alike root s second reading address width Load own)
-executed_alike root second reading s word (StoresReserved address width value rd) own good small decided =
-    conditional_alike root s width value rd _ _ own (access_alike root s second reading address width Store own)
-executed_alike root second reading s word (Modifies o address width operand rd) own good small decided =
-    modified_alike root reading s o width operand rd _ _ own (access_alike root s second reading address width Store own)
-executed_alike root second reading s word Calls own good small decided = called_alike root s s.mode own
-executed_alike root second reading s word (Privileged p) own good small decided = privileged_stands root s word p own small decided
+executed_alike root second reading s word (Sets rd value next) good small decided = leaves root s (advanced s.regs rd value next) s.reservation None
+executed_alike root second reading s word (Raises cause tval) good small decided = Own cause tval refl refl good
+executed_alike root second reading s word (Loads address width signed rd) good small decided =
+    loaded_alike root reading s width signed rd _ _ (access_alike root s second reading address width Load)
+executed_alike root second reading s word (Stores address width value) good small decided =
+    stored_alike root s width value _ _ (access_alike root s second reading address width Store)
+executed_alike root second reading s word (Reserves address width rd) good small decided =
+    reserved_alike root reading s width rd _ _ (access_alike root s second reading address width Load)
+executed_alike root second reading s word (StoresReserved address width value rd) good small decided =
+    conditional_alike root s width value rd _ _ (access_alike root s second reading address width Store)
+executed_alike root second reading s word (Modifies o address width operand rd) good small decided =
+    modified_alike root reading s o width operand rd _ _ (access_alike root s second reading address width Store)
+executed_alike root second reading s word Calls good small decided = called_alike root s s.mode
+executed_alike root second reading s word (Privileged p) good small decided = privileged_stands root s word p small decided
 
 -- which instructions the mode decides on is read off the word
 decided_by : (word : ℕ) (o : Op) (regs : Regs) → op_of word ≡ Some o → privileged_in word regs ≡ privileged_of (meaning o regs)
 unfolding privileged_in
 decided_by word o regs e = ap (option_and_then (λ p. privileged_of (meaning p regs))) e
 
-decoded_stands : (root : GuestRoot) (second : SecondStage) (reading : Reading) (s : Virtual) (word : ℕ) (o : Option Op) → is_virtual s.mode ≡ false → word < 2 ^ 32 → op_of word ≡ o
+decoded_stands : (root : GuestRoot) (second : SecondStage) (reading : Reading) (s : Virtual) (word : ℕ) (o : Option Op) → word < 2 ^ 32 → op_of word ≡ o
     → Stands root s (decoded second reading s word o) (decoded second reading (hosted root s) word o)
-decoded_stands root second reading s word (Some o) own small e =
-    ended_stands root s s.regs.pc word _ _ (executed_alike root second reading s word (meaning o s.regs) own (meaning_fine o s.regs) small (decided_by word o s.regs e))
-decoded_stands root second reading s word None own small e = Own ILLEGAL_INSTRUCTION word refl refl refl
+decoded_stands root second reading s word (Some o) small e =
+    ended_stands root s s.regs.pc word _ _ (executed_alike root second reading s word (meaning o s.regs) (meaning_fine o s.regs) small (decided_by word o s.regs e))
+decoded_stands root second reading s word None small e = Own ILLEGAL_INSTRUCTION word refl refl own_2
 
 -- what is fetched is a word of 32 bits
 is_word : (n : ℕ) → n % 2 ^ 32 < 2 ^ 32
 is_word n = omega arith
 
-fetched_stands : (root : GuestRoot) (second : SecondStage) (reading : Reading) (s : Virtual) (own hart : Located) → is_virtual s.mode ≡ false → SamePlace root s own hart
+fetched_stands : (root : GuestRoot) (second : SecondStage) (reading : Reading) (s : Virtual) (own hart : Located) → SamePlace root s own hart
     → Stands root s (fetched second reading s own) (fetched second reading (hosted root s) hart)
-fetched_stands root second reading s (At own) (At hart) mode same =
-    rw same (decoded_stands root second reading s (word_at reading hart) (op_of (word_at reading hart)) mode (is_word (reading hart 4)) refl)
-fetched_stands root second reading s (Fails own) (Fails hart) mode stands = stands
-fetched_stands root second reading s (At own) (Fails hart) mode never = absurd never
-fetched_stands root second reading s (Fails own) (At hart) mode never = absurd never
+fetched_stands root second reading s (At own) (At hart) same =
+    rw same (decoded_stands root second reading s (word_at reading hart) (op_of (word_at reading hart)) (is_word (reading hart 4)) refl)
+fetched_stands root second reading s (Fails own) (Fails hart) stands = stands
+fetched_stands root second reading s (At own) (Fails hart) never = absurd never
+fetched_stands root second reading s (Fails own) (At hart) never = absurd never
 
--- one instruction of the lone machine with V = 0, and the same on the hart
-pub core_stands : (root : GuestRoot) (second : SecondStage) (reading : Reading) (s : Virtual) → is_virtual s.mode ≡ false → Stands root s (core second reading s) (core second reading (hosted root s))
+-- one instruction of the lone machine, and the same on the hart
+pub core_stands : (root : GuestRoot) (second : SecondStage) (reading : Reading) (s : Virtual) → Stands root s (core second reading s) (core second reading (hosted root s))
 unfolding core
-core_stands root second reading s own = fetched_stands root second reading s _ _ own (access_alike root s second reading s.regs.pc Word Fetch own)
+core_stands root second reading s = fetched_stands root second reading s _ _ (access_alike root s second reading s.regs.pc Word Fetch)

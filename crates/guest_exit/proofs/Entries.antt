@@ -1,9 +1,10 @@
 -- What an entry of the hart for one step is to the lone machine.
-use Rattle.std.specs.Prelude.{◌||◌, nat_le, option_and_then}
+use Rattle.std.specs.Prelude.{◌&&◌, nat_le, not, option_and_then}
 use Rattle.std.proofs.Common.{cond, ◌≡◌, ℕ, zero, suc, ◌+◌, ◌%◌, ◌^◌, ◌<◌, ◌≤◌, List, [], ◌∷◌, Option, Some, None, Bool, true, false, refl, ap, sym, subst, arith, ◌∙◌}
 use Rattle.std.proofs.lemmas.List.{append-nil}
 use Rattle.std.proofs.lemmas.List.Sums.{sum_by-append}
 use Rattle.arch_defs.specs.declared.modes.Trap.{Trap}
+use Rattle.arch_defs.specs.declared.registers.Csrs.{Csrs}
 use Rattle.arch_defs.specs.declared.registers.GuestRoot.{GuestRoot}
 use Rattle.arch_defs.specs.declared.registers.Virtual.{Virtual}
 use Rattle.arch_defs.specs.Frames.{Only, in_blocks}
@@ -26,19 +27,21 @@ use Rattle.rv64_hart.specs.declared.harts.Why.TheVariants.{Limit, Exit, VsTrap}
 use Rattle.rv64_hart.specs.Counts.{IsRaisedBy}
 use Rattle.rv64_hart.specs.Steps.{HartEnd, Goes, Exits, Progress, progress, progressed, enters_vs, hart_step, hart_steps, one_more, is_vs_trap, IsWhy}
 use Rattle.host_tables.proofs.Held.{held_stays}
-use Rattle.world_switch.specs.Hosting.{fixed_up, host_root, hosted, loaded, saved, saved_mode, taken_back}
-use Rattle.world_switch.proofs.Undone.{load_after_save, save_after_load, saved_is_own, virtual_mode}
+use Rattle.world_switch.specs.Hosting.{fixed_up, host_root, hosted, hosted_csrs, loaded, saved, saved_csrs, saved_mode, taken_back}
+use Rattle.world_switch.specs.Laws.{KeepsHidden}
+use Rattle.world_switch.proofs.Registers.{none_waits}
+use Rattle.world_switch.proofs.Undone.{load_after_save, save_after_load, saved_v, virtual_mode}
 use Rattle.guest_exit.specs.Entering.{Hands, IsStopped, Lasts, moved}
 use Rattle.guest_exit.specs.Following.{Follows, IsAt, IsLeft, Keeps, event_for, host_takes}
-use Rattle.guest_exit.proofs.Followed.{followed, is_own_mode}
-use Rattle.guest_exit.proofs.Interrupts.{never_due}
+use Rattle.guest_exit.proofs.Followed.{followed}
+use Rattle.guest_exit.proofs.Interrupts.{own_after}
 use Rattle.guest_exit.proofs.Stands.{none_written}
 
 -- the machine's event has the hart's part in the account
-one_trace : (e : Event) → trace_of (event_for e ∷ []) ≡ pc_and_word e
-one_trace (event.Plain pc word) = omega arith
-one_trace (event.Trap into interrupt) = omega arith
-one_trace event.System = omega arith
+one_trace : (virtual : Bool) (e : Event) → trace_of (event_for virtual e ∷ []) ≡ pc_and_word e
+one_trace virtual (event.Plain pc word) = omega arith
+one_trace virtual (event.Trap into interrupt) = omega arith
+one_trace virtual event.System = omega arith
 
 mod_mod : (n : ℕ) → n % 2 ^ 64 % 2 ^ 64 ≡ n % 2 ^ 64
 mod_mod n = omega arith
@@ -76,7 +79,7 @@ made part m memory (Goes state changed e) t q by some =
       keeps = by.keeps;
       held = by.held;
       only = rw (← memory_is) by.only;
-      trace = rw (by.step, one_trace e, ← trace_is) (mod_mod (t + pc_and_word e));
+      trace = rw (by.step, one_trace (is_virtual m.platform.virt.mode) e, ← trace_is) (mod_mod (t + pc_and_word e));
     }
 made part m memory (Exits trap) t q by some = cc
 
@@ -96,18 +99,13 @@ record IsTold (p : Platform) (n : ℕ) : Type 0 where
   external : has_input p.inputs (p.clock + n) ≡ p.virt.csrs.sip.external
   none : has_input p.inputs (p.clock + n) ≡ false
 
-second_false : (a b : Bool) → (a || b) ≡ false → b ≡ false
-second_false true b e = cc
-second_false false b e = e
-
 told : (p : Platform) (limit n : ℕ) → Lasts p limit → n < limit → IsTold p n
 told p limit n lasts h =
     let timer_is : nat_le p.timer p.clock ≡ p.virt.csrs.sip.timer = ap (λ p. p.virt.csrs.sip.timer) lasts.current in
     let external_is : has_input p.inputs p.clock ≡ p.virt.csrs.sip.external = ap (λ p. p.virt.csrs.sip.external) lasts.current in
-    let none = second_false (is_virtual p.virt.mode) (has_input p.inputs p.clock) lasts.inside in
     let timer_stays = lasts.timer n h in
     let inputs_stay = lasts.inputs n h in
-    record { timer = rw timer_stays timer_is; external = rw inputs_stay external_is; none = rw inputs_stay none }
+    record { timer = rw timer_stays timer_is; external = rw inputs_stay external_is; none = rw inputs_stay lasts.inside }
 
 -- before a step of an entry the hart stands for the machine, and the step is not the host's
 record IsReady (part : Layout) (p : Platform) (hart : Virtual) : Type 0 where
@@ -115,20 +113,33 @@ record IsReady (part : Layout) (p : Platform) (hart : Virtual) : Type 0 where
   own : host_takes p.virt ≡ false
   stands : loaded part p.virt ≡ hart
 
-inside_by : (a b : Bool) → a ≡ false → b ≡ false → (a || b) ≡ false
-inside_by a b e f = rw (e, f) refl
+-- loading again what was saved, with the registers that the clock sets
+timed_again : (root : GuestRoot) (virtual : Bool) (csrs hart : Csrs) (timer external : Bool) (clock : ℕ) → KeepsHidden root virtual csrs hart
+    → timer ≡ csrs.sip.timer → external ≡ csrs.sip.external
+    → hosted_csrs root virtual (timed (saved_csrs virtual hart csrs) clock timer external) ≡ hosted_csrs root virtual (saved_csrs virtual hart csrs)
+timed_again root false csrs hart timer external clock keeps e f = rw (e, f, ← keeps.timer refl, ← keeps.external refl) refl
+timed_again root true csrs hart timer external clock keeps e f = refl
 
-stands_again : (root : GuestRoot) (v hart : Virtual) (timer external : Bool) (clock : ℕ) → Keeps root v hart → timer ≡ hart.csrs.hvip.timer
-    → external ≡ hart.csrs.hvip.external → hosted root (record (saved hart v) { csrs = timed (saved hart v).csrs clock timer external }) ≡ hart
-stands_again root v hart timer external clock keeps e f = rw (e, f) (load_after_save root v hart keeps.csrs.rest keeps.mode)
+again_by : (root : GuestRoot) (virtual other : Bool) (csrs hart : Csrs) (timer external : Bool) (clock : ℕ) → other ≡ virtual → KeepsHidden root virtual csrs hart
+    → timer ≡ csrs.sip.timer → external ≡ csrs.sip.external
+    → hosted_csrs root other (timed (saved_csrs virtual hart csrs) clock timer external) ≡ hosted_csrs root other (saved_csrs virtual hart csrs)
+again_by root virtual other csrs hart timer external clock is keeps e f = rw is (timed_again root virtual csrs hart timer external clock keeps e f)
 
-own_at : (m : Machine) (limit n : ℕ) (hart : Virtual) (ram : List ℕ) → Lasts m.platform limit → n < limit → run m n ≡ placed m (saved hart m.platform.virt) ram n
-    → host_takes (moved m.platform (saved hart m.platform.virt) n).virt ≡ false
+stands_again : (root : GuestRoot) (v hart : Virtual) (timer external : Bool) (clock : ℕ) → Keeps root v hart → timer ≡ v.csrs.sip.timer
+    → external ≡ v.csrs.sip.external → hosted root (record (saved hart v) { csrs = timed (saved hart v).csrs clock timer external }) ≡ hart
+stands_again root v hart timer external clock keeps e f =
+    rw (again_by root (is_virtual v.mode) _ v.csrs hart.csrs timer external clock (saved_v (is_virtual v.mode) hart.mode) keeps.csrs e f)
+    (load_after_save root v hart keeps.csrs.rest keeps.mode)
+
+own_at : (root : GuestRoot) (m : Machine) (limit n : ℕ) (hart : Virtual) (ram : List ℕ) → Lasts m.platform limit → n < limit → Keeps root m.platform.virt hart
+    → run m n ≡ placed m (saved hart m.platform.virt) ram n → host_takes (moved m.platform (saved hart m.platform.virt) n).virt ≡ false
 unfolding run
-own_at m limit zero hart ram lasts h e = subst (λ m. host_takes m.platform.virt ≡ false) e lasts.own
-own_at m limit (suc n) hart ram lasts h e =
+own_at root m limit zero hart ram lasts h keeps e = subst (λ m. host_takes m.platform.virt ≡ false) e lasts.own
+own_at root m limit (suc n) hart ram lasts h keeps e =
     let some : 1 < limit = omega (arith, h) in
-    never_due (moved m.platform (saved hart m.platform.virt) (suc n)).virt.csrs (saved_mode hart.mode) (saved_is_own hart.mode) (lasts.interrupts some)
+    let v = m.platform.virt in
+    let t = told m.platform limit (suc n) lasts h in
+    own_after root (is_virtual v.mode) v.csrs hart.csrs v.mode hart.mode _ _ _ refl keeps.csrs t.timer t.external lasts.own (lasts.interrupts some)
 
 ready : (part : Layout) (m : Machine) (limit n : ℕ) (own state : Virtual) (ram : List ℕ) → Lasts m.platform limit → n < limit → Keeps (host_root part) m.platform.virt own
     → state ≡ renamed (memory_place part.blocks) own → run m n ≡ placed m (saved own m.platform.virt) ram n
@@ -136,10 +147,10 @@ ready : (part : Layout) (m : Machine) (limit n : ℕ) (own state : Virtual) (ram
 ready part m limit n own state ram lasts h keeps is e =
     let t = told m.platform limit n lasts h in
     let again = stands_again (host_root part) m.platform.virt own (nat_le m.platform.timer (m.platform.clock + n)) (has_input m.platform.inputs (m.platform.clock + n)) (m.platform.clock + n) keeps
-    (rw t.timer (sym keeps.csrs.timer)) (rw t.external (sym keeps.csrs.external)) in
+    t.timer t.external in
     record {
-      inside = inside_by (is_virtual (saved_mode own.mode)) (has_input m.platform.inputs (m.platform.clock + n)) (saved_is_own own.mode) t.none;
-      own = own_at m limit n own ram lasts h e;
+      inside = t.none;
+      own = own_at (host_root part) m limit n own ram lasts h keeps e;
       stands = ap (renamed (memory_place part.blocks)) again ∙ sym is;
     }
 
@@ -153,17 +164,69 @@ at_clock m virt memory clock steps = record m { platform = informed (record m.pl
 further_by : (m : Machine) (virt : Virtual) (memory : List ℕ) (a b c d : ℕ) → a ≡ b → c ≡ d → at_clock m virt memory a c ≡ at_clock m virt memory b d
 further_by m virt memory a b c d e f = rw (e, f) refl
 
+-- what is taken back, by the guest's V, with the registers that the clock sets
+abbrev back_by : Bool → Bool → Virtual → Csrs → Virtual
+back_by virtual trapped hart before =
+    let own : Virtual = record { regs = hart.regs; csrs = saved_csrs virtual hart.csrs before; mode = saved_mode virtual hart.mode; reservation = hart.reservation } in
+    cond (trapped && not virtual) (fixed_up own) own
+
+abbrev timed_virt : Virtual → ℕ → Bool → Bool → Virtual
+timed_virt v clock timer external = record v { csrs = timed v.csrs clock timer external }
+
+-- taking back twice is taking back the last
+same_back : (virtual trapped : Bool) (hart : Csrs) (after : Virtual) (before : Csrs) (clock : ℕ) (timer external : Bool) (clock' : ℕ) (timer' external' : Bool)
+    → timed_virt (back_by virtual trapped after (timed (saved_csrs virtual hart before) clock timer external)) clock' timer' external'
+    ≡ timed_virt (back_by virtual trapped after before) clock' timer' external'
+same_back false true hart after before clock timer external clock' timer' external' = refl
+same_back false false hart after before clock timer external clock' timer' external' = refl
+same_back true true hart after before clock timer external clock' timer' external' = refl
+same_back true false hart after before clock timer external clock' timer' external' = refl
+
+back_again : (virtual other trapped : Bool) (hart : Csrs) (after : Virtual) (before : Csrs) (clock : ℕ) (timer external : Bool) (clock' : ℕ) (timer' external' : Bool)
+    → other ≡ virtual
+    → timed_virt (back_by other trapped after (timed (saved_csrs virtual hart before) clock timer external)) clock' timer' external'
+    ≡ timed_virt (back_by virtual trapped after before) clock' timer' external'
+back_again virtual other trapped hart after before clock timer external clock' timer' external' is =
+    rw is (same_back virtual trapped hart after before clock timer external clock' timer' external')
+
 further : (m : Machine) (hart after : Virtual) (memory changed : List ℕ) (n : ℕ) (trapped : Bool)
     → after_step (placed m (saved hart m.platform.virt) memory n) trapped after changed
     ≡ placed m (taken_back trapped after m.platform.virt) changed (n + 1)
-further m hart after memory changed n true = further_by m (fixed_up (saved after m.platform.virt)) changed _ _ _ _ (one_more_of m.platform.clock n) (one_more_of m.platform.steps n)
-further m hart after memory changed n false = further_by m (saved after m.platform.virt) changed _ _ _ _ (one_more_of m.platform.clock n) (one_more_of m.platform.steps n)
+further m hart after memory changed n trapped =
+    let p = m.platform in
+    let virtual = is_virtual p.virt.mode in
+    let clock = p.clock + n + 1 in
+    let again = back_again virtual _ trapped hart.csrs after p.virt.csrs _ _ _ clock (nat_le p.timer clock) (has_input p.inputs clock) (saved_v virtual hart.mode) in
+    ap (λ virt. record m { platform = record p { virt = virt; clock = clock; steps = p.steps + n + 1 }; ram = changed }) again
+    ∙ further_by m (taken_back trapped after p.virt) changed _ _ _ _ (one_more_of p.clock n) (one_more_of p.steps n)
 
-keeps_on : (root : GuestRoot) (p : Platform) (n : ℕ) (hart after : Virtual) → IsTold p n → Keeps root (moved p (saved hart p.virt) n).virt after → Keeps root p.virt after
-keeps_on root p n hart after t keeps =
+-- what the hart keeps from step to step it keeps from the start on
+keeps_in : (root : GuestRoot) (virtual : Bool) (before hart after : Csrs) (clock : ℕ) (timer external : Bool)
+    → KeepsHidden root virtual before hart → timer ≡ before.sip.timer → external ≡ before.sip.external
+    → KeepsHidden root virtual (timed (saved_csrs virtual hart before) clock timer external) after → KeepsHidden root virtual before after
+keeps_in root false before hart after clock timer external keeps t e then = record {
+  rest = then.rest;
+  timer = λ own. then.timer own ∙ t;
+  external = λ own. then.external own ∙ e;
+  waits = then.waits ∙ none_waits (hosted_csrs root false (timed (saved_csrs false hart before) clock timer external)) refl ∙ sym (none_waits (hosted_csrs root false before) refl);
+}
+keeps_in root true before hart after clock timer external keeps t e then =
+    let hideleg : hart.hideleg ≡ before.hideleg = ap {A = Csrs} (λ c. c.hideleg) keeps.rest in
+    let same = rw hideleg at keeps.waits in
+    record { rest = then.rest; timer = λ own. cc; external = λ own. cc; waits = then.waits ∙ same }
+
+keeps_by : (root : GuestRoot) (virtual other : Bool) (before hart after : Csrs) (clock : ℕ) (timer external : Bool) → other ≡ virtual
+    → KeepsHidden root virtual before hart → timer ≡ before.sip.timer → external ≡ before.sip.external
+    → KeepsHidden root other (timed (saved_csrs virtual hart before) clock timer external) after → KeepsHidden root virtual before after
+keeps_by root virtual other before hart after clock timer external is keeps t e then =
+    keeps_in root virtual before hart after clock timer external keeps t e
+    (subst (λ v. KeepsHidden root v (timed (saved_csrs virtual hart before) clock timer external) after) is then)
+
+keeps_on : (root : GuestRoot) (p : Platform) (n : ℕ) (hart after : Virtual) → IsTold p n → Keeps root p.virt hart → Keeps root (moved p (saved hart p.virt) n).virt after → Keeps root p.virt after
+keeps_on root p n hart after t keeps then =
     record {
-      csrs = record { rest = keeps.csrs.rest; timer = rw (← t.timer) keeps.csrs.timer; external = rw (← t.external) keeps.csrs.external };
-      mode = keeps.mode;
+      csrs = keeps_by root (is_virtual p.virt.mode) _ p.virt.csrs hart.csrs after.csrs _ _ _ (saved_v (is_virtual p.virt.mode) hart.mode) keeps.csrs t.timer t.external then.csrs;
+      mode = then.mode;
     }
 
 raised_then : (a b t u w : ℕ) → IsRaisedBy a t u → IsRaisedBy b u w → IsRaisedBy (a + b) t w
@@ -208,7 +271,7 @@ ran_one part m memory limit t n p q running lasts at h ran fresh some =
       own = by.own;
       state = by.state;
       machine = rw (run_further m now n there running, by.step) (further m ran.own by.own ram (ram_of part.blocks q.memory) n q.trapped);
-      keeps = keeps_on (host_root part) m.platform n ran.own by.own (told m.platform limit n lasts h) by.keeps;
+      keeps = keeps_on (host_root part) m.platform n ran.own by.own (told m.platform limit n lasts h) ran.keeps by.keeps;
       held = by.held;
       only = only_both (in_blocks part.blocks) memory p.memory q.memory ran.only by.only;
       trace = trace_further m now n t p.trace q.trace there running ran.trace by.trace;
@@ -243,7 +306,7 @@ ran_none : (part : Layout) (m : Machine) (memory : List ℕ) (limit t : ℕ) →
 unfolding run events
 ran_none part m memory limit t lasts at =
     let v = m.platform.virt in
-    let back : saved (hosted (host_root part) v) v ≡ v = save_after_load (host_root part) v (is_own_mode m.platform lasts.inside) in
+    let back : saved (hosted (host_root part) v) v ≡ v = save_after_load (host_root part) v in
     let there : at_clock m v m.ram m.platform.clock m.platform.steps ≡ m = ap (λ p. record m { platform = p }) lasts.current in
     let none = further_by m v m.ram _ _ _ _ (none_more_of m.platform.clock) (none_more_of m.platform.steps) in
     let same : placed m v m.ram 0 ≡ m = rw none there in
@@ -251,7 +314,7 @@ ran_none part m memory limit t lasts at =
       own = hosted (host_root part) v;
       state = refl;
       machine = rw (← at.ram) (sym (subst (λ virt. placed m virt m.ram 0 ≡ m) (sym back) same));
-      keeps = record { csrs = none_written (host_root part) v.csrs; mode = virtual_mode v.mode };
+      keeps = record { csrs = none_written (host_root part) (is_virtual v.mode) v.csrs; mode = virtual_mode v.mode };
       held = at.reserved;
       only = only_none (in_blocks part.blocks) memory;
       trace = ap (λ n. n % 2 ^ 64) (sym (none_more_of t));

@@ -1,5 +1,4 @@
 -- What an instruction is on the hart, by what it is to the lone machine for which the hart stands.
-use Rattle.std.specs.Prelude.{◌==◌, ◌&&◌, nat_lt}
 use Rattle.std.proofs.Common.{cond, ◌≡◌, ℕ, ◌^◌, ◌<◌, Option, Some, None, Bool, true, false, refl, sym}
 use Rattle.arch_defs.specs.declared.modes.Trap.{Trap}
 use Rattle.arch_defs.specs.declared.modes.TheConstants.{ECALL_FROM_VS, VIRTUAL_INSTRUCTION}
@@ -7,7 +6,6 @@ use Rattle.arch_defs.specs.declared.registers.Csrs.{Csrs}
 use Rattle.arch_defs.specs.declared.registers.GuestRoot.{GuestRoot}
 use Rattle.arch_defs.specs.declared.registers.Regs.{Regs}
 use Rattle.arch_defs.specs.declared.registers.Virtual.{Virtual}
-use Rattle.arch_defs.specs.Bits.{field}
 use Rattle.arch_defs.specs.Memory.{Stored}
 use Rattle.arch_defs.specs.Traps.{exception, is_virtual}
 use Rattle.op_defs.specs.declared.ops.Privileged.{Privileged}
@@ -17,27 +15,26 @@ use Rattle.machine_defs.specs.Core.{Located, At, Fails, Made, Leaves, Ends, ende
 use Rattle.machine_defs.specs.Outcomes.{Outcome, Done, Trapped, Stuck, Called, Waits, Fenced, Accesses, Outside}
 use Rattle.machine_defs.specs.Privileges.{privileged}
 use Rattle.rv64_hart.specs.Steps.{enters_vs}
-use Rattle.world_switch.specs.Hosting.{hosted, hosted_csrs, hosted_mode, own_exceptions, saved, saved_csrs, taken_back}
+use Rattle.world_switch.specs.Hosting.{hosted, hosted_csrs, hosted_mode, saved, saved_csrs, taken_back}
 use Rattle.world_switch.specs.Laws.{KeepsHidden}
-use Rattle.world_switch.proofs.Undone.{own_mode, virtual_mode}
+use Rattle.world_switch.proofs.Undone.{same_csrs, same_mode, virtual_mode}
 use Rattle.guest_exit.specs.Following.{Keeps, event_for, privileged_in}
+use Rattle.guest_exit.proofs.Delegation.{IsOwn}
 
--- whether an exception is the guest's own, which the hart takes into VS
-abbrev pub is_own : ℕ → Bool
-is_own cause = nat_lt cause 64 && (field cause 1 own_exceptions == 1)
-
--- what a trap on the hart is: the lone machine's own, its call of the environment, or an instruction that its mode decides on
+-- what a trap on the hart is: the lone machine's own, with V = 0 its call of the environment, with V = 1 that of its HS, or an
+-- instruction that its mode decides on
 pub data Traps (s : Virtual) (lone : Outcome) (trap : Trap) : Type 0 where
   Own : (cause tval : ℕ) → trap ≡ exception (hosted_mode s.mode) cause tval → lone ≡ Trapped (exception s.mode cause tval)
-      → is_own cause ≡ true → Traps s lone trap
-  Call : trap ≡ exception (hosted_mode s.mode) ECALL_FROM_VS 0 → lone ≡ Called → Traps s lone trap
+      → IsOwn cause → Traps s lone trap
+  Call : is_virtual s.mode ≡ false → trap ≡ exception (hosted_mode s.mode) ECALL_FROM_VS 0 → lone ≡ Called → Traps s lone trap
+  Nested : is_virtual s.mode ≡ true → trap ≡ exception (hosted_mode s.mode) ECALL_FROM_VS 0 → lone ≡ Trapped trap → Traps s lone trap
   Left : (tval : ℕ) → trap ≡ exception (hosted_mode s.mode) VIRTUAL_INSTRUCTION tval → tval < 2 ^ 32 → (p : Privileged)
       → privileged_in tval s.regs ≡ Some p → lone ≡ privileged s tval p → Traps s lone trap
 
 -- what an outcome on the hart is to the lone machine in this state
 abbrev pub Stands : (root : GuestRoot) → Virtual → Outcome → Outcome → Type 0
 Stands root s lone (Done hart stored event) =
-    (lone ≡ Done (taken_back (enters_vs event) hart s) stored (event_for event)) × Keeps root s hart
+    (lone ≡ Done (taken_back (enters_vs event) hart s) stored (event_for (is_virtual s.mode) event)) × Keeps root s hart
 Stands root s lone (Trapped trap) = Traps s lone trap
 Stands root s lone (Stuck unplaced) = (lone ≡ Stuck (record unplaced { mode = s.mode })) × (unplaced.mode ≡ hosted_mode s.mode)
 Stands root s lone Called = ⊥
@@ -61,27 +58,29 @@ SameMade root s (Leaves own stored) (Ends hart) = ⊥
 SameMade root s (Ends own) (Leaves hart stored') = ⊥
 
 -- what the hart does not change comes back
-pub kept : (root : GuestRoot) (s : Virtual) (regs : Regs) (hart own : Csrs) (place : Option (ℕ × ℕ)) → is_virtual s.mode ≡ false → saved_csrs hart s.csrs ≡ own
+pub kept : (root : GuestRoot) (s : Virtual) (regs : Regs) (hart own : Csrs) (place : Option (ℕ × ℕ)) → saved_csrs (is_virtual s.mode) hart s.csrs ≡ own
     → record s { regs = regs; csrs = own; reservation = place } ≡ saved (record (hosted root s) { regs = regs; csrs = hart; reservation = place }) s
-kept root s regs hart own place mode same = sym (rw (same, own_mode s.mode mode) refl)
+kept root s regs hart own place same = sym (rw (same, same_mode s.mode) refl)
 
 -- and the hart keeps what it does not have for the guest
-pub none_written : (root : GuestRoot) (csrs : Csrs) → KeepsHidden root csrs (hosted_csrs root csrs)
-none_written root csrs = record { rest = refl; timer = refl; external = refl }
+pub none_written : (root : GuestRoot) (virtual : Bool) (csrs : Csrs) → KeepsHidden root virtual csrs (hosted_csrs root virtual csrs)
+none_written root false csrs = record { rest = refl; timer = λ e. refl; external = λ e. refl; waits = refl }
+none_written root true csrs = record { rest = refl; timer = λ e. cc; external = λ e. cc; waits = refl }
 
 as_loaded : (root : GuestRoot) (s : Virtual) (regs : Regs) (place : Option (ℕ × ℕ)) → Keeps root s (record (hosted root s) { regs = regs; reservation = place })
-as_loaded root s regs place = record { csrs = none_written root s.csrs; mode = virtual_mode s.mode }
+as_loaded root s regs place = record { csrs = none_written root (is_virtual s.mode) s.csrs; mode = virtual_mode s.mode }
 
 -- an instruction that changes registers, memory and the reservation alone
-pub leaves : (root : GuestRoot) (s : Virtual) (regs : Regs) (place : Option (ℕ × ℕ)) (stored : Option Stored) → is_virtual s.mode ≡ false
+pub leaves : (root : GuestRoot) (s : Virtual) (regs : Regs) (place : Option (ℕ × ℕ)) (stored : Option Stored)
     → SameMade root s (Leaves (record s { regs = regs; reservation = place }) stored) (Leaves (record (hosted root s) { regs = regs; reservation = place }) stored)
-leaves root s regs place stored mode = (kept root s regs (hosted_csrs root s.csrs) s.csrs place mode refl, refl, as_loaded root s regs place)
+leaves root s regs place stored =
+    (kept root s regs (hosted_csrs root (is_virtual s.mode) s.csrs) s.csrs place (same_csrs root (is_virtual s.mode) s.csrs), refl, as_loaded root s regs place)
 
 -- an instruction that changes registers, control and status registers among them
-pub ends_csrs : (root : GuestRoot) (s : Virtual) (regs : Regs) (hart own : Csrs) → is_virtual s.mode ≡ false → saved_csrs hart s.csrs ≡ own
-    → KeepsHidden root s.csrs hart → Stands root s (Done (record s { regs = regs; csrs = own }) None System) (Done (record (hosted root s) { regs = regs; csrs = hart }) None System)
-ends_csrs root s regs hart own mode same keeps =
-    (rw (← kept root s regs hart own s.reservation mode same) refl, record { csrs = keeps; mode = virtual_mode s.mode })
+pub ends_csrs : (root : GuestRoot) (s : Virtual) (regs : Regs) (hart own : Csrs) → saved_csrs (is_virtual s.mode) hart s.csrs ≡ own
+    → KeepsHidden root (is_virtual s.mode) s.csrs hart → Stands root s (Done (record s { regs = regs; csrs = own }) None System) (Done (record (hosted root s) { regs = regs; csrs = hart }) None System)
+ends_csrs root s regs hart own same keeps =
+    (rw (← kept root s regs hart own s.reservation same) refl, record { csrs = keeps; mode = virtual_mode s.mode })
 
 -- an instruction that the hart leaves to the host
 pub left : (s : Virtual) (word : ℕ) (p : Privileged) → word < 2 ^ 32 → privileged_in word s.regs ≡ Some p

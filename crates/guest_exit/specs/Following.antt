@@ -1,15 +1,16 @@
--- What one step of the hart is to the guest's lone machine, with V = 0.
-use Rattle.std.specs.Prelude.{ℕ, ◌≡◌, ◌≢◌, ◌<◌, ◌^◌, ◌==◌, ◌||◌, Bool, true, false, Option, Some, None, option_and_then, if◌then◌else◌, IsSomeAnd, List}
+-- What one step of the hart is to the guest's lone machine.
+use Rattle.std.specs.Prelude.{ℕ, ◌≡◌, ◌≢◌, ◌<◌, ◌^◌, ◌==◌, ◌||◌, Bool, true, false, not, Option, Some, None, option_and_then, if◌then◌else◌, IsSomeAnd, List}
+use Rattle.arch_defs.specs.declared.levels.Level.{Level}
 use Rattle.arch_defs.specs.declared.levels.Level.TheVariants as level
 use Rattle.arch_defs.specs.declared.levels.TheConstants.{VS_SOFTWARE, VS_TIMER, VS_EXTERNAL}
 use Rattle.arch_defs.specs.declared.modes.Trap.{Trap}
 use Rattle.arch_defs.specs.declared.modes.TheConstants.{INSTRUCTION_ACCESS_FAULT, INSTRUCTION_GUEST_PAGE_FAULT, LOAD_ACCESS_FAULT, LOAD_GUEST_PAGE_FAULT, STORE_ACCESS_FAULT, STORE_GUEST_PAGE_FAULT, VIRTUAL_INSTRUCTION}
 use Rattle.arch_defs.specs.declared.registers.Regs.{Regs}
 use Rattle.arch_defs.specs.declared.registers.Virtual.{Virtual}
-use Rattle.arch_defs.specs.declared.registers.Csrs.{Csrs}
 use Rattle.arch_defs.specs.declared.registers.GuestRoot.{GuestRoot}
 use Rattle.arch_defs.specs.Frames.{Only, in_blocks}
-use Rattle.arch_defs.specs.Interrupts.{due, is_ready_for_hs}
+use Rattle.arch_defs.specs.declared.registers.Interrupts.{Interrupts}
+use Rattle.arch_defs.specs.Interrupts.{due, guest_bit}
 use Rattle.arch_defs.specs.Layouts.{Layout, NamesEachOnce}
 use Rattle.arch_defs.specs.Ram.{ram_of}
 use Rattle.arch_defs.specs.Traps.{exception, is_virtual}
@@ -29,26 +30,27 @@ use Rattle.rv64_hart.specs.Steps.{HartEnd, Goes, Exits, enters_vs}
 use Rattle.world_switch.specs.Hosting.{host_root, taken_back}
 use Rattle.world_switch.specs.Laws.{KeepsHidden}
 
--- whether an interrupt is one of VS, which the hart does not have for a guest with V = 0
-abbrev pub is_guest_code : Option ℕ → Bool
-is_guest_code None = false
-is_guest_code (Some code) = code == VS_SOFTWARE || code == VS_TIMER || code == VS_EXTERNAL
+-- whether an interrupt is one that the hart does not take for the guest, by the guest's V and hideleg: with
+-- V = 0 one of VS, with V = 1 one that is not delegated, which goes to HS
+abbrev pub is_hosts : Option ℕ → Bool → Interrupts → Bool
+is_hosts None virtual hideleg = false
+is_hosts (Some code) false hideleg = code == VS_SOFTWARE || code == VS_TIMER || code == VS_EXTERNAL
+is_hosts (Some code) true hideleg = not (guest_bit hideleg code)
 
--- whether an interrupt of VS is pending, enabled and not delegated: with V = 0 the host must take it once HS
--- takes interrupts
-abbrev pub host_may_take : Csrs → Bool
-host_may_take csrs =
-    is_ready_for_hs csrs VS_EXTERNAL || is_ready_for_hs csrs VS_SOFTWARE || is_ready_for_hs csrs VS_TIMER
-
--- whether the interrupt that is due with V = 0 is one that the host must take
+-- whether the interrupt that is due is one that the host must take
 abbrev pub host_takes : Virtual → Bool
-host_takes virt = is_guest_code (due virt.csrs virt.mode)
+host_takes virt = is_hosts (due virt.csrs virt.mode) (is_virtual virt.mode) virt.csrs.hideleg
 
--- what the hart's step was to the guest: a trap into VS is one into the guest's HS
-abbrev pub event_for : Event → Event
-event_for (event.Plain pc word) = event.Plain pc word
-event_for (event.Trap into interrupt) = event.Trap level.HS interrupt
-event_for event.System = event.System
+-- the level for which the hart's VS stands, by the guest's V
+abbrev pub hosted_level : Bool → Level
+hosted_level false = level.HS
+hosted_level true = level.VS
+
+-- what the hart's step was to the guest: a trap into VS is one into that level
+abbrev pub event_for : Bool → Event → Event
+event_for virtual (event.Plain pc word) = event.Plain pc word
+event_for virtual (event.Trap into interrupt) = event.Trap (hosted_level virtual) interrupt
+event_for virtual event.System = event.System
 
 -- the effect of the instruction that a word is, if the mode decides on it
 abbrev pub privileged_of : Effect → Option Privileged
@@ -68,8 +70,14 @@ abbrev pub is_guest_page_code : ℕ → Bool
 is_guest_page_code code =
     code == INSTRUCTION_GUEST_PAGE_FAULT || code == LOAD_GUEST_PAGE_FAULT || code == STORE_GUEST_PAGE_FAULT
 
+-- what the host makes of another trap, by the guest's V: with V = 0 it is a call of the environment, with V =
+-- 1 a trap that the guest has not delegated
+abbrev pub other_step : Machine → Trap → Bool → Tried
+other_step m trap false = called_by m (environment m.platform)
+other_step m trap true = trapped m trap
+
 -- a step that the hart has left to the host: an instruction that the mode decides on, an access outside RAM,
--- or else a call of the environment
+-- or another
 pub record IsLeft (m : Machine) (tried : Tried) (trap : Trap) : Type 0 where
   pub word : trap.cause ≡ VIRTUAL_INSTRUCTION → trap.tval < 2 ^ 32
   pub decided : trap.cause ≡ VIRTUAL_INSTRUCTION
@@ -77,12 +85,12 @@ pub record IsLeft (m : Machine) (tried : Tried) (trap : Trap) : Type 0 where
       ≡ concluded m (privileged m.platform.virt trap.tval p))
   pub faulted : is_guest_page_code trap.cause ≡ true
       → tried ≡ trapped m (exception m.platform.virt.mode (access_fault_for trap.cause) trap.tval)
-  pub called : trap.cause ≢ VIRTUAL_INSTRUCTION → is_guest_page_code trap.cause ≡ false
-      → tried ≡ called_by m (environment m.platform)
+  pub other : trap.cause ≢ VIRTUAL_INSTRUCTION → is_guest_page_code trap.cause ≡ false
+      → tried ≡ other_step m trap (is_virtual m.platform.virt.mode)
 
 -- the hart still stands for a guest with what it has run, but for what is saved of it
 pub record Keeps (root : GuestRoot) (before hart : Virtual) : Type 0 where
-  pub csrs : KeepsHidden root before.csrs hart.csrs
+  pub csrs : KeepsHidden root (is_virtual before.mode) before.csrs hart.csrs
   pub mode : is_virtual hart.mode ≡ true
 
 -- the step of the machine that a step of the hart is
@@ -99,7 +107,9 @@ pub record IsMade (part : Layout) (m : Machine) (tried : Tried) (memory : List �
     (changed : List ℕ) (event : Event) : Type 0 where
   pub own : Virtual
   pub state : hart ≡ renamed (memory_place part.blocks) own
-  pub step : tried ≡ step_for m own (enters_vs event) (ram_of part.blocks changed) (event_for event)
+  pub step : tried
+      ≡ step_for m own (enters_vs event) (ram_of part.blocks changed)
+      (event_for (is_virtual m.platform.virt.mode) event)
   pub keeps : Keeps (host_root part) m.platform.virt own
   pub held : ReservesHeld (in_ram part.blocks) own.reservation
   pub only : Only (in_blocks part.blocks) memory changed

@@ -1,4 +1,4 @@
-// A guest with V = 0 on the hart.
+// A guest on the hart.
 
 ghost use Rattle.std.specs.Prelude.{◌≡◌, ◌+◌, ◌^◌, ◌<◌, ◌≤◌};
 ghost use Rattle.machine_defs.specs.Machine.{informed, is_outside, ticked};
@@ -6,7 +6,7 @@ ghost use Rattle.guest_exit.specs.Entering.{GivesSteps};
 ghost use Rattle.guest_exit.specs.View.{StaysFixed, seen};
 
 use crate::consoles::Console;
-use arch_defs::{Mode, Part, Virtual};
+use arch_defs::{Part, Virtual};
 use machine_defs::Status;
 use world_switch::take_back;
 
@@ -70,10 +70,9 @@ impl Guest {
     }
 }
 
-/// Whether the guest's next step begins outside what is built so far: with V = 1, or where an input's moment
-/// has come.
+/// Whether the guest's next step begins outside what is built so far: an input's moment has come.
 pub fn is_outside(guest: &Guest) -> bool
     ensures { result ≡ is_outside (seen guest.now) }
 {
-    matches!(guest.virt.mode, Mode::VS | Mode::VU) || guest.console.has_input(guest.clock)
+    guest.console.has_input(guest.clock)
 }

@@ -1,20 +1,23 @@
 // Interrupts that the host takes.
 
 ghost use Rattle.std.specs.Prelude.{◌≡◌, ◌+◌, ◌^◌, ◌<◌, ◌≤◌, ℕ, List, Some, false, true};
+ghost use Rattle.arch_defs.specs.Interrupts.{guest_bit};
+ghost use Rattle.arch_defs.specs.Traps.{is_virtual};
 ghost use Rattle.machine_defs.specs.declared.guests.Status.TheVariants.{Running};
 ghost use Rattle.machine_defs.specs.Machine.{is_outside, try};
 ghost use Rattle.machine_defs.specs.Runs.{event_in, instruction_count, left_by};
 ghost use Rattle.guest_exit.specs.Entering.{IsQuiet};
-ghost use Rattle.guest_exit.specs.Following.{host_takes, is_guest_code};
+ghost use Rattle.guest_exit.specs.Following.{host_takes, is_hosts};
 ghost use Rattle.guest_exit.specs.View.{IsPlaced, StaysFixed, machine_of, seen};
 
 use crate::guests::Guest;
 use crate::trapping::take;
-use arch_defs::{VS_EXTERNAL, VS_SOFTWARE, VS_TIMER};
-use trap_delegation::{interrupt_trap, pending};
+use arch_defs::{Interrupts, VS_EXTERNAL, VS_SOFTWARE, VS_TIMER, Virtual};
+use trap_delegation::{interrupt_trap, is_virtual, pending};
 
-/// Takes the interrupt that is due where the hart cannot: with V = 0, one of VS that is not delegated
-/// (Privileged Architecture 20211203, 8.2.3). Answers whether there was one, which is a step.
+/// Takes the interrupt that is due where the hart cannot: with V = 0 one of VS that is not delegated, with V
+/// = 1 one for HS (Privileged Architecture 20211203, 8.2.2 and 8.2.3). Answers whether there was one, which
+/// is a step.
 pub fn interrupt(guest: &mut Guest) -> bool
     requires running { guest.old.status ≡ Running }
     requires inside { is_outside (seen guest.old) ≡ false }
@@ -36,7 +39,7 @@ pub fn interrupt(guest: &mut Guest) -> bool
 {
     match pending(&guest.virt.csrs, guest.virt.mode) {
         Some(code) => {
-            if is_guest_code(code) {
+            if is_hosts(code, &guest.virt) {
                 take(&mut guest.virt, &interrupt_trap(code));
                 guest.tick();
                 true
@@ -48,8 +51,24 @@ pub fn interrupt(guest: &mut Guest) -> bool
     }
 }
 
-fn is_guest_code(code: u64) -> bool
-    ensures { result ≡ is_guest_code (Some code) }
+// Whether an interrupt is one that the hart does not take.
+fn is_hosts(code: u64, virt: &Virtual) -> bool
+    ensures { result ≡ is_hosts (Some code) (is_virtual virt.now.mode) virt.now.csrs.hideleg }
 {
-    matches!(code, VS_SOFTWARE | VS_TIMER | VS_EXTERNAL)
+    if is_virtual(virt.mode) {
+        !is_delegated(&virt.csrs.hideleg, code)
+    } else {
+        matches!(code, VS_SOFTWARE | VS_TIMER | VS_EXTERNAL)
+    }
+}
+
+fn is_delegated(hideleg: &Interrupts, code: u64) -> bool
+    ensures { result ≡ guest_bit hideleg.now code }
+{
+    match code {
+        VS_SOFTWARE => hideleg.software,
+        VS_TIMER => hideleg.timer,
+        VS_EXTERNAL => hideleg.external,
+        _ => false,
+    }
 }

@@ -10,6 +10,8 @@ mod interrupting;
 mod limits;
 #[cfg(test)]
 mod tests;
+#[cfg(test)]
+mod tests_nested;
 mod trapping;
 
 pub use consoles::Console;

@@ -3,7 +3,8 @@
 ghost use Rattle.std.specs.Prelude.{◌≡◌, ◌≤◌, ◌&&◌, ℕ, false, true, nat_le, if◌then◌else◌};
 ghost use Rattle.machine_defs.specs.Machine.{informed, is_outside};
 ghost use Rattle.guest_exit.specs.Entering.{Lasts, Stays};
-ghost use Rattle.guest_exit.specs.Following.{host_may_take, host_takes};
+ghost use Rattle.guest_exit.specs.Following.{host_takes};
+ghost use Rattle.world_switch.specs.Laws.{waits_for_hs};
 ghost use Rattle.guest_exit.specs.View.{seen};
 
 use crate::guests::Guest;
@@ -22,7 +23,7 @@ pub fn limit(guest: &Guest, most: u64) -> u64
     ensures most { result ≤ most }
     ensures largest { (n : ℕ) → n ≤ most → Lasts (seen guest.now) n → n ≤ result }
 {
-    if host_may_take(&guest.virt.csrs) {
+    if waits_for_hs(&guest.virt.csrs) {
         return 1;
     }
     let before_timer = steps_before(guest.timer, guest.clock, most);
@@ -44,8 +45,8 @@ pub(crate) fn steps_before(moment: u64, clock: u64, most: u64) -> u64
 }
 
 // Whether an interrupt of VS is pending, enabled and not delegated.
-fn host_may_take(csrs: &Csrs) -> bool
-    ensures { result ≡ host_may_take csrs.now }
+fn waits_for_hs(csrs: &Csrs) -> bool
+    ensures { result ≡ waits_for_hs csrs.now }
 {
     let pending = csrs.hvip;
     let enabled = csrs.hie;

@@ -1,16 +1,19 @@
-// Traps that the host takes for a guest with V = 0.
+// Traps that the host takes for a guest.
 
-ghost use Rattle.std.specs.Prelude.{◌≡◌, false};
-ghost use Rattle.arch_defs.specs.Traps.{entered, is_virtual};
+ghost use Rattle.std.specs.Prelude.{◌≡◌};
+ghost use Rattle.arch_defs.specs.Traps.{entered};
 
-use arch_defs::{Trap, Virtual};
-use trap_delegation::enter_hs;
+use arch_defs::{Level, Trap, Virtual};
+use trap_delegation::{enter_hs, enter_vs, target};
 
-/// Takes a trap into the guest's HS.
+/// Takes a trap where it goes: into the guest's VS if that is delegated with V = 1, or into its HS
+/// (Privileged Architecture 20211203, 8.2.2 and 8.6.2).
 #[tactic(auto, unfolding(arch_defs::specs::Traps::target))]
 pub fn take(virt: &mut Virtual, trap: &Trap)
-    requires { is_virtual virt.old.mode ≡ false }
     ensures { virt.new ≡ entered virt.old trap.now }
 {
-    virt.mode = enter_hs(&mut virt.csrs, &mut virt.regs, virt.mode, trap);
+    match target(&virt.csrs, virt.mode, trap) {
+        Level::HS => virt.mode = enter_hs(&mut virt.csrs, &mut virt.regs, virt.mode, trap),
+        Level::VS => virt.mode = enter_vs(&mut virt.csrs, &mut virt.regs, virt.mode, trap),
+    }
 }

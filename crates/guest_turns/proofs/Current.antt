@@ -7,7 +7,7 @@ use Rattle.machine_defs.specs.Core.{core}
 use Rattle.machine_defs.specs.Machine.{Machine, Platform, Tried, Ended, called_by, concluded, environment, informed, is_outside, second_of, tried_with, try, try_under}
 use Rattle.machine_defs.specs.Machine as tried
 use Rattle.machine_defs.specs.Outcomes.{Outcome, Done, Trapped, Stuck, Called, Waits, Fenced, Accesses, Outside}
-use Rattle.machine_defs.specs.Outside.{sets_v}
+use Rattle.machine_defs.specs.Outside.{sets_v_under_table}
 use Rattle.machine_defs.specs.Runs.{left_by, run, step, stepped}
 
 abbrev LeavesCurrent : Tried → Type 0
@@ -23,7 +23,7 @@ called_current m (Some p) = refl
 called_current m None = tt
 
 concluded_current : (m : Machine) (o : Outcome) → LeavesCurrent (concluded m o)
-concluded_current m (Done virt stored event) = unless (sets_v m.platform.virt virt) _ refl
+concluded_current m (Done virt stored event) = unless (sets_v_under_table m.platform.virt virt) _ refl
 concluded_current m (Trapped trap) = refl
 concluded_current m (Stuck unplaced) = refl
 concluded_current m Called = called_current m (environment m.platform)

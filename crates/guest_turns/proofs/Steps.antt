@@ -9,7 +9,7 @@ use Rattle.machine_defs.specs.Core.{core}
 use Rattle.machine_defs.specs.Machine.{Machine, Platform, Tried, Ended, called, called_by, concluded, environment, is_outside, put, second_of, stopped, tried_with, try, try_under, unknown}
 use Rattle.machine_defs.specs.Machine as tried
 use Rattle.machine_defs.specs.Outcomes.{Outcome, Done, Trapped, Stuck, Called, Waits, Fenced, Accesses, Outside}
-use Rattle.machine_defs.specs.Outside.{is_outside_call, sets_v}
+use Rattle.machine_defs.specs.Outside.{is_outside_call, sets_v_under_table}
 use Rattle.machine_defs.specs.Runs.{left_by, run, step, stepped}
 use Rattle.guest_turns.specs.TurnLists.{RunsMakeAtMost}
 
@@ -50,7 +50,7 @@ unless m true t h = tt
 unless m false t h = h
 
 concluded_adds : (m : Machine) (o : Outcome) → AddsStep m (concluded m o)
-concluded_adds m (Done virt stored event) = unless m (sets_v m.platform.virt virt) _ refl
+concluded_adds m (Done virt stored event) = unless m (sets_v_under_table m.platform.virt virt) _ refl
 concluded_adds m (Trapped trap) = refl
 concluded_adds m (Stuck unplaced) = refl
 concluded_adds m Called = called_adds m (environment m.platform) (call_keeps m.platform (read m.platform.virt.regs a7))

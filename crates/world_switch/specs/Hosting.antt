@@ -1,56 +1,77 @@
--- How the hart stands for a guest with V = 0: its VS and VU for the guest's HS and U.
-use Rattle.std.specs.Prelude.{ℕ, Bool, true, false}
+-- How the hart stands for a guest: with V = 0 its VS and VU for the guest's HS and U, with V = 1 for the
+-- guest's VS and VU.
+use Rattle.std.specs.Prelude.{ℕ, Bool, true, false, not, ◌&&◌, if◌then◌else◌}
 use Rattle.arch_defs.specs.declared.modes.Mode.{Mode}
-use Rattle.arch_defs.specs.declared.modes.Mode.TheVariants.{HS, U, VS, VU}
+use Rattle.arch_defs.specs.declared.registers.Bank.{Bank}
 use Rattle.arch_defs.specs.declared.registers.Csrs.{Csrs}
 use Rattle.arch_defs.specs.declared.registers.GuestRoot.{GuestRoot}
 use Rattle.arch_defs.specs.declared.registers.GuestRoot.TheVariants.{Sv39x4}
 use Rattle.arch_defs.specs.declared.registers.HypervisorStatus.{HypervisorStatus}
 use Rattle.arch_defs.specs.declared.registers.Interrupts.{Interrupts}
 use Rattle.arch_defs.specs.declared.registers.Virtual.{Virtual}
+use Rattle.arch_defs.specs.CsrBits.{hedeleg_bits}
 use Rattle.arch_defs.specs.Layouts.{Layout}
-use Rattle.arch_defs.specs.Registers.{clear_hypervisor_status, csrs_at_reset}
+use Rattle.arch_defs.specs.Registers.{bank_at_reset, clear_hypervisor_status, clear_supervisor_status, csrs_at_reset}
+use Rattle.arch_defs.specs.Traps.{is_supervisor, is_virtual, mode_of}
 use Rattle.machine_defs.specs.HostPlaces.{memory_place}
 use Rattle.machine_defs.specs.Renaming.{renamed}
 
 -- the hart's mode for a mode of the guest
 abbrev pub hosted_mode : Mode → Mode
-hosted_mode HS = VS
-hosted_mode U = VU
-hosted_mode VS = VS
-hosted_mode VU = VU
+hosted_mode mode = mode_of true (is_supervisor mode)
 
--- the guest's mode for a mode of the hart
-abbrev pub saved_mode : Mode → Mode
-saved_mode HS = HS
-saved_mode U = U
-saved_mode VS = HS
-saved_mode VU = U
+-- the guest's mode for a mode of the hart, by the guest's V, which no step of the hart changes
+abbrev pub saved_mode : Bool → Mode → Mode
+saved_mode virtual mode = mode_of virtual (is_supervisor mode)
 
--- the hart's hstatus: the host makes a WFI and an SRET of the guest's HS
-abbrev pub leaving_status : HypervisorStatus
-leaving_status = record clear_hypervisor_status { vtw = true; vtsr = true }
+-- the hart's hstatus, by the guest's: with V = 0 the host makes a WFI and an SRET of the guest's HS. With
+-- V = 1 it makes a WFI, and what the guest keeps from its VS traps on the hart too
+abbrev pub hosted_status : Bool → HypervisorStatus → HypervisorStatus
+hosted_status false status = record clear_hypervisor_status { vtw = true; vtsr = true }
+hosted_status true status =
+    record clear_hypervisor_status { vtvm = status.vtvm; vtw = true; vtsr = status.vtsr }
 
 abbrev pub all_interrupts : Interrupts
 all_interrupts = record { software = true; timer = true; external = true }
 
--- the hart's hedeleg: each exception that a guest with V = 0 takes
+-- the hart's hedeleg: each exception that a guest with V = 0 takes, and those that a guest with V = 1
+-- delegates
 abbrev pub own_exceptions : ℕ
 own_exceptions = 0xB1FF
 
--- the hart's registers under this root of the second stage: VS's are those of the guest's HS, whose
--- exceptions and interrupts are delegated to VS. The host makes a read of time, and what the hypervisor
--- registers decide
-abbrev pub hosted_csrs : GuestRoot → Csrs → Csrs
-hosted_csrs root csrs = record csrs_at_reset {
+abbrev pub hosted_exceptions : Bool → ℕ → ℕ
+hosted_exceptions false hedeleg = own_exceptions
+hosted_exceptions true hedeleg = hedeleg_bits hedeleg
+
+-- the hart's own registers of HS: of the guest's MXR alone, which counts with V = 1
+abbrev pub bank_with : Bool → Bank
+bank_with mxr = record bank_at_reset { status = record clear_supervisor_status { mxr = mxr } }
+
+-- the hart's registers under this root of the second stage, by the guest's V: VS's are those of the guest's
+-- HS, whose exceptions and interrupts are all delegated to VS, or those of its VS, delegated as the guest
+-- delegates. The host makes a read of time, and what the hypervisor registers decide
+abbrev pub hosted_csrs : GuestRoot → Bool → Csrs → Csrs
+hosted_csrs root false csrs = record csrs_at_reset {
   vs = csrs.hs;
   hie = csrs.sie;
   hvip = csrs.sip;
   scounteren_tm = csrs.scounteren_tm;
   senvcfg_fiom = csrs.senvcfg_fiom;
-  hstatus = leaving_status;
-  hedeleg = own_exceptions;
+  hstatus = hosted_status false csrs.hstatus;
+  hedeleg = hosted_exceptions false csrs.hedeleg;
   hideleg = all_interrupts;
+  hgatp = root;
+}
+hosted_csrs root true csrs = record csrs_at_reset {
+  hs = bank_with csrs.hs.status.mxr;
+  vs = csrs.vs;
+  hie = csrs.hie;
+  hvip = csrs.hvip;
+  scounteren_tm = csrs.scounteren_tm;
+  senvcfg_fiom = csrs.senvcfg_fiom;
+  hstatus = hosted_status true csrs.hstatus;
+  hedeleg = hosted_exceptions true csrs.hedeleg;
+  hideleg = csrs.hideleg;
   hgatp = root;
 }
 
@@ -58,7 +79,7 @@ hosted_csrs root csrs = record csrs_at_reset {
 abbrev pub hosted : GuestRoot → Virtual → Virtual
 hosted root virt = record {
   regs = virt.regs;
-  csrs = hosted_csrs root virt.csrs;
+  csrs = hosted_csrs root (is_virtual virt.mode) virt.csrs;
   mode = hosted_mode virt.mode;
   reservation = virt.reservation;
 }
@@ -72,12 +93,19 @@ host_root part = Sv39x4 0 part.first_root
 abbrev pub loaded : Layout → Virtual → Virtual
 loaded part virt = renamed (memory_place part.blocks) (hosted (host_root part) virt)
 
--- what the guest has after the hart has run; what the hart does not have for it stays
-abbrev pub saved_csrs : Csrs → Csrs → Csrs
-saved_csrs hart before = record before {
+-- what the guest has after the hart has run, by the guest's V; what the hart does not have for it stays
+abbrev pub saved_csrs : Bool → Csrs → Csrs → Csrs
+saved_csrs false hart before = record before {
   hs = hart.vs;
   sie = hart.hie;
   sip = hart.hvip;
+  scounteren_tm = hart.scounteren_tm;
+  senvcfg_fiom = hart.senvcfg_fiom;
+}
+saved_csrs true hart before = record before {
+  vs = hart.vs;
+  hie = hart.hie;
+  hvip = hart.hvip;
   scounteren_tm = hart.scounteren_tm;
   senvcfg_fiom = hart.senvcfg_fiom;
 }
@@ -85,20 +113,21 @@ saved_csrs hart before = record before {
 abbrev pub saved : Virtual → Virtual → Virtual
 saved hart before = record {
   regs = hart.regs;
-  csrs = saved_csrs hart.csrs before.csrs;
-  mode = saved_mode hart.mode;
+  csrs = saved_csrs (is_virtual before.mode) hart.csrs before.csrs;
+  mode = saved_mode (is_virtual before.mode) hart.mode;
   reservation = hart.reservation;
 }
 
--- and after the hart has taken a trap into VS, which stands for one into the guest's HS with V = 0
--- (Privileged Architecture 20211203, 8.2.1, 8.2.8, 8.2.9): GVA, SPV, htval and htinst, which the hart does
--- not have for the guest
+-- and after the hart has taken a trap into VS that stands for one into the guest's HS with V = 0 (Privileged
+-- Architecture 20211203, 8.2.1, 8.2.8, 8.2.9): GVA, SPV, htval and htinst, which the hart does not have for
+-- the guest
 abbrev pub fixed_up : Virtual → Virtual
 fixed_up virt =
     let hstatus = record virt.csrs.hstatus { gva = false; spv = false } in
     record virt { csrs = record virt.csrs { hstatus = hstatus; htval = 0; htinst = 0 } }
 
--- what the guest has after the hart has run, by whether its last step was a trap into VS
+-- what the guest has after the hart has run, by whether its last step was a trap into VS. With V = 1 that is
+-- one into the guest's VS, which changes nothing that the hart does not have for it
 abbrev pub taken_back : Bool → Virtual → Virtual → Virtual
-taken_back true hart before = fixed_up (saved hart before)
-taken_back false hart before = saved hart before
+taken_back trapped hart before =
+    if trapped && not (is_virtual before.mode) then fixed_up (saved hart before) else saved hart before

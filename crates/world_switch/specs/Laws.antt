@@ -1,20 +1,25 @@
--- Laws of the hart that stands for a guest with V = 0, whatever the root of its second stage is.
-use Rattle.std.specs.Prelude.{ℕ, ◌≡◌, ◌+◌, Bool, true, false, Ok, Err}
-use Rattle.arch_defs.specs.declared.csr_names.CsrEnd.TheVariants.{Illegal}
+-- Laws of the hart that stands for a guest, whatever the root of its second stage is.
+use Rattle.std.specs.Prelude.{ℕ, ◌≡◌, ◌+◌, ◌||◌, ◌&&◌, Bool, true, false, None, Ok, Err}
+use Rattle.arch_defs.specs.declared.csr_names.CsrEnd.TheVariants.{Illegal, Virtual as VirtualInstruction}
 use Rattle.arch_defs.specs.declared.levels.Level.TheVariants as level
+use Rattle.arch_defs.specs.declared.levels.TheConstants.{VS_SOFTWARE, VS_TIMER, VS_EXTERNAL}
 use Rattle.arch_defs.specs.declared.modes.Access.{Access}
 use Rattle.arch_defs.specs.declared.modes.Mode.{Mode}
+use Rattle.arch_defs.specs.declared.modes.Trap.{Trap}
 use Rattle.arch_defs.specs.declared.registers.Csrs.{Csrs}
 use Rattle.arch_defs.specs.declared.registers.GuestRoot.{GuestRoot}
 use Rattle.arch_defs.specs.declared.registers.Virtual.{Virtual}
 use Rattle.arch_defs.specs.Access.{read, write}
-use Rattle.arch_defs.specs.Interrupts.{interrupt_of}
+use Rattle.arch_defs.specs.Interrupts.{interrupt_of, is_ready_for_hs}
 use Rattle.arch_defs.specs.Layouts.{Layout}
 use Rattle.arch_defs.specs.Memory.{Reading, SecondStage}
 use Rattle.arch_defs.specs.Registers.{bank_at_reset, clear_interrupts}
 use Rattle.arch_defs.specs.Translation.{first_stage}
 use Rattle.arch_defs.specs.Traps.{entered_at, exception, is_virtual}
+use Rattle.machine_defs.specs.declared.events.Event.TheVariants.{System}
 use Rattle.machine_defs.specs.HostPlaces.{in_ram, memory_place}
+use Rattle.machine_defs.specs.Outcomes.{Done}
+use Rattle.machine_defs.specs.Privileges.{fenced_in, refused, returned_in, waited_in}
 use Rattle.machine_defs.specs.Renaming.{ReservesHeld, renamed}
 use Rattle.world_switch.specs.Hosting.{fixed_up, hosted, hosted_csrs, hosted_mode, saved, saved_csrs, taken_back}
 
@@ -24,8 +29,7 @@ IsVirtual = (root : GuestRoot) (v : Virtual) → is_virtual (hosted root v).mode
 
 -- what is saved of a hart that was just loaded is what the guest had
 abbrev pub SaveAfterLoad : Type 0
-SaveAfterLoad =
-    (root : GuestRoot) (v : Virtual) → is_virtual v.mode ≡ false → saved (hosted root v) v ≡ v
+SaveAfterLoad = (root : GuestRoot) (v : Virtual) → saved (hosted root v) v ≡ v
 
 -- the hart's registers without those that it has for the guest
 abbrev pub hidden : Csrs → Csrs
@@ -37,26 +41,34 @@ hidden csrs = record csrs {
   senvcfg_fiom = false;
 }
 
--- the hart's registers without those that it has for the guest, and its pending interrupts that the clock
--- sets, are as they were loaded
-pub record KeepsHidden (root : GuestRoot) (before hart : Csrs) : Type 0 where
-  pub rest : hidden hart ≡ hidden (hosted_csrs root before)
-  pub timer : hart.hvip.timer ≡ before.sip.timer
-  pub external : hart.hvip.external ≡ before.sip.external
+-- whether an interrupt of VS is pending, enabled and not delegated
+abbrev pub waits_for_hs : Csrs → Bool
+waits_for_hs csrs =
+    is_ready_for_hs csrs VS_EXTERNAL || is_ready_for_hs csrs VS_SOFTWARE || is_ready_for_hs csrs VS_TIMER
+
+-- the hart's registers without those that it has for the guest are as they were loaded, by the guest's V.
+-- With V = 0 so are its pending interrupts that the clock sets, and with V = 1 no interrupt has begun or
+-- ceased to wait for HS
+pub record KeepsHidden (root : GuestRoot) (virtual : Bool) (before hart : Csrs) : Type 0 where
+  pub rest : hidden hart ≡ hidden (hosted_csrs root virtual before)
+  pub timer : virtual ≡ false → hart.hvip.timer ≡ before.sip.timer
+  pub external : virtual ≡ false → hart.hvip.external ≡ before.sip.external
+  pub waits : waits_for_hs hart ≡ waits_for_hs (hosted_csrs root virtual before)
 
 -- loading what was saved of a hart gives the hart's state again, if the hart has changed only what it has for
 -- the guest
 abbrev pub LoadAfterSave : Type 0
 LoadAfterSave =
-    (root : GuestRoot) (v hart : Virtual) → hidden hart.csrs ≡ hidden (hosted_csrs root v.csrs)
+    (root : GuestRoot) (v hart : Virtual)
+    → hidden hart.csrs ≡ hidden (hosted_csrs root (is_virtual v.mode) v.csrs)
     → is_virtual hart.mode ≡ true → hosted root (saved hart v) ≡ hart
 
 -- the first stage translates each access alike
 abbrev pub TranslatesAlike : Type 0
 TranslatesAlike =
     (root : GuestRoot) (second : SecondStage) (reading : Reading)
-    (csrs : Csrs) (mode : Mode) (va : ℕ) (access : Access) → is_virtual mode ≡ false
-    → first_stage second reading (hosted_csrs root csrs) (hosted_mode mode) va access
+    (csrs : Csrs) (mode : Mode) (va : ℕ) (access : Access)
+    → first_stage second reading (hosted_csrs root (is_virtual mode) csrs) (hosted_mode mode) va access
     ≡ first_stage second reading csrs mode va access
 
 -- a read that the hart makes gives what the guest's gives, and a write that it makes leaves what the guest's
@@ -64,28 +76,59 @@ TranslatesAlike =
 -- instruction on the hart, which the host makes
 abbrev pub ReadsAlike : Type 0
 ReadsAlike =
-    (root : GuestRoot) (csrs : Csrs) (mode : Mode) (n value : ℕ) → is_virtual mode ≡ false
-    → read (hosted_csrs root csrs) (hosted_mode mode) n ≡ Ok value
+    (root : GuestRoot) (csrs : Csrs) (mode : Mode) (n value : ℕ)
+    → read (hosted_csrs root (is_virtual mode) csrs) (hosted_mode mode) n ≡ Ok value
     → read csrs mode n ≡ Ok value
 
 abbrev pub WritesAlike : Type 0
 WritesAlike =
-    (root : GuestRoot) (csrs after : Csrs) (mode : Mode) (n value : ℕ) → is_virtual mode ≡ false
-    → write (hosted_csrs root csrs) (hosted_mode mode) n value ≡ Ok after
-    → write csrs mode n value ≡ Ok (saved_csrs after csrs)
+    (root : GuestRoot) (csrs after : Csrs) (mode : Mode) (n value : ℕ)
+    → write (hosted_csrs root (is_virtual mode) csrs) (hosted_mode mode) n value ≡ Ok after
+    → write csrs mode n value ≡ Ok (saved_csrs (is_virtual mode) after csrs)
 
 abbrev pub IllegalAlike : Type 0
 IllegalAlike =
-    (root : GuestRoot) (csrs : Csrs) (mode : Mode) (n : ℕ) → is_virtual mode ≡ false
-    → read (hosted_csrs root csrs) (hosted_mode mode) n ≡ Err Illegal → read csrs mode n ≡ Err Illegal
+    (root : GuestRoot) (csrs : Csrs) (mode : Mode) (n : ℕ)
+    → read (hosted_csrs root (is_virtual mode) csrs) (hosted_mode mode) n ≡ Err Illegal
+    → read csrs mode n ≡ Err Illegal
 
 abbrev pub IllegalToWriteAlike : Type 0
 IllegalToWriteAlike =
-    (root : GuestRoot) (csrs : Csrs) (mode : Mode) (n value : ℕ) → is_virtual mode ≡ false
-    → write (hosted_csrs root csrs) (hosted_mode mode) n value ≡ Err Illegal
+    (root : GuestRoot) (csrs : Csrs) (mode : Mode) (n value : ℕ)
+    → write (hosted_csrs root (is_virtual mode) csrs) (hosted_mode mode) n value ≡ Err Illegal
     → write csrs mode n value ≡ Err Illegal
 
--- a trap that the hart delegates, fixed up, is the one that the guest's HS takes
+-- the hart's own sstatus.MXR, which counts beside vsstatus.MXR, is the guest's with V = 1, and else clear
+abbrev pub OwnMxr : Type 0
+OwnMxr =
+    (root : GuestRoot) (v : Virtual)
+    → (hosted root v).csrs.hs.status.mxr ≡ (is_virtual v.mode && v.csrs.hs.status.mxr)
+
+-- an SRET that the hart makes is the guest's, and so is an SFENCE.VMA
+abbrev pub ReturnsAlike : Type 0
+ReturnsAlike =
+    (root : GuestRoot) (v after : Virtual) (word : ℕ)
+    → returned_in (hosted root v) word (hosted root v).mode ≡ Done after None System
+    → returned_in v word v.mode ≡ Done (saved after v) None System
+
+abbrev pub FencesAlike : Type 0
+FencesAlike =
+    (root : GuestRoot) (v after : Virtual) (word : ℕ)
+    → fenced_in (hosted root v) word (hosted root v).mode ≡ Done after None System
+    → fenced_in v word v.mode ≡ Done (saved after v) None System
+
+-- a WFI is a virtual instruction on the hart, and so is a read of time
+abbrev pub WaitsAreLeft : Type 0
+WaitsAreLeft =
+    (root : GuestRoot) (v : Virtual) (word : ℕ)
+    → waited_in (hosted root v) word (hosted root v).mode ≡ refused (hosted root v) word VirtualInstruction
+
+abbrev pub TimeIsLeft : Type 0
+TimeIsLeft =
+    (root : GuestRoot) (csrs : Csrs) (mode : Mode)
+    → read (hosted_csrs root (is_virtual mode) csrs) (hosted_mode mode) 0xC01 ≡ Err VirtualInstruction
+
+-- with V = 0 a trap that the hart delegates, fixed up, is the one that the guest's HS takes
 abbrev pub ExceptionsAlike : Type 0
 ExceptionsAlike = (root : GuestRoot) (v : Virtual) (cause tval : ℕ) → is_virtual v.mode ≡ false
     → fixed_up (saved (entered_at (hosted root v) (exception (hosted_mode v.mode) cause tval) level.VS) v)
@@ -96,6 +139,11 @@ abbrev pub InterruptsAlike : Type 0
 InterruptsAlike = (root : GuestRoot) (v : Virtual) (code : ℕ) → is_virtual v.mode ≡ false
     → fixed_up (saved (entered_at (hosted root v) (interrupt_of (code + 1)) level.VS) v)
     ≡ entered_at v (interrupt_of code) level.HS
+
+-- with V = 1 a trap that the hart delegates is the one that the guest's VS takes
+abbrev pub NestedTrapsAlike : Type 0
+NestedTrapsAlike = (root : GuestRoot) (v : Virtual) (trap : Trap) → is_virtual v.mode ≡ true
+    → saved (entered_at (hosted root v) trap level.VS) v ≡ entered_at v trap level.VS
 
 -- what the guest that has this part has after the hart has run: what is taken back of the same hart with its
 -- reservation, if it has one, at the guest's own address

@@ -1,6 +1,6 @@
 // Laws of the definitions.
 
-ghost use Rattle.world_switch.specs.Laws.{ExceptionsAlike, IllegalAlike, IllegalToWriteAlike, InterruptsAlike, IsVirtual, LoadAfterSave, ReadsAlike, SaveAfterLoad, TranslatesAlike, WritesAlike};
+ghost use Rattle.world_switch.specs.Laws.{ExceptionsAlike, FencesAlike, IllegalAlike, IllegalToWriteAlike, InterruptsAlike, IsVirtual, LoadAfterSave, NestedTrapsAlike, OwnMxr, ReadsAlike, ReturnsAlike, SaveAfterLoad, TimeIsLeft, TranslatesAlike, WaitsAreLeft, WritesAlike};
 
 /// The hart runs with V = 1. Saving what was loaded gives back what the guest had, and loading what was saved
 /// gives back what the hart had.
@@ -13,14 +13,26 @@ pub fn load_and_save()
 /// Each access that the hart makes is the guest's own: its translation, and its read or write of a register.
 pub fn accesses_alike()
     ensures translations { TranslatesAlike }
+    ensures mxr { OwnMxr }
     ensures reads { ReadsAlike }
     ensures writes { WritesAlike }
     ensures illegal { IllegalAlike }
     ensures illegal_to_write { IllegalToWriteAlike }
 {}
 
-/// Each trap that the hart takes into VS is, fixed up, the one that the guest takes into HS.
+/// An SRET and an SFENCE.VMA that the hart makes are the guest's. A WFI and a read of time are left to the
+/// host.
+pub fn instructions_alike()
+    ensures returns { ReturnsAlike }
+    ensures fences { FencesAlike }
+    ensures waits { WaitsAreLeft }
+    ensures time { TimeIsLeft }
+{}
+
+/// Each trap that the hart takes into VS is the one that the guest takes: with V = 0, fixed up, into HS, and
+/// with V = 1 into VS.
 pub fn traps_alike()
     ensures exceptions { ExceptionsAlike }
     ensures interrupts { InterruptsAlike }
+    ensures nested { NestedTrapsAlike }
 {}

@@ -6,5 +6,5 @@ mod switching;
 #[cfg(test)]
 mod tests;
 
-pub use laws::{accesses_alike, load_and_save, traps_alike};
-pub use switching::{fix_up, load, save, take_back};
+pub use laws::{accesses_alike, instructions_alike, load_and_save, traps_alike};
+pub use switching::{fix_up, load, save, take_back, to_guest_hs, to_nested};

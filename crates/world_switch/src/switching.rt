@@ -1,29 +1,55 @@
-// The hart's registers for a guest with V = 0, and the guest's after the hart has run.
+// The hart's registers for a guest, and the guest's after the hart has run.
 
-ghost use Rattle.std.specs.Prelude.{◌≡◌, ℕ, Option, Some, true};
+ghost use Rattle.std.specs.Prelude.{◌≡◌, ℕ, Option, Some, true, false};
+ghost use Rattle.arch_defs.specs.Registers.{clear_hypervisor_status};
+ghost use Rattle.arch_defs.specs.Traps.{is_virtual};
 ghost use Rattle.machine_defs.specs.HostPlaces.{in_ram, memory_place};
-ghost use Rattle.machine_defs.specs.Renaming.{ReservesHeld, reservation_renamed};
-ghost use Rattle.world_switch.specs.Hosting.{all_interrupts, fixed_up, host_root, hosted_csrs, hosted_mode, leaving_status, loaded, own_exceptions, saved, saved_mode, taken_back};
+ghost use Rattle.machine_defs.specs.Renaming.{ReservesHeld, renamed, reservation_renamed};
+ghost use Rattle.world_switch.specs.Hosting.{all_interrupts, bank_with, fixed_up, host_root, hosted_csrs, hosted_mode, loaded, saved, saved_csrs, saved_mode, taken_back};
 ghost use Rattle.world_switch.specs.Laws.{GivesBack};
 
-use arch_defs::{BLOCK_SIZE, Csrs, GuestRoot, HypervisorStatus, Interrupts, Mode, Part, Virtual};
+use arch_defs::{
+    BLOCK_SIZE, Bank, Csrs, GuestRoot, HypervisorStatus, Interrupts, Mode, Part, SupervisorStatus,
+    Virtual,
+};
+use csr_file::hedeleg_bits;
 use phys_mem::RAM_BASE;
+use trap_delegation::is_virtual;
 
-/// The hart's hedeleg: each exception that a guest with V = 0 takes goes to VS (codes 0 to 8, 12, 13 and 15).
+/// The exceptions that go to VS (codes 0 to 8, 12, 13 and 15): each that a guest with V = 0 takes, and each
+/// that a guest with V = 1 can delegate.
 const OWN_EXCEPTIONS: u64 = 0xB1FF;
 
-/// What the hart has for the guest that has this part: its VS and VU stand for the guest's HS and U, under
-/// the part's host table, and the guest's reservation is at its place in machine memory.
+/// What the hart has for the guest that has this part: its VS and VU stand for the guest's HS and U with V =
+/// 0, and for its VS and VU with V = 1, under the part's host table. The guest's reservation is at its place
+/// in machine memory.
 pub fn load(virt: &Virtual, part: &Part) -> Virtual
     requires held { ReservesHeld (in_ram part.now.blocks) virt.now.reservation }
     ensures { result ≡ loaded part.now virt.now }
 {
-    Virtual {
-        regs: virt.regs,
-        csrs: hosted_csrs(host_root(part), &virt.csrs),
-        mode: hosted_mode(virt.mode),
-        reservation: placed(part, virt.reservation),
+    if is_virtual(virt.mode) {
+        to_nested(virt, part)
+    } else {
+        to_guest_hs(virt, part)
     }
+}
+
+/// What the hart has for a guest with V = 0: its VS stands for the guest's HS, its VU for the guest's U.
+pub fn to_guest_hs(virt: &Virtual, part: &Part) -> Virtual
+    requires own { is_virtual virt.now.mode ≡ false }
+    requires held { ReservesHeld (in_ram part.now.blocks) virt.now.reservation }
+    ensures { result ≡ loaded part.now virt.now }
+{
+    with_csrs(virt, part, csrs_of_hs(host_root(part), &virt.csrs))
+}
+
+/// What the hart has for a guest with V = 1: its VS stands for the guest's VS, its VU for the guest's VU.
+pub fn to_nested(virt: &Virtual, part: &Part) -> Virtual
+    requires nested { is_virtual virt.now.mode ≡ true }
+    requires held { ReservesHeld (in_ram part.now.blocks) virt.now.reservation }
+    ensures { result ≡ loaded part.now virt.now }
+{
+    with_csrs(virt, part, csrs_of_vs(host_root(part), &virt.csrs))
 }
 
 /// Gives the guest that has this part what the hart has for it, after a run whose last step was a trap into
@@ -35,7 +61,7 @@ pub fn take_back(hart: &Virtual, part: &Part, trapped: bool, virt: &mut Virtual)
         reservation: found_again(part, hart.reservation),
         ..*hart
     };
-    if trapped {
+    if trapped && !is_virtual(virt.mode) {
         save(&own, virt);
         fix_up(virt);
     } else {
@@ -43,19 +69,32 @@ pub fn take_back(hart: &Virtual, part: &Part, trapped: bool, virt: &mut Virtual)
     }
 }
 
-/// Gives the guest what the hart has for it, the reservation as the hart has it. What the hart does not have
-/// for the guest stays.
+/// Gives the guest what the hart has for it, by the guest's V, the reservation as the hart has it. What the
+/// hart does not have for the guest stays.
 pub fn save(hart: &Virtual, virt: &mut Virtual)
     ensures { virt.new ≡ saved hart.now virt.old }
 {
+    let nested = is_virtual(virt.mode);
+    save_csrs(&hart.csrs, nested, &mut virt.csrs);
     virt.regs = hart.regs;
-    virt.csrs.hs = hart.csrs.vs;
-    virt.csrs.sie = hart.csrs.hie;
-    virt.csrs.sip = hart.csrs.hvip;
-    virt.csrs.scounteren_tm = hart.csrs.scounteren_tm;
-    virt.csrs.senvcfg_fiom = hart.csrs.senvcfg_fiom;
-    virt.mode = saved_mode(hart.mode);
+    virt.mode = saved_mode(nested, hart.mode);
     virt.reservation = hart.reservation;
+}
+
+fn save_csrs(hart: &Csrs, nested: bool, csrs: &mut Csrs)
+    ensures { csrs.new ≡ saved_csrs nested hart.now csrs.old }
+{
+    csrs.scounteren_tm = hart.scounteren_tm;
+    csrs.senvcfg_fiom = hart.senvcfg_fiom;
+    if nested {
+        csrs.vs = hart.vs;
+        csrs.hie = hart.hie;
+        csrs.hvip = hart.hvip;
+    } else {
+        csrs.hs = hart.vs;
+        csrs.sie = hart.hie;
+        csrs.sip = hart.hvip;
+    }
 }
 
 /// Sets what a trap from V = 0 into HS sets beside the registers that the hart has for the guest: GVA, SPV,
@@ -67,6 +106,20 @@ pub fn fix_up(virt: &mut Virtual)
     virt.csrs.hstatus.spv = false;
     virt.csrs.htval = 0;
     virt.csrs.htinst = 0;
+}
+
+// What the hart has for a guest beside these control and status registers.
+fn with_csrs(virt: &Virtual, part: &Part, csrs: Csrs) -> Virtual
+    requires held { ReservesHeld (in_ram part.now.blocks) virt.now.reservation }
+    ensures { result ≡ renamed (memory_place part.now.blocks)
+        (record virt.now { csrs = csrs; mode = hosted_mode virt.now.mode }) }
+{
+    Virtual {
+        regs: virt.regs,
+        csrs,
+        mode: hosted_mode(virt.mode),
+        reservation: placed(part, virt.reservation),
+    }
 }
 
 // A reservation of the guest that has this part, at its place in machine memory.
@@ -125,23 +178,14 @@ fn hosted_mode(mode: Mode) -> Mode
     }
 }
 
-fn saved_mode(mode: Mode) -> Mode
-    ensures { result ≡ saved_mode mode }
+fn saved_mode(nested: bool, mode: Mode) -> Mode
+    ensures { result ≡ saved_mode nested mode }
 {
     match mode {
+        Mode::HS | Mode::VS if nested => Mode::VS,
         Mode::HS | Mode::VS => Mode::HS,
+        Mode::U | Mode::VU if nested => Mode::VU,
         Mode::U | Mode::VU => Mode::U,
-    }
-}
-
-// The host makes a WFI and an SRET of the guest's HS.
-fn leaving_status() -> HypervisorStatus
-    ensures { result ≡ leaving_status }
-{
-    HypervisorStatus {
-        vtw: true,
-        vtsr: true,
-        ..HypervisorStatus::clear()
     }
 }
 
@@ -155,8 +199,9 @@ fn all_interrupts() -> Interrupts
     }
 }
 
-fn hosted_csrs(root: GuestRoot, csrs: &Csrs) -> Csrs
-    ensures { result ≡ hosted_csrs root csrs.now }
+// For a guest with V = 0. The host makes a WFI and an SRET of its HS.
+fn csrs_of_hs(root: GuestRoot, csrs: &Csrs) -> Csrs
+    ensures { result ≡ hosted_csrs root false csrs.now }
 {
     Csrs {
         vs: csrs.hs,
@@ -164,10 +209,59 @@ fn hosted_csrs(root: GuestRoot, csrs: &Csrs) -> Csrs
         hvip: csrs.sip,
         scounteren_tm: csrs.scounteren_tm,
         senvcfg_fiom: csrs.senvcfg_fiom,
-        hstatus: leaving_status(),
+        hstatus: HypervisorStatus {
+            vtsr: true,
+            ..waits_kept()
+        },
         hedeleg: OWN_EXCEPTIONS,
         hideleg: all_interrupts(),
         hgatp: root,
         ..Csrs::at_reset()
+    }
+}
+
+// For a guest with V = 1, whose VS traps to its HS as the guest asks for. The host makes a WFI of its VS.
+fn csrs_of_vs(root: GuestRoot, csrs: &Csrs) -> Csrs
+    ensures { result ≡ hosted_csrs root true csrs.now }
+{
+    Csrs {
+        hs: bank_with(csrs.hs.status.mxr),
+        vs: csrs.vs,
+        hie: csrs.hie,
+        hvip: csrs.hvip,
+        scounteren_tm: csrs.scounteren_tm,
+        senvcfg_fiom: csrs.senvcfg_fiom,
+        hstatus: HypervisorStatus {
+            vtvm: csrs.hstatus.vtvm,
+            vtsr: csrs.hstatus.vtsr,
+            ..waits_kept()
+        },
+        hedeleg: hedeleg_bits(csrs.hedeleg),
+        hideleg: csrs.hideleg,
+        hgatp: root,
+        ..Csrs::at_reset()
+    }
+}
+
+// A WFI of VS is a virtual instruction on the hart.
+fn waits_kept() -> HypervisorStatus
+    ensures { result ≡ record clear_hypervisor_status { vtw = true } }
+{
+    HypervisorStatus {
+        vtw: true,
+        ..HypervisorStatus::clear()
+    }
+}
+
+// A bank that has MXR alone, since with V = 1 sstatus.MXR counts beside vsstatus.MXR (8.5.1).
+fn bank_with(mxr: bool) -> Bank
+    ensures { result ≡ bank_with mxr }
+{
+    Bank {
+        status: SupervisorStatus {
+            mxr,
+            ..SupervisorStatus::clear()
+        },
+        ..Bank::at_reset()
     }
 }

@@ -1,10 +1,10 @@
 use Rattle.std.proofs.Common.{refl, sym, ◌∙◌}
 use Rattle.std.proofs.Math.Facts.{Fits-of_lt}
 use Rattle.guest_exit.specs.View.{machine_of}
-use Rattle.machine_defs.specs.Machine.{environment}
+use Rattle.arch_defs.specs.Traps.{is_virtual}
 use Rattle.guest_exit.proofs.Entries.{left}
 use Rattle.guest_exit.proofs.Placed.{placed_by_step}
-use Rattle.guest_exit.proofs.Alone.{after_call_is, call_is_quiet, emulated, emulated_quiet}
+use Rattle.guest_exit.proofs.Alone.{after_other_is, emulated, emulated_quiet, other_is_quiet}
 use Rattle.guest_exit.proofs.handling.handle.Goals as goal
 
 -- the host table has no place
@@ -22,22 +22,22 @@ returns-then-is_guest_page_code-clause-quiet c =
     let code = sym c.is_guest_page_code.ensures ∙ c.if-is_guest_page_code.true in
     record { trace = rw (l.faulted code) refl; plain = rw (l.faulted code) refl }
 
--- a call
+-- another trap
 pub returns-then-trap-ne-VIRTUAL_INSTRUCTION-clause-step : goal.returns-then-trap-ne-VIRTUAL_INSTRUCTION-clause-step
 returns-then-trap-ne-VIRTUAL_INSTRUCTION-clause-step c =
     let m = machine_of c.args.guest.now c.args.memory.now in
     let l = left c.args.guest.now.part m c.args.memory.now c.args.trap.now c.requires.inside c.requires.own c.requires.placed c.requires.exits in
     let other = sym c.is_guest_page_code.ensures ∙ c.if-is_guest_page_code.false in
-    rw (l.called c.if-trap-ne-VIRTUAL_INSTRUCTION.true other, after_call_is m (environment m.platform), ← c.call.ensures.step, c.call.ensures.fixed.part, c.call.ensures.fixed.space_room, c.call.ensures.fixed.entry_room) refl
+    rw (l.other c.if-trap-ne-VIRTUAL_INSTRUCTION.true other, after_other_is m c.args.trap.now (is_virtual m.platform.virt.mode), ← c.other.ensures.step, c.other.ensures.fixed.part, c.other.ensures.fixed.space_room, c.other.ensures.fixed.entry_room) refl
 
 pub returns-then-trap-ne-VIRTUAL_INSTRUCTION-clause-quiet : goal.returns-then-trap-ne-VIRTUAL_INSTRUCTION-clause-quiet
 returns-then-trap-ne-VIRTUAL_INSTRUCTION-clause-quiet c =
     let m = machine_of c.args.guest.now c.args.memory.now in
     let l = left c.args.guest.now.part m c.args.memory.now c.args.trap.now c.requires.inside c.requires.own c.requires.placed c.requires.exits in
     let other = sym c.is_guest_page_code.ensures ∙ c.if-is_guest_page_code.false in
-    let called = l.called c.if-trap-ne-VIRTUAL_INSTRUCTION.true other in
-    let quiet = call_is_quiet m (environment m.platform) in
-    record { trace = rw called quiet.0; plain = rw called quiet.1 }
+    let made = l.other c.if-trap-ne-VIRTUAL_INSTRUCTION.true other in
+    let quiet = other_is_quiet m c.args.trap.now (is_virtual m.platform.virt.mode) in
+    record { trace = rw made quiet.0; plain = rw made quiet.1 }
 
 pub overflow_cast-trap : goal.overflow_cast-trap
 overflow_cast-trap c =
@@ -72,7 +72,7 @@ returns-then-is_guest_page_code-clause-placed c =
 
 pub returns-then-trap-ne-VIRTUAL_INSTRUCTION-clause-placed : goal.returns-then-trap-ne-VIRTUAL_INSTRUCTION-clause-placed
 returns-then-trap-ne-VIRTUAL_INSTRUCTION-clause-placed c =
-    placed_by_step c.args.guest.now c.call.new.guest c.args.memory.now c.requires.running c.requires.placed c.call.ensures.fixed
+    placed_by_step c.args.guest.now c.other.new.guest c.args.memory.now c.requires.running c.requires.placed c.other.ensures.fixed
     (returns-then-trap-ne-VIRTUAL_INSTRUCTION-clause-step c)
 
 pub returns-clause-placed : goal.returns-clause-placed

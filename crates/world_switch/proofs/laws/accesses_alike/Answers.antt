@@ -1,3 +1,4 @@
+use Rattle.world_switch.proofs.Instructions.{own_mxr}
 use Rattle.world_switch.proofs.Registers.{illegal_alike, illegal_to_write_alike, reads_alike, writes_alike}
 use Rattle.world_switch.proofs.Undone.{translates_alike}
 use Rattle.world_switch.proofs.laws.accesses_alike.Goals as goal
@@ -16,3 +17,6 @@ returns-clause-illegal c = illegal_alike
 
 pub returns-clause-illegal_to_write : goal.returns-clause-illegal_to_write
 returns-clause-illegal_to_write c = illegal_to_write_alike
+
+pub returns-clause-mxr : goal.returns-clause-mxr
+returns-clause-mxr c = own_mxr
