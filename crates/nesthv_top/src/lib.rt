@@ -14,6 +14,8 @@ mod tests;
 mod tests_guests;
 #[cfg(test)]
 mod tests_kernel;
+#[cfg(test)]
+mod tests_nested;
 mod top;
 
 pub use programs::program;

@@ -283,7 +283,7 @@ fn is_reported(alloc: Global, case: Case<'_>, report: &str) -> Result<bool, Allo
 }
 
 /// Images, each with its length if zeros come after the instructions, and the report of one turn of 10,000 steps.
-const IMAGES: [(&[u32], usize, &str); 11] = [
+const IMAGES: [(&[u32], usize, &str); 10] = [
     // jal zero, 0
     (&[0x0000_006F], 0, "guest a running steps 10000 bytes 0\n\n"),
     // ecall with a7 = 0
@@ -296,10 +296,12 @@ const IMAGES: [(&[u32], usize, &str); 11] = [
     ),
     // hfence.gvma zero, zero
     (&[0x6200_0073], 0, "guest a outside steps 0 bytes 0\n\n"),
-    // csrrs a0, hstatus, zero
-    (&[0x6000_2573], 0, "guest a outside steps 0 bytes 0\n\n"),
-    // csrrs a0, vsstatus, zero
-    (&[0x2000_2573], 0, "guest a outside steps 0 bytes 0\n\n"),
+    // hfence.vvma zero, zero; csrrs a0, hstatus, zero; csrrw zero, vsstatus, a0; hlv.b a0, (zero)
+    (
+        &[0x2200_0073, 0x6000_2573, 0x2005_1073, 0x6000_4573],
+        0,
+        "guest a outside steps 3 bytes 0\n\n",
+    ),
     // csrrs a0, time, zero
     (&[0xC010_2573], 0, "guest a outside steps 0 bytes 0\n\n"),
     (&PUTS_A, BLOCK, "guest a stopped steps 5 bytes 1\nA\n"),
@@ -602,6 +604,13 @@ pub fn is_reported_of_bytes(alloc: Global, image: &[u8], report: &str) -> Result
         }
     }
     Ok(true)
+}
+
+/// The trace of an image's steps, in one turn.
+pub fn trace_of(alloc: Global, image: &[u8]) -> Result<u64, AllocError> {
+    let config = config(alloc, 10_000, 1, 16, 100)?;
+    let left = outcome(alloc, &RUN, config.as_str(), image, NONE)?;
+    Ok(left.tally.trace())
 }
 
 #[test]
