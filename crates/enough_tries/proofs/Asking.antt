@@ -46,9 +46,7 @@ use Rattle.machine_defs.specs.declared.events.Event.{Event}
 use Rattle.machine_defs.specs.declared.events.Event.TheVariants.{System}
 use Rattle.machine_defs.specs.Core.{Located, At, Fails, Made, Leaves, Ends as Ended, accessed, called_from, core, decoded, ended, event_of, executed, fetched, is_reserved, loaded_at, located, located_at, located_by, modified_at, own_access, reserved_at, stored_at, stored_if, stored_if_reserved, word_at}
 use Rattle.machine_defs.specs.Outcomes.{Outcome, Done, Trapped, Stuck, Called, Waits, Fenced, Accesses, passed}
-use Rattle.machine_defs.specs.Outcomes as outcome
-use Rattle.machine_defs.specs.Outside.{is_outside}
-use Rattle.machine_defs.specs.Privileges.{combined, csr_accessed, csr_changed, csr_shown, decided, fenced_in, guest_accessed_in, held, in_hs, left_by_sret, privileged, refused, returned_in, unless_outside, waited_in}
+use Rattle.machine_defs.specs.Privileges.{combined, csr_accessed, csr_changed, csr_shown, fenced_in, guest_accessed_in, held, in_hs, left_by_sret, privileged, refused, returned_in, waited_in}
 
 -- a number is one of these
 abbrev pub In : ℕ → List ℕ → Type 0
@@ -203,7 +201,6 @@ OutcomeAlike small large asked Called same = same
 OutcomeAlike small large asked (Waits state) same = same
 OutcomeAlike small large asked (Fenced state fence) same = same
 OutcomeAlike small large asked (Accesses access) same = same
-OutcomeAlike small large asked outcome.Outside same = same
 
 outcome_more : (small large : SecondStage) (asked more : List ℕ) (o : Outcome) (same same' : Type 0)
     → ((p : ℕ) → In p asked → In p more) → (same → same') → OutcomeAlike small large asked o same → OutcomeAlike small large more o same'
@@ -215,7 +212,6 @@ outcome_more small large asked more Called same same' wider then alike = then al
 outcome_more small large asked more (Waits state) same same' wider then alike = then alike
 outcome_more small large asked more (Fenced state fence) same same' wider then alike = then alike
 outcome_more small large asked more (Accesses access) same same' wider then alike = then alike
-outcome_more small large asked more outcome.Outside same same' wider then alike = then alike
 
 -- where an access is made: it asks for the entries, and for the address that they give
 abbrev pub final : Found → List ℕ
@@ -284,7 +280,6 @@ IsDecided Called = Unit {0}
 IsDecided (Waits state) = Unit {0}
 IsDecided (Fenced state fence) = Unit {0}
 IsDecided (Accesses access) = Unit {0}
-IsDecided outcome.Outside = Unit {0}
 
 decided_alike : (small large : SecondStage) (asked : List ℕ) (o : Outcome) (same : Type 0) → IsDecided o → same → OutcomeAlike small large asked o same
 decided_alike small large asked (Stuck unplaced) same is held = absurd is
@@ -294,7 +289,6 @@ decided_alike small large asked Called same is held = held
 decided_alike small large asked (Waits state) same is held = held
 decided_alike small large asked (Fenced state fence) same is held = held
 decided_alike small large asked (Accesses access) same is held = held
-decided_alike small large asked outcome.Outside same is held = held
 
 shown_decided : (s : Virtual) (word rd : ℕ) (value : Result ℕ CsrEnd) → IsDecided (csr_shown s word rd value)
 shown_decided s word rd (Ok value) = tt
@@ -339,23 +333,15 @@ access_decided s word access U = either IsDecided s.csrs.hstatus.hu (Accesses ac
 access_decided s word access VS = tt
 access_decided s word access VU = tt
 
-by_mode_decided : (s : Virtual) (word : ℕ) (p : Privileged) → IsDecided (decided s word p)
-by_mode_decided s word (Csr o number operand writes rd) = csr_decided s word o number operand writes rd
-by_mode_decided s word Sret = sret_decided s word s.mode
-by_mode_decided s word Wfi = wfi_decided s word s.mode
-by_mode_decided s word SfenceVma = fence_decided s word s.mode
-by_mode_decided s word HfenceVvma = in_hs_decided s word (Done (passed s) None System) s.mode tt
-by_mode_decided s word (HfenceGvma fence) = in_hs_decided s word (Fenced (passed s) fence) s.mode tt
-by_mode_decided s word (Accessing access) = access_decided s word access s.mode
-
-unless_decided : (outside : Bool) (o : Outcome) → IsDecided o → IsDecided (unless_outside outside o)
-unless_decided outside (Trapped trap) is = tt
-unless_decided true o is = tt
-unless_decided false o is = is
-
 privileged_decided : (s : Virtual) (word : ℕ) (p : Privileged) → IsDecided (privileged s word p)
 unfolding privileged
-privileged_decided s word p = unless_decided (is_outside p) (decided s word p) (by_mode_decided s word p)
+privileged_decided s word (Csr o number operand writes rd) = csr_decided s word o number operand writes rd
+privileged_decided s word Sret = sret_decided s word s.mode
+privileged_decided s word Wfi = wfi_decided s word s.mode
+privileged_decided s word SfenceVma = fence_decided s word s.mode
+privileged_decided s word HfenceVvma = in_hs_decided s word (Done (passed s) None System) s.mode tt
+privileged_decided s word (HfenceGvma fence) = in_hs_decided s word (Fenced (passed s) fence) s.mode tt
+privileged_decided s word (Accessing access) = access_decided s word access s.mode
 
 called_decided : (mode : Mode) → IsDecided (called_from mode)
 called_decided HS = tt
@@ -527,4 +513,3 @@ else_alike small large w reading s none = by (core small reading s) refl (core_a
     by (Waits state) is same = same
     by (Fenced state fence) is same = same
     by (Accesses access) is same = same
-    by outcome.Outside is same = same

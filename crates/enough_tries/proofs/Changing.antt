@@ -8,24 +8,23 @@ use Rattle.arch_defs.specs.declared.modes.Trap.{Trap}
 use Rattle.arch_defs.specs.declared.registers.Virtual.{Virtual}
 use Rattle.arch_defs.specs.Interrupts.{due, interrupt_of}
 use Rattle.arch_defs.specs.Memory.{SecondStage, ram_base, reading_of}
-use Rattle.arch_defs.specs.Registers.{read, a7}
 use Rattle.arch_defs.specs.SecondStage.{unplaced_trap}
 use Rattle.arch_defs.specs.Traps.{entered_at, entered_hs, entered_vs, is_virtual, target}
 use Rattle.machine_defs.specs.Core.{core}
-use Rattle.machine_defs.specs.Machine.{Machine, Platform, Tried, Ended, Outside, called_by, environment, trapped}
+use Rattle.machine_defs.specs.Machine.{Machine, Tried, Ended, WaitsForGood, Outside, trapped, called}
 use Rattle.machine_defs.specs.Outcomes.{Outcome, Done, Trapped, Stuck, Called, Waits, Fenced, Accesses}
-use Rattle.machine_defs.specs.Outcomes as outcome
-use Rattle.machine_defs.specs.Outside.{has_input}
+use Rattle.arch_defs.specs.Inputs.{has_input}
 use Rattle.enough_tries.specs.Laws.{TriesChangeSpaces, spaces_left}
 use Rattle.enough_tries.specs.Spaces.{enter}
 use Rattle.enough_tries.specs.Tries.{concluded, enters, fence_of, fence_under, fence_with, spaces_after, tried_with, try_under}
 use Rattle.arch_defs.specs.WalkedEntries.{is_table}
 use Rattle.enough_tries.proofs.Asking.{either}
-use Rattle.enough_tries.proofs.Orderly.{CallKeeps, called_front, goes_to}
+use Rattle.enough_tries.proofs.Orderly.{called_front, goes_to}
 
 -- the spaces of a try that ends
 abbrev SpacesAre : Machine → Option Fence → Tried → Type 0
 SpacesAre m fence (Ended after event) = after.spaces ≡ spaces_left m after.platform.virt fence
+SpacesAre m fence WaitsForGood = Unit {0}
 SpacesAre m fence Outside = Unit {0}
 
 -- where no space is entered they stay
@@ -54,19 +53,17 @@ same_mode s after same = ap (λ mode. not (is_virtual s.mode) && (is_virtual mod
     by true = refl
     by false = refl
 
-called_spaces : (m : Machine) (platform : Option Platform) → CallKeeps m.platform.virt platform → SpacesAre m None (called_by m platform)
-called_spaces m (Some platform) (mode, root) = stay m platform.virt (same_mode m.platform.virt platform.virt mode)
-called_spaces m None keeps = tt
+called_spaces : (m : Machine) → SpacesAre m None (concluded m Called)
+called_spaces m = let kept = called_front m.platform in stay m (called m.platform).virt (same_mode m.platform.virt (called m.platform).virt kept.0)
 
 concluded_spaces : (m : Machine) (o : Outcome) → SpacesAre m (fence_of o) (concluded m o)
 concluded_spaces m (Done virt stored event) = refl
 concluded_spaces m (Trapped trap) = trapped_spaces m trap
 concluded_spaces m (Stuck unplaced) = trapped_spaces m (unplaced_trap m.platform.virt.csrs ram_base m.ram unplaced)
-concluded_spaces m Called = called_spaces m (environment m.platform) (called_front m.platform (read m.platform.virt.regs a7))
+concluded_spaces m Called = called_spaces m
 concluded_spaces m (Waits virt) = tt
 concluded_spaces m (Fenced virt fence) = refl
 concluded_spaces m (Accesses access) = tt
-concluded_spaces m outcome.Outside = tt
 
 tried_spaces : (second : SecondStage) (m : Machine) (code : Option ℕ) → SpacesAre m (fence_with second m code) (tried_with second m code)
 tried_spaces second m (Some code) = trapped_spaces m (interrupt_of code)
@@ -74,7 +71,7 @@ tried_spaces second m None = concluded_spaces m (core second (reading_of ram_bas
 
 try_spaces : (second : SecondStage) (m : Machine) → SpacesAre m (fence_under second m) (try_under second m)
 unfolding try_under fence_under
-try_spaces second m = either (SpacesAre m (fence_with second m (due m.platform.virt.csrs m.platform.virt.mode))) (has_input m.platform.inputs m.platform.clock) Outside
+try_spaces second m = either (SpacesAre m (fence_with second m (due m.platform.virt.csrs m.platform.virt.mode))) (has_input m.platform.console.inputs m.platform.clock.time) Outside
     (tried_with second m (due m.platform.virt.csrs m.platform.virt.mode)) tt (tried_spaces second m (due m.platform.virt.csrs m.platform.virt.mode))
 
 pub tries_change_spaces : TriesChangeSpaces

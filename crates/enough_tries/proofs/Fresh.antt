@@ -11,7 +11,6 @@ use Rattle.arch_defs.specs.Memory.{SecondStage, ram_base, reading_of}
 use Rattle.arch_defs.specs.Permits.{permits_second}
 use Rattle.arch_defs.specs.Walk.{leaf_address}
 use Rattle.machine_defs.specs.Outcomes.{Outcome, Done, Trapped, Stuck, Called, Waits, Fenced, Accesses}
-use Rattle.machine_defs.specs.Outcomes as outcome
 use Rattle.arch_defs.specs.CachedEntries.{entry_at, leaf_of, place_by, second_by}
 use Rattle.enough_tries.specs.Fills.{lacking_at, lacking_under}
 use Rattle.arch_defs.specs.WalkedEntries.{entry_now}
@@ -67,7 +66,6 @@ stopped csrs ram Called e is = absurd cc
 stopped csrs ram (Waits state) e is = absurd cc
 stopped csrs ram (Fenced state fence) e is = absurd cc
 stopped csrs ram (Accesses access) e is = absurd cc
-stopped csrs ram outcome.Outside e is = absurd cc
 
 -- the pages of addresses
 pub pages_of : List ℕ → List ℕ

@@ -26,11 +26,10 @@ use Rattle.arch_defs.proofs.Pastes.{length_pasted}
 use Rattle.machine_defs.specs.declared.events.Event.{Event}
 use Rattle.machine_defs.specs.declared.guests.Status.{Status}
 use Rattle.machine_defs.specs.declared.guests.Status.TheVariants as status
-use Rattle.machine_defs.specs.Machine.{Machine, Platform, Tried, Ended, Outside, called, called_by, environment, trapped}
+use Rattle.machine_defs.specs.Machine.{Machine, Platform, Tried, Ended, WaitsForGood, Outside, trapped}
 use Rattle.arch_defs.specs.Spaces.{Space, found_or_empty, front, is_root}
 use Rattle.machine_defs.specs.Outcomes.{Outcome, Done, Trapped, Stuck, Called, Waits, Fenced, Accesses}
-use Rattle.machine_defs.specs.Outcomes as outcome
-use Rattle.machine_defs.specs.Outside.{has_input, is_outside_call}
+use Rattle.arch_defs.specs.Inputs.{has_input}
 use Rattle.machine_defs.specs.Renaming.{GivesHeld, LeavesHeld, Places, ReservesHeld, StoresHeld}
 use Rattle.machine_defs.specs.Reservations.{ReservesInRam, ram_places}
 use Rattle.machine_defs.specs.Runs.{left_by}
@@ -153,6 +152,7 @@ fills_keep (suc n) m caches kept = by (lacking m) refl (λ t. fills_keep n t)
 
 abbrev TryKeeps : Machine → Tried → Type 0
 TryKeeps m (Ended after event) = Keeps m after
+TryKeeps m WaitsForGood = Unit {0}
 TryKeeps m Outside = Unit {0}
 
 -- a store inside one page of RAM ends in RAM
@@ -175,18 +175,9 @@ trapped_keeps : (m : Machine) → CachesInRam m → ReservesInRam m → (trap : 
 trapped_keeps m caches kept trap = let s = m.platform.virt in (caches, entered_keeps (ram_places m) s kept trap (target s.csrs s.mode trap), refl)
 
 -- and so does a call
-abbrev CallKeeps : Places → Option Platform → Type 0
-CallKeeps held (Some p) = ReservesHeld held p.virt.reservation
-CallKeeps held None = Unit {0}
-
-called_keeps : (held : Places) (p : Platform) → ReservesHeld held p.virt.reservation → (number : ℕ) → CallKeeps held (called p number)
-called_keeps held p kept number = either (CallKeeps held) (number == 1) _ _
-    (either (λ (q : Platform). ReservesHeld held q.virt.reservation) (nat_lt (length p.console) p.console_room) _ _ kept kept)
-    (either (CallKeeps held) (number == 8) _ _ kept (either (CallKeeps held) (is_outside_call number) _ _ tt kept))
-
-called_by_keeps : (m : Machine) → CachesInRam m → (platform : Option Platform) → CallKeeps (ram_places m) platform → TryKeeps m (called_by m platform)
-called_by_keeps m caches (Some platform) kept = (caches, kept, refl)
-called_by_keeps m caches None kept = tt
+called_keeps : (m : Machine) → CachesInRam m → ReservesInRam m → TryKeeps m (concluded m Called)
+called_keeps m caches kept =
+    (caches, either (λ (p : Platform). ReservesHeld (ram_places m) p.virt.reservation) (read m.platform.virt.regs a7 == 8) _ _ kept kept, refl)
 
 -- an instruction reserves and stores in RAM
 made_keeps : (m : Machine) → length m.ram % 4096 ≡ 0 → CachesInRam m → (virt : Virtual) (stored : Option Stored) (event : Event)
@@ -201,12 +192,10 @@ concluded_keeps : (m : Machine) → length m.ram % 4096 ≡ 0 → CachesInRam m 
 concluded_keeps m whole caches kept (Done virt stored event) (stores, reserves) = made_keeps m whole caches virt stored event stores reserves
 concluded_keeps m whole caches kept (Trapped trap) leaves = trapped_keeps m caches kept trap
 concluded_keeps m whole caches kept (Stuck unplaced) leaves = trapped_keeps m caches kept (unplaced_trap m.platform.virt.csrs ram_base m.ram unplaced)
-concluded_keeps m whole caches kept Called leaves = called_by_keeps m caches (environment m.platform)
-    (called_keeps (ram_places m) m.platform kept (read m.platform.virt.regs a7))
+concluded_keeps m whole caches kept Called leaves = called_keeps m caches kept
 concluded_keeps m whole caches kept (Waits virt) leaves = tt
 concluded_keeps m whole caches kept (Fenced virt fence) leaves = (cut_holds (IsInRam (length m.ram)) fence m.spaces caches, leaves, refl)
 concluded_keeps m whole caches kept (Accesses access) leaves = tt
-concluded_keeps m whole caches kept outcome.Outside leaves = tt
 
 -- one try, one step and a run
 tried_keeps : (m : Machine) → length m.ram % 4096 ≡ 0 → CachesInRam m → ReservesInRam m → (code : Option ℕ) → TryKeeps m (tried_with (second_of m) m code)
@@ -216,11 +205,12 @@ tried_keeps m whole caches kept None = concluded_keeps m whole caches kept _
 
 try_keeps : (m : Machine) → length m.ram % 4096 ≡ 0 → CachesInRam m → ReservesInRam m → TryKeeps m (try m)
 unfolding try_under
-try_keeps m whole caches kept = either (TryKeeps m) (has_input m.platform.inputs m.platform.clock) _ _ tt
+try_keeps m whole caches kept = either (TryKeeps m) (has_input m.platform.console.inputs m.platform.clock.time) _ _ tt
     (tried_keeps m whole caches kept (due m.platform.virt.csrs m.platform.virt.mode))
 
 left_keeps : (m : Machine) → CachesInRam m → ReservesInRam m → (t : Tried) → TryKeeps m t → Keeps m (left_by m t)
 left_keeps m caches kept (Ended after event) keeps = keeps
+left_keeps m caches kept WaitsForGood keeps = (caches, kept, refl)
 left_keeps m caches kept Outside keeps = (caches, kept, refl)
 
 within_keeps : (n : ℕ) (m : Machine) → length m.ram % 4096 ≡ 0 → CachesInRam m → ReservesInRam m → Keeps m (step_within n m)

@@ -1,6 +1,6 @@
 -- A machine that folds has the space of hgatp in front.
-use Rattle.std.specs.Prelude.{◌==◌, ◌&&◌, not, nat_lt, find}
-use Rattle.std.proofs.Common.{cond, ◌≡◌, ℕ, zero, suc, ◌≤◌, ◌∙◌, Bool, true, false, List, [], ◌∷◌, Option, Some, None, length, refl, sym, subst, ap, arith}
+use Rattle.std.specs.Prelude.{◌==◌, ◌&&◌, not, find}
+use Rattle.std.proofs.Common.{cond, ◌≡◌, ℕ, zero, suc, ◌≤◌, ◌∙◌, Bool, true, false, List, [], ◌∷◌, Option, Some, None, refl, sym, subst, ap, arith}
 use Rattle.std.proofs.lemmas.Bool.{and_from, and_parts, eqb-true}
 use Rattle.arch_defs.specs.declared.cached.Entry.{Entry}
 use Rattle.arch_defs.specs.declared.cached.Fence.{Fence}
@@ -16,11 +16,10 @@ use Rattle.arch_defs.specs.SecondStage.{unplaced_trap}
 use Rattle.arch_defs.specs.Traps.{entered_at, entered_hs, entered_vs, is_delegated, is_virtual, target}
 use Rattle.machine_defs.specs.declared.guests.Status.{Status}
 use Rattle.machine_defs.specs.declared.guests.Status.TheVariants as status
-use Rattle.machine_defs.specs.Machine.{Machine, Platform, Tried, Ended, Outside, called, called_by, environment, start, trapped}
+use Rattle.machine_defs.specs.Machine.{Machine, Platform, Tried, Ended, WaitsForGood, Outside, called, start, trapped}
 use Rattle.arch_defs.specs.Spaces.{Space, found_or_empty, is_root}
 use Rattle.machine_defs.specs.Outcomes.{Outcome, Done, Trapped, Stuck, Called, Waits, Fenced, Accesses}
-use Rattle.machine_defs.specs.Outcomes as outcome
-use Rattle.machine_defs.specs.Outside.{has_input, is_outside_call}
+use Rattle.arch_defs.specs.Inputs.{has_input}
 use Rattle.machine_defs.specs.Runs.{left_by}
 use Rattle.arch_defs.specs.Registers.{read, a7}
 use Rattle.enough_tries.specs.Fills.{after_fill, after_fills, fill, filled_front, lacking, most_fills}
@@ -94,6 +93,7 @@ rooms_same (suc n) m = by (lacking m) (λ t. rooms_same n t)
 -- what a try leaves
 abbrev TryKeeps : Machine → Tried → Type 0
 TryKeeps m (Ended after event) = FrontOf after.platform.virt after.spaces × (after.space_room ≡ m.space_room) × (after.entry_room ≡ m.entry_room)
+TryKeeps m WaitsForGood = Unit {0}
 TryKeeps m Outside = Unit {0}
 
 -- a trap goes to HS, or from V = 1 to VS, and leaves hgatp
@@ -115,23 +115,17 @@ trapped_front m front trap = let s = m.platform.virt in
     (trap_front s m.spaces front trap (target s.csrs s.mode trap) (goes_to s trap), refl, refl)
 
 -- a call leaves the mode and hgatp
-abbrev pub CallKeeps : Virtual → Option Platform → Type 0
-CallKeeps s (Some p) = (p.virt.mode ≡ s.mode) × (p.virt.csrs.hgatp ≡ s.csrs.hgatp)
-CallKeeps s None = Unit {0}
-
-pub called_front : (p : Platform) (number : ℕ) → CallKeeps p.virt (called p number)
-called_front p number = either (CallKeeps p.virt) (number == 1) _ _
-    (either (λ (q : Platform). (q.virt.mode ≡ p.virt.mode) × (q.virt.csrs.hgatp ≡ p.virt.csrs.hgatp)) (nat_lt (length p.console) p.console_room) _ _ (refl, refl) (refl, refl))
-    (either (CallKeeps p.virt) (number == 8) _ _ (refl, refl) (either (CallKeeps p.virt) (is_outside_call number) _ _ tt (refl, refl)))
+pub called_front : (p : Platform) → ((called p).virt.mode ≡ p.virt.mode) × ((called p).virt.csrs.hgatp ≡ p.virt.csrs.hgatp)
+called_front p = either (λ (q : Platform). (q.virt.mode ≡ p.virt.mode) × (q.virt.csrs.hgatp ≡ p.virt.csrs.hgatp)) (read p.virt.regs a7 == 8) _ _ (refl, refl) (refl, refl)
 
 stays_front : (s after : Virtual) (spaces : List Space) → after.mode ≡ s.mode → after.csrs.hgatp ≡ s.csrs.hgatp → FrontOf s spaces → FrontOf after spaces
 stays_front s after spaces mode root front folding =
     let before : folds s ≡ true = ap (λ m. is_virtual m && is_table s.csrs.hgatp) (sym mode) ∙ ap (λ r. is_virtual after.mode && is_table r) (sym root) ∙ folding in
     subst (λ key. FrontIs key spaces) (sym root) (front before)
 
-called_by_front : (m : Machine) → FrontOf m.platform.virt m.spaces → (platform : Option Platform) → CallKeeps m.platform.virt platform → TryKeeps m (called_by m platform)
-called_by_front m front (Some platform) (mode, root) = (stays_front m.platform.virt platform.virt m.spaces mode root front, refl, refl)
-called_by_front m front None keeps = tt
+called_keeps : (m : Machine) → FrontOf m.platform.virt m.spaces → TryKeeps m (concluded m Called)
+called_keeps m front = let kept = called_front m.platform in
+    (stays_front m.platform.virt (called m.platform).virt m.spaces kept.0 kept.1 front, refl, refl)
 
 -- an instruction that sets V enters a space, and another leaves hgatp where V is 1
 made_front : (m : Machine) → 1 ≤ m.space_room → FrontOf m.platform.virt m.spaces → (virt : Virtual)
@@ -151,12 +145,11 @@ concluded_front : (m : Machine) → 1 ≤ m.space_room → FrontOf m.platform.vi
 concluded_front m some front (Done virt stored event) keeps = (made_front m some front virt keeps, refl, refl)
 concluded_front m some front (Trapped trap) keeps = trapped_front m front trap
 concluded_front m some front (Stuck unplaced) keeps = trapped_front m front (unplaced_trap m.platform.virt.csrs ram_base m.ram unplaced)
-concluded_front m some front Called keeps = called_by_front m front (environment m.platform) (called_front m.platform (read m.platform.virt.regs a7))
+concluded_front m some front Called keeps = called_keeps m front
 concluded_front m some front (Waits virt) keeps = tt
 concluded_front m some front (Fenced virt fence) (mode, root) =
     (stays_front m.platform.virt virt (cut fence m.spaces) mode root (λ folding. cut_same m.platform.virt.csrs.hgatp fence m.spaces (front folding)), refl, refl)
 concluded_front m some front (Accesses access) keeps = tt
-concluded_front m some front outcome.Outside keeps = tt
 
 tried_front : (m : Machine) → 1 ≤ m.space_room → FrontOf m.platform.virt m.spaces → (second : SecondStage) (code : Option ℕ) → TryKeeps m (tried_with second m code)
 tried_front m some front second (Some code) = trapped_front m front (interrupt_of code)
@@ -164,12 +157,13 @@ tried_front m some front second None = concluded_front m some front _ (core_root
 
 try_front : (m : Machine) → 1 ≤ m.space_room → FrontOf m.platform.virt m.spaces → TryKeeps m (try m)
 unfolding try_under
-try_front m some front = either (TryKeeps m) (has_input m.platform.inputs m.platform.clock) Outside _ tt
+try_front m some front = either (TryKeeps m) (has_input m.platform.console.inputs m.platform.clock.time) Outside _ tt
     (tried_front m some front (second_of m) (due m.platform.virt.csrs m.platform.virt.mode))
 
 -- so of a step and a run
 left_orderly : (m : Machine) → IsOrderly m → (t : Tried) → TryKeeps m t → IsOrderly (left_by m t)
 left_orderly m is (Ended after event) (front, spaces, entries) = record { entries = rw entries is.entries; spaces = rw spaces is.spaces; front = front }
+left_orderly m is WaitsForGood keeps = record { entries = is.entries; spaces = is.spaces; front = is.front }
 left_orderly m is Outside keeps = record { entries = is.entries; spaces = is.spaces; front = is.front }
 
 pub filled_orderly : (n : ℕ) (m : Machine) → IsOrderly m → IsOrderly (after_fills n m)

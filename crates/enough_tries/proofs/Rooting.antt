@@ -39,9 +39,7 @@ use Rattle.machine_defs.specs.declared.events.Event.{Event}
 use Rattle.machine_defs.specs.declared.events.Event.TheVariants.{System}
 use Rattle.machine_defs.specs.Core.{Located, At, Fails, Made, Leaves, Ends, called_from, core, decoded, ended, event_of, executed, fetched, is_reserved, loaded_at, located, located_at, located_by, modified_at, own_access, reserved_at, stored_at, stored_if, stored_if_reserved, word_at}
 use Rattle.machine_defs.specs.Outcomes.{Outcome, Done, Trapped, Stuck, Called, Waits, Fenced, Accesses, passed}
-use Rattle.machine_defs.specs.Outcomes as outcome
-use Rattle.machine_defs.specs.Outside.{is_outside}
-use Rattle.machine_defs.specs.Privileges.{combined, csr_accessed, csr_changed, csr_shown, decided, fenced_in, guest_accessed_in, held, in_hs, left_by_sret, privileged, refused, returned_in, unless_outside, waited_in}
+use Rattle.machine_defs.specs.Privileges.{combined, csr_accessed, csr_changed, csr_shown, fenced_in, guest_accessed_in, held, in_hs, left_by_sret, privileged, refused, returned_in, waited_in}
 use Rattle.enough_tries.proofs.Asking.{either}
 
 -- what an outcome leaves of it
@@ -53,7 +51,6 @@ KeepsRoot s (Stuck unplaced) = Unit {0}
 KeepsRoot s Called = Unit {0}
 KeepsRoot s (Waits after) = Unit {0}
 KeepsRoot s (Accesses access) = Unit {0}
-KeepsRoot s outcome.Outside = Unit {0}
 
 -- a write of a register but those of the hypervisor's own row
 abbrev IsOther : Result Register CsrEnd → Type 0
@@ -193,23 +190,15 @@ access_root s word access U = either (KeepsRoot s) s.csrs.hstatus.hu (Accesses a
 access_root s word access VS = tt
 access_root s word access VU = tt
 
-decided_root : (s : Virtual) (word : ℕ) (p : Privileged) → KeepsRoot s (decided s word p)
-decided_root s word (Csr o number operand writes rd) = csr_root s word o number operand writes rd
-decided_root s word Sret = sret_root s word s.mode
-decided_root s word Wfi = wfi_root s word s.mode
-decided_root s word SfenceVma = fence_root s word s.mode
-decided_root s word HfenceVvma = in_hs_root s word (Done (passed s) None System) s.mode (λ virtual. refl)
-decided_root s word (HfenceGvma fence) = in_hs_root s word (Fenced (passed s) fence) s.mode (refl, refl)
-decided_root s word (Accessing access) = access_root s word access s.mode
-
-unless_root : (s : Virtual) (outside : Bool) (o : Outcome) → KeepsRoot s o → KeepsRoot s (unless_outside outside o)
-unless_root s outside (Trapped trap) keeps = tt
-unless_root s true o keeps = tt
-unless_root s false o keeps = keeps
-
 privileged_root : (s : Virtual) (word : ℕ) (p : Privileged) → KeepsRoot s (privileged s word p)
 unfolding privileged
-privileged_root s word p = unless_root s (is_outside p) (decided s word p) (decided_root s word p)
+privileged_root s word (Csr o number operand writes rd) = csr_root s word o number operand writes rd
+privileged_root s word Sret = sret_root s word s.mode
+privileged_root s word Wfi = wfi_root s word s.mode
+privileged_root s word SfenceVma = fence_root s word s.mode
+privileged_root s word HfenceVvma = in_hs_root s word (Done (passed s) None System) s.mode (λ virtual. refl)
+privileged_root s word (HfenceGvma fence) = in_hs_root s word (Fenced (passed s) fence) s.mode (refl, refl)
+privileged_root s word (Accessing access) = access_root s word access s.mode
 
 -- where an access is made, or how it ends
 abbrev LocatedKeeps : Virtual → Located → Type 0

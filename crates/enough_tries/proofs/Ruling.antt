@@ -15,7 +15,7 @@ use Rattle.machine_defs.specs.Machine.{Machine, Platform, Outside}
 use Rattle.arch_defs.specs.Spaces.{Space, front}
 use Rattle.machine_defs.specs.Runs.{left_by}
 use Rattle.machine_defs.specs.Outcomes.{Stuck}
-use Rattle.machine_defs.specs.Outside.{has_input}
+use Rattle.arch_defs.specs.Inputs.{has_input}
 use Rattle.arch_defs.specs.CachedEntries.{place_by, second_by}
 use Rattle.enough_tries.specs.Fills.{most_fills, ready, lacking, lacking_at, lacking_under}
 use Rattle.arch_defs.specs.WalkedEntries.{entry_now, folds, is_table}
@@ -56,7 +56,7 @@ try_ruled : (m : Machine) (own rule : SecondStage)
     → (due m.platform.virt.csrs m.platform.virt.mode ≡ None → core rule (reading_of ram_base m.ram) m.platform.virt ≡ core own (reading_of ram_base m.ram) m.platform.virt)
     → try_under own m ≡ try_under rule m
 unfolding try_under
-try_ruled m own rule same = ap (cond (has_input m.platform.inputs m.platform.clock) Outside)
+try_ruled m own rule same = ap (cond (has_input m.platform.console.inputs m.platform.clock.time) Outside)
     (tried_ruled m own rule (due m.platform.virt.csrs m.platform.virt.mode) same)
 
 own_front : (p : Platform) (ram : List ℕ) (s : Space) (ss : List Space) (space_room entry_room : ℕ) → folds p.virt ≡ true

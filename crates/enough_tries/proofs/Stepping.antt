@@ -7,10 +7,9 @@ use Rattle.arch_defs.specs.Memory.{SecondStage, ram_base, reading_of}
 use Rattle.machine_defs.specs.declared.guests.Status.{Status}
 use Rattle.machine_defs.specs.declared.guests.Status.TheVariants as status
 use Rattle.machine_defs.specs.Core.{core}
-use Rattle.machine_defs.specs.Machine.{Machine, Platform, Tried, Ended, Outside, called_by, environment}
+use Rattle.machine_defs.specs.Machine.{Machine, Tried, Ended, WaitsForGood, Outside}
 use Rattle.machine_defs.specs.Outcomes.{Outcome, Done, Trapped, Stuck, Called, Waits, Fenced, Accesses}
-use Rattle.machine_defs.specs.Outcomes as outcome
-use Rattle.machine_defs.specs.Outside.{has_input}
+use Rattle.arch_defs.specs.Inputs.{has_input}
 use Rattle.machine_defs.specs.Runs.{event_in, left_by}
 use Rattle.enough_tries.specs.Budgets.{BudgetIsSmall, FillGoes, FillIsNoEvent, TryGoes, TryIsEvent, budget}
 use Rattle.enough_tries.specs.Fills.{fill, fills, lacking, most_fills, ready}
@@ -57,21 +56,17 @@ step_ready m is none = step_running m is ∙ ap left_after (no_fills (most_fills
 -- a try leaves the room for entries as it is
 abbrev HasRoom : ℕ → Tried → Type 0
 HasRoom room (Ended after event) = after.entry_room ≡ room
+HasRoom room WaitsForGood = Unit {0}
 HasRoom room Outside = Unit {0}
-
-called_room : (m : Machine) (platform : Option Platform) → HasRoom m.entry_room (called_by m platform)
-called_room m (Some platform) = refl
-called_room m None = tt
 
 concluded_room : (m : Machine) (o : Outcome) → HasRoom m.entry_room (concluded m o)
 concluded_room m (Done virt stored event) = refl
 concluded_room m (Trapped trap) = refl
 concluded_room m (Stuck unplaced) = refl
-concluded_room m Called = called_room m (environment m.platform)
+concluded_room m Called = refl
 concluded_room m (Waits virt) = tt
 concluded_room m (Fenced virt fence) = refl
 concluded_room m (Accesses access) = tt
-concluded_room m outcome.Outside = tt
 
 tried_room : (second : SecondStage) (m : Machine) (code : Option ℕ) → HasRoom m.entry_room (tried_with second m code)
 tried_room second m (Some code) = refl
@@ -79,7 +74,7 @@ tried_room second m None = concluded_room m (core second (reading_of ram_base m.
 
 try_room : (m : Machine) → HasRoom m.entry_room (try m)
 unfolding try_under
-try_room m = by (has_input m.platform.inputs m.platform.clock)
+try_room m = by (has_input m.platform.console.inputs m.platform.clock.time)
   where
     by : (b : Bool) → HasRoom m.entry_room (cond b Outside (tried_with (second_of m) m (due m.platform.virt.csrs m.platform.virt.mode)))
     by true = tt
@@ -87,6 +82,7 @@ try_room m = by (has_input m.platform.inputs m.platform.clock)
 
 left_room : (m : Machine) (t : Tried) → HasRoom m.entry_room t → (left_by m t).entry_room ≡ m.entry_room
 left_room m (Ended after event) room = room
+left_room m WaitsForGood room = refl
 left_room m Outside room = refl
 
 -- what one try leaves of a run: a fill leaves all steps

@@ -10,11 +10,10 @@ use Rattle.arch_defs.specs.Traps.{is_virtual}
 use Rattle.machine_defs.specs.declared.events.Event.{Event}
 use Rattle.machine_defs.specs.declared.events.Event.TheVariants as event
 use Rattle.machine_defs.specs.Core.{core}
-use Rattle.machine_defs.specs.Machine.{Machine, Tried, Outside, called_by, environment, stepped_to, trapped}
+use Rattle.machine_defs.specs.Machine.{Machine, Tried, Outside, stepped_to, trapped, called}
 use Rattle.arch_defs.specs.Spaces.{Space, front}
 use Rattle.machine_defs.specs.Outcomes.{Outcome, Done, Trapped, Stuck, Called, Waits, Fenced, Accesses}
-use Rattle.machine_defs.specs.Outcomes as outcome
-use Rattle.machine_defs.specs.Outside.{has_input}
+use Rattle.arch_defs.specs.Inputs.{has_input}
 use Rattle.arch_defs.specs.CachedEntries.{second_by}
 use Rattle.enough_tries.specs.Spaces.{cut, enter}
 use Rattle.arch_defs.specs.WalkedEntries.{folds}
@@ -45,12 +44,11 @@ abbrev pub concluded : Machine → Outcome → Tried
 concluded m (Done virt stored event) = made m virt stored event
 concluded m (Trapped trap) = trapped m trap
 concluded m (Stuck unplaced) = trapped m (unplaced_trap m.platform.virt.csrs ram_base m.ram unplaced)
-concluded m Called = called_by m (environment m.platform)
+concluded m Called = stepped_to m (called m.platform) event.System
 concluded m (Waits virt) = Outside
 concluded m (Fenced virt fence) =
     stepped_to (record m { spaces = cut fence m.spaces }) (record m.platform { virt = virt }) event.System
 concluded m (Accesses access) = Outside
-concluded m outcome.Outside = Outside
 
 -- the interrupt of this code, if one is due, or else one instruction under a second stage
 abbrev pub tried_with : SecondStage → Machine → Option ℕ → Tried
@@ -59,7 +57,7 @@ tried_with second m None = concluded m (core second (reading_of ram_base m.ram) 
 
 -- one try under a second stage; where an input's moment has come it is outside so far
 unfoldable pub try_under : SecondStage → Machine → Tried
-try_under second m = if has_input m.platform.inputs m.platform.clock then Outside
+try_under second m = if has_input m.platform.console.inputs m.platform.clock.time then Outside
     else tried_with second m (due m.platform.virt.csrs m.platform.virt.mode)
 
 -- one try

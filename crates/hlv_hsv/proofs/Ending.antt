@@ -6,11 +6,11 @@ use Rattle.arch_defs.specs.declared.widths.Width.{Width}
 use Rattle.arch_defs.specs.Memory.{with_stored}
 use Rattle.machine_defs.specs.declared.events.Event.TheVariants.{System}
 use Rattle.machine_defs.specs.Core.{Located, At, Fails, ended, stored_at, storing}
-use Rattle.machine_defs.specs.Outcomes.{Done, Trapped, Stuck, Called, Waits, Fenced, Accesses, Outside, passed}
+use Rattle.machine_defs.specs.Outcomes.{Done, Trapped, Stuck, Called, Waits, Fenced, Accesses, passed}
 use Rattle.two_stage_walk.specs.Answers.{answer_of}
 use Rattle.hlv_hsv.specs.declared.accessing.Accessed.TheVariants as accessed
 use Rattle.hlv_hsv.specs.Ends.{EndsAs}
-use Rattle.hlv_hsv.specs.GuestAccesses.{trapped_by_walk}
+use Rattle.machine_defs.specs.GuestAccesses.{trapped_by_walk}
 
 -- an access whose answer is a place is made there
 is_at : (csrs : Csrs) (base : ℕ) (bytes : List ℕ) (located : Located) (place : ℕ) → answer_of csrs base bytes located ≡ Some (Ok place) → located ≡ At place
@@ -22,7 +22,6 @@ is_at csrs base bytes (Fails Called) place e = absurd (cc)
 is_at csrs base bytes (Fails (Waits state)) place e = absurd (cc)
 is_at csrs base bytes (Fails (Fenced state fence)) place e = absurd (cc)
 is_at csrs base bytes (Fails (Accesses access)) place e = absurd (cc)
-is_at csrs base bytes (Fails Outside) place e = absurd (cc)
 
 pub stored : (csrs : Csrs) (base : ℕ) (bytes changed : List ℕ) (state after : Virtual) (width : Width) (value : ℕ) (located : Located) (place : ℕ)
     → answer_of csrs base bytes located ≡ Some (Ok place)

@@ -7,7 +7,7 @@ ghost use Rattle.machine_defs.specs.declared.events.Event.TheVariants.{System};
 ghost use Rattle.machine_defs.specs.Core.{ended, loaded_at, stored_at};
 ghost use Rattle.two_stage_walk.specs.Places.{IsWhole};
 ghost use Rattle.hlv_hsv.specs.Ends.{EndsAs, IfRaised, told};
-ghost use Rattle.hlv_hsv.specs.GuestAccesses.{guest_accessed, guest_outcome, trapped_by_walk};
+ghost use Rattle.machine_defs.specs.GuestAccesses.{guest_accessed, guest_outcome, trapped_by_walk};
 
 use crate::places::{guest_place, read_at, write_at};
 use arch_defs::{Access, Reg, Trap, Virtual, Width, extend};

@@ -7,7 +7,7 @@ ghost use Rattle.machine_defs.specs.Core.{storing};
 ghost use Rattle.two_stage_walk.specs.Answers.{answer_of};
 ghost use Rattle.two_stage_walk.specs.Places.{IsWhole};
 ghost use Rattle.hlv_hsv.specs.Ends.{IsPlaceFor};
-ghost use Rattle.hlv_hsv.specs.GuestAccesses.{guest_accessed, guest_mode};
+ghost use Rattle.machine_defs.specs.GuestAccesses.{guest_accessed, guest_mode};
 
 use arch_defs::{Access, Csrs, Mode, Trap, Virtual, Width};
 use phys_mem::Mem;

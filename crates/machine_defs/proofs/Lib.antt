@@ -1,3 +1,4 @@
+pub mod GuestAccesses
 pub mod HostPlaces
 pub mod Placed
 pub mod Renaming

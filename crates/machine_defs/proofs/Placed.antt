@@ -79,7 +79,7 @@ KeepsOffset va (Lacks place) = Unit {0}
 added : (frame part va : ℕ) → part % 4096 ≡ va % 4096 → (4096 * frame + part) % 4096 ≡ va % 4096
 added frame part va same = omega arith
 
-leaf_keeps : (frame level va : ℕ) → (4096 * frame + va % 2 ^ (12 + 9 * level)) % 4096 ≡ va % 4096
+pub leaf_keeps : (frame level va : ℕ) → (4096 * frame + va % 2 ^ (12 + 9 * level)) % 4096 ≡ va % 4096
 leaf_keeps frame level va = added frame (va % 2 ^ (12 + 9 * level)) va
     (let turned : 12 + 9 * level ≡ 9 * level + 12 = omega arith in rw turned (mod-mod-pow va (9 * level) 12))
 

@@ -28,10 +28,9 @@ use Rattle.op_defs.specs.Table.{op_of}
 use Rattle.machine_defs.specs.declared.events.Event.{Event}
 use Rattle.machine_defs.specs.declared.events.Event.TheVariants.{System}
 use Rattle.machine_defs.specs.Core.{Located, At, Fails, Made, Leaves, Ends, called_from, core, decoded, ended, event_of, executed, fetched, is_reserved, loaded_at, modified_at, reserved_at, stored_at, stored_if, stored_if_reserved, word_at}
-use Rattle.machine_defs.specs.Outcomes.{Outcome, Done, Trapped, Waits, Accesses, passed}
-use Rattle.machine_defs.specs.Outside.{is_outside}
-use Rattle.machine_defs.specs.Privileges.{combined, csr_accessed, csr_changed, csr_shown, decided, fenced_in, guest_accessed_in, held as shown, in_hs, left_by_sret, privileged, refused, returned_in, unless_outside, waited_in}
-use Rattle.machine_defs.specs.Renaming.{GivesHeld, IsRenamed, LeavesHeld, Places, RenamedCore, ReservesHeld, StaysHeld, StoresHeld, outcome_renamed, renamed, reservation_renamed, stored_renamed}
+use Rattle.machine_defs.specs.Outcomes.{Outcome, Done, Waits, Accesses, passed}
+use Rattle.machine_defs.specs.Privileges.{combined, csr_accessed, csr_changed, csr_shown, fenced_in, guest_accessed_in, held as shown, in_hs, left_by_sret, privileged, refused, returned_in, waited_in}
+use Rattle.machine_defs.specs.Renaming.{GivesHeld, IsRenamed, Places, RenamedCore, ReservesHeld, StaysHeld, StoresHeld, renamed, reservation_renamed, stored_renamed}
 use Rattle.machine_defs.proofs.Placed.{EndsAlike, LocatedAlike, accessed_alike}
 
 -- what an instruction leaves, under both names
@@ -43,7 +42,7 @@ MadeAlike h held (Leaves own stored) (Ends host) = ⊥
 MadeAlike h held (Ends own) (Leaves host stored') = ⊥
 
 -- each kind of access, by where it is made
-loaded_alike : {h : ℕ → ℕ} {held : Places} {own : SecondStage} {reading : Reading} {host : SecondStage} {other : Reading}
+pub loaded_alike : {h : ℕ → ℕ} {held : Places} {own : SecondStage} {reading : Reading} {host : SecondStage} {other : Reading}
     → IsRenamed h held own reading host other → (s : Virtual) → ReservesHeld held s.reservation → (width : Width) (signed : Bool) (rd : ℕ) (a b : Located)
     → LocatedAlike h held (bytes_in width) a b → MadeAlike h held (loaded_at reading s width signed rd a) (loaded_at other (renamed h s) width signed rd b)
 loaded_alike r s kept width signed rd (At a) (At b) (e, in_set, fits) = rw (e, r.same a (bytes_in width) in_set fits) (refl, refl, tt, kept)
@@ -51,7 +50,7 @@ loaded_alike r s kept width signed rd (Fails a) (Fails b) ends = ends
 loaded_alike r s kept width signed rd (At a) (Fails b) never = absurd never
 loaded_alike r s kept width signed rd (Fails a) (At b) never = absurd never
 
-stored_alike : (h : ℕ → ℕ) (held : Places) (s : Virtual) → ReservesHeld held s.reservation → (width : Width) (value : ℕ) (a b : Located)
+pub stored_alike : (h : ℕ → ℕ) (held : Places) (s : Virtual) → ReservesHeld held s.reservation → (width : Width) (value : ℕ) (a b : Located)
     → LocatedAlike h held (bytes_in width) a b → MadeAlike h held (stored_at s width value a) (stored_at (renamed h s) width value b)
 stored_alike h held s kept width value (At a) (At b) (e, in_set, fits) = rw e (refl, refl, (in_set, fits), kept)
 stored_alike h held s kept width value (Fails a) (Fails b) ends = ends
@@ -173,28 +172,16 @@ access_alike h held s word access U = elim s.csrs.hstatus.hu as (λ b.
 access_alike h held s word access VS = (refl, tt)
 access_alike h held s word access VU = (refl, tt)
 
-decided_alike : (h : ℕ → ℕ) (held : Places) (s : Virtual) → ReservesHeld held s.reservation → (word : ℕ) (p : Privileged)
-    → EndsAlike h held (decided s word p) (decided (renamed h s) word p)
-decided_alike h held s kept word (Csr o number operand writes rd) = csr_alike h held s kept word o number operand writes rd
-decided_alike h held s kept word Sret = sret_alike h held s kept word s.mode
-decided_alike h held s kept word Wfi = wfi_alike h held s kept word s.mode
-decided_alike h held s kept word SfenceVma = fence_alike h held s kept word s.mode
-decided_alike h held s kept word HfenceVvma = in_hs_alike h held s word _ _ (refl, (tt, kept)) s.mode
-decided_alike h held s kept word (HfenceGvma fence) = in_hs_alike h held s word _ _ (refl, kept) s.mode
-decided_alike h held s kept word (Access access) = access_alike h held s word access s.mode
-
--- and so far
-unless_alike : (h : ℕ → ℕ) (held : Places) (outside : Bool) (o : Outcome) → LeavesHeld held o
-    → EndsAlike h held (unless_outside outside o) (unless_outside outside (outcome_renamed h o))
-unless_alike h held true (Trapped trap) leaves = (refl, tt)
-unless_alike h held true o leaves = (refl, tt)
-unless_alike h held false (Trapped trap) leaves = (refl, tt)
-unless_alike h held false o leaves = (refl, leaves)
-
 privileged_alike : (h : ℕ → ℕ) (held : Places) (s : Virtual) → ReservesHeld held s.reservation → (word : ℕ) (p : Privileged)
     → EndsAlike h held (privileged s word p) (privileged (renamed h s) word p)
 unfolding privileged
-privileged_alike h held s kept word p = let (e, leaves) = decided_alike h held s kept word p in rw e (unless_alike h held (is_outside p) (decided s word p) leaves)
+privileged_alike h held s kept word (Csr o number operand writes rd) = csr_alike h held s kept word o number operand writes rd
+privileged_alike h held s kept word Sret = sret_alike h held s kept word s.mode
+privileged_alike h held s kept word Wfi = wfi_alike h held s kept word s.mode
+privileged_alike h held s kept word SfenceVma = fence_alike h held s kept word s.mode
+privileged_alike h held s kept word HfenceVvma = in_hs_alike h held s word _ _ (refl, (tt, kept)) s.mode
+privileged_alike h held s kept word (HfenceGvma fence) = in_hs_alike h held s word _ _ (refl, kept) s.mode
+privileged_alike h held s kept word (Access access) = access_alike h held s word access s.mode
 
 -- by the effect
 executed_alike : {h : ℕ → ℕ} {held : Places} {own : SecondStage} {reading : Reading} {host : SecondStage} {other : Reading}
@@ -211,7 +198,7 @@ executed_alike {h = h} {held = held} r s kept word Calls = called_alike h held s
 executed_alike {h = h} {held = held} r s kept word (Decides p) = privileged_alike h held s kept word p
 
 -- what was left, what was decoded, and what was fetched
-ended_alike : (h : ℕ → ℕ) (held : Places) (event : Event) (own host : Made) → MadeAlike h held own host → EndsAlike h held (ended event own) (ended event host)
+pub ended_alike : (h : ℕ → ℕ) (held : Places) (event : Event) (own host : Made) → MadeAlike h held own host → EndsAlike h held (ended event own) (ended event host)
 ended_alike h held event (Leaves own stored) (Leaves host stored') (state_is, stored_is, stores, reserves) = rw (state_is, stored_is) (refl, (stores, reserves))
 ended_alike h held event (Ends own) (Ends host) ends = ends
 ended_alike h held event (Leaves own stored) (Ends host) never = absurd never
@@ -245,7 +232,7 @@ same_place : (place : Option ℕ) → place ≡ option_map (λ p. p) place
 same_place (Some place) = refl
 same_place None = refl
 
-unchanged : {held : Places} {second : SecondStage} (reading : Reading) → GivesHeld held second → IsRenamed (λ p. p) held second reading second reading
+pub unchanged : {held : Places} {second : SecondStage} (reading : Reading) → GivesHeld held second → IsRenamed (λ p. p) held second reading second reading
 unchanged {second = second} reading gives = record {
   places = λ address access. same_place (second address access);
   inside = gives;

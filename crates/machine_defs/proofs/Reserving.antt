@@ -15,18 +15,14 @@ use Rattle.arch_defs.proofs.Pastes.{length_pasted}
 use Rattle.machine_defs.specs.declared.events.Event.{Event}
 use Rattle.machine_defs.specs.declared.guests.Status.{Status}
 use Rattle.machine_defs.specs.declared.guests.Status.TheVariants as status
-use Rattle.machine_defs.specs.Machine.{Machine, Platform, Tried, Ended, Outside, called, called_by, concluded, environment, is_outside, made, second_of, trapped, tried_with, try, try_under}
+use Rattle.machine_defs.specs.Machine.{Machine, Platform, Tried, Ended, WaitsForGood, Outside, accessed_for_guest, concluded, has_enabled_interrupt, made, second_of, trapped, tried_with, try, try_under, waited_until}
 use Rattle.machine_defs.specs.Outcomes.{Outcome, Done, Trapped, Stuck, Called, Waits, Fenced, Accesses}
-use Rattle.machine_defs.specs.Outcomes as outcome
-use Rattle.machine_defs.specs.Outside.{is_outside_call, sets_v_under_table}
+use Rattle.machine_defs.specs.Outside.{sets_v_under_table}
 use Rattle.machine_defs.specs.Renaming.{GivesHeld, LeavesHeld, Places, ReservesHeld, StoresHeld}
-use Rattle.machine_defs.specs.Reservations.{ReservesInRam, StaysInRam, ram_places}
+use Rattle.machine_defs.specs.Reservations.{ReservesInRam, StaysInRam, places_from, ram_places}
 use Rattle.machine_defs.specs.Runs.{left_by, run, step, stepped}
+use Rattle.machine_defs.proofs.GuestAccesses.{guest_held}
 use Rattle.machine_defs.proofs.Renaming.{stays_held}
-
--- the places of a RAM of so many bytes
-abbrev ram_of_size : ℕ → Places
-ram_of_size size place = nat_le ram_base place && nat_lt place (ram_base + size)
 
 -- a machine keeps two things to a later one: it has reserved in its RAM alone, and its RAM has its size
 abbrev Keeps : Machine → Machine → Type 0
@@ -34,6 +30,7 @@ Keeps m after = ReservesInRam after × (length after.ram ≡ length m.ram)
 
 abbrev TryKeeps : Machine → Tried → Type 0
 TryKeeps m (Ended after event) = Keeps m after
+TryKeeps m WaitsForGood = Unit {0}
 TryKeeps m Outside = Unit {0}
 
 -- what holds of both holds of either
@@ -68,37 +65,40 @@ entered_keeps held s kept trap VS = kept
 trapped_keeps : (m : Machine) → ReservesInRam m → (trap : Trap) → TryKeeps m (trapped m trap)
 trapped_keeps m kept trap = let s = m.platform.virt in (entered_keeps (ram_places m) s kept trap (target s.csrs s.mode trap), refl)
 
--- and so does a call
-abbrev CallKeeps : Places → Option Platform → Type 0
-CallKeeps held (Some p) = ReservesHeld held p.virt.reservation
-CallKeeps held None = Unit {0}
-
-called_keeps : (held : Places) (p : Platform) → ReservesHeld held p.virt.reservation → (number : ℕ) → CallKeeps held (called p number)
-called_keeps held p kept number = either (CallKeeps held) (number == 1) _ _
-    (either (λ (q : Platform). ReservesHeld held q.virt.reservation) (nat_lt (length p.console) p.console_room) _ _ kept kept)
-    (either (CallKeeps held) (number == 8) _ _ kept (either (CallKeeps held) (is_outside_call number) _ _ tt kept))
-
-called_by_keeps : (m : Machine) (platform : Option Platform) → CallKeeps (ram_places m) platform → TryKeeps m (called_by m platform)
-called_by_keeps m (Some platform) kept = (kept, refl)
-called_by_keeps m None kept = tt
-
 -- an instruction reserves and stores in RAM
 made_keeps : (m : Machine) → length m.ram % 4096 ≡ 0 → (virt : Virtual) (stored : Option Stored) (event : Event)
     → StoresHeld (ram_places m) stored → ReservesHeld (ram_places m) virt.reservation → TryKeeps m (made m virt stored event)
 made_keeps m whole virt stored event stores reserves = let same = size_kept m stored whole stores in
-    let reserves_after = subst (λ size. ReservesHeld (ram_of_size size) virt.reservation) (sym same) reserves in
+    let reserves_after = subst (λ size. ReservesHeld (places_from ram_base size) virt.reservation) (sym same) reserves in
     either (TryKeeps m) (sets_v_under_table m.platform.virt virt) _ _ tt (reserves_after, same)
+
+-- a wait stores nothing and leaves what is reserved, and so does a call
+waited_keeps : (m : Machine) (virt : Virtual) → ReservesHeld (ram_places m) virt.reservation → (moment : Option ℕ) → TryKeeps m (waited_until m virt moment)
+waited_keeps m virt kept (Some moment) = (kept, refl)
+waited_keeps m virt kept None = tt
+
+called_keeps : (m : Machine) → ReservesInRam m → TryKeeps m (concluded m Called)
+called_keeps m kept = (either (λ (p : Platform). ReservesHeld (ram_places m) p.virt.reservation) (read m.platform.virt.regs a7 == 8) _ _ kept kept, refl)
+
+-- an access as VS or VU stores in RAM
+accessed_keeps : (m : Machine) → length m.ram % 4096 ≡ 0 → ReservesInRam m → (o : Outcome) → LeavesHeld (ram_places m) o → TryKeeps m (accessed_for_guest m o)
+accessed_keeps m whole kept (Done virt stored event) (stores, reserves) = made_keeps m whole virt stored event stores reserves
+accessed_keeps m whole kept (Trapped trap) leaves = trapped_keeps m kept trap
+accessed_keeps m whole kept (Stuck unplaced) leaves = tt
+accessed_keeps m whole kept Called leaves = tt
+accessed_keeps m whole kept (Waits virt) leaves = tt
+accessed_keeps m whole kept (Fenced virt fence) leaves = tt
+accessed_keeps m whole kept (Accesses access) leaves = tt
 
 concluded_keeps : (m : Machine) → length m.ram % 4096 ≡ 0 → ReservesInRam m → (o : Outcome) → LeavesHeld (ram_places m) o → TryKeeps m (concluded m o)
 concluded_keeps m whole kept (Done virt stored event) (stores, reserves) = made_keeps m whole virt stored event stores reserves
 concluded_keeps m whole kept (Trapped trap) leaves = trapped_keeps m kept trap
 concluded_keeps m whole kept (Stuck unplaced) leaves = trapped_keeps m kept (unplaced_fault unplaced)
-concluded_keeps m whole kept Called leaves = called_by_keeps m (environment m.platform)
-    (called_keeps (ram_places m) m.platform kept (read m.platform.virt.regs a7))
-concluded_keeps m whole kept (Waits virt) leaves = tt
+concluded_keeps m whole kept Called leaves = called_keeps m kept
+concluded_keeps m whole kept (Waits virt) leaves =
+    either (TryKeeps m) (has_enabled_interrupt m.platform.virt.csrs) _ _ (leaves, refl) (waited_keeps m virt leaves _)
 concluded_keeps m whole kept (Fenced virt fence) leaves = tt
-concluded_keeps m whole kept (Accesses access) leaves = tt
-concluded_keeps m whole kept outcome.Outside leaves = tt
+concluded_keeps m whole kept (Accesses access) leaves = accessed_keeps m whole kept _ (guest_held ram_base m.ram m.platform.virt kept access)
 
 -- one try, one step and a run
 tried_keeps : (m : Machine) → length m.ram % 4096 ≡ 0 → ReservesInRam m → (code : Option ℕ) → TryKeeps m (tried_with (second_of m) m code)
@@ -108,10 +108,11 @@ tried_keeps m whole kept None = concluded_keeps m whole kept _
 
 try_keeps : (m : Machine) → length m.ram % 4096 ≡ 0 → ReservesInRam m → TryKeeps m (try m)
 unfolding try_under
-try_keeps m whole kept = either (TryKeeps m) (is_outside m.platform) _ _ tt (tried_keeps m whole kept (due m.platform.virt.csrs m.platform.virt.mode))
+try_keeps m whole kept = tried_keeps m whole kept (due m.platform.virt.csrs m.platform.virt.mode)
 
 left_keeps : (m : Machine) → ReservesInRam m → (t : Tried) → TryKeeps m t → Keeps m (left_by m t)
 left_keeps m kept (Ended after event) keeps = keeps
+left_keeps m kept WaitsForGood keeps = (kept, refl)
 left_keeps m kept Outside keeps = (kept, refl)
 
 stepped_keeps : (m : Machine) → length m.ram % 4096 ≡ 0 → ReservesInRam m → (s : Status) → Keeps m (stepped m s)

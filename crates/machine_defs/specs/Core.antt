@@ -10,7 +10,6 @@ use Rattle.arch_defs.specs.declared.registers.Csrs.{Csrs}
 use Rattle.arch_defs.specs.declared.registers.Virtual.{Virtual}
 use Rattle.arch_defs.specs.declared.walks.Found.{Found}
 use Rattle.arch_defs.specs.declared.walks.Found.TheVariants.{Passes, PageFaults, Lacks}
-use Rattle.arch_defs.specs.declared.walks.Unplaced.{Unplaced}
 use Rattle.arch_defs.specs.declared.widths.Width.{Width}
 use Rattle.arch_defs.specs.declared.widths.Width.TheVariants.{Word}
 use Rattle.arch_defs.specs.Memory.{Reading, SecondStage, Stored}

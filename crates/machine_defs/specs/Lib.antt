@@ -1,4 +1,5 @@
 pub mod Core
+pub mod GuestAccesses
 pub mod HostPlaces
 pub mod Laws
 pub mod Machine

@@ -25,8 +25,6 @@ pub data Outcome : Type 0 where
   Fenced : Virtual → Fence → Outcome
   -- the access of an HLV, HLVX or HSV that is allowed
   Accesses : GuestAccess → Outcome
-  -- what is allowed and outside what is built so far
-  Outside : Outcome
 
 -- a register is set, and pc goes on
 abbrev pub sets : Virtual → ℕ → ℕ → Virtual

@@ -16,8 +16,7 @@ use Rattle.op_defs.specs.declared.ops.GuestAccess.{GuestAccess}
 use Rattle.op_defs.specs.declared.ops.Privileged.{Privileged}
 use Rattle.op_defs.specs.declared.ops.Privileged.TheVariants.{Csr, Sret, Wfi, SfenceVma, HfenceVvma, HfenceGvma, GuestAccess as Access}
 use Rattle.machine_defs.specs.declared.events.Event.TheVariants.{System}
-use Rattle.machine_defs.specs.Outcomes.{Outcome, Done, Trapped, Waits, Fenced, Accesses, Outside, passed, sets}
-use Rattle.machine_defs.specs.Outside.{is_outside}
+use Rattle.machine_defs.specs.Outcomes.{Outcome, Done, Trapped, Waits, Fenced, Accesses, passed, sets}
 
 -- the exception of an instruction that the mode does not allow: an illegal instruction, or a virtual one
 -- (8.6.1; own: which of them, as the definitions by mode say)
@@ -101,19 +100,11 @@ guest_accessed_in state word access VS = refused state word VirtualInstruction
 guest_accessed_in state word access VU = refused state word VirtualInstruction
 
 -- how such an instruction ends. HFENCE.VVMA changes nothing, as SFENCE.VMA (own)
-abbrev pub decided : Virtual → ℕ → Privileged → Outcome
-decided state word (Csr op number operand writes rd) = csr_accessed state word op number operand writes rd
-decided state word Sret = returned_in state word state.mode
-decided state word Wfi = waited_in state word state.mode
-decided state word SfenceVma = fenced_in state word state.mode
-decided state word HfenceVvma = in_hs state word (Done (passed state) None System) state.mode
-decided state word (HfenceGvma fence) = in_hs state word (Fenced (passed state) fence) state.mode
-decided state word (Access access) = guest_accessed_in state word access state.mode
-
--- and so far: where it is allowed, it may be outside
-abbrev pub unless_outside : Bool → Outcome → Outcome
-unless_outside outside (Trapped trap) = Trapped trap
-unless_outside outside outcome = if outside then Outside else outcome
-
 unfoldable pub privileged : Virtual → ℕ → Privileged → Outcome
-privileged state word effect = unless_outside (is_outside effect) (decided state word effect)
+privileged state word (Csr op number operand writes rd) = csr_accessed state word op number operand writes rd
+privileged state word Sret = returned_in state word state.mode
+privileged state word Wfi = waited_in state word state.mode
+privileged state word SfenceVma = fenced_in state word state.mode
+privileged state word HfenceVvma = in_hs state word (Done (passed state) None System) state.mode
+privileged state word (HfenceGvma fence) = in_hs state word (Fenced (passed state) fence) state.mode
+privileged state word (Access access) = guest_accessed_in state word access state.mode

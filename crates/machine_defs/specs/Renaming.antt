@@ -5,7 +5,7 @@ use Rattle.arch_defs.specs.declared.modes.Access.{Access}
 use Rattle.arch_defs.specs.declared.registers.Virtual.{Virtual}
 use Rattle.arch_defs.specs.Memory.{Reading, SecondStage, Stored}
 use Rattle.machine_defs.specs.Core.{core}
-use Rattle.machine_defs.specs.Outcomes.{Outcome, Done, Trapped, Stuck, Called, Waits, Fenced, Accesses, Outside}
+use Rattle.machine_defs.specs.Outcomes.{Outcome, Done, Trapped, Stuck, Called, Waits, Fenced, Accesses}
 
 -- a reservation at its place's new name
 abbrev pub reservation_renamed : (ℕ → ℕ) → Option (ℕ × ℕ) → Option (ℕ × ℕ)
@@ -30,7 +30,6 @@ outcome_renamed h Called = Called
 outcome_renamed h (Waits state) = Waits (renamed h state)
 outcome_renamed h (Fenced state fence) = Fenced (renamed h state) fence
 outcome_renamed h (Accesses access) = Accesses access
-outcome_renamed h Outside = Outside
 
 -- a set of places
 abbrev pub Places : Type 0
@@ -73,7 +72,6 @@ LeavesHeld held (Trapped trap) = Unit {0}
 LeavesHeld held (Stuck unplaced) = Unit {0}
 LeavesHeld held Called = Unit {0}
 LeavesHeld held (Accesses access) = Unit {0}
-LeavesHeld held Outside = Unit {0}
 
 -- one instruction of the renamed state, under the renamed second stage and reading, is the renamed one
 abbrev pub RenamedCore : Type 0

@@ -27,7 +27,7 @@ section_text name status steps console =
 
 -- what a machine's section says
 abbrev pub section_of : List ℕ → Machine → List ℕ
-section_of name m = section_text name m.platform.status m.platform.steps m.platform.console
+section_of name m = section_text name m.platform.status m.platform.steps m.platform.console.bytes
 
 -- the section of a guest whose lone machine has run for n steps
 abbrev pub section : GuestSpec → ℕ → List ℕ

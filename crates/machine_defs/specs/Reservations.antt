@@ -5,9 +5,13 @@ use Rattle.machine_defs.specs.Machine.{Machine}
 use Rattle.machine_defs.specs.Renaming.{Places, ReservesHeld}
 use Rattle.machine_defs.specs.Runs.{run}
 
+-- the places of so many bytes from a base on
+abbrev pub places_from : ℕ → ℕ → Places
+places_from base size place = nat_le base place && nat_lt place (base + size)
+
 -- the places of a machine's RAM
 abbrev pub ram_places : Machine → Places
-ram_places m place = nat_le ram_base place && nat_lt place (ram_base + length m.ram)
+ram_places m = places_from ram_base (length m.ram)
 
 -- a machine has reserved, if anything, a place of its RAM
 abbrev pub ReservesInRam : Machine → Type 0

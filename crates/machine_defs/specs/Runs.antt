@@ -4,12 +4,17 @@ use Rattle.machine_defs.specs.declared.events.Event.{Event}
 use Rattle.machine_defs.specs.declared.events.Event.TheVariants.{Plain, Trap, System}
 use Rattle.machine_defs.specs.declared.guests.Status.{Status}
 use Rattle.machine_defs.specs.declared.guests.Status.TheVariants as status
-use Rattle.machine_defs.specs.Machine.{Machine, Tried, Ended, Outside, try}
+use Rattle.machine_defs.specs.Machine.{Machine, Tried, Ended, WaitsForGood, Outside, try}
+
+-- a machine with another status
+abbrev pub with_status : Machine → Status → Machine
+with_status m s = record m { platform = record m.platform { status = s } }
 
 -- what a try leaves
 abbrev pub left_by : Machine → Tried → Machine
 left_by m (Ended after event) = after
-left_by m Outside = record m { platform = record m.platform { status = status.Outside } }
+left_by m WaitsForGood = with_status m status.Waiting
+left_by m Outside = with_status m status.Outside
 
 -- one step, which a machine that does not go on does not make
 abbrev pub stepped : Machine → Status → Machine
@@ -29,6 +34,7 @@ run m (suc k) = run (step m) k
 -- the event of the step that a try makes, if it makes one
 abbrev pub event_in : Tried → List Event
 event_in (Ended after event) = event ∷ []
+event_in WaitsForGood = []
 event_in Outside = []
 
 abbrev pub events_by : Machine → Status → List Event

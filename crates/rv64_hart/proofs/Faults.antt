@@ -3,7 +3,7 @@ use Rattle.std.proofs.Common.{◌≡◌, ℕ, List, Some, Result, Ok, Err, refl}
 use Rattle.arch_defs.specs.declared.modes.Trap.{Trap}
 use Rattle.arch_defs.specs.declared.registers.Csrs.{Csrs}
 use Rattle.machine_defs.specs.Core.{Located, At, Fails}
-use Rattle.machine_defs.specs.Outcomes.{Done, Trapped, Stuck, Called, Waits, Fenced, Accesses, Outside}
+use Rattle.machine_defs.specs.Outcomes.{Done, Trapped, Stuck, Called, Waits, Fenced, Accesses}
 use Rattle.rv64_hart.specs.Endings.{FailsBy, IsAnswered}
 use Rattle.two_stage_walk.specs.Answers.{answer_of}
 
@@ -25,4 +25,3 @@ answered csrs memory (Fails Called) answer e = absurd (cc)
 answered csrs memory (Fails (Waits state)) answer e = absurd (cc)
 answered csrs memory (Fails (Fenced state fence)) answer e = absurd (cc)
 answered csrs memory (Fails (Accesses access)) answer e = absurd (cc)
-answered csrs memory (Fails Outside) answer e = absurd (cc)

@@ -15,7 +15,7 @@ use Rattle.arch_defs.specs.Traps.{entered_at, exception, target}
 use Rattle.machine_defs.specs.declared.events.Event.{Event}
 use Rattle.machine_defs.specs.declared.events.Event.TheVariants as event
 use Rattle.machine_defs.specs.Core.{core}
-use Rattle.machine_defs.specs.Outcomes.{Outcome, Done, Trapped, Stuck, Called, Waits, Fenced, Accesses, Outside}
+use Rattle.machine_defs.specs.Outcomes.{Outcome, Done, Trapped, Stuck, Called, Waits, Fenced, Accesses}
 use Rattle.machine_defs.specs.Runs.{pc_and_word}
 use Rattle.rv64_hart.specs.declared.harts.Why.{Why}
 use Rattle.rv64_hart.specs.declared.harts.Why.TheVariants.{Limit, Exit, VsTrap}
@@ -29,8 +29,7 @@ pub data Attempt : Type 0 where
 
 -- what the outcome of an instruction is to the hart: an access for which its second stage has no place is the
 -- trap that the walk of now makes of it. A WFI does not wait, and a fence changes nothing, since the hart
--- walks memory as it is. With V = 1 there is no call from HS and no access as somebody else, and nothing is
--- outside but a read of time with hcounteren.TM, which no guest's hart has
+-- walks memory as it is. With V = 1 there is no call from HS and no access as somebody else
 abbrev pub attempt_of : Csrs → Mode → List ℕ → Outcome → Attempt
 attempt_of csrs mode memory (Done state stored event) = Makes state (with_stored 0 stored memory) event
 attempt_of csrs mode memory (Trapped trap) = Raises trap
@@ -39,7 +38,6 @@ attempt_of csrs mode memory Called = Raises (exception mode ECALL_FROM_HS 0)
 attempt_of csrs mode memory (Waits state) = Makes state memory event.System
 attempt_of csrs mode memory (Fenced state fence) = Makes state memory event.System
 attempt_of csrs mode memory (Accesses access) = Raises (exception mode ILLEGAL_INSTRUCTION 0)
-attempt_of csrs mode memory Outside = Raises (exception mode ILLEGAL_INSTRUCTION 0)
 
 -- the due interrupt, or one instruction over machine memory
 abbrev pub next_attempt : Virtual → List ℕ → Option ℕ → Attempt

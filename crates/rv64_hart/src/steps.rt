@@ -180,9 +180,7 @@ fn privileged(state: &mut Virtual, word: u32, effect: Privileged) -> Result<Even
 {
     match execute(state, effect) {
         Executed::Done | Executed::Waits | Executed::Fenced(_) => Ok(Event::System),
-        Executed::Accesses(_) | Executed::Outside => {
-            Err(exception(state.mode, ILLEGAL_INSTRUCTION, 0))
-        }
+        Executed::Accesses(_) => Err(exception(state.mode, ILLEGAL_INSTRUCTION, 0)),
         Executed::Refused(end) => Err(exception(state.mode, refusal_code(end), word as u64)),
     }
 }

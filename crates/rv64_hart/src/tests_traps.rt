@@ -213,6 +213,7 @@ fn registers_in_vs(rt: HostRuntime) -> Result<(), Fail> {
             0x1400_2473, // csrrs x8, sscratch, x0
             0x1404_D4F3, // csrrwi x9, sscratch, 9
             0x1000_2573, // csrrs x10, sstatus, x0
+            0xC010_25F3, // csrrs x11, time, x0
             0xC010_1073, // csrrw x0, time, x0
         ],
     )?;
@@ -221,13 +222,16 @@ fn registers_in_vs(rt: HostRuntime) -> Result<(), Fail> {
     state.csrs.hs.scratch = 0x22;
     state.csrs.vs.status.sum = true;
     state.csrs.hs.status.mxr = true;
+    state.csrs.time = 1000;
+    state.csrs.htimedelta = 23;
+    state.csrs.hcounteren_tm = true;
     let (stop, after) = run_from(state, &mut memory, 100, true);
     let why = Why::Exit(trap(2, 0xC010_1073));
-    assert_eq!(rt; stop, Stop { taken: 5, why });
+    assert_eq!(rt; stop, Stop { taken: 6, why });
     let x = after.regs.x;
     // 11 before the write of 6; 6 before 11 is set in it; 17 = 6 | 11; 9; SUM is bit 18, UXL 2 at bit 32.
     assert_eq!(rt; (x[5], x[7], x[8], x[9]), (0x11, 6, 0x17, 0x17));
-    assert_eq!(rt; x[10], 0x2_0004_0000);
+    assert_eq!(rt; (x[10], x[11]), (0x2_0004_0000, 1023));
     assert_eq!(rt; (after.csrs.vs.scratch, after.csrs.hs.scratch), (9, 0x22));
     Ok(())
 }

@@ -6,7 +6,7 @@ use Rattle.machine_defs.specs.Outcomes.{Outcome}
 use Rattle.machine_defs.specs.Outcomes as outcome
 use Rattle.machine_defs.specs.Privileges.{refused}
 use Rattle.system_ops.specs.declared.executing.Executed.{Executed}
-use Rattle.system_ops.specs.declared.executing.Executed.TheVariants.{Done, Waits, Fenced, Accesses, Outside, Refused}
+use Rattle.system_ops.specs.declared.executing.Executed.TheVariants.{Done, Waits, Fenced, Accesses, Refused}
 
 -- how the instruction of this word ended, by the answer and the state after it
 abbrev pub outcome_of : ℕ → Executed → Virtual → Outcome
@@ -14,7 +14,6 @@ outcome_of word Done state = outcome.Done state None System
 outcome_of word Waits state = outcome.Waits state
 outcome_of word (Fenced fence) state = outcome.Fenced state fence
 outcome_of word (Accesses access) state = outcome.Accesses access
-outcome_of word Outside state = outcome.Outside
 outcome_of word (Refused end) state = refused state word end
 
 -- where the instruction was not made
@@ -23,5 +22,4 @@ IfNotMade Done P = ⊤
 IfNotMade Waits P = ⊤
 IfNotMade (Fenced fence) P = ⊤
 IfNotMade (Accesses access) P = P
-IfNotMade Outside P = P
 IfNotMade (Refused end) P = P

@@ -1,13 +1,12 @@
 // How each of these instructions ends.
 
 ghost use Rattle.std.specs.Prelude.{◌≡◌, ℕ};
-ghost use Rattle.machine_defs.specs.Privileges.{decided, privileged, refusal_code};
+ghost use Rattle.machine_defs.specs.Privileges.{privileged, refusal_code};
 ghost use Rattle.system_ops.specs.Executions.{outcome_of, IfNotMade};
 
 use crate::csrs::access;
 use crate::fences::{fence, fence_guest, fence_virtual};
 use crate::guest_accesses::access_guest;
-use crate::outside::{end_outside, is_outside};
 use crate::returns::return_from_trap;
 use crate::waits::wait;
 use arch_defs::{CsrEnd, Fence, ILLEGAL_INSTRUCTION, VIRTUAL_INSTRUCTION, Virtual};
@@ -24,27 +23,14 @@ pub enum Executed {
     Fenced(Fence),
     /// It is an HLV, HLVX or HSV, and is allowed to make this access as VS or VU.
     Accesses(GuestAccess),
-    /// It is allowed, and outside what is built so far.
-    Outside,
     /// The mode does not allow it: an illegal instruction, or a virtual one.
     Refused(CsrEnd),
 }
 
-/// Makes what an instruction asks for, where its mode allows it and it is not outside what is built so far.
-#[tactic(auto, using(crate::proofs::Inside::stays), unfolding(machine_defs::specs::Privileges::privileged))]
+/// Makes what an instruction asks for, unless its mode does not allow it.
+#[tactic(auto, unfolding(machine_defs::specs::Privileges::privileged))]
 pub fn execute(state: &mut Virtual, effect: Privileged) -> Executed
     ensures ends { (word : ℕ) → privileged state.old word effect ≡ outcome_of word result state.new }
-    ensures stays { IfNotMade result (state.new ≡ state.old) }
-{
-    if is_outside(&effect) {
-        return end_outside(state, effect);
-    }
-    decide(state, effect)
-}
-
-/// Makes what an instruction asks for, unless its mode does not allow it.
-pub fn decide(state: &mut Virtual, effect: Privileged) -> Executed
-    ensures ends { (word : ℕ) → decided state.old word effect ≡ outcome_of word result state.new }
     ensures stays { IfNotMade result (state.new ≡ state.old) }
 {
     match effect {

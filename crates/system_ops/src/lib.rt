@@ -6,7 +6,6 @@ mod csrs;
 mod executing;
 mod fences;
 mod guest_accesses;
-mod outside;
 mod returns;
 #[cfg(test)]
 mod tests;

@@ -13,8 +13,6 @@ const DONE: Executed = Executed::Done;
 
 const WAITS: Executed = Executed::Waits;
 
-const OUTSIDE: Executed = Executed::Outside;
-
 const ILLEGAL: Executed = Executed::Refused(CsrEnd::Illegal);
 
 const VIRTUAL: Executed = Executed::Refused(CsrEnd::Virtual);
@@ -167,13 +165,10 @@ fn numbers(rt: HostRuntime) {
 fn read_only_registers(rt: HostRuntime) {
     for op in [CsrOp::Set, CsrOp::Clear] {
         let time = csr(op, 0xC01, 0, false);
-        assert_eq!(rt;
-            ends(timed(true), &time),
-            (OUTSIDE, OUTSIDE, OUTSIDE, OUTSIDE)
-        );
+        assert_eq!(rt; ends(timed(true), &time), (DONE, DONE, DONE, DONE));
         assert_eq!(rt;
             ends(timed(false), &time),
-            (OUTSIDE, ILLEGAL, VIRTUAL, VIRTUAL)
+            (DONE, ILLEGAL, VIRTUAL, VIRTUAL)
         );
         let hgeip = csr(op, 0xE12, 0, false);
         assert_eq!(rt;
@@ -182,9 +177,10 @@ fn read_only_registers(rt: HostRuntime) {
         );
         let (_, state) = after(timed(true), Mode::HS, &hgeip);
         assert_eq!(rt; (state.regs.x[5], state.regs.pc), (0, START + 4));
-        for mode in [Mode::HS, Mode::U, Mode::VS, Mode::VU] {
+        // The clock is 5, and htimedelta is -3, which counts with V = 1 alone.
+        for (mode, shows) in [(Mode::HS, 5), (Mode::U, 5), (Mode::VS, 2), (Mode::VU, 2)] {
             let (_, state) = after(timed(true), mode, &time);
-            assert_eq!(rt; (state.regs.x[5], state.regs.pc), (7, START));
+            assert_eq!(rt; (state.regs.x[5], state.regs.pc), (shows, START + 4));
         }
     }
 }
@@ -223,7 +219,7 @@ fn aliases(rt: HostRuntime) {
     );
 }
 
-// satp in VS with VTVM (8.2.1); what is refused, or outside, changes neither the registers nor rd and pc.
+// satp in VS with VTVM (8.2.1); what is refused changes neither the registers nor rd and pc.
 #[test]
 fn not_made(rt: HostRuntime) {
     let csrs = trapping(true, false, false);
@@ -231,7 +227,8 @@ fn not_made(rt: HostRuntime) {
         (Mode::VS, writes(0x180, (8 << 60) + 3), VIRTUAL),
         (Mode::VS, reads(0x180), VIRTUAL),
         (Mode::VS, writes(0x240, 9), VIRTUAL),
-        (Mode::HS, reads(0xC01), OUTSIDE),
+        (Mode::U, reads(0xC01), ILLEGAL),
+        (Mode::VS, reads(0xC01), VIRTUAL),
         (Mode::U, writes(0x240, 9), ILLEGAL),
         (Mode::U, writes(0x140, 9), ILLEGAL),
         (Mode::VU, writes(0x140, 9), VIRTUAL),

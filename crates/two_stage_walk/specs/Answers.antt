@@ -8,7 +8,7 @@ use Rattle.arch_defs.specs.declared.registers.Csrs.{Csrs}
 use Rattle.arch_defs.specs.Memory.{reading_of}
 use Rattle.arch_defs.specs.SecondStage.{second_now, unplaced_trap}
 use Rattle.machine_defs.specs.Core.{Located, At, Fails, located}
-use Rattle.machine_defs.specs.Outcomes.{Outcome, Done, Trapped, Stuck, Called, Waits, Fenced, Accesses, Outside}
+use Rattle.machine_defs.specs.Outcomes.{Outcome, Done, Trapped, Stuck, Called, Waits, Fenced, Accesses}
 
 -- the trap that an outcome is; an access without a place gets that of the walk of now
 abbrev pub trap_of : Csrs → ℕ → List ℕ → Outcome → Option Trap
@@ -19,7 +19,6 @@ trap_of csrs base bytes Called = None
 trap_of csrs base bytes (Waits state) = None
 trap_of csrs base bytes (Fenced state fence) = None
 trap_of csrs base bytes (Accesses access) = None
-trap_of csrs base bytes Outside = None
 
 abbrev pub answer_of : Csrs → ℕ → List ℕ → Located → Option (Result ℕ Trap)
 answer_of csrs base bytes (At place) = Some (Ok place)
