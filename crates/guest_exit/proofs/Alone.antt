@@ -1,80 +1,47 @@
--- What the host makes of a step without RAM, as the step of the machine.
-use Rattle.std.proofs.Common.{cond, ◌≡◌, ℕ, Option, Some, None, Bool, true, false, refl}
+-- What the host makes of a step, as the step of the machine.
+use Rattle.std.proofs.Common.{cond, ◌≡◌, ℕ, List, Option, Some, None, Bool, true, false, refl, ap}
 use Rattle.arch_defs.specs.declared.modes.Trap.{Trap}
 use Rattle.arch_defs.specs.declared.registers.Virtual.{Virtual}
-use Rattle.op_defs.specs.declared.ops.Privileged.{Privileged}
-use Rattle.machine_defs.specs.declared.events.Event.TheVariants as event
-use Rattle.machine_defs.specs.Machine.{Machine, Platform, called_by, concluded, environment, stepped_to, ticked}
+use Rattle.arch_defs.specs.Inputs.{next_input}
+use Rattle.arch_defs.specs.Memory.{Stored}
+use Rattle.arch_defs.specs.Waits.{wake_moment}
+use Rattle.machine_defs.specs.declared.events.Event.TheVariants.{System}
+use Rattle.machine_defs.specs.Machine.{Machine, Platform, has_enabled_interrupt, made, stepped_to, waited, waited_until, with_call}
 use Rattle.machine_defs.specs.Machine as tried
 use Rattle.machine_defs.specs.Outside.{sets_v_under_table}
-use Rattle.machine_defs.specs.Privileges.{privileged}
-use Rattle.machine_defs.specs.Runs.{event_in, left_by, plain_count, trace_of}
-use Rattle.system_ops.specs.declared.executing.Executed.{Executed}
-use Rattle.system_ops.specs.declared.executing.Executed.TheVariants as executed
-use Rattle.system_ops.specs.Executions.{IfNotMade, outcome_of}
-use Rattle.guest_exit.specs.Entering.{Emulates, after_call, after_other, after_privileged, outside}
+use Rattle.guest_exit.specs.declared.guests.Guest.{Guest}
+use Rattle.guest_exit.specs.Entering.{IsNotPlain}
 use Rattle.guest_exit.specs.Following.{other_step}
+use Rattle.guest_exit.specs.View.{StaysFixed, machine_of, seen}
 
--- a call
-after_call_is : (m : Machine) (call : Option Platform) → left_by m (called_by m call) ≡ record m { platform = after_call m.platform call }
-after_call_is m (Some platform) = refl
-after_call_is m None = refl
+-- the machine of a guest whose platform alone has changed
+pub machine_is : (old new : Guest) (p : Platform) (memory : List ℕ) → StaysFixed old new → seen new ≡ p
+    → machine_of new memory ≡ record (machine_of old memory) { platform = p }
+machine_is old new p memory fixed e =
+    rw (fixed.part, fixed.space_room, fixed.entry_room) (ap (λ p. record (machine_of old memory) { platform = p }) e)
 
--- none of it is plain
-call_is_quiet : (m : Machine) (call : Option Platform)
-    → (trace_of (event_in (called_by m call)) ≡ 0) × (plain_count (event_in (called_by m call)) ≡ 0)
-call_is_quiet m (Some platform) = (refl, refl)
-call_is_quiet m None = (refl, refl)
+-- none of these is plain
+pub other_is_quiet : (m : Machine) (trap : Trap) (virtual : Bool) → IsNotPlain (other_step m trap virtual)
+other_is_quiet m trap false = record { trace = refl; plain = refl }
+other_is_quiet m trap true = record { trace = refl; plain = refl }
 
--- another trap of the hart, by the guest's V
-pub after_other_is : (m : Machine) (trap : Trap) (virtual : Bool) → left_by m (other_step m trap virtual) ≡ record m { platform = after_other m.platform trap virtual }
-after_other_is m trap false = after_call_is m (environment m.platform)
-after_other_is m trap true = refl
+unless_outside : (m : Machine) (virt : Virtual) (stored : Option Stored) (outside : Bool) (after : Machine)
+    → IsNotPlain (cond outside tried.Outside (tried.Ended after System))
+unless_outside m virt stored true after = record { trace = refl; plain = refl }
+unless_outside m virt stored false after = record { trace = refl; plain = refl }
 
-pub other_is_quiet : (m : Machine) (trap : Trap) (virtual : Bool)
-    → (trace_of (event_in (other_step m trap virtual)) ≡ 0) × (plain_count (event_in (other_step m trap virtual)) ≡ 0)
-other_is_quiet m trap false = call_is_quiet m (environment m.platform)
-other_is_quiet m trap true = (refl, refl)
+pub made_is_quiet : (m : Machine) (virt : Virtual) (stored : Option Stored) → IsNotPlain (made m virt stored System)
+made_is_quiet m virt stored = unless_outside m virt stored (sets_v_under_table m.platform.virt virt) _
 
--- an instruction that the mode decides on, where it was made, by whether it sets V
-made_is : (m : Machine) (virt : Virtual) (sets : Bool)
-    → left_by m (cond sets tried.Outside (stepped_to m (record m.platform { virt = virt }) event.System))
-    ≡ record m { platform = cond sets (outside m.platform) (ticked (record m.platform { virt = virt })) }
-made_is m virt true = refl
-made_is m virt false = refl
+until_is_quiet : (m : Machine) (virt : Virtual) (moment : Option ℕ) → IsNotPlain (waited_until m virt moment)
+until_is_quiet m virt (Some moment) = record { trace = refl; plain = refl }
+until_is_quiet m virt None = record { trace = refl; plain = refl }
 
-made_is_quiet : (m : Machine) (platform : Platform) (sets : Bool)
-    → (trace_of (event_in (cond sets tried.Outside (stepped_to m platform event.System))) ≡ 0)
-    × (plain_count (event_in (cond sets tried.Outside (stepped_to m platform event.System))) ≡ 0)
-made_is_quiet m platform true = (refl, refl)
-made_is_quiet m platform false = (refl, refl)
+waited_by : (m : Machine) (virt : Virtual) (pending : Bool) (moment : Option ℕ)
+    → IsNotPlain (cond pending (stepped_to m (record m.platform { virt = virt }) System) (waited_until m virt moment))
+waited_by m virt true moment = record { trace = refl; plain = refl }
+waited_by m virt false moment = until_is_quiet m virt moment
 
--- by how it was made
-pub after_privileged_is : (m : Machine) (word : ℕ) (e : Executed) (s : Virtual) → IfNotMade e (s ≡ m.platform.virt)
-    → left_by m (concluded m (outcome_of word e s)) ≡ record m { platform = after_privileged m.platform word e s }
-after_privileged_is m word executed.Done s stays = made_is m s (sets_v_under_table m.platform.virt s)
-after_privileged_is m word executed.Waits s stays = refl
-after_privileged_is m word (executed.Fenced fence) s stays = refl
-after_privileged_is m word (executed.Accesses access) s stays = refl
-after_privileged_is m word executed.Outside s stays = refl
-after_privileged_is m word (executed.Refused end) s stays = rw stays refl
-
-pub privileged_is_quiet : (m : Machine) (word : ℕ) (e : Executed) (s : Virtual)
-    → (trace_of (event_in (concluded m (outcome_of word e s))) ≡ 0) × (plain_count (event_in (concluded m (outcome_of word e s))) ≡ 0)
-privileged_is_quiet m word executed.Done s = made_is_quiet m (record m.platform { virt = s }) (sets_v_under_table m.platform.virt s)
-privileged_is_quiet m word executed.Waits s = (refl, refl)
-privileged_is_quiet m word (executed.Fenced fence) s = (refl, refl)
-privileged_is_quiet m word (executed.Accesses access) s = (refl, refl)
-privileged_is_quiet m word executed.Outside s = (refl, refl)
-privileged_is_quiet m word (executed.Refused end) s = (refl, refl)
-
--- what was emulated is the machine's step
-pub emulated : (m : Machine) (word : ℕ) (effect : Privileged) (p : Platform) → Emulates m.platform p word effect
-    → record m { platform = p } ≡ left_by m (concluded m (privileged m.platform.virt word effect))
-emulated m word effect p by =
-    rw (by.ends, after_privileged_is m word by.end by.virt by.stays, by.step) refl
-
-pub emulated_quiet : (m : Machine) (word : ℕ) (effect : Privileged) (p : Platform) → Emulates m.platform p word effect
-    → (trace_of (event_in (concluded m (privileged m.platform.virt word effect))) ≡ 0)
-    × (plain_count (event_in (concluded m (privileged m.platform.virt word effect))) ≡ 0)
-emulated_quiet m word effect p by = rw by.ends (privileged_is_quiet m word by.end by.virt)
+pub waited_is_quiet : (m : Machine) (virt : Virtual) → IsNotPlain (waited m virt)
+waited_is_quiet m virt = let p = m.platform in
+    waited_by m virt (has_enabled_interrupt p.virt.csrs) (wake_moment p.virt.csrs.sie p.clock.timer (next_input p.console.inputs))

@@ -17,8 +17,8 @@ use Rattle.machine_defs.specs.declared.events.Event.{Event}
 use Rattle.machine_defs.specs.declared.events.Event.TheVariants as event
 use Rattle.machine_defs.specs.declared.guests.Status.TheVariants.{Running}
 use Rattle.machine_defs.specs.HostPlaces.{in_ram, memory_place}
-use Rattle.machine_defs.specs.Machine.{Machine, Platform, informed, is_outside, ticked, timed, trapped, try, try_under}
-use Rattle.machine_defs.specs.Outside.{has_input}
+use Rattle.machine_defs.specs.Machine.{Machine, Platform, informed, ticked, timed, trapped, try, try_under}
+use Rattle.arch_defs.specs.Inputs.{has_input}
 use Rattle.machine_defs.specs.Runs.{event_in, events, left_by, pc_and_word, run, trace_of}
 use Rattle.machine_defs.specs.Renaming.{ReservesHeld, renamed}
 use Rattle.machine_defs.proofs.Running.{events_compose, events_running, runs_compose, step_running}
@@ -95,21 +95,19 @@ pub record Ran (part : Layout) (m : Machine) (memory : List ℕ) (t n : ℕ) (q 
 
 -- what the clock sets has not changed
 record IsTold (p : Platform) (n : ℕ) : Type 0 where
-  timer : nat_le p.timer (p.clock + n) ≡ p.virt.csrs.sip.timer
-  external : has_input p.inputs (p.clock + n) ≡ p.virt.csrs.sip.external
-  none : has_input p.inputs (p.clock + n) ≡ false
+  timer : nat_le p.clock.timer (p.clock.time + n) ≡ p.virt.csrs.sip.timer
+  external : has_input p.console.inputs (p.clock.time + n) ≡ p.virt.csrs.sip.external
 
 told : (p : Platform) (limit n : ℕ) → Lasts p limit → n < limit → IsTold p n
 told p limit n lasts h =
-    let timer_is : nat_le p.timer p.clock ≡ p.virt.csrs.sip.timer = ap (λ p. p.virt.csrs.sip.timer) lasts.current in
-    let external_is : has_input p.inputs p.clock ≡ p.virt.csrs.sip.external = ap (λ p. p.virt.csrs.sip.external) lasts.current in
+    let timer_is : nat_le p.clock.timer p.clock.time ≡ p.virt.csrs.sip.timer = ap (λ p. p.virt.csrs.sip.timer) lasts.current in
+    let external_is : has_input p.console.inputs p.clock.time ≡ p.virt.csrs.sip.external = ap (λ p. p.virt.csrs.sip.external) lasts.current in
     let timer_stays = lasts.timer n h in
     let inputs_stay = lasts.inputs n h in
-    record { timer = rw timer_stays timer_is; external = rw inputs_stay external_is; none = rw inputs_stay lasts.inside }
+    record { timer = rw timer_stays timer_is; external = rw inputs_stay external_is }
 
 -- before a step of an entry the hart stands for the machine, and the step is not the host's
 record IsReady (part : Layout) (p : Platform) (hart : Virtual) : Type 0 where
-  inside : is_outside p ≡ false
   own : host_takes p.virt ≡ false
   stands : loaded part p.virt ≡ hart
 
@@ -146,10 +144,9 @@ ready : (part : Layout) (m : Machine) (limit n : ℕ) (own state : Virtual) (ram
     → IsReady part (moved m.platform (saved own m.platform.virt) n) state
 ready part m limit n own state ram lasts h keeps is e =
     let t = told m.platform limit n lasts h in
-    let again = stands_again (host_root part) m.platform.virt own (nat_le m.platform.timer (m.platform.clock + n)) (has_input m.platform.inputs (m.platform.clock + n)) (m.platform.clock + n) keeps
+    let again = stands_again (host_root part) m.platform.virt own (nat_le m.platform.clock.timer (m.platform.clock.time + n)) (has_input m.platform.console.inputs (m.platform.clock.time + n)) (m.platform.clock.time + n) keeps
     t.timer t.external in
     record {
-      inside = t.none;
       own = own_at (host_root part) m limit n own ram lasts h keeps e;
       stands = ap (renamed (memory_place part.blocks)) again ∙ sym is;
     }
@@ -159,7 +156,8 @@ one_more_of : (a n : ℕ) → a + n + 1 ≡ a + (n + 1)
 one_more_of a n = omega arith
 
 abbrev at_clock : Machine → Virtual → List ℕ → ℕ → ℕ → Machine
-at_clock m virt memory clock steps = record m { platform = informed (record m.platform { virt = virt; clock = clock; steps = steps }); ram = memory }
+at_clock m virt memory time steps =
+    record m { platform = informed (record m.platform { virt = virt; clock = record m.platform.clock { time = time }; steps = steps }); ram = memory }
 
 further_by : (m : Machine) (virt : Virtual) (memory : List ℕ) (a b c d : ℕ) → a ≡ b → c ≡ d → at_clock m virt memory a c ≡ at_clock m virt memory b d
 further_by m virt memory a b c d e f = rw (e, f) refl
@@ -195,10 +193,10 @@ further : (m : Machine) (hart after : Virtual) (memory changed : List ℕ) (n : 
 further m hart after memory changed n trapped =
     let p = m.platform in
     let virtual = is_virtual p.virt.mode in
-    let clock = p.clock + n + 1 in
-    let again = back_again virtual _ trapped hart.csrs after p.virt.csrs _ _ _ clock (nat_le p.timer clock) (has_input p.inputs clock) (saved_v virtual hart.mode) in
-    ap (λ virt. record m { platform = record p { virt = virt; clock = clock; steps = p.steps + n + 1 }; ram = changed }) again
-    ∙ further_by m (taken_back trapped after p.virt) changed _ _ _ _ (one_more_of p.clock n) (one_more_of p.steps n)
+    let time = p.clock.time + n + 1 in
+    let again = back_again virtual _ trapped hart.csrs after p.virt.csrs _ _ _ time (nat_le p.clock.timer time) (has_input p.console.inputs time) (saved_v virtual hart.mode) in
+    ap (λ virt. record m { platform = record p { virt = virt; clock = record p.clock { time = time }; steps = p.steps + n + 1 }; ram = changed }) again
+    ∙ further_by m (taken_back trapped after p.virt) changed _ _ _ _ (one_more_of p.clock.time n) (one_more_of p.steps n)
 
 -- what the hart keeps from step to step it keeps from the start on
 keeps_in : (root : GuestRoot) (virtual : Bool) (before hart after : Csrs) (clock : ℕ) (timer external : Bool)
@@ -265,7 +263,7 @@ ran_one part m memory limit t n p q running lasts at h ran fresh some =
       reserved = ran.held;
     } in
     let follows : Follows part now p.memory (hart_step p.state p.memory) =
-    subst (λ hart. Follows part now p.memory (hart_step hart p.memory)) is.stands (followed part now p.memory is.inside is.own placed_at) in
+    subst (λ hart. Follows part now p.memory (hart_step hart p.memory)) is.stands (followed part now p.memory is.own placed_at) in
     let by = made part now p.memory (hart_step p.state p.memory) p.trace q follows some in
     record {
       own = by.own;
@@ -307,8 +305,8 @@ unfolding run events
 ran_none part m memory limit t lasts at =
     let v = m.platform.virt in
     let back : saved (hosted (host_root part) v) v ≡ v = save_after_load (host_root part) v in
-    let there : at_clock m v m.ram m.platform.clock m.platform.steps ≡ m = ap (λ p. record m { platform = p }) lasts.current in
-    let none = further_by m v m.ram _ _ _ _ (none_more_of m.platform.clock) (none_more_of m.platform.steps) in
+    let there : at_clock m v m.ram m.platform.clock.time m.platform.steps ≡ m = ap (λ p. record m { platform = p }) lasts.current in
+    let none = further_by m v m.ram _ _ _ _ (none_more_of m.platform.clock.time) (none_more_of m.platform.steps) in
     let same : placed m v m.ram 0 ≡ m = rw none there in
     record {
       own = hosted (host_root part) v;
@@ -356,16 +354,16 @@ stopped part m memory limit t state changed t' taken (Exit trap) running lasts a
     let r = ready part m limit taken is.own state (ram_of part.blocks changed) lasts fewer is.keeps is.state is.machine in (
       fewer,
       subst (λ m. Hands part m changed trap) (sym is.machine)
-          (record { inside = r.inside; own = r.own; exits = subst (λ hart. hart_step hart changed ≡ Exits trap) (sym r.stands) exits }),
+          (record { own = r.own; exits = subst (λ hart. hart_step hart changed ≡ Exits trap) (sym r.stands) exits }),
     )
 
 -- a step that the hart has left to the host
-pub left : (part : Layout) (m : Machine) (memory : List ℕ) (trap : Trap) → is_outside m.platform ≡ false → host_takes m.platform.virt ≡ false → IsAt part m memory
+pub left : (part : Layout) (m : Machine) (memory : List ℕ) (trap : Trap) → host_takes m.platform.virt ≡ false → IsAt part m memory
     → hart_step (loaded part m.platform.virt) memory ≡ Exits trap → IsLeft m (try m) trap
-left part m memory trap inside own at exits =
-    let there : Follows part m memory (Exits trap) = subst (λ end. Follows part m memory end) exits (followed part m memory inside own at) in there
+left part m memory trap own at exits =
+    let there : Follows part m memory (Exits trap) = subst (λ end. Follows part m memory end) exits (followed part m memory own at) in there
 
 -- an interrupt that is due
-pub interrupted : (m : Machine) (code : ℕ) → is_outside m.platform ≡ false → due m.platform.virt.csrs m.platform.virt.mode ≡ Some code → try m ≡ trapped m (interrupt_of code)
+pub interrupted : (m : Machine) (code : ℕ) → due m.platform.virt.csrs m.platform.virt.mode ≡ Some code → try m ≡ trapped m (interrupt_of code)
 unfolding try_under
-interrupted m code inside is = rw (inside, is) refl
+interrupted m code is = rw is refl

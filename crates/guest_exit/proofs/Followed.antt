@@ -31,8 +31,8 @@ use Rattle.arch_defs.proofs.Rooms.{first_lies}
 use Rattle.machine_defs.specs.declared.events.Event.TheVariants as event
 use Rattle.machine_defs.specs.HostPlaces.{in_ram, memory_place}
 use Rattle.machine_defs.specs.Machine as outside
-use Rattle.machine_defs.specs.Machine.{Machine, Platform, Tried, called_by, concluded, environment, is_outside, made, second_of, stepped_to, ticked, trapped, tried_with, try, try_under}
-use Rattle.machine_defs.specs.Outcomes.{Outcome, Done, Trapped, Stuck, Called, Waits, Fenced, Accesses, Outside}
+use Rattle.machine_defs.specs.Machine.{Machine, Platform, Tried, concluded, made, second_of, stepped_to, ticked, trapped, tried_with, try, try_under}
+use Rattle.machine_defs.specs.Outcomes.{Outcome, Done, Trapped, Stuck, Called, Waits, Fenced, Accesses}
 use Rattle.machine_defs.specs.Renaming.{IsRenamed, LeavesHeld, ReservesHeld, outcome_renamed, renamed}
 use Rattle.machine_defs.proofs.HostPlaces.{only_ram_changes, ram_is_renamed, ram_is_stored}
 use Rattle.machine_defs.proofs.Renaming.{renamed_core, stays_held}
@@ -338,7 +338,7 @@ back_v trapped hart before =
     elim (trapped && not (is_virtual before.mode)) as (λ b. is_virtual (cond b (fixed_up (saved hart before)) (saved hart before)).mode ≡ is_virtual before.mode)
     [ true ↦ saved_v (is_virtual before.mode) hart.mode | false ↦ saved_v (is_virtual before.mode) hart.mode ]
 
-never_set : (before after table : Bool) → after ≡ before → (not before && after && table) ≡ false
+never_set : (before after table : Bool) → after ≡ before → (not before && (after && table)) ≡ false
 never_set true after table e = refl
 never_set false after table e = rw e refl
 
@@ -378,7 +378,6 @@ outcome_follows part m memory lone Called at e leaves = absurd e
 outcome_follows part m memory lone (Waits hart) at e leaves = absurd e
 outcome_follows part m memory lone (Fenced hart fence) at e leaves = absurd e
 outcome_follows part m memory lone (Accesses access) at e leaves = absurd e
-outcome_follows part m memory lone Outside at e leaves = absurd e
 
 -- the hart's second stage is RAM's, with places renamed
 host_root_of : (root : GuestRoot) (virtual : Bool) (csrs : Csrs) → (hosted_csrs root virtual csrs).hgatp ≡ root
@@ -419,9 +418,8 @@ try_follows part m memory None hart e at =
 try_follows part m memory (Some code) hart is at = interrupt_follows part m memory code hart (is_virtual m.platform.virt.mode) refl is at
 
 -- one step of the hart is one try
-pub followed : (part : Layout) (m : Machine) (memory : List ℕ) → is_outside m.platform ≡ false → host_takes m.platform.virt ≡ false → IsAt part m memory
+pub followed : (part : Layout) (m : Machine) (memory : List ℕ) → host_takes m.platform.virt ≡ false → IsAt part m memory
     → Follows part m memory (hart_step (loaded part m.platform.virt) memory)
 unfolding try_under hart_step
-followed part m memory inside free at =
-    let v = m.platform.virt in
-    rw inside (try_follows part m memory _ _ (due_alike (host_root part) v.csrs v.mode free) at)
+followed part m memory free at =
+    let v = m.platform.virt in try_follows part m memory _ _ (due_alike (host_root part) v.csrs v.mode free) at

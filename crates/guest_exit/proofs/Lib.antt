@@ -1,9 +1,12 @@
+pub mod Accessing
 pub mod Agreement
 pub mod Alone
 pub mod Delegation
 pub mod Entries
 pub mod Followed
+pub mod ForGood
 pub mod Interrupts
+pub mod Moments
 pub mod Placed
 pub mod Privileged
 pub mod Stands

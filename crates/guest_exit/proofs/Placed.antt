@@ -5,7 +5,6 @@ use Rattle.arch_defs.specs.Frames.{Only, in_blocks}
 use Rattle.arch_defs.specs.Layouts.{Layout, in_tables}
 use Rattle.arch_defs.specs.Memory.{block_size, ram_base}
 use Rattle.arch_defs.specs.Ram.{SlicesLieIn, ram_of}
-use Rattle.arch_defs.proofs.FrameSets.{only_none}
 use Rattle.arch_defs.proofs.RamBlocks.{blocks_lie_in, ram_length}
 use Rattle.arch_defs.proofs.Rooms.{first_lies}
 use Rattle.host_tables.specs.Walks.{IsHeld}
@@ -59,8 +58,9 @@ placed_after old new memory changed k at fixed only ran =
     subst (λ part. IsAt part (machine_of new changed) changed) (sym fixed.part)
     (at_after old.part memory changed (machine_of old memory) (machine_of new changed) k at only ram ran)
 
--- and of one step that the host makes, which leaves memory as it was
-pub placed_by_step : (old new : Guest) (memory : List ℕ) → old.status ≡ Running → IsPlaced old memory → StaysFixed old new
-    → machine_of new memory ≡ left_by (machine_of old memory) (try (machine_of old memory)) → IsPlaced new memory
-placed_by_step old new memory running at fixed step =
-    placed_after old new memory memory 1 at fixed (only_none (in_blocks old.part.blocks) memory) (rw (one_run (machine_of old memory) running) step)
+-- and of one step that the host makes
+pub placed_by_step : (old new : Guest) (memory changed : List ℕ) → old.status ≡ Running → IsPlaced old memory → StaysFixed old new
+    → Only (in_blocks old.part.blocks) memory changed
+    → machine_of new changed ≡ left_by (machine_of old memory) (try (machine_of old memory)) → IsPlaced new changed
+placed_by_step old new memory changed running at fixed only step =
+    placed_after old new memory changed 1 at fixed only (rw (one_run (machine_of old memory) running) step)

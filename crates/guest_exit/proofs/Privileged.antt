@@ -1,6 +1,6 @@
 -- Instructions that the mode decides on, on the lone machine and on the hart.
-use Rattle.std.specs.Prelude.{◌/◌, ◌^◌, ◌==◌, nat_le, Result, Err}
-use Rattle.std.proofs.Common.{cond, ◌≡◌, ℕ, ◌<◌, Some, None, Bool, true, false, refl, arith}
+use Rattle.std.specs.Prelude.{◌^◌, nat_le, Result, Err}
+use Rattle.std.proofs.Common.{cond, ◌≡◌, ℕ, ◌<◌, Some, None, Bool, true, false, refl}
 use Rattle.arch_defs.specs.declared.csr_names.CsrEnd.{CsrEnd}
 use Rattle.arch_defs.specs.declared.csr_names.CsrEnd.TheVariants.{Illegal, Virtual as VirtualInstruction}
 use Rattle.arch_defs.specs.declared.csr_names.Register.{Register}
@@ -18,8 +18,7 @@ use Rattle.op_defs.specs.declared.ops.Privileged.{Privileged}
 use Rattle.op_defs.specs.declared.ops.Privileged.TheVariants.{Csr, Sret, Wfi, SfenceVma, HfenceVvma, HfenceGvma, GuestAccess as Access}
 use Rattle.machine_defs.specs.declared.events.Event.TheVariants.{System}
 use Rattle.machine_defs.specs.Outcomes.{Outcome, Done, passed, sets}
-use Rattle.machine_defs.specs.Outside.{is_outside}
-use Rattle.machine_defs.specs.Privileges.{combined, csr_accessed, csr_changed, csr_shown, decided, fenced_in, guest_accessed_in, held, in_hs, left_by_sret, privileged, refused, returned_in, unless_outside, waited_in}
+use Rattle.machine_defs.specs.Privileges.{combined, csr_accessed, csr_changed, csr_shown, fenced_in, guest_accessed_in, held, in_hs, left_by_sret, privileged, refused, returned_in, waited_in}
 use Rattle.guest_exit.specs.Following.{privileged_in}
 use Rattle.world_switch.specs.Hosting.{hosted, hosted_csrs, hosted_mode}
 use Rattle.world_switch.proofs.Instructions.{always_virtual, supervisor_again}
@@ -28,23 +27,19 @@ use Rattle.world_switch.proofs.Undone.{same_csrs}
 use Rattle.guest_exit.proofs.Delegation.{own_2}
 use Rattle.guest_exit.proofs.Stands.{Own, Stands, Traps, ends_csrs, left, none_written}
 
--- a number of the first row is not outside
-row_inside : (n : ℕ) → n / 2 ^ 8 ≡ 1 → (n == 0xC01) ≡ false
-row_inside n row = grind arith
-
 -- what the hart leaves to the host
 abbrev Leaves : Virtual → Outcome → ℕ → Type 0
 Leaves s lone word = Traps s lone (exception (hosted_mode s.mode) VIRTUAL_INSTRUCTION word)
 
 -- a read, by what the number is to both
-shown_stands : (root : GuestRoot) (s : Virtual) (word n rd : ℕ) (own hart : Result Register CsrEnd) (out : Bool) → (n / 2 ^ 8 ≡ 1 → out ≡ false)
-    → Leaves s (unless_outside out (csr_shown s word rd (value_of s.csrs own))) word → Reaches root (is_virtual s.mode) s.csrs n own hart
-    → Stands root s (unless_outside out (csr_shown s word rd (value_of s.csrs own)))
-    (unless_outside out (csr_shown (hosted root s) word rd (value_of (hosted_csrs root (is_virtual s.mode) s.csrs) hart)))
-shown_stands root s word n rd own hart out good leaves (Nothing e f) = rw (e, f) (Own ILLEGAL_INSTRUCTION word refl refl own_2)
-shown_stands root s word n rd own hart out good leaves (Withheld f) = rw f leaves
-shown_stands root s word n rd own hart out good leaves (Both r twin e f twins row) =
-    rw (e, f, good row, twins.shows)
+shown_stands : (root : GuestRoot) (s : Virtual) (word n rd : ℕ) (own hart : Result Register CsrEnd)
+    → Leaves s (csr_shown s word rd (value_of s.csrs own)) word → Reaches root (is_virtual s.mode) s.csrs n own hart
+    → Stands root s (csr_shown s word rd (value_of s.csrs own))
+    (csr_shown (hosted root s) word rd (value_of (hosted_csrs root (is_virtual s.mode) s.csrs) hart))
+shown_stands root s word n rd own hart leaves (Nothing e f) = rw (e, f) (Own ILLEGAL_INSTRUCTION word refl refl own_2)
+shown_stands root s word n rd own hart leaves (Withheld f) = rw f leaves
+shown_stands root s word n rd own hart leaves (Both r twin e f twins row) =
+    rw (e, f, twins.shows)
     (ends_csrs root s (sets s rd (shown s.csrs r)).regs (hosted_csrs root (is_virtual s.mode) s.csrs) s.csrs (same_csrs root (is_virtual s.mode) s.csrs) (none_written root (is_virtual s.mode) s.csrs))
 
 -- a write of what a number reaches, by whether the number is one of those that cannot be written
@@ -53,28 +48,28 @@ changed s word op operand rd late r =
     let before = held (value_of s.csrs r) in csr_changed s word rd before (changed_by s.csrs (cond late (Err Illegal) r) (combined op before operand))
 
 -- a write, by what the number is to both
-changed_stands : (root : GuestRoot) (s : Virtual) (word n : ℕ) (op : CsrOp) (operand rd : ℕ) (late : Bool) (own hart : Result Register CsrEnd) (out : Bool) → (n / 2 ^ 8 ≡ 1 → out ≡ false)
-    → Leaves s (unless_outside out (changed s word op operand rd late own)) word → Reaches root (is_virtual s.mode) s.csrs n own hart
-    → Stands root s (unless_outside out (changed s word op operand rd late own)) (unless_outside out (changed (hosted root s) word op operand rd late hart))
-changed_stands root s word n op operand rd true own hart out good leaves reaches = Own ILLEGAL_INSTRUCTION word refl refl own_2
-changed_stands root s word n op operand rd false own hart out good leaves (Nothing e f) =
+changed_stands : (root : GuestRoot) (s : Virtual) (word n : ℕ) (op : CsrOp) (operand rd : ℕ) (late : Bool) (own hart : Result Register CsrEnd)
+    → Leaves s (changed s word op operand rd late own) word → Reaches root (is_virtual s.mode) s.csrs n own hart
+    → Stands root s (changed s word op operand rd late own) (changed (hosted root s) word op operand rd late hart)
+changed_stands root s word n op operand rd true own hart leaves reaches = Own ILLEGAL_INSTRUCTION word refl refl own_2
+changed_stands root s word n op operand rd false own hart leaves (Nothing e f) =
     rw (e, f) (Own ILLEGAL_INSTRUCTION word refl refl own_2)
-changed_stands root s word n op operand rd false own hart out good leaves (Withheld f) = rw f leaves
-changed_stands root s word n op operand rd false own hart out good leaves (Both r twin e f twins row) =
+changed_stands root s word n op operand rd false own hart leaves (Withheld f) = rw f leaves
+changed_stands root s word n op operand rd false own hart leaves (Both r twin e f twins row) =
     let before = shown s.csrs r in
     let v = combined op before operand in
-    rw (e, f, good row, twins.shows)
+    rw (e, f, twins.shows)
     (ends_csrs root s (sets s rd before).regs (written (hosted_csrs root (is_virtual s.mode) s.csrs) twin v) (written s.csrs r v) (twins.changes v) (twins.keeps v))
 
 -- an instruction on a control and status register
-csr_stands : (root : GuestRoot) (s : Virtual) (word : ℕ) (op : CsrOp) (n operand : ℕ) (writes : Bool) (rd : ℕ) (out : Bool) → (n / 2 ^ 8 ≡ 1 → out ≡ false)
-    → Leaves s (unless_outside out (csr_accessed s word op n operand writes rd)) word
-    → Stands root s (unless_outside out (csr_accessed s word op n operand writes rd)) (unless_outside out (csr_accessed (hosted root s) word op n operand writes rd))
+csr_stands : (root : GuestRoot) (s : Virtual) (word : ℕ) (op : CsrOp) (n operand : ℕ) (writes : Bool) (rd : ℕ)
+    → Leaves s (csr_accessed s word op n operand writes rd) word
+    → Stands root s (csr_accessed s word op n operand writes rd) (csr_accessed (hosted root s) word op n operand writes rd)
 unfolding read write named_to_write
-csr_stands root s word op n operand true rd out good leaves =
-    changed_stands root s word n op operand rd (nat_le 0xC00 n) _ _ out good leaves (reached_alike root s.csrs s.mode n (register_of n) refl)
-csr_stands root s word op n operand false rd out good leaves =
-    shown_stands root s word n rd _ _ out good leaves (reached_alike root s.csrs s.mode n (register_of n) refl)
+csr_stands root s word op n operand true rd leaves =
+    changed_stands root s word n op operand rd (nat_le 0xC00 n) _ _ leaves (reached_alike root s.csrs s.mode n (register_of n) refl)
+csr_stands root s word op n operand false rd leaves =
+    shown_stands root s word n rd _ _ leaves (reached_alike root s.csrs s.mode n (register_of n) refl)
 
 -- SFENCE.VMA, which changes nothing where it is made
 passes : (root : GuestRoot) (s : Virtual) → Stands root s (Done (passed s) None System) (Done (passed (hosted root s)) None System)
@@ -82,16 +77,16 @@ passes root s =
     ends_csrs root s (sets s 0 0).regs (hosted_csrs root (is_virtual s.mode) s.csrs) s.csrs (same_csrs root (is_virtual s.mode) s.csrs) (none_written root (is_virtual s.mode) s.csrs)
 
 fence_if : (root : GuestRoot) (s : Virtual) (word : ℕ) (kept : Bool)
-    → Leaves s (unless_outside false (cond kept (refused s word VirtualInstruction) (Done (passed s) None System))) word
-    → Stands root s (unless_outside false (cond kept (refused s word VirtualInstruction) (Done (passed s) None System)))
-    (unless_outside false (cond kept (refused (hosted root s) word VirtualInstruction) (Done (passed (hosted root s)) None System)))
+    → Leaves s (cond kept (refused s word VirtualInstruction) (Done (passed s) None System)) word
+    → Stands root s (cond kept (refused s word VirtualInstruction) (Done (passed s) None System))
+    (cond kept (refused (hosted root s) word VirtualInstruction) (Done (passed (hosted root s)) None System))
 fence_if root s word true leaves = leaves
 fence_if root s word false leaves = passes root s
 
 fence_stands : (root : GuestRoot) (s : Virtual) (word : ℕ) (mode : Mode)
-    → Leaves (record s { mode = mode }) (unless_outside false (fenced_in (record s { mode = mode }) word mode)) word
-    → Stands root (record s { mode = mode }) (unless_outside false (fenced_in (record s { mode = mode }) word mode))
-    (unless_outside false (fenced_in (hosted root (record s { mode = mode })) word (hosted_mode mode)))
+    → Leaves (record s { mode = mode }) (fenced_in (record s { mode = mode }) word mode) word
+    → Stands root (record s { mode = mode }) (fenced_in (record s { mode = mode }) word mode)
+    (fenced_in (hosted root (record s { mode = mode })) word (hosted_mode mode))
 fence_stands root s word HS leaves = passes root (record s { mode = HS })
 fence_stands root s word U leaves = leaves
 fence_stands root s word VS leaves = fence_if root (record s { mode = VS }) word s.csrs.hstatus.vtvm leaves
@@ -109,17 +104,16 @@ returns root s = (
 )
 
 return_if : (root : GuestRoot) (s : Virtual) (word : ℕ) (kept : Bool)
-    → Leaves (record s { mode = VS }) (unless_outside false (cond kept (refused (record s { mode = VS }) word VirtualInstruction) (left_by_sret (record s { mode = VS })))) word
-    → Stands root (record s { mode = VS }) (unless_outside false (cond kept (refused (record s { mode = VS }) word VirtualInstruction) (left_by_sret (record s { mode = VS }))))
-    (unless_outside false
-    (cond kept (refused (hosted root (record s { mode = VS })) word VirtualInstruction) (left_by_sret (hosted root (record s { mode = VS })))))
+    → Leaves (record s { mode = VS }) (cond kept (refused (record s { mode = VS }) word VirtualInstruction) (left_by_sret (record s { mode = VS }))) word
+    → Stands root (record s { mode = VS }) (cond kept (refused (record s { mode = VS }) word VirtualInstruction) (left_by_sret (record s { mode = VS })))
+    (cond kept (refused (hosted root (record s { mode = VS })) word VirtualInstruction) (left_by_sret (hosted root (record s { mode = VS }))))
 return_if root s word true leaves = leaves
 return_if root s word false leaves = returns root s
 
 return_stands : (root : GuestRoot) (s : Virtual) (word : ℕ) (mode : Mode)
-    → Leaves (record s { mode = mode }) (unless_outside false (returned_in (record s { mode = mode }) word mode)) word
-    → Stands root (record s { mode = mode }) (unless_outside false (returned_in (record s { mode = mode }) word mode))
-    (unless_outside false (returned_in (hosted root (record s { mode = mode })) word (hosted_mode mode)))
+    → Leaves (record s { mode = mode }) (returned_in (record s { mode = mode }) word mode) word
+    → Stands root (record s { mode = mode }) (returned_in (record s { mode = mode }) word mode)
+    (returned_in (hosted root (record s { mode = mode })) word (hosted_mode mode))
 return_stands root s word HS leaves = leaves
 return_stands root s word U leaves = leaves
 return_stands root s word VS leaves = return_if root s word s.csrs.hstatus.vtsr leaves
@@ -137,10 +131,11 @@ withheld root s word U = record { wfi = refl; fence = λ o. refl; access = λ a.
 withheld root s word VS = record { wfi = refl; fence = λ o. refl; access = λ a. refl }
 withheld root s word VU = record { wfi = refl; fence = λ o. refl; access = λ a. refl }
 
--- by the instruction
-decided_stands : (root : GuestRoot) (s : Virtual) (word : ℕ) (p : Privileged) → Leaves s (unless_outside (is_outside p) (decided s word p)) word
-    → Stands root s (unless_outside (is_outside p) (decided s word p)) (unless_outside (is_outside p) (decided (hosted root s) word p))
-decided_stands root s word (Csr op n operand writes rd) leaves = csr_stands root s word op n operand writes rd (n == 0xC01) (row_inside n) leaves
+-- an instruction that the mode decides on, by what it is
+decided_stands : (root : GuestRoot) (s : Virtual) (word : ℕ) (p : Privileged) → Leaves s (privileged s word p) word
+    → Stands root s (privileged s word p) (privileged (hosted root s) word p)
+unfolding privileged
+decided_stands root s word (Csr op n operand writes rd) leaves = csr_stands root s word op n operand writes rd leaves
 decided_stands root s word Sret leaves = return_stands root s word s.mode leaves
 decided_stands root s word Wfi leaves = rw (withheld root s word s.mode).wfi leaves
 decided_stands root s word SfenceVma leaves = fence_stands root s word s.mode leaves
@@ -148,8 +143,6 @@ decided_stands root s word HfenceVvma leaves = rw ((withheld root s word s.mode)
 decided_stands root s word (HfenceGvma fence) leaves = rw ((withheld root s word s.mode).fence _) leaves
 decided_stands root s word (Access access) leaves = rw ((withheld root s word s.mode).access access) leaves
 
--- an instruction that the mode decides on
 pub privileged_stands : (root : GuestRoot) (s : Virtual) (word : ℕ) (p : Privileged) → word < 2 ^ 32 → privileged_in word s.regs ≡ Some p
     → Stands root s (privileged s word p) (privileged (hosted root s) word p)
-unfolding privileged
 privileged_stands root s word p small e = decided_stands root s word p (left s word p small e)

@@ -12,7 +12,7 @@ use Rattle.op_defs.specs.declared.ops.Privileged.{Privileged}
 use Rattle.op_defs.specs.Table.{is_system}
 use Rattle.machine_defs.specs.declared.events.Event.TheVariants.{Plain, System}
 use Rattle.machine_defs.specs.Core.{Located, At, Fails, Made, Leaves, Ends, ended, event_of}
-use Rattle.machine_defs.specs.Outcomes.{Outcome, Done, Trapped, Stuck, Called, Waits, Fenced, Accesses, Outside}
+use Rattle.machine_defs.specs.Outcomes.{Outcome, Done, Trapped, Stuck, Called, Waits, Fenced, Accesses}
 use Rattle.machine_defs.specs.Privileges.{privileged}
 use Rattle.rv64_hart.specs.Steps.{enters_vs}
 use Rattle.world_switch.specs.Hosting.{hosted, hosted_csrs, hosted_mode, saved, saved_csrs, taken_back}
@@ -41,7 +41,6 @@ Stands root s lone Called = ⊥
 Stands root s lone (Waits hart) = ⊥
 Stands root s lone (Fenced hart fence) = ⊥
 Stands root s lone (Accesses access) = ⊥
-Stands root s lone Outside = ⊥
 
 -- where an access is made, in both
 abbrev pub SamePlace : (root : GuestRoot) → Virtual → Located → Located → Type 0

@@ -22,7 +22,7 @@ use Rattle.op_defs.specs.Table.{op_of}
 use Rattle.machine_defs.specs.declared.events.Event.{Event}
 use Rattle.machine_defs.specs.declared.events.Event.TheVariants as event
 use Rattle.machine_defs.specs.HostPlaces.{in_ram, memory_place}
-use Rattle.machine_defs.specs.Machine.{Machine, Tried, called_by, concluded, environment, stepped_to, trapped, try}
+use Rattle.machine_defs.specs.Machine.{Machine, Tried, called, concluded, stepped_to, trapped, try}
 use Rattle.machine_defs.specs.Privileges.{privileged}
 use Rattle.machine_defs.specs.Renaming.{ReservesHeld, renamed}
 use Rattle.host_tables.specs.Walks.{IsHeld}
@@ -70,10 +70,10 @@ abbrev pub is_guest_page_code : ℕ → Bool
 is_guest_page_code code =
     code == INSTRUCTION_GUEST_PAGE_FAULT || code == LOAD_GUEST_PAGE_FAULT || code == STORE_GUEST_PAGE_FAULT
 
--- what the host makes of another trap, by the guest's V: with V = 0 it is a call of the environment, with V =
--- 1 a trap that the guest has not delegated
+-- what another trap is to the machine, by the guest's V: with V = 0 a call of the execution environment, with
+-- V = 1 a trap that the guest has not delegated
 abbrev pub other_step : Machine → Trap → Bool → Tried
-other_step m trap false = called_by m (environment m.platform)
+other_step m trap false = stepped_to m (called m.platform) event.System
 other_step m trap true = trapped m trap
 
 -- a step that the hart has left to the host: an instruction that the mode decides on, an access outside RAM,

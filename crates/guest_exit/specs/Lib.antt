@@ -1,4 +1,3 @@
-pub mod Consoles
 pub mod Entering
 pub mod Following
 pub mod View

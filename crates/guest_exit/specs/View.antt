@@ -10,10 +10,7 @@ abbrev pub seen : Guest → Platform
 seen guest = record {
   virt = guest.virt;
   clock = guest.clock;
-  timer = guest.timer;
-  inputs = guest.console.inputs;
-  console = guest.console.bytes;
-  console_room = guest.console.room;
+  console = guest.console;
   steps = guest.steps;
   status = guest.status;
 }

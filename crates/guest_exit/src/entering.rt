@@ -3,6 +3,7 @@
 ghost use Rattle.std.specs.Prelude.{◌≡◌, ◌+◌, ◌^◌, ◌<◌, ◌≤◌, Some, false, true};
 ghost use Rattle.arch_defs.specs.Frames.{Only, in_blocks};
 ghost use Rattle.machine_defs.specs.declared.guests.Status.TheVariants.{Running};
+ghost use Rattle.machine_defs.specs.Machine.{informed};
 ghost use Rattle.machine_defs.specs.Runs.{events, run, trace_of};
 ghost use Rattle.rv64_hart.specs.Counts.{IsRaisedBy};
 ghost use Rattle.rv64_hart.specs.Steps.{hart_steps, is_vs_trap, progress};
@@ -27,7 +28,7 @@ pub fn enter(
     requires running { guest.old.status ≡ Running }
     requires placed { IsPlaced guest.old memory.old }
     requires lasts { Lasts (seen guest.old) limit }
-    requires clock { guest.old.clock ≤ 2 ^ 62 + guest.old.steps }
+    requires clock { guest.old.clock.time ≤ 2 ^ 62 + guest.old.steps }
     requires steps { guest.old.steps + limit ≤ 2 ^ 61 }
     requires entries { tally.old.entries < 2 ^ 62 }
     requires taken { tally.old.taken + limit ≤ 2 ^ 62 }
@@ -46,9 +47,10 @@ pub fn enter(
     ensures fixed { StaysFixed guest.old guest.new }
     ensures entries { tally.new.entries ≡ tally.old.entries + 1 }
     ensures taken { tally.new.taken ≡ tally.old.taken + result.taken }
+    ensures current { informed (seen guest.new) ≡ seen guest.new }
     ensures status { guest.new.status ≡ Running }
     ensures steps { guest.new.steps ≡ guest.old.steps + result.taken }
-    ensures clock { guest.new.clock ≡ guest.old.clock + result.taken }
+    ensures clock { guest.new.clock.time ≡ guest.old.clock.time + result.taken }
 {
     *hart.state_mut() = load(&guest.virt, &guest.part);
     let stop = hart.run(memory, limit, true, tally);

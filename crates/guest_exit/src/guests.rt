@@ -1,13 +1,16 @@
 // A guest on the hart.
 
 ghost use Rattle.std.specs.Prelude.{◌≡◌, ◌+◌, ◌^◌, ◌<◌, ◌≤◌};
-ghost use Rattle.machine_defs.specs.Machine.{informed, is_outside, ticked};
+ghost use Rattle.std.specs.Option.{ForSome};
+ghost use Rattle.arch_defs.specs.Clocks.{next_event};
+ghost use Rattle.machine_defs.specs.Machine.{informed, made_by, ticked};
 ghost use Rattle.guest_exit.specs.Entering.{GivesSteps};
 ghost use Rattle.guest_exit.specs.View.{StaysFixed, seen};
 
-use crate::consoles::Console;
 use arch_defs::{Part, Virtual};
+use console_dev::Console;
 use machine_defs::Status;
+use virtual_timer::Clock;
 use world_switch::take_back;
 
 /// What the host keeps of a guest beside its RAM. Contracts see it with the RAM as the lone machine.
@@ -15,8 +18,7 @@ use world_switch::take_back;
 pub struct Guest {
     pub part: Part,
     pub virt: Virtual,
-    pub clock: u64,
-    pub timer: u64,
+    pub clock: Clock,
     pub console: Console,
     pub steps: u64,
     pub status: Status,
@@ -33,46 +35,55 @@ impl Guest {
             × (self.new.clock ≡ self.old.clock) }
         ensures fixed { StaysFixed self.old self.new }
     {
-        self.virt.csrs.sip.timer = self.timer <= self.clock;
-        self.virt.csrs.sip.external = self.console.has_input(self.clock);
-        self.virt.csrs.time = self.clock;
+        let time = self.clock.time();
+        self.virt.csrs.sip.timer = self.clock.due();
+        self.virt.csrs.sip.external = self.console.has_input(time);
+        self.virt.csrs.time = time;
     }
 
-    /// A step has been made.
+    /// A step has been made, which was no wait.
     pub(crate) fn tick(&mut self)
-        requires clock { self.old.clock < 2 ^ 63 }
+        requires clock { self.old.clock.time < 2 ^ 63 }
         requires steps { self.old.steps < 2 ^ 61 }
         ensures platform { seen self.new ≡ ticked (seen self.old) }
         ensures made { self.new.steps ≡ self.old.steps + 1 }
-        ensures clock { self.new.clock ≡ self.old.clock + 1 }
+        ensures clock { self.new.clock.time ≡ self.old.clock.time + 1 }
         ensures status { self.new.status ≡ self.old.status }
         ensures fixed { StaysFixed self.old self.new }
     {
-        self.clock += 1;
+        self.clock.step();
+        self.count();
+    }
+
+    /// A step has been made, after which the clock is where it is now.
+    pub(crate) fn count(&mut self)
+        requires steps { self.old.steps < 2 ^ 61 }
+        ensures platform { seen self.new ≡ made_by (seen self.old) self.old.clock.time }
+        ensures made { self.new.steps ≡ self.old.steps + 1 }
+        ensures clock { self.new.clock ≡ self.old.clock }
+        ensures status { self.new.status ≡ self.old.status }
+        ensures fixed { StaysFixed self.old self.new }
+    {
         self.steps += 1;
         self.inform();
     }
 
     /// The hart has made so many steps for the guest, the last of which was a trap into VS or was not.
     pub(crate) fn take_steps(&mut self, hart: &Virtual, trapped: bool, taken: u64)
-        requires clock { self.old.clock < 2 ^ 63 }
+        requires event { ForSome (next_event self.old.clock)
+            (λ moment. self.old.clock.time + taken ≤ moment) }
+        requires clock { self.old.clock.time + taken ≤ 2 ^ 63 }
         requires steps { self.old.steps + taken ≤ 2 ^ 61 }
         ensures platform { GivesSteps self.old.part (seen self.old) hart.now trapped taken (seen self.new) }
+        ensures current { informed (seen self.new) ≡ seen self.new }
         ensures made { self.new.steps ≡ self.old.steps + taken }
-        ensures clock { self.new.clock ≡ self.old.clock + taken }
+        ensures clock { self.new.clock.time ≡ self.old.clock.time + taken }
         ensures status { self.new.status ≡ self.old.status }
         ensures fixed { StaysFixed self.old self.new }
     {
         take_back(hart, &self.part, trapped, &mut self.virt);
-        self.clock += taken;
+        self.clock.advance(taken);
         self.steps += taken;
         self.inform();
     }
-}
-
-/// Whether the guest's next step begins outside what is built so far: an input's moment has come.
-pub fn is_outside(guest: &Guest) -> bool
-    ensures { result ≡ is_outside (seen guest.now) }
-{
-    guest.console.has_input(guest.clock)
 }

@@ -4,11 +4,11 @@ ghost use Rattle.std.specs.Prelude.{◌≡◌, ◌+◌, ◌^◌, ◌<◌, ◌≤
 ghost use Rattle.arch_defs.specs.Interrupts.{guest_bit};
 ghost use Rattle.arch_defs.specs.Traps.{is_virtual};
 ghost use Rattle.machine_defs.specs.declared.guests.Status.TheVariants.{Running};
-ghost use Rattle.machine_defs.specs.Machine.{is_outside, try};
+ghost use Rattle.machine_defs.specs.Machine.{try};
 ghost use Rattle.machine_defs.specs.Runs.{event_in, instruction_count, left_by};
 ghost use Rattle.guest_exit.specs.Entering.{IsQuiet};
 ghost use Rattle.guest_exit.specs.Following.{host_takes, is_hosts};
-ghost use Rattle.guest_exit.specs.View.{IsPlaced, StaysFixed, machine_of, seen};
+ghost use Rattle.guest_exit.specs.View.{IsPlaced, StaysFixed, machine_of};
 
 use crate::guests::Guest;
 use crate::trapping::take;
@@ -20,8 +20,7 @@ use trap_delegation::{interrupt_trap, is_virtual, pending};
 /// is a step.
 pub fn interrupt(guest: &mut Guest) -> bool
     requires running { guest.old.status ≡ Running }
-    requires inside { is_outside (seen guest.old) ≡ false }
-    requires clock { guest.old.clock ≤ 2 ^ 62 + guest.old.steps }
+    requires clock { guest.old.clock.time ≤ 2 ^ 62 + guest.old.steps }
     requires steps { guest.old.steps < 2 ^ 61 }
     ensures which { result ≡ host_takes guest.old.virt }
     ensures step { result ≡ true → (memory : List ℕ)
@@ -33,7 +32,7 @@ pub fn interrupt(guest: &mut Guest) -> bool
     ensures placed { (memory : List ℕ) → IsPlaced guest.old memory → IsPlaced guest.new memory }
     ensures status { guest.new.status ≡ Running }
     ensures made { result ≡ true → guest.new.steps ≡ guest.old.steps + 1 }
-    ensures clock { result ≡ true → guest.new.clock ≡ guest.old.clock + 1 }
+    ensures clock { result ≡ true → guest.new.clock.time ≡ guest.old.clock.time + 1 }
     ensures stays { result ≡ false → guest.new ≡ guest.old }
     ensures fixed { StaysFixed guest.old guest.new }
 {

@@ -1,8 +1,7 @@
 // Between the host and the hart: steps of a guest on the hart, and what the hart leaves to the host.
 #![tactic(auto)]
 
-mod calls;
-mod consoles;
+mod emulating;
 mod entering;
 mod guests;
 mod handling;
@@ -11,12 +10,17 @@ mod limits;
 #[cfg(test)]
 mod tests;
 #[cfg(test)]
+mod tests_accesses;
+#[cfg(test)]
+mod tests_clock;
+#[cfg(test)]
 mod tests_nested;
 mod trapping;
+mod waiting;
 
-pub use consoles::Console;
+pub use console_dev::Console;
 pub use entering::enter;
-pub use guests::{Guest, is_outside};
+pub use guests::Guest;
 pub use handling::{Handled, handle};
 pub use interrupting::interrupt;
 pub use limits::limit;

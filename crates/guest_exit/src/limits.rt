@@ -1,7 +1,8 @@
 // How long one entry of the hart may last.
 
-ghost use Rattle.std.specs.Prelude.{◌≡◌, ◌≤◌, ◌&&◌, ℕ, false, true, nat_le, if◌then◌else◌};
-ghost use Rattle.machine_defs.specs.Machine.{informed, is_outside};
+ghost use Rattle.std.specs.Prelude.{◌≡◌, ◌≤◌, ◌&&◌, ℕ, false, true, if◌then◌else◌};
+ghost use Rattle.arch_defs.specs.Inputs.{has_come};
+ghost use Rattle.machine_defs.specs.Machine.{informed};
 ghost use Rattle.guest_exit.specs.Entering.{Lasts, Stays};
 ghost use Rattle.guest_exit.specs.Following.{host_takes};
 ghost use Rattle.world_switch.specs.Laws.{waits_for_hs};
@@ -14,7 +15,6 @@ use arch_defs::Csrs;
 /// changes before the last step begins: 1 where an interrupt of VS waits that the host has to take, and else
 /// up to the timer or the first unread input, where that is ahead of the clock.
 pub fn limit(guest: &Guest, most: u64) -> u64
-    requires inside { is_outside (seen guest.now) ≡ false }
     requires current { informed (seen guest.now) ≡ seen guest.now }
     requires own { host_takes guest.now.virt ≡ false }
     requires some { 1 ≤ most }
@@ -26,21 +26,21 @@ pub fn limit(guest: &Guest, most: u64) -> u64
     if waits_for_hs(&guest.virt.csrs) {
         return 1;
     }
-    let before_timer = steps_before(guest.timer, guest.clock, most);
-    guest.console.steps_before_input(guest.clock, before_timer)
+    let time = guest.clock.time();
+    let before_timer = steps_before(guest.clock.next_event(), time, most);
+    steps_before(guest.console.next(), time, before_timer)
 }
 
-/// How many of at most so many steps begin before this moment, where it is ahead of the clock.
-pub(crate) fn steps_before(moment: u64, clock: u64, most: u64) -> u64
-    ensures stays { Stays (nat_le moment) clock result }
+// How many of at most so many steps begin before this moment, where there is one and it is ahead.
+fn steps_before(moment: Option<u64>, time: u64, most: u64) -> u64
+    ensures stays { Stays (has_come moment) time result }
     ensures some { 1 ≤ most → 1 ≤ result }
     ensures most { result ≤ most }
-    ensures largest { (n : ℕ) → n ≤ most → Stays (nat_le moment) clock n → n ≤ result }
+    ensures largest { (n : ℕ) → n ≤ most → Stays (has_come moment) time n → n ≤ result }
 {
-    if clock < moment && moment - clock < most {
-        moment - clock
-    } else {
-        most
+    match moment {
+        Some(moment) if time < moment && moment - time < most => moment - time,
+        _ => most,
     }
 }
 

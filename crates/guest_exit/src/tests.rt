@@ -1,15 +1,19 @@
-ghost use Rattle.std.specs.Prelude.{◌≡◌, ◌≤◌, None, IfOk, IfSome, length};
+ghost use Rattle.std.specs.Prelude.{◌≡◌, ◌≤◌, ◌^◌, None, IfOk, IfSome, length};
+ghost use Rattle.arch_defs.specs.Clocks.{times_at_start};
+ghost use Rattle.arch_defs.specs.Inputs.{AreInputs};
 ghost use Rattle.machine_defs.specs.declared.guests.Status.TheVariants.{Running};
-ghost use Rattle.guest_exit.specs.View.{IsPlaced};
+ghost use Rattle.machine_defs.specs.Machine.{informed};
+ghost use Rattle.guest_exit.specs.View.{IsPlaced, seen};
 
-use crate::{Console, Guest, Handled, enter, handle, interrupt, is_outside, limit};
+use crate::{Console, Guest, Handled, enter, handle, interrupt, limit};
 use arch_defs::{Mode, Part, Reg, Virtual};
 use host_tables::build;
-use machine_defs::{Inputs, Status};
+use machine_defs::Status;
 use phys_mem::{PhysMem, RAM_BASE};
 use rv64_hart::{Hart, Stop, Tally, Why};
 use std::alloc::{AllocError, Global};
 use std::test::Fail;
+use virtual_timer::Clock;
 
 // Who made a step.
 #[derive(Clone, Copy, Debug, PartialEq, Eq)]
@@ -22,21 +26,19 @@ pub enum By {
 }
 
 // The frames of a machine memory of two blocks.
-const FRAMES: u64 = 1024;
+pub const FRAMES: u64 = 1024;
 
 // A guest at the start of RAM, in this mode, with a console of one byte. Its RAM is block 1 of machine
 // memory; frames 0 to 4 have its host table.
 pub fn guest(alloc: Global, mode: Mode) -> Result<Guest, AllocError>
-    ensures { IfOk result (λ g. (g.status ≡ Running) × (g.clock ≡ 0) × (g.steps ≡ 0)
+    ensures { IfOk result (λ g. (g.status ≡ Running) × (g.clock ≡ times_at_start) × (g.steps ≡ 0)
         × (g.virt.reservation ≡ None)) }
 {
-    let inputs = Inputs::from_vec(Vec::new(alloc));
     Ok(Guest {
         part: Part::new(&[1], 0, 4, 0, 0),
         virt: Virtual::starting_at(mode, RAM_BASE),
-        clock: 0,
-        timer: u64::MAX,
-        console: Console::new(alloc, 1, inputs)?,
+        clock: Clock::new(),
+        console: Console::new(alloc, 1, Vec::new(alloc))?,
         steps: 0,
         status: Status::Running,
         space_room: 1,
@@ -44,8 +46,22 @@ pub fn guest(alloc: Global, mode: Mode) -> Result<Guest, AllocError>
     })
 }
 
+// A console of one byte, to which the byte 65 comes at this moment.
+pub fn console(alloc: Global, moment: u64) -> Result<Console, AllocError>
+    requires { moment ≤ 1000 }
+{
+    Console::new(alloc, 1, inputs(alloc, moment)?)
+}
+
+fn inputs(alloc: Global, moment: u64) -> Result<Vec<(u64, u8)>, AllocError>
+    requires { moment ≤ 1000 }
+    ensures { IfOk result (λ inputs. AreInputs inputs.items) }
+{
+    Ok(vec![in alloc; (moment, 65u8)]?)
+}
+
 // Machine memory of so many frames with the guest's image and host table, if that is enough.
-fn placed(
+pub fn placed(
     alloc: Global,
     guest: &Guest,
     image: &[u8],
@@ -74,7 +90,7 @@ fn placed(
 // One step of the guest on an image of this word.
 pub fn one(alloc: Global, guest: &mut Guest, word: u32) -> Result<By, AllocError>
     requires running { guest.old.status ≡ Running }
-    requires clock { guest.old.clock ≡ 0 }
+    requires clock { guest.old.clock.time ≤ 2 ^ 62 }
     requires steps { guest.old.steps ≡ 0 }
     requires unreserved { guest.old.virt.reservation ≡ None }
 {
@@ -84,33 +100,35 @@ pub fn one(alloc: Global, guest: &mut Guest, word: u32) -> Result<By, AllocError
 // One step of the guest on this image.
 pub fn one_on(alloc: Global, guest: &mut Guest, image: &[u8]) -> Result<By, AllocError>
     requires running { guest.old.status ≡ Running }
-    requires clock { guest.old.clock ≡ 0 }
+    requires clock { guest.old.clock.time ≤ 2 ^ 62 }
     requires steps { guest.old.steps ≡ 0 }
     requires unreserved { guest.old.virt.reservation ≡ None }
 {
     guest.inform();
-    let Some(mut memory) = placed(alloc, guest, image, FRAMES)? else {
-        return Ok(By::Nobody);
-    };
-    if is_outside(guest) {
-        return Ok(By::Nobody);
+    match placed(alloc, guest, image, FRAMES)? {
+        Some(mut memory) => Ok(one_in(guest, &mut memory)),
+        None => Ok(By::Nobody),
     }
+}
+
+// One step of the guest in machine memory.
+pub fn one_in(guest: &mut Guest, memory: &mut PhysMem) -> By
+    requires running { guest.old.status ≡ Running }
+    requires current { informed (seen guest.old) ≡ seen guest.old }
+    requires clock { guest.old.clock.time ≤ 2 ^ 62 }
+    requires steps { guest.old.steps ≡ 0 }
+    requires placed { IsPlaced guest.old memory.old }
+{
     if interrupt(guest) {
-        return Ok(By::HostByInterrupt);
+        return By::HostByInterrupt;
     }
     let limit = limit(guest, 1);
-    let stop = enter(
-        guest,
-        &mut Hart::new(),
-        &mut memory,
-        limit,
-        &mut Tally::new(),
-    );
-    Ok(match stop.why {
+    let stop = enter(guest, &mut Hart::new(), memory, limit, &mut Tally::new());
+    match stop.why {
         Why::Limit => By::Hart,
         Why::VsTrap => By::HartByTrap,
-        Why::Exit(trap) => By::Host(handle(guest, &memory, &trap)),
-    })
+        Why::Exit(trap) => By::Host(handle(guest, memory, &trap)),
+    }
 }
 
 // ADDI is the hart's, and moves clock, count and time.
@@ -121,7 +139,10 @@ fn the_hart_makes_a_plain_step(rt: HostRuntime) -> Result<(), Fail> {
     assert_eq!(rt; guest.virt.regs.read(Reg::new(5)), 7);
     assert_eq!(rt; guest.virt.regs.pc, 0x8000_0004);
     assert_eq!(rt; guest.virt.mode, Mode::U);
-    assert_eq!(rt; (guest.clock, guest.steps, guest.virt.csrs.time), (1, 1, 1));
+    assert_eq!(rt;
+        (guest.clock.time(), guest.steps, guest.virt.csrs.time),
+        (1, 1, 1)
+    );
     Ok(())
 }
 
@@ -182,7 +203,7 @@ fn the_host_refuses_in_user_mode(rt: HostRuntime) -> Result<(), Fail> {
             (guest.virt.regs.pc, guest.virt.mode),
             (0x8000_0100, Mode::HS)
         );
-        assert_eq!(rt; (guest.clock, guest.steps), (1, 1));
+        assert_eq!(rt; (guest.clock.time(), guest.steps), (1, 1));
     }
     Ok(())
 }
@@ -209,7 +230,7 @@ fn accesses_outside_ram(rt: HostRuntime) -> Result<(), Fail> {
         let csrs = guest.virt.csrs;
         assert_eq!(rt; (csrs.hs.cause, csrs.hs.tval), (cause, tval));
         assert_eq!(rt; (csrs.htval, csrs.hstatus.gva), (0, false));
-        assert_eq!(rt; (guest.clock, guest.steps), (1, 1));
+        assert_eq!(rt; (guest.clock.time(), guest.steps), (1, 1));
     }
     let mut guest = guest(rt.alloc(), Mode::HS)?;
     guest.virt.regs.pc = 0x7FFF_FFFC;
@@ -234,56 +255,22 @@ fn the_host_makes_sret(rt: HostRuntime) -> Result<(), Fail> {
     );
     let status = guest.virt.csrs.hs.status;
     assert_eq!(rt; (status.sie, status.spie, status.spp), (true, true, false));
-    assert_eq!(rt; (guest.clock, guest.steps), (1, 1));
+    assert_eq!(rt; (guest.clock.time(), guest.steps), (1, 1));
     Ok(())
 }
 
 // What is not built so far is not made, and nothing but the status changes.
 #[test]
-fn some_steps_are_outside(rt: HostRuntime) -> Result<(), Fail> {
-    for word in [
-        0x1050_0073, // wfi
-        0xC010_2573, // csrrs x10, time, x0
-        0x6200_0073, // hfence.gvma
-        0x6000_4573, // hlv.b x10, (x0)
-        0x6200_4073, // hsv.b x0, (x0)
-        0x0000_0073, // ecall, a7 = 0
-    ] {
-        let mut guest = guest(rt.alloc(), Mode::HS)?;
-        let before = guest.virt;
-        let by = one(rt.alloc(), &mut guest, word)?;
-        assert_eq!(rt; by, By::Host(Handled::Outside), "{word:#x}");
-        assert_eq!(rt; guest.virt, before);
-        assert_eq!(rt;
-            (guest.clock, guest.steps, guest.status),
-            (0, 0, Status::Outside)
-        );
-    }
-    Ok(())
-}
-
-// Each call by its number, from HS.
-#[test]
-fn calls(rt: HostRuntime) -> Result<(), Fail> {
-    for (number, by, a0, a1) in [
-        (1, Handled::Stepped, 0, 9),
-        (8, Handled::Stopped, 65, 9),
-        (3, Handled::Stepped, u64::MAX - 1, 0),
-        (u64::MAX, Handled::Stepped, u64::MAX - 1, 0),
-        (2, Handled::Outside, 65, 9),
-    ] {
-        let mut guest = guest(rt.alloc(), Mode::HS)?;
-        guest.virt.regs.advance(Reg::new(17), number, RAM_BASE);
-        guest.virt.regs.advance(Reg::new(10), 65, RAM_BASE);
-        guest.virt.regs.advance(Reg::new(11), 9, RAM_BASE);
-        assert_eq!(rt; one(rt.alloc(), &mut guest, 0x0000_0073)?, By::Host(by));
-        let regs = guest.virt.regs;
-        assert_eq!(rt;
-            (regs.read(Reg::new(10)), regs.read(Reg::new(11))),
-            (a0, a1)
-        );
-        assert_eq!(rt; guest.console.bytes() == b"A".as_slice(), number == 1);
-    }
+fn a_fence_of_guest_addresses_is_outside(rt: HostRuntime) -> Result<(), Fail> {
+    let mut guest = guest(rt.alloc(), Mode::HS)?;
+    let before = guest.virt;
+    let by = one(rt.alloc(), &mut guest, 0x6200_0073)?; // hfence.gvma
+    assert_eq!(rt; by, By::Host(Handled::Outside));
+    assert_eq!(rt; guest.virt, before);
+    assert_eq!(rt;
+        (guest.clock.time(), guest.steps, guest.status),
+        (0, 0, Status::Outside)
+    );
     Ok(())
 }
 
@@ -299,7 +286,7 @@ fn interrupts(rt: HostRuntime) -> Result<(), Fail> {
     assert_eq!(rt; one(rt.alloc(), &mut guest, 0)?, By::HostByInterrupt);
     assert_eq!(rt; guest.virt.csrs.hs.cause, 0x8000_0000_0000_0002);
     assert_eq!(rt; guest.virt.regs.pc, 0x8000_0108);
-    assert_eq!(rt; (guest.clock, guest.steps), (1, 1));
+    assert_eq!(rt; (guest.clock.time(), guest.steps), (1, 1));
     let mut guest = guest_with_software_interrupt(rt.alloc())?;
     assert_eq!(rt; one(rt.alloc(), &mut guest, 0)?, By::HartByTrap);
     assert_eq!(rt; guest.virt.csrs.hs.cause, 0x8000_0000_0000_0001);
@@ -310,7 +297,7 @@ fn interrupts(rt: HostRuntime) -> Result<(), Fail> {
 
 // In U, where SIE has no part.
 fn guest_with_software_interrupt(alloc: Global) -> Result<Guest, AllocError>
-    ensures { IfOk result (λ g. (g.status ≡ Running) × (g.clock ≡ 0) × (g.steps ≡ 0)
+    ensures { IfOk result (λ g. (g.status ≡ Running) × (g.clock ≡ times_at_start) × (g.steps ≡ 0)
         × (g.virt.reservation ≡ None)) }
 {
     let mut guest = guest(alloc, Mode::U)?;
@@ -329,7 +316,7 @@ fn entered(
     tally: &mut Tally,
 ) -> Result<Option<Stop>, AllocError>
     requires running { guest.old.status ≡ Running }
-    requires clock { guest.old.clock ≡ 0 }
+    requires clock { guest.old.clock.time ≤ 2 ^ 62 }
     requires steps { guest.old.steps ≡ 0 }
     requires unreserved { guest.old.virt.reservation ≡ None }
     requires some { 1 ≤ most }
@@ -341,9 +328,6 @@ fn entered(
     let Some(mut memory) = placed(alloc, guest, image, FRAMES)? else {
         return Ok(None);
     };
-    if is_outside(guest) {
-        return Ok(None);
-    }
     if interrupt(guest) {
         return Ok(None);
     }
@@ -372,7 +356,7 @@ fn an_entry_of_many_steps(rt: HostRuntime) -> Result<(), Fail> {
     assert_eq!(rt; guest.virt.regs.read(Reg::new(5)), 8);
     assert_eq!(rt; guest.virt.regs.pc, 0x8000_0008);
     assert_eq!(rt;
-        (guest.clock, guest.steps, guest.virt.csrs.time),
+        (guest.clock.time(), guest.steps, guest.virt.csrs.time),
         (10, 10, 10)
     );
     assert_eq!(rt; (tally.entries(), tally.taken()), (1, 10));
@@ -390,11 +374,9 @@ fn entries_end_before_what_the_clock_changes(rt: HostRuntime) -> Result<(), Fail
         (0, 20, false, 10),
         (20, 20, true, 1),
     ] {
-        let mut inputs = Vec::new(rt.alloc());
-        inputs.push((moment, 65))?;
         let mut guest = guest(rt.alloc(), Mode::HS)?;
-        guest.console = Console::new(rt.alloc(), 1, Inputs::from_vec(inputs))?;
-        guest.timer = timer;
+        guest.console = console(rt.alloc(), moment)?;
+        guest.clock.set(timer);
         guest.virt.csrs.hvip.software = waits;
         guest.virt.csrs.hie.software = waits;
         let mut tally = Tally::new();
@@ -407,20 +389,8 @@ fn entries_end_before_what_the_clock_changes(rt: HostRuntime) -> Result<(), Fail
             })
         );
         assert_eq!(rt; guest.virt.csrs.sip.timer, timer <= taken);
-        assert_eq!(rt; is_outside(&guest), moment <= taken);
-        assert_eq!(rt; (guest.clock, guest.steps), (taken, taken));
+        assert_eq!(rt; guest.virt.csrs.sip.external, moment <= taken);
+        assert_eq!(rt; (guest.clock.time(), guest.steps), (taken, taken));
     }
-    Ok(())
-}
-
-#[test]
-fn a_console_of_one_byte(rt: HostRuntime) -> Result<(), Fail> {
-    let mut inputs = Vec::new(rt.alloc());
-    inputs.push((7, 65))?;
-    let mut console = Console::new(rt.alloc(), 1, Inputs::from_vec(inputs))?;
-    assert_eq!(rt; (console.has_input(6), console.has_input(7)), (false, true));
-    assert_eq!(rt; console.put(b'x'), true);
-    assert_eq!(rt; console.put(b'y'), false);
-    assert_eq!(rt; console.bytes(), b"x".as_slice());
     Ok(())
 }

@@ -1,6 +1,7 @@
 // A guest that is a hypervisor. Values are worked out from the Privileged Architecture 20211203, 8.2 to 8.6.
 
 ghost use Rattle.std.specs.Prelude.{◌≡◌, None, IfOk};
+ghost use Rattle.arch_defs.specs.Clocks.{times_at_start};
 ghost use Rattle.machine_defs.specs.declared.guests.Status.TheVariants.{Running};
 
 use crate::tests::{By, guest, one, one_on};
@@ -39,7 +40,7 @@ const EXTERNAL: Interrupts = Interrupts {
 
 // A guest in this mode with a handler at each level, whose hypervisor delegates these exceptions.
 fn nested(alloc: Global, mode: Mode, hedeleg: u64) -> Result<Guest, AllocError>
-    ensures { IfOk result (λ g. (g.status ≡ Running) × (g.clock ≡ 0) × (g.steps ≡ 0)
+    ensures { IfOk result (λ g. (g.status ≡ Running) × (g.clock ≡ times_at_start) × (g.steps ≡ 0)
         × (g.virt.reservation ≡ None)) }
 {
     let mut guest = guest(alloc, mode)?;
@@ -148,7 +149,7 @@ fn exceptions(rt: HostRuntime) -> Result<(), Fail> {
                 assert_eq!(rt; guest.virt.csrs.hs.status.spp, mode == Mode::VS);
             }
             assert_eq!(rt;
-                (guest.clock, guest.steps, guest.virt.csrs.htimedelta),
+                (guest.clock.time(), guest.steps, guest.virt.csrs.htimedelta),
                 (1, 1, 1234)
             );
         }
@@ -228,18 +229,19 @@ fn virtual_instructions(rt: HostRuntime) -> Result<(), Fail> {
     Ok(())
 }
 
-// With VTW clear a WFI of VS is allowed, and so is a read of time with hcounteren.TM: they are outside.
+// With hcounteren.TM a read of time in VS gives the clock plus htimedelta, and in VU scounteren.TM lets it
+// too (8.2.7).
 #[test]
-fn allowed_in_vs(rt: HostRuntime) -> Result<(), Fail> {
-    for word in [0x1050_0073, 0xC010_2573] {
-        let mut guest = nested(rt.alloc(), Mode::VS, 0xB1FF)?;
+fn time_in_vs(rt: HostRuntime) -> Result<(), Fail> {
+    for mode in [Mode::VS, Mode::VU] {
+        let mut guest = nested(rt.alloc(), mode, 0xB1FF)?;
         guest.virt.csrs.hcounteren_tm = true;
-        let before = guest.virt;
-        assert_eq!(rt;
-            one(rt.alloc(), &mut guest, word)?,
-            By::Host(Handled::Outside)
-        );
-        assert_eq!(rt; (guest.virt, guest.steps), (before, 0));
+        guest.virt.csrs.scounteren_tm = true;
+        guest.clock.advance(5);
+        assert_eq!(rt; one(rt.alloc(), &mut guest, 0xC010_2573)?, STEPPED);
+        assert_eq!(rt; guest.virt.regs.read(Reg::new(10)), 1239);
+        assert_eq!(rt; (guest.virt.mode, guest.virt.regs.pc), (mode, 0x8000_0004));
+        assert_eq!(rt; (guest.clock.time(), guest.virt.csrs.time), (6, 6));
     }
     Ok(())
 }
@@ -351,7 +353,7 @@ fn interrupts_for_hs(rt: HostRuntime) -> Result<(), Fail> {
         }
     }
     let mut guest = nested(rt.alloc(), Mode::VS, 0)?;
-    guest.timer = 0;
+    guest.clock.set(0);
     guest.virt.csrs.sie = TIMER;
     guest.virt.csrs.hideleg = EXTERNAL;
     guest.virt.csrs.hie = EXTERNAL;

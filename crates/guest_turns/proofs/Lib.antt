@@ -5,6 +5,7 @@ pub mod Placing
 pub mod Starting
 pub mod Steps
 pub mod TestGuests
+pub mod Tries
 pub mod TurnLists
 pub mod Turns
 pub mod Updating

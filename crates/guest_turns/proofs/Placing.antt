@@ -1,16 +1,20 @@
 -- A guest in machine memory, while it runs and while another one does.
-use Rattle.std.proofs.Common.{◌≡◌, ℕ, true, ◌+◌, ◌*◌, ◌/◌, ◌<◌, ◌≤◌, ◌^◌, List, length, ap, subst, ◌∙◌, refl, arith}
-use Rattle.arch_defs.specs.Frames.{Same, in_blocks, within}
+use Rattle.std.proofs.Common.{◌≡◌, ℕ, true, ◌+◌, ◌*◌, ◌/◌, ◌<◌, ◌≤◌, ◌^◌, List, length, ap, subst, sym, ◌∙◌, refl, arith}
+use Rattle.arch_defs.specs.Frames.{Only, Same, in_blocks, within}
 use Rattle.arch_defs.specs.Layouts.{Layout, host_frames, in_tables, named_by, root_frames, table_frames}
 use Rattle.arch_defs.specs.Memory.{block_size, load}
 use Rattle.arch_defs.specs.Ram.{SlicesLieIn, ram_of}
-use Rattle.arch_defs.proofs.FrameSets.{in_range, joined_within, left_within, load_kept, right_within, same_fewer}
+use Rattle.arch_defs.proofs.FrameSets.{in_range, joined_within, left_within, load_kept, only_both, right_within, same_fewer}
 use Rattle.arch_defs.proofs.RamBlocks.{ram_kept}
 use Rattle.host_tables.specs.HostTable.{IsHostTable, leaf_word, root_word}
 use Rattle.host_tables.specs.Walks.{IsHeld}
 use Rattle.host_tables.proofs.Entries.{root_in, table_in}
+use Rattle.machine_defs.specs.declared.guests.Status.TheVariants.{Running}
+use Rattle.machine_defs.specs.Machine.{try}
+use Rattle.machine_defs.specs.Runs.{left_by}
 use Rattle.guest_exit.specs.declared.guests.Guest.{Guest}
 use Rattle.guest_exit.specs.View.{IsPlaced, StaysFixed, machine_of}
+use Rattle.guest_exit.proofs.Entries.{run_further}
 use Rattle.guest_exit.proofs.Placed.{blocks_held}
 use Rattle.guest_turns.specs.Hosting.{HasRun, IsHosted}
 use Rattle.guest_turns.proofs.Current.{after_run}
@@ -86,9 +90,21 @@ fixed_both old between new first second = record {
 pub entered_run : (same old new : Guest) (memory changed : List ℕ) (k : ℕ) → same ≡ old → HasRun same memory k new changed → HasRun old memory k new changed
 entered_run same old new memory changed k is ran = subst (λ guest. HasRun guest memory k new changed) is ran
 
+-- a run, and a step that the host makes after it
+pub handled_run : (old between new : Guest) (memory changed last : List ℕ) (k : ℕ) → HasRun old memory k between changed → between.status ≡ Running
+    → machine_of new last ≡ left_by (machine_of between changed) (try (machine_of between changed)) → StaysFixed between new
+    → Only (in_blocks between.part.blocks) changed last → HasRun old memory (k + 1) new last
+handled_run old between new memory changed last k ran running step fixed only = record {
+  machine = rw (run_further (machine_of old memory) (machine_of between changed) k (sym ran.machine) running) step;
+  fixed = fixed_both old between new ran.fixed fixed;
+  only =
+      only_both (in_blocks old.part.blocks) memory changed last ran.only
+      (subst (λ part. Only (in_blocks part.blocks) changed last) ran.fixed.part only);
+}
+
 -- what a run leaves, if its clock is bounded
 pub hosted_after : (old new : Guest) (memory changed : List ℕ) (k : ℕ) → IsHosted old memory → HasRun old memory k new changed → IsPlaced new changed
-    → new.clock ≤ 2 ^ 62 + new.steps → IsHosted new changed
+    → new.clock.time ≤ 2 ^ 62 + new.steps → IsHosted new changed
 hosted_after old new memory changed k hosted ran placed clock = record {
   placed = placed;
   clock = clock;

@@ -166,7 +166,7 @@ at_start_current : (spec : GuestSpec) → informed (start spec).platform ≡ (st
 unfolding start
 at_start_current spec = refl
 
-at_start_clock : (spec : GuestSpec) → (start spec).platform.clock ≡ 0
+at_start_clock : (spec : GuestSpec) → (start spec).platform.clock.time ≡ 0
 unfolding start
 at_start_clock spec = refl
 
@@ -184,7 +184,7 @@ hosted_at_start : (spec : GuestSpec) (part : Layout) (guest : Guest) (memory : L
     → IsHosted guest memory
 hosted_at_start spec part guest memory at once held = record {
   placed = subst (λ part. IsAt part (machine_of guest memory) memory) (sym at.own_part) (record { once = once; held = held; ram = ap (λ part. ram_of part.blocks memory) at.own_part; reserved = reserved });
-  clock = bounded guest.clock guest.steps (ap (λ p. p.clock) at.platform ∙ at_start_clock spec);
+  clock = bounded guest.clock.time guest.steps (ap (λ p. p.clock.time) at.platform ∙ at_start_clock spec);
   current = ap informed at.platform ∙ at_start_current spec ∙ sym at.platform;
 }
   where

@@ -5,7 +5,7 @@ use Rattle.machine_defs.specs.declared.events.Event.{Event}
 use Rattle.machine_defs.specs.declared.events.Event.TheVariants as event
 use Rattle.machine_defs.specs.declared.guests.Status.{Status}
 use Rattle.machine_defs.specs.declared.guests.Status.TheVariants as status
-use Rattle.machine_defs.specs.Machine.{Machine, Tried, Ended, Outside, try}
+use Rattle.machine_defs.specs.Machine.{Machine, Tried, Ended, WaitsForGood, Outside, try}
 use Rattle.machine_defs.specs.Runs.{event_in, events, events_by, instruction_count, is_instruction, is_plain, pc_and_word, plain_count, run, step, trace_of}
 use Rattle.guest_exit.proofs.Entries.{one_event}
 use Rattle.machine_defs.proofs.Running.{run_none, run_idle, events_none, events_idle, events_compose, runs_compose}
@@ -35,6 +35,7 @@ one_plain event.System = omega arith
 
 plain_in : (t : Tried) → plain_count (event_in t) ≤ 1
 plain_in (Ended after event) = one_plain event
+plain_in WaitsForGood = omega arith
 plain_in Outside = omega arith
 
 plain_by : (m : Machine) (s : Status) → plain_count (events_by m s) ≤ 1

@@ -2,6 +2,7 @@
 -- machine memory.
 use Rattle.std.specs.Prelude.{ℕ, List, [], get_or}
 use Rattle.arch_defs.specs.declared.modes.Mode.TheVariants.{HS}
+use Rattle.arch_defs.specs.Clocks.{times_at_start}
 use Rattle.arch_defs.specs.Layouts.{Layout}
 use Rattle.arch_defs.specs.Registers.{virtual_at}
 use Rattle.machine_defs.specs.declared.guests.Status.TheVariants.{Stopped}
@@ -17,11 +18,8 @@ unfoldable pub no_machine : Machine
 no_machine = record {
   platform = record {
     virt = virtual_at HS 0;
-    clock = 0;
-    timer = 0;
-    inputs = [];
-    console = [];
-    console_room = 0;
+    clock = times_at_start;
+    console = record { bytes = []; room = 0; inputs = [] };
     steps = 0;
     status = Stopped;
   };

@@ -17,7 +17,7 @@ use Rattle.guest_exit.specs.View.{IsPlaced, StaysFixed, machine_of, seen}
 -- as the clock sets them
 pub record IsHosted (guest : Guest) (memory : List ℕ) : Type 0 where
   pub placed : IsPlaced guest memory
-  pub clock : guest.clock ≤ 2 ^ 62 + guest.steps
+  pub clock : guest.clock.time ≤ 2 ^ 62 + guest.steps
   pub current : informed (seen guest) ≡ seen guest
 
 abbrev pub parts_of : List Guest → List Layout

@@ -1,6 +1,7 @@
 -- What a host can boot.
 use Rattle.std.specs.Prelude.{ℕ, ◌*◌, ◌≤◌, List, length, map}
 use Rattle.arch_defs.specs.declared.needs.Need.{Need}
+use Rattle.arch_defs.specs.Inputs.{AreInputs}
 use Rattle.arch_defs.specs.Memory.{block_size}
 use Rattle.frame_split.specs.Shares.{frames_of_all}
 use Rattle.machine_defs.specs.declared.guests.GuestSpec.{GuestSpec}
@@ -15,6 +16,7 @@ pub record IsBootable (guest : GuestSpec) : Type 0 where
   pub entries : guest.entries ≤ 256
   pub console : guest.console ≤ 1048576
   pub image : length guest.image ≤ guest.blocks * block_size
+  pub inputs : AreInputs guest.inputs
 
 -- what a guest needs of machine memory
 abbrev pub need_of : GuestSpec → Need

@@ -6,13 +6,15 @@ ghost use Rattle.guest_turns.specs.Hosting.{AreAtStart, AreLaidOut, IsAtStart};
 ghost use Rattle.guest_turns.specs.Limits.{IsBootable, frames_for, needs_of};
 
 use arch_defs::{Mode, Need, Part, Virtual};
+use console_dev::Console;
 use frame_split::{PlanFault, Split, plan};
-use guest_exit::{Console, Guest};
+use guest_exit::Guest;
 use guest_loader::load;
 use host_tables::build;
 use machine_defs::{GuestSpec, Status};
 use phys_mem::{PhysMem, RAM_BASE};
 use std::alloc::{AllocError, Global};
+use virtual_timer::Clock;
 
 /// The parts of guests.
 pub fn share(alloc: Global, guests: &[GuestSpec]) -> Result<Split, AllocError>
@@ -87,12 +89,11 @@ fn guest_at_start(alloc: Global, spec: GuestSpec, part: Part) -> Result<Guest, A
     requires { IsBootable spec }
     ensures { IfOk result (λ guest. IsAtStart spec part guest) }
 {
-    let console = Console::new(alloc, spec.console, spec.inputs)?;
+    let console = Console::new(alloc, spec.console, spec.inputs.into_vec())?;
     let mut guest = Guest {
         part,
         virt: Virtual::starting_at(Mode::HS, RAM_BASE),
-        clock: 0,
-        timer: u64::MAX,
+        clock: Clock::new(),
         console,
         steps: 0,
         status: Status::Running,

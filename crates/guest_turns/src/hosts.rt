@@ -74,8 +74,8 @@ impl Host {
     }
 
     /// Makes at most `k` steps of a guest's machine, and answers how many: `k`, or fewer only where the
-    /// machine does not go on. All other machines stay as they were, and no byte outside the blocks of the
-    /// guest's part changes.
+    /// machine does not go on, because it has stopped, waits for good, or is outside what is built so far. All
+    /// other machines stay as they were, and no byte outside the blocks of the guest's part changes.
     pub fn turn(&mut self, g: u32, k: u64, tally: &mut Tally) -> u64
         requires guest { g < length self.old.machines }
         requires steps { (machine_at self.old.machines g).platform.steps + k ≤ 2 ^ 61 }
@@ -125,7 +125,7 @@ impl Host {
     /// The bytes on a guest's console.
     pub fn console(&self, g: u32) -> &[u8]
         requires { g < length self.now.machines }
-        ensures { result.now ≡ (machine_at self.now.machines g).platform.console }
+        ensures { result.now ≡ (machine_at self.now.machines g).platform.console.bytes }
     {
         self.guests[g as usize].console.bytes()
     }

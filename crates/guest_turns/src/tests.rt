@@ -153,14 +153,20 @@ fn reservations_apart(rt: HostRuntime) -> Result<(), Fail> {
     Ok(())
 }
 
-// WFI in HS is not built so far.
+// A step that is not made, after which no turn makes one: WFI waits for good where no interrupt is enabled, and
+// HFENCE.GVMA is outside.
 #[test]
-fn a_wait_is_outside(rt: HostRuntime) -> Result<(), Fail> {
-    let wfi = [0x73, 0x00, 0x50, 0x10]; // 10500073
-    let mut host = one(rt.alloc(), &wfi)?;
-    let mut tally = Tally::new();
-    assert_eq!(rt; turn(&mut host, 0, 10, &mut tally), Some(0));
-    assert_eq!(rt; told(&host, 0), Some((Status::Outside, 0, b"".as_slice())));
-    assert_eq!(rt; (tally.entries(), tally.taken()), (1, 0));
+fn a_step_is_not_made(rt: HostRuntime) -> Result<(), Fail> {
+    for (word, status) in [
+        ([0x73, 0x00, 0x50, 0x10], Status::Waiting), // 10500073: wfi
+        ([0x73, 0x00, 0x00, 0x62], Status::Outside), // 62000073: hfence.gvma x0, x0
+    ] {
+        let mut host = one(rt.alloc(), &word)?;
+        let mut tally = Tally::new();
+        assert_eq!(rt; turn(&mut host, 0, 10, &mut tally), Some(0));
+        assert_eq!(rt; turn(&mut host, 0, 10, &mut tally), Some(0));
+        assert_eq!(rt; told(&host, 0), Some((status, 0, b"".as_slice())));
+        assert_eq!(rt; (tally.entries(), tally.taken()), (1, 0));
+    }
     Ok(())
 }

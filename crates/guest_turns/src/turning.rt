@@ -7,7 +7,7 @@ ghost use Rattle.rv64_hart.specs.Counts.{IsRaisedBy};
 ghost use Rattle.guest_exit.specs.View.{machine_of};
 ghost use Rattle.guest_turns.specs.Hosting.{HasRun, IsHosted};
 
-use guest_exit::{Guest, enter, handle, interrupt, is_outside, limit};
+use guest_exit::{Guest, enter, handle, interrupt, limit};
 use machine_defs::Status;
 use phys_mem::PhysMem;
 use rv64_hart::{Hart, Tally, Why};
@@ -53,7 +53,7 @@ pub fn turn_of(
 }
 
 // Some steps of a guest that goes on, and at most so many: in one entry of the hart where it can make them.
-// Answers how many; a step that is outside, which is not made, is one of them.
+// Answers how many; one that ends in a wait for good or outside, which is not made, is one of them.
 fn advance(
     guest: &mut Guest,
     hart: &mut Hart,
@@ -83,10 +83,6 @@ fn advance(
     ensures trace { IsRaisedBy (trace_of (events (machine_of guest.old memory.old) result))
         tally.old.trace tally.new.trace }
 {
-    if is_outside(guest) {
-        guest.status = Status::Outside;
-        return 1;
-    }
     if interrupt(guest) {
         return 1;
     }

@@ -4,6 +4,7 @@ use Rattle.rv64_hart.specs.Steps.{is_vs_trap, progress}
 use Rattle.guest_exit.specs.Entering.{IsStopped}
 use Rattle.guest_exit.specs.View.{machine_of}
 use Rattle.guest_exit.proofs.Entries.{ran, stopped}
+use Rattle.guest_exit.proofs.Moments.{before_timer}
 use Rattle.guest_exit.proofs.Placed.{placed_after}
 use Rattle.guest_exit.proofs.entering.enter.Goals as goal
 
@@ -47,3 +48,7 @@ pub returns-clause-placed : goal.returns-clause-placed
 returns-clause-placed c =
     placed_after c.args.guest.now c.take_steps.new.self c.args.memory.now c.run-stop.new.memory c.run-stop.result.taken
     c.requires.placed c.take_steps.ensures.fixed (returns-clause-only c) (returns-clause-run c)
+
+pub take_steps-requires-clause-event : goal.take_steps-requires-clause-event
+take_steps-requires-clause-event c =
+    before_timer c.args.guest.now.clock c.args.limit c.run-stop.result.taken c.requires.lasts.timer c.run-stop.ensures.within

@@ -1,5 +1,11 @@
+use Rattle.arch_defs.specs.Inputs.{has_come}
+use Rattle.guest_exit.specs.Entering.{Stays}
+use Rattle.guest_exit.proofs.Moments.{stays_by_timer}
 use Rattle.guest_exit.proofs.limits.limit.Goals as goal
 
 pub returns-clause-largest : goal.returns-clause-largest
 returns-clause-largest c = λ n within lasts.
-    c.steps_before_input.ensures.largest n (c.steps_before-before_timer.ensures.largest n within lasts.timer) lasts.inputs
+    let timer : Stays (has_come c.next_event.result) c.time-time.result n =
+    rw (c.next_event.ensures, c.time-time.ensures) (stays_by_timer c.args.guest.now.clock n lasts.timer) in
+    let inputs : Stays (has_come c.next.result) c.time-time.result n = rw (c.next.ensures, c.time-time.ensures) lasts.inputs in
+    c.steps_before.ensures.largest n (c.steps_before-before_timer.ensures.largest n within timer) inputs

@@ -1,45 +1,13 @@
-use Rattle.std.proofs.Common.{◌+◌, ◌^◌, ◌≤◌, refl, sym, arith}
+use Rattle.std.proofs.Common.{◌+◌, ◌^◌, ◌≤◌, sym, arith}
 use Rattle.arch_defs.proofs.FrameSets.{only_none}
 use Rattle.machine_defs.specs.Machine.{try}
 use Rattle.machine_defs.specs.Runs.{event_in, trace_of}
 use Rattle.rv64_hart.specs.Counts.{IsRaisedBy}
 use Rattle.guest_exit.specs.View.{machine_of}
-use Rattle.guest_exit.proofs.Entries.{one_event, one_run, run_further, trace_further}
-use Rattle.guest_turns.proofs.Placing.{entered_run, fixed_both, hosted_after}
-use Rattle.guest_turns.proofs.Steps.{outside}
+use Rattle.guest_exit.proofs.Entries.{one_event, one_run, trace_further}
+use Rattle.guest_turns.proofs.Placing.{entered_run, handled_run, hosted_after}
 use Rattle.guest_turns.proofs.Turns.{plain_further, plain_within}
 use Rattle.guest_turns.proofs.turning.advance.Goals as goal
-
--- a step that is outside
-pub returns-then-is_outside-clause-run : goal.returns-then-is_outside-clause-run
-returns-then-is_outside-clause-run c =
-    let m = machine_of c.args.guest.now c.args.memory.now in
-    record {
-      machine = rw (one_run m c.requires.running, outside m (rw c.is_outside.ensures at c.if-is_outside.true)) refl;
-      fixed = record { part = refl; space_room = refl; entry_room = refl };
-      only = only_none _ c.args.memory.now;
-    }
-
-pub returns-then-is_outside-clause-hosted : goal.returns-then-is_outside-clause-hosted
-returns-then-is_outside-clause-hosted c =
-    hosted_after c.args.guest.now _ c.args.memory.now c.args.memory.now 1 c.requires.hosted (returns-then-is_outside-clause-run c)
-    (record { once = c.requires.hosted.placed.once; held = c.requires.hosted.placed.held; ram = refl; reserved = c.requires.hosted.placed.reserved })
-    c.requires.hosted.clock
-
-pub returns-then-is_outside-clause-none : goal.returns-then-is_outside-clause-none
-returns-then-is_outside-clause-none c = λ same.
-    let m = machine_of c.args.guest.now c.args.memory.now in
-    rw (one_event m c.requires.running, outside m (rw c.is_outside.ensures at c.if-is_outside.true)) refl
-
-pub returns-then-is_outside-clause-taken_least : goal.returns-then-is_outside-clause-taken_least
-returns-then-is_outside-clause-taken_least c =
-    let m = machine_of c.args.guest.now c.args.memory.now in
-    rw (one_event m c.requires.running, outside m (rw c.is_outside.ensures at c.if-is_outside.true)) (omega arith)
-
-pub returns-then-is_outside-clause-trace : goal.returns-then-is_outside-clause-trace
-returns-then-is_outside-clause-trace c =
-    let m = machine_of c.args.guest.now c.args.memory.now in
-    rw (one_event m c.requires.running, outside m (rw c.is_outside.ensures at c.if-is_outside.true)) (omega arith)
 
 -- an interrupt that the host takes
 pub returns-then-interrupt-clause-run : goal.returns-then-interrupt-clause-run
@@ -82,7 +50,7 @@ returns-in-Limit-clause-run c =
 
 pub returns-in-Limit-clause-hosted : goal.returns-in-Limit-clause-hosted
 returns-in-Limit-clause-hosted c =
-    let before : c.interrupt.new.guest.clock ≤ 2 ^ 62 + c.interrupt.new.guest.steps = rw (c.interrupt.ensures.stays c.if-interrupt.false) c.requires.hosted.clock in
+    let before : c.interrupt.new.guest.clock.time ≤ 2 ^ 62 + c.interrupt.new.guest.steps = rw (c.interrupt.ensures.stays c.if-interrupt.false) c.requires.hosted.clock in
     hosted_after c.args.guest.now c.enter-stop.new.guest c.args.memory.now c.enter-stop.new.memory c.enter-stop.result.taken c.requires.hosted
     (returns-in-Limit-clause-run c) c.enter-stop.ensures.placed (omega (arith, before, c.enter-stop.ensures.clock, c.enter-stop.ensures.steps))
 
@@ -101,7 +69,7 @@ returns-in-VsTrap-clause-run c =
 
 pub returns-in-VsTrap-clause-hosted : goal.returns-in-VsTrap-clause-hosted
 returns-in-VsTrap-clause-hosted c =
-    let before : c.interrupt.new.guest.clock ≤ 2 ^ 62 + c.interrupt.new.guest.steps = rw (c.interrupt.ensures.stays c.if-interrupt.false) c.requires.hosted.clock in
+    let before : c.interrupt.new.guest.clock.time ≤ 2 ^ 62 + c.interrupt.new.guest.steps = rw (c.interrupt.ensures.stays c.if-interrupt.false) c.requires.hosted.clock in
     hosted_after c.args.guest.now c.enter-stop.new.guest c.args.memory.now c.enter-stop.new.memory c.enter-stop.result.taken c.requires.hosted
     (returns-in-VsTrap-clause-run c) c.enter-stop.ensures.placed (omega (arith, before, c.enter-stop.ensures.clock, c.enter-stop.ensures.steps))
 
@@ -116,20 +84,15 @@ returns-in-VsTrap-clause-trace c = rw (c.interrupt.ensures.stays c.if-interrupt.
 -- an entry after which the host makes the next step
 pub returns-in-Exit-clause-run : goal.returns-in-Exit-clause-run
 returns-in-Exit-clause-run c =
-    let m = machine_of c.args.guest.now c.args.memory.now in
     let ran = entered_run c.interrupt.new.guest c.args.guest.now c.enter-stop.new.guest c.args.memory.now c.enter-stop.new.memory c.enter-stop.result.taken
     (c.interrupt.ensures.stays c.if-interrupt.false) (record { machine = c.enter-stop.ensures.run; fixed = c.enter-stop.ensures.fixed; only = c.enter-stop.ensures.only }) in
-    record {
-      machine = rw (run_further m _ c.enter-stop.result.taken (sym ran.machine) c.enter-stop.ensures.status) c.handle.ensures.step;
-      fixed = fixed_both _ _ _ ran.fixed c.handle.ensures.fixed;
-      only = ran.only;
-    }
+    handled_run c.args.guest.now c.enter-stop.new.guest c.handle.new.guest c.args.memory.now c.enter-stop.new.memory c.handle.new.memory c.enter-stop.result.taken
+    ran c.enter-stop.ensures.status c.handle.ensures.step c.handle.ensures.fixed c.handle.ensures.only
 
 pub returns-in-Exit-clause-hosted : goal.returns-in-Exit-clause-hosted
 returns-in-Exit-clause-hosted c =
-    let before : c.interrupt.new.guest.clock ≤ 2 ^ 62 + c.interrupt.new.guest.steps = rw (c.interrupt.ensures.stays c.if-interrupt.false) c.requires.hosted.clock in
-    hosted_after c.args.guest.now c.handle.new.guest c.args.memory.now c.enter-stop.new.memory (c.enter-stop.result.taken + 1) c.requires.hosted
-    (returns-in-Exit-clause-run c) c.handle.ensures.placed (omega (arith, before, c.enter-stop.ensures.clock, c.enter-stop.ensures.steps, c.handle.ensures.clock, c.handle.ensures.made))
+    hosted_after c.args.guest.now c.handle.new.guest c.args.memory.now c.handle.new.memory (c.enter-stop.result.taken + 1) c.requires.hosted
+    (returns-in-Exit-clause-run c) c.handle.ensures.placed c.handle.ensures.clock
 
 pub returns-in-Exit-clause-taken_least : goal.returns-in-Exit-clause-taken_least
 returns-in-Exit-clause-taken_least c =

@@ -1,0 +1,146 @@
+// Instructions on which the mode decides, made in the guest's own mode.
+
+ghost use Rattle.std.specs.Prelude.{◌≡◌, ◌+◌, ◌^◌, ◌<◌, ◌≤◌, None, false, length};
+ghost use Rattle.arch_defs.specs.Frames.{LieIn, Only, in_blocks};
+ghost use Rattle.arch_defs.specs.Memory.{ram_base};
+ghost use Rattle.arch_defs.specs.Ram.{ram_of};
+ghost use Rattle.arch_defs.specs.Traps.{is_virtual};
+ghost use Rattle.arch_defs.specs.WalkedEntries.{is_table};
+ghost use Rattle.hlv_hsv.specs.Ends.{EndsAs, IfRaised};
+ghost use Rattle.machine_defs.specs.declared.events.Event.TheVariants.{System};
+ghost use Rattle.machine_defs.specs.declared.guests.Status.TheVariants.{Running};
+ghost use Rattle.machine_defs.specs.GuestAccesses.{guest_outcome};
+ghost use Rattle.machine_defs.specs.Machine.{Outside, accessed_for_guest, concluded, informed, made};
+ghost use Rattle.machine_defs.specs.Outside.{sets_v_under_table};
+ghost use Rattle.machine_defs.specs.Privileges.{privileged};
+ghost use Rattle.machine_defs.specs.Runs.{left_by};
+ghost use Rattle.guest_exit.specs.Entering.{IsNotPlain, Makes, status_after, steps_made};
+ghost use Rattle.guest_exit.specs.View.{StaysFixed, machine_of, seen};
+
+use crate::guests::Guest;
+use crate::handling::{Handled, raise};
+use crate::waiting::wait;
+use arch_defs::{GuestRoot, Part, Virtual};
+use hlv_hsv::{Accessed, access};
+use machine_defs::Status;
+use op_defs::{GuestAccess, Privileged};
+use phys_mem::{PhysMem, Ram};
+use system_ops::{Executed, execute, refusal_code};
+use trap_delegation::{exception, is_virtual};
+use two_stage_walk::ram_is_whole;
+
+/// Makes an instruction on which the mode decides, where it is allowed: a WFI waits, and an HLV, HLVX or HSV
+/// makes its access to the guest's RAM. Where the mode does not allow it, its exception is taken.
+pub fn emulate(guest: &mut Guest, memory: &mut PhysMem, word: u64, effect: Privileged) -> Handled
+    requires running { guest.old.status ≡ Running }
+    requires current { informed (seen guest.old) ≡ seen guest.old }
+    requires clock { guest.old.clock.time ≤ 2 ^ 62 + guest.old.steps }
+    requires steps { guest.old.steps < 2 ^ 61 }
+    requires lies { LieIn (in_blocks guest.old.part.blocks) (length memory.old) }
+    ensures step { machine_of guest.new memory.new ≡ left_by (machine_of guest.old memory.old)
+        (concluded (machine_of guest.old memory.old) (privileged guest.old.virt word effect)) }
+    ensures quiet { IsNotPlain
+        (concluded (machine_of guest.old memory.old) (privileged guest.old.virt word effect)) }
+    ensures only { Only (in_blocks guest.old.part.blocks) memory.old memory.new }
+    ensures status { guest.new.status ≡ status_after result }
+    ensures made { guest.new.steps ≡ guest.old.steps + steps_made result }
+    ensures clock { guest.new.clock.time ≤ 2 ^ 62 + guest.new.steps }
+    ensures fixed { StaysFixed guest.old guest.new }
+{
+    let mut virt = guest.virt;
+    match execute(&mut virt, effect) {
+        Executed::Done => finish(guest, virt),
+        Executed::Waits => wait(guest, virt),
+        Executed::Accesses(wanted) => access_ram(guest, memory, wanted),
+        Executed::Fenced(_) => end_outside(guest),
+        Executed::Refused(end) => {
+            let trap = exception(guest.virt.mode, refusal_code(end), word);
+            raise(guest, &trap)
+        }
+    }
+}
+
+// The step is not built so far.
+fn end_outside(guest: &mut Guest) -> Handled
+    requires clock { guest.old.clock.time ≤ 2 ^ 62 + guest.old.steps }
+    ensures step { Makes guest.old guest.new (λ m. Outside) }
+    ensures status { guest.new.status ≡ status_after result }
+    ensures made { guest.new.steps ≡ guest.old.steps + steps_made result }
+    ensures clock { guest.new.clock.time ≤ 2 ^ 62 + guest.new.steps }
+    ensures fixed { StaysFixed guest.old guest.new }
+{
+    guest.status = Status::Outside;
+    Handled::Outside
+}
+
+// An instruction leaves this state, unless that is outside.
+fn finish(guest: &mut Guest, virt: Virtual) -> Handled
+    requires running { guest.old.status ≡ Running }
+    requires clock { guest.old.clock.time ≤ 2 ^ 62 + guest.old.steps }
+    requires steps { guest.old.steps < 2 ^ 61 }
+    ensures step { Makes guest.old guest.new (λ m. made m virt None System) }
+    ensures status { guest.new.status ≡ status_after result }
+    ensures made { guest.new.steps ≡ guest.old.steps + steps_made result }
+    ensures clock { guest.new.clock.time ≤ 2 ^ 62 + guest.new.steps }
+    ensures fixed { StaysFixed guest.old guest.new }
+{
+    if sets_v_under_table(&guest.virt, &virt) {
+        return end_outside(guest);
+    }
+    guest.virt = virt;
+    guest.tick();
+    Handled::Stepped
+}
+
+// Whether an instruction sets V while hgatp names a table.
+fn sets_v_under_table(before: &Virtual, after: &Virtual) -> bool
+    ensures { result ≡ sets_v_under_table before.now after.now }
+{
+    !is_virtual(before.mode) && is_virtual(after.mode) && is_table(&after.csrs.hgatp)
+}
+
+fn is_table(root: &GuestRoot) -> bool
+    ensures { result ≡ is_table root.now }
+{
+    matches!(*root, GuestRoot::Sv39x4 { .. })
+}
+
+// An HLV, HLVX or HSV. Its trap is taken in the mode of the instruction.
+fn access_ram(guest: &mut Guest, memory: &mut PhysMem, wanted: GuestAccess) -> Handled
+    requires running { guest.old.status ≡ Running }
+    requires clock { guest.old.clock.time ≤ 2 ^ 62 + guest.old.steps }
+    requires steps { guest.old.steps < 2 ^ 61 }
+    requires lies { LieIn (in_blocks guest.old.part.blocks) (length memory.old) }
+    ensures step { machine_of guest.new memory.new ≡ left_by (machine_of guest.old memory.old)
+        (accessed_for_guest (machine_of guest.old memory.old)
+        (guest_outcome ram_base (ram_of guest.old.part.blocks memory.old) guest.old.virt wanted)) }
+    ensures only { Only (in_blocks guest.old.part.blocks) memory.old memory.new }
+    ensures status { guest.new.status ≡ status_after result }
+    ensures made { guest.new.steps ≡ guest.old.steps + steps_made result }
+    ensures clock { guest.new.clock.time ≤ 2 ^ 62 + guest.new.steps }
+    ensures fixed { StaysFixed guest.old guest.new }
+{
+    let mut virt = guest.virt;
+    match access_in(memory, &guest.part, &mut virt, wanted) {
+        Accessed::Done => {
+            guest.virt = virt;
+            guest.tick();
+            Handled::Stepped
+        }
+        Accessed::Raise(trap) => raise(guest, &trap),
+    }
+}
+
+// The access, in the RAM of a part of machine memory.
+fn access_in(memory: &mut PhysMem, part: &Part, virt: &mut Virtual, wanted: GuestAccess) -> Accessed
+    requires lies { LieIn (in_blocks part.now.blocks) (length memory.old) }
+    ensures ends { EndsAs ram_base (ram_of part.now.blocks memory.old)
+        (guest_outcome ram_base (ram_of part.now.blocks memory.old) virt.old wanted)
+        result virt.new (ram_of part.now.blocks memory.new) }
+    ensures stays { IfRaised result (memory.new ≡ memory.old) }
+    ensures only { Only (in_blocks part.now.blocks) memory.old memory.new }
+{
+    let mut ram = Ram::new(memory, part);
+    ram_is_whole(&ram);
+    access(&mut ram, virt, wanted)
+}

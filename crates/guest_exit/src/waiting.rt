@@ -1,0 +1,78 @@
+// WFI of a guest (Privileged Architecture 20211203, 3.3.3).
+
+ghost use Rattle.std.specs.Prelude.{◌≡◌, ◌+◌, ◌^◌, ◌<◌, ◌≤◌, ◌&&◌, ◌||◌, false};
+ghost use Rattle.machine_defs.specs.declared.guests.Status.TheVariants.{Running};
+ghost use Rattle.machine_defs.specs.Machine.{has_enabled_interrupt, informed, waited};
+ghost use Rattle.guest_exit.specs.Entering.{Makes, status_after, steps_made};
+ghost use Rattle.guest_exit.specs.View.{StaysFixed, seen};
+
+use crate::guests::Guest;
+use crate::handling::Handled;
+use arch_defs::{Csrs, Interrupts, Virtual};
+use machine_defs::Status;
+use virtual_timer::{WaitEnd, wake_moment_is_least};
+
+/// A WFI, which leaves this state. Where an interrupt is pending and enabled it goes on at once, and else it
+/// waits for the wake moment, or for good.
+pub fn wait(guest: &mut Guest, virt: Virtual) -> Handled
+    requires running { guest.old.status ≡ Running }
+    requires current { informed (seen guest.old) ≡ seen guest.old }
+    requires clock { guest.old.clock.time ≤ 2 ^ 62 + guest.old.steps }
+    requires steps { guest.old.steps < 2 ^ 61 }
+    ensures step { Makes guest.old guest.new (λ m. waited m virt) }
+    ensures status { guest.new.status ≡ status_after result }
+    ensures made { guest.new.steps ≡ guest.old.steps + steps_made result }
+    ensures clock { guest.new.clock.time ≤ 2 ^ 62 + guest.new.steps }
+    ensures fixed { StaysFixed guest.old guest.new }
+{
+    if has_enabled_interrupt(&guest.virt.csrs) {
+        guest.virt = virt;
+        guest.tick();
+        return Handled::Stepped;
+    }
+    wait_for_wake(guest, virt)
+}
+
+// A WFI at which no enabled interrupt is pending.
+fn wait_for_wake(guest: &mut Guest, virt: Virtual) -> Handled
+    requires running { guest.old.status ≡ Running }
+    requires current { informed (seen guest.old) ≡ seen guest.old }
+    requires none { has_enabled_interrupt guest.old.virt.csrs ≡ false }
+    requires steps { guest.old.steps < 2 ^ 61 }
+    requires clock { guest.old.clock.time ≤ 2 ^ 62 + guest.old.steps }
+    ensures step { Makes guest.old guest.new (λ m. waited m virt) }
+    ensures status { guest.new.status ≡ status_after result }
+    ensures made { guest.new.steps ≡ guest.old.steps + steps_made result }
+    ensures clock { guest.new.clock.time ≤ 2 ^ 62 + guest.new.steps }
+    ensures fixed { StaysFixed guest.old guest.new }
+{
+    wake_moment_is_least();
+    match guest.clock.wait(guest.virt.csrs.sie, guest.console.next()) {
+        WaitEnd::Woke => {
+            guest.virt = virt;
+            guest.count();
+            Handled::Stepped
+        }
+        WaitEnd::ForGood => {
+            guest.status = Status::Waiting;
+            Handled::Waits
+        }
+    }
+}
+
+// Whether an interrupt is pending and enabled, whichever level takes it, and whether it is taken now or not.
+fn has_enabled_interrupt(csrs: &Csrs) -> bool
+    ensures { result ≡ has_enabled_interrupt csrs.now }
+{
+    any_in_both(&csrs.sip, &csrs.sie) || any_in_both(&csrs.hvip, &csrs.hie)
+}
+
+fn any_in_both(pending: &Interrupts, enabled: &Interrupts) -> bool
+    ensures { result ≡ (pending.now.external && enabled.now.external
+        || pending.now.software && enabled.now.software
+        || pending.now.timer && enabled.now.timer) }
+{
+    pending.external && enabled.external
+        || pending.software && enabled.software
+        || pending.timer && enabled.timer
+}
