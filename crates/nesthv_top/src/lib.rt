@@ -11,11 +11,15 @@ mod running;
 #[cfg(test)]
 mod tests;
 #[cfg(test)]
+mod tests_guest_accesses;
+#[cfg(test)]
 mod tests_guests;
 #[cfg(test)]
 mod tests_kernel;
 #[cfg(test)]
 mod tests_nested;
+#[cfg(test)]
+mod tests_waits;
 mod top;
 
 pub use programs::program;

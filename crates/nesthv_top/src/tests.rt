@@ -155,12 +155,29 @@ fn config(
     )
 }
 
-/// The bytes of these instructions, and zeros after them up to this length.
-pub fn image(alloc: Global, words: &[u32], length: usize) -> Result<Vec<u8>, AllocError> {
-    let mut bytes = Vec::new(alloc);
+/// Appends these instructions.
+pub fn append(bytes: &mut Vec<u8>, words: &[u32]) -> Result<(), AllocError> {
     for word in words {
         bytes.extend_from_slice(&word.to_le_bytes())?;
     }
+    Ok(())
+}
+
+/// Appends doublewords, each with zeros up to its offset.
+pub fn append_at(bytes: &mut Vec<u8>, doublewords: &[(usize, u64)]) -> Result<(), AllocError> {
+    for &(offset, value) in doublewords {
+        if bytes.len() < offset {
+            bytes.resize(offset, 0)?;
+        }
+        bytes.extend_from_slice(&value.to_le_bytes())?;
+    }
+    Ok(())
+}
+
+/// The bytes of these instructions, and zeros after them up to this length.
+pub fn image(alloc: Global, words: &[u32], length: usize) -> Result<Vec<u8>, AllocError> {
+    let mut bytes = Vec::new(alloc);
+    append(&mut bytes, words)?;
     if bytes.len() < length {
         bytes.resize(length, 0)?;
     }
@@ -264,46 +281,36 @@ fn whole_program(rt: HostRuntime) -> Result<(), Fail> {
     Ok(())
 }
 
-/// A guest, the turns that it is given, and room on its console.
+/// A guest's image, its turns, the room on its console, and the line of its configuration for its inputs.
 #[derive(Clone, Copy)]
-struct Case<'a> {
-    words: &'a [u32],
-    length: usize,
-    quantum: u64,
-    rounds: u64,
-    console: u64,
+pub struct Case<'a> {
+    pub image: &'a [u8],
+    pub quantum: u64,
+    pub rounds: u64,
+    pub console: u64,
+    pub inputs: &'a str,
 }
 
 /// Whether the run of a guest ends with this report.
-fn is_reported(alloc: Global, case: Case<'_>, report: &str) -> Result<bool, AllocError> {
-    let config = config(alloc, case.quantum, case.rounds, 16, case.console)?;
-    let image = image(alloc, case.words, case.length)?;
-    let left = outcome(alloc, &RUN, config.as_str(), image.as_slice(), NONE)?;
+pub fn is_reported(alloc: Global, case: Case<'_>, report: &str) -> Result<bool, AllocError> {
+    let mut config = config(alloc, case.quantum, case.rounds, 16, case.console)?;
+    config.push_str(case.inputs)?;
+    let left = outcome(alloc, &RUN, config.as_str(), case.image, NONE)?;
     Ok(left.is(0, report.as_bytes(), b""))
 }
 
 /// Images, each with its length if zeros come after the instructions, and the report of one turn of 10,000 steps.
-const IMAGES: [(&[u32], usize, &str); 10] = [
+const IMAGES: [(&[u32], usize, &str); 7] = [
     // jal zero, 0
     (&[0x0000_006F], 0, "guest a running steps 10000 bytes 0\n\n"),
-    // ecall with a7 = 0
-    (&[0x0000_0073], 0, "guest a outside steps 0 bytes 0\n\n"),
-    // lui t0, 1; wfi
-    (
-        &[0x0000_12B7, 0x1050_0073],
-        0,
-        "guest a outside steps 1 bytes 0\n\n",
-    ),
     // hfence.gvma zero, zero
     (&[0x6200_0073], 0, "guest a outside steps 0 bytes 0\n\n"),
-    // hfence.vvma zero, zero; csrrs a0, hstatus, zero; csrrw zero, vsstatus, a0; hlv.b a0, (zero)
+    // hfence.vvma zero, zero; csrrs a0, hstatus, zero; csrrw zero, vsstatus, a0; hfence.gvma zero, zero
     (
-        &[0x2200_0073, 0x6000_2573, 0x2005_1073, 0x6000_4573],
+        &[0x2200_0073, 0x6000_2573, 0x2005_1073, 0x6200_0073],
         0,
         "guest a outside steps 3 bytes 0\n\n",
     ),
-    // csrrs a0, time, zero
-    (&[0xC010_2573], 0, "guest a outside steps 0 bytes 0\n\n"),
     (&PUTS_A, BLOCK, "guest a stopped steps 5 bytes 1\nA\n"),
     (
         &SQUARES,
@@ -317,12 +324,13 @@ const IMAGES: [(&[u32], usize, &str); 10] = [
 #[test]
 fn reports_of_images(rt: HostRuntime) -> Result<(), Fail> {
     for (words, length, report) in IMAGES {
+        let image = image(rt.alloc(), words, length)?;
         let case = Case {
-            words,
-            length,
+            image: image.as_slice(),
             quantum: 10_000,
             rounds: 1,
             console: 100,
+            inputs: "",
         };
         assert!(rt; is_reported(rt.alloc(), case, report)?, "{report}");
     }
@@ -397,15 +405,11 @@ const TRAPS: [(&[u32], &str); 12] = [
 /// The handler, and these instructions behind those that set it.
 fn trapping_image(alloc: Global, words: &[u32]) -> Result<Vec<u8>, AllocError> {
     let mut bytes = image(alloc, &SETS_HANDLER, 0)?;
-    for word in words {
-        bytes.extend_from_slice(&word.to_le_bytes())?;
-    }
+    append(&mut bytes, words)?;
     if bytes.len() < HANDLER_AT {
         bytes.resize(HANDLER_AT, 0)?;
     }
-    for word in HANDLER {
-        bytes.extend_from_slice(&word.to_le_bytes())?;
-    }
+    append(&mut bytes, &HANDLER)?;
     Ok(bytes)
 }
 
@@ -423,6 +427,7 @@ fn reports_of_traps(rt: HostRuntime) -> Result<(), Fail> {
 
 #[test]
 fn reports_of_turns(rt: HostRuntime) -> Result<(), Fail> {
+    let image = image(rt.alloc(), &PUTS_A, 0)?;
     for (quantum, rounds, console, report) in [
         (10_000, 1, 0, "guest a stopped steps 5 bytes 0\n\n"),
         (10_000, 0, 100, "guest a running steps 0 bytes 0\n\n"),
@@ -431,11 +436,11 @@ fn reports_of_turns(rt: HostRuntime) -> Result<(), Fail> {
         (1, 5, 100, "guest a stopped steps 5 bytes 1\nA\n"),
     ] {
         let case = Case {
-            words: &PUTS_A,
-            length: 0,
+            image: image.as_slice(),
             quantum,
             rounds,
             console,
+            inputs: "",
         };
         assert!(rt; is_reported(rt.alloc(), case, report)?, "{report}");
     }
@@ -585,21 +590,32 @@ const INTERRUPTED: [u32; 13] = [
 /// The instructions and the tables.
 pub fn supervisor_image(alloc: Global) -> Result<Vec<u8>, AllocError> {
     let mut bytes = image(alloc, &SUPERVISOR, 0)?;
-    for (offset, value) in TABLES {
-        if bytes.len() < offset {
-            bytes.resize(offset, 0)?;
-        }
-        bytes.extend_from_slice(&value.to_le_bytes())?;
-    }
+    append_at(&mut bytes, &TABLES)?;
     Ok(bytes)
 }
 
-/// Whether the run of an image ends with this report, in one turn of 10,000 steps and in 10,000 turns of one step.
+/// Whether the run of an image ends with this report, in one turn of 10,000 steps and in 2,000 turns of one step.
 pub fn is_reported_of_bytes(alloc: Global, image: &[u8], report: &str) -> Result<bool, AllocError> {
-    for (quantum, rounds) in [(10_000, 1), (1, 10_000)] {
-        let config = config(alloc, quantum, rounds, 16, 100)?;
-        let left = outcome(alloc, &RUN, config.as_str(), image, NONE)?;
-        if !left.is(0, report.as_bytes(), b"") {
+    is_reported_with(alloc, image, "", 100, report)
+}
+
+/// The same with inputs and so much room on the console.
+pub fn is_reported_with(
+    alloc: Global,
+    image: &[u8],
+    inputs: &str,
+    console: u64,
+    report: &str,
+) -> Result<bool, AllocError> {
+    for (quantum, rounds) in [(10_000, 1), (1, 2_000)] {
+        let case = Case {
+            image,
+            quantum,
+            rounds,
+            console,
+            inputs,
+        };
+        if !is_reported(alloc, case, report)? {
             return Ok(false);
         }
     }
@@ -633,16 +649,17 @@ fn software_interrupt(rt: HostRuntime) -> Result<(), Fail> {
 #[test]
 fn image_of_zeros(rt: HostRuntime) -> Result<(), Fail> {
     for length in [0, BLOCK] {
+        let image = image(rt.alloc(), &[], length)?;
         for (quantum, rounds, report) in [
             (10, 1, "guest a running steps 10 bytes 0\n\n"),
             (1, 10_000, "guest a running steps 10000 bytes 0\n\n"),
         ] {
             let case = Case {
-                words: &[],
-                length,
+                image: image.as_slice(),
                 quantum,
                 rounds,
                 console: 100,
+                inputs: "",
             };
             assert!(rt; is_reported(rt.alloc(), case, report)?, "{length}");
         }

@@ -1,6 +1,6 @@
 // Guests that are hypervisors, with no second-stage table.
 
-use crate::tests::{image, is_reported_of_bytes, trace_of};
+use crate::tests::{append_at, image, is_reported_of_bytes, trace_of};
 use std::alloc::{AllocError, Global};
 use std::test::Fail;
 
@@ -65,12 +65,7 @@ fn doublewords(hgatp: u64) -> [(usize, u64); 14] {
 
 fn commanded(alloc: Global, hgatp: u64) -> Result<Vec<u8>, AllocError> {
     let mut bytes = image(alloc, &COMMANDED, 0)?;
-    for (offset, value) in doublewords(hgatp) {
-        if bytes.len() < offset {
-            bytes.resize(offset, 0)?;
-        }
-        bytes.extend_from_slice(&value.to_le_bytes())?;
-    }
+    append_at(&mut bytes, &doublewords(hgatp))?;
     Ok(bytes)
 }
 

@@ -1,11 +1,12 @@
 -- What is accepted is within its limits.
-use Rattle.std.proofs.Common.{◌≡◌, ℕ, ◌-◌, ◌^◌, ◌<◌, ◌≤◌, nat_le, Bool, true, false, ◌&&◌, not, List, [], ◌∷◌, ◌++◌, length, map, Option, Some, None, is_some, unwrap_or, refl, subst, arith}
+use Rattle.std.proofs.Common.{◌≡◌, ℕ, zero, suc, ◌-◌, ◌^◌, ◌<◌, ◌≤◌, nat_le, Bool, true, false, ◌&&◌, not, List, [], ◌∷◌, ◌++◌, length, get_or, map, Option, Some, None, is_some, unwrap_or, refl, subst, arith}
 use Rattle.std.proofs.lemmas.Bool.{and_parts}
 use Rattle.std.proofs.lemmas.Bool.Decides.{nat_tests}
 use Rattle.std.proofs.lemmas.List.Elements.{All-nil, All-cons, All-weaker}
 use Rattle.std.proofs.lemmas.Option.{option_and_then_some, same_Some}
 use Rattle.std.specs.Char.{is_ascii_alphanumeric}
 use Rattle.std.specs.List.{All, list_all, list_any}
+use Rattle.std.specs.List.Sorted.{IsNonDecreasingBy}
 use Rattle.std.specs.Option.{option_map_or}
 use Rattle.std.specs.Str.{bytes_eq}
 use Rattle.toml.specs.Data.{Data, Items, no_items, item, Members, as_integer, as_str, as_array}
@@ -103,23 +104,46 @@ pairs_at_most a b (item value rest) ps e =
     option_and_then_some _ (pairs_within a b rest) ps e (λ more is_more e.
     subst (All (IsAtMost a b)) (same_Some (p ∷ more) ps e) (All-cons (IsAtMost a b) p more (pair_at_most a b value p is_p) (pairs_at_most a b rest more is_more))))
 
-record AreInputs (ps : List (ℕ × ℕ)) : Type 0 where
+-- moments that rise are in order
+rest_rises : (least : ℕ) (p : ℕ × ℕ) (ps : List (ℕ × ℕ)) → rise_from least (p ∷ ps) ≡ true → (least ≤ p.0) × (rise_from p.0 ps ≡ true)
+unfolding rise_from
+rest_rises least p ps e =
+    let parts = and_parts (nat_le least p.0) (rise_from p.0 ps) e in
+    (grind (arith, nat_tests, parts.0), parts.1)
+
+at_least : (least : ℕ) (ps : List (ℕ × ℕ)) → rise_from least ps ≡ true → (j : ℕ) (d : ℕ × ℕ) → j < length ps → least ≤ (get_or ps j d).0
+at_least least [] e j d h = absurd (omega (arith, h))
+at_least least (p ∷ ps) e zero d h = (rest_rises least p ps e).0
+at_least least (p ∷ ps) e (suc j) d h =
+    let rises = rest_rises least p ps e in
+    let later = at_least p.0 ps rises.1 j d (omega (arith, h)) in
+    omega (arith, rises.0, later)
+
+rise_in_order : (least : ℕ) (ps : List (ℕ × ℕ)) → rise_from least ps ≡ true → IsNonDecreasingBy (λ p. p.0) ps
+rise_in_order least [] e i j d h inside = absurd (omega (arith, inside))
+rise_in_order least (p ∷ ps) e zero zero d h inside = omega arith
+rise_in_order least (p ∷ ps) e zero (suc j) d h inside = at_least p.0 ps (rest_rises least p ps e).1 j d (omega (arith, inside))
+rise_in_order least (p ∷ ps) e (suc i) zero d h inside = absurd (omega (arith, h))
+rise_in_order least (p ∷ ps) e (suc i) (suc j) d h inside =
+    rise_in_order p.0 ps (rest_rises least p ps e).1 i j d (omega (arith, h)) (omega (arith, inside))
+
+record HasInputs (ps : List (ℕ × ℕ)) : Type 0 where
   few : length ps ≤ 65536
   rise : rise_from 0 ps ≡ true
   within : All (IsAtMost (2 ^ 62 - 1) 255) ps
 
-inputs_fit : (o : Option Data) (ps : List (ℕ × ℕ)) → optional_inputs o ≡ Some ps → AreInputs ps
+inputs_fit : (o : Option Data) (ps : List (ℕ × ℕ)) → optional_inputs o ≡ Some ps → HasInputs ps
 unfolding inputs_in rise_from
-inputs_fit None ps e = subst AreInputs (same_Some [] ps e) (record { few = omega arith; rise = refl; within = All-nil _ })
+inputs_fit None ps e = subst HasInputs (same_Some [] ps e) (record { few = omega arith; rise = refl; within = All-nil _ })
 inputs_fit (Some value) ps e =
     option_and_then_some _ (as_array value) ps e (λ items _ e.
     option_and_then_some _ (pairs_within (2 ^ 62 - 1) 255 items) ps e (λ inputs is_inputs e.
     option_and_then_some _ (holds (nat_le (length inputs) 65536 && rise_from 0 inputs)) ps e (λ u held e.
     let parts = and_parts (nat_le (length inputs) 65536) (rise_from 0 inputs) (holds-some _ u held) in
     let few : length inputs ≤ 65536 = grind (arith, nat_tests, parts.0) in
-    subst AreInputs (same_Some inputs ps e) (record { few = few; rise = parts.1; within = pairs_at_most _ _ items inputs is_inputs }))))
+    subst HasInputs (same_Some inputs ps e) (record { few = few; rise = parts.1; within = pairs_at_most _ _ items inputs is_inputs }))))
 
-inputs_within : (t : Members) → is_some (inputs_at t) ≡ true → AreInputs (unwrap_or (inputs_at t) [])
+inputs_within : (t : Members) → is_some (inputs_at t) ≡ true → HasInputs (unwrap_or (inputs_at t) [])
 unfolding inputs_at
 inputs_within t e =
     let (ps, is) = is_some_value (inputs_at t) e in
@@ -164,9 +188,12 @@ guest_within names t e =
       entries_least = entries.0;
       entries_most = entries.1;
       console_most = console.1;
-      inputs_most = inputs.few;
-      inputs_rise = inputs.rise;
-      inputs_below = All-weaker (IsAtMost (2 ^ 62 - 1) 255) (λ input. input.0 < 2 ^ 62) (λ p most. omega (arith, most.0)) _ inputs.within;
+      inputs =
+          record {
+            count = inputs.few;
+            moments = All-weaker (IsAtMost (2 ^ 62 - 1) 255) (λ input. input.0 < 2 ^ 62) (λ p most. omega (arith, most.0)) _ inputs.within;
+            order = rise_in_order 0 _ inputs.rise;
+          };
       inputs_bytes = All-weaker (IsAtMost (2 ^ 62 - 1) 255) (λ input. input.1 < 256) (λ p most. omega (arith, most.1)) _ inputs.within;
     }
 

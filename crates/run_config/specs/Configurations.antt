@@ -1,8 +1,8 @@
 -- What a configuration says, and within which limits.
-use Rattle.std.specs.Prelude.{ℕ, ◌<◌, ◌≤◌, ◌^◌, true, ◌≡◌, List, length}
+use Rattle.std.specs.Prelude.{ℕ, ◌<◌, ◌≤◌, ◌^◌, List, length}
 use Rattle.std.specs.List.{All}
+use Rattle.arch_defs.specs.Inputs.{AreInputs}
 use Rattle.run_config.specs.declared.guests.GuestSettings.{GuestSettings}
-use Rattle.run_config.specs.Guests.{rise_from}
 
 -- the guests in their order, and the turns: pairs of a guest's number and a number of steps
 pub record Configuration : Type 0 where
@@ -22,9 +22,7 @@ pub record IsGuestWithin (g : GuestSettings) : Type 0 where
   pub entries_least : 16 ≤ g.entries
   pub entries_most : g.entries ≤ 256
   pub console_most : g.console ≤ 1048576
-  pub inputs_most : length g.inputs ≤ 65536
-  pub inputs_rise : rise_from 0 g.inputs ≡ true
-  pub inputs_below : All (λ input. input.0 < 2 ^ 62) g.inputs
+  pub inputs : AreInputs g.inputs
   pub inputs_bytes : All (λ input. input.1 < 256) g.inputs
 
 -- a turn of one of so many guests, of at most 2^32 steps
