@@ -44,9 +44,10 @@ use Rattle.op_defs.specs.Meaning.{meaning}
 use Rattle.op_defs.specs.Table.{op_of}
 use Rattle.machine_defs.specs.declared.events.Event.{Event}
 use Rattle.machine_defs.specs.declared.events.Event.TheVariants.{System}
-use Rattle.machine_defs.specs.Core.{Located, At, Fails, Made, Leaves, Ends as Ended, accessed, called_from, core, decoded, ended, event_of, executed, fetched, is_reserved, loaded_at, located, located_at, located_by, modified_at, own_access, reserved_at, stored_at, stored_if, stored_if_reserved, word_at}
 use Rattle.machine_defs.specs.Outcomes.{Outcome, Done, Trapped, Stuck, Called, Waits, Fenced, Accesses, passed}
+use Rattle.machine_defs.specs.Core.{At, Ends as Ended, Failure, Fails, Faults, Leaves, Located, Made, Misses, accessed, called_from, core, decoded, ended, event_of, executed, failed, fetched, is_reserved, loaded_at, located, located_at, located_by, modified_at, own_access, reserved_at, stored_at, stored_if, stored_if_reserved, word_at}
 use Rattle.machine_defs.specs.Privileges.{combined, csr_accessed, csr_changed, csr_shown, fenced_in, guest_accessed_in, held, in_hs, left_by_sret, privileged, refused, returned_in, waited_in}
+use Rattle.machine_defs.proofs.Cached.{either}
 
 -- a number is one of these
 abbrev pub In : ℕ → List ℕ → Type 0
@@ -65,11 +66,6 @@ in_right p (q ∷ qs) rs h = inr (in_right p qs rs h)
 -- a second stage gives no place that another does not
 pub record IsWithin (small large : SecondStage) : Type 0 where
   pub gives : (address place : ℕ) (kind : Access) → small address kind ≡ Some place → large address kind ≡ Some place
-
--- what holds of both holds of either
-pub either : {A : Type 0} (P : A → Type 0) (b : Bool) (x y : A) → P x → P y → P (cond b x y)
-either P true x y of_x of_y = of_x
-either P false x y of_x of_y = of_y
 
 -- an access has no place under the smaller, and is one of these; and where it has none under the larger,
 -- something is so
@@ -225,7 +221,7 @@ asked_for second reading csrs mode va access =
 
 abbrev PlacesAlike : SecondStage → SecondStage → List ℕ → Located → Located → Type 0
 PlacesAlike small large asked (At place) other = other ≡ At place
-PlacesAlike small large asked (Fails o) other = OutcomeAlike small large asked o (other ≡ Fails o)
+PlacesAlike small large asked (Fails failure) other = OutcomeAlike small large asked (failed failure) (other ≡ Fails failure)
 
 by_alike : (small large : SecondStage) → IsWithin small large → (asked : List ℕ) (mode : Mode) (va : ℕ) (access : Access) (found other : Found)
     → FindsAlike small large asked found other
@@ -239,7 +235,7 @@ by_alike small large w asked mode va access (Passes address) other alike = rw al
 by_alike small large w asked mode va access PageFaults other alike = rw alike refl
 by_alike small large w asked mode va access (Lacks place) other alike =
     stops_more small large asked (asked ++ final other) place Implicit (other ≡ Lacks place)
-    (located_by large mode va access other ≡ Fails (Stuck (record { address = place; kind = Implicit; access = access; va = va; mode = mode })))
+    (located_by large mode va access other ≡ Fails (Misses (record { address = place; kind = Implicit; access = access; va = va; mode = mode })))
     (in_left place asked (final other)) (λ e. rw e refl) alike
 
 located_alike : (small large : SecondStage) → IsWithin small large → (reading : Reading) (csrs : Csrs) (mode : Mode) (va : ℕ) (access : Access)
@@ -253,8 +249,8 @@ accessed_alike : (small large : SecondStage) → IsWithin small large → (readi
 accessed_alike small large w reading csrs mode va width access = by (va % bytes_in width == 0)
   where
     by : (whole : Bool) → PlacesAlike small large (asked_for large reading csrs mode va access)
-        (cond whole (located small reading csrs mode va access) (Fails (Trapped (exception mode (misaligned_fault access) va))))
-        (cond whole (located large reading csrs mode va access) (Fails (Trapped (exception mode (misaligned_fault access) va))))
+        (cond whole (located small reading csrs mode va access) (Fails (Faults (exception mode (misaligned_fault access) va))))
+        (cond whole (located large reading csrs mode va access) (Fails (Faults (exception mode (misaligned_fault access) va))))
     by true = located_alike small large w reading csrs mode va access
     by false = refl
 
@@ -264,15 +260,15 @@ MadeAlike small large asked (Leaves state stored) other = other ≡ Leaves state
 MadeAlike small large asked (Ended o) other = OutcomeAlike small large asked o (other ≡ Ended o)
 
 -- by where its access is made
-made_alike : (small large : SecondStage) (asked : List ℕ) (then : Located → Made) → ((o : Outcome) → then (Fails o) ≡ Ended o)
+made_alike : (small large : SecondStage) (asked : List ℕ) (then : Located → Made) → ((f : Failure) → then (Fails f) ≡ Ended (failed f))
     → ((place : ℕ) → MadeAlike small large asked (then (At place)) (then (At place))) → (a b : Located) → PlacesAlike small large asked a b
     → MadeAlike small large asked (then a) (then b)
 made_alike small large asked then fails at (At place) b alike = rw alike (at place)
-made_alike small large asked then fails at (Fails o) b alike = rw (fails o)
-    (outcome_more small large asked asked o (b ≡ Fails o) (then b ≡ Ended o) (λ p h. h) (λ e. rw e (fails o)) alike)
+made_alike small large asked then fails at (Fails f) b alike = rw (fails f)
+    (outcome_more small large asked asked (failed f) (b ≡ Fails f) (then b ≡ Ended (failed f)) (λ p h. h) (λ e. rw e (fails f)) alike)
 
 -- what the mode decides on stops at no access
-abbrev IsDecided : Outcome → Type 0
+abbrev pub IsDecided : Outcome → Type 0
 IsDecided (Stuck unplaced) = ⊥
 IsDecided (Done state stored event) = Unit {0}
 IsDecided (Trapped trap) = Unit {0}
@@ -333,7 +329,7 @@ access_decided s word access U = either IsDecided s.csrs.hstatus.hu (Accesses ac
 access_decided s word access VS = tt
 access_decided s word access VU = tt
 
-privileged_decided : (s : Virtual) (word : ℕ) (p : Privileged) → IsDecided (privileged s word p)
+pub privileged_decided : (s : Virtual) (word : ℕ) (p : Privileged) → IsDecided (privileged s word p)
 unfolding privileged
 privileged_decided s word (Csr o number operand writes rd) = csr_decided s word o number operand writes rd
 privileged_decided s word Sret = sret_decided s word s.mode
@@ -391,7 +387,7 @@ asked_by_op second reading state None = []
 
 abbrev pub asked_at : SecondStage → Reading → Virtual → Located → List ℕ
 asked_at second reading state (At place) = asked_by_op second reading state (op_of (word_at reading place))
-asked_at second reading state (Fails o) = []
+asked_at second reading state (Fails failure) = []
 
 pub asked : SecondStage → Reading → Virtual → List ℕ
 asked second reading state = asked_for second reading state.csrs state.mode state.regs.pc Fetch
@@ -418,8 +414,8 @@ fetched_alike small large w reading s front (At place) b alike = rw alike (behin
     behind word o = outcome_more small large (asked_by_op large reading s o) (front ++ asked_by_op large reading s o) (decoded small reading s word o)
         (decoded large reading s word o ≡ decoded small reading s word o) (decoded large reading s word o ≡ decoded small reading s word o)
         (λ p. in_right p front (asked_by_op large reading s o)) (λ e. e) (decoded_alike small large w reading s word o)
-fetched_alike small large w reading s front (Fails o) b alike =
-    outcome_more small large front (front ++ asked_at large reading s b) o (b ≡ Fails o) (fetched large reading s b ≡ o)
+fetched_alike small large w reading s front (Fails f) b alike =
+    outcome_more small large front (front ++ asked_at large reading s b) (failed f) (b ≡ Fails f) (fetched large reading s b ≡ failed f)
     (λ p. in_left p front (asked_at large reading s b)) (λ e. rw e refl) alike
 
 core_alike : (small large : SecondStage) → IsWithin small large → (reading : Reading) (s : Virtual)
@@ -475,7 +471,7 @@ few_by_op second reading s None = omega arith
 
 few_at : (second : SecondStage) (reading : Reading) (s : Virtual) (a : Located) → length (asked_at second reading s a) ≤ 4
 few_at second reading s (At place) = few_by_op second reading s (op_of (word_at reading place))
-few_at second reading s (Fails o) = omega arith
+few_at second reading s (Fails failure) = omega arith
 
 pub few_asked : (second : SecondStage) (reading : Reading) (s : Virtual) → length (asked second reading s) ≤ 8
 unfolding asked

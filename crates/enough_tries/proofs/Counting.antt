@@ -1,14 +1,15 @@
 -- How many fills a list needs, whatever says what it lacks.
-use Rattle.std.specs.Prelude.{◌==◌, not, find, filter}
+use Rattle.std.specs.Prelude.{◌==◌, not, filter}
 use Rattle.std.specs.List.{All}
 use Rattle.std.specs.Option.{option_or}
 use Rattle.std.proofs.Common.{cond, ◌≡◌, ℕ, zero, suc, ◌+◌, ◌-◌, ◌<◌, ◌≤◌, ◌⊎◌, ◌∙◌, inl, inr, ⊎_elim, Bool, true, false, List, [], ◌∷◌, ◌++◌, length, drop, Option, Some, None, refl, ap, sym, arith, append_assoc, length-append, length-drop, suc-add, zero-add}
 use Rattle.std.proofs.lemmas.Bool.{cond_both, eqb-true, eqb-false, eq-eqb, ne_eqb}
 use Rattle.std.proofs.lemmas.List.{append-nil, drop-append-le}
-use Rattle.std.proofs.lemmas.List.Elements.{All-append, All-drop, All-filter, All-head, All-nil, All-push, All-tail, filter-append}
+use Rattle.std.proofs.lemmas.List.Elements.{All-append, All-drop, All-filter, All-nil, All-push, filter-append}
 use Rattle.std.proofs.lemmas.List.Folds.{find-append}
 use Rattle.arch_defs.specs.declared.cached.Entry.{Entry}
 use Rattle.arch_defs.specs.CachedEntries.{entry_at, filled, without}
+use Rattle.machine_defs.proofs.Cached.{all_found}
 use Rattle.enough_tries.proofs.Asking.{In}
 
 -- the entry of a page: by the first entry and the others
@@ -53,19 +54,6 @@ found_page p (x ∷ xs) e is = ⊎_elim
     (λ (here : ((x.page == p) ≡ true) × (x ≡ e)). ap (λ (e : Entry). e.page) (sym here.1) ∙ eqb-true x.page p here.0)
     (λ (later : ((x.page == p) ≡ false) × (entry_at p xs ≡ Some e)). found_page p xs e later.1)
     (first_some (x.page == p) x e (entry_at p xs) is)
-
--- what holds of each element holds of one that is found
-moved : {X : Type 0} (P : X → Type 0) (x y : X) → x ≡ y → P x → P y
-moved P x y same held = rw (← same) held
-
-found_first : {X : Type 0} (b : Bool) (x y : X) (others : Option X) → cond b (Some x) others ≡ Some y → (x ≡ y) ⊎ (others ≡ Some y)
-found_first true x y others is = let one : x ≡ y = cc in inl one
-found_first false x y others is = inr is
-
-pub all_found : {X : Type 0} (P : X → Type 0) (test : X → Bool) (xs : List X) (x : X) → All P xs → find test xs ≡ Some x → P x
-all_found P test [] x all is = absurd cc
-all_found P test (y ∷ xs) x all is = ⊎_elim (λ (here : y ≡ x). moved P y x here (All-head P y xs all))
-    (λ (later : find test xs ≡ Some x). all_found P test xs x (All-tail P y xs all) later) (found_first (test y) y x (find test xs) is)
 
 -- a list in two parts: the entries before, and those filled since, which are fresh, and whose pages are not before
 record IsSplit (IsFresh : Entry → Type 0) (entries before since : List Entry) : Type 0 where

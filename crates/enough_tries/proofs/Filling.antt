@@ -2,11 +2,11 @@
 use Rattle.std.proofs.Common.{cond, ◌≡◌, ℕ, zero, suc, ◌+◌, ◌-◌, ◌<◌, ◌≤◌, ◌∙◌, Bool, true, false, List, [], ◌∷◌, Option, Some, None, refl, ap, sym, arith, suc-add, zero-add}
 use Rattle.arch_defs.specs.declared.cached.Entry.{Entry}
 use Rattle.arch_defs.specs.Interrupts.{due}
-use Rattle.machine_defs.specs.Machine.{Machine, Platform}
 use Rattle.arch_defs.specs.Spaces.{Space}
 use Rattle.arch_defs.specs.CachedEntries.{filled}
-use Rattle.enough_tries.specs.Fills.{after_fill, after_fills, counted, fill, filled_front, fills, lacking, lacking_under, lacking_with, most_fills}
 use Rattle.arch_defs.specs.WalkedEntries.{folds}
+use Rattle.machine_defs.specs.Fills.{after_fill, after_fills, counted, fill, filled_front, fills, lacking, lacking_under, lacking_with, most_fills}
+use Rattle.machine_defs.specs.Machine.{Machine, Platform}
 use Rattle.enough_tries.specs.Laws.{FewFills, FillsGoOn, FillsSuffice, FlatLacksNothing, InterruptedLacksNothing, MoreChangeNothing, OnlySpaces}
 use Rattle.enough_tries.proofs.Counting.{filling, next_filled}
 use Rattle.enough_tries.proofs.Fresh.{list_suffices}

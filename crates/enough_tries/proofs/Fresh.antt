@@ -1,21 +1,20 @@
 -- What a state lacks under entries of now: only the pages that it asks for, and none that has an entry of now.
-use Rattle.std.proofs.Common.{cond, ◌≡◌, ℕ, suc, ◌+◌, ◌/◌, ◌≤◌, ◌∙◌, inl, inr, Bool, true, false, List, [], ◌∷◌, length, Option, Some, None, refl, ap, sym, arith}
+use Rattle.std.proofs.Common.{cond, ◌≡◌, ℕ, suc, ◌+◌, ◌/◌, ◌≤◌, ◌∙◌, inl, inr, true, List, [], ◌∷◌, length, Some, None, refl, ap, sym, arith}
 use Rattle.std.specs.Prelude.{◌==◌}
 use Rattle.std.specs.List.{All}
 use Rattle.arch_defs.specs.declared.cached.Entry.{Entry}
 use Rattle.arch_defs.specs.declared.modes.Access.{Access}
 use Rattle.arch_defs.specs.declared.registers.Csrs.{Csrs}
 use Rattle.arch_defs.specs.declared.registers.Virtual.{Virtual}
-use Rattle.arch_defs.specs.declared.walks.Unplaced.{Unplaced}
 use Rattle.arch_defs.specs.Memory.{SecondStage, ram_base, reading_of}
 use Rattle.arch_defs.specs.Permits.{permits_second}
 use Rattle.arch_defs.specs.Walk.{leaf_address}
-use Rattle.machine_defs.specs.Outcomes.{Outcome, Done, Trapped, Stuck, Called, Waits, Fenced, Accesses}
 use Rattle.arch_defs.specs.CachedEntries.{entry_at, leaf_of, place_by, second_by}
-use Rattle.enough_tries.specs.Fills.{lacking_at, lacking_under}
 use Rattle.arch_defs.specs.WalkedEntries.{entry_now}
+use Rattle.machine_defs.specs.Fills.{lacking_under}
 use Rattle.enough_tries.proofs.Asking.{In, IsWithin, asked, few_asked, stops}
-use Rattle.enough_tries.proofs.Counting.{Counts, all_found, enough, filling, found_page}
+use Rattle.machine_defs.proofs.Cached.{all_found, placed, stopped}
+use Rattle.enough_tries.proofs.Counting.{Counts, enough, filling, found_page}
 use Rattle.enough_tries.proofs.Walks.{now_for, now_one, now_page, now_permits, now_same}
 
 -- an entry of now
@@ -36,16 +35,6 @@ pub second_now : Csrs → List ℕ → SecondStage
 second_now csrs ram address kind = place_by csrs.hs.status.mxr address kind (entry_now csrs ram address kind)
 
 -- a second stage by fresh entries alone lies within it
-pub placed : (mxr : Bool) (address place : ℕ) (kind : Access) (there : Option Entry) → place_by mxr address kind there ≡ Some place
-    → (e : Entry) × (there ≡ Some e) × (permits_second mxr kind (leaf_of e) ≡ true)
-placed mxr address place kind None is = absurd cc
-placed mxr address place kind (Some e) is = by (permits_second mxr kind (leaf_of e)) refl is
-  where
-    by : (permits : Bool) → permits_second mxr kind (leaf_of e) ≡ permits → cond permits (Some (leaf_address (leaf_of e) address)) None ≡ Some place
-        → (e' : Entry) × (Some e ≡ Some e') × (permits_second mxr kind (leaf_of e') ≡ true)
-    by true permits is = (e, refl, permits)
-    by false permits is = absurd cc
-
 fresh_within : (csrs : Csrs) (ram : List ℕ) (entries : List Entry) → All (IsFresh csrs ram) entries → IsWithin (second_by entries csrs.hs.status.mxr) (second_now csrs ram)
 unfolding second_by second_now
 fresh_within csrs ram entries fresh = record {
@@ -55,17 +44,6 @@ fresh_within csrs ram entries fresh = record {
       let now : entry_now csrs ram address kind ≡ Some held.0 = fresh_for csrs ram held.0 one address kind (found_page (address / 4096) entries held.0 held.1) held.2 in
       ap (place_by csrs.hs.status.mxr address kind) (now ∙ sym held.1) ∙ is;
 }
-
--- what a state lacks, it stops at
-pub stopped : (csrs : Csrs) (ram : List ℕ) (o : Outcome) (e : Entry) → lacking_at csrs ram o ≡ Some e
-    → (u : Unplaced) × (o ≡ Stuck u) × (entry_now csrs ram u.address u.kind ≡ Some e)
-stopped csrs ram (Stuck u) e is = (u, refl, is)
-stopped csrs ram (Done state stored event) e is = absurd cc
-stopped csrs ram (Trapped trap) e is = absurd cc
-stopped csrs ram Called e is = absurd cc
-stopped csrs ram (Waits state) e is = absurd cc
-stopped csrs ram (Fenced state fence) e is = absurd cc
-stopped csrs ram (Accesses access) e is = absurd cc
 
 -- the pages of addresses
 pub pages_of : List ℕ → List ℕ

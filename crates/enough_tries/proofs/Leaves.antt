@@ -20,7 +20,7 @@ use Rattle.arch_defs.specs.Walk.{EntryReading, end_of, is_canonical, later, leaf
 use Rattle.arch_defs.specs.CachedEntries.{CanFill}
 use Rattle.arch_defs.specs.WalkedEntries.{entry_by_table, entry_now, entry_under}
 use Rattle.enough_tries.specs.Laws.{FillsCanBeMade}
-use Rattle.enough_tries.proofs.Walks.{IsGiven, given}
+use Rattle.machine_defs.proofs.Cached.{IsGiven, given}
 
 -- what holds of each leaf that a walk ends at
 record IsSound (leaf : LeafEntry) : Type 0 where

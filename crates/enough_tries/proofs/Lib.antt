@@ -3,7 +3,6 @@ pub mod Changing
 pub mod Counting
 pub mod Filling
 pub mod Fresh
-pub mod InRam
 pub mod Leaves
 pub mod Orderly
 pub mod Rooting

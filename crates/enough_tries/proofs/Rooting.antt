@@ -1,6 +1,6 @@
 -- hgatp under one instruction: with V = 1 none changes it, and a fence changes neither it nor the mode.
-use Rattle.std.specs.Prelude.{Result, Ok, Err, ◌==◌, nat_le}
-use Rattle.std.proofs.Common.{cond, ◌≡◌, ℕ, ◌%◌, Bool, true, false, Option, Some, None, refl}
+use Rattle.std.specs.Prelude.{Result, Ok, Err, nat_le}
+use Rattle.std.proofs.Common.{cond, ◌≡◌, ℕ, Bool, true, false, Option, Some, None, refl}
 use Rattle.arch_defs.specs.declared.csr_names.BankRegister.TheVariants.{Status, Tvec, Scratch, Epc, Cause, Tval, Atp}
 use Rattle.arch_defs.specs.declared.csr_names.BitRegister.TheVariants.{Scounteren, Senvcfg, Hcounteren, Henvcfg}
 use Rattle.arch_defs.specs.declared.csr_names.CsrEnd.{CsrEnd}
@@ -8,23 +8,18 @@ use Rattle.arch_defs.specs.declared.csr_names.CsrEnd.TheVariants.{Illegal, Virtu
 use Rattle.arch_defs.specs.declared.csr_names.InterruptRegister.TheVariants.{Sie, Sip, Vsie, Vsip, Hideleg, Hie, Hip, Hvip}
 use Rattle.arch_defs.specs.declared.csr_names.Register.{Register}
 use Rattle.arch_defs.specs.declared.csr_names.Register.TheVariants.{Supervisor, VirtualSupervisor, Interrupt, Bit, Hypervisor, Time, GuestTime}
-use Rattle.arch_defs.specs.declared.modes.Access.{Access}
 use Rattle.arch_defs.specs.declared.modes.Access.TheVariants.{Fetch, Load, Store}
 use Rattle.arch_defs.specs.declared.modes.Mode.{Mode}
 use Rattle.arch_defs.specs.declared.modes.Mode.TheVariants.{HS, U, VS, VU}
 use Rattle.arch_defs.specs.declared.registers.Csrs.{Csrs}
 use Rattle.arch_defs.specs.declared.registers.Regs.{Regs}
 use Rattle.arch_defs.specs.declared.registers.Virtual.{Virtual}
-use Rattle.arch_defs.specs.declared.walks.Found.{Found}
-use Rattle.arch_defs.specs.declared.walks.Found.TheVariants.{Passes, PageFaults, Lacks}
 use Rattle.arch_defs.specs.declared.widths.Width.{Width}
 use Rattle.arch_defs.specs.declared.widths.Width.TheVariants.{Word}
 use Rattle.arch_defs.specs.Access.{bit_written, changed_by, interrupts_written, named_to_write, reached, reached_by, reached_in_vs, reached_in_vu, read, write, written}
 use Rattle.arch_defs.specs.CsrNames.{register_of}
 use Rattle.arch_defs.specs.Memory.{Reading, SecondStage}
-use Rattle.arch_defs.specs.Traps.{exception, is_virtual, misaligned_fault, returned}
-use Rattle.arch_defs.specs.Translation.{first_stage}
-use Rattle.arch_defs.specs.Widths.{bytes_in}
+use Rattle.arch_defs.specs.Traps.{is_virtual, returned}
 use Rattle.op_defs.specs.declared.ops.AmoOp.{AmoOp}
 use Rattle.op_defs.specs.declared.ops.CsrOp.{CsrOp}
 use Rattle.op_defs.specs.declared.ops.Effect.{Effect}
@@ -37,10 +32,10 @@ use Rattle.op_defs.specs.Meaning.{meaning}
 use Rattle.op_defs.specs.Table.{op_of}
 use Rattle.machine_defs.specs.declared.events.Event.{Event}
 use Rattle.machine_defs.specs.declared.events.Event.TheVariants.{System}
-use Rattle.machine_defs.specs.Core.{Located, At, Fails, Made, Leaves, Ends, called_from, core, decoded, ended, event_of, executed, fetched, is_reserved, loaded_at, located, located_at, located_by, modified_at, own_access, reserved_at, stored_at, stored_if, stored_if_reserved, word_at}
 use Rattle.machine_defs.specs.Outcomes.{Outcome, Done, Trapped, Stuck, Called, Waits, Fenced, Accesses, passed}
+use Rattle.machine_defs.specs.Core.{At, Ends, Failure, Fails, Faults, Leaves, Located, Made, Misses, called_from, core, decoded, ended, event_of, executed, failed, fetched, is_reserved, loaded_at, modified_at, own_access, reserved_at, stored_at, stored_if, stored_if_reserved, word_at}
 use Rattle.machine_defs.specs.Privileges.{combined, csr_accessed, csr_changed, csr_shown, fenced_in, guest_accessed_in, held, in_hs, left_by_sret, privileged, refused, returned_in, waited_in}
-use Rattle.enough_tries.proofs.Asking.{either}
+use Rattle.machine_defs.proofs.Cached.{either}
 
 -- what an outcome leaves of it
 abbrev pub KeepsRoot : Virtual → Outcome → Type 0
@@ -49,7 +44,7 @@ KeepsRoot s (Fenced after fence) = (after.mode ≡ s.mode) × (after.csrs.hgatp 
 KeepsRoot s (Trapped trap) = Unit {0}
 KeepsRoot s (Stuck unplaced) = Unit {0}
 KeepsRoot s Called = Unit {0}
-KeepsRoot s (Waits after) = Unit {0}
+KeepsRoot s (Waits after) = (after.mode ≡ s.mode) × (after.csrs.hgatp ≡ s.csrs.hgatp)
 KeepsRoot s (Accesses access) = Unit {0}
 
 -- a write of a register but those of the hypervisor's own row
@@ -167,9 +162,9 @@ sret_root s word VS = either (KeepsRoot s) s.csrs.hstatus.vtsr (refused s word V
 sret_root s word VU = tt
 
 wfi_root : (s : Virtual) (word : ℕ) (mode : Mode) → KeepsRoot s (waited_in s word mode)
-wfi_root s word HS = tt
+wfi_root s word HS = (refl, refl)
 wfi_root s word U = tt
-wfi_root s word VS = either (KeepsRoot s) s.csrs.hstatus.vtw (refused s word VirtualInstruction) (Waits (passed s)) tt tt
+wfi_root s word VS = either (KeepsRoot s) s.csrs.hstatus.vtw (refused s word VirtualInstruction) (Waits (passed s)) tt (refl, refl)
 wfi_root s word VU = tt
 
 fence_root : (s : Virtual) (word : ℕ) (mode : Mode) → KeepsRoot s (fenced_in s word mode)
@@ -200,52 +195,39 @@ privileged_root s word HfenceVvma = in_hs_root s word (Done (passed s) None Syst
 privileged_root s word (HfenceGvma fence) = in_hs_root s word (Fenced (passed s) fence) s.mode (refl, refl)
 privileged_root s word (Accessing access) = access_root s word access s.mode
 
--- where an access is made, or how it ends
-abbrev LocatedKeeps : Virtual → Located → Type 0
-LocatedKeeps s (At place) = Unit {0}
-LocatedKeeps s (Fails o) = KeepsRoot s o
-
-at_root : (s : Virtual) (mode : Mode) (va : ℕ) (access : Access) (address : ℕ) (place : Option ℕ) → LocatedKeeps s (located_at mode va access address place)
-at_root s mode va access address (Some place) = tt
-at_root s mode va access address None = tt
-
-by_root : (s : Virtual) (second : SecondStage) (mode : Mode) (va : ℕ) (access : Access) (found : Found) → LocatedKeeps s (located_by second mode va access found)
-by_root s second mode va access (Passes address) = at_root s mode va access address (second address access)
-by_root s second mode va access PageFaults = tt
-by_root s second mode va access (Lacks place) = tt
-
-access_located : (s : Virtual) (second : SecondStage) (reading : Reading) (va : ℕ) (width : Width) (access : Access) → LocatedKeeps s (own_access second reading s va width access)
-access_located s second reading va width access = either (LocatedKeeps s) (va % bytes_in width == 0) (located second reading s.csrs s.mode va access)
-    (Fails (Trapped (exception s.mode (misaligned_fault access) va))) (by_root s second s.mode va access (first_stage second reading s.csrs s.mode va access)) tt
+-- an access that is not made
+failed_root : (s : Virtual) (failure : Failure) → KeepsRoot s (failed failure)
+failed_root s (Faults trap) = tt
+failed_root s (Misses unplaced) = tt
 
 -- an instruction
 abbrev MadeKeeps : Virtual → Made → Type 0
 MadeKeeps s (Leaves after stored) = is_virtual s.mode ≡ true → after.csrs.hgatp ≡ s.csrs.hgatp
 MadeKeeps s (Ends o) = KeepsRoot s o
 
-loaded_root : (s : Virtual) (reading : Reading) (width : Width) (signed : Bool) (rd : ℕ) (a : Located) → LocatedKeeps s a → MadeKeeps s (loaded_at reading s width signed rd a)
-loaded_root s reading width signed rd (At place) keeps = λ virtual. refl
-loaded_root s reading width signed rd (Fails o) keeps = keeps
+loaded_root : (s : Virtual) (reading : Reading) (width : Width) (signed : Bool) (rd : ℕ) (a : Located) → MadeKeeps s (loaded_at reading s width signed rd a)
+loaded_root s reading width signed rd (At place) = λ virtual. refl
+loaded_root s reading width signed rd (Fails failure) = failed_root s failure
 
-stored_root : (s : Virtual) (width : Width) (value : ℕ) (a : Located) → LocatedKeeps s a → MadeKeeps s (stored_at s width value a)
-stored_root s width value (At place) keeps = λ virtual. refl
-stored_root s width value (Fails o) keeps = keeps
+stored_root : (s : Virtual) (width : Width) (value : ℕ) (a : Located) → MadeKeeps s (stored_at s width value a)
+stored_root s width value (At place) = λ virtual. refl
+stored_root s width value (Fails failure) = failed_root s failure
 
-reserved_root : (s : Virtual) (reading : Reading) (width : Width) (rd : ℕ) (a : Located) → LocatedKeeps s a → MadeKeeps s (reserved_at reading s width rd a)
-reserved_root s reading width rd (At place) keeps = λ virtual. refl
-reserved_root s reading width rd (Fails o) keeps = keeps
+reserved_root : (s : Virtual) (reading : Reading) (width : Width) (rd : ℕ) (a : Located) → MadeKeeps s (reserved_at reading s width rd a)
+reserved_root s reading width rd (At place) = λ virtual. refl
+reserved_root s reading width rd (Fails failure) = failed_root s failure
 
-conditional_root : (s : Virtual) (width : Width) (value rd : ℕ) (a : Located) → LocatedKeeps s a → MadeKeeps s (stored_if_reserved s width value rd a)
-conditional_root s width value rd (At place) keeps = by (is_reserved s.reservation place width)
+conditional_root : (s : Virtual) (width : Width) (value rd : ℕ) (a : Located) → MadeKeeps s (stored_if_reserved s width value rd a)
+conditional_root s width value rd (At place) = by (is_reserved s.reservation place width)
   where
     by : (reserved : Bool) → MadeKeeps s (stored_if reserved s width value rd place)
     by true = λ virtual. refl
     by false = λ virtual. refl
-conditional_root s width value rd (Fails o) keeps = keeps
+conditional_root s width value rd (Fails failure) = failed_root s failure
 
-modified_root : (s : Virtual) (reading : Reading) (o : AmoOp) (width : Width) (operand rd : ℕ) (a : Located) → LocatedKeeps s a → MadeKeeps s (modified_at reading s o width operand rd a)
-modified_root s reading o width operand rd (At place) keeps = λ virtual. refl
-modified_root s reading o width operand rd (Fails outcome) keeps = keeps
+modified_root : (s : Virtual) (reading : Reading) (o : AmoOp) (width : Width) (operand rd : ℕ) (a : Located) → MadeKeeps s (modified_at reading s o width operand rd a)
+modified_root s reading o width operand rd (At place) = λ virtual. refl
+modified_root s reading o width operand rd (Fails failure) = failed_root s failure
 
 called_root : (s : Virtual) (mode : Mode) → KeepsRoot s (called_from mode)
 called_root s HS = tt
@@ -256,11 +238,11 @@ called_root s VU = tt
 executed_root : (s : Virtual) (second : SecondStage) (reading : Reading) (word : ℕ) (effect : Effect) → MadeKeeps s (executed second reading s word effect)
 executed_root s second reading word (Sets rd value next) = λ virtual. refl
 executed_root s second reading word (Raises cause tval) = tt
-executed_root s second reading word (Loads address width signed rd) = loaded_root s reading width signed rd _ (access_located s second reading address width Load)
-executed_root s second reading word (Stores address width value) = stored_root s width value _ (access_located s second reading address width Store)
-executed_root s second reading word (Reserves address width rd) = reserved_root s reading width rd _ (access_located s second reading address width Load)
-executed_root s second reading word (StoresReserved address width value rd) = conditional_root s width value rd _ (access_located s second reading address width Store)
-executed_root s second reading word (Modifies o address width operand rd) = modified_root s reading o width operand rd _ (access_located s second reading address width Store)
+executed_root s second reading word (Loads address width signed rd) = loaded_root s reading width signed rd (own_access second reading s address width Load)
+executed_root s second reading word (Stores address width value) = stored_root s width value (own_access second reading s address width Store)
+executed_root s second reading word (Reserves address width rd) = reserved_root s reading width rd (own_access second reading s address width Load)
+executed_root s second reading word (StoresReserved address width value rd) = conditional_root s width value rd (own_access second reading s address width Store)
+executed_root s second reading word (Modifies o address width operand rd) = modified_root s reading o width operand rd (own_access second reading s address width Store)
 executed_root s second reading word Calls = called_root s s.mode
 executed_root s second reading word (Decides effect) = privileged_root s word effect
 
@@ -272,10 +254,10 @@ decoded_root : (s : Virtual) (second : SecondStage) (reading : Reading) (word : 
 decoded_root s second reading word (Some o) = ended_root s (event_of s.regs.pc word) _ (executed_root s second reading word (meaning o s.regs))
 decoded_root s second reading word None = tt
 
-fetched_root : (s : Virtual) (second : SecondStage) (reading : Reading) (a : Located) → LocatedKeeps s a → KeepsRoot s (fetched second reading s a)
-fetched_root s second reading (At place) keeps = decoded_root s second reading (word_at reading place) (op_of (word_at reading place))
-fetched_root s second reading (Fails o) keeps = keeps
+fetched_root : (s : Virtual) (second : SecondStage) (reading : Reading) (a : Located) → KeepsRoot s (fetched second reading s a)
+fetched_root s second reading (At place) = decoded_root s second reading (word_at reading place) (op_of (word_at reading place))
+fetched_root s second reading (Fails failure) = failed_root s failure
 
 pub core_root : (s : Virtual) (second : SecondStage) (reading : Reading) → KeepsRoot s (core second reading s)
 unfolding core
-core_root s second reading = fetched_root s second reading _ (access_located s second reading s.regs.pc Word Fetch)
+core_root s second reading = fetched_root s second reading (own_access second reading s s.regs.pc Word Fetch)

@@ -10,22 +10,23 @@ use Rattle.arch_defs.specs.SecondStage.{second_now, second_under}
 use Rattle.arch_defs.specs.Traps.{is_virtual}
 use Rattle.arch_defs.specs.declared.registers.GuestRoot.{GuestRoot}
 use Rattle.arch_defs.specs.declared.registers.GuestRoot.TheVariants as root
-use Rattle.machine_defs.specs.Core.{core}
-use Rattle.machine_defs.specs.Machine.{Machine, Platform, Outside}
 use Rattle.arch_defs.specs.Spaces.{Space, front}
-use Rattle.machine_defs.specs.Runs.{left_by}
+use Rattle.machine_defs.specs.FrontSpaces.{FrontIs}
 use Rattle.machine_defs.specs.Outcomes.{Stuck}
-use Rattle.arch_defs.specs.Inputs.{has_input}
-use Rattle.arch_defs.specs.CachedEntries.{place_by, second_by}
-use Rattle.enough_tries.specs.Fills.{most_fills, ready, lacking, lacking_at, lacking_under}
+use Rattle.arch_defs.specs.CachedEntries.{leaf_of, place_by, second_by}
+use Rattle.arch_defs.specs.Walk.{leaf_address}
 use Rattle.arch_defs.specs.WalkedEntries.{entry_now, folds, is_table}
-use Rattle.enough_tries.specs.Keeping.{FrontIs, IsOrderly}
-use Rattle.enough_tries.specs.Laws.{LacksAreRead, StepsEndByRule, StopsAreFaults, TriesEndByRule, own_or_walked}
-use Rattle.enough_tries.specs.Tries.{concluded, second_of, tried_with, try, try_under}
+use Rattle.machine_defs.specs.Core.{core}
+use Rattle.machine_defs.specs.Fills.{lacking, lacking_at, lacking_under, most_fills, ready}
+use Rattle.machine_defs.specs.Machine.{Machine, Platform}
+use Rattle.machine_defs.specs.Runs.{left_by}
+use Rattle.machine_defs.specs.Tries.{concluded, second_of, tried_with, try, try_under}
+use Rattle.enough_tries.specs.Keeping.{IsOrderly}
+use Rattle.enough_tries.specs.Laws.{FlatIsRam, FoldsByFront, FrontGivesPlaces, LacksAreRead, StepsEndByRule, StopsAreFaults, TriesEndByRule, own_or_walked}
 use Rattle.enough_tries.proofs.Asking.{IsWithin, else_alike, stops}
 use Rattle.enough_tries.proofs.Filling.{lacking_front, machine, suffices}
 use Rattle.enough_tries.proofs.Orderly.{filled_orderly}
-use Rattle.enough_tries.proofs.Stepping.{step_running}
+use Rattle.machine_defs.proofs.Running.{step_running}
 use Rattle.enough_tries.proofs.Walks.{fills_are_walks}
 
 -- the rule, by entries
@@ -56,12 +57,24 @@ try_ruled : (m : Machine) (own rule : SecondStage)
     → (due m.platform.virt.csrs m.platform.virt.mode ≡ None → core rule (reading_of ram_base m.ram) m.platform.virt ≡ core own (reading_of ram_base m.ram) m.platform.virt)
     → try_under own m ≡ try_under rule m
 unfolding try_under
-try_ruled m own rule same = ap (cond (has_input m.platform.console.inputs m.platform.clock.time) Outside)
-    (tried_ruled m own rule (due m.platform.virt.csrs m.platform.virt.mode) same)
+try_ruled m own rule same = tried_ruled m own rule (due m.platform.virt.csrs m.platform.virt.mode) same
+
+-- a machine's own second stage
+pub folds_by_front : FoldsByFront
+folds_by_front m folding = ap (λ b. cond b (second_by (front m.spaces) m.platform.virt.csrs.hs.status.mxr) (bare ram_base (length m.ram))) folding
+
+pub front_gives_places : FrontGivesPlaces
+unfolding second_by
+front_gives_places m address kind e folding there permits = let mxr = m.platform.virt.csrs.hs.status.mxr in
+    ap (λ (second : SecondStage). second address kind) (folds_by_front m folding)
+    ∙ ap (place_by mxr address kind) there ∙ ap (λ b. cond b (Some (leaf_address (leaf_of e) address)) None) permits
+
+pub flat_is_ram : FlatIsRam
+flat_is_ram m flat = ap (λ b. cond b (second_by (front m.spaces) m.platform.virt.csrs.hs.status.mxr) (bare ram_base (length m.ram))) flat
 
 own_front : (p : Platform) (ram : List ℕ) (s : Space) (ss : List Space) (space_room entry_room : ℕ) → folds p.virt ≡ true
     → second_of (machine p ram (s ∷ ss) space_room entry_room) ≡ second_by s.entries p.virt.csrs.hs.status.mxr
-own_front p ram s ss space_room entry_room folding = ap (λ b. cond b (second_by s.entries p.virt.csrs.hs.status.mxr) (bare ram_base (length ram))) folding
+own_front p ram s ss space_room entry_room folding = folds_by_front (machine p ram (s ∷ ss) space_room entry_room) folding
 
 -- so what it lacks is read off its own second stage
 read_front : (p : Platform) (ram : List ℕ) (s : Space) (ss : List Space) (space_room entry_room : ℕ) → folds p.virt ≡ true → due p.virt.csrs p.virt.mode ≡ None
@@ -104,8 +117,7 @@ flat_now virt ram flat = by virt.csrs.hgatp (is_virtual virt.mode) flat
 
 ends_flat : (m : Machine) → folds m.platform.virt ≡ false → try m ≡ try_under (own_or_walked m) m
 ends_flat m flat = let virt = m.platform.virt in
-    let own : second_of m ≡ bare ram_base (length m.ram) = ap (λ b. cond b (second_by (front m.spaces) virt.csrs.hs.status.mxr) (bare ram_base (length m.ram))) flat in
-    let same : second_now virt.csrs virt.mode ram_base m.ram ≡ second_of m = flat_now virt m.ram flat ∙ sym own in
+    let same : second_now virt.csrs virt.mode ram_base m.ram ≡ second_of m = flat_now virt m.ram flat ∙ sym (flat_is_ram m flat) in
     try_ruled m (second_of m) (own_or_walked m) (λ no_interrupt. core_ruled virt m.ram (second_of m) (λ u is absent.
     ap (λ (second : SecondStage). second u.address u.kind) same ∙ absent))
 

@@ -1,45 +1,23 @@
 -- Steps and runs after fills and after tries.
-use Rattle.std.proofs.Common.{◌++◌, append_assoc, cond, ◌≡◌, ℕ, zero, suc, ◌+◌, ◌-◌, ◌*◌, ◌<◌, ◌≤◌, ◌∙◌, Bool, true, false, Option, Some, None, refl, ap, sym, arith, zero-add}
+use Rattle.std.proofs.Common.{◌++◌, ◌≡◌, ℕ, zero, suc, ◌+◌, ◌-◌, ◌*◌, ◌<◌, ◌≤◌, ◌∙◌, Option, Some, None, refl, ap, sym, subst, arith}
 use Rattle.std.proofs.Math.Nat.{suc-mul}
 use Rattle.arch_defs.specs.declared.cached.Entry.{Entry}
+use Rattle.arch_defs.specs.declared.registers.Virtual.{Virtual}
 use Rattle.arch_defs.specs.Interrupts.{due}
 use Rattle.arch_defs.specs.Memory.{SecondStage, ram_base, reading_of}
-use Rattle.machine_defs.specs.declared.guests.Status.{Status}
 use Rattle.machine_defs.specs.declared.guests.Status.TheVariants as status
-use Rattle.machine_defs.specs.Core.{core}
-use Rattle.machine_defs.specs.Machine.{Machine, Tried, Ended, WaitsForGood, Outside}
 use Rattle.machine_defs.specs.Outcomes.{Outcome, Done, Trapped, Stuck, Called, Waits, Fenced, Accesses}
-use Rattle.arch_defs.specs.Inputs.{has_input}
-use Rattle.machine_defs.specs.Runs.{event_in, left_by}
-use Rattle.enough_tries.specs.Budgets.{BudgetIsSmall, FillGoes, FillIsNoEvent, TryGoes, TryIsEvent, budget}
-use Rattle.enough_tries.specs.Fills.{fill, fills, lacking, most_fills, ready}
-use Rattle.enough_tries.specs.Laws.{EventsCompose, RunsCompose, StepsGoOn, StepsSettle}
-use Rattle.enough_tries.specs.Steps.{events, events_by, left_after, run, step, step_within, stepped}
-use Rattle.enough_tries.specs.Tries.{concluded, second_of, tried_with, try, try_under}
+use Rattle.machine_defs.specs.Core.{core}
+use Rattle.machine_defs.specs.Fills.{fill, fills, most_fills, ready}
+use Rattle.machine_defs.specs.GuestAccesses.{Completes, GuestOutcome, Traps, guest_outcome}
+use Rattle.machine_defs.specs.Machine.{Ended, Machine, Tried, WaitsForGood, has_enabled_interrupt, waited_until}
+use Rattle.machine_defs.specs.Runs.{event_in, events, left_after, left_by, run, step}
+use Rattle.machine_defs.specs.Tries.{accessed_for_guest, concluded, second_of, tried_with, try, try_under}
+use Rattle.enough_tries.specs.Budgets.{BudgetIsSmall, FillGoes, FillIsNoEvent, Goes, ReadyStepIsTry, ReadyStepsGo, TryGoes, TryIsEvent, budget}
+use Rattle.enough_tries.specs.Laws.{StepsGoOn, StepsSettle}
+use Rattle.machine_defs.proofs.Cached.{either}
+use Rattle.machine_defs.proofs.Running.{events_running, run_more, step_running}
 use Rattle.enough_tries.proofs.Filling.{few_fills, fills_go_on, more_change_nothing, no_fills, none_left}
-
--- runs compose
-pub runs_compose : RunsCompose
-unfolding run
-runs_compose m zero b = ap (run m) (sym (zero-add b))
-runs_compose m (suc a) b = let e : suc a + b ≡ suc (a + b) = omega arith in rw e (runs_compose (step m) a b)
-
--- a run of more than no steps
-run_more : (m : Machine) (k : ℕ) → 0 < k → run m k ≡ run (step m) (k - 1)
-unfolding run
-run_more m zero some = absurd (omega arith)
-run_more m (suc k) some = let e : suc k - 1 ≡ k = omega arith in rw e refl
-
--- a step of a machine that goes on
-running : (m : Machine) (s : Status) → s ≡ status.Running → stepped m s ≡ step_within (most_fills m) m
-running m status.Running is = refl
-running m status.Waiting is = absurd cc
-running m status.Stopped is = absurd cc
-running m status.Outside is = absurd cc
-
-pub step_running : (m : Machine) → m.platform.status ≡ status.Running → step m ≡ left_after (ready m)
-unfolding step
-step_running m is = running m m.platform.status is
 
 -- more fills would not change it
 pub steps_settle : StepsSettle
@@ -50,23 +28,30 @@ pub steps_go_on : StepsGoOn
 steps_go_on m e room is lacks = step_running (fill m e) is ∙ ap left_after (fills_go_on m e room lacks).same ∙ sym (step_running m is)
 
 -- a step that lacks nothing is its try
-step_ready : (m : Machine) → m.platform.status ≡ status.Running → lacking m ≡ None → step m ≡ left_after m
+pub step_ready : ReadyStepIsTry
 step_ready m is none = step_running m is ∙ ap left_after (no_fills (most_fills m) m none)
 
 -- a try leaves the room for entries as it is
 abbrev HasRoom : ℕ → Tried → Type 0
 HasRoom room (Ended after event) = after.entry_room ≡ room
 HasRoom room WaitsForGood = Unit {0}
-HasRoom room Outside = Unit {0}
+
+waited_room : (m : Machine) (virt : Virtual) (moment : Option ℕ) → HasRoom m.entry_room (waited_until m virt moment)
+waited_room m virt (Some moment) = refl
+waited_room m virt None = tt
+
+accessed_room : (m : Machine) (o : GuestOutcome) → HasRoom m.entry_room (accessed_for_guest m o)
+accessed_room m (Completes virt stored) = refl
+accessed_room m (Traps trap) = refl
 
 concluded_room : (m : Machine) (o : Outcome) → HasRoom m.entry_room (concluded m o)
 concluded_room m (Done virt stored event) = refl
 concluded_room m (Trapped trap) = refl
 concluded_room m (Stuck unplaced) = refl
 concluded_room m Called = refl
-concluded_room m (Waits virt) = tt
+concluded_room m (Waits virt) = either (HasRoom m.entry_room) (has_enabled_interrupt m.platform.virt.csrs) _ _ refl (waited_room m virt _)
 concluded_room m (Fenced virt fence) = refl
-concluded_room m (Accesses access) = tt
+concluded_room m (Accesses access) = accessed_room m (guest_outcome ram_base m.ram m.platform.virt access)
 
 tried_room : (second : SecondStage) (m : Machine) (code : Option ℕ) → HasRoom m.entry_room (tried_with second m code)
 tried_room second m (Some code) = refl
@@ -74,16 +59,11 @@ tried_room second m None = concluded_room m (core second (reading_of ram_base m.
 
 try_room : (m : Machine) → HasRoom m.entry_room (try m)
 unfolding try_under
-try_room m = by (has_input m.platform.console.inputs m.platform.clock.time)
-  where
-    by : (b : Bool) → HasRoom m.entry_room (cond b Outside (tried_with (second_of m) m (due m.platform.virt.csrs m.platform.virt.mode)))
-    by true = tt
-    by false = tried_room (second_of m) m (due m.platform.virt.csrs m.platform.virt.mode)
+try_room m = tried_room (second_of m) m (due m.platform.virt.csrs m.platform.virt.mode)
 
 left_room : (m : Machine) (t : Tried) → HasRoom m.entry_room t → (left_by m t).entry_room ≡ m.entry_room
 left_room m (Ended after event) room = room
 left_room m WaitsForGood room = refl
-left_room m Outside room = refl
 
 -- what one try leaves of a run: a fill leaves all steps
 fill_budget : (m : Machine) (e : Entry) (k : ℕ) → 0 < k → fills (most_fills m) m ≡ fills (most_fills m) (fill m e) + 1 → budget (fill m e) k + 1 ≤ budget m k
@@ -124,32 +104,41 @@ try_goes m k room some is lacks = let same = left_room m (try m) (try_room m) in
   room = same;
 }
 
--- events compose
-pub events_compose : EventsCompose
-unfolding run events
-events_compose m zero b = ap (events m) (sym (zero-add b))
-events_compose m (suc a) b = let e : suc a + b ≡ suc (a + b) = omega arith in
-    rw (e, append_assoc) (ap (λ rest. events_by m m.platform.status ++ rest) (events_compose (step m) a b))
+-- several steps that lack nothing
+then_goes : (m next last : Machine) (k left rest : ℕ) → Goes m k next left → Goes next left last rest → Goes m k last rest
+then_goes m next last k left rest one more = let first = one.fewer in let second = more.fewer in record {
+  ran = more.ran ∙ one.ran;
+  fewer = omega (arith, first, second);
+  room = more.room ∙ one.room;
+}
 
-running_events : (m : Machine) (s : Status) → s ≡ status.Running → events_by m s ≡ event_in (try (ready m))
-running_events m status.Running is = refl
-running_events m status.Waiting is = absurd cc
-running_events m status.Stopped is = absurd cc
-running_events m status.Outside is = absurd cc
+pub ready_steps_go : ReadyStepsGo
+unfolding run
+ready_steps_go m zero k room some few ready = absurd (omega arith)
+ready_steps_go m (suc zero) k room some few ready = let at = ready 0 (omega arith) in
+    subst (λ next. Goes m k next (k - 1)) (sym (step_ready m at.0 at.1)) (try_goes m k room (omega arith) at.0 at.1)
+ready_steps_go m (suc (suc n)) k room some few ready =
+    let at = ready 0 (omega arith) in
+    let one : Goes m k (step m) (k - 1) = subst (λ next. Goes m k next (k - 1)) (sym (step_ready m at.0 at.1)) (try_goes m k room (omega arith) at.0 at.1) in
+    let room_after : 8 ≤ (step m).entry_room = subst (λ n. 8 ≤ n) (sym one.room) room in
+    let rest = ready_steps_go (step m) (suc n) (k - 1) room_after (omega arith) (omega arith) (λ i below. ready (suc i) (omega arith)) in
+    let left : k - 1 - suc n ≡ k - suc (suc n) = omega arith in
+    subst (λ left. Goes m k (run (step m) (suc n)) left) left (then_goes m (step m) (run (step m) (suc n)) k (k - 1) (k - 1 - suc n) one rest)
 
-events_more : (m : Machine) (k : ℕ) → m.platform.status ≡ status.Running → events m (suc k) ≡ event_in (try (ready m)) ++ events (step m) k
+-- the events of a run, a fill being none
+more_events : (m : Machine) (k : ℕ) → m.platform.status ≡ status.Running → events m (suc k) ≡ event_in (try (ready m)) ++ events (step m) k
 unfolding events
-events_more m k is = ap (λ es. es ++ events (step m) k) (running_events m m.platform.status is)
+more_events m k is = ap (λ es. es ++ events (step m) k) (events_running m is)
 
 pub fill_is_no_event : FillIsNoEvent
 unfolding events
 fill_is_no_event m e zero room is lacks = refl
-fill_is_no_event m e (suc k) room is lacks = events_more (fill m e) k is
+fill_is_no_event m e (suc k) room is lacks = more_events (fill m e) k is
     ∙ ap (λ last. event_in (try last) ++ events (step (fill m e)) k) (fills_go_on m e room lacks).same
-    ∙ ap (λ next. event_in (try (ready m)) ++ events next k) (steps_go_on m e room is lacks) ∙ sym (events_more m k is)
+    ∙ ap (λ next. event_in (try (ready m)) ++ events next k) (steps_go_on m e room is lacks) ∙ sym (more_events m k is)
 
 pub try_is_event : TryIsEvent
 try_is_event m zero some is lacks = absurd (omega arith)
 try_is_event m (suc k) some is lacks = let e : suc k - 1 ≡ k = omega arith in
-    rw e (events_more m k is ∙ ap (λ last. event_in (try last) ++ events (step m) k) (no_fills (most_fills m) m lacks)
+    rw e (more_events m k is ∙ ap (λ last. event_in (try last) ++ events (step m) k) (no_fills (most_fills m) m lacks)
     ∙ ap (λ next. event_in (try m) ++ events next k) (step_ready m is lacks))

@@ -26,13 +26,15 @@ use Rattle.arch_defs.specs.declared.walks.WalkEnd.{WalkEnd}
 use Rattle.arch_defs.specs.declared.walks.WalkEnd.TheVariants.{Leaf, PageFault, FetchEnd}
 use Rattle.arch_defs.specs.Memory.{ram_base}
 use Rattle.arch_defs.specs.Permits.{has_right, permits_second}
-use Rattle.arch_defs.specs.SecondStage.{guest_end, guest_root_frame, guest_walk, has_frame_of, memory_words, place_under, second_under}
+use Rattle.arch_defs.specs.declared.walks.Unplaced.{Unplaced}
+use Rattle.arch_defs.specs.SecondStage.{guest_end, guest_root_frame, guest_walk, has_frame_of, memory_words, place_under, second_root_of, second_under, unplaced_by, unplaced_trap, unplaced_under}
 use Rattle.arch_defs.specs.Traps.{is_virtual}
 use Rattle.arch_defs.specs.TableEntries.{entry_next, is_aligned, is_leaf, is_marked, is_valid, leaf_entry, needs_dirty, pointer_next, table_entry}
 use Rattle.arch_defs.specs.Walk.{EntryReading, end_of, index, index_bits, is_canonical, later, leaf_address, levels, met_in, next_of, or_else, path, path_from, place_of, read_next, walk}
 use Rattle.arch_defs.specs.CachedEntries.{leaf_of, place_by}
 use Rattle.arch_defs.specs.WalkedEntries.{entry_by_end, entry_by_table, entry_now, entry_under, is_table}
-use Rattle.enough_tries.specs.Laws.{FillsAreWalks, FillsServeThePage}
+use Rattle.machine_defs.proofs.Cached.{IsGiven, given}
+use Rattle.enough_tries.specs.Laws.{FillsAreWalks, FillsServeThePage, PageHasOneEntry}
 
 -- what another kind of access needs of a leaf
 abbrev Suits : Access → LeafEntry → Type 0
@@ -180,32 +182,20 @@ now_same csrs ram a b kind same = by csrs.hgatp
     by (root.Sv39x4 vmid page) = rw (guest_same ram_base ram csrs.hs.status.mxr page a b kind same)
         (by_end (guest_walk ram_base ram csrs.hs.status.mxr page b kind))
 
--- what an entry of now comes from
-pub record IsGiven (mxr : Bool) (ram : List ℕ) (page address : ℕ) (kind : Access) (e : Entry) (leaf : LeafEntry) : Type 0 where
-  pub walked : walk (memory_words ram_base ram) (guest_root_frame page) Sv39x4 address kind ≡ Leaf leaf
-  pub permits : permits_second mxr kind leaf ≡ true
-  pub inside : has_frame_of ram_base ram (leaf_address leaf address) ≡ true
-  pub is : e ≡ entry_under leaf address
-
-pub given : (mxr : Bool) (ram : List ℕ) (page address : ℕ) (kind : Access) (e : Entry) → entry_by_end address (guest_walk ram_base ram mxr page address kind) ≡ Some e
-    → (leaf : LeafEntry) × IsGiven mxr ram page address kind e leaf
-unfolding guest_walk
-given mxr ram page address kind e is = by (walk (memory_words ram_base ram) (guest_root_frame page) Sv39x4 address kind) refl is
+-- and one fault, whose trap tells the address without its low two bits
+pub trap_same : (csrs : Csrs) (ram : List ℕ) (u : Unplaced) (a : ℕ) → a / 4096 ≡ u.address / 4096 → a / 4 ≡ u.address / 4
+    → unplaced_trap csrs ram_base ram (record u { address = a }) ≡ unplaced_trap csrs ram_base ram u
+trap_same csrs ram u a page same = by (second_root_of csrs u.mode)
   where
-    at : (leaf : LeafEntry) (permits inside : Bool) → permits_second mxr kind leaf ≡ permits → has_frame_of ram_base ram (leaf_address leaf address) ≡ inside
-        → walk (memory_words ram_base ram) (guest_root_frame page) Sv39x4 address kind ≡ Leaf leaf
-        → entry_by_end address (cond (not permits) GuestPageFault (cond inside (guest.Leaf leaf) AccessFault)) ≡ Some e
-        → (leaf : LeafEntry) × IsGiven mxr ram page address kind e leaf
-    at leaf true true permitted in_ram ends found = let same : e ≡ entry_under leaf address = cc in
-        (leaf, record { walked = ends; permits = permitted; inside = in_ram; is = same })
-    at leaf true false permitted in_ram ends found = absurd cc
-    at leaf false inside permitted in_ram ends found = absurd cc
+    by_end : (end : GuestWalkEnd) → unplaced_by (record u { address = a }) end ≡ unplaced_by u end
+    by_end (guest.Leaf leaf) = refl
+    by_end GuestPageFault = rw same refl
+    by_end AccessFault = refl
 
-    by : (end : WalkEnd) → walk (memory_words ram_base ram) (guest_root_frame page) Sv39x4 address kind ≡ end
-        → entry_by_end address (guest_end ram_base ram mxr address kind end) ≡ Some e → (leaf : LeafEntry) × IsGiven mxr ram page address kind e leaf
-    by (Leaf leaf) ends found = at leaf (permits_second mxr kind leaf) (has_frame_of ram_base ram (leaf_address leaf address)) refl refl ends found
-    by PageFault ends found = absurd cc
-    by (FetchEnd place trap) ends found = absurd cc
+    by : (hgatp : GuestRoot) → unplaced_under ram_base ram csrs.hs.status.mxr (record u { address = a }) hgatp ≡ unplaced_under ram_base ram csrs.hs.status.mxr u hgatp
+    by root.Bare = refl
+    by (root.Sv39x4 vmid table) = rw (guest_same ram_base ram csrs.hs.status.mxr table a u.address u.kind page)
+        (by_end (guest_walk ram_base ram csrs.hs.status.mxr table u.address u.kind))
 
 back : (mxr : Bool) (ram : List ℕ) (page address : ℕ) (kind : Access) (e : Entry) (leaf : LeafEntry) → IsGiven mxr ram page address kind e leaf
     → entry_by_end address (guest_walk ram_base ram mxr page address kind) ≡ Some e
@@ -342,6 +332,9 @@ fills_are_walks virt ram address kind folding = by virt.csrs.hgatp (is_virtual v
     by root.Bare false is = absurd cc
 
 -- for each access to the page
+pub page_has_one_entry : PageHasOneEntry
+page_has_one_entry csrs ram address other kind page = now_same csrs ram other address kind page
+
 pub fills_serve_the_page : FillsServeThePage
 fills_serve_the_page virt ram address other kind other_kind e folding found page =
     by (entry_now virt.csrs ram other other_kind) refl ∙ fills_are_walks virt ram other other_kind folding

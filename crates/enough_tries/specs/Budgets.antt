@@ -2,11 +2,10 @@
 use Rattle.std.specs.Prelude.{ℕ, zero, suc, ◌≡◌, ◌+◌, ◌-◌, ◌*◌, ◌<◌, ◌≤◌, ◌++◌, Some, None}
 use Rattle.arch_defs.specs.declared.cached.Entry.{Entry}
 use Rattle.machine_defs.specs.declared.guests.Status.TheVariants.{Running}
+use Rattle.machine_defs.specs.Fills.{fill, fills, lacking, most_fills, needed}
 use Rattle.machine_defs.specs.Machine.{Machine}
-use Rattle.machine_defs.specs.Runs.{event_in}
-use Rattle.enough_tries.specs.Fills.{fill, fills, lacking, most_fills, needed}
-use Rattle.enough_tries.specs.Steps.{events, left_after, run}
-use Rattle.enough_tries.specs.Tries.{try}
+use Rattle.machine_defs.specs.Runs.{event_in, events, left_after, run, step}
+use Rattle.machine_defs.specs.Tries.{try}
 
 -- at most how many tries k steps of a machine still take: the fills of the next step and its last try, and
 -- for each later step as many fills as a step may make, and its last try
@@ -30,6 +29,18 @@ FillGoes = (m : Machine) (e : Entry) (k : ℕ) → needed ≤ m.entry_room → 0
 abbrev pub TryGoes : Type 0
 TryGoes = (m : Machine) (k : ℕ) → needed ≤ m.entry_room → 0 < k → m.platform.status ≡ Running
     → lacking m ≡ None → Goes m k (left_after m) (k - 1)
+
+-- the step of a machine that lacks none is its try
+abbrev pub ReadyStepIsTry : Type 0
+ReadyStepIsTry = (m : Machine) → m.platform.status ≡ Running → lacking m ≡ None → step m ≡ left_after m
+
+-- so many steps that are made, and before which none is lacking, leave as many steps less
+abbrev pub NeedNoFill : ℕ → Machine → Type 0
+NeedNoFill n m = (i : ℕ) → i < n → ((run m i).platform.status ≡ Running) × (lacking (run m i) ≡ None)
+
+abbrev pub ReadyStepsGo : Type 0
+ReadyStepsGo = (m : Machine) (n k : ℕ) → needed ≤ m.entry_room → 0 < n → n ≤ k → NeedNoFill n m
+    → Goes m k (run m n) (k - n)
 
 -- k steps take at most k times as many tries as a space has room for entries, and nine
 abbrev pub BudgetIsSmall : Type 0

@@ -1,5 +1,5 @@
 -- Laws of fills and of steps.
-use Rattle.std.specs.Prelude.{ℕ, ◌≡◌, ◌+◌, ◌*◌, ◌/◌, ◌≤◌, true, false, List, ◌++◌, Option, Some, None, length}
+use Rattle.std.specs.Prelude.{ℕ, ◌≡◌, ◌+◌, ◌*◌, ◌/◌, ◌≤◌, true, false, List, Option, Some, None, length}
 use Rattle.std.specs.Option.{option_or}
 use Rattle.arch_defs.specs.declared.cached.Entry.{Entry}
 use Rattle.arch_defs.specs.declared.cached.Fence.{Fence}
@@ -7,24 +7,40 @@ use Rattle.arch_defs.specs.declared.modes.Access.{Access}
 use Rattle.arch_defs.specs.declared.registers.Csrs.{Csrs}
 use Rattle.arch_defs.specs.declared.registers.Virtual.{Virtual}
 use Rattle.arch_defs.specs.declared.walks.Unplaced.{Unplaced}
+use Rattle.arch_defs.specs.CachedEntries.{CanFill, entry_at, leaf_of, place_by, second_by}
 use Rattle.arch_defs.specs.Interrupts.{due}
-use Rattle.arch_defs.specs.Memory.{SecondStage, block_size, ram_base, reading_of}
+use Rattle.arch_defs.specs.Memory.{SecondStage, bare, block_size, ram_base, reading_of}
+use Rattle.arch_defs.specs.Permits.{permits_second}
 use Rattle.arch_defs.specs.SecondStage.{second_now}
+use Rattle.arch_defs.specs.Spaces.{Space, fenced, front}
+use Rattle.arch_defs.specs.Walk.{leaf_address}
+use Rattle.arch_defs.specs.WalkedEntries.{entry_now, folds}
 use Rattle.machine_defs.specs.declared.events.Event.{Event}
 use Rattle.machine_defs.specs.declared.guests.GuestSpec.{GuestSpec}
 use Rattle.machine_defs.specs.declared.guests.Status.TheVariants.{Running}
 use Rattle.machine_defs.specs.Core.{core}
+use Rattle.machine_defs.specs.Fills.{after_fills, fill, fills, lacking, lacking_at, most_fills, needed, ready}
 use Rattle.machine_defs.specs.Machine.{Machine, Ended, start}
-use Rattle.arch_defs.specs.Spaces.{Space}
 use Rattle.machine_defs.specs.Outcomes.{Stuck}
-use Rattle.machine_defs.specs.Runs.{left_by}
-use Rattle.arch_defs.specs.CachedEntries.{CanFill, place_by}
-use Rattle.enough_tries.specs.Fills.{after_fills, fill, fills, lacking, lacking_at, most_fills, needed, ready}
-use Rattle.arch_defs.specs.WalkedEntries.{entry_now, folds}
+use Rattle.machine_defs.specs.Runs.{left_by, run, step, step_within}
+use Rattle.machine_defs.specs.Tries.{fence_under, second_of, spaces_after, try, try_under}
 use Rattle.enough_tries.specs.Keeping.{IsOrderly}
-use Rattle.enough_tries.specs.Spaces.{cut}
-use Rattle.enough_tries.specs.Steps.{events, run, step, step_within}
-use Rattle.enough_tries.specs.Tries.{fence_under, second_of, spaces_after, try, try_under}
+
+-- while a machine folds, its second stage is by the entries of the front space
+abbrev pub FoldsByFront : Type 0
+FoldsByFront = (m : Machine) → folds m.platform.virt ≡ true
+    → second_of m ≡ second_by (front m.spaces) m.platform.virt.csrs.hs.status.mxr
+
+-- the entry of an address's page, if it permits the access, gives its place
+abbrev pub FrontGivesPlaces : Type 0
+FrontGivesPlaces = (m : Machine) (address : ℕ) (kind : Access) (e : Entry) → folds m.platform.virt ≡ true
+    → entry_at (address / 4096) (front m.spaces) ≡ Some e
+    → permits_second m.platform.virt.csrs.hs.status.mxr kind (leaf_of e) ≡ true
+    → second_of m address kind ≡ Some (leaf_address (leaf_of e) address)
+
+-- and else it is RAM as it is
+abbrev pub FlatIsRam : Type 0
+FlatIsRam = (m : Machine) → folds m.platform.virt ≡ false → second_of m ≡ bare ram_base (length m.ram)
 
 -- what an orderly machine lacks is read off how its instruction ends under its own second stage
 abbrev pub LacksAreRead : Type 0
@@ -38,11 +54,11 @@ abbrev pub FlatLacksNothing : Type 0
 FlatLacksNothing = (m : Machine) → folds m.platform.virt ≡ false → lacking m ≡ None
 
 abbrev pub InterruptedLacksNothing : Type 0
-InterruptedLacksNothing = (m : Machine) (code : ℕ) → due m.platform.virt.csrs m.platform.virt.mode ≡ Some code
-    → lacking m ≡ None
+InterruptedLacksNothing = (m : Machine) (code : ℕ)
+    → due m.platform.virt.csrs m.platform.virt.mode ≡ Some code → lacking m ≡ None
 
--- where an orderly machine lacks nothing and yet its instruction stops, the walk of hgatp's table has no place
--- either: the fault that is taken is that of this walk
+-- where an orderly machine lacks nothing and yet its instruction stops, the walk of hgatp's table has no
+-- place either: the fault that is taken is that of this walk
 abbrev pub StopsAreFaults : Type 0
 StopsAreFaults = (m : Machine) (unplaced : Unplaced) → IsOrderly m → folds m.platform.virt ≡ true
     → due m.platform.virt.csrs m.platform.virt.mode ≡ None → lacking m ≡ None
@@ -91,7 +107,7 @@ StepsGoOn = (m : Machine) (e : Entry) → needed ≤ m.entry_room → m.platform
 -- the spaces that a try leaves: without what it names as a fence, or else after the entering of a space if it
 -- sets V and then folds, and in no other way changed
 abbrev pub spaces_left : Machine → Virtual → Option Fence → List Space
-spaces_left m after (Some fence) = cut fence m.spaces
+spaces_left m after (Some fence) = fenced fence m.spaces
 spaces_left m after None = spaces_after m after
 
 abbrev pub TriesChangeSpaces : Type 0
@@ -99,18 +115,16 @@ TriesChangeSpaces = (m after : Machine) (second : SecondStage) (event : Event)
     → try_under second m ≡ Ended after event
     → after.spaces ≡ spaces_left m after.platform.virt (fence_under second m)
 
--- a run of a and then of b is a run of a + b, and so are its events
-abbrev pub RunsCompose : Type 0
-RunsCompose = (m : Machine) (a b : ℕ) → run (run m a) b ≡ run m (a + b)
-
-abbrev pub EventsCompose : Type 0
-EventsCompose = (m : Machine) (a b : ℕ) → events m a ++ events (run m a) b ≡ events m (a + b)
-
 -- what is filled for an access gives it the place that the walk of hgatp's table gives it, as RAM is
 abbrev pub FillsAreWalks : Type 0
 FillsAreWalks = (virt : Virtual) (ram : List ℕ) (address : ℕ) (kind : Access) → folds virt ≡ true
     → place_by virt.csrs.hs.status.mxr address kind (entry_now virt.csrs ram address kind)
     ≡ second_now virt.csrs virt.mode ram_base ram address kind
+
+-- and is the same for each address of its page
+abbrev pub PageHasOneEntry : Type 0
+PageHasOneEntry = (csrs : Csrs) (ram : List ℕ) (address other : ℕ) (kind : Access)
+    → other / 4096 ≡ address / 4096 → entry_now csrs ram other kind ≡ entry_now csrs ram address kind
 
 -- what is filled for one access serves each other to the page, of whatever kind, as that walk does
 abbrev pub FillsServeThePage : Type 0

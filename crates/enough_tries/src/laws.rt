@@ -1,8 +1,16 @@
 // Laws of the definitions.
 
-ghost use Rattle.enough_tries.specs.Budgets.{BudgetIsSmall, FillGoes, FillIsNoEvent, TryGoes, TryIsEvent};
-ghost use Rattle.enough_tries.specs.Keeping.{StartIsOrderly, StaysInRam, StaysOrderly};
-ghost use Rattle.enough_tries.specs.Laws.{EventsCompose, FewFills, FillsAreWalks, FillsCanBeMade, FillsGoOn, FillsServeThePage, FillsSuffice, FillsSufficeForGuests, FlatLacksNothing, InterruptedLacksNothing, LacksAreRead, MoreChangeNothing, OnlySpaces, RunsCompose, StepsEndByRule, StepsGoOn, StepsSettle, StopsAreFaults, TriesChangeSpaces, TriesEndByRule};
+ghost use Rattle.enough_tries.specs.Budgets.{BudgetIsSmall, FillGoes, FillIsNoEvent, ReadyStepIsTry, ReadyStepsGo, TryGoes, TryIsEvent};
+ghost use Rattle.enough_tries.specs.Keeping.{FillStaysOrderly, StartIsOrderly, StaysOrderly, TryStaysOrderly};
+ghost use Rattle.enough_tries.specs.Laws.{FewFills, FillsAreWalks, FillsCanBeMade, FillsGoOn, FillsServeThePage, FillsSuffice, FillsSufficeForGuests, FlatIsRam, FlatLacksNothing, FoldsByFront, FrontGivesPlaces, InterruptedLacksNothing, LacksAreRead, MoreChangeNothing, OnlySpaces, PageHasOneEntry, StepsEndByRule, StepsGoOn, StepsSettle, StopsAreFaults, TriesChangeSpaces, TriesEndByRule};
+
+/// A machine folds while V is 1 and hgatp names a table. Then its accesses have their places by the entries
+/// of the front space, and else by RAM as it is.
+pub fn folds_by_the_front_space()
+    ensures folding { FoldsByFront }
+    ensures places { FrontGivesPlaces }
+    ensures flat { FlatIsRam }
+{}
 
 /// What a machine lacks, where it folds and no interrupt is due: what the walk of the guest's own table gives
 /// for the access at which its next instruction stops under the entries of the front space. Else nothing.
@@ -38,6 +46,8 @@ pub fn fills_go_on()
 pub fn tries_are_few()
     ensures filled { FillGoes }
     ensures tried { TryGoes }
+    ensures ready { ReadyStepIsTry }
+    ensures steps { ReadyStepsGo }
     ensures budget { BudgetIsSmall }
     ensures no_event { FillIsNoEvent }
     ensures event { TryIsEvent }
@@ -47,6 +57,7 @@ pub fn tries_are_few()
 /// placed by a cached entry that permits it, and else by that walk.
 pub fn steps_end_by_the_walk()
     ensures places { FillsAreWalks }
+    ensures same { PageHasOneEntry }
     ensures page { FillsServeThePage }
     ensures can { FillsCanBeMade }
     ensures tries { TriesEndByRule }
@@ -58,21 +69,12 @@ pub fn tries_change_spaces()
     ensures { TriesChangeSpaces }
 {}
 
-/// A run of `a` steps and then of `b` is a run of `a + b`, and so are its events.
-pub fn runs_compose()
-    ensures states { RunsCompose }
-    ensures events { EventsCompose }
-{}
-
-/// What a machine caches and reserves lies in its RAM, as long as it did so at first and RAM is of whole
-/// pages of 4,096 bytes, and RAM keeps its size.
-pub fn machines_stay_in_ram()
-    ensures { StaysInRam }
-{}
-
 /// A machine is orderly if it has room for a space and for eight entries, and, while it folds, has the space
-/// of hgatp in front. It is so at its start, if it has this room, and after a run of any number of steps.
+/// of hgatp in front. It is so at its start, if it has this room, after a fill, after a try, and after a run
+/// of any number of steps.
 pub fn machines_stay_orderly()
     ensures start { StartIsOrderly }
+    ensures filled { FillStaysOrderly }
+    ensures tried { TryStaysOrderly }
     ensures stays { StaysOrderly }
 {}

@@ -4,6 +4,6 @@
 mod laws;
 
 pub use laws::{
-    fills_go_on, fills_suffice, lacks_are_read, machines_stay_in_ram, machines_stay_orderly,
-    runs_compose, steps_end_by_the_walk, tries_are_few, tries_change_spaces,
+    fills_go_on, fills_suffice, folds_by_the_front_space, lacks_are_read, machines_stay_orderly,
+    steps_end_by_the_walk, tries_are_few, tries_change_spaces,
 };

@@ -5,19 +5,16 @@ use Rattle.arch_defs.specs.declared.registers.Virtual.{Virtual}
 use Rattle.arch_defs.specs.declared.widths.Width.{Width}
 use Rattle.arch_defs.specs.Memory.{Stored, with_stored}
 use Rattle.arch_defs.specs.Widths.{bytes_in}
-use Rattle.machine_defs.specs.declared.events.Event.TheVariants.{System}
-use Rattle.machine_defs.specs.Outcomes.{Outcome}
-use Rattle.machine_defs.specs.Outcomes as outcome
+use Rattle.machine_defs.specs.GuestAccesses.{GuestOutcome, Completes, Traps}
 use Rattle.hlv_hsv.specs.declared.accessing.Accessed.{Accessed}
 use Rattle.hlv_hsv.specs.declared.accessing.Accessed.TheVariants.{Done, Raise}
 
 -- an instruction over memory from a base on ended as its outcome says, by the answer, and the registers and
 -- memory after it: it was made, and memory has what it stores, if it stores anything; or it is to trap
-abbrev pub EndsAs : ℕ → List ℕ → Outcome → Accessed → Virtual → List ℕ → Type 0
+abbrev pub EndsAs : ℕ → List ℕ → GuestOutcome → Accessed → Virtual → List ℕ → Type 0
 EndsAs base bytes ends Done state after =
-    (stored : Option Stored) × (ends ≡ outcome.Done state stored System)
-    × (after ≡ with_stored base stored bytes)
-EndsAs base bytes ends (Raise trap) state after = ends ≡ outcome.Trapped trap
+    (stored : Option Stored) × (ends ≡ Completes state stored) × (after ≡ with_stored base stored bytes)
+EndsAs base bytes ends (Raise trap) state after = ends ≡ Traps trap
 
 -- the answer, of the functions inside
 abbrev pub told : Result (Unit {0}) Trap → Accessed

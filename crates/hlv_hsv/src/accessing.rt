@@ -3,11 +3,9 @@
 ghost use Rattle.std.specs.Prelude.{◌≡◌, ◌⊎◌, OnErr, length};
 ghost use Rattle.arch_defs.specs.declared.modes.Access.TheVariants.{Store};
 ghost use Rattle.arch_defs.specs.Memory.{reading_of};
-ghost use Rattle.machine_defs.specs.declared.events.Event.TheVariants.{System};
-ghost use Rattle.machine_defs.specs.Core.{ended, loaded_at, stored_at};
+ghost use Rattle.machine_defs.specs.GuestAccesses.{guest_answer, guest_outcome, loaded_for_guest, stored_for_guest};
 ghost use Rattle.two_stage_walk.specs.Places.{IsWhole};
 ghost use Rattle.hlv_hsv.specs.Ends.{EndsAs, IfRaised, told};
-ghost use Rattle.machine_defs.specs.GuestAccesses.{guest_accessed, guest_outcome, trapped_by_walk};
 
 use crate::places::{guest_place, read_at, write_at};
 use arch_defs::{Access, Reg, Trap, Virtual, Width, extend};
@@ -37,9 +35,8 @@ fn load<M: Mem>(
     requires backed { M.is_backed mem.now }
     requires whole { IsWhole (M.base mem.now) (M.bytes mem.now) }
     ensures ends { EndsAs (M.base mem.now) (M.bytes mem.now)
-        (trapped_by_walk state.old.csrs (M.base mem.now) (M.bytes mem.now) (ended System
-        (loaded_at (reading_of (M.base mem.now) (M.bytes mem.now)) state.old width signed rd
-        (guest_accessed (M.base mem.now) (M.bytes mem.now) state.old.csrs address width access))))
+        (loaded_for_guest (reading_of (M.base mem.now) (M.bytes mem.now)) state.old width signed rd
+        (guest_answer (M.base mem.now) (M.bytes mem.now) state.old.csrs address width access))
         (told result) state.new (M.bytes mem.now) }
     ensures stays { OnErr result (state.new ≡ state.old) }
 {
@@ -60,9 +57,8 @@ fn store<M: Mem>(
     requires backed { M.is_backed mem.old }
     requires whole { IsWhole (M.base mem.old) (M.bytes mem.old) }
     ensures ends { EndsAs (M.base mem.old) (M.bytes mem.old)
-        (trapped_by_walk state.old.csrs (M.base mem.old) (M.bytes mem.old) (ended System
-        (stored_at state.old width value
-        (guest_accessed (M.base mem.old) (M.bytes mem.old) state.old.csrs address width Store))))
+        (stored_for_guest state.old width value
+        (guest_answer (M.base mem.old) (M.bytes mem.old) state.old.csrs address width Store))
         (told result) state.new (M.bytes mem.new) }
     ensures stays { OnErr result ((state.new ≡ state.old) × (mem.new ≡ mem.old)) }
     ensures size { length (M.bytes mem.new) ≡ length (M.bytes mem.old) }

@@ -1,13 +1,12 @@
 // Where in memory an access of HLV, HLVX or HSV is made, and what is read and written there.
 
-ghost use Rattle.std.specs.Prelude.{◌≡◌, ◌%◌, ◌==◌, Some, IfOk, length};
+ghost use Rattle.std.specs.Prelude.{◌≡◌, ◌%◌, ◌==◌, IfOk, length};
 ghost use Rattle.arch_defs.specs.Memory.{reading_of, with_stored};
 ghost use Rattle.arch_defs.specs.Widths.{bytes_in};
 ghost use Rattle.machine_defs.specs.Core.{storing};
-ghost use Rattle.two_stage_walk.specs.Answers.{answer_of};
+ghost use Rattle.machine_defs.specs.GuestAccesses.{guest_answer, guest_mode};
 ghost use Rattle.two_stage_walk.specs.Places.{IsWhole};
 ghost use Rattle.hlv_hsv.specs.Ends.{IsPlaceFor};
-ghost use Rattle.machine_defs.specs.GuestAccesses.{guest_accessed, guest_mode};
 
 use arch_defs::{Access, Csrs, Mode, Trap, Virtual, Width};
 use phys_mem::Mem;
@@ -43,9 +42,8 @@ pub fn guest_place<M: Mem>(
 ) -> Result<u64, Trap>
     requires backed { M.is_backed mem.now }
     requires whole { IsWhole (M.base mem.now) (M.bytes mem.now) }
-    ensures answer { answer_of state.now.csrs (M.base mem.now) (M.bytes mem.now)
-        (guest_accessed (M.base mem.now) (M.bytes mem.now) state.now.csrs va width access)
-        ≡ Some result }
+    ensures answer { result
+        ≡ guest_answer (M.base mem.now) (M.bytes mem.now) state.now.csrs va width access }
     ensures place { IfOk result (λ place. IsPlaceFor (M.base mem.now) (M.bytes mem.now) width place) }
 {
     let mode = guest_mode(&state.csrs);

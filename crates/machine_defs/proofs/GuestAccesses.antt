@@ -6,7 +6,6 @@ use Rattle.arch_defs.specs.declared.guest_walks.GuestWalkEnd.TheVariants.{GuestP
 use Rattle.arch_defs.specs.declared.guest_walks.GuestWalkEnd.TheVariants as guest
 use Rattle.arch_defs.specs.declared.modes.Access.{Access}
 use Rattle.arch_defs.specs.declared.modes.Access.TheVariants.{ExecLoad, Load, Store}
-use Rattle.arch_defs.specs.declared.registers.Csrs.{Csrs}
 use Rattle.arch_defs.specs.declared.registers.GuestRoot.{GuestRoot}
 use Rattle.arch_defs.specs.declared.registers.GuestRoot.TheVariants as root
 use Rattle.arch_defs.specs.declared.registers.Virtual.{Virtual}
@@ -16,18 +15,18 @@ use Rattle.arch_defs.specs.declared.walks.WalkEnd.TheVariants.{Leaf, PageFault, 
 use Rattle.arch_defs.specs.declared.widths.Width.{Width}
 use Rattle.arch_defs.specs.Memory.{bare, reading_of}
 use Rattle.arch_defs.specs.Permits.{permits_second}
-use Rattle.arch_defs.specs.SecondStage.{guest_end, guest_root_frame, guest_walk, has_frame_of, memory_words, place_under, second_now, second_root_of, second_under}
+use Rattle.arch_defs.specs.SecondStage.{guest_end, guest_root_frame, guest_walk, has_frame_of, memory_words, place_under, second_root_of, second_under}
 use Rattle.arch_defs.specs.Walk.{leaf_address, walk}
+use Rattle.arch_defs.specs.Widths.{bytes_in}
 use Rattle.op_defs.specs.declared.ops.GuestAccess.{GuestAccess}
 use Rattle.op_defs.specs.declared.ops.GuestAccess.TheVariants.{Loads, LoadsCode, Stores}
-use Rattle.machine_defs.specs.declared.events.Event.TheVariants.{System}
-use Rattle.machine_defs.specs.Core.{accessed, ended, loaded_at, stored_at}
-use Rattle.machine_defs.specs.GuestAccesses.{guest_mode, guest_outcome, trapped_by_walk}
-use Rattle.machine_defs.specs.Outcomes.{Outcome, Done, Trapped, Stuck, Called, Waits, Fenced, Accesses}
-use Rattle.machine_defs.specs.Renaming.{GivesHeld, LeavesHeld, Places, ReservesHeld}
+use Rattle.machine_defs.specs.Answers.{answer_of}
+use Rattle.machine_defs.specs.Core.{Located, At, Fails}
+use Rattle.machine_defs.specs.GuestAccesses.{GuestOutcome, Completes, Traps, guest_accessed, guest_mode, guest_outcome, loaded_for_guest, stored_for_guest}
+use Rattle.machine_defs.specs.Renaming.{GivesHeld, Places, ReservesHeld, StoresHeld}
 use Rattle.machine_defs.specs.Reservations.{places_from}
-use Rattle.machine_defs.proofs.Placed.{accessed_alike, leaf_keeps}
-use Rattle.machine_defs.proofs.Renaming.{ended_alike, loaded_alike, stored_alike, unchanged}
+use Rattle.machine_defs.proofs.Placed.{LocatedAlike, accessed_alike, leaf_keeps}
+use Rattle.machine_defs.proofs.Renaming.{unchanged}
 
 -- a place in a frame of memory is in memory
 in_frame : (base place size : ℕ) → (nat_le base (place / 4096 * 4096) && nat_le (place / 4096 * 4096 + 4096) (base + size)) ≡ true → places_from base size place ≡ true
@@ -51,7 +50,7 @@ end_held base bytes mxr address kind place (Leaf leaf) is = by (permits_second m
 end_held base bytes mxr address kind place PageFault is = absurd cc
 end_held base bytes mxr address kind place (FetchEnd at trap) is = absurd cc
 
-bare_held : (base size : ℕ) → GivesHeld (places_from base size) (bare base size)
+pub bare_held : (base size : ℕ) → GivesHeld (places_from base size) (bare base size)
 bare_held base size address place access is = by (places_from base size address) refl is
   where
     by : (b : Bool) → places_from base size address ≡ b → cond b (Some address) None ≡ Some place → (places_from base size place ≡ true) × (place % 4096 ≡ address % 4096)
@@ -65,33 +64,25 @@ under_held base bytes mxr (root.Sv39x4 vmid page) = λ address place access is.
     end_held base bytes mxr address access place (walk (memory_words base bytes) (guest_root_frame page) Sv39x4 address access) is
 
 -- so the instruction stores in memory alone, and leaves what is reserved
-load_held : (base : ℕ) (bytes : List ℕ) (s : Virtual) → ReservesHeld (places_from base (length bytes)) s.reservation → (va : ℕ) (width : Width) (access : Access)
-    (signed : Bool) (rd : ℕ) → LeavesHeld (places_from base (length bytes)) (ended System (loaded_at (reading_of base bytes) s width signed rd
-    (accessed (second_now s.csrs (guest_mode s.csrs) base bytes) (reading_of base bytes) s.csrs (guest_mode s.csrs) va width access)))
-load_held base bytes s kept va width access signed rd =
-    let r = unchanged (reading_of base bytes) (under_held base bytes s.csrs.hs.status.mxr (second_root_of s.csrs (guest_mode s.csrs))) in
-    (ended_alike (λ p. p) (places_from base (length bytes)) System _ _
-    (loaded_alike r s kept width signed rd _ _ (accessed_alike r s.csrs (guest_mode s.csrs) va width access))).1
+abbrev pub CompletesHeld : Places → GuestOutcome → Type 0
+CompletesHeld held (Completes s stored) = StoresHeld held stored × ReservesHeld held s.reservation
+CompletesHeld held (Traps trap) = Unit {0}
 
-store_held : (base : ℕ) (bytes : List ℕ) (s : Virtual) → ReservesHeld (places_from base (length bytes)) s.reservation → (va : ℕ) (width : Width) (value : ℕ)
-    → LeavesHeld (places_from base (length bytes)) (ended System (stored_at s width value
-    (accessed (second_now s.csrs (guest_mode s.csrs) base bytes) (reading_of base bytes) s.csrs (guest_mode s.csrs) va width Store)))
-store_held base bytes s kept va width value =
-    let r = unchanged (reading_of base bytes) (under_held base bytes s.csrs.hs.status.mxr (second_root_of s.csrs (guest_mode s.csrs))) in
-    (ended_alike (λ p. p) (places_from base (length bytes)) System _ _
-    (stored_alike (λ p. p) (places_from base (length bytes)) s kept width value _ _ (accessed_alike r s.csrs (guest_mode s.csrs) va width Store))).1
+loaded_held : (held : Places) (base : ℕ) (bytes : List ℕ) (s : Virtual) → ReservesHeld held s.reservation → (width : Width) (signed : Bool) (rd : ℕ)
+    (a : Located) → CompletesHeld held (loaded_for_guest (reading_of base bytes) s width signed rd (answer_of s.csrs base bytes a))
+loaded_held held base bytes s kept width signed rd (At place) = (tt, kept)
+loaded_held held base bytes s kept width signed rd (Fails failure) = tt
 
-by_walk : (held : Places) (csrs : Csrs) (base : ℕ) (bytes : List ℕ) (o : Outcome) → LeavesHeld held o → LeavesHeld held (trapped_by_walk csrs base bytes o)
-by_walk held csrs base bytes (Done s stored event) leaves = leaves
-by_walk held csrs base bytes (Trapped trap) leaves = leaves
-by_walk held csrs base bytes (Stuck unplaced) leaves = tt
-by_walk held csrs base bytes Called leaves = leaves
-by_walk held csrs base bytes (Waits s) leaves = leaves
-by_walk held csrs base bytes (Fenced s fence) leaves = leaves
-by_walk held csrs base bytes (Accesses access) leaves = leaves
+stored_held : (held : Places) (base : ℕ) (bytes : List ℕ) (s : Virtual) → ReservesHeld held s.reservation → (width : Width) (value : ℕ)
+    (a : Located) → LocatedAlike (λ p. p) held (bytes_in width) a a
+    → CompletesHeld held (stored_for_guest s width value (answer_of s.csrs base bytes a))
+stored_held held base bytes s kept width value (At place) (same, in_set, fits) = ((in_set, fits), kept)
+stored_held held base bytes s kept width value (Fails failure) alike = tt
 
 pub guest_held : (base : ℕ) (bytes : List ℕ) (s : Virtual) → ReservesHeld (places_from base (length bytes)) s.reservation → (access : GuestAccess)
-    → LeavesHeld (places_from base (length bytes)) (guest_outcome base bytes s access)
-guest_held base bytes s kept (Loads va width signed rd) = by_walk _ s.csrs base bytes _ (load_held base bytes s kept va width Load signed rd)
-guest_held base bytes s kept (LoadsCode va width rd) = by_walk _ s.csrs base bytes _ (load_held base bytes s kept va width ExecLoad false rd)
-guest_held base bytes s kept (Stores va width value) = by_walk _ s.csrs base bytes _ (store_held base bytes s kept va width value)
+    → CompletesHeld (places_from base (length bytes)) (guest_outcome base bytes s access)
+guest_held base bytes s kept (Loads va width signed rd) = loaded_held (places_from base (length bytes)) base bytes s kept width signed rd (guest_accessed base bytes s.csrs va width Load)
+guest_held base bytes s kept (LoadsCode va width rd) = loaded_held (places_from base (length bytes)) base bytes s kept width false rd (guest_accessed base bytes s.csrs va width ExecLoad)
+guest_held base bytes s kept (Stores va width value) =
+    let r = unchanged (reading_of base bytes) (under_held base bytes s.csrs.hs.status.mxr (second_root_of s.csrs (guest_mode s.csrs))) in
+    stored_held (places_from base (length bytes)) base bytes s kept width value _ (accessed_alike r s.csrs (guest_mode s.csrs) va width Store)

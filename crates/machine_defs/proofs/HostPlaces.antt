@@ -11,7 +11,7 @@ use Rattle.arch_defs.specs.Ram.{IsDistinct, SlicesLieIn, ram_of}
 use Rattle.arch_defs.proofs.FrameSets.{only_none, only_pasted}
 use Rattle.arch_defs.proofs.RamBlocks.{host_places_apart, place_named, ram_load, ram_pasted}
 use Rattle.arch_defs.proofs.SlicesOf.{slot}
-use Rattle.machine_defs.specs.HostPlaces.{OnlyRamChanges, RamIsRenamed, RamIsStored, memory_place, host_second, in_ram, ram_size}
+use Rattle.machine_defs.specs.HostPlaces.{OnlyRamChanges, PlacesAreRenamed, RamIsRenamed, RamIsStored, memory_place, host_second, in_ram, ram_size}
 use Rattle.machine_defs.specs.Renaming.{GivesHeld}
 
 -- a place of RAM is at or above its base and below its end
@@ -66,13 +66,17 @@ apart blocks distinct a b a_in b_in e =
     (host_places_apart blocks (a - ram_base) (b - ram_base) distinct
     (in_offset ram_base (ram_size blocks) a a_bounds.0 a_bounds.1) (in_offset ram_base (ram_size blocks) b b_bounds.0 b_bounds.1) e)
 
-pub ram_is_renamed : RamIsRenamed
-ram_is_renamed = λ blocks memory lie distinct. record {
-  places = places blocks;
-  inside = inside blocks;
+pub places_are_renamed : PlacesAreRenamed
+places_are_renamed = λ blocks memory own host lie distinct gives is. record {
+  places = is;
+  inside = gives;
   same = same blocks memory lie;
   apart = apart blocks distinct;
 }
+
+pub ram_is_renamed : RamIsRenamed
+ram_is_renamed = λ blocks memory lie distinct.
+    places_are_renamed blocks memory (bare ram_base (ram_size blocks)) (host_second blocks) lie distinct (inside blocks) (places blocks)
 
 -- what is stored in RAM
 pub ram_is_stored : RamIsStored

@@ -1,7 +1,9 @@
+pub mod Cached
+pub mod FrontSpaces
 pub mod GuestAccesses
 pub mod HostPlaces
+pub mod InRam
 pub mod Placed
 pub mod Renaming
-pub mod Reserving
 pub mod Running
 pub mod Walks

@@ -24,8 +24,8 @@ use Rattle.arch_defs.specs.Translation.{bank_of, entry_word_at, entry_words_thro
 use Rattle.arch_defs.specs.Traps.{exception, misaligned_fault}
 use Rattle.arch_defs.specs.Walk.{leaf_address, walk}
 use Rattle.arch_defs.specs.Widths.{bytes_in}
-use Rattle.machine_defs.specs.Core.{Located, At, Fails, accessed, located, located_at, located_by}
-use Rattle.machine_defs.specs.Outcomes.{Outcome, Trapped}
+use Rattle.machine_defs.specs.Core.{Faults, Located, At, Fails, accessed, failed, located, located_at, located_by}
+use Rattle.machine_defs.specs.Outcomes.{Outcome}
 use Rattle.machine_defs.specs.Renaming.{IsRenamed, LeavesHeld, Places, outcome_renamed}
 use Rattle.machine_defs.proofs.Walks.{walks_alike}
 
@@ -39,7 +39,7 @@ PlacedAlike h held n own host = (host ≡ h own) × (held own ≡ true) × (own 
 
 abbrev pub LocatedAlike : (ℕ → ℕ) → Places → ℕ → Located → Located → Type 0
 LocatedAlike h held n (At own) (At host) = PlacedAlike h held n own host
-LocatedAlike h held n (Fails own) (Fails host) = EndsAlike h held own host
+LocatedAlike h held n (Fails own) (Fails host) = EndsAlike h held (failed own) (failed host)
 LocatedAlike h held n (At own) (Fails host) = ⊥
 LocatedAlike h held n (Fails own) (At host) = ⊥
 
@@ -134,7 +134,7 @@ accessed_alike {h = h} {held = held} {own = own} {reading = reading} {host = hos
     by (va % bytes_in width == 0) (eqb-true (va % bytes_in width) 0)
   where
     by : (b : Bool) → (b ≡ true → va % bytes_in width ≡ 0)
-        → LocatedAlike h held (bytes_in width) (cond b (located own reading csrs mode va access) (Fails (Trapped (exception mode (misaligned_fault access) va))))
-        (cond b (located host other csrs mode va access) (Fails (Trapped (exception mode (misaligned_fault access) va))))
+        → LocatedAlike h held (bytes_in width) (cond b (located own reading csrs mode va access) (Fails (Faults (exception mode (misaligned_fault access) va))))
+        (cond b (located host other csrs mode va access) (Fails (Faults (exception mode (misaligned_fault access) va))))
     by true whole = located_alike r csrs mode va width access (whole refl)
     by false whole = (refl, tt)

@@ -1,9 +1,11 @@
 -- Laws of runs and of their events, in the forms that loops and callers need.
 use Rattle.std.proofs.Common.{◌≡◌, ◌≢◌, ℕ, zero, suc, ◌+◌, ◌-◌, ◌<◌, ◌≤◌, [], ◌++◌, refl, ap, sym, zero-add, append_assoc, arith}
 use Rattle.machine_defs.specs.declared.guests.Status.{Status}
-use Rattle.machine_defs.specs.declared.guests.Status.TheVariants.{Running, Waiting, Stopped, Outside}
-use Rattle.machine_defs.specs.Machine.{Machine, try}
-use Rattle.machine_defs.specs.Runs.{left_by, stepped, step, run, event_in, events_by, events}
+use Rattle.machine_defs.specs.declared.guests.Status.TheVariants.{Running, Waiting, Stopped}
+use Rattle.machine_defs.specs.Fills.{ready}
+use Rattle.machine_defs.specs.Machine.{Machine}
+use Rattle.machine_defs.specs.Runs.{left_after, stepped, step, run, event_in, events_by, events}
+use Rattle.machine_defs.specs.Tries.{try}
 
 -- a run of no steps, and of more
 pub run_none : (m : Machine) (k : ℕ) → k ≤ 0 → run m k ≡ m
@@ -38,26 +40,34 @@ events_compose m zero b = ap (events m) (sym (zero-add b))
 events_compose m (suc a) b = let e : suc a + b ≡ suc (a + b) = omega arith in
     rw (e, append_assoc) (ap (λ rest. events_by m m.platform.status ++ rest) (events_compose (step m) a b))
 
--- a step of a running machine is its try
-pub step_running : (m : Machine) → m.platform.status ≡ Running → step m ≡ left_by m (try m)
-unfolding step
-step_running m h = rw h refl
+-- a step of a running machine is its fills and its last try
+running : (m : Machine) (s : Status) → s ≡ Running → stepped m s ≡ left_after (ready m)
+running m Running is = refl
+running m Waiting is = absurd cc
+running m Stopped is = absurd cc
 
-pub events_running : (m : Machine) → m.platform.status ≡ Running → events_by m m.platform.status ≡ event_in (try m)
-events_running m h = rw h refl
+pub step_running : (m : Machine) → m.platform.status ≡ Running → step m ≡ left_after (ready m)
+unfolding step
+step_running m h = running m m.platform.status h
+
+running_events : (m : Machine) (s : Status) → s ≡ Running → events_by m s ≡ event_in (try (ready m))
+running_events m Running is = refl
+running_events m Waiting is = absurd cc
+running_events m Stopped is = absurd cc
+
+pub events_running : (m : Machine) → m.platform.status ≡ Running → events_by m m.platform.status ≡ event_in (try (ready m))
+events_running m h = running_events m m.platform.status h
 
 -- a machine that does not go on stays as it is
 stays : (m : Machine) (s : Status) → s ≢ Running → stepped m s ≡ m
 stays m Running h = absurd (h refl)
 stays m Waiting h = refl
 stays m Stopped h = refl
-stays m Outside h = refl
 
 quiet : (m : Machine) (s : Status) → s ≢ Running → events_by m s ≡ []
 quiet m Running h = absurd (h refl)
 quiet m Waiting h = refl
 quiet m Stopped h = refl
-quiet m Outside h = refl
 
 pub step_idle : (m : Machine) → m.platform.status ≢ Running → step m ≡ m
 unfolding step
@@ -73,7 +83,7 @@ unfolding events
 events_idle m zero h = refl
 events_idle m (suc k) h = rw (quiet m m.platform.status h, step_idle m h) (events_idle m k h)
 
--- the rest of a run of k after i tries
+-- the rest of a run of k after i steps
 pub run_next : (m : Machine) (k i : ℕ) → i < k → run m (k - i) ≡ run (step m) (k - (i + 1))
 run_next m k i h = let e : k - i - 1 ≡ k - (i + 1) = omega arith in let some : 0 < k - i = omega arith in rw (run_more m (k - i) some, e) refl
 

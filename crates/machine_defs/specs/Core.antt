@@ -5,11 +5,13 @@ use Rattle.arch_defs.specs.declared.modes.Access.{Access}
 use Rattle.arch_defs.specs.declared.modes.Access.TheVariants.{Fetch, Load, Store, Implicit}
 use Rattle.arch_defs.specs.declared.modes.Mode.{Mode}
 use Rattle.arch_defs.specs.declared.modes.Mode.TheVariants.{HS, U, VS, VU}
+use Rattle.arch_defs.specs.declared.modes.Trap.{Trap}
 use Rattle.arch_defs.specs.declared.modes.TheConstants.{ILLEGAL_INSTRUCTION, ECALL_FROM_USER, ECALL_FROM_VS}
 use Rattle.arch_defs.specs.declared.registers.Csrs.{Csrs}
 use Rattle.arch_defs.specs.declared.registers.Virtual.{Virtual}
 use Rattle.arch_defs.specs.declared.walks.Found.{Found}
 use Rattle.arch_defs.specs.declared.walks.Found.TheVariants.{Passes, PageFaults, Lacks}
+use Rattle.arch_defs.specs.declared.walks.Unplaced.{Unplaced}
 use Rattle.arch_defs.specs.declared.widths.Width.{Width}
 use Rattle.arch_defs.specs.declared.widths.Width.TheVariants.{Word}
 use Rattle.arch_defs.specs.Memory.{Reading, SecondStage, Stored}
@@ -29,24 +31,34 @@ use Rattle.machine_defs.specs.declared.events.Event.TheVariants.{Plain, System}
 use Rattle.machine_defs.specs.Outcomes.{Outcome, Done, Trapped, Stuck, Called, sets}
 use Rattle.machine_defs.specs.Privileges.{privileged}
 
--- where in memory an access is made, or how the instruction ends without it
+-- why an access is not made: it is an exception, or the second stage has no place for it
+pub data Failure : Type 0 where
+  Faults : Trap → Failure
+  Misses : Unplaced → Failure
+
+-- where in memory an access is made, or why it is not
 pub data Located : Type 0 where
   At : ℕ → Located
-  Fails : Outcome → Located
+  Fails : Failure → Located
+
+-- how the instruction ends whose access is not made
+abbrev pub failed : Failure → Outcome
+failed (Faults trap) = Trapped trap
+failed (Misses unplaced) = Stuck unplaced
 
 -- by the second stage, for a guest physical address
 abbrev pub located_at : Mode → ℕ → Access → ℕ → Option ℕ → Located
 located_at mode va access address (Some place) = At place
 located_at mode va access address None =
-    Fails (Stuck (record { address = address; kind = access; access = access; va = va; mode = mode }))
+    Fails (Misses (record { address = address; kind = access; access = access; va = va; mode = mode }))
 
 -- by what the first stage made of the virtual address; a fault of an implicit access is one of the access
 -- that it serves
 abbrev pub located_by : SecondStage → Mode → ℕ → Access → Found → Located
 located_by second mode va access (Passes address) = located_at mode va access address (second address access)
-located_by second mode va access PageFaults = Fails (Trapped (exception mode (page_fault access) va))
+located_by second mode va access PageFaults = Fails (Faults (exception mode (page_fault access) va))
 located_by second mode va access (Lacks place) =
-    Fails (Stuck (record { address = place; kind = Implicit; access = access; va = va; mode = mode }))
+    Fails (Misses (record { address = place; kind = Implicit; access = access; va = va; mode = mode }))
 
 -- by both stages, as a mode
 abbrev pub located : SecondStage → Reading → Csrs → Mode → ℕ → Access → Located
@@ -58,7 +70,7 @@ located second reading csrs mode va access =
 abbrev pub accessed : SecondStage → Reading → Csrs → Mode → ℕ → Width → Access → Located
 accessed second reading csrs mode va width access =
     if va % bytes_in width == 0 then located second reading csrs mode va access
-    else Fails (Trapped (exception mode (misaligned_fault access) va))
+    else Fails (Faults (exception mode (misaligned_fault access) va))
 
 -- what an instruction leaves, or how it ends without that
 pub data Made : Type 0 where
@@ -73,12 +85,12 @@ storing place width value = Some (record { place = place; width = bytes_in width
 abbrev pub loaded_at : Reading → Virtual → Width → Bool → ℕ → Located → Made
 loaded_at reading state width signed rd (At place) =
     Leaves (sets state rd (extended width signed (reading place (bytes_in width)))) None
-loaded_at reading state width signed rd (Fails outcome) = Ends outcome
+loaded_at reading state width signed rd (Fails failure) = Ends (failed failure)
 
 -- a store
 abbrev pub stored_at : Virtual → Width → ℕ → Located → Made
 stored_at state width value (At place) = Leaves (sets state 0 0) (storing place width value)
-stored_at state width value (Fails outcome) = Ends outcome
+stored_at state width value (Fails failure) = Ends (failed failure)
 
 -- what is reserved after an instruction
 abbrev pub reserving : Virtual → Option (ℕ × ℕ) → Virtual
@@ -89,7 +101,7 @@ abbrev pub reserved_at : Reading → Virtual → Width → ℕ → Located → M
 reserved_at reading state width rd (At place) =
     let held = extended width true (reading place (bytes_in width)) in
     Leaves (reserving (sets state rd held) (Some (place, bytes_in width))) None
-reserved_at reading state width rd (Fails outcome) = Ends outcome
+reserved_at reading state width rd (Fails failure) = Ends (failed failure)
 
 -- whether this place is reserved for this width: SC succeeds nowhere else (own)
 abbrev pub is_reserved : Option (ℕ × ℕ) → ℕ → Width → Bool
@@ -106,14 +118,14 @@ stored_if false state width value rd place = Leaves (reserving (sets state rd 1)
 abbrev pub stored_if_reserved : Virtual → Width → ℕ → ℕ → Located → Made
 stored_if_reserved state width value rd (At place) =
     stored_if (is_reserved state.reservation place width) state width value rd place
-stored_if_reserved state width value rd (Fails outcome) = Ends outcome
+stored_if_reserved state width value rd (Fails failure) = Ends (failed failure)
 
 -- an atomic memory operation (8.4)
 abbrev pub modified_at : Reading → Virtual → AmoOp → Width → ℕ → ℕ → Located → Made
 modified_at reading state op width operand rd (At place) =
     let held = reading place (bytes_in width) in
     Leaves (sets state rd (extended width true held)) (storing place width (amo op width held operand))
-modified_at reading state op width operand rd (Fails outcome) = Ends outcome
+modified_at reading state op width operand rd (Fails failure) = Ends (failed failure)
 
 -- a call of the environment, by mode (Privileged Architecture 20211203, 3.3.1 and 8.6)
 abbrev pub called_from : Mode → Outcome
@@ -168,7 +180,7 @@ word_at reading place = reading place 4 % 2 ^ 32
 abbrev pub fetched : SecondStage → Reading → Virtual → Located → Outcome
 fetched second reading state (At place) =
     decoded second reading state (word_at reading place) (op_of (word_at reading place))
-fetched second reading state (Fails outcome) = outcome
+fetched second reading state (Fails failure) = failed failure
 
 -- one instruction, in this order: fetch, decode, checks of privilege, alignment, translation, access. pc is a
 -- multiple of 4 from the start on: a jump to another target is an exception at the jump, and sepc and

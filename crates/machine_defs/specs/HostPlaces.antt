@@ -1,10 +1,12 @@
 -- A guest's RAM in machine memory: under a second stage that has each guest physical address of RAM at its
 -- place, the lone machine's second stage and reading are those of machine memory, renamed.
 use Rattle.std.specs.Prelude.{ℕ, ◌≡◌, ◌+◌, ◌-◌, ◌*◌, ◌&&◌, List, Option, length, nat_le, nat_lt}
+use Rattle.std.specs.Option.{option_map}
+use Rattle.arch_defs.specs.declared.modes.Access.{Access}
 use Rattle.arch_defs.specs.Frames.{Only, in_blocks}
 use Rattle.arch_defs.specs.Memory.{SecondStage, Stored, bare, block_size, ram_base, reading_of, with_stored}
 use Rattle.arch_defs.specs.Ram.{IsDistinct, SlicesLieIn, host_answer, host_place, ram_of}
-use Rattle.machine_defs.specs.Renaming.{IsRenamed, Places, StoresHeld, stored_renamed}
+use Rattle.machine_defs.specs.Renaming.{GivesHeld, IsRenamed, Places, StoresHeld, stored_renamed}
 
 -- the bytes of RAM of so many blocks
 abbrev pub ram_size : List ℕ → ℕ
@@ -22,7 +24,17 @@ memory_place blocks place = host_place blocks (place - ram_base)
 abbrev pub host_second : List ℕ → SecondStage
 host_second blocks address access = host_answer blocks address
 
--- the lone machine's second stage and reading are renamed in machine memory, whose base is 0
+-- a second stage that gives places of RAM alone, and the lone machine's reading, are renamed in machine
+-- memory, whose base is 0, where another second stage gives each place at its place there
+abbrev pub PlacesAreRenamed : Type 0
+PlacesAreRenamed = (blocks memory : List ℕ) (own host : SecondStage)
+    → SlicesLieIn block_size blocks (length memory) → IsDistinct blocks → GivesHeld (in_ram blocks) own
+    → ((address : ℕ) (access : Access)
+    → host address access ≡ option_map (memory_place blocks) (own address access))
+    → IsRenamed (memory_place blocks) (in_ram blocks) own (reading_of ram_base (ram_of blocks memory))
+    host (reading_of 0 memory)
+
+-- so is RAM as it is
 abbrev pub RamIsRenamed : Type 0
 RamIsRenamed = (blocks memory : List ℕ)
     → SlicesLieIn block_size blocks (length memory) → IsDistinct blocks

@@ -1,12 +1,15 @@
+pub mod Answers
 pub mod Core
+pub mod Fills
+pub mod FrontSpaces
 pub mod GuestAccesses
 pub mod HostPlaces
 pub mod Laws
 pub mod Machine
 pub mod Outcomes
-pub mod Outside
 pub mod Privileges
 pub mod Renaming
 pub mod Report
 pub mod Reservations
 pub mod Runs
+pub mod Tries

@@ -1,5 +1,5 @@
--- The lone machine of a guest, its start, and one try of a step.
-use Rattle.std.specs.Prelude.{ℕ, ◌+◌, ◌*◌, ◌==◌, ◌&&◌, Bool, Option, Some, None, List, [], length, if◌then◌else◌}
+-- The lone machine of a guest, its start, its execution environment, traps and waits.
+use Rattle.std.specs.Prelude.{ℕ, ◌+◌, ◌*◌, ◌==◌, ◌&&◌, Bool, Option, Some, None, List, [], if◌then◌else◌}
 use Rattle.std.specs.List.{list_any}
 use Rattle.arch_defs.specs.declared.modes.Mode.TheVariants.{HS}
 use Rattle.arch_defs.specs.declared.modes.Trap.{Trap}
@@ -9,21 +9,17 @@ use Rattle.arch_defs.specs.Calls.{CallState, environment, state_of}
 use Rattle.arch_defs.specs.Clocks.{Times, is_due, times_at_start}
 use Rattle.arch_defs.specs.Consoles.{Held}
 use Rattle.arch_defs.specs.Inputs.{has_input, next_input}
-use Rattle.arch_defs.specs.Interrupts.{due, hs_order, interrupt_of, is_enabled, is_pending}
-use Rattle.arch_defs.specs.Memory.{SecondStage, Stored, ram_base, block_size, loaded, bare, reading_of, with_stored}
+use Rattle.arch_defs.specs.Interrupts.{hs_order, is_enabled, is_pending}
+use Rattle.arch_defs.specs.Memory.{ram_base, block_size, loaded}
 use Rattle.arch_defs.specs.Registers.{read, a7, virtual_at}
 use Rattle.arch_defs.specs.Spaces.{Space}
-use Rattle.arch_defs.specs.Traps.{entered, target, unplaced_fault}
+use Rattle.arch_defs.specs.Traps.{entered, target}
 use Rattle.arch_defs.specs.Waits.{wake_moment}
 use Rattle.machine_defs.specs.declared.events.Event.{Event}
 use Rattle.machine_defs.specs.declared.events.Event.TheVariants as event
 use Rattle.machine_defs.specs.declared.guests.GuestSpec.{GuestSpec}
 use Rattle.machine_defs.specs.declared.guests.Status.{Status}
 use Rattle.machine_defs.specs.declared.guests.Status.TheVariants as status
-use Rattle.machine_defs.specs.Core.{core}
-use Rattle.machine_defs.specs.GuestAccesses.{guest_outcome}
-use Rattle.machine_defs.specs.Outcomes.{Outcome, Done, Trapped, Stuck, Called, Waits, Fenced, Accesses}
-use Rattle.machine_defs.specs.Outside.{sets_v_under_table}
 
 -- a machine without its RAM and its cached translations: registers, clock with its timer, console with its
 -- unread inputs, count of steps, and status. The execution environment is part of it (own)
@@ -91,14 +87,12 @@ abbrev pub called : Platform → Platform
 called p = stopped_if (read p.virt.regs a7 == 8)
     (with_call p (environment (state_of p.virt.regs p.clock p.console)))
 
--- how a try ends: the machine after the step and what the step was, a wait for good, or outside what is built
--- so far
+-- how a try ends: the machine after the step and what the step was, or a wait for good
 pub data Tried : Type 0 where
   Ended : Machine → Event → Tried
   WaitsForGood : Tried
-  Outside : Tried
 
--- a step that leaves this platform, and RAM as it was
+-- a step that leaves this platform, and RAM and the spaces as they were
 abbrev pub stepped_to : Machine → Platform → Event → Tried
 stepped_to m platform event = Ended (record m { platform = ticked platform }) event
 
@@ -106,12 +100,6 @@ stepped_to m platform event = Ended (record m { platform = ticked platform }) ev
 abbrev pub trapped : Machine → Trap → Tried
 trapped m trap = stepped_to m (record m.platform { virt = entered m.platform.virt trap })
     (event.Trap (target m.platform.virt.csrs m.platform.virt.mode trap) trap.interrupt)
-
--- an instruction is a step, with what it leaves and stores, if it does not set V while hgatp names a table
-abbrev pub made : Machine → Virtual → Option Stored → Event → Tried
-made m virt stored event = if sets_v_under_table m.platform.virt virt then Outside
-    else let ram = with_stored ram_base stored m.ram in
-    stepped_to (record m { ram = ram }) (record m.platform { virt = virt }) event
 
 -- a wait that ends at a moment is a step, after which the clock is there
 abbrev pub waited_until : Machine → Virtual → Option ℕ → Tried
@@ -129,39 +117,3 @@ abbrev pub waited : Machine → Virtual → Tried
 waited m virt = let p = m.platform in
     if has_enabled_interrupt p.virt.csrs then stepped_to m (record p { virt = virt }) event.System
     else waited_until m virt (wake_moment p.virt.csrs.sie p.clock.timer (next_input p.console.inputs))
-
--- the instruction of an HLV, HLVX or HSV, as its access ends: it is made, or it traps
-abbrev pub accessed_for_guest : Machine → Outcome → Tried
-accessed_for_guest m (Done virt stored event) = made m virt stored event
-accessed_for_guest m (Trapped trap) = trapped m trap
-accessed_for_guest m _ = Outside
-
--- what the outcome of an instruction is to the machine; a place that the second stage does not have is an
--- access fault
-abbrev pub concluded : Machine → Outcome → Tried
-concluded m (Done virt stored event) = made m virt stored event
-concluded m (Trapped trap) = trapped m trap
-concluded m (Stuck unplaced) = trapped m (unplaced_fault unplaced)
-concluded m Called = stepped_to m (called m.platform) event.System
-concluded m (Waits virt) = waited m virt
-concluded m (Fenced virt fence) = Outside
-concluded m (Accesses access) =
-    accessed_for_guest m (guest_outcome ram_base m.ram m.platform.virt access)
-
--- the interrupt of this code, if one is due, or else one instruction under a second stage
-abbrev pub tried_with : SecondStage → Machine → Option ℕ → Tried
-tried_with second m (Some code) = trapped m (interrupt_of code)
-tried_with second m None = concluded m (core second (reading_of ram_base m.ram) m.platform.virt)
-
--- one try under a second stage
-unfoldable pub try_under : SecondStage → Machine → Tried
-try_under second m = tried_with second m (due m.platform.virt.csrs m.platform.virt.mode)
-
--- the machine's own second stage: RAM as it is. With V = 1 hgatp is Bare, since V is not set while it names a
--- table, and HS alone writes it
-abbrev pub second_of : Machine → SecondStage
-second_of m = bare ram_base (length m.ram)
-
--- one try
-abbrev pub try : Machine → Tried
-try m = try_under (second_of m) m

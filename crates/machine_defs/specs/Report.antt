@@ -2,7 +2,7 @@
 use Rattle.std.specs.Prelude.{ℕ, List, ◌++◌, length, codes, decimal}
 use Rattle.machine_defs.specs.declared.guests.GuestSpec.{GuestSpec}
 use Rattle.machine_defs.specs.declared.guests.Status.{Status}
-use Rattle.machine_defs.specs.declared.guests.Status.TheVariants.{Running, Waiting, Stopped, Outside}
+use Rattle.machine_defs.specs.declared.guests.Status.TheVariants.{Running, Waiting, Stopped}
 use Rattle.machine_defs.specs.Machine.{Machine, start}
 use Rattle.machine_defs.specs.Runs.{run}
 
@@ -11,7 +11,6 @@ abbrev pub status_word : Status → List ℕ
 status_word Running = codes "running"
 status_word Waiting = codes "waiting"
 status_word Stopped = codes "stopped"
-status_word Outside = codes "outside"
 
 -- the line that heads a section, without its line feed: a name, a status, a count of steps and one of console
 -- bytes

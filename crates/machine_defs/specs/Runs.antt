@@ -4,7 +4,9 @@ use Rattle.machine_defs.specs.declared.events.Event.{Event}
 use Rattle.machine_defs.specs.declared.events.Event.TheVariants.{Plain, Trap, System}
 use Rattle.machine_defs.specs.declared.guests.Status.{Status}
 use Rattle.machine_defs.specs.declared.guests.Status.TheVariants as status
-use Rattle.machine_defs.specs.Machine.{Machine, Tried, Ended, WaitsForGood, Outside, try}
+use Rattle.machine_defs.specs.Fills.{after_fills, most_fills, ready}
+use Rattle.machine_defs.specs.Machine.{Machine, Tried, Ended, WaitsForGood}
+use Rattle.machine_defs.specs.Tries.{try}
 
 -- a machine with another status
 abbrev pub with_status : Machine → Status → Machine
@@ -14,14 +16,19 @@ with_status m s = record m { platform = record m.platform { status = s } }
 abbrev pub left_by : Machine → Tried → Machine
 left_by m (Ended after event) = after
 left_by m WaitsForGood = with_status m status.Waiting
-left_by m Outside = with_status m status.Outside
 
--- one step, which a machine that does not go on does not make
+abbrev pub left_after : Machine → Machine
+left_after m = left_by m (try m)
+
+-- what at most so many fills, and then one last try, leave
+abbrev pub step_within : ℕ → Machine → Machine
+step_within n m = left_after (after_fills n m)
+
+-- one step, which a machine that does not go on does not make. Its fills stay, however the last try ends
 abbrev pub stepped : Machine → Status → Machine
-stepped m status.Running = left_by m (try m)
+stepped m status.Running = step_within (most_fills m) m
 stepped m status.Waiting = m
 stepped m status.Stopped = m
-stepped m status.Outside = m
 
 unfoldable pub step : Machine → Machine
 step m = stepped m m.platform.status
@@ -35,13 +42,12 @@ run m (suc k) = run (step m) k
 abbrev pub event_in : Tried → List Event
 event_in (Ended after event) = event ∷ []
 event_in WaitsForGood = []
-event_in Outside = []
 
+-- the event of a step; a fill is none
 abbrev pub events_by : Machine → Status → List Event
-events_by m status.Running = event_in (try m)
+events_by m status.Running = event_in (try (ready m))
 events_by m status.Waiting = []
 events_by m status.Stopped = []
-events_by m status.Outside = []
 
 -- the events of the steps that a run of at most k makes, in order
 unfoldable pub events : Machine → ℕ → List Event

@@ -12,8 +12,6 @@ pub enum Status {
     Waiting,
     /// The guest has stopped itself.
     Stopped,
-    /// The next step is outside the instructions and events that are built so far.
-    Outside,
 }
 
 /// A guest's name, as bytes.

@@ -9,4 +9,4 @@ mod tests;
 
 pub use events::Event;
 pub use guests::{Bytes, GuestSpec, Inputs, Name, Status};
-pub use laws::{ram_is_renamed, renamed_places, reservations_stay, runs_compose};
+pub use laws::{machines_stay_in_ram, ram_is_renamed, renamed_places, runs_compose};

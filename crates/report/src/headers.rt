@@ -12,7 +12,6 @@ fn word(status: Status) -> &'static [u8]
         Status::Running => b"running",
         Status::Waiting => b"waiting",
         Status::Stopped => b"stopped",
-        Status::Outside => b"outside",
     }
 }
 

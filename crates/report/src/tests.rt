@@ -1,4 +1,4 @@
-ghost use Rattle.std.specs.Prelude.{◌≡◌, ◌≤◌, length, IfOk};
+ghost use Rattle.std.specs.Prelude.{◌≡◌, IfOk};
 
 use crate::{GuestLine, section};
 use machine_defs::{Name, Status};
@@ -36,12 +36,6 @@ fn each_status(rt: HostRuntime) -> Result<(), Fail> {
             0,
             b"ok\n".as_slice(),
             b"guest a waiting steps 0 bytes 3\nok\n\n".as_slice(),
-        ),
-        (
-            Status::Outside,
-            7,
-            b"".as_slice(),
-            b"guest a outside steps 7 bytes 0\n\n".as_slice(),
         ),
     ] {
         let line = GuestLine {

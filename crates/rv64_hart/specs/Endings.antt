@@ -7,8 +7,7 @@ use Rattle.arch_defs.specs.declared.registers.Virtual.{Virtual}
 use Rattle.arch_defs.specs.declared.widths.Width.{Width}
 use Rattle.arch_defs.specs.Widths.{bytes_in}
 use Rattle.machine_defs.specs.declared.events.Event.{Event}
-use Rattle.machine_defs.specs.Core.{Located, At, Fails, Made, ended}
-use Rattle.machine_defs.specs.Outcomes.{Outcome}
+use Rattle.machine_defs.specs.Core.{Failure, Located, At, Fails, Made, ended, failed}
 use Rattle.rv64_hart.specs.Steps.{Attempt, Makes, Raises, attempt_of, HartEnd, Goes, Exits, Progress}
 
 -- a place lies in memory, and is a multiple of a width
@@ -18,9 +17,9 @@ pub record IsPlaceFor (width : Width) (memory : List ℕ) (place : ℕ) : Type 0
 
 -- an access with these registers ends without a place, which is this trap to the hart
 pub record FailsBy (csrs : Csrs) (memory : List ℕ) (located : Located) (trap : Trap) : Type 0 where
-  pub outcome : Outcome
-  pub fails : located ≡ Fails outcome
-  pub raises : (mode : Mode) → attempt_of csrs mode memory outcome ≡ Raises trap
+  pub failure : Failure
+  pub fails : located ≡ Fails failure
+  pub raises : (mode : Mode) → attempt_of csrs mode memory (failed failure) ≡ Raises trap
 
 -- where an access is made, by the answer
 abbrev pub IsAnswered : Csrs → List ℕ → Located → Result ℕ Trap → Type 0

@@ -66,11 +66,19 @@ module _ (most : ℕ) (key : GuestRoot) (entry : Entry) where
   all_kept (slot ∷ slots) none =
       other_kept slot.key slot.space.entries (spaces_in slots) (spaces_in slots) (All-head (λ slot. has_key key slot ≡ false) slot slots none) (all_kept slots (All-tail (λ slot. has_key key slot ≡ false) slot slots none))
 
+  -- that of the first table
+  pub first_filled : (slot : Slot) (slots : List Slot) → has_key key slot ≡ true → AllPairs ComesBefore (slot ∷ slots)
+      → filled_in most key entry (spaces_in (slot ∷ slots)) ≡ cons_option (space_if slot.key (filled most slot.space.entries entry)) (spaces_in slots)
+  unfolding filled_in
+  first_filled slot slots has order =
+      one_changed slot.key slot.space.entries (spaces_in slots) has (all_kept slots (λ k e few. (pairs_first ComesBefore slot slots order k e few).key key has))
+
   filled_at : (slots : List Slot) (i : ℕ) (d after : Slot) → i < length slots → has_key key (get_or slots i d) ≡ true → AllPairs ComesBefore slots
       → after.key ≡ (get_or slots i d).key → after.space.entries ≡ filled most (get_or slots i d).space.entries entry → map change (spaces_in slots) ≡ spaces_in (set slots i after)
+  unfolding filled_in
   filled_at [] i d after inside has order same is = absurd (omega (arith, inside))
   filled_at (slot ∷ slots) zero d after inside has order same is =
-      one_changed slot.key slot.space.entries (spaces_in slots) has (all_kept slots (λ k e few. (pairs_first ComesBefore slot slots order k e few).key key has))
+      first_filled slot slots has order
       ∙ sym (ap (λ o. cons_option (space_if o after.space.entries) (spaces_in slots)) same ∙ ap (λ es. cons_option (space_if slot.key es) (spaces_in slots)) is)
   filled_at (slot ∷ slots) (suc i) d after inside has order same is =
       other_kept slot.key slot.space.entries (spaces_in slots) (spaces_in (set slots i after)) (differs (cases_Bool (has_key key slot)))

@@ -1,8 +1,7 @@
 -- The front space of a pool and its table.
-use Rattle.std.proofs.Common.{◌≡◌, ℕ, zero, suc, ◌+◌, ◌-◌, ◌*◌, ◌%◌, ◌&&◌, ◌||◌, ◌⊎◌, inl, inr, true, false, List, [], ◌∷◌, Option, Some, None, length, get_or, nat_le, nat_lt, refl, sym, ap, subst, ◌∙◌, arith}
-use Rattle.std.specs.List.{cons_option, find, list_any}
+use Rattle.std.proofs.Common.{◌≡◌, ℕ, suc, ◌+◌, ◌-◌, ◌*◌, ◌%◌, ◌&&◌, ◌||◌, true, List, [], ◌∷◌, Option, Some, None, length, drop, get_or, nat_le, nat_lt, refl, sym, ap, subst, ◌∙◌, arith}
+use Rattle.std.specs.List.{cons_option, list_any}
 use Rattle.std.specs.Option.{option_map}
-use Rattle.std.proofs.lemmas.Bool.{cases_Bool}
 use Rattle.arch_defs.specs.declared.cached.Entry.{Entry}
 use Rattle.arch_defs.specs.declared.registers.GuestRoot.{GuestRoot}
 use Rattle.arch_defs.specs.declared.registers.GuestRoot.TheVariants as root
@@ -12,16 +11,19 @@ use Rattle.arch_defs.specs.Memory.{ram_base, block_size}
 use Rattle.arch_defs.specs.Ram.{host_place}
 use Rattle.arch_defs.specs.SecondStage.{guest_walk, second_under}
 use Rattle.arch_defs.proofs.FrameSets.{same_fewer}
-use Rattle.arch_defs.specs.Spaces.{Space, entered, found_or_empty, is_for, is_held, is_root}
-use Rattle.arch_defs.specs.CachedEntries.{second_by}
+use Rattle.machine_defs.proofs.FrontSpaces.{in_front, root_is}
+use Rattle.arch_defs.specs.Spaces.{Space, entered, filled_in, is_for, is_held, is_root}
+use Rattle.machine_defs.specs.FrontSpaces.{FrontIs}
+use Rattle.arch_defs.specs.CachedEntries.{filled, second_by}
 use Rattle.shadow_space.specs.Shadows.{Shadow, Tidy, own_frames, root_of}
 use Rattle.shadow_space.proofs.Giving.{gives, in_ram, lacks}
 use Rattle.shadow_space.proofs.Tidying.{lasts}
 use Rattle.shadow_pool.specs.declared.slots.Slot.{Slot}
-use Rattle.shadow_pool.specs.Laws.{EnteredIsHeld, EnteredIsInFront, FrontGivesEntries, FrontGivesRam, FrontIs, FrontIsEnteredAgain, FrontLacksAreGuestPageFaults, TidyPoolLasts}
+use Rattle.shadow_pool.specs.Laws.{EnteredIsHeld, FrontGivesEntries, FrontGivesRam, FrontIsEnteredAgain, FrontIsFilled, FrontLacksAreGuestPageFaults, TidyPoolLasts}
 use Rattle.shadow_pool.specs.Slots.{AreSlots, AreTidy, ComesBefore, frames_for, front_root, space_if, spaces_in}
 use Rattle.shadow_pool.proofs.Entering.{all_spare, entered_found}
-use Rattle.shadow_pool.proofs.Keys.{has_of, root_is, root_same}
+use Rattle.shadow_pool.proofs.Filling.{first_filled}
+use Rattle.shadow_pool.proofs.Keys.{has_of}
 use Rattle.shadow_pool.proofs.Ordering.{pairs_first}
 use Rattle.shadow_pool.proofs.Tidying.{frames_within}
 
@@ -87,21 +89,8 @@ front_in_ram pool memory front others mxr address place access tidy is some =
     subst (λ part. ((nat_le ram_base place && nat_lt place (ram_base + length part.blocks * block_size)) ≡ true) × (place % 4096 ≡ address % 4096)) f.part_is
     (in_ram f.space memory mxr address place access f.tidy (ap (λ entries. second_by entries mxr address access) f.entries_are ∙ some))
 
--- the space that was entered is in front
-found_for : (key : GuestRoot) (spaces : List Space) → (found_or_empty key (find (is_for key) spaces)).key ≡ key
-found_for key [] = refl
-found_for key (space ∷ spaces) = by (cases_Bool (is_root space.key key)) (found_for key spaces)
-  where
-    by : (is_root space.key key ≡ true) ⊎ (is_root space.key key ≡ false) → (found_or_empty key (find (is_for key) spaces)).key ≡ key → (found_or_empty key (find (is_for key) (space ∷ spaces))).key ≡ key
-    by (inl is) later = rw is (root_same space.key key is)
-    by (inr other) later = rw other later
-
-pub in_front : EnteredIsInFront
-unfolding entered
-in_front zero key spaces some = absurd (omega (arith, some))
-in_front (suc most) key spaces some = found_for key spaces
-
-first_held : (key : GuestRoot) (spaces : List Space) → FrontIs key spaces → is_held key spaces ≡ true
+-- the space that was entered is held
+pub first_held : (key : GuestRoot) (spaces : List Space) → FrontIs key spaces → is_held key spaces ≡ true
 first_held key [] is = absurd is
 first_held key (space ∷ spaces) is = ap (λ own. is_root own key || list_any (is_for key) spaces) is ∙ ap (λ same. same || list_any (is_for key) spaces) (root_is key)
 
@@ -117,3 +106,18 @@ once_more part most (slot ∷ slots) front others are is =
 
 pub again : FrontIsEnteredAgain
 again pool memory front others tidy is = once_more pool.part pool.most pool.slots front others tidy.slots is
+
+-- and filled
+fills_first : (part : Layout) (most : ℕ) (slots : List Slot) (front : Space) (others : List Space) (e : Entry) → AreSlots part most slots → spaces_in slots ≡ front ∷ others
+    → filled_in most front.key e (spaces_in slots) ≡ record front { entries = filled most front.entries e } ∷ others
+fills_first part most [] front others e are is = let some = are.some in absurd (omega (arith, some))
+fills_first part most (slot ∷ slots) front others e are is =
+    let first = first_is slot (spaces_in slots) front others (λ none. all_spare slots (λ k d h. (pairs_first ComesBefore slot slots are.order k d h).spare none)) is in
+    let rest : spaces_in slots ≡ others = ap (drop 1) (sym (ap (λ o. cons_option (space_if o slot.space.entries) (spaces_in slots)) first.0) ∙ is) in
+    first_filled most front.key e slot slots (has_of front.key slot first.0) are.order
+    ∙ ap (λ o. cons_option (space_if o (filled most slot.space.entries e)) (spaces_in slots)) first.0
+    ∙ ap (λ entries. record front { entries = filled most entries e } ∷ spaces_in slots) first.1
+    ∙ ap (λ xs. record front { entries = filled most front.entries e } ∷ xs) rest
+
+pub front_filled : FrontIsFilled
+front_filled pool memory front others e tidy is = fills_first pool.part pool.most pool.slots front others e tidy.slots is

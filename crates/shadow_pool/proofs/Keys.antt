@@ -1,24 +1,11 @@
 -- Values of hgatp, and the tables that are for one.
-use Rattle.std.proofs.Common.{◌≡◌, true, false, ◌==◌, ◌⊎◌, inl, inr, Option, Some, None, refl, sym, ap, ◌∙◌}
+use Rattle.std.proofs.Common.{◌≡◌, true, false, ◌⊎◌, inl, inr, Option, Some, None, refl, sym, ap, ◌∙◌}
 use Rattle.std.specs.Option.{is_some}
-use Rattle.std.proofs.lemmas.Bool.{both_ways, cases_Bool, eq-eqb, eqb-true, and_parts}
+use Rattle.std.proofs.lemmas.Bool.{both_ways, cases_Bool}
 use Rattle.arch_defs.specs.declared.registers.GuestRoot.{GuestRoot}
-use Rattle.arch_defs.specs.declared.registers.GuestRoot.TheVariants.{Bare, Sv39x4}
 use Rattle.shadow_pool.specs.declared.slots.Slot.{Slot}
 use Rattle.shadow_pool.specs.Slots.{ComesBefore, has_key, key_is}
-use Rattle.arch_defs.specs.Spaces.{is_root}
-
-pub root_is : (key : GuestRoot) → is_root key key ≡ true
-root_is Bare = refl
-root_is (Sv39x4 vmid page) = rw (eq-eqb vmid vmid refl, eq-eqb page page refl) refl
-
-pub root_same : (a b : GuestRoot) → is_root a b ≡ true → a ≡ b
-root_same Bare Bare is = refl
-root_same Bare (Sv39x4 vmid page) is = absurd (both_ways false refl is)
-root_same (Sv39x4 vmid page) Bare is = absurd (both_ways false refl is)
-root_same (Sv39x4 vmid page) (Sv39x4 vmid' page') is =
-    let both = and_parts (vmid == vmid') (page == page') is in
-    λ i. Sv39x4 (eqb-true vmid vmid' both.0 i) (eqb-true page page' both.1 i)
+use Rattle.machine_defs.proofs.FrontSpaces.{root_is, root_same}
 
 -- a table with a value of hgatp
 pub key_of : (key : GuestRoot) (slot : Slot) → has_key key slot ≡ true → slot.key ≡ Some key

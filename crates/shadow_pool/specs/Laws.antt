@@ -1,5 +1,6 @@
 -- Laws of pools.
-use Rattle.std.specs.Prelude.{ℕ, ◌≡◌, ◌≢◌, ◌+◌, ◌-◌, ◌*◌, ◌/◌, ◌%◌, ◌≤◌, ◌^◌, ◌&&◌, Bool, true, List, [], ◌∷◌, Some, None, length, nat_le, nat_lt, option_map}
+use Rattle.std.specs.Prelude.{ℕ, ◌≡◌, ◌≢◌, ◌+◌, ◌-◌, ◌*◌, ◌/◌, ◌%◌, ◌≤◌, ◌^◌, ◌&&◌, Bool, true, List, ◌∷◌, Some, None, length, nat_le, nat_lt, option_map}
+use Rattle.arch_defs.specs.declared.cached.Entry.{Entry}
 use Rattle.arch_defs.specs.declared.guest_walks.GuestWalkEnd.TheVariants.{GuestPageFault}
 use Rattle.arch_defs.specs.declared.modes.Access.{Access}
 use Rattle.arch_defs.specs.declared.registers.GuestRoot.{GuestRoot}
@@ -11,12 +12,13 @@ use Rattle.arch_defs.specs.Memory.{ram_base, block_size}
 use Rattle.arch_defs.specs.Ram.{host_place}
 use Rattle.arch_defs.specs.Registers.{read}
 use Rattle.arch_defs.specs.SecondStage.{guest_walk, second_under}
-use Rattle.arch_defs.specs.Spaces.{Space, entered, is_held}
+use Rattle.arch_defs.specs.Spaces.{Space, entered, filled_in, is_held}
+use Rattle.machine_defs.specs.FrontSpaces.{FrontIs}
 use Rattle.op_defs.specs.declared.ops.Effect.TheVariants.{Privileged}
 use Rattle.op_defs.specs.declared.ops.Op.TheVariants as op
 use Rattle.op_defs.specs.declared.ops.Privileged.TheVariants as privileged
 use Rattle.op_defs.specs.Meaning.{fence_named, meaning}
-use Rattle.arch_defs.specs.CachedEntries.{second_by}
+use Rattle.arch_defs.specs.CachedEntries.{filled, second_by}
 use Rattle.shadow_pool.specs.Slots.{Pooled, TidyPool, frames_for, front_root, pool_frames, room_of, spaces_of}
 
 -- a pool stays tidy where the bytes of its own frames stay
@@ -63,11 +65,6 @@ RamIsApart part = (count : ℕ) → count ≤ part.spaces → Apart (in_blocks p
 abbrev pub HostFramesAreApart : Layout → Type 0
 HostFramesAreApart part = (count : ℕ) → count ≤ part.spaces → Apart (host_frames part) (frames_for part count)
 
--- the front space is for this value of hgatp
-abbrev pub FrontIs : GuestRoot → List Space → Type 0
-FrontIs key [] = ⊥
-FrontIs key (space ∷ spaces) = space.key ≡ key
-
 -- the space that was entered is in front
 abbrev pub EnteredIsInFront : Type 0
 EnteredIsInFront = (most : ℕ) (key : GuestRoot) (spaces : List Space) → 1 ≤ most
@@ -78,6 +75,13 @@ abbrev pub FrontIsEnteredAgain : Type 0
 FrontIsEnteredAgain = (pool : Pooled) (memory : List ℕ) (front : Space) (others : List Space)
     → TidyPool pool memory → spaces_of pool ≡ front ∷ others
     → entered (room_of pool) front.key (spaces_of pool) ≡ spaces_of pool
+
+-- a fill of the space in front changes no other
+abbrev pub FrontIsFilled : Type 0
+FrontIsFilled = (pool : Pooled) (memory : List ℕ) (front : Space) (others : List Space) (e : Entry)
+    → TidyPool pool memory → spaces_of pool ≡ front ∷ others
+    → filled_in pool.most front.key e (spaces_of pool)
+    ≡ record front { entries = filled pool.most front.entries e } ∷ others
 
 -- it is held
 abbrev pub EnteredIsHeld : Type 0

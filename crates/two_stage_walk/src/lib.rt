@@ -8,6 +8,7 @@ mod tests;
 mod translating;
 mod traps;
 mod virtual_addresses;
+mod walked_entries;
 
 pub use arch_defs::{Found, GuestWalkEnd, Unplaced};
 pub use guest_addresses::{guest_walk, second_place, second_root_of};
@@ -16,3 +17,4 @@ pub use phys_mem::Mem;
 pub use translating::translate;
 pub use traps::{guest_page_fault, guest_page_trap, unplaced_trap};
 pub use virtual_addresses::{bank_of, first_stage, found_by, leaf_address, privilege_of};
+pub use walked_entries::entry_now;

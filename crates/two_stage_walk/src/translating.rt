@@ -1,9 +1,9 @@
 // Translation by both stages.
 
-ghost use Rattle.std.specs.Prelude.{◌≡◌, Some, IfOk};
+ghost use Rattle.std.specs.Prelude.{◌≡◌, IfOk};
 ghost use Rattle.arch_defs.specs.SecondStage.{second_now};
+ghost use Rattle.machine_defs.specs.Answers.{answer_of, located_now};
 ghost use Rattle.machine_defs.specs.Core.{located_by};
-ghost use Rattle.two_stage_walk.specs.Answers.{answer_of, located_now};
 ghost use Rattle.two_stage_walk.specs.Places.{IsPlaceOf, IsWhole, KeepsOffset};
 
 use crate::guest_addresses::second_place;
@@ -25,9 +25,8 @@ fn placed_by<M: Mem>(
     requires backed { M.is_backed mem.now }
     requires whole { IsWhole (M.base mem.now) (M.bytes mem.now) }
     requires offset { KeepsOffset va found }
-    ensures answer { answer_of csrs.now (M.base mem.now) (M.bytes mem.now)
-        (located_by (second_now csrs.now mode (M.base mem.now) (M.bytes mem.now)) mode va access found)
-        ≡ Some result }
+    ensures answer { result ≡ answer_of csrs.now (M.base mem.now) (M.bytes mem.now)
+        (located_by (second_now csrs.now mode (M.base mem.now) (M.bytes mem.now)) mode va access found) }
     ensures inside { IfOk result (λ place. IsPlaceOf (M.base mem.now) (M.bytes mem.now) va place) }
 {
     match found {
@@ -72,8 +71,8 @@ pub fn translate<M: Mem>(
 ) -> Result<u64, Trap>
     requires backed { M.is_backed mem.now }
     requires whole { IsWhole (M.base mem.now) (M.bytes mem.now) }
-    ensures answer { answer_of csrs.now (M.base mem.now) (M.bytes mem.now)
-        (located_now csrs.now mode (M.base mem.now) (M.bytes mem.now) va access) ≡ Some result }
+    ensures answer { result ≡ answer_of csrs.now (M.base mem.now) (M.bytes mem.now)
+        (located_now csrs.now mode (M.base mem.now) (M.bytes mem.now) va access) }
     ensures inside { IfOk result (λ place. IsPlaceOf (M.base mem.now) (M.bytes mem.now) va place) }
 {
     let found = first_stage(mem, csrs, mode, va, access);

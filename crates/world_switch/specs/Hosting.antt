@@ -84,14 +84,18 @@ hosted root virt = record {
   reservation = virt.reservation;
 }
 
--- the root of the host table of the guest that has this part: Sv39x4 with VMID 0, from the first frame of
--- the part's roots on (Privileged Architecture 20211203, 8.2.10)
-abbrev pub host_root : Layout → GuestRoot
-host_root part = Sv39x4 0 part.first_root
+-- the second stage by the table whose root begins at a frame: Sv39x4 with VMID 0 (Privileged Architecture
+-- 20211203, 8.2.10)
+abbrev pub table_from : ℕ → GuestRoot
+table_from frame = Sv39x4 0 frame
 
--- what the hart has for that guest: its reservation is at the place in machine memory
-abbrev pub loaded : Layout → Virtual → Virtual
-loaded part virt = renamed (memory_place part.blocks) (hosted (host_root part) virt)
+-- that of the host table of the guest that has this part
+abbrev pub host_root : Layout → GuestRoot
+host_root part = table_from part.first_root
+
+-- what the hart has for that guest under a root: its reservation is at the place in machine memory
+abbrev pub loaded : Layout → GuestRoot → Virtual → Virtual
+loaded part root virt = renamed (memory_place part.blocks) (hosted root virt)
 
 -- what the guest has after the hart has run, by the guest's V; what the hart does not have for it stays
 abbrev pub saved_csrs : Bool → Csrs → Csrs → Csrs

@@ -5,7 +5,7 @@ ghost use Rattle.arch_defs.specs.Registers.{clear_hypervisor_status};
 ghost use Rattle.arch_defs.specs.Traps.{is_virtual};
 ghost use Rattle.machine_defs.specs.HostPlaces.{in_ram, memory_place};
 ghost use Rattle.machine_defs.specs.Renaming.{ReservesHeld, renamed, reservation_renamed};
-ghost use Rattle.world_switch.specs.Hosting.{all_interrupts, bank_with, fixed_up, host_root, hosted_csrs, hosted_mode, loaded, saved, saved_csrs, saved_mode, taken_back};
+ghost use Rattle.world_switch.specs.Hosting.{all_interrupts, bank_with, fixed_up, hosted_csrs, hosted_mode, loaded, saved, saved_csrs, saved_mode, table_from};
 ghost use Rattle.world_switch.specs.Laws.{GivesBack};
 
 use arch_defs::{
@@ -21,35 +21,35 @@ use trap_delegation::is_virtual;
 const OWN_EXCEPTIONS: u64 = 0xB1FF;
 
 /// What the hart has for the guest that has this part: its VS and VU stand for the guest's HS and U with V =
-/// 0, and for its VS and VU with V = 1, under the part's host table. The guest's reservation is at its place
-/// in machine memory.
-pub fn load(virt: &Virtual, part: &Part) -> Virtual
+/// 0, and for its VS and VU with V = 1, under the table whose root begins at the frame `root`. The guest's
+/// reservation is at its place in machine memory.
+pub fn load(virt: &Virtual, part: &Part, root: u64) -> Virtual
     requires held { ReservesHeld (in_ram part.now.blocks) virt.now.reservation }
-    ensures { result ≡ loaded part.now virt.now }
+    ensures { result ≡ loaded part.now (table_from root) virt.now }
 {
     if is_virtual(virt.mode) {
-        to_nested(virt, part)
+        to_nested(virt, part, root)
     } else {
-        to_guest_hs(virt, part)
+        to_guest_hs(virt, part, root)
     }
 }
 
 /// What the hart has for a guest with V = 0: its VS stands for the guest's HS, its VU for the guest's U.
-pub fn to_guest_hs(virt: &Virtual, part: &Part) -> Virtual
+pub fn to_guest_hs(virt: &Virtual, part: &Part, root: u64) -> Virtual
     requires own { is_virtual virt.now.mode ≡ false }
     requires held { ReservesHeld (in_ram part.now.blocks) virt.now.reservation }
-    ensures { result ≡ loaded part.now virt.now }
+    ensures { result ≡ loaded part.now (table_from root) virt.now }
 {
-    with_csrs(virt, part, csrs_of_hs(host_root(part), &virt.csrs))
+    with_csrs(virt, part, csrs_of_hs(table_from(root), &virt.csrs))
 }
 
 /// What the hart has for a guest with V = 1: its VS stands for the guest's VS, its VU for the guest's VU.
-pub fn to_nested(virt: &Virtual, part: &Part) -> Virtual
+pub fn to_nested(virt: &Virtual, part: &Part, root: u64) -> Virtual
     requires nested { is_virtual virt.now.mode ≡ true }
     requires held { ReservesHeld (in_ram part.now.blocks) virt.now.reservation }
-    ensures { result ≡ loaded part.now virt.now }
+    ensures { result ≡ loaded part.now (table_from root) virt.now }
 {
-    with_csrs(virt, part, csrs_of_vs(host_root(part), &virt.csrs))
+    with_csrs(virt, part, csrs_of_vs(table_from(root), &virt.csrs))
 }
 
 /// Gives the guest that has this part what the hart has for it, after a run whose last step was a trap into
@@ -160,12 +160,12 @@ fn ram_place(part: &Part, place: u64) -> Option<u64>
 }
 
 // Sv39x4, with VMID 0.
-fn host_root(part: &Part) -> GuestRoot
-    ensures { result ≡ host_root part.now }
+fn table_from(frame: u64) -> GuestRoot
+    ensures { result ≡ table_from frame }
 {
     GuestRoot::Sv39x4 {
         vmid: 0,
-        page: part.host_root(),
+        page: frame,
     }
 }
 

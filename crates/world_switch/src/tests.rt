@@ -16,6 +16,9 @@ const TIMER: Interrupts = Interrupts {
     external: false,
 };
 
+// The first frame of the root of the table under which the hart is to run.
+const ROOT: u64 = 8;
+
 // A part with these blocks.
 fn part_of(blocks: &[u32], first_root: u32, first_table: u32) -> Part
     requires { names_each_once (record {
@@ -64,7 +67,7 @@ fn loaded(rt: HostRuntime) {
     let part = part();
     for (mode, hosted) in [(Mode::HS, Mode::VS), (Mode::U, Mode::VU)] {
         let virt = guest(mode);
-        let hart = load(&virt, &part);
+        let hart = load(&virt, &part, ROOT);
         assert_eq!(rt; (hart.mode, hart.regs), (hosted, virt.regs));
         assert_eq!(rt; hart.csrs.vs, virt.csrs.hs);
         assert_eq!(rt;
@@ -84,11 +87,16 @@ fn loaded(rt: HostRuntime) {
     }
 }
 
-// The host table's root is that of the part: hgatp has MODE 8 (Sv39x4), VMID 0 and PPN 8 (8.2.10).
+// hgatp has MODE 8 (Sv39x4), VMID 0 and for PPN the frame of the root (8.2.10).
 #[test]
-fn under_the_host_table(rt: HostRuntime) {
-    let hart = load(&guest(Mode::HS), &part());
-    assert_eq!(rt; hart.csrs.hgatp, GuestRoot::Sv39x4 { vmid: 0, page: 8 });
+fn under_a_table(rt: HostRuntime) {
+    for mode in [Mode::HS, Mode::U, Mode::VS, Mode::VU] {
+        for root in [8, 24] {
+            let hart = load(&guest(mode), &part(), root);
+            let page = root;
+            assert_eq!(rt; hart.csrs.hgatp, GuestRoot::Sv39x4 { vmid: 0, page });
+        }
+    }
 }
 
 // What the hart reserves for a guest that reserves eight bytes at this address, and what the guest has back.
@@ -97,7 +105,7 @@ fn reserved_at(address: u64, part: &Part) -> (Option<(u64, u8)>, Option<(u64, u8
 {
     let mut virt = Virtual::starting_at(Mode::HS, START);
     virt.reservation = Some((address, 8));
-    let hart = load(&virt, part);
+    let hart = load(&virt, part, ROOT);
     let mut after = Virtual::starting_at(Mode::HS, START);
     take_back(&hart, part, false, &mut after);
     (hart.reservation, after.reservation)
@@ -130,9 +138,9 @@ fn reservations(rt: HostRuntime) {
 fn no_reservation(rt: HostRuntime) {
     let part = part();
     let virt = Virtual::starting_at(Mode::HS, START);
-    assert_eq!(rt; load(&virt, &part).reservation, None);
+    assert_eq!(rt; load(&virt, &part, ROOT).reservation, None);
     let mut virt = guest(Mode::HS);
-    let mut hart = load(&virt, &part);
+    let mut hart = load(&virt, &part, ROOT);
     hart.reservation = None;
     take_back(&hart, &part, false, &mut virt);
     assert_eq!(rt; virt.reservation, None);
@@ -144,7 +152,7 @@ fn saved(rt: HostRuntime) {
     let part = part();
     for mode in [Mode::HS, Mode::U] {
         let virt = guest(mode);
-        let hart = load(&virt, &part);
+        let hart = load(&virt, &part, ROOT);
         let mut after = virt;
         take_back(&hart, &part, false, &mut after);
         assert_eq!(rt; after, virt);
@@ -170,7 +178,7 @@ fn fixed_up(rt: HostRuntime) {
 fn taken_back(rt: HostRuntime) {
     let part = part();
     let virt = guest(Mode::U);
-    let mut hart = load(&virt, &part);
+    let mut hart = load(&virt, &part, ROOT);
     hart.mode = Mode::VS;
     hart.csrs.vs.cause = 8;
     for trapped in [false, true] {

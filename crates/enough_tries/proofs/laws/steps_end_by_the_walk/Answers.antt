@@ -1,6 +1,6 @@
 use Rattle.enough_tries.proofs.Leaves.{fills_can_be_made}
 use Rattle.enough_tries.proofs.Ruling.{steps_end_by_rule, tries_end_by_rule}
-use Rattle.enough_tries.proofs.Walks.{fills_are_walks, fills_serve_the_page}
+use Rattle.enough_tries.proofs.Walks.{fills_are_walks, fills_serve_the_page, page_has_one_entry}
 use Rattle.enough_tries.proofs.laws.steps_end_by_the_walk.Goals as goal
 
 pub returns-clause-places : goal.returns-clause-places
@@ -17,3 +17,6 @@ returns-clause-steps c = steps_end_by_rule
 
 pub returns-clause-page : goal.returns-clause-page
 returns-clause-page c = fills_serve_the_page
+
+pub returns-clause-same : goal.returns-clause-same
+returns-clause-same c = page_has_one_entry

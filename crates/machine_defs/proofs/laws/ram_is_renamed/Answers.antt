@@ -1,5 +1,8 @@
-use Rattle.machine_defs.proofs.HostPlaces.{only_ram_changes, ram_is_renamed, ram_is_stored}
+use Rattle.machine_defs.proofs.HostPlaces.{only_ram_changes, places_are_renamed, ram_is_renamed, ram_is_stored}
 use Rattle.machine_defs.proofs.laws.ram_is_renamed.Goals as goal
+
+pub returns-clause-places : goal.returns-clause-places
+returns-clause-places c = places_are_renamed
 
 pub returns-clause-renames : goal.returns-clause-renames
 returns-clause-renames c = ram_is_renamed

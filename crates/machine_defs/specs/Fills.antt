@@ -4,14 +4,14 @@ use Rattle.std.specs.Prelude.{ℕ, zero, suc, ◌+◌, List, [], ◌∷◌, Opti
 use Rattle.arch_defs.specs.declared.cached.Entry.{Entry}
 use Rattle.arch_defs.specs.declared.registers.Csrs.{Csrs}
 use Rattle.arch_defs.specs.declared.registers.Virtual.{Virtual}
+use Rattle.arch_defs.specs.CachedEntries.{filled, second_by}
 use Rattle.arch_defs.specs.Interrupts.{due}
 use Rattle.arch_defs.specs.Memory.{ram_base, reading_of}
+use Rattle.arch_defs.specs.Spaces.{Space}
+use Rattle.arch_defs.specs.WalkedEntries.{entry_now, folds}
 use Rattle.machine_defs.specs.Core.{core}
 use Rattle.machine_defs.specs.Machine.{Machine}
-use Rattle.arch_defs.specs.Spaces.{Space}
 use Rattle.machine_defs.specs.Outcomes.{Outcome, Stuck}
-use Rattle.arch_defs.specs.CachedEntries.{filled, second_by}
-use Rattle.arch_defs.specs.WalkedEntries.{entry_now, folds}
 
 -- what an instruction lacks: where it stops at an access without a place, what is filled for that
 abbrev pub lacking_at : Csrs → List ℕ → Outcome → Option Entry

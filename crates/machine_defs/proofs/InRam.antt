@@ -16,35 +16,31 @@ use Rattle.arch_defs.specs.declared.registers.Csrs.{Csrs}
 use Rattle.arch_defs.specs.declared.registers.GuestRoot.{GuestRoot}
 use Rattle.arch_defs.specs.declared.registers.GuestRoot.TheVariants as root
 use Rattle.arch_defs.specs.declared.registers.Virtual.{Virtual}
+use Rattle.arch_defs.specs.CachedEntries.{entry_at, filled, leaf_of, place_by, second_by, without}
 use Rattle.arch_defs.specs.Interrupts.{due, interrupt_of}
 use Rattle.arch_defs.specs.Memory.{Stored, bare, ram_base, reading_of, with_stored}
 use Rattle.arch_defs.specs.Registers.{read, a7}
 use Rattle.arch_defs.specs.SecondStage.{unplaced_trap}
+use Rattle.arch_defs.specs.Spaces.{Space, entered, fenced, fenced_space, found_or_empty, front, is_for}
 use Rattle.arch_defs.specs.Traps.{entered_at, target}
 use Rattle.arch_defs.specs.Walk.{leaf_address}
+use Rattle.arch_defs.specs.WalkedEntries.{entry_by_table, entry_now, folds}
 use Rattle.arch_defs.proofs.Pastes.{length_pasted}
 use Rattle.machine_defs.specs.declared.events.Event.{Event}
+use Rattle.machine_defs.specs.declared.events.Event.TheVariants as event
 use Rattle.machine_defs.specs.declared.guests.Status.{Status}
 use Rattle.machine_defs.specs.declared.guests.Status.TheVariants as status
-use Rattle.machine_defs.specs.Machine.{Machine, Platform, Tried, Ended, WaitsForGood, Outside, trapped}
-use Rattle.arch_defs.specs.Spaces.{Space, found_or_empty, front, is_root}
+use Rattle.machine_defs.specs.Fills.{after_fill, after_fills, fill, filled_front, lacking, lacking_under, lacking_with, most_fills}
+use Rattle.machine_defs.specs.GuestAccesses.{GuestOutcome, Completes, Traps}
+use Rattle.machine_defs.specs.Machine.{Machine, Platform, Tried, Ended, WaitsForGood, has_enabled_interrupt, start, trapped, waited_until}
 use Rattle.machine_defs.specs.Outcomes.{Outcome, Done, Trapped, Stuck, Called, Waits, Fenced, Accesses}
-use Rattle.arch_defs.specs.Inputs.{has_input}
 use Rattle.machine_defs.specs.Renaming.{GivesHeld, LeavesHeld, Places, ReservesHeld, StoresHeld}
-use Rattle.machine_defs.specs.Reservations.{ReservesInRam, ram_places}
-use Rattle.machine_defs.specs.Runs.{left_by}
+use Rattle.machine_defs.specs.Reservations.{CachesInRam, FillStaysInRam, GivesRam, IsInRam, KeepsInRam, ReservesInRam, StartIsInRam, StaysInRam, TryStaysInRam, places_from, ram_places}
+use Rattle.machine_defs.specs.Runs.{left_by, run, step, step_within, stepped}
+use Rattle.machine_defs.specs.Tries.{accessed_for_guest, concluded, enters, made, second_of, spaces_after, tried_with, try, try_under}
+use Rattle.machine_defs.proofs.Cached.{all_found, either, given, placed, stopped}
+use Rattle.machine_defs.proofs.GuestAccesses.{CompletesHeld, bare_held, guest_held}
 use Rattle.machine_defs.proofs.Renaming.{stays_held}
-use Rattle.arch_defs.specs.CachedEntries.{entry_at, filled, leaf_of, place_by, second_by, without}
-use Rattle.enough_tries.specs.Fills.{after_fill, after_fills, fill, filled_front, lacking, lacking_under, lacking_with, most_fills}
-use Rattle.arch_defs.specs.WalkedEntries.{entry_by_table, entry_now, folds}
-use Rattle.enough_tries.specs.Keeping.{CachesInRam, IsInRam, StaysInRam}
-use Rattle.enough_tries.specs.Spaces.{cut, cut_one, enter}
-use Rattle.enough_tries.specs.Steps.{run, step, step_within, stepped}
-use Rattle.enough_tries.specs.Tries.{concluded, enters, made, second_of, spaces_after, tried_with, try, try_under}
-use Rattle.enough_tries.proofs.Asking.{either}
-use Rattle.enough_tries.proofs.Counting.{all_found}
-use Rattle.enough_tries.proofs.Fresh.{placed, stopped}
-use Rattle.enough_tries.proofs.Walks.{given}
 
 -- what holds of each entry of each space
 abbrev pub EachHolds : (Entry → Type 0) → List Space → Type 0
@@ -60,25 +56,23 @@ front_holds P most [] e all one = all
 front_holds P most (s ∷ ss) e all one = All-cons (λ (s : Space). All P s.entries) (record s { entries = filled most s.entries e }) ss
     (filled_holds P most s.entries e (All-head (λ (s : Space). All P s.entries) s ss all) one) (All-tail (λ (s : Space). All P s.entries) s ss all)
 
-cut_holds : (P : Entry → Type 0) (fence : Fence) (spaces : List Space) → EachHolds P spaces → EachHolds P (cut fence spaces)
-cut_holds P fence spaces all = All-map (λ (s : Space). All P s.entries) (cut_one fence) spaces
-    (All-weaker (λ (s : Space). All P s.entries) (λ (s : Space). All P (cut_one fence s).entries) (λ s of_s. All-filter _ P s.entries of_s) spaces all)
+fenced_holds : (P : Entry → Type 0) (fence : Fence) (spaces : List Space) → EachHolds P spaces → EachHolds P (fenced fence spaces)
+unfolding fenced
+fenced_holds P fence spaces all = All-map (λ (s : Space). All P s.entries) (fenced_space fence) spaces
+    (All-weaker (λ (s : Space). All P s.entries) (λ (s : Space). All P (fenced_space fence s).entries) (λ s of_s. All-filter _ P s.entries of_s) spaces all)
 
-own_holds : (P : Entry → Type 0) (key : GuestRoot) (spaces : List Space) (there : Option Space) → find (λ s. is_root s.key key) spaces ≡ there → EachHolds P spaces
+own_holds : (P : Entry → Type 0) (key : GuestRoot) (spaces : List Space) (there : Option Space) → find (is_for key) spaces ≡ there → EachHolds P spaces
     → All P (found_or_empty key there).entries
-own_holds P key spaces (Some s) is all = all_found (λ (s : Space). All P s.entries) (λ s. is_root s.key key) spaces s all is
+own_holds P key spaces (Some s) is all = all_found (λ (s : Space). All P s.entries) (is_for key) spaces s all is
 own_holds P key spaces None is all = All-nil P
 
-enter_holds : (P : Entry → Type 0) (room : ℕ) (key : GuestRoot) (spaces : List Space) → EachHolds P spaces → EachHolds P (enter room key spaces)
-enter_holds P room key spaces all = All-take (λ (s : Space). All P s.entries) room _ (All-cons (λ (s : Space). All P s.entries) _ _
-    (own_holds P key spaces (find (λ s. is_root s.key key) spaces) refl all) (All-filter _ (λ (s : Space). All P s.entries) spaces all))
+entered_holds : (P : Entry → Type 0) (room : ℕ) (key : GuestRoot) (spaces : List Space) → EachHolds P spaces → EachHolds P (entered room key spaces)
+unfolding entered
+entered_holds P room key spaces all = All-take (λ (s : Space). All P s.entries) room _ (All-cons (λ (s : Space). All P s.entries) _ _
+    (own_holds P key spaces (find (is_for key) spaces) refl all) (All-filter _ (λ (s : Space). All P s.entries) spaces all))
 
 after_holds : (P : Entry → Type 0) (m : Machine) (after : Virtual) → EachHolds P m.spaces → EachHolds P (spaces_after m after)
-after_holds P m after all = either (EachHolds P) (enters m.platform.virt after) _ _ (enter_holds P m.space_room after.csrs.hgatp m.spaces all) all
-
--- the places of a RAM of so many bytes
-abbrev ram_of_size : ℕ → Places
-ram_of_size size place = nat_le ram_base place && nat_lt place (ram_base + size)
+after_holds P m after all = either (EachHolds P) (enters m.platform.virt after) _ _ (entered_holds P m.space_room after.csrs.hgatp m.spaces all) all
 
 -- a machine's second stage gives places of RAM alone
 in_frame : (frame address size : ℕ) → 2147483648 ≤ 4096 * frame → 4096 * frame + 4096 ≤ 2147483648 + size
@@ -86,7 +80,7 @@ in_frame : (frame address size : ℕ) → 2147483648 ≤ 4096 * frame → 4096 *
     × ((4096 * frame + address % 4096) % 4096 ≡ address % 4096)
 in_frame frame address size low high = (grind arith, omega arith)
 
-by_entries : (size : ℕ) (mxr : Bool) (entries : List Entry) → All (IsInRam size) entries → GivesHeld (ram_of_size size) (second_by entries mxr)
+by_entries : (size : ℕ) (mxr : Bool) (entries : List Entry) → All (IsInRam size) entries → GivesHeld (places_from ram_base size) (second_by entries mxr)
 unfolding second_by
 by_entries size mxr entries all address place access is =
     let held = placed mxr address place access (entry_at (address / 4096) entries) is in
@@ -94,23 +88,16 @@ by_entries size mxr entries all address place access is =
     let at : Some (leaf_address (leaf_of held.0) address) ≡ Some place =
     sym (ap (place_by mxr address access) held.1 ∙ ap (λ b. cond b (Some (leaf_address (leaf_of held.0) address)) None) held.2) ∙ is in
     let same : leaf_address (leaf_of held.0) address ≡ place = cc in
-    subst (λ p. (ram_of_size size p ≡ true) × (p % 4096 ≡ address % 4096)) same (in_frame held.0.frame address size one.0 one.1)
-
-by_ram : (size : ℕ) → GivesHeld (ram_of_size size) (bare ram_base size)
-by_ram size address place access is = by (ram_of_size size address) refl is
-  where
-    by : (b : Bool) → ram_of_size size address ≡ b → cond b (Some address) None ≡ Some place → (ram_of_size size place ≡ true) × (place % 4096 ≡ address % 4096)
-    by true in_it is = let e : address ≡ place = cc in rw (← e) (in_it, refl)
-    by false out is = absurd cc
+    subst (λ p. (places_from ram_base size p ≡ true) × (p % 4096 ≡ address % 4096)) same (in_frame held.0.frame address size one.0 one.1)
 
 front_in : (size : ℕ) (spaces : List Space) → EachHolds (IsInRam size) spaces → All (IsInRam size) (front spaces)
 front_in size [] all = All-nil (IsInRam size)
 front_in size (s ∷ ss) all = All-head (λ (s : Space). All (IsInRam size) s.entries) s ss all
 
-inside : (m : Machine) → CachesInRam m → GivesHeld (ram_places m) (second_of m)
-inside m caches = either (GivesHeld (ram_places m)) (folds m.platform.virt)
+pub gives_ram : GivesRam
+gives_ram = λ m caches. either (GivesHeld (ram_places m)) (folds m.platform.virt)
     (second_by (front m.spaces) m.platform.virt.csrs.hs.status.mxr) (bare ram_base (length m.ram))
-    (by_entries (length m.ram) m.platform.virt.csrs.hs.status.mxr (front m.spaces) (front_in (length m.ram) m.spaces caches)) (by_ram (length m.ram))
+    (by_entries (length m.ram) m.platform.virt.csrs.hs.status.mxr (front m.spaces) (front_in (length m.ram) m.spaces caches)) (bare_held ram_base (length m.ram))
 
 -- what is filled is in RAM
 now_in : (csrs : Csrs) (ram : List ℕ) (address : ℕ) (kind : Access) (e : Entry) → entry_now csrs ram address kind ≡ Some e → IsInRam (length ram) e
@@ -137,23 +124,22 @@ lacking_in m e is = by (folds m.platform.virt) m.spaces (due m.platform.virt.csr
     by true [] code is = absurd cc
     by false spaces code is = absurd cc
 
--- what a step keeps
-abbrev Keeps : Machine → Machine → Type 0
-Keeps m after = CachesInRam after × ReservesInRam after × (length after.ram ≡ length m.ram)
+-- what a fill keeps, and fills do
+pub fill_stays_in_ram : FillStaysInRam
+fill_stays_in_ram m e caches kept is = (front_holds (IsInRam (length m.ram)) m.entry_room m.spaces e caches (lacking_in m e is), kept, refl)
 
-fills_keep : (n : ℕ) (m : Machine) → CachesInRam m → ReservesInRam m → Keeps m (after_fills n m)
+fills_keep : (n : ℕ) (m : Machine) → CachesInRam m → ReservesInRam m → KeepsInRam m (after_fills n m)
 unfolding after_fills
 fills_keep zero m caches kept = (caches, kept, refl)
 fills_keep (suc n) m caches kept = by (lacking m) refl (λ t. fills_keep n t)
   where
-    by : (there : Option Entry) → lacking m ≡ there → ((t : Machine) → CachesInRam t → ReservesInRam t → Keeps t (after_fills n t)) → Keeps m (after_fill (after_fills n) m there)
+    by : (there : Option Entry) → lacking m ≡ there → ((t : Machine) → CachesInRam t → ReservesInRam t → KeepsInRam t (after_fills n t)) → KeepsInRam m (after_fill (after_fills n) m there)
     by None is deeper = (caches, kept, refl)
-    by (Some e) is deeper = deeper (fill m e) (front_holds (IsInRam (length m.ram)) m.entry_room m.spaces e caches (lacking_in m e is)) kept
+    by (Some e) is deeper = let one = fill_stays_in_ram m e caches kept is in deeper (fill m e) one.0 one.1
 
 abbrev TryKeeps : Machine → Tried → Type 0
-TryKeeps m (Ended after event) = Keeps m after
+TryKeeps m (Ended after event) = KeepsInRam m after
 TryKeeps m WaitsForGood = Unit {0}
-TryKeeps m Outside = Unit {0}
 
 -- a store inside one page of RAM ends in RAM
 ends_inside : (place n size : ℕ) → (nat_le 2147483648 place && nat_lt place (2147483648 + size)) ≡ true → size % 4096 ≡ 0 → place % 4096 + n ≤ 4096
@@ -174,57 +160,72 @@ entered_keeps held s kept trap VS = kept
 trapped_keeps : (m : Machine) → CachesInRam m → ReservesInRam m → (trap : Trap) → TryKeeps m (trapped m trap)
 trapped_keeps m caches kept trap = let s = m.platform.virt in (caches, entered_keeps (ram_places m) s kept trap (target s.csrs s.mode trap), refl)
 
--- and so does a call
-called_keeps : (m : Machine) → CachesInRam m → ReservesInRam m → TryKeeps m (concluded m Called)
-called_keeps m caches kept =
-    (caches, either (λ (p : Platform). ReservesHeld (ram_places m) p.virt.reservation) (read m.platform.virt.regs a7 == 8) _ _ kept kept, refl)
-
 -- an instruction reserves and stores in RAM
 made_keeps : (m : Machine) → length m.ram % 4096 ≡ 0 → CachesInRam m → (virt : Virtual) (stored : Option Stored) (event : Event)
     → StoresHeld (ram_places m) stored → ReservesHeld (ram_places m) virt.reservation → TryKeeps m (made m virt stored event)
 made_keeps m whole caches virt stored event stores reserves = let same = size_kept m stored whole stores in (
   subst (λ size. EachHolds (IsInRam size) (spaces_after m virt)) (sym same) (after_holds (IsInRam (length m.ram)) m virt caches),
-  subst (λ size. ReservesHeld (ram_of_size size) virt.reservation) (sym same) reserves,
+  subst (λ size. ReservesHeld (places_from ram_base size) virt.reservation) (sym same) reserves,
   same,
 )
+
+-- a wait stores nothing and leaves what is reserved, and so does a call
+waited_keeps : (m : Machine) → CachesInRam m → (virt : Virtual) → ReservesHeld (ram_places m) virt.reservation → (moment : Option ℕ) → TryKeeps m (waited_until m virt moment)
+waited_keeps m caches virt kept (Some moment) = (caches, kept, refl)
+waited_keeps m caches virt kept None = tt
+
+called_keeps : (m : Machine) → CachesInRam m → ReservesInRam m → TryKeeps m (concluded m Called)
+called_keeps m caches kept = (
+  caches,
+  either (λ (p : Platform). ReservesHeld (ram_places m) p.virt.reservation) (read m.platform.virt.regs a7 == 8) _ _ kept kept,
+  refl,
+)
+
+-- an access as VS or VU stores in RAM
+accessed_keeps : (m : Machine) → length m.ram % 4096 ≡ 0 → CachesInRam m → ReservesInRam m → (o : GuestOutcome) → CompletesHeld (ram_places m) o
+    → TryKeeps m (accessed_for_guest m o)
+accessed_keeps m whole caches kept (Completes virt stored) (stores, reserves) = made_keeps m whole caches virt stored event.System stores reserves
+accessed_keeps m whole caches kept (Traps trap) leaves = trapped_keeps m caches kept trap
 
 concluded_keeps : (m : Machine) → length m.ram % 4096 ≡ 0 → CachesInRam m → ReservesInRam m → (o : Outcome) → LeavesHeld (ram_places m) o → TryKeeps m (concluded m o)
 concluded_keeps m whole caches kept (Done virt stored event) (stores, reserves) = made_keeps m whole caches virt stored event stores reserves
 concluded_keeps m whole caches kept (Trapped trap) leaves = trapped_keeps m caches kept trap
 concluded_keeps m whole caches kept (Stuck unplaced) leaves = trapped_keeps m caches kept (unplaced_trap m.platform.virt.csrs ram_base m.ram unplaced)
 concluded_keeps m whole caches kept Called leaves = called_keeps m caches kept
-concluded_keeps m whole caches kept (Waits virt) leaves = tt
-concluded_keeps m whole caches kept (Fenced virt fence) leaves = (cut_holds (IsInRam (length m.ram)) fence m.spaces caches, leaves, refl)
-concluded_keeps m whole caches kept (Accesses access) leaves = tt
+concluded_keeps m whole caches kept (Waits virt) leaves =
+    either (TryKeeps m) (has_enabled_interrupt m.platform.virt.csrs) _ _ (caches, leaves, refl) (waited_keeps m caches virt leaves _)
+concluded_keeps m whole caches kept (Fenced virt fence) leaves = (fenced_holds (IsInRam (length m.ram)) fence m.spaces caches, leaves, refl)
+concluded_keeps m whole caches kept (Accesses access) leaves =
+    accessed_keeps m whole caches kept _ (guest_held ram_base m.ram m.platform.virt kept access)
 
 -- one try, one step and a run
 tried_keeps : (m : Machine) → length m.ram % 4096 ≡ 0 → CachesInRam m → ReservesInRam m → (code : Option ℕ) → TryKeeps m (tried_with (second_of m) m code)
 tried_keeps m whole caches kept (Some code) = trapped_keeps m caches kept (interrupt_of code)
 tried_keeps m whole caches kept None = concluded_keeps m whole caches kept _
-    (stays_held (ram_places m) (second_of m) (reading_of ram_base m.ram) m.platform.virt (inside m caches) kept)
+    (stays_held (ram_places m) (second_of m) (reading_of ram_base m.ram) m.platform.virt (gives_ram m caches) kept)
 
 try_keeps : (m : Machine) → length m.ram % 4096 ≡ 0 → CachesInRam m → ReservesInRam m → TryKeeps m (try m)
 unfolding try_under
-try_keeps m whole caches kept = either (TryKeeps m) (has_input m.platform.console.inputs m.platform.clock.time) _ _ tt
-    (tried_keeps m whole caches kept (due m.platform.virt.csrs m.platform.virt.mode))
+try_keeps m whole caches kept = tried_keeps m whole caches kept (due m.platform.virt.csrs m.platform.virt.mode)
 
-left_keeps : (m : Machine) → CachesInRam m → ReservesInRam m → (t : Tried) → TryKeeps m t → Keeps m (left_by m t)
+left_keeps : (m : Machine) → CachesInRam m → ReservesInRam m → (t : Tried) → TryKeeps m t → KeepsInRam m (left_by m t)
 left_keeps m caches kept (Ended after event) keeps = keeps
 left_keeps m caches kept WaitsForGood keeps = (caches, kept, refl)
-left_keeps m caches kept Outside keeps = (caches, kept, refl)
 
-within_keeps : (n : ℕ) (m : Machine) → length m.ram % 4096 ≡ 0 → CachesInRam m → ReservesInRam m → Keeps m (step_within n m)
+pub try_stays_in_ram : TryStaysInRam
+try_stays_in_ram m whole caches kept = left_keeps m caches kept (try m) (try_keeps m whole caches kept)
+
+within_keeps : (n : ℕ) (m : Machine) → length m.ram % 4096 ≡ 0 → CachesInRam m → ReservesInRam m → KeepsInRam m (step_within n m)
 within_keeps n m whole caches kept = let fills = fills_keep n m caches kept in
-    let last = left_keeps (after_fills n m) fills.0 fills.1 (try (after_fills n m)) (try_keeps (after_fills n m) (rw fills.2 whole) fills.0 fills.1) in
+    let last = try_stays_in_ram (after_fills n m) (rw fills.2 whole) fills.0 fills.1 in
     (last.0, last.1, last.2 ∙ fills.2)
 
-stepped_keeps : (m : Machine) → length m.ram % 4096 ≡ 0 → CachesInRam m → ReservesInRam m → (s : Status) → Keeps m (stepped m s)
+stepped_keeps : (m : Machine) → length m.ram % 4096 ≡ 0 → CachesInRam m → ReservesInRam m → (s : Status) → KeepsInRam m (stepped m s)
 stepped_keeps m whole caches kept status.Running = within_keeps (most_fills m) m whole caches kept
 stepped_keeps m whole caches kept status.Waiting = (caches, kept, refl)
 stepped_keeps m whole caches kept status.Stopped = (caches, kept, refl)
-stepped_keeps m whole caches kept status.Outside = (caches, kept, refl)
 
-step_keeps : (m : Machine) → length m.ram % 4096 ≡ 0 → CachesInRam m → ReservesInRam m → Keeps m (step m)
+step_keeps : (m : Machine) → length m.ram % 4096 ≡ 0 → CachesInRam m → ReservesInRam m → KeepsInRam m (step m)
 unfolding step
 step_keeps m whole caches kept = stepped_keeps m whole caches kept m.platform.status
 
@@ -235,3 +236,8 @@ stays_in_ram m (suc n) whole caches kept =
     let one = step_keeps m whole caches kept in
     let all = stays_in_ram (step m) n (rw one.2 whole) one.0 one.1 in
     (all.0, all.1, all.2 ∙ one.2)
+
+-- at its start it has no spaces, and nothing is reserved
+pub start_is_in_ram : StartIsInRam
+unfolding start
+start_is_in_ram guest = (All-nil (λ (s : Space). All (IsInRam _) s.entries), tt)
