@@ -15,6 +15,7 @@ use Rattle.arch_defs.specs.declared.widths.Width.{Width}
 use Rattle.arch_defs.specs.declared.widths.Width.TheVariants.{Word}
 use Rattle.arch_defs.specs.Bits.{add64}
 use Rattle.arch_defs.specs.Memory.{Reading, SecondStage}
+use Rattle.arch_defs.specs.SecondStage.{guest_page_fault, is_implicit}
 use Rattle.arch_defs.specs.Registers.{advanced, read}
 use Rattle.arch_defs.specs.Translation.{first_stage}
 use Rattle.arch_defs.specs.Traps.{exception, is_virtual, misaligned_fault, page_fault}
@@ -27,11 +28,11 @@ use Rattle.op_defs.specs.declared.ops.Effect.TheVariants.{Sets, Raises, Loads, S
 use Rattle.op_defs.specs.Arithmetic.{amo}
 use Rattle.op_defs.specs.Meaning.{branch, holds, jump, meaning, next}
 use Rattle.op_defs.specs.Table.{op_of}
-use Rattle.machine_defs.specs.Core.{Located, At, Fails, called_from, core, decoded, executed, fetched, is_reserved, loaded_at, located, located_at, located_by, modified_at, own_access, reserved_at, stored_at, stored_if, stored_if_reserved, storing, word_at}
-use Rattle.machine_defs.specs.Outcomes.{Trapped, sets}
+use Rattle.machine_defs.specs.Core.{Located, At, Fails, Faults, called_from, core, decoded, executed, fetched, is_reserved, loaded_at, located, located_at, located_by, modified_at, own_access, reserved_at, stored_at, stored_if, stored_if_reserved, storing, word_at}
+use Rattle.machine_defs.specs.Outcomes.{sets}
 use Rattle.world_switch.specs.Hosting.{hosted, hosted_csrs, hosted_mode}
 use Rattle.world_switch.proofs.Undone.{translates_alike}
-use Rattle.guest_exit.specs.Following.{privileged_in, privileged_of}
+use Rattle.guest_exit.specs.Following.{access_of, privileged_in, privileged_of}
 use Rattle.guest_exit.proofs.Delegation.{IsOwn, own_0, own_12, own_13, own_15, own_2, own_3, own_4, own_6, own_8}
 use Rattle.guest_exit.proofs.Privileged.{privileged_stands}
 use Rattle.guest_exit.proofs.Stands.{Own, Call, Nested, SameMade, SamePlace, Stands, ended_stands, leaves}
@@ -51,30 +52,44 @@ misaligned_own Store = own_6
 misaligned_own ExecLoad = own_4
 misaligned_own Implicit = own_4
 
+-- the accesses that the hart makes, each of which its guest-page fault tells
+record IsPlain (access : Access) : Type 0 where
+  told : access_of (guest_page_fault access) ≡ access
+  explicit : is_implicit access ≡ false
+
+fetch_plain : IsPlain Fetch
+fetch_plain = record { told = refl; explicit = refl }
+
+load_plain : IsPlain Load
+load_plain = record { told = refl; explicit = refl }
+
+store_plain : IsPlain Store
+store_plain = record { told = refl; explicit = refl }
+
 -- where an access is made, link by link
-at_alike : (root : GuestRoot) (s : Virtual) (va : ℕ) (access : Access) (address : ℕ) (place : Option ℕ)
+at_alike : (root : GuestRoot) (s : Virtual) (va : ℕ) (access : Access) (address : ℕ) (place : Option ℕ) → IsPlain access
     → SamePlace root s (located_at s.mode va access address place) (located_at (hosted_mode s.mode) va access address place)
-at_alike root s va access address (Some place) = refl
-at_alike root s va access address None = (refl, refl)
+at_alike root s va access address (Some place) plain = refl
+at_alike root s va access address None plain = (refl, refl, record { access = plain.told; kind = rw plain.explicit refl })
 
-by_alike : (root : GuestRoot) (s : Virtual) (second : SecondStage) (va : ℕ) (access : Access) (found : Found)
+by_alike : (root : GuestRoot) (s : Virtual) (second : SecondStage) (va : ℕ) (access : Access) (found : Found) → IsPlain access
     → SamePlace root s (located_by second s.mode va access found) (located_by second (hosted_mode s.mode) va access found)
-by_alike root s second va access (Passes address) = at_alike root s va access address (second address access)
-by_alike root s second va access PageFaults = Own (page_fault access) va refl refl (page_fault_own access)
-by_alike root s second va access (Lacks place) = (refl, refl)
+by_alike root s second va access (Passes address) plain = at_alike root s va access address (second address access) plain
+by_alike root s second va access PageFaults plain = Own (page_fault access) va refl refl (page_fault_own access)
+by_alike root s second va access (Lacks place) plain = (refl, refl, record { access = plain.told; kind = refl })
 
-located_alike : (root : GuestRoot) (s : Virtual) (second : SecondStage) (reading : Reading) (va : ℕ) (access : Access)
+located_alike : (root : GuestRoot) (s : Virtual) (second : SecondStage) (reading : Reading) (va : ℕ) (access : Access) → IsPlain access
     → SamePlace root s (located second reading s.csrs s.mode va access) (located second reading (hosted_csrs root (is_virtual s.mode) s.csrs) (hosted_mode s.mode) va access)
-located_alike root s second reading va access =
-    rw (translates_alike root second reading s.csrs s.mode va access) (by_alike root s second va access (first_stage second reading s.csrs s.mode va access))
+located_alike root s second reading va access plain =
+    rw (translates_alike root second reading s.csrs s.mode va access) (by_alike root s second va access (first_stage second reading s.csrs s.mode va access) plain)
 
-access_alike : (root : GuestRoot) (s : Virtual) (second : SecondStage) (reading : Reading) (va : ℕ) (width : Width) (access : Access)
+access_alike : (root : GuestRoot) (s : Virtual) (second : SecondStage) (reading : Reading) (va : ℕ) (width : Width) (access : Access) → IsPlain access
     → SamePlace root s (own_access second reading s va width access) (own_access second reading (hosted root s) va width access)
-access_alike root s second reading va width access =
+access_alike root s second reading va width access plain =
     elim (va % bytes_in width == 0) as (λ b.
-    SamePlace root s (cond b (located second reading s.csrs s.mode va access) (Fails (Trapped (exception s.mode (misaligned_fault access) va))))
-    (cond b (located second reading (hosted_csrs root (is_virtual s.mode) s.csrs) (hosted_mode s.mode) va access) (Fails (Trapped (exception (hosted_mode s.mode) (misaligned_fault access) va)))))
-    [ true ↦ located_alike root s second reading va access | false ↦ Own (misaligned_fault access) va refl refl (misaligned_own access) ]
+    SamePlace root s (cond b (located second reading s.csrs s.mode va access) (Fails (Faults (exception s.mode (misaligned_fault access) va))))
+    (cond b (located second reading (hosted_csrs root (is_virtual s.mode) s.csrs) (hosted_mode s.mode) va access) (Fails (Faults (exception (hosted_mode s.mode) (misaligned_fault access) va)))))
+    [ true ↦ located_alike root s second reading va access plain | false ↦ Own (misaligned_fault access) va refl refl (misaligned_own access) ]
 
 -- each kind of access, by where it is made
 loaded_alike : (root : GuestRoot) (reading : Reading) (s : Virtual) (width : Width) (signed : Bool) (rd : ℕ) (own hart : Located) → SamePlace root s own hart
@@ -176,15 +191,15 @@ executed_alike : (root : GuestRoot) (second : SecondStage) (reading : Reading) (
 executed_alike root second reading s word (Sets rd value next) good small decided = leaves root s (advanced s.regs rd value next) s.reservation None
 executed_alike root second reading s word (Raises cause tval) good small decided = Own cause tval refl refl good
 executed_alike root second reading s word (Loads address width signed rd) good small decided =
-    loaded_alike root reading s width signed rd _ _ (access_alike root s second reading address width Load)
+    loaded_alike root reading s width signed rd _ _ (access_alike root s second reading address width Load load_plain)
 executed_alike root second reading s word (Stores address width value) good small decided =
-    stored_alike root s width value _ _ (access_alike root s second reading address width Store)
+    stored_alike root s width value _ _ (access_alike root s second reading address width Store store_plain)
 executed_alike root second reading s word (Reserves address width rd) good small decided =
-    reserved_alike root reading s width rd _ _ (access_alike root s second reading address width Load)
+    reserved_alike root reading s width rd _ _ (access_alike root s second reading address width Load load_plain)
 executed_alike root second reading s word (StoresReserved address width value rd) good small decided =
-    conditional_alike root s width value rd _ _ (access_alike root s second reading address width Store)
+    conditional_alike root s width value rd _ _ (access_alike root s second reading address width Store store_plain)
 executed_alike root second reading s word (Modifies o address width operand rd) good small decided =
-    modified_alike root reading s o width operand rd _ _ (access_alike root s second reading address width Store)
+    modified_alike root reading s o width operand rd _ _ (access_alike root s second reading address width Store store_plain)
 executed_alike root second reading s word Calls good small decided = called_alike root s s.mode
 executed_alike root second reading s word (Privileged p) good small decided = privileged_stands root s word p small decided
 
@@ -214,4 +229,4 @@ fetched_stands root second reading s (Fails own) (At hart) never = absurd never
 -- one instruction of the lone machine, and the same on the hart
 pub core_stands : (root : GuestRoot) (second : SecondStage) (reading : Reading) (s : Virtual) → Stands root s (core second reading s) (core second reading (hosted root s))
 unfolding core
-core_stands root second reading s = fetched_stands root second reading s _ _ (access_alike root s second reading s.regs.pc Word Fetch)
+core_stands root second reading s = fetched_stands root second reading s _ _ (access_alike root s second reading s.regs.pc Word Fetch fetch_plain)

@@ -1,37 +1,100 @@
 -- What the host makes of a step, as the step of the machine.
-use Rattle.std.proofs.Common.{cond, ◌≡◌, ℕ, List, Option, Some, None, Bool, true, false, refl, ap}
+use Rattle.std.specs.Prelude.{◌≢◌, ◌↔◌}
+use Rattle.std.proofs.Common.{cond, ◌≡◌, ℕ, List, Option, Some, None, Bool, true, false, refl, ap, sym, ◌∙◌}
+use Rattle.arch_defs.specs.declared.cached.Entry.{Entry}
+use Rattle.arch_defs.specs.declared.cached.Fence.{Fence}
 use Rattle.arch_defs.specs.declared.modes.Trap.{Trap}
 use Rattle.arch_defs.specs.declared.registers.Virtual.{Virtual}
+use Rattle.arch_defs.specs.Frames.{Only}
 use Rattle.arch_defs.specs.Inputs.{next_input}
-use Rattle.arch_defs.specs.Memory.{Stored}
+use Rattle.arch_defs.specs.Ram.{ram_of}
+use Rattle.arch_defs.specs.Spaces.{Space, entered, fenced}
 use Rattle.arch_defs.specs.Waits.{wake_moment}
+use Rattle.arch_defs.specs.WalkedEntries.{folds}
 use Rattle.machine_defs.specs.declared.events.Event.TheVariants.{System}
-use Rattle.machine_defs.specs.Machine.{Machine, Platform, has_enabled_interrupt, made, stepped_to, waited, waited_until, with_call}
-use Rattle.machine_defs.specs.Machine as tried
-use Rattle.machine_defs.specs.Outside.{sets_v_under_table}
+use Rattle.machine_defs.specs.Fills.{lacking}
+use Rattle.machine_defs.specs.Machine.{Machine, Platform, Tried, has_enabled_interrupt, stepped_to, ticked, trapped, waited, waited_until}
+use Rattle.machine_defs.specs.Outcomes.{Fenced}
+use Rattle.machine_defs.specs.Runs.{left_by}
+use Rattle.machine_defs.specs.Tries.{concluded, enters, made, try}
+use Rattle.shadow_pool.specs.Slots.{TidyPool, pool_frames, room_of, spaces_of}
 use Rattle.guest_exit.specs.declared.guests.Guest.{Guest}
-use Rattle.guest_exit.specs.Entering.{IsNotPlain}
-use Rattle.guest_exit.specs.Following.{other_step}
-use Rattle.guest_exit.specs.View.{StaysFixed, machine_of, seen}
+use Rattle.guest_exit.specs.declared.handling.Handled.{Handled}
+use Rattle.guest_exit.specs.declared.handling.Handled.TheVariants as handled
+use Rattle.guest_exit.specs.Entering.{Fills, IsMiss, IsNotPlain, MakesStep}
+use Rattle.guest_exit.specs.Following.{IsFault, other_step}
+use Rattle.guest_exit.specs.View.{IsPlaced, KeepsSpaces, StaysFixed, changed_by, machine_of, seen}
+use Rattle.guest_exit.proofs.Placed.{placed_by_fill, placed_by_step}
+use Rattle.guest_exit.proofs.Pools.{ram_by_pool}
 
--- the machine of a guest whose platform alone has changed
-pub machine_is : (old new : Guest) (p : Platform) (memory : List ℕ) → StaysFixed old new → seen new ≡ p
+-- the machine of a guest, by what has changed
+pub machine_as : (old new : Guest) (memory changed ram : List ℕ) (p : Platform) (spaces : List Space) → new.part ≡ old.part → seen new ≡ p
+    → ram_of old.part.blocks changed ≡ ram → spaces_of new.pool ≡ spaces → room_of new.pool ≡ room_of old.pool → new.pool.most ≡ old.pool.most
+    → machine_of new changed ≡ record (machine_of old memory) { platform = p; ram = ram; spaces = spaces }
+machine_as old new memory changed ram p spaces part e rams are room most =
+    rw (part, rams, are, room, most) (ap (λ p. record (machine_of old memory) { platform = p; ram = ram; spaces = spaces }) e)
+
+pub machine_is : (old new : Guest) (p : Platform) (memory : List ℕ) → KeepsSpaces old new → seen new ≡ p
     → machine_of new memory ≡ record (machine_of old memory) { platform = p }
 machine_is old new p memory fixed e =
-    rw (fixed.part, fixed.space_room, fixed.entry_room) (ap (λ p. record (machine_of old memory) { platform = p }) e)
+    rw (fixed.part, fixed.pool) (ap (λ p. record (machine_of old memory) { platform = p }) e)
+
+-- what leaves the spaces leaves all that no step changes
+pub stays_by : (old new : Guest) → KeepsSpaces old new → StaysFixed old new
+stays_by old new keeps = record { part = keeps.part; pool = rw keeps.pool refl; entry_room = rw keeps.pool refl; space_room = rw keeps.pool refl }
+
+-- an instruction that leaves this state, where it enters no space, and where it enters one
+pub made_stays : (old new : Guest) (memory : List ℕ) (virt : Virtual) → enters old.virt virt ≡ false → KeepsSpaces old new → seen new ≡ ticked (record (seen old) { virt = virt })
+    → machine_of new memory ≡ left_by (machine_of old memory) (made (machine_of old memory) virt None System)
+made_stays old new memory virt off keeps e = rw off (machine_is old new _ memory keeps e)
+
+pub made_enters : (old new : Guest) (memory changed : List ℕ) (virt : Virtual) → enters old.virt virt ≡ true → IsPlaced old memory → StaysFixed old new
+    → seen new ≡ ticked (record (seen old) { virt = virt }) → spaces_of new.pool ≡ entered (room_of old.pool) virt.csrs.hgatp (spaces_of old.pool) → Only (pool_frames old.pool) memory changed
+    → machine_of new changed ≡ left_by (machine_of old memory) (made (machine_of old memory) virt None System)
+made_enters old new memory changed virt on at fixed e are only =
+    rw on (machine_as old new memory changed _ _ _ fixed.part e (ram_by_pool old.part old.pool memory changed at.once at.own at.tidy at.held only) are fixed.space_room fixed.entry_room)
+
+-- a fence
+pub fence_made : (old new : Guest) (memory changed : List ℕ) (virt : Virtual) (fence : Fence) → IsPlaced old memory → StaysFixed old new
+    → seen new ≡ ticked (record (seen old) { virt = virt }) → spaces_of new.pool ≡ fenced fence (spaces_of old.pool) → Only (pool_frames old.pool) memory changed
+    → machine_of new changed ≡ left_by (machine_of old memory) (concluded (machine_of old memory) (Fenced virt fence))
+fence_made old new memory changed virt fence at fixed e are only =
+    machine_as old new memory changed _ _ _ fixed.part e (ram_by_pool old.part old.pool memory changed at.once at.own at.tidy at.held only) are fixed.space_room fixed.entry_room
+
+-- the answer tells whether a fill was made
+never_both : (m : Machine) → IsMiss m → lacking m ≡ None → ⊥
+never_both m (e, some) none = let both : Some e ≡ None = sym some ∙ none in absurd (cc)
+
+pub retries_exactly : (m after : Machine) (result : Handled) → (result ≢ handled.Retry → MakesStep m after) → (result ≡ handled.Retry → Fills m after)
+    → (result ≡ handled.Retry) ↔ IsMiss m
+retries_exactly m after handled.Retry step fill = let is = fill refl in (λ e. (is.0, is.1), λ miss. refl)
+retries_exactly m after handled.Stepped step fill = (λ e. absurd (cc), λ miss. absurd (never_both m miss (step (λ e. absurd (cc))).ready))
+retries_exactly m after handled.Waits step fill = (λ e. absurd (cc), λ miss. absurd (never_both m miss (step (λ e. absurd (cc))).ready))
+retries_exactly m after handled.Stopped step fill = (λ e. absurd (cc), λ miss. absurd (never_both m miss (step (λ e. absurd (cc))).ready))
+
+-- and memory holds the guest's part after either
+pub placed_by : (old new : Guest) (memory changed : List ℕ) (result : Handled) → IsPlaced old memory → StaysFixed old new → Only (changed_by old) memory changed → TidyPool new.pool changed
+    → (result ≢ handled.Retry → MakesStep (machine_of old memory) (machine_of new changed)) → (result ≡ handled.Retry → Fills (machine_of old memory) (machine_of new changed)) → IsPlaced new changed
+placed_by old new memory changed handled.Retry at fixed only tidy step fill = placed_by_fill old new memory changed at fixed only tidy (fill refl)
+placed_by old new memory changed handled.Stepped at fixed only tidy step fill = placed_by_step old new memory changed at fixed only tidy (step (λ e. absurd (cc)))
+placed_by old new memory changed handled.Waits at fixed only tidy step fill = placed_by_step old new memory changed at fixed only tidy (step (λ e. absurd (cc)))
+placed_by old new memory changed handled.Stopped at fixed only tidy step fill = placed_by_step old new memory changed at fixed only tidy (step (λ e. absurd (cc)))
 
 -- none of these is plain
 pub other_is_quiet : (m : Machine) (trap : Trap) (virtual : Bool) → IsNotPlain (other_step m trap virtual)
 other_is_quiet m trap false = record { trace = refl; plain = refl }
 other_is_quiet m trap true = record { trace = refl; plain = refl }
 
-unless_outside : (m : Machine) (virt : Virtual) (stored : Option Stored) (outside : Bool) (after : Machine)
-    → IsNotPlain (cond outside tried.Outside (tried.Ended after System))
-unless_outside m virt stored true after = record { trace = refl; plain = refl }
-unless_outside m virt stored false after = record { trace = refl; plain = refl }
+-- a guest-page fault of the hart is a trap of the machine, if nothing is filled
+trap_by : (m : Machine) (tried : Tried) (lacks : Option Entry) (trap : Trap) (folding : Bool) → IsFault m tried lacks trap folding → (t : Trap) × (tried ≡ trapped m t)
+trap_by m tried lacks trap false is = (_, is)
+trap_by m tried lacks trap true is = (_, is.faults)
 
-pub made_is_quiet : (m : Machine) (virt : Virtual) (stored : Option Stored) → IsNotPlain (made m virt stored System)
-made_is_quiet m virt stored = unless_outside m virt stored (sets_v_under_table m.platform.virt virt) _
+pub fault_traps : (m : Machine) (trap : Trap) → IsFault m (try m) (lacking m) trap (folds m.platform.virt) → (t : Trap) × (try m ≡ trapped m t)
+fault_traps m trap is = trap_by m (try m) (lacking m) trap (folds m.platform.virt) is
+
+pub fault_is_quiet : (m : Machine) (trap : Trap) → IsFault m (try m) (lacking m) trap (folds m.platform.virt) → IsNotPlain (try m)
+fault_is_quiet m trap is = rw (fault_traps m trap is).1 (record { trace = refl; plain = refl })
 
 until_is_quiet : (m : Machine) (virt : Virtual) (moment : Option ℕ) → IsNotPlain (waited_until m virt moment)
 until_is_quiet m virt (Some moment) = record { trace = refl; plain = refl }

@@ -11,30 +11,43 @@ use Rattle.arch_defs.specs.Frames.{Only, in_blocks}
 use Rattle.arch_defs.specs.Interrupts.{due, interrupt_of}
 use Rattle.arch_defs.specs.Layouts.{Layout}
 use Rattle.arch_defs.specs.Ram.{ram_of}
+use Rattle.arch_defs.specs.Memory.{block_size}
+use Rattle.enough_tries.specs.Keeping.{IsOrderly}
+use Rattle.std.specs.List.{All}
+use Rattle.std.specs.Prelude.{length, nat_lt, ◌*◌}
 use Rattle.arch_defs.specs.Traps.{is_virtual}
 use Rattle.arch_defs.proofs.FrameSets.{only_both, only_none}
 use Rattle.machine_defs.specs.declared.events.Event.{Event}
 use Rattle.machine_defs.specs.declared.events.Event.TheVariants as event
 use Rattle.machine_defs.specs.declared.guests.Status.TheVariants.{Running}
 use Rattle.machine_defs.specs.HostPlaces.{in_ram, memory_place}
-use Rattle.machine_defs.specs.Machine.{Machine, Platform, informed, ticked, timed, trapped, try, try_under}
+use Rattle.machine_defs.specs.Fills.{lacking}
+use Rattle.machine_defs.specs.Machine.{Machine, Platform, informed, ticked, timed, trapped}
+use Rattle.machine_defs.specs.Reservations.{IsInRam}
+use Rattle.machine_defs.specs.Tries.{try, try_under}
 use Rattle.arch_defs.specs.Inputs.{has_input}
-use Rattle.machine_defs.specs.Runs.{event_in, events, left_by, pc_and_word, run, trace_of}
+use Rattle.machine_defs.specs.Runs.{event_in, events, left_after, left_by, pc_and_word, run, trace_of}
 use Rattle.machine_defs.specs.Renaming.{ReservesHeld, renamed}
-use Rattle.machine_defs.proofs.Running.{events_compose, events_running, runs_compose, step_running}
+use Rattle.machine_defs.proofs.Running.{events_compose, runs_compose}
+use Rattle.enough_tries.specs.Budgets.{NeedNoFill}
+use Rattle.enough_tries.proofs.Filling.{interrupted_lacks_nothing}
+use Rattle.enough_tries.proofs.Orderly.{stays_orderly}
+use Rattle.enough_tries.proofs.Stepping.{step_ready, try_is_event}
 use Rattle.rv64_hart.specs.declared.harts.Why.{Why}
 use Rattle.rv64_hart.specs.declared.harts.Why.TheVariants.{Limit, Exit, VsTrap}
 use Rattle.rv64_hart.specs.Counts.{IsRaisedBy}
 use Rattle.rv64_hart.specs.Steps.{HartEnd, Goes, Exits, Progress, progress, progressed, enters_vs, hart_step, hart_steps, one_more, is_vs_trap, IsWhy}
 use Rattle.host_tables.proofs.Held.{held_stays}
-use Rattle.world_switch.specs.Hosting.{fixed_up, host_root, hosted, hosted_csrs, loaded, saved, saved_csrs, saved_mode, taken_back}
+use Rattle.shadow_pool.specs.Slots.{Pooled}
+use Rattle.world_switch.specs.Hosting.{fixed_up, hosted, hosted_csrs, loaded, saved, saved_csrs, saved_mode, table_from, taken_back}
 use Rattle.world_switch.specs.Laws.{KeepsHidden}
 use Rattle.world_switch.proofs.Registers.{none_waits}
 use Rattle.world_switch.proofs.Undone.{load_after_save, save_after_load, saved_v, virtual_mode}
 use Rattle.guest_exit.specs.Entering.{Hands, IsStopped, Lasts, moved}
-use Rattle.guest_exit.specs.Following.{Follows, IsAt, IsLeft, Keeps, event_for, host_takes}
+use Rattle.guest_exit.specs.Following.{Follows, IsAt, IsLeft, Keeps, event_for, host_takes, root_for, root_frame_for}
 use Rattle.guest_exit.proofs.Followed.{followed}
 use Rattle.guest_exit.proofs.Interrupts.{own_after}
+use Rattle.guest_exit.proofs.Pools.{size_of, tidy_by_blocks}
 use Rattle.guest_exit.proofs.Stands.{none_written}
 
 -- the machine's event has the hart's part in the account
@@ -56,18 +69,19 @@ abbrev pub placed : Machine → Virtual → List ℕ → ℕ → Machine
 placed m virt ram n = record m { platform = moved m.platform virt n; ram = ram }
 
 -- a step that the hart made in a part of machine memory is the machine's
-record MadeBy (part : Layout) (m : Machine) (memory : List ℕ) (t : ℕ) (q : Progress) : Type 0 where
+record MadeBy (part : Layout) (root : GuestRoot) (m : Machine) (memory : List ℕ) (t : ℕ) (q : Progress) : Type 0 where
   own : Virtual
   state : q.state ≡ renamed (memory_place part.blocks) own
   step : left_by m (try m) ≡ after_step m q.trapped own (ram_of part.blocks q.memory)
-  keeps : Keeps (host_root part) m.platform.virt own
+  ready : lacking m ≡ None
+  keeps : Keeps root m.platform.virt own
   held : ReservesHeld (in_ram part.blocks) own.reservation
   only : Only (in_blocks part.blocks) memory q.memory
   trace : IsRaisedBy (trace_of (event_in (try m))) t q.trace
 
-made : (part : Layout) (m : Machine) (memory : List ℕ) (end : HartEnd) (t : ℕ) (q : Progress) → Follows part m memory end → progressed true t end ≡ Some q
-    → MadeBy part m memory t q
-made part m memory (Goes state changed e) t q by some =
+made : (part : Layout) (root : GuestRoot) (m : Machine) (memory : List ℕ) (end : HartEnd) (t : ℕ) (q : Progress) → Follows part root m memory end → progressed true t end ≡ Some q
+    → MadeBy part root m memory t q
+made part root m memory (Goes state changed e) t q by some =
     let state_is : state ≡ q.state = cc in
     let memory_is : changed ≡ q.memory = cc in
     let trace_is : (t + pc_and_word e) % 2 ^ 64 ≡ q.trace = cc in
@@ -76,19 +90,21 @@ made part m memory (Goes state changed e) t q by some =
       own = by.own;
       state = rw (← state_is) by.state;
       step = rw (by.step, ← memory_is, ← trapped_is) refl;
+      ready = by.ready;
       keeps = by.keeps;
       held = by.held;
       only = rw (← memory_is) by.only;
       trace = rw (by.step, one_trace (is_virtual m.platform.virt.mode) e, ← trace_is) (mod_mod (t + pc_and_word e));
     }
-made part m memory (Exits trap) t q by some = cc
+made part root m memory (Exits trap) t q by some = cc
 
 -- so many steps of the hart are a run of the machine
-pub record Ran (part : Layout) (m : Machine) (memory : List ℕ) (t n : ℕ) (q : Progress) : Type 0 where
+pub record Ran (part : Layout) (pool : Pooled) (m : Machine) (memory : List ℕ) (t n : ℕ) (q : Progress) : Type 0 where
   pub own : Virtual
   pub state : q.state ≡ renamed (memory_place part.blocks) own
   pub machine : run m n ≡ placed m (taken_back q.trapped own m.platform.virt) (ram_of part.blocks q.memory) n
-  pub keeps : Keeps (host_root part) m.platform.virt own
+  pub need : NeedNoFill n m
+  pub keeps : Keeps (root_for part pool m.platform.virt) m.platform.virt own
   pub held : ReservesHeld (in_ram part.blocks) own.reservation
   pub only : Only (in_blocks part.blocks) memory q.memory
   pub trace : IsRaisedBy (trace_of (events m n)) t q.trace
@@ -107,9 +123,9 @@ told p limit n lasts h =
     record { timer = rw timer_stays timer_is; external = rw inputs_stay external_is }
 
 -- before a step of an entry the hart stands for the machine, and the step is not the host's
-record IsReady (part : Layout) (p : Platform) (hart : Virtual) : Type 0 where
+record IsReady (part : Layout) (root : GuestRoot) (p : Platform) (hart : Virtual) : Type 0 where
   own : host_takes p.virt ≡ false
-  stands : loaded part p.virt ≡ hart
+  stands : loaded part root p.virt ≡ hart
 
 -- loading again what was saved, with the registers that the clock sets
 timed_again : (root : GuestRoot) (virtual : Bool) (csrs hart : Csrs) (timer external : Bool) (clock : ℕ) → KeepsHidden root virtual csrs hart
@@ -139,17 +155,26 @@ own_at root m limit (suc n) hart ram lasts h keeps e =
     let t = told m.platform limit (suc n) lasts h in
     own_after root (is_virtual v.mode) v.csrs hart.csrs v.mode hart.mode _ _ _ refl keeps.csrs t.timer t.external lasts.own (lasts.interrupts some)
 
-ready : (part : Layout) (m : Machine) (limit n : ℕ) (own state : Virtual) (ram : List ℕ) → Lasts m.platform limit → n < limit → Keeps (host_root part) m.platform.virt own
+ready : (part : Layout) (root : GuestRoot) (m : Machine) (limit n : ℕ) (own state : Virtual) (ram : List ℕ) → Lasts m.platform limit → n < limit → Keeps root m.platform.virt own
     → state ≡ renamed (memory_place part.blocks) own → run m n ≡ placed m (saved own m.platform.virt) ram n
-    → IsReady part (moved m.platform (saved own m.platform.virt) n) state
-ready part m limit n own state ram lasts h keeps is e =
+    → IsReady part root (moved m.platform (saved own m.platform.virt) n) state
+ready part root m limit n own state ram lasts h keeps is e =
     let t = told m.platform limit n lasts h in
-    let again = stands_again (host_root part) m.platform.virt own (nat_le m.platform.clock.timer (m.platform.clock.time + n)) (has_input m.platform.console.inputs (m.platform.clock.time + n)) (m.platform.clock.time + n) keeps
+    let again = stands_again root m.platform.virt own (nat_le m.platform.clock.timer (m.platform.clock.time + n)) (has_input m.platform.console.inputs (m.platform.clock.time + n)) (m.platform.clock.time + n) keeps
     t.timer t.external in
     record {
-      own = own_at (host_root part) m limit n own ram lasts h keeps e;
+      own = own_at root m limit n own ram lasts h keeps e;
       stands = ap (renamed (memory_place part.blocks)) again ∙ sym is;
     }
+
+-- the hart runs under the same table, since V and hgatp stay
+hgatp_kept : (virtual : Bool) (hart before : Csrs) → (saved_csrs virtual hart before).hgatp ≡ before.hgatp
+hgatp_kept false hart before = refl
+hgatp_kept true hart before = refl
+
+same_root : (part : Layout) (pool : Pooled) (p : Platform) (hart : Virtual) (n : ℕ) → root_for part pool (moved p (saved hart p.virt) n).virt ≡ root_for part pool p.virt
+unfolding root_for
+same_root part pool p hart n = rw (saved_v (is_virtual p.virt.mode) hart.mode, hgatp_kept (is_virtual p.virt.mode) hart.csrs p.virt.csrs) refl
 
 -- one step further
 one_more_of : (a n : ℕ) → a + n + 1 ≡ a + (n + 1)
@@ -230,49 +255,82 @@ keeps_on root p n hart after t keeps then =
 raised_then : (a b t u w : ℕ) → IsRaisedBy a t u → IsRaisedBy b u w → IsRaisedBy (a + b) t w
 raised_then a b t u w e f = omega (arith, e, f)
 
-pub one_run : (m : Machine) → m.platform.status ≡ Running → run m 1 ≡ left_by m (try m)
+pub one_run : (m : Machine) → m.platform.status ≡ Running → lacking m ≡ None → run m 1 ≡ left_after m
 unfolding run
-one_run m h = step_running m h
+one_run m h none = step_ready m h none
 
-pub one_event : (m : Machine) → m.platform.status ≡ Running → events m 1 ≡ event_in (try m)
+pub one_event : (m : Machine) → m.platform.status ≡ Running → lacking m ≡ None → events m 1 ≡ event_in (try m)
 unfolding events
-one_event m h = rw (events_running m h) (append-nil (event_in (try m)))
+one_event m h none = try_is_event m 1 (omega arith) h none ∙ append-nil (event_in (try m))
 
 -- the machine of one step more
-pub run_further : (m placed : Machine) (n : ℕ) → run m n ≡ placed → placed.platform.status ≡ Running → run m (n + 1) ≡ left_by placed (try placed)
-run_further m placed n e h = rw (← runs_compose m n 1, e) (one_run placed h)
+pub run_further : (m placed : Machine) (n : ℕ) → run m n ≡ placed → placed.platform.status ≡ Running → lacking placed ≡ None → run m (n + 1) ≡ left_after placed
+run_further m placed n e h none = rw (← runs_compose m n 1, e) (one_run placed h none)
 
-pub trace_further : (m placed : Machine) (n t u w : ℕ) → run m n ≡ placed → placed.platform.status ≡ Running → IsRaisedBy (trace_of (events m n)) t u
+pub trace_further : (m placed : Machine) (n t u w : ℕ) → run m n ≡ placed → placed.platform.status ≡ Running → lacking placed ≡ None → IsRaisedBy (trace_of (events m n)) t u
     → IsRaisedBy (trace_of (event_in (try placed))) u w → IsRaisedBy (trace_of (events m (n + 1))) t w
-trace_further m placed n t u w e h before one =
-    rw (← events_compose m n 1, e, one_event placed h, sum_by-append pc_and_word (events m n) (event_in (try placed)))
+trace_further m placed n t u w e h none before one =
+    rw (← events_compose m n 1, e, one_event placed h none, sum_by-append pc_and_word (events m n) (event_in (try placed)))
     (raised_then _ _ t u w before one)
 
-ran_one : (part : Layout) (m : Machine) (memory : List ℕ) (limit t n : ℕ) (p q : Progress) → m.platform.status ≡ Running → Lasts m.platform limit → IsAt part m memory
-    → n < limit → Ran part m memory t n p → p.trapped ≡ false → progressed true p.trace (hart_step p.state p.memory) ≡ Some q → Ran part m memory t (n + 1) q
-ran_one part m memory limit t n p q running lasts at h ran fresh some =
+-- one step more that is made, and before which nothing is lacking
+abbrev Goes' : Machine → Type 0
+Goes' m = (m.platform.status ≡ Running) × (lacking m ≡ None)
+
+need_by : (m : Machine) (n i : ℕ) → NeedNoFill n m → Goes' (run m n) → i < n + 1 → (before : Bool) → nat_lt i n ≡ before → Goes' (run m i)
+need_by m n i need now within true e = need i (grind (arith, e))
+need_by m n i need now within false e = let same : n ≡ i = grind (arith, within, e) in subst (λ k. Goes' (run m k)) same now
+
+need_further : (m : Machine) (n : ℕ) → NeedNoFill n m → Goes' (run m n) → NeedNoFill (n + 1) m
+need_further m n need now = λ i within. need_by m n i need now within (nat_lt i n) refl
+
+-- before a step of an entry the machine is in its part
+at_next : (part : Layout) (pool : Pooled) (m : Machine) (memory changed : List ℕ) (n : ℕ) (own : Virtual) → IsAt part pool m memory → Only (in_blocks part.blocks) memory changed
+    → ReservesHeld (in_ram part.blocks) own.reservation → run m n ≡ placed m (saved own m.platform.virt) (ram_of part.blocks changed) n
+    → IsAt part pool (placed m (saved own m.platform.virt) (ram_of part.blocks changed) n) changed
+at_next part pool m memory changed n own at only reserved there =
+    let held = held_stays part memory changed at.once at.held only in
+    let before : length m.ram ≡ length part.blocks * block_size = rw at.ram (size_of part memory at.held) in
+    record {
+      once = at.once;
+      held = held;
+      ram = refl;
+      reserved = reserved;
+      own = at.own;
+      tidy = tidy_by_blocks part pool memory changed at.once at.own at.tidy only;
+      spaces = at.spaces;
+      space_room = at.space_room;
+      entry_room = at.entry_room;
+      caches = subst (λ size. All (λ s. All (IsInRam size) s.entries) m.spaces) (before ∙ sym (size_of part changed held)) at.caches;
+      orderly = subst IsOrderly there (stays_orderly m n at.orderly);
+    }
+
+ran_one : (part : Layout) (pool : Pooled) (m : Machine) (memory : List ℕ) (limit t n : ℕ) (p q : Progress) → m.platform.status ≡ Running → Lasts m.platform limit
+    → IsAt part pool m memory → n < limit → Ran part pool m memory t n p → p.trapped ≡ false → progressed true p.trace (hart_step p.state p.memory) ≡ Some q
+    → Ran part pool m memory t (n + 1) q
+ran_one part pool m memory limit t n p q running lasts at h ran fresh some =
     let v = m.platform.virt in
+    let root = root_for part pool v in
     let ram = ram_of part.blocks p.memory in
     let there : run m n ≡ placed m (saved ran.own v) ram n = rw fresh at ran.machine in
     let now = placed m (saved ran.own v) ram n in
-    let is = ready part m limit n ran.own p.state ram lasts h ran.keeps ran.state there in
-    let placed_at : IsAt part now p.memory = record {
-      once = at.once;
-      held = held_stays part memory p.memory at.once at.held ran.only;
-      ram = refl;
-      reserved = ran.held;
-    } in
-    let follows : Follows part now p.memory (hart_step p.state p.memory) =
-    subst (λ hart. Follows part now p.memory (hart_step hart p.memory)) is.stands (followed part now p.memory is.own placed_at) in
-    let by = made part now p.memory (hart_step p.state p.memory) p.trace q follows some in
+    let is = ready part root m limit n ran.own p.state ram lasts h ran.keeps ran.state there in
+    let placed_at : IsAt part pool now p.memory = at_next part pool m memory p.memory n ran.own at ran.only ran.held there in
+    let by_now : Follows part root now p.memory (hart_step (loaded part root now.platform.virt) p.memory) =
+    subst (λ root. Follows part root now p.memory (hart_step (loaded part root now.platform.virt) p.memory)) (same_root part pool m.platform ran.own n)
+    (followed part pool now p.memory is.own placed_at) in
+    let follows : Follows part root now p.memory (hart_step p.state p.memory) =
+    subst (λ hart. Follows part root now p.memory (hart_step hart p.memory)) is.stands by_now in
+    let by = made part root now p.memory (hart_step p.state p.memory) p.trace q follows some in
     record {
       own = by.own;
       state = by.state;
-      machine = rw (run_further m now n there running, by.step) (further m ran.own by.own ram (ram_of part.blocks q.memory) n q.trapped);
-      keeps = keeps_on (host_root part) m.platform n ran.own by.own (told m.platform limit n lasts h) ran.keeps by.keeps;
+      machine = rw (run_further m now n there running by.ready, by.step) (further m ran.own by.own ram (ram_of part.blocks q.memory) n q.trapped);
+      need = need_further m n ran.need (rw there (running, by.ready));
+      keeps = keeps_on root m.platform n ran.own by.own (told m.platform limit n lasts h) ran.keeps by.keeps;
       held = by.held;
       only = only_both (in_blocks part.blocks) memory p.memory q.memory ran.only by.only;
-      trace = trace_further m now n t p.trace q.trace there running ran.trace by.trace;
+      trace = trace_further m now n t p.trace q.trace there running by.ready ran.trace by.trace;
     }
 
 -- a step that the hart has made, if the run did not end before it
@@ -289,48 +347,56 @@ before_of : {A B : Type 0} (f : A → Option B) (o : Option A) (after : B) → o
 before_of f None after e = cc
 before_of f (Some before) after e = (before, refl, e)
 
-ran_next : (part : Layout) (m : Machine) (memory : List ℕ) (limit t n : ℕ) (o : Option Progress) (q : Progress) → m.platform.status ≡ Running → Lasts m.platform limit
-    → IsAt part m memory → n < limit → ((p : Progress) → o ≡ Some p → Ran part m memory t n p) → option_and_then (one_more true) o ≡ Some q → Ran part m memory t (n + 1) q
-ran_next part m memory limit t n o q running lasts at h before e =
+ran_next : (part : Layout) (pool : Pooled) (m : Machine) (memory : List ℕ) (limit t n : ℕ) (o : Option Progress) (q : Progress) → m.platform.status ≡ Running → Lasts m.platform limit
+    → IsAt part pool m memory → n < limit → ((p : Progress) → o ≡ Some p → Ran part pool m memory t n p) → option_and_then (one_more true) o ≡ Some q → Ran part pool m memory t (n + 1) q
+ran_next part pool m memory limit t n o q running lasts at h before e =
     let there = before_of (one_more true) o q e in
     let is = one_more_is there.0 q there.2 in
-    ran_one part m memory limit t n there.0 q running lasts at h (before there.0 there.1) is.0 is.1
+    ran_one part pool m memory limit t n there.0 q running lasts at h (before there.0 there.1) is.0 is.1
 
 none_more_of : (a : ℕ) → a + 0 ≡ a
 none_more_of a = omega arith
 
-ran_none : (part : Layout) (m : Machine) (memory : List ℕ) (limit t : ℕ) → Lasts m.platform limit → IsAt part m memory
-    → Ran part m memory t zero (progress (loaded part m.platform.virt) memory t false)
+ran_none : (part : Layout) (pool : Pooled) (m : Machine) (memory : List ℕ) (limit t : ℕ) → Lasts m.platform limit → IsAt part pool m memory
+    → Ran part pool m memory t zero (progress (loaded part (root_for part pool m.platform.virt) m.platform.virt) memory t false)
 unfolding run events
-ran_none part m memory limit t lasts at =
+ran_none part pool m memory limit t lasts at =
     let v = m.platform.virt in
-    let back : saved (hosted (host_root part) v) v ≡ v = save_after_load (host_root part) v in
+    let back : saved (hosted (root_for part pool v) v) v ≡ v = save_after_load (root_for part pool v) v in
     let there : at_clock m v m.ram m.platform.clock.time m.platform.steps ≡ m = ap (λ p. record m { platform = p }) lasts.current in
     let none = further_by m v m.ram _ _ _ _ (none_more_of m.platform.clock.time) (none_more_of m.platform.steps) in
     let same : placed m v m.ram 0 ≡ m = rw none there in
     record {
-      own = hosted (host_root part) v;
+      own = hosted (root_for part pool v) v;
       state = refl;
       machine = rw (← at.ram) (sym (subst (λ virt. placed m virt m.ram 0 ≡ m) (sym back) same));
-      keeps = record { csrs = none_written (host_root part) (is_virtual v.mode) v.csrs; mode = virtual_mode v.mode };
+      need = λ i never. absurd (omega (arith, never));
+      keeps = record { csrs = none_written (root_for part pool v) (is_virtual v.mode) v.csrs; mode = virtual_mode v.mode };
       held = at.reserved;
       only = only_none (in_blocks part.blocks) memory;
       trace = ap (λ n. n % 2 ^ 64) (sym (none_more_of t));
     }
 
+-- from the state that is loaded
+pub steps_from : (part : Layout) (pool : Pooled) (v : Virtual) (memory : List ℕ) (t taken : ℕ) (q : Progress)
+    → hart_steps true taken (progress (loaded part (table_from (root_frame_for part pool v)) v) memory t false) ≡ Some q
+    → hart_steps true taken (progress (loaded part (root_for part pool v) v) memory t false) ≡ Some q
+unfolding root_for
+steps_from part pool v memory t taken q e = e
+
 -- so many steps of an entry
-pub ran : (part : Layout) (m : Machine) (memory : List ℕ) (limit t : ℕ) → m.platform.status ≡ Running → Lasts m.platform limit → IsAt part m memory → (n : ℕ) → n ≤ limit
-    → (q : Progress) → hart_steps true n (progress (loaded part m.platform.virt) memory t false) ≡ Some q → Ran part m memory t n q
+pub ran : (part : Layout) (pool : Pooled) (m : Machine) (memory : List ℕ) (limit t : ℕ) → m.platform.status ≡ Running → Lasts m.platform limit → IsAt part pool m memory → (n : ℕ) → n ≤ limit
+    → (q : Progress) → hart_steps true n (progress (loaded part (root_for part pool m.platform.virt) m.platform.virt) memory t false) ≡ Some q → Ran part pool m memory t n q
 unfolding hart_steps
-ran part m memory limit t running lasts at zero h q e =
-    let is : progress (loaded part m.platform.virt) memory t false ≡ q = cc in subst (Ran part m memory t zero) is (ran_none part m memory limit t lasts at)
-ran part m memory limit t running lasts at (suc n) h q e =
+ran part pool m memory limit t running lasts at zero h q e =
+    let is : progress (loaded part (root_for part pool m.platform.virt) m.platform.virt) memory t false ≡ q = cc in subst (Ran part pool m memory t zero) is (ran_none part pool m memory limit t lasts at)
+ran part pool m memory limit t running lasts at (suc n) h q e =
     let one : n + 1 ≡ suc n = omega arith in
     let within : n < limit = omega (arith, h) in
     let before : n ≤ limit = omega (arith, h) in
-    subst (λ k. Ran part m memory t k q) one
-    (ran_next part m memory limit t n (hart_steps true n (progress (loaded part m.platform.virt) memory t false)) q running lasts at within
-    (λ p some. ran part m memory limit t running lasts at n before p some) e)
+    subst (λ k. Ran part pool m memory t k q) one
+    (ran_next part pool m memory limit t n (hart_steps true n (progress (loaded part (root_for part pool m.platform.virt) m.platform.virt) memory t false)) q running lasts at within
+    (λ p some. ran part pool m memory limit t running lasts at n before p some) e)
 
 -- a trap into VS is a step
 some_taken : (p : Progress) (state : Virtual) (memory : List ℕ) (t taken : ℕ) → p.trapped ≡ false
@@ -342,28 +408,32 @@ some_taken p state memory t zero fresh e =
 some_taken p state memory t (suc n) fresh e = omega arith
 
 -- why an entry ended
-pub stopped : (part : Layout) (m : Machine) (memory : List ℕ) (limit t : ℕ) (state : Virtual) (changed : List ℕ) (t' taken : ℕ) (why : Why) → m.platform.status ≡ Running
-    → Lasts m.platform limit → IsAt part m memory → taken ≤ limit
-    → hart_steps true taken (progress (loaded part m.platform.virt) memory t false) ≡ Some (progress state changed t' (is_vs_trap why))
-    → IsWhy limit taken state changed why → IsStopped part (run m taken) changed limit taken why
-stopped part m memory limit t state changed t' taken Limit running lasts at within e why = why
-stopped part m memory limit t state changed t' taken VsTrap running lasts at within e why =
-    some_taken (progress (loaded part m.platform.virt) memory t false) state changed t' taken refl e
-stopped part m memory limit t state changed t' taken (Exit trap) running lasts at within e (fewer, exits) =
-    let is = ran part m memory limit t running lasts at taken within (progress state changed t' false) e in
-    let r = ready part m limit taken is.own state (ram_of part.blocks changed) lasts fewer is.keeps is.state is.machine in (
+pub stopped : (part : Layout) (pool : Pooled) (m : Machine) (memory : List ℕ) (limit t : ℕ) (state : Virtual) (changed : List ℕ) (t' taken : ℕ) (why : Why) → m.platform.status ≡ Running
+    → Lasts m.platform limit → IsAt part pool m memory → taken ≤ limit
+    → hart_steps true taken (progress (loaded part (root_for part pool m.platform.virt) m.platform.virt) memory t false) ≡ Some (progress state changed t' (is_vs_trap why))
+    → IsWhy limit taken state changed why → IsStopped part pool (run m taken) changed limit taken why
+stopped part pool m memory limit t state changed t' taken Limit running lasts at within e why = why
+stopped part pool m memory limit t state changed t' taken VsTrap running lasts at within e why =
+    some_taken (progress (loaded part (root_for part pool m.platform.virt) m.platform.virt) memory t false) state changed t' taken refl e
+stopped part pool m memory limit t state changed t' taken (Exit trap) running lasts at within e (fewer, exits) =
+    let is = ran part pool m memory limit t running lasts at taken within (progress state changed t' false) e in
+    let r = ready part (root_for part pool m.platform.virt) m limit taken is.own state (ram_of part.blocks changed) lasts fewer is.keeps is.state is.machine in (
       fewer,
-      subst (λ m. Hands part m changed trap) (sym is.machine)
-          (record { own = r.own; exits = subst (λ hart. hart_step hart changed ≡ Exits trap) (sym r.stands) exits }),
+      subst (λ m. Hands part pool m changed trap) (sym is.machine) (record {
+        own = r.own;
+        exits = subst (λ root. hart_step (loaded part root (moved m.platform (saved is.own m.platform.virt) taken).virt) changed ≡ Exits trap) (sym (same_root part pool m.platform is.own taken))
+            (subst (λ hart. hart_step hart changed ≡ Exits trap) (sym r.stands) exits);
+      }),
     )
 
 -- a step that the hart has left to the host
-pub left : (part : Layout) (m : Machine) (memory : List ℕ) (trap : Trap) → host_takes m.platform.virt ≡ false → IsAt part m memory
-    → hart_step (loaded part m.platform.virt) memory ≡ Exits trap → IsLeft m (try m) trap
-left part m memory trap own at exits =
-    let there : Follows part m memory (Exits trap) = subst (λ end. Follows part m memory end) exits (followed part m memory own at) in there
+pub left : (part : Layout) (pool : Pooled) (m : Machine) (memory : List ℕ) (trap : Trap) → host_takes m.platform.virt ≡ false → IsAt part pool m memory
+    → hart_step (loaded part (root_for part pool m.platform.virt) m.platform.virt) memory ≡ Exits trap → IsLeft m (try m) (lacking m) trap
+left part pool m memory trap own at exits =
+    let root = root_for part pool m.platform.virt in
+    let there : Follows part root m memory (Exits trap) = subst (λ end. Follows part root m memory end) exits (followed part pool m memory own at) in there
 
 -- an interrupt that is due
-pub interrupted : (m : Machine) (code : ℕ) → due m.platform.virt.csrs m.platform.virt.mode ≡ Some code → try m ≡ trapped m (interrupt_of code)
+pub interrupted : (m : Machine) (code : ℕ) → due m.platform.virt.csrs m.platform.virt.mode ≡ Some code → (lacking m ≡ None) × (try m ≡ trapped m (interrupt_of code))
 unfolding try_under
-interrupted m code is = rw is refl
+interrupted m code is = (interrupted_lacks_nothing m code is, rw is refl)

@@ -6,7 +6,10 @@ pub mod Entries
 pub mod Followed
 pub mod ForGood
 pub mod Interrupts
+pub mod Missed
 pub mod Moments
 pub mod Placed
+pub mod Pools
 pub mod Privileged
 pub mod Stands
+pub mod Taken

@@ -1,24 +1,27 @@
 -- What an instruction is on the hart, by what it is to the lone machine for which the hart stands.
 use Rattle.std.proofs.Common.{cond, ◌≡◌, ℕ, ◌^◌, ◌<◌, Option, Some, None, Bool, true, false, refl, sym}
+use Rattle.arch_defs.specs.declared.modes.Access.TheVariants.{Implicit}
 use Rattle.arch_defs.specs.declared.modes.Trap.{Trap}
 use Rattle.arch_defs.specs.declared.modes.TheConstants.{ECALL_FROM_VS, VIRTUAL_INSTRUCTION}
 use Rattle.arch_defs.specs.declared.registers.Csrs.{Csrs}
 use Rattle.arch_defs.specs.declared.registers.GuestRoot.{GuestRoot}
 use Rattle.arch_defs.specs.declared.registers.Regs.{Regs}
 use Rattle.arch_defs.specs.declared.registers.Virtual.{Virtual}
+use Rattle.arch_defs.specs.declared.walks.Unplaced.{Unplaced}
 use Rattle.arch_defs.specs.Memory.{Stored}
+use Rattle.arch_defs.specs.SecondStage.{guest_page_fault, is_implicit}
 use Rattle.arch_defs.specs.Traps.{exception, is_virtual}
 use Rattle.op_defs.specs.declared.ops.Privileged.{Privileged}
 use Rattle.op_defs.specs.Table.{is_system}
 use Rattle.machine_defs.specs.declared.events.Event.TheVariants.{Plain, System}
-use Rattle.machine_defs.specs.Core.{Located, At, Fails, Made, Leaves, Ends, ended, event_of}
+use Rattle.machine_defs.specs.Core.{Located, At, Fails, Made, Leaves, Ends, ended, event_of, failed}
 use Rattle.machine_defs.specs.Outcomes.{Outcome, Done, Trapped, Stuck, Called, Waits, Fenced, Accesses}
 use Rattle.machine_defs.specs.Privileges.{privileged}
 use Rattle.rv64_hart.specs.Steps.{enters_vs}
 use Rattle.world_switch.specs.Hosting.{hosted, hosted_csrs, hosted_mode, saved, saved_csrs, taken_back}
 use Rattle.world_switch.specs.Laws.{KeepsHidden}
 use Rattle.world_switch.proofs.Undone.{same_csrs, same_mode, virtual_mode}
-use Rattle.guest_exit.specs.Following.{Keeps, event_for, privileged_in}
+use Rattle.guest_exit.specs.Following.{Keeps, access_of, event_for, privileged_in}
 use Rattle.guest_exit.proofs.Delegation.{IsOwn}
 
 -- what a trap on the hart is: the lone machine's own, with V = 0 its call of the environment, with V = 1 that of its HS, or an
@@ -31,12 +34,17 @@ pub data Traps (s : Virtual) (lone : Outcome) (trap : Trap) : Type 0 where
   Left : (tval : ℕ) → trap ≡ exception (hosted_mode s.mode) VIRTUAL_INSTRUCTION tval → tval < 2 ^ 32 → (p : Privileged)
       → privileged_in tval s.regs ≡ Some p → lone ≡ privileged s tval p → Traps s lone trap
 
+-- the guest-page fault of an access without a place tells which access it is, and of what kind
+pub record IsTold (unplaced : Unplaced) : Type 0 where
+  pub access : access_of (guest_page_fault unplaced.access) ≡ unplaced.access
+  pub kind : cond (is_implicit unplaced.kind) Implicit unplaced.access ≡ unplaced.kind
+
 -- what an outcome on the hart is to the lone machine in this state
 abbrev pub Stands : (root : GuestRoot) → Virtual → Outcome → Outcome → Type 0
 Stands root s lone (Done hart stored event) =
     (lone ≡ Done (taken_back (enters_vs event) hart s) stored (event_for (is_virtual s.mode) event)) × Keeps root s hart
 Stands root s lone (Trapped trap) = Traps s lone trap
-Stands root s lone (Stuck unplaced) = (lone ≡ Stuck (record unplaced { mode = s.mode })) × (unplaced.mode ≡ hosted_mode s.mode)
+Stands root s lone (Stuck unplaced) = (lone ≡ Stuck (record unplaced { mode = s.mode })) × (unplaced.mode ≡ hosted_mode s.mode) × IsTold unplaced
 Stands root s lone Called = ⊥
 Stands root s lone (Waits hart) = ⊥
 Stands root s lone (Fenced hart fence) = ⊥
@@ -45,7 +53,7 @@ Stands root s lone (Accesses access) = ⊥
 -- where an access is made, in both
 abbrev pub SamePlace : (root : GuestRoot) → Virtual → Located → Located → Type 0
 SamePlace root s (At own) (At hart) = own ≡ hart
-SamePlace root s (Fails own) (Fails hart) = Stands root s own hart
+SamePlace root s (Fails own) (Fails hart) = Stands root s (failed own) (failed hart)
 SamePlace root s (At own) (Fails hart) = ⊥
 SamePlace root s (Fails own) (At hart) = ⊥
 

@@ -1,5 +1,6 @@
 -- What one entry of the hart, and what the host makes in its place, is to the guest's lone machine.
-use Rattle.std.specs.Prelude.{ℕ, ◌≡◌, ◌+◌, ◌<◌, nat_le, Bool, false, List}
+use Rattle.std.specs.Prelude.{ℕ, ◌≡◌, ◌+◌, ◌<◌, nat_le, Bool, false, List, Some, None}
+use Rattle.arch_defs.specs.declared.cached.Entry.{Entry}
 use Rattle.arch_defs.specs.declared.modes.Trap.{Trap}
 use Rattle.arch_defs.specs.declared.registers.Virtual.{Virtual}
 use Rattle.arch_defs.specs.Inputs.{has_input}
@@ -7,18 +8,21 @@ use Rattle.arch_defs.specs.Layouts.{Layout}
 use Rattle.machine_defs.specs.declared.guests.Status.{Status}
 use Rattle.machine_defs.specs.declared.guests.Status.TheVariants as status
 use Rattle.machine_defs.specs.HostPlaces.{in_ram, memory_place}
-use Rattle.machine_defs.specs.Machine.{Machine, Platform, Tried, informed, try}
+use Rattle.machine_defs.specs.Fills.{fill, lacking}
+use Rattle.machine_defs.specs.Machine.{Machine, Platform, Tried, informed}
 use Rattle.machine_defs.specs.Renaming.{ReservesHeld, renamed}
-use Rattle.machine_defs.specs.Runs.{event_in, left_by, plain_count, trace_of}
+use Rattle.machine_defs.specs.Runs.{event_in, left_after, left_by, plain_count, trace_of}
+use Rattle.machine_defs.specs.Tries.{try}
 use Rattle.rv64_hart.specs.declared.harts.Why.{Why}
 use Rattle.rv64_hart.specs.declared.harts.Why.TheVariants.{Limit, Exit, VsTrap}
 use Rattle.rv64_hart.specs.Steps.{Exits, hart_step}
+use Rattle.shadow_pool.specs.Slots.{Pooled}
 use Rattle.world_switch.specs.Hosting.{loaded, taken_back}
 use Rattle.world_switch.specs.Laws.{waits_for_hs}
 use Rattle.guest_exit.specs.declared.guests.Guest.{Guest}
 use Rattle.guest_exit.specs.declared.handling.Handled.{Handled}
 use Rattle.guest_exit.specs.declared.handling.Handled.TheVariants as handled
-use Rattle.guest_exit.specs.Following.{host_takes}
+use Rattle.guest_exit.specs.Following.{host_takes, root_for}
 use Rattle.guest_exit.specs.View.{machine_of}
 
 -- whether something has come is the same at each step of so many as it is now
@@ -48,15 +52,16 @@ GivesSteps part before hart trapped taken after =
     → after ≡ moved before (taken_back trapped own before.virt) taken
 
 -- the hart, in a part of machine memory, leaves the machine's next step to the host
-pub record Hands (part : Layout) (m : Machine) (memory : List ℕ) (trap : Trap) : Type 0 where
+pub record Hands (part : Layout) (pool : Pooled) (m : Machine) (memory : List ℕ) (trap : Trap)
+    : Type 0 where
   pub own : host_takes m.platform.virt ≡ false
-  pub exits : hart_step (loaded part m.platform.virt) memory ≡ Exits trap
+  pub exits : hart_step (loaded part (root_for part pool m.platform.virt) m.platform.virt) memory ≡ Exits trap
 
 -- why an entry ended, by the machine and the memory after it
-abbrev pub IsStopped : Layout → Machine → List ℕ → ℕ → ℕ → Why → Type 0
-IsStopped part m memory limit taken Limit = taken ≡ limit
-IsStopped part m memory limit taken VsTrap = 0 < taken
-IsStopped part m memory limit taken (Exit trap) = (taken < limit) × Hands part m memory trap
+abbrev pub IsStopped : Layout → Pooled → Machine → List ℕ → ℕ → ℕ → Why → Type 0
+IsStopped part pool m memory limit taken Limit = taken ≡ limit
+IsStopped part pool m memory limit taken VsTrap = 0 < taken
+IsStopped part pool m memory limit taken (Exit trap) = (taken < limit) × Hands part pool m memory trap
 
 -- a try that is no plain step
 pub record IsNotPlain (tried : Tried) : Type 0 where
@@ -67,6 +72,20 @@ pub record IsNotPlain (tried : Tried) : Type 0 where
 abbrev pub IsQuiet : Machine → Type 0
 IsQuiet m = IsNotPlain (try m)
 
+-- a machine's next step is made: its try, which lacks no cached translation
+pub record MakesStep (before after : Machine) : Type 0 where
+  pub ready : lacking before ≡ None
+  pub step : after ≡ left_after before
+
+-- its next try lacks a cached translation: the walk of the guest's own table, as RAM is, answers the access
+-- with a leaf that permits it and whose frame is in RAM
+abbrev pub IsMiss : Machine → Type 0
+IsMiss m = (e : Entry) × (lacking m ≡ Some e)
+
+-- which is filled, and nothing else happens
+abbrev pub Fills : Machine → Machine → Type 0
+Fills before after = (e : Entry) × (lacking before ≡ Some e) × (after ≡ fill before e)
+
 -- a guest is left as a try leaves its machine, whatever is in memory, which stays
 abbrev pub Makes : Guest → Guest → (Machine → Tried) → Type 0
 Makes before after tried =
@@ -76,12 +95,12 @@ Makes before after tried =
 -- the status after what the host made of a step, and how many steps that was
 abbrev pub status_after : Handled → Status
 status_after handled.Stepped = status.Running
+status_after handled.Retry = status.Running
 status_after handled.Waits = status.Waiting
 status_after handled.Stopped = status.Stopped
-status_after handled.Outside = status.Outside
 
 abbrev pub steps_made : Handled → ℕ
 steps_made handled.Stepped = 1
+steps_made handled.Retry = 0
 steps_made handled.Waits = 0
 steps_made handled.Stopped = 1
-steps_made handled.Outside = 0

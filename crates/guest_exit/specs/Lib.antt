@@ -1,3 +1,4 @@
 pub mod Entering
 pub mod Following
+pub mod Starting
 pub mod View

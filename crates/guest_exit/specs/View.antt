@@ -1,9 +1,13 @@
 -- A guest, as its lone machine over the bytes of its RAM in machine memory.
-use Rattle.std.specs.Prelude.{ℕ, ◌≡◌, List, []}
+use Rattle.std.specs.Prelude.{ℕ, ◌≡◌, List}
+use Rattle.arch_defs.specs.declared.registers.Virtual.{Virtual}
+use Rattle.arch_defs.specs.Frames.{Frames}
 use Rattle.arch_defs.specs.Ram.{ram_of}
 use Rattle.machine_defs.specs.Machine.{Machine, Platform}
+use Rattle.shadow_pool.specs.Slots.{room_of, spaces_of}
+use Rattle.world_switch.specs.Hosting.{loaded}
 use Rattle.guest_exit.specs.declared.guests.Guest.{Guest}
-use Rattle.guest_exit.specs.Following.{IsAt}
+use Rattle.guest_exit.specs.Following.{IsAt, changing, root_for}
 
 -- the lone machine's platform
 abbrev pub seen : Guest → Platform
@@ -15,22 +19,36 @@ seen guest = record {
   status = guest.status;
 }
 
--- the lone machine; nothing that is built so far enters a space
+-- the lone machine, whose spaces are those of the pool
 abbrev pub machine_of : Guest → List ℕ → Machine
 machine_of guest memory = record {
   platform = seen guest;
   ram = ram_of guest.part.blocks memory;
-  spaces = [];
-  space_room = guest.space_room;
-  entry_room = guest.entry_room;
+  spaces = spaces_of guest.pool;
+  space_room = room_of guest.pool;
+  entry_room = guest.pool.most;
 }
+
+-- what the hart has for it
+abbrev pub loaded_for : Guest → Virtual
+loaded_for guest = loaded guest.part (root_for guest.part guest.pool guest.virt) guest.virt
+
+-- the frames of machine memory that its steps may change: those of its blocks and of its spaces' tables
+abbrev pub changed_by : Guest → Frames
+changed_by guest = changing guest.part guest.pool
 
 -- what no step changes
 pub record StaysFixed (before after : Guest) : Type 0 where
   pub part : after.part ≡ before.part
-  pub space_room : after.space_room ≡ before.space_room
-  pub entry_room : after.entry_room ≡ before.entry_room
+  pub pool : after.pool.part ≡ before.pool.part
+  pub entry_room : after.pool.most ≡ before.pool.most
+  pub space_room : room_of after.pool ≡ room_of before.pool
 
--- machine memory holds the guest's part, with its host table, and its reservation is in its RAM
+-- nor does one that leaves the cached translations alone change any of them
+pub record KeepsSpaces (before after : Guest) : Type 0 where
+  pub part : after.part ≡ before.part
+  pub pool : after.pool ≡ before.pool
+
+-- machine memory holds the guest's part, with its host table and the tables of its spaces
 abbrev pub IsPlaced : Guest → List ℕ → Type 0
-IsPlaced guest memory = IsAt guest.part (machine_of guest memory) memory
+IsPlaced guest memory = IsAt guest.part guest.pool (machine_of guest memory) memory

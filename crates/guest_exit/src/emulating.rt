@@ -1,47 +1,52 @@
 // Instructions on which the mode decides, made in the guest's own mode.
 
-ghost use Rattle.std.specs.Prelude.{◌≡◌, ◌+◌, ◌^◌, ◌<◌, ◌≤◌, None, false, length};
+ghost use Rattle.std.specs.Prelude.{◌≡◌, ◌≢◌, ◌+◌, ◌^◌, ◌<◌, ◌≤◌, None, length, true};
 ghost use Rattle.arch_defs.specs.Frames.{LieIn, Only, in_blocks};
 ghost use Rattle.arch_defs.specs.Memory.{ram_base};
 ghost use Rattle.arch_defs.specs.Ram.{ram_of};
 ghost use Rattle.arch_defs.specs.Traps.{is_virtual};
-ghost use Rattle.arch_defs.specs.WalkedEntries.{is_table};
+ghost use Rattle.arch_defs.specs.WalkedEntries.{folds};
 ghost use Rattle.hlv_hsv.specs.Ends.{EndsAs, IfRaised};
 ghost use Rattle.machine_defs.specs.declared.events.Event.TheVariants.{System};
 ghost use Rattle.machine_defs.specs.declared.guests.Status.TheVariants.{Running};
 ghost use Rattle.machine_defs.specs.GuestAccesses.{guest_outcome};
-ghost use Rattle.machine_defs.specs.Machine.{Outside, accessed_for_guest, concluded, informed, made};
-ghost use Rattle.machine_defs.specs.Outside.{sets_v_under_table};
+ghost use Rattle.machine_defs.specs.Machine.{informed};
+ghost use Rattle.machine_defs.specs.Outcomes.{Fenced};
 ghost use Rattle.machine_defs.specs.Privileges.{privileged};
 ghost use Rattle.machine_defs.specs.Runs.{left_by};
-ghost use Rattle.guest_exit.specs.Entering.{IsNotPlain, Makes, status_after, steps_made};
-ghost use Rattle.guest_exit.specs.View.{StaysFixed, machine_of, seen};
+ghost use Rattle.machine_defs.specs.Tries.{accessed_for_guest, concluded, enters, made};
+ghost use Rattle.shadow_pool.specs.Slots.{TidyPool};
+ghost use Rattle.guest_exit.specs.Entering.{IsNotPlain, status_after, steps_made};
+ghost use Rattle.guest_exit.specs.View.{IsPlaced, KeepsSpaces, StaysFixed, changed_by, machine_of, seen};
 
+use crate::entering::folds;
 use crate::guests::Guest;
 use crate::handling::{Handled, raise};
 use crate::waiting::wait;
-use arch_defs::{GuestRoot, Part, Virtual};
+use arch_defs::{Fence, Part, Virtual};
 use hlv_hsv::{Accessed, access};
-use machine_defs::Status;
 use op_defs::{GuestAccess, Privileged};
 use phys_mem::{PhysMem, Ram};
 use system_ops::{Executed, execute, refusal_code};
 use trap_delegation::{exception, is_virtual};
 use two_stage_walk::ram_is_whole;
 
-/// Makes an instruction on which the mode decides, where it is allowed: a WFI waits, and an HLV, HLVX or HSV
-/// makes its access to the guest's RAM. Where the mode does not allow it, its exception is taken.
+/// Makes an instruction on which the mode decides, where it is allowed: a WFI waits, an SRET may enter a
+/// guest of the guest, an HFENCE.GVMA drops cached translations, and an HLV, HLVX or HSV makes its access to
+/// the guest's RAM. Where the mode does not allow it, its exception is taken.
 pub fn emulate(guest: &mut Guest, memory: &mut PhysMem, word: u64, effect: Privileged) -> Handled
     requires running { guest.old.status ≡ Running }
     requires current { informed (seen guest.old) ≡ seen guest.old }
     requires clock { guest.old.clock.time ≤ 2 ^ 62 + guest.old.steps }
     requires steps { guest.old.steps < 2 ^ 61 }
-    requires lies { LieIn (in_blocks guest.old.part.blocks) (length memory.old) }
+    requires placed { IsPlaced guest.old memory.old }
     ensures step { machine_of guest.new memory.new ≡ left_by (machine_of guest.old memory.old)
         (concluded (machine_of guest.old memory.old) (privileged guest.old.virt word effect)) }
     ensures quiet { IsNotPlain
         (concluded (machine_of guest.old memory.old) (privileged guest.old.virt word effect)) }
-    ensures only { Only (in_blocks guest.old.part.blocks) memory.old memory.new }
+    ensures went { result ≢ Handled.Retry }
+    ensures only { Only (changed_by guest.old) memory.old memory.new }
+    ensures tidy { TidyPool guest.new.pool memory.new }
     ensures status { guest.new.status ≡ status_after result }
     ensures made { guest.new.steps ≡ guest.old.steps + steps_made result }
     ensures clock { guest.new.clock.time ≤ 2 ^ 62 + guest.new.steps }
@@ -49,10 +54,10 @@ pub fn emulate(guest: &mut Guest, memory: &mut PhysMem, word: u64, effect: Privi
 {
     let mut virt = guest.virt;
     match execute(&mut virt, effect) {
-        Executed::Done => finish(guest, virt),
+        Executed::Done => finish(guest, memory, virt),
         Executed::Waits => wait(guest, virt),
         Executed::Accesses(wanted) => access_ram(guest, memory, wanted),
-        Executed::Fenced(_) => end_outside(guest),
+        Executed::Fenced(named) => fence(guest, memory, virt, named),
         Executed::Refused(end) => {
             let trap = exception(guest.virt.mode, refusal_code(end), word);
             raise(guest, &trap)
@@ -60,49 +65,80 @@ pub fn emulate(guest: &mut Guest, memory: &mut PhysMem, word: u64, effect: Privi
     }
 }
 
-// The step is not built so far.
-fn end_outside(guest: &mut Guest) -> Handled
-    requires clock { guest.old.clock.time ≤ 2 ^ 62 + guest.old.steps }
-    ensures step { Makes guest.old guest.new (λ m. Outside) }
-    ensures status { guest.new.status ≡ status_after result }
-    ensures made { guest.new.steps ≡ guest.old.steps + steps_made result }
-    ensures clock { guest.new.clock.time ≤ 2 ^ 62 + guest.new.steps }
-    ensures fixed { StaysFixed guest.old guest.new }
-{
-    guest.status = Status::Outside;
-    Handled::Outside
-}
-
-// An instruction leaves this state, unless that is outside.
-fn finish(guest: &mut Guest, virt: Virtual) -> Handled
+// An instruction leaves this state.
+fn finish(guest: &mut Guest, memory: &mut PhysMem, virt: Virtual) -> Handled
     requires running { guest.old.status ≡ Running }
     requires clock { guest.old.clock.time ≤ 2 ^ 62 + guest.old.steps }
     requires steps { guest.old.steps < 2 ^ 61 }
-    ensures step { Makes guest.old guest.new (λ m. made m virt None System) }
+    requires placed { IsPlaced guest.old memory.old }
+    ensures step { machine_of guest.new memory.new ≡ left_by (machine_of guest.old memory.old)
+        (made (machine_of guest.old memory.old) virt None System) }
+    ensures went { result ≢ Handled.Retry }
+    ensures only { Only (changed_by guest.old) memory.old memory.new }
+    ensures tidy { TidyPool guest.new.pool memory.new }
     ensures status { guest.new.status ≡ status_after result }
     ensures made { guest.new.steps ≡ guest.old.steps + steps_made result }
     ensures clock { guest.new.clock.time ≤ 2 ^ 62 + guest.new.steps }
     ensures fixed { StaysFixed guest.old guest.new }
 {
-    if sets_v_under_table(&guest.virt, &virt) {
-        return end_outside(guest);
+    if enters(&guest.virt, &virt) {
+        return enter_space(guest, memory, virt);
     }
     guest.virt = virt;
     guest.tick();
     Handled::Stepped
 }
 
-// Whether an instruction sets V while hgatp names a table.
-fn sets_v_under_table(before: &Virtual, after: &Virtual) -> bool
-    ensures { result ≡ sets_v_under_table before.now after.now }
+// Whether an instruction enters a guest of the guest: it sets V, and then the state folds.
+fn enters(before: &Virtual, after: &Virtual) -> bool
+    ensures { result ≡ enters before.now after.now }
 {
-    !is_virtual(before.mode) && is_virtual(after.mode) && is_table(&after.csrs.hgatp)
+    !is_virtual(before.mode) && folds(after)
 }
 
-fn is_table(root: &GuestRoot) -> bool
-    ensures { result ≡ is_table root.now }
+// An SRET leaves this state, which folds: the space of its hgatp comes to the front.
+fn enter_space(guest: &mut Guest, memory: &mut PhysMem, virt: Virtual) -> Handled
+    requires running { guest.old.status ≡ Running }
+    requires clock { guest.old.clock.time ≤ 2 ^ 62 + guest.old.steps }
+    requires steps { guest.old.steps < 2 ^ 61 }
+    requires placed { IsPlaced guest.old memory.old }
+    requires enters { enters guest.old.virt virt ≡ true }
+    ensures step { machine_of guest.new memory.new ≡ left_by (machine_of guest.old memory.old)
+        (made (machine_of guest.old memory.old) virt None System) }
+    ensures went { result ≢ Handled.Retry }
+    ensures only { Only (changed_by guest.old) memory.old memory.new }
+    ensures tidy { TidyPool guest.new.pool memory.new }
+    ensures status { guest.new.status ≡ status_after result }
+    ensures made { guest.new.steps ≡ guest.old.steps + steps_made result }
+    ensures clock { guest.new.clock.time ≤ 2 ^ 62 + guest.new.steps }
+    ensures fixed { StaysFixed guest.old guest.new }
 {
-    matches!(*root, GuestRoot::Sv39x4 { .. })
+    guest.pool.enter(memory, virt.csrs.hgatp);
+    guest.virt = virt;
+    guest.tick();
+    Handled::Stepped
+}
+
+// An HFENCE.GVMA leaves this state, and drops the cached translations that it names.
+fn fence(guest: &mut Guest, memory: &mut PhysMem, virt: Virtual, named: Fence) -> Handled
+    requires running { guest.old.status ≡ Running }
+    requires clock { guest.old.clock.time ≤ 2 ^ 62 + guest.old.steps }
+    requires steps { guest.old.steps < 2 ^ 61 }
+    requires placed { IsPlaced guest.old memory.old }
+    ensures step { machine_of guest.new memory.new ≡ left_by (machine_of guest.old memory.old)
+        (concluded (machine_of guest.old memory.old) (Fenced virt named)) }
+    ensures went { result ≢ Handled.Retry }
+    ensures only { Only (changed_by guest.old) memory.old memory.new }
+    ensures tidy { TidyPool guest.new.pool memory.new }
+    ensures status { guest.new.status ≡ status_after result }
+    ensures made { guest.new.steps ≡ guest.old.steps + steps_made result }
+    ensures clock { guest.new.clock.time ≤ 2 ^ 62 + guest.new.steps }
+    ensures fixed { StaysFixed guest.old guest.new }
+{
+    guest.pool.fence(memory, named);
+    guest.virt = virt;
+    guest.tick();
+    Handled::Stepped
 }
 
 // An HLV, HLVX or HSV. Its trap is taken in the mode of the instruction.
@@ -115,10 +151,11 @@ fn access_ram(guest: &mut Guest, memory: &mut PhysMem, wanted: GuestAccess) -> H
         (accessed_for_guest (machine_of guest.old memory.old)
         (guest_outcome ram_base (ram_of guest.old.part.blocks memory.old) guest.old.virt wanted)) }
     ensures only { Only (in_blocks guest.old.part.blocks) memory.old memory.new }
+    ensures went { result ≢ Handled.Retry }
     ensures status { guest.new.status ≡ status_after result }
     ensures made { guest.new.steps ≡ guest.old.steps + steps_made result }
     ensures clock { guest.new.clock.time ≤ 2 ^ 62 + guest.new.steps }
-    ensures fixed { StaysFixed guest.old guest.new }
+    ensures fixed { KeepsSpaces guest.old guest.new }
 {
     let mut virt = guest.virt;
     match access_in(memory, &guest.part, &mut virt, wanted) {

@@ -5,25 +5,26 @@ ghost use Rattle.std.specs.Option.{ForSome};
 ghost use Rattle.arch_defs.specs.Clocks.{next_event};
 ghost use Rattle.machine_defs.specs.Machine.{informed, made_by, ticked};
 ghost use Rattle.guest_exit.specs.Entering.{GivesSteps};
-ghost use Rattle.guest_exit.specs.View.{StaysFixed, seen};
+ghost use Rattle.guest_exit.specs.View.{KeepsSpaces, seen};
 
 use arch_defs::{Part, Virtual};
 use console_dev::Console;
 use machine_defs::Status;
+use shadow_pool::Pool;
 use virtual_timer::Clock;
 use world_switch::take_back;
 
-/// What the host keeps of a guest beside its RAM. Contracts see it with the RAM as the lone machine.
+/// What the host keeps of a guest beside the bytes of machine memory, which has its RAM and its tables.
+/// Contracts see it with the RAM as the lone machine.
 #[derive(Drop)]
 pub struct Guest {
     pub part: Part,
     pub virt: Virtual,
+    pub pool: Pool,
     pub clock: Clock,
     pub console: Console,
     pub steps: u64,
     pub status: Status,
-    pub space_room: u64,
-    pub entry_room: u64,
 }
 
 impl Guest {
@@ -33,7 +34,7 @@ impl Guest {
         ensures platform { seen self.new ≡ informed (seen self.old) }
         ensures stays { (self.new.status ≡ self.old.status) × (self.new.steps ≡ self.old.steps)
             × (self.new.clock ≡ self.old.clock) }
-        ensures fixed { StaysFixed self.old self.new }
+        ensures fixed { KeepsSpaces self.old self.new }
     {
         let time = self.clock.time();
         self.virt.csrs.sip.timer = self.clock.due();
@@ -49,7 +50,7 @@ impl Guest {
         ensures made { self.new.steps ≡ self.old.steps + 1 }
         ensures clock { self.new.clock.time ≡ self.old.clock.time + 1 }
         ensures status { self.new.status ≡ self.old.status }
-        ensures fixed { StaysFixed self.old self.new }
+        ensures fixed { KeepsSpaces self.old self.new }
     {
         self.clock.step();
         self.count();
@@ -62,7 +63,7 @@ impl Guest {
         ensures made { self.new.steps ≡ self.old.steps + 1 }
         ensures clock { self.new.clock ≡ self.old.clock }
         ensures status { self.new.status ≡ self.old.status }
-        ensures fixed { StaysFixed self.old self.new }
+        ensures fixed { KeepsSpaces self.old self.new }
     {
         self.steps += 1;
         self.inform();
@@ -79,7 +80,7 @@ impl Guest {
         ensures made { self.new.steps ≡ self.old.steps + taken }
         ensures clock { self.new.clock.time ≡ self.old.clock.time + taken }
         ensures status { self.new.status ≡ self.old.status }
-        ensures fixed { StaysFixed self.old self.new }
+        ensures fixed { KeepsSpaces self.old self.new }
     {
         take_back(hart, &self.part, trapped, &mut self.virt);
         self.clock.advance(taken);

@@ -1,20 +1,24 @@
 // What the hart leaves to the host.
 
-ghost use Rattle.std.specs.Prelude.{◌≡◌, ◌↔◌, ◌+◌, ◌^◌, ◌<◌, ◌≤◌, false};
-ghost use Rattle.arch_defs.specs.Frames.{Only, in_blocks};
+ghost use Rattle.std.specs.Prelude.{◌≡◌, ◌≢◌, ◌↔◌, ◌+◌, ◌^◌, ◌<◌, ◌≤◌, false};
+ghost use Rattle.arch_defs.specs.Frames.{Only};
 ghost use Rattle.arch_defs.specs.Traps.{exception, is_virtual};
+ghost use Rattle.arch_defs.specs.WalkedEntries.{folds};
 ghost use Rattle.machine_defs.specs.declared.events.Event.TheVariants.{System};
 ghost use Rattle.machine_defs.specs.declared.guests.Status.TheVariants.{Running};
-ghost use Rattle.machine_defs.specs.Machine.{WaitsForGood, called, informed, stepped_to, trapped, try};
-ghost use Rattle.machine_defs.specs.Runs.{left_by};
+ghost use Rattle.machine_defs.specs.Fills.{lacking};
+ghost use Rattle.machine_defs.specs.Machine.{WaitsForGood, called, informed, stepped_to, trapped};
+ghost use Rattle.machine_defs.specs.Tries.{try};
 ghost use Rattle.rv64_hart.specs.Steps.{Exits, hart_step};
-ghost use Rattle.world_switch.specs.Hosting.{loaded};
-ghost use Rattle.guest_exit.specs.Entering.{IsQuiet, Makes, status_after, steps_made};
-ghost use Rattle.guest_exit.specs.Following.{access_fault_for, host_takes, is_guest_page_code, other_step, privileged_in, privileged_of};
-ghost use Rattle.guest_exit.specs.View.{IsPlaced, StaysFixed, machine_of, seen};
+ghost use Rattle.shadow_pool.specs.Slots.{TidyPool};
+ghost use Rattle.guest_exit.specs.Entering.{Fills, IsMiss, IsQuiet, Makes, MakesStep, status_after, steps_made};
+ghost use Rattle.guest_exit.specs.Following.{IsFault, access_fault_for, host_takes, is_guest_page_code, other_step, privileged_in, privileged_of};
+ghost use Rattle.guest_exit.specs.View.{IsPlaced, KeepsSpaces, StaysFixed, changed_by, loaded_for, machine_of, seen};
 
 use crate::emulating::emulate;
+use crate::entering::folds;
 use crate::guests::Guest;
+use crate::missing::miss;
 use crate::trapping::take;
 use arch_defs::{
     INSTRUCTION_ACCESS_FAULT, INSTRUCTION_GUEST_PAGE_FAULT, LOAD_ACCESS_FAULT,
@@ -34,16 +38,17 @@ use trap_delegation::{exception, is_virtual};
 pub enum Handled {
     /// It was made.
     Stepped,
+    /// It was not made: a cached translation was lacking, which is filled now.
+    Retry,
     /// It is a WFI that waits for good, and was not made.
     Waits,
     /// It was made, and the guest has stopped.
     Stopped,
-    /// It is outside what is built so far, and was not made.
-    Outside,
 }
 
-/// Makes the step before which the hart has stopped for this trap. Where that waits for good, or is not
-/// built, the status says so, and nothing else changes.
+/// Makes the step before which the hart has stopped for this trap, or fills the cached translation that it
+/// lacks, after which the hart may go on. Where the step waits for good, the status says so, and nothing else
+/// changes.
 pub fn handle(guest: &mut Guest, memory: &mut PhysMem, trap: &Trap) -> Handled
     requires running { guest.old.status ≡ Running }
     requires current { informed (seen guest.old) ≡ seen guest.old }
@@ -51,12 +56,15 @@ pub fn handle(guest: &mut Guest, memory: &mut PhysMem, trap: &Trap) -> Handled
     requires clock { guest.old.clock.time ≤ 2 ^ 62 + guest.old.steps }
     requires steps { guest.old.steps < 2 ^ 61 }
     requires placed { IsPlaced guest.old memory.old }
-    requires exits { hart_step (loaded guest.old.part guest.old.virt) memory.old ≡ Exits trap.now }
+    requires exits { hart_step (loaded_for guest.old) memory.old ≡ Exits trap.now }
 
-    ensures step { machine_of guest.new memory.new
-        ≡ left_by (machine_of guest.old memory.old) (try (machine_of guest.old memory.old)) }
+    ensures step { result ≢ Handled.Retry
+        → MakesStep (machine_of guest.old memory.old) (machine_of guest.new memory.new) }
+    ensures retry { (result ≡ Handled.Retry) ↔ IsMiss (machine_of guest.old memory.old) }
+    ensures fill { result ≡ Handled.Retry
+        → Fills (machine_of guest.old memory.old) (machine_of guest.new memory.new) }
     ensures quiet { IsQuiet (machine_of guest.old memory.old) }
-    ensures only { Only (in_blocks guest.old.part.blocks) memory.old memory.new }
+    ensures only { Only (changed_by guest.old) memory.old memory.new }
     ensures placed { IsPlaced guest.new memory.new }
     ensures status { guest.new.status ≡ status_after result }
     ensures waits { (result ≡ Handled.Waits) ↔ (try (machine_of guest.old memory.old) ≡ WaitsForGood) }
@@ -65,7 +73,7 @@ pub fn handle(guest: &mut Guest, memory: &mut PhysMem, trap: &Trap) -> Handled
     ensures fixed { StaysFixed guest.old guest.new }
 {
     if is_guest_page_code(trap.cause) {
-        return fault(guest, trap);
+        return fault(guest, memory, trap);
     }
     if trap.cause != VIRTUAL_INSTRUCTION {
         return other(guest, trap);
@@ -84,18 +92,30 @@ fn is_guest_page_code(code: u64) -> bool
         || code == STORE_GUEST_PAGE_FAULT
 }
 
-// An access outside RAM, for which the host table has no place, is the guest's access fault.
-fn fault(guest: &mut Guest, trap: &Trap) -> Handled
+// A guest-page fault of the hart. While the guest does not fold, the host table has no place for an access
+// outside RAM, which is the guest's access fault.
+fn fault(guest: &mut Guest, memory: &mut PhysMem, trap: &Trap) -> Handled
     requires running { guest.old.status ≡ Running }
     requires clock { guest.old.clock.time ≤ 2 ^ 62 + guest.old.steps }
     requires steps { guest.old.steps < 2 ^ 61 }
-    ensures step { Makes guest.old guest.new (λ m. trapped m
-        (exception m.platform.virt.mode (access_fault_for trap.now.cause) trap.now.tval)) }
+    requires placed { IsPlaced guest.old memory.old }
+    requires fault { IsFault (machine_of guest.old memory.old) (try (machine_of guest.old memory.old))
+        (lacking (machine_of guest.old memory.old)) trap.now (folds guest.old.virt) }
+    ensures step { result ≢ Handled.Retry
+        → MakesStep (machine_of guest.old memory.old) (machine_of guest.new memory.new) }
+    ensures fill { result ≡ Handled.Retry
+        → Fills (machine_of guest.old memory.old) (machine_of guest.new memory.new) }
+    ensures goes { result ≢ Handled.Waits }
+    ensures only { Only (changed_by guest.old) memory.old memory.new }
+    ensures tidy { TidyPool guest.new.pool memory.new }
     ensures status { guest.new.status ≡ status_after result }
     ensures made { guest.new.steps ≡ guest.old.steps + steps_made result }
     ensures clock { guest.new.clock.time ≤ 2 ^ 62 + guest.new.steps }
     ensures fixed { StaysFixed guest.old guest.new }
 {
+    if folds(&guest.virt) {
+        return miss(guest, memory, trap);
+    }
     raise(
         guest,
         &exception(guest.virt.mode, access_fault_for(trap.cause), trap.tval),
@@ -113,7 +133,8 @@ fn other(guest: &mut Guest, trap: &Trap) -> Handled
     ensures status { guest.new.status ≡ status_after result }
     ensures made { guest.new.steps ≡ guest.old.steps + steps_made result }
     ensures clock { guest.new.clock.time ≤ 2 ^ 62 + guest.new.steps }
-    ensures fixed { StaysFixed guest.old guest.new }
+    ensures went { result ≢ Handled.Retry }
+    ensures fixed { KeepsSpaces guest.old guest.new }
 {
     if is_virtual(guest.virt.mode) {
         raise(guest, trap)
@@ -131,7 +152,8 @@ pub(crate) fn raise(guest: &mut Guest, trap: &Trap) -> Handled
     ensures status { guest.new.status ≡ status_after result }
     ensures made { guest.new.steps ≡ guest.old.steps + steps_made result }
     ensures clock { guest.new.clock.time ≤ 2 ^ 62 + guest.new.steps }
-    ensures fixed { StaysFixed guest.old guest.new }
+    ensures went { result ≡ Handled.Stepped }
+    ensures fixed { KeepsSpaces guest.old guest.new }
 {
     take(&mut guest.virt, trap);
     guest.tick();
@@ -147,7 +169,8 @@ fn call(guest: &mut Guest) -> Handled
     ensures status { guest.new.status ≡ status_after result }
     ensures made { guest.new.steps ≡ guest.old.steps + steps_made result }
     ensures clock { guest.new.clock.time ≤ 2 ^ 62 + guest.new.steps }
-    ensures fixed { StaysFixed guest.old guest.new }
+    ensures went { result ≢ Handled.Retry }
+    ensures fixed { KeepsSpaces guest.old guest.new }
 {
     let end = see_calls::call(&mut guest.virt.regs, &mut guest.clock, &mut guest.console);
     match end {

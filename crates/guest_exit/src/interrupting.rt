@@ -4,11 +4,11 @@ ghost use Rattle.std.specs.Prelude.{◌≡◌, ◌+◌, ◌^◌, ◌<◌, ◌≤
 ghost use Rattle.arch_defs.specs.Interrupts.{guest_bit};
 ghost use Rattle.arch_defs.specs.Traps.{is_virtual};
 ghost use Rattle.machine_defs.specs.declared.guests.Status.TheVariants.{Running};
-ghost use Rattle.machine_defs.specs.Machine.{try};
-ghost use Rattle.machine_defs.specs.Runs.{event_in, instruction_count, left_by};
-ghost use Rattle.guest_exit.specs.Entering.{IsQuiet};
+ghost use Rattle.machine_defs.specs.Runs.{event_in, instruction_count};
+ghost use Rattle.machine_defs.specs.Tries.{try};
+ghost use Rattle.guest_exit.specs.Entering.{IsQuiet, MakesStep};
 ghost use Rattle.guest_exit.specs.Following.{host_takes, is_hosts};
-ghost use Rattle.guest_exit.specs.View.{IsPlaced, StaysFixed, machine_of};
+ghost use Rattle.guest_exit.specs.View.{IsPlaced, KeepsSpaces, machine_of};
 
 use crate::guests::Guest;
 use crate::trapping::take;
@@ -24,8 +24,7 @@ pub fn interrupt(guest: &mut Guest) -> bool
     requires steps { guest.old.steps < 2 ^ 61 }
     ensures which { result ≡ host_takes guest.old.virt }
     ensures step { result ≡ true → (memory : List ℕ)
-        → machine_of guest.new memory
-        ≡ left_by (machine_of guest.old memory) (try (machine_of guest.old memory)) }
+        → MakesStep (machine_of guest.old memory) (machine_of guest.new memory) }
     ensures quiet { result ≡ true → (memory : List ℕ) → IsQuiet (machine_of guest.old memory) }
     ensures none { result ≡ true → (memory : List ℕ)
         → instruction_count (event_in (try (machine_of guest.old memory))) ≡ 0 }
@@ -34,7 +33,7 @@ pub fn interrupt(guest: &mut Guest) -> bool
     ensures made { result ≡ true → guest.new.steps ≡ guest.old.steps + 1 }
     ensures clock { result ≡ true → guest.new.clock.time ≡ guest.old.clock.time + 1 }
     ensures stays { result ≡ false → guest.new ≡ guest.old }
-    ensures fixed { StaysFixed guest.old guest.new }
+    ensures fixed { KeepsSpaces guest.old guest.new }
 {
     match pending(&guest.virt.csrs, guest.virt.mode) {
         Some(code) => {

@@ -7,12 +7,15 @@ mod guests;
 mod handling;
 mod interrupting;
 mod limits;
+mod missing;
 #[cfg(test)]
 mod tests;
 #[cfg(test)]
 mod tests_accesses;
 #[cfg(test)]
 mod tests_clock;
+#[cfg(test)]
+mod tests_folded;
 #[cfg(test)]
 mod tests_nested;
 mod trapping;
@@ -24,3 +27,4 @@ pub use guests::Guest;
 pub use handling::{Handled, handle};
 pub use interrupting::interrupt;
 pub use limits::limit;
+pub use shadow_pool::Pool;

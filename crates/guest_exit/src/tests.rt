@@ -1,12 +1,15 @@
-ghost use Rattle.std.specs.Prelude.{◌≡◌, ◌≤◌, ◌^◌, None, IfOk, IfSome, length};
+ghost use Rattle.std.specs.Prelude.{◌≡◌, ◌+◌, ◌^◌, ◌<◌, ◌≤◌, None, IfOk, IfSome};
 ghost use Rattle.arch_defs.specs.Clocks.{times_at_start};
+ghost use Rattle.arch_defs.specs.Frames.{Only, in_blocks};
 ghost use Rattle.arch_defs.specs.Inputs.{AreInputs};
 ghost use Rattle.machine_defs.specs.declared.guests.Status.TheVariants.{Running};
 ghost use Rattle.machine_defs.specs.Machine.{informed};
 ghost use Rattle.guest_exit.specs.View.{IsPlaced, seen};
+ghost use Rattle.guest_exit.specs.Starting.{IsNewPool};
 
-use crate::{Console, Guest, Handled, enter, handle, interrupt, limit};
-use arch_defs::{Mode, Part, Reg, Virtual};
+use crate::entering::folds;
+use crate::{Console, Guest, Handled, Pool, enter, handle, interrupt, limit};
+use arch_defs::{BLOCK_SIZE, Mode, Part, Reg, Virtual};
 use host_tables::build;
 use machine_defs::Status;
 use phys_mem::{PhysMem, RAM_BASE};
@@ -28,21 +31,21 @@ pub enum By {
 // The frames of a machine memory of two blocks.
 pub const FRAMES: u64 = 1024;
 
-// A guest at the start of RAM, in this mode, with a console of one byte. Its RAM is block 1 of machine
-// memory; frames 0 to 4 have its host table.
+// A guest at the start of RAM, in this mode, with a console of one byte, and one space of sixteen entries.
+// Its RAM is block 1 of machine memory; frames 0 to 40 have its tables.
 pub fn guest(alloc: Global, mode: Mode) -> Result<Guest, AllocError>
     ensures { IfOk result (λ g. (g.status ≡ Running) × (g.clock ≡ times_at_start) × (g.steps ≡ 0)
-        × (g.virt.reservation ≡ None)) }
+        × (g.virt.reservation ≡ None) × IsNewPool g.part g.pool) }
 {
+    let part = Part::new(&[1], 0, 8, 1, 16);
     Ok(Guest {
-        part: Part::new(&[1], 0, 4, 0, 0),
+        part,
         virt: Virtual::starting_at(mode, RAM_BASE),
+        pool: Pool::new(alloc, &part, 1, 16)?,
         clock: Clock::new(),
         console: Console::new(alloc, 1, Vec::new(alloc))?,
         steps: 0,
         status: Status::Running,
-        space_room: 1,
-        entry_room: 16,
     })
 }
 
@@ -60,7 +63,42 @@ fn inputs(alloc: Global, moment: u64) -> Result<Vec<(u64, u8)>, AllocError>
     Ok(vec![in alloc; (moment, 65u8)]?)
 }
 
-// Machine memory of so many frames with the guest's image and host table, if that is enough.
+// Machine memory of so many frames with the guest's host table, if that is enough.
+fn built(alloc: Global, guest: &Guest, frames: u64) -> Result<Option<PhysMem>, AllocError>
+    requires some { 1 ≤ frames }
+    requires most { frames ≤ 131072 }
+    requires unreserved { guest.now.virt.reservation ≡ None }
+    requires pool { IsNewPool guest.now.part guest.now.pool }
+    ensures { IfOk result (λ found. IfSome found (λ memory. IsPlaced guest.now memory)) }
+{
+    let mut memory = PhysMem::new(alloc, frames)?;
+    let size = memory.size();
+    if !guest.part.lies_in(size) || folds(&guest.virt) {
+        return Ok(None);
+    }
+    build(&mut memory, &guest.part, guest.part.blocks().len() as u64);
+    guest.part.names_each_once();
+    Ok(Some(memory))
+}
+
+// Lays an image over the first block of a part, if it fits.
+fn lay(memory: &mut PhysMem, part: &Part, image: &[u8]) -> bool
+    ensures { Only (in_blocks part.now.blocks) memory.old memory.new }
+{
+    let blocks = part.blocks();
+    let size = image.len() as u64;
+    if blocks.is_empty() || size > BLOCK_SIZE {
+        return false;
+    }
+    let at = blocks[0] as u64 * BLOCK_SIZE;
+    if memory.size() < at || memory.size() - at < size {
+        return false;
+    }
+    memory.copy_in(at, image);
+    true
+}
+
+// Machine memory of so many frames with the guest's host table and this image, if that is enough.
 pub fn placed(
     alloc: Global,
     guest: &Guest,
@@ -70,21 +108,17 @@ pub fn placed(
     requires some { 1 ≤ frames }
     requires most { frames ≤ 131072 }
     requires unreserved { guest.now.virt.reservation ≡ None }
+    requires pool { IsNewPool guest.now.part guest.now.pool }
     ensures { IfOk result (λ found. IfSome found (λ memory. IsPlaced guest.now memory)) }
 {
-    let mut memory = PhysMem::new(alloc, frames)?;
-    let at = 0x20_0000;
-    if memory.size() < at || memory.size() - at < image.len() as u64 {
+    let Some(mut memory) = built(alloc, guest, frames)? else {
         return Ok(None);
+    };
+    if lay(&mut memory, &guest.part, image) {
+        Ok(Some(memory))
+    } else {
+        Ok(None)
     }
-    memory.copy_in(at, image);
-    let size = memory.size();
-    if !guest.part.lies_in(size) {
-        return Ok(None);
-    }
-    build(&mut memory, &guest.part, guest.part.blocks().len() as u64);
-    guest.part.names_each_once();
-    Ok(Some(memory))
 }
 
 // One step of the guest on an image of this word.
@@ -93,6 +127,7 @@ pub fn one(alloc: Global, guest: &mut Guest, word: u32) -> Result<By, AllocError
     requires clock { guest.old.clock.time ≤ 2 ^ 62 }
     requires steps { guest.old.steps ≡ 0 }
     requires unreserved { guest.old.virt.reservation ≡ None }
+    requires pool { IsNewPool guest.old.part guest.old.pool }
 {
     one_on(alloc, guest, &word.to_le_bytes())
 }
@@ -103,6 +138,7 @@ pub fn one_on(alloc: Global, guest: &mut Guest, image: &[u8]) -> Result<By, Allo
     requires clock { guest.old.clock.time ≤ 2 ^ 62 }
     requires steps { guest.old.steps ≡ 0 }
     requires unreserved { guest.old.virt.reservation ≡ None }
+    requires pool { IsNewPool guest.old.part guest.old.pool }
 {
     guest.inform();
     match placed(alloc, guest, image, FRAMES)? {
@@ -111,13 +147,16 @@ pub fn one_on(alloc: Global, guest: &mut Guest, image: &[u8]) -> Result<By, Allo
     }
 }
 
-// One step of the guest in machine memory.
+// One try of the guest's next step in machine memory.
 pub fn one_in(guest: &mut Guest, memory: &mut PhysMem) -> By
     requires running { guest.old.status ≡ Running }
     requires current { informed (seen guest.old) ≡ seen guest.old }
-    requires clock { guest.old.clock.time ≤ 2 ^ 62 }
-    requires steps { guest.old.steps ≡ 0 }
+    requires clock { guest.old.clock.time ≤ 2 ^ 62 + guest.old.steps }
+    requires steps { guest.old.steps < 2 ^ 61 }
     requires placed { IsPlaced guest.old memory.old }
+    ensures clock { guest.new.clock.time ≤ 2 ^ 62 + guest.new.steps }
+    ensures steps { guest.new.steps ≤ guest.old.steps + 1 }
+    ensures placed { IsPlaced guest.new memory.new }
 {
     if interrupt(guest) {
         return By::HostByInterrupt;
@@ -259,21 +298,6 @@ fn the_host_makes_sret(rt: HostRuntime) -> Result<(), Fail> {
     Ok(())
 }
 
-// What is not built so far is not made, and nothing but the status changes.
-#[test]
-fn a_fence_of_guest_addresses_is_outside(rt: HostRuntime) -> Result<(), Fail> {
-    let mut guest = guest(rt.alloc(), Mode::HS)?;
-    let before = guest.virt;
-    let by = one(rt.alloc(), &mut guest, 0x6200_0073)?; // hfence.gvma
-    assert_eq!(rt; by, By::Host(Handled::Outside));
-    assert_eq!(rt; guest.virt, before);
-    assert_eq!(rt;
-        (guest.clock.time(), guest.steps, guest.status),
-        (0, 0, Status::Outside)
-    );
-    Ok(())
-}
-
 // An interrupt of VS that is not delegated is one for the host; sip's is the hart's, at its place in stvec's
 // table.
 #[test]
@@ -298,7 +322,7 @@ fn interrupts(rt: HostRuntime) -> Result<(), Fail> {
 // In U, where SIE has no part.
 fn guest_with_software_interrupt(alloc: Global) -> Result<Guest, AllocError>
     ensures { IfOk result (λ g. (g.status ≡ Running) × (g.clock ≡ times_at_start) × (g.steps ≡ 0)
-        × (g.virt.reservation ≡ None)) }
+        × (g.virt.reservation ≡ None) × IsNewPool g.part g.pool) }
 {
     let mut guest = guest(alloc, Mode::U)?;
     guest.virt.csrs.sip.software = true;
@@ -319,6 +343,7 @@ fn entered(
     requires clock { guest.old.clock.time ≤ 2 ^ 62 }
     requires steps { guest.old.steps ≡ 0 }
     requires unreserved { guest.old.virt.reservation ≡ None }
+    requires pool { IsNewPool guest.old.part guest.old.pool }
     requires some { 1 ≤ most }
     requires few { most ≤ 100 }
     requires entries { tally.old.entries ≡ 0 }

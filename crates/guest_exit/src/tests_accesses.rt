@@ -3,6 +3,7 @@
 ghost use Rattle.std.specs.Prelude.{◌≡◌, None, IfOk};
 ghost use Rattle.arch_defs.specs.Clocks.{times_at_start};
 ghost use Rattle.machine_defs.specs.declared.guests.Status.TheVariants.{Running};
+ghost use Rattle.guest_exit.specs.Starting.{IsNewPool};
 
 use crate::tests::{By, FRAMES, guest, one_in, one_on, placed};
 use crate::{Guest, Handled};
@@ -30,7 +31,7 @@ const HANDLER: u64 = 0x8000_0100;
 // A guest in this mode, with HU set and this address in x5.
 fn accessing(alloc: Global, mode: Mode, address: u64) -> Result<Guest, AllocError>
     ensures { IfOk result (λ g. (g.status ≡ Running) × (g.clock ≡ times_at_start) × (g.steps ≡ 0)
-        × (g.virt.reservation ≡ None)) }
+        × (g.virt.reservation ≡ None) × IsNewPool g.part g.pool) }
 {
     let mut guest = guest(alloc, mode)?;
     guest.virt.csrs.hs.tvec = HANDLER;

@@ -2,6 +2,7 @@
 
 ghost use Rattle.std.specs.Prelude.{◌≡◌, ◌≤◌, None, IfOk};
 ghost use Rattle.machine_defs.specs.declared.guests.Status.TheVariants.{Running};
+ghost use Rattle.guest_exit.specs.Starting.{IsNewPool};
 
 use crate::tests::{By, console, guest, one};
 use crate::{Guest, Handled};
@@ -29,7 +30,7 @@ const NO_WAKE: u64 = 0x4000_0000_0000_0000;
 fn at(alloc: Global, mode: Mode, time: u64) -> Result<Guest, AllocError>
     requires { time ≤ 1000 }
     ensures { IfOk result (λ g. (g.status ≡ Running) × (g.clock.time ≡ time) × (g.steps ≡ 0)
-        × (g.virt.reservation ≡ None)) }
+        × (g.virt.reservation ≡ None) × IsNewPool g.part g.pool) }
 {
     let mut guest = guest(alloc, mode)?;
     guest.console = console(alloc, 20)?;
@@ -42,7 +43,7 @@ fn at(alloc: Global, mode: Mode, time: u64) -> Result<Guest, AllocError>
 fn calling(alloc: Global, number: u64, time: u64) -> Result<Guest, AllocError>
     requires { time ≤ 1000 }
     ensures { IfOk result (λ g. (g.status ≡ Running) × (g.clock.time ≡ time) × (g.steps ≡ 0)
-        × (g.virt.reservation ≡ None)) }
+        × (g.virt.reservation ≡ None) × IsNewPool g.part g.pool) }
 {
     let mut guest = at(alloc, Mode::HS, time)?;
     guest.virt.regs.advance(Reg::new(17), number, RAM_BASE);

@@ -3,6 +3,7 @@
 ghost use Rattle.std.specs.Prelude.{◌≡◌, None, IfOk};
 ghost use Rattle.arch_defs.specs.Clocks.{times_at_start};
 ghost use Rattle.machine_defs.specs.declared.guests.Status.TheVariants.{Running};
+ghost use Rattle.guest_exit.specs.Starting.{IsNewPool};
 
 use crate::tests::{By, guest, one, one_on};
 use crate::{Guest, Handled};
@@ -41,7 +42,7 @@ const EXTERNAL: Interrupts = Interrupts {
 // A guest in this mode with a handler at each level, whose hypervisor delegates these exceptions.
 fn nested(alloc: Global, mode: Mode, hedeleg: u64) -> Result<Guest, AllocError>
     ensures { IfOk result (λ g. (g.status ≡ Running) × (g.clock ≡ times_at_start) × (g.steps ≡ 0)
-        × (g.virt.reservation ≡ None)) }
+        × (g.virt.reservation ≡ None) × IsNewPool g.part g.pool) }
 {
     let mut guest = guest(alloc, mode)?;
     guest.virt.csrs.hs.tvec = HS_HANDLER;
@@ -283,7 +284,7 @@ fn returns(rt: HostRuntime) -> Result<(), Fail> {
         page: 0x8_0004,
     };
     let by = one(rt.alloc(), &mut guest, 0x1020_0073)?;
-    assert_eq!(rt; by, By::Host(Handled::Outside));
+    assert_eq!(rt; by, By::Host(Handled::Stepped));
     Ok(())
 }
 

@@ -1,10 +1,10 @@
 // WFI of a guest (Privileged Architecture 20211203, 3.3.3).
 
-ghost use Rattle.std.specs.Prelude.{◌≡◌, ◌+◌, ◌^◌, ◌<◌, ◌≤◌, ◌&&◌, ◌||◌, false};
+ghost use Rattle.std.specs.Prelude.{◌≡◌, ◌≢◌, ◌+◌, ◌^◌, ◌<◌, ◌≤◌, ◌&&◌, ◌||◌, false};
 ghost use Rattle.machine_defs.specs.declared.guests.Status.TheVariants.{Running};
 ghost use Rattle.machine_defs.specs.Machine.{has_enabled_interrupt, informed, waited};
 ghost use Rattle.guest_exit.specs.Entering.{Makes, status_after, steps_made};
-ghost use Rattle.guest_exit.specs.View.{StaysFixed, seen};
+ghost use Rattle.guest_exit.specs.View.{KeepsSpaces, seen};
 
 use crate::guests::Guest;
 use crate::handling::Handled;
@@ -23,7 +23,8 @@ pub fn wait(guest: &mut Guest, virt: Virtual) -> Handled
     ensures status { guest.new.status ≡ status_after result }
     ensures made { guest.new.steps ≡ guest.old.steps + steps_made result }
     ensures clock { guest.new.clock.time ≤ 2 ^ 62 + guest.new.steps }
-    ensures fixed { StaysFixed guest.old guest.new }
+    ensures went { result ≢ Handled.Retry }
+    ensures fixed { KeepsSpaces guest.old guest.new }
 {
     if has_enabled_interrupt(&guest.virt.csrs) {
         guest.virt = virt;
@@ -44,7 +45,8 @@ fn wait_for_wake(guest: &mut Guest, virt: Virtual) -> Handled
     ensures status { guest.new.status ≡ status_after result }
     ensures made { guest.new.steps ≡ guest.old.steps + steps_made result }
     ensures clock { guest.new.clock.time ≤ 2 ^ 62 + guest.new.steps }
-    ensures fixed { StaysFixed guest.old guest.new }
+    ensures went { result ≢ Handled.Retry }
+    ensures fixed { KeepsSpaces guest.old guest.new }
 {
     wake_moment_is_least();
     match guest.clock.wait(guest.virt.csrs.sie, guest.console.next()) {

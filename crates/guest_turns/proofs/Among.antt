@@ -3,17 +3,17 @@ use Rattle.std.proofs.Common.{◌≡◌, ◌≢◌, ℕ, ◌<◌, ◌⊎◌, inl
 use Rattle.std.proofs.lemmas.Bool.{cases_eq}
 use Rattle.std.proofs.lemmas.List.{ext_get_or, get_or-map, get_or-set_other, get_or-set_same, get_or_default, length-map, length-set}
 use Rattle.std.proofs.Math.Seq.{map-set_same}
-use Rattle.arch_defs.specs.Frames.{Apart, Only, Same, in_blocks}
-use Rattle.arch_defs.specs.Layouts.{in_tables, named_by}
-use Rattle.arch_defs.proofs.FrameSets.{apart_within, kept, left_within}
+use Rattle.arch_defs.specs.Frames.{Apart, Only, Same}
+use Rattle.arch_defs.specs.Layouts.{named_by}
+use Rattle.arch_defs.proofs.FrameSets.{kept}
 use Rattle.machine_defs.specs.Machine.{Machine}
 use Rattle.machine_defs.specs.Runs.{run}
 use Rattle.guest_exit.specs.declared.guests.Guest.{Guest}
-use Rattle.guest_exit.specs.View.{machine_of}
+use Rattle.guest_exit.specs.View.{changed_by, machine_of}
 use Rattle.guest_turns.specs.Hosted.{Hosted, machine_at, no_machine, no_part, part_at}
 use Rattle.guest_turns.specs.Hosting.{AreHosted, HasRun, IsHosted, parts_of}
 use Rattle.guest_turns.specs.TurnLists.{updated}
-use Rattle.guest_turns.proofs.Placing.{hosted_kept, machine_kept}
+use Rattle.guest_turns.proofs.Placing.{hosted_kept, machine_kept, only_in_part}
 use Rattle.guest_turns.proofs.Updating.{length_updated, updated_other, updated_same}
 
 abbrev pub machines_of : List Guest → List ℕ → List Machine
@@ -21,13 +21,11 @@ machines_of guests memory = map (λ guest. machine_of guest memory) guests
 
 -- the part of another guest is as it was
 pub part_kept : (guests : List Guest) (memory : List ℕ) (g i : ℕ) (d : Guest) (changed : List ℕ) → AreHosted guests memory
-    → g < length guests → i < length guests → i ≢ g → Only (in_blocks (get_or guests g d).part.blocks) memory changed
+    → g < length guests → i < length guests → i ≢ g → Only (changed_by (get_or guests g d)) memory changed
     → Same (named_by (get_or guests i d).part) memory changed
 part_kept guests memory g i d changed hosted g_in i_in other only =
-    kept (named_by (get_or guests i d).part) (in_blocks (get_or guests g d).part.blocks) memory changed
-    (apart_within (named_by (get_or guests i d).part) (in_blocks (get_or guests g d).part.blocks) (named_by (get_or guests g d).part)
-    (left_within (in_blocks (get_or guests g d).part.blocks) (in_tables (get_or guests g d).part)) apart)
-    only
+    kept (named_by (get_or guests i d).part) (named_by (get_or guests g d).part) memory changed apart
+    (only_in_part (get_or guests g d) memory changed (hosted.each g d g_in).placed only)
   where
     its_part : (j : ℕ) → j < length guests → get_or (parts_of guests) j d.part ≡ (get_or guests j d).part
     its_part j j_in = get_or-map (λ guest. guest.part) guests j d d.part j_in
@@ -60,7 +58,7 @@ turned guests memory g k old new changed all g_in is ran hosted =
 
     others : (i : ℕ) → i < length guests → i ≢ g → Same (named_by (get_or guests i old).part) memory changed
     others i i_in other =
-        part_kept guests memory g i old changed all g_in i_in other (subst (λ guest. Only (in_blocks guest.part.blocks) memory changed) is ran.only)
+        part_kept guests memory g i old changed all g_in i_in other (subst (λ guest. Only (changed_by guest) memory changed) is ran.only)
 
     each : (i : ℕ) (d : Guest) → i < length (set guests g new) → IsHosted (get_or (set guests g new) i d) changed
     each i d h = by (cases_eq i g)

@@ -1,22 +1,31 @@
--- What the clock sets stays as the clock sets it, through steps and runs.
-use Rattle.std.proofs.Common.{◌≡◌, ℕ, zero, suc, ap}
+-- What the clock sets stays as the clock sets it, through steps, fills and runs.
+use Rattle.std.proofs.Common.{◌≡◌, ℕ, zero, suc, ap, subst, sym}
 use Rattle.machine_defs.specs.declared.guests.Status.{Status}
 use Rattle.machine_defs.specs.declared.guests.Status.TheVariants as status
-use Rattle.machine_defs.specs.Machine.{Machine, Platform, Tried, Ended, WaitsForGood, informed, try}
-use Rattle.machine_defs.specs.Machine as tried
+use Rattle.machine_defs.specs.Fills.{most_fills, ready}
+use Rattle.machine_defs.specs.Machine.{Machine, Platform, Tried, Ended, WaitsForGood, informed}
 use Rattle.machine_defs.specs.Runs.{left_by, run, step, stepped}
+use Rattle.machine_defs.specs.Tries.{try}
+use Rattle.guest_exit.specs.Entering.{Fills, MakesStep}
+use Rattle.guest_turns.proofs.Steps.{same_platform}
 use Rattle.guest_turns.proofs.Tries.{LeavesStep, try_step}
 
 left_current : (m : Machine) (t : Tried) → informed m.platform ≡ m.platform → LeavesStep m t → informed (left_by m t).platform ≡ (left_by m t).platform
 left_current m (Ended after event) e h = h.current
 left_current m WaitsForGood e h = ap {A = Platform} (λ p. record p { status = status.Waiting }) e
-left_current m tried.Outside e h = ap {A = Platform} (λ p. record p { status = status.Outside }) e
+
+-- a step that lacks nothing, and a fill
+pub after_step : (m after : Machine) → informed m.platform ≡ m.platform → MakesStep m after → informed after.platform ≡ after.platform
+after_step m after e made = subst (λ m. informed m.platform ≡ m.platform) (sym made.step) (left_current m (try m) e (try_step m))
+
+pub after_fill : (m after : Machine) → informed m.platform ≡ m.platform → Fills m after → informed after.platform ≡ after.platform
+after_fill m after e (entry, lacks, filled) = subst (λ m. informed m.platform ≡ m.platform) (sym filled) e
 
 stepped_current : (m : Machine) (s : Status) → informed m.platform ≡ m.platform → informed (stepped m s).platform ≡ (stepped m s).platform
-stepped_current m status.Running e = left_current m (try m) e (try_step m)
+stepped_current m status.Running e =
+    left_current (ready m) (try (ready m)) (subst (λ p. informed p ≡ p) (sym (same_platform m (most_fills m))) e) (try_step (ready m))
 stepped_current m status.Waiting e = e
 stepped_current m status.Stopped e = e
-stepped_current m status.Outside e = e
 
 run_current : (m : Machine) (n : ℕ) → informed m.platform ≡ m.platform → informed (run m n).platform ≡ (run m n).platform
 unfolding run step

@@ -1,7 +1,9 @@
 pub mod Accounts
 pub mod Among
 pub mod Current
+pub mod Parts
 pub mod Placing
+pub mod Rooms
 pub mod Starting
 pub mod Steps
 pub mod TestGuests

@@ -1,23 +1,23 @@
 -- A guest in machine memory, while it runs and while another one does.
-use Rattle.std.proofs.Common.{◌≡◌, ℕ, true, ◌+◌, ◌*◌, ◌/◌, ◌<◌, ◌≤◌, ◌^◌, List, length, ap, subst, sym, ◌∙◌, refl, arith}
-use Rattle.arch_defs.specs.Frames.{Only, Same, in_blocks, within}
+use Rattle.std.proofs.Common.{◌≡◌, ℕ, true, ◌+◌, ◌*◌, ◌/◌, ◌<◌, ◌≤◌, List, length, ap, subst, sym, ◌∙◌, refl, arith}
+use Rattle.arch_defs.specs.Frames.{Only, Same, Within, in_blocks, joined, within}
 use Rattle.arch_defs.specs.Layouts.{Layout, host_frames, in_tables, named_by, root_frames, table_frames}
 use Rattle.arch_defs.specs.Memory.{block_size, load}
 use Rattle.arch_defs.specs.Ram.{SlicesLieIn, ram_of}
-use Rattle.arch_defs.proofs.FrameSets.{in_range, joined_within, left_within, load_kept, only_both, right_within, same_fewer}
+use Rattle.arch_defs.proofs.FrameSets.{in_range, joined_within, left_within, load_kept, only_both, only_more, right_within, same_fewer}
 use Rattle.arch_defs.proofs.RamBlocks.{ram_kept}
+use Rattle.enough_tries.specs.Keeping.{IsOrderly}
 use Rattle.host_tables.specs.HostTable.{IsHostTable, leaf_word, root_word}
 use Rattle.host_tables.specs.Walks.{IsHeld}
 use Rattle.host_tables.proofs.Entries.{root_in, table_in}
-use Rattle.machine_defs.specs.declared.guests.Status.TheVariants.{Running}
-use Rattle.machine_defs.specs.Machine.{try}
-use Rattle.machine_defs.specs.Runs.{left_by}
+use Rattle.machine_defs.specs.Reservations.{CachesInRam}
+use Rattle.shadow_pool.specs.Slots.{frames_for, pool_frames, room_of}
+use Rattle.shadow_pool.proofs.Apart.{pool_within}
+use Rattle.shadow_pool.proofs.Front.{pool_lasts}
 use Rattle.guest_exit.specs.declared.guests.Guest.{Guest}
-use Rattle.guest_exit.specs.View.{IsPlaced, StaysFixed, machine_of}
-use Rattle.guest_exit.proofs.Entries.{run_further}
-use Rattle.guest_exit.proofs.Placed.{blocks_held}
-use Rattle.guest_turns.specs.Hosting.{HasRun, IsHosted}
-use Rattle.guest_turns.proofs.Current.{after_run}
+use Rattle.guest_exit.specs.View.{IsPlaced, KeepsSpaces, StaysFixed, changed_by, machine_of}
+use Rattle.guest_exit.proofs.Pools.{blocks_held}
+use Rattle.guest_turns.specs.Hosting.{IsHosted}
 
 -- the entries of a host table whose frames are the same
 at_root : (first i at : ℕ) → i < 2048 → first * 4096 + 8 * i ≤ at → at < first * 4096 + 8 * i + 8 → (first ≤ at / 4096) × (at / 4096 < first + 4)
@@ -67,46 +67,75 @@ part_ram_kept part old new same lie =
     ram_kept part.blocks old new lie (same_fewer (in_blocks part.blocks) (named_by part) old new (left_within (in_blocks part.blocks) (in_tables part)) same)
 
 -- a guest whose part is the same is hosted as before
-pub hosted_kept : (guest : Guest) (old new : List ℕ) → Same (named_by guest.part) old new → IsHosted guest old → IsHosted guest new
-hosted_kept guest old new same hosted = record {
-  placed = record { once = hosted.placed.once; held = held_kept guest.part old new same hosted.placed.held; ram = refl; reserved = hosted.placed.reserved };
-  clock = hosted.clock;
-  current = hosted.current;
-}
-
 pub machine_kept : (guest : Guest) (old new : List ℕ) → Same (named_by guest.part) old new → IsHosted guest old → machine_of guest new ≡ machine_of guest old
 machine_kept guest old new same hosted =
     ap (λ ram. record (machine_of guest old) { ram = ram }) (part_ram_kept guest.part old new same (blocks_held guest.part old hosted.placed.held))
 
--- one run after another
+-- the frames of its spaces' tables are of its part
+pub pool_in_part : (guest : Guest) (memory : List ℕ) → IsPlaced guest memory → Within (pool_frames guest.pool) (named_by guest.part)
+pool_in_part guest memory at =
+    let few : room_of guest.pool ≤ guest.part.spaces = rw (← at.own) at.tidy.slots.own in
+    subst (λ part. Within (frames_for part (room_of guest.pool)) (named_by guest.part)) (sym at.own) (pool_within guest.part (room_of guest.pool) few)
+
+pub hosted_kept : (guest : Guest) (old new : List ℕ) → Same (named_by guest.part) old new → IsHosted guest old → IsHosted guest new
+hosted_kept guest old new same hosted =
+    let at = hosted.placed in
+    let machine = machine_kept guest old new same hosted in
+    record {
+      placed = record {
+        once = at.once;
+        held = held_kept guest.part old new same at.held;
+        ram = refl;
+        reserved = at.reserved;
+        own = at.own;
+        tidy = pool_lasts guest.pool old new (same_fewer (pool_frames guest.pool) (named_by guest.part) old new (pool_in_part guest old at) same) at.tidy;
+        spaces = refl;
+        space_room = refl;
+        entry_room = refl;
+        caches = subst CachesInRam (sym machine) at.caches;
+        orderly = subst IsOrderly (sym machine) at.orderly;
+      };
+      clock = hosted.clock;
+      current = hosted.current;
+    }
+
+-- steps of a guest change no frame outside its part
+pub only_in_part : (guest : Guest) (old new : List ℕ) → IsPlaced guest old → Only (changed_by guest) old new → Only (named_by guest.part) old new
+only_in_part guest old new at only =
+    only_more (changed_by guest) (named_by guest.part) old new
+    (joined_within (in_blocks guest.part.blocks) (pool_frames guest.pool) (named_by guest.part) (left_within (in_blocks guest.part.blocks) (in_tables guest.part))
+    (pool_in_part guest old at))
+    only
+
+-- one change after another
+pub fixed_by : (old new : Guest) → KeepsSpaces old new → StaysFixed old new
+fixed_by old new keeps = record {
+  part = keeps.part;
+  pool = ap (λ pool. pool.part) keeps.pool;
+  entry_room = ap (λ pool. pool.most) keeps.pool;
+  space_room = ap room_of keeps.pool;
+}
+
 pub fixed_both : (old between new : Guest) → StaysFixed old between → StaysFixed between new → StaysFixed old new
 fixed_both old between new first second = record {
   part = second.part ∙ first.part;
-  space_room = second.space_room ∙ first.space_room;
+  pool = second.pool ∙ first.pool;
   entry_room = second.entry_room ∙ first.entry_room;
+  space_room = second.space_room ∙ first.space_room;
 }
 
--- a run of a guest that is another one
-pub entered_run : (same old new : Guest) (memory changed : List ℕ) (k : ℕ) → same ≡ old → HasRun same memory k new changed → HasRun old memory k new changed
-entered_run same old new memory changed k is ran = subst (λ guest. HasRun guest memory k new changed) is ran
+-- the same frames may change
+pub same_changed : (old new : Guest) → StaysFixed old new → changed_by new ≡ changed_by old
+same_changed old new fixed =
+    ap (λ part. joined (in_blocks part.blocks) (pool_frames new.pool)) fixed.part
+    ∙ ap (λ part. joined (in_blocks old.part.blocks) (frames_for part (room_of new.pool))) fixed.pool
+    ∙ ap (λ count. joined (in_blocks old.part.blocks) (frames_for old.pool.part count)) fixed.space_room
 
--- a run, and a step that the host makes after it
-pub handled_run : (old between new : Guest) (memory changed last : List ℕ) (k : ℕ) → HasRun old memory k between changed → between.status ≡ Running
-    → machine_of new last ≡ left_by (machine_of between changed) (try (machine_of between changed)) → StaysFixed between new
-    → Only (in_blocks between.part.blocks) changed last → HasRun old memory (k + 1) new last
-handled_run old between new memory changed last k ran running step fixed only = record {
-  machine = rw (run_further (machine_of old memory) (machine_of between changed) k (sym ran.machine) running) step;
-  fixed = fixed_both old between new ran.fixed fixed;
-  only =
-      only_both (in_blocks old.part.blocks) memory changed last ran.only
-      (subst (λ part. Only (in_blocks part.blocks) changed last) ran.fixed.part only);
-}
+pub only_then : (old between new : Guest) (memory changed last : List ℕ) → StaysFixed old between → Only (changed_by old) memory changed
+    → Only (changed_by between) changed last → Only (changed_by old) memory last
+only_then old between new memory changed last fixed first second =
+    only_both (changed_by old) memory changed last first (subst (λ frames. Only frames changed last) (same_changed old between fixed) second)
 
--- what a run leaves, if its clock is bounded
-pub hosted_after : (old new : Guest) (memory changed : List ℕ) (k : ℕ) → IsHosted old memory → HasRun old memory k new changed → IsPlaced new changed
-    → new.clock.time ≤ 2 ^ 62 + new.steps → IsHosted new changed
-hosted_after old new memory changed k hosted ran placed clock = record {
-  placed = placed;
-  clock = clock;
-  current = after_run (machine_of old memory) (machine_of new changed) k hosted.current ran.machine;
-}
+pub only_of_blocks : (guest : Guest) (memory changed : List ℕ) → Only (in_blocks guest.part.blocks) memory changed → Only (changed_by guest) memory changed
+only_of_blocks guest memory changed only =
+    only_more (in_blocks guest.part.blocks) (changed_by guest) memory changed (left_within (in_blocks guest.part.blocks) (pool_frames guest.pool)) only

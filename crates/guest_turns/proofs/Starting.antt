@@ -1,17 +1,20 @@
 -- Guests at their start, in their parts of machine memory.
-use Rattle.std.proofs.Common.{◌≡◌, ◌≢◌, ℕ, ◌+◌, ◌*◌, ◌<◌, ◌≤◌, ◌^◌, ◌⊎◌, inl, inr, List, [], ◌∷◌, ◌++◌, None, length, get_or, map, refl, ap, sym, subst, ◌∙◌, arith}
+use Rattle.std.proofs.Common.{true, ◌≡◌, ◌≢◌, ℕ, ◌+◌, ◌*◌, ◌<◌, ◌≤◌, ◌^◌, ◌⊎◌, inl, inr, List, [], ◌∷◌, ◌++◌, None, length, get_or, map, refl, ap, sym, subst, ◌∙◌, arith}
 use Rattle.std.specs.List.{All}
 use Rattle.std.proofs.lemmas.Bool.{cases_eq}
 use Rattle.std.proofs.lemmas.List.{ext_get_or, get_or-map, get_or_append_left, get_or_default, get_or_push, length-map, length_push}
-use Rattle.arch_defs.specs.Frames.{LieIn, Only, Same, in_blocks}
+use Rattle.arch_defs.specs.Frames.{Frames, LieIn, Only, Same, Within, in_blocks}
 use Rattle.arch_defs.specs.Layouts.{Layout, NamesEachOnce, host_frames, in_tables, named_by}
 use Rattle.arch_defs.specs.Memory.{block_size, loaded, zeros}
 use Rattle.arch_defs.specs.Needs.{IsNeed}
 use Rattle.arch_defs.specs.Ram.{ram_of}
-use Rattle.arch_defs.proofs.FrameSets.{apart_within, kept, left_within, only_both, only_more, same_fewer}
+use Rattle.arch_defs.specs.Spaces.{Space}
+use Rattle.arch_defs.proofs.FrameSets.{apart_sym, apart_within, kept, left_within, only_both, only_more, same_fewer}
 use Rattle.arch_defs.proofs.Images.{length_zeros}
 use Rattle.arch_defs.proofs.RamBlocks.{blocks_lie_in, ram_kept}
 use Rattle.arch_defs.proofs.Rooms.{first_lies}
+use Rattle.enough_tries.specs.Keeping.{IsOrderly}
+use Rattle.enough_tries.proofs.Orderly.{start_is_orderly}
 use Rattle.frame_split.specs.Shares.{AreNeeds, IsSplit}
 use Rattle.host_tables.specs.HostTable.{IsHostTable}
 use Rattle.host_tables.specs.Walks.{IsHeld}
@@ -19,11 +22,17 @@ use Rattle.machine_defs.specs.declared.guests.GuestSpec.{GuestSpec}
 use Rattle.machine_defs.specs.HostPlaces.{in_ram}
 use Rattle.machine_defs.specs.Machine.{Machine, Platform, informed, start}
 use Rattle.machine_defs.specs.Renaming.{ReservesHeld}
+use Rattle.machine_defs.specs.Reservations.{CachesInRam}
+use Rattle.machine_defs.proofs.InRam.{start_is_in_ram}
+use Rattle.shadow_pool.specs.Slots as slots
+use Rattle.shadow_pool.specs.Slots.{TidyPool, pool_frames, room_of, spaces_of}
+use Rattle.shadow_pool.proofs.Apart.{host_apart, pool_within, ram_apart}
+use Rattle.shadow_space.specs.Shadows.{AreZeros}
+use Rattle.shadow_space.proofs.Clearing.{zeros_at}
 use Rattle.guest_exit.specs.declared.guests.Guest.{Guest}
-use Rattle.guest_exit.specs.Following.{IsAt}
 use Rattle.guest_exit.specs.View.{machine_of, seen}
 use Rattle.guest_turns.specs.Hosted.{no_machine, no_part}
-use Rattle.guest_turns.specs.Hosting.{AreAtStart, AreHosted, AreLaidOut, IsAtStart, IsHosted, parts_of}
+use Rattle.guest_turns.specs.Hosting.{AreAtStart, AreHosted, AreLaidOut, IsAtStart, IsHosted, parts_of, space_tables}
 use Rattle.guest_turns.specs.Limits.{IsBootable, frames_for, need_of, needs_of}
 use Rattle.guest_turns.proofs.Among.{machines_of}
 use Rattle.guest_turns.proofs.Placing.{host_in_part, host_in_tables, part_ram_kept, table_kept}
@@ -46,6 +55,8 @@ some_frames (guest ∷ guests) some = omega arith
 pub record IsPartFor (guest : GuestSpec) (part : Layout) (size : ℕ) : Type 0 where
   pub bootable : IsBootable guest
   pub blocks : length part.blocks ≡ guest.blocks
+  pub spaces : part.spaces ≡ guest.spaces
+  pub entries : part.entries ≡ guest.entries
   pub once : NamesEachOnce part
   pub lies : LieIn (named_by part) size
 
@@ -55,6 +66,8 @@ pub part_for : (guests : List GuestSpec) (parts : List Layout) (frames i : ℕ) 
 part_for guests parts frames i guest part each split inside guest_is part_is = record {
   bootable = subst IsBootable (sym guest_is) (each i guest inside);
   blocks = ap (λ part. length part.blocks) part_is ∙ (split.meet i (need_of guest) part needed).blocks ∙ ap (λ need. need.blocks) need_is ∙ ap (λ guest. guest.blocks) (sym guest_is);
+  spaces = ap (λ part. part.spaces) part_is ∙ (split.meet i (need_of guest) part needed).spaces ∙ ap (λ need. need.spaces) need_is ∙ ap (λ guest. guest.spaces) (sym guest_is);
+  entries = ap (λ part. part.entries) part_is ∙ (split.meet i (need_of guest) part needed).entries ∙ ap (λ need. need.entries) need_is ∙ ap (λ guest. guest.entries) (sym guest_is);
   once = subst NamesEachOnce (sym part_is) sound.0;
   lies = subst (λ part. LieIn (named_by part) (frames * 4096)) (sym part_is) sound.1;
 }
@@ -68,6 +81,35 @@ part_for guests parts frames i guest part each split inside guest_is part_is = r
     sound : NamesEachOnce (get_or parts i part) × LieIn (named_by (get_or parts i part)) (frames * 4096)
     sound = split.sound i part (rw split.count needed)
 
+pub parts_count : (guests : List GuestSpec) (parts : List Layout) (frames : ℕ) → IsSplit (needs_of guests) parts frames → length parts ≡ length guests
+parts_count guests parts frames split = split.count ∙ length-map guests need_of
+
+-- frames that are zeros stay so where their bytes stay
+zeros_kept : (frames : Frames) (old new : List ℕ) → Same frames old new → AreZeros frames old → AreZeros frames new
+zeros_kept frames old new same are = record { each = λ at is. same.bytes at is ∙ are.each at is }
+
+-- before any part is laid out, all memory is zeros
+pub none_laid : (guests : List GuestSpec) (parts : List Layout) (size : ℕ) (memory : List ℕ) → memory ≡ zeros size → AreLaidOut guests parts 0 memory
+none_laid guests parts size memory is = record {
+  ram = λ i s d h. absurd (omega (arith, h));
+  tables = λ i d h. absurd (omega (arith, h));
+  spaces = λ i d h. record { each = λ at own. rw is (zeros_at size at) };
+}
+
+-- the frames for the tables of a part's spaces are of the part, apart from its blocks and its host table
+spaces_in_part : (part : Layout) → Within (space_tables part) (named_by part)
+spaces_in_part part = pool_within part part.spaces (omega arith)
+
+blocks_leave : (part : Layout) (old new : List ℕ) → NamesEachOnce part → Only (in_blocks part.blocks) old new → Same (space_tables part) old new
+blocks_leave part old new once only =
+    kept (space_tables part) (in_blocks part.blocks) old new
+    (apart_sym (in_blocks part.blocks) (space_tables part) (ram_apart part once part.spaces (omega arith))) only
+
+table_leaves : (part : Layout) (old new : List ℕ) → NamesEachOnce part → Only (host_frames part) old new → Same (space_tables part) old new
+table_leaves part old new once only =
+    kept (space_tables part) (host_frames part) old new
+    (apart_sym (host_frames part) (space_tables part) (host_apart part once part.spaces (omega arith))) only
+
 -- one part more is laid out
 earlier : (i j : ℕ) → j < i + 1 → j ≢ i → j < i
 earlier i j h other = omega (arith, h, other)
@@ -78,7 +120,7 @@ pub laid_more : (guests : List GuestSpec) (parts : List Layout) (frames i : ℕ)
     → ram_of part.blocks between ≡ loaded (length part.blocks * block_size) guest.image → Only (in_blocks part.blocks) memory between
     → IsHostTable part new → Only (host_frames part) between new → AreLaidOut guests parts (i + 1) new
 laid_more guests parts frames i guest part memory between new split size inside guest_is part_is for laid ram blocks table tables =
-    record { ram = rams; tables = each_table }
+    record { ram = rams; tables = each_table; spaces = each_spaces }
   where
     count : length parts ≡ length guests
     count = split.count ∙ length-map guests need_of
@@ -133,6 +175,23 @@ laid_more guests parts frames i guest part memory between new split size inside 
             (same_fewer (host_frames (get_or parts j d)) (named_by (get_or parts j d)) memory new (host_in_part (get_or parts j d)) (others j d j_in other))
             (laid.tables j d before)
 
+    each_spaces : (j : ℕ) (d : Layout) → j < length parts → AreZeros (space_tables (get_or parts j d)) new
+    each_spaces j d h = by (cases_eq j i)
+      where
+        j_in : j < length guests
+        j_in = rw count at h
+
+        by : (j ≡ i) ⊎ (j ≡ i → ⊥) → AreZeros (space_tables (get_or parts j d)) new
+        by (inl same) =
+            let own : AreZeros (space_tables part) memory = subst (λ part. AreZeros (space_tables part) memory) (at_i d) (subst (λ j. AreZeros (space_tables (get_or parts j d)) memory) same (laid.spaces j d h)) in
+            let between_own = zeros_kept (space_tables part) memory between (blocks_leave part memory between for.once blocks) own in
+            let new_own = zeros_kept (space_tables part) between new (table_leaves part between new for.once tables) between_own in
+            subst (λ j. AreZeros (space_tables (get_or parts j d)) new) (sym same) (subst (λ part. AreZeros (space_tables part) new) (sym (at_i d)) new_own)
+        by (inr other) =
+            zeros_kept (space_tables (get_or parts j d)) memory new
+            (same_fewer (space_tables (get_or parts j d)) (named_by (get_or parts j d)) memory new (spaces_in_part (get_or parts j d)) (others j d j_in other))
+            (laid.spaces j d h)
+
 -- one guest more is at its start
 pub started_more : (specs : List GuestSpec) (parts : List Layout) (guests : List Guest) (i : ℕ) (spec : GuestSpec) (part : Layout) (guest : Guest)
     → i ≡ length specs → i < length parts → part ≡ get_or parts i part → AreAtStart specs parts guests → IsAtStart spec part guest
@@ -180,29 +239,55 @@ memory_size frames size few is = omega (arith, few, is)
 bounded : (clock steps : ℕ) → clock ≡ 0 → clock ≤ 2 ^ 62 + steps
 bounded clock steps is = omega (arith, is)
 
-hosted_at_start : (spec : GuestSpec) (part : Layout) (guest : Guest) (memory : List ℕ) → IsAtStart spec part guest → NamesEachOnce part → IsHeld part memory
-    → IsHosted guest memory
-hosted_at_start spec part guest memory at once held = record {
-  placed = subst (λ part. IsAt part (machine_of guest memory) memory) (sym at.own_part) (record { once = once; held = held; ram = ap (λ part. ram_of part.blocks memory) at.own_part; reserved = reserved });
+-- its pool is tidy in memory that is laid out
+pool_at_start : (spec : GuestSpec) (part : Layout) (guest : Guest) (memory : List ℕ) → IsAtStart spec part guest → part.spaces ≡ spec.spaces
+    → LieIn (named_by part) (length memory) → AreZeros (space_tables part) memory → TidyPool guest.pool memory
+pool_at_start spec part guest memory at spaces lies zeros =
+    at.pool.tidy memory
+    (λ frame is. lies frame (spaces_in_part part frame (subst (λ frames. frames frame ≡ true) same is)))
+    (subst (λ frames. AreZeros frames memory) (sym same) zeros)
+  where
+    same : pool_frames guest.pool ≡ space_tables part
+    same = ap (λ part. slots.frames_for part (room_of guest.pool)) at.pool.part ∙ ap (slots.frames_for part) (at.spaces ∙ sym spaces)
+
+orderly_at_start : (spec : GuestSpec) → IsBootable spec → IsOrderly (start spec)
+orderly_at_start spec is = start_is_orderly spec (omega (arith, is.some_entries)) is.some_space
+
+hosted_at_start : (spec : GuestSpec) (part : Layout) (guest : Guest) (memory : List ℕ) → IsBootable spec → IsAtStart spec part guest → part.spaces ≡ spec.spaces
+    → NamesEachOnce part → IsHeld part memory → AreZeros (space_tables part) memory → machine_of guest memory ≡ start spec → IsHosted guest memory
+hosted_at_start spec part guest memory bootable at spaces once held zeros machine = record {
+  placed = record {
+    once = subst NamesEachOnce (sym at.own_part) once;
+    held = subst (λ part. IsHeld part memory) (sym at.own_part) held;
+    ram = refl;
+    reserved = reserved;
+    own = at.pool.part ∙ sym at.own_part;
+    tidy = pool_at_start spec part guest memory at spaces held.lies zeros;
+    spaces = refl;
+    space_room = refl;
+    entry_room = refl;
+    caches = subst CachesInRam (sym machine) (start_is_in_ram spec).0;
+    orderly = subst IsOrderly (sym machine) (orderly_at_start spec bootable);
+  };
   clock = bounded guest.clock.time guest.steps (ap (λ p. p.clock.time) at.platform ∙ at_start_clock spec);
   current = ap informed at.platform ∙ at_start_current spec ∙ sym at.platform;
 }
   where
-    reserved : ReservesHeld (in_ram part.blocks) guest.virt.reservation
-    reserved = subst (λ r. ReservesHeld (in_ram part.blocks) r) (sym (ap (λ p. p.virt.reservation) at.platform ∙ nothing_reserved spec)) tt
+    reserved : ReservesHeld (in_ram guest.part.blocks) guest.virt.reservation
+    reserved = subst (λ r. ReservesHeld (in_ram guest.part.blocks) r) (sym (ap (λ p. p.virt.reservation) at.platform ∙ nothing_reserved spec)) tt
 
 -- and is the machine at its start
-as_parts : (platform : Platform) (ram : List ℕ) (space_room entry_room : ℕ) (spec : GuestSpec) → platform ≡ (start spec).platform
-    → ram ≡ loaded (spec.blocks * block_size) spec.image → space_room ≡ spec.spaces → entry_room ≡ spec.entries
-    → (record { platform = platform; ram = ram; spaces = []; space_room = space_room; entry_room = entry_room }) ≡ start spec
+as_parts : (platform : Platform) (ram : List ℕ) (spaces : List Space) (space_room entry_room : ℕ) (spec : GuestSpec) → platform ≡ (start spec).platform
+    → ram ≡ loaded (spec.blocks * block_size) spec.image → spaces ≡ [] → space_room ≡ spec.spaces → entry_room ≡ spec.entries
+    → (record { platform = platform; ram = ram; spaces = spaces; space_room = space_room; entry_room = entry_room }) ≡ start spec
 unfolding start
-as_parts platform ram space_room entry_room spec p r s e = rw (p, r, s, e) refl
+as_parts platform ram spaces space_room entry_room spec p r e s n = rw (p, r, e, s, n) refl
 
 machine_at_start : (spec : GuestSpec) (part : Layout) (guest : Guest) (memory : List ℕ) → IsAtStart spec part guest
     → ram_of part.blocks memory ≡ loaded (spec.blocks * block_size) spec.image → machine_of guest memory ≡ start spec
 machine_at_start spec part guest memory at ram =
-    as_parts (seen guest) (ram_of guest.part.blocks memory) guest.space_room guest.entry_room spec at.platform
-    (ap (λ part. ram_of part.blocks memory) at.own_part ∙ ram) at.spaces at.entries
+    as_parts (seen guest) (ram_of guest.part.blocks memory) (spaces_of guest.pool) (room_of guest.pool) guest.pool.most spec at.platform
+    (ap (λ part. ram_of part.blocks memory) at.own_part ∙ ram) at.pool.spaces at.spaces at.entries
 
 -- what was booted
 pub record AreBooted (specs : List GuestSpec) (parts : List Layout) (guests : List Guest) (memory : List ℕ) : Type 0 where
@@ -211,9 +296,9 @@ pub record AreBooted (specs : List GuestSpec) (parts : List Layout) (guests : Li
   pub parts_are : parts_of guests ≡ parts
 
 booted_from : (first : GuestSpec) (one : Guest) (specs : List GuestSpec) (parts : List Layout) (frames : ℕ) (guests : List Guest) (memory : List ℕ) → length specs ≤ 16
-    → IsSplit (needs_of specs) parts frames → frames ≤ 131072 → length memory ≡ frames * 4096 → AreLaidOut specs parts (length specs) memory
+    → All IsBootable specs → IsSplit (needs_of specs) parts frames → frames ≤ 131072 → length memory ≡ frames * 4096 → AreLaidOut specs parts (length specs) memory
     → AreAtStart specs parts guests → AreBooted specs parts guests memory
-booted_from first one specs parts frames guests memory few split most size laid at =
+booted_from first one specs parts frames guests memory few bootable split most size laid at =
     record { hosted = record { few = rw at.count few; each = each; apart = rw parts_are split.apart }; machines = machines; parts_are = parts_are }
   where
     count : length parts ≡ length specs
@@ -233,8 +318,13 @@ booted_from first one specs parts frames guests memory few split most size laid 
     each i d h =
         let inside : i < length specs = rw at.count at h in
         let sound = split.sound i no_part (rw count inside) in
-        hosted_at_start (get_or specs i first) (get_or parts i no_part) (get_or guests i d) memory (at.each i first no_part d inside) sound.0
+        let its = at.each i first no_part d inside in
+        let meets = split.meet i (need_of first) no_part (rw (length-map specs need_of) inside) in
+        let room : (get_or parts i no_part).spaces ≡ (get_or specs i first).spaces = meets.spaces ∙ ap (λ need. need.spaces) (get_or-map need_of specs i first (need_of first) inside) in
+        hosted_at_start (get_or specs i first) (get_or parts i no_part) (get_or guests i d) memory (bootable i first inside) its room sound.0
         (record { size = memory_size frames (length memory) most size; lies = rw size sound.1; table = laid.tables i no_part inside })
+        (laid.spaces i no_part (rw count inside))
+        (machine_at_start (get_or specs i first) (get_or parts i no_part) (get_or guests i d) memory its (laid.ram i first no_part inside))
 
     machines : machines_of guests memory ≡ map start specs
     machines =
@@ -248,12 +338,12 @@ booted_from first one specs parts frames guests memory few split most size laid 
         ∙ sym (get_or-map start specs i first no_machine inside))
 
 pub booted : (specs : List GuestSpec) (parts : List Layout) (frames : ℕ) (guests : List Guest) (memory : List ℕ) → 1 ≤ length specs → length specs ≤ 16
-    → IsSplit (needs_of specs) parts frames → frames ≤ 131072 → length memory ≡ frames * 4096 → AreLaidOut specs parts (length specs) memory
+    → All IsBootable specs → IsSplit (needs_of specs) parts frames → frames ≤ 131072 → length memory ≡ frames * 4096 → AreLaidOut specs parts (length specs) memory
     → AreAtStart specs parts guests → AreBooted specs parts guests memory
-booted [] parts frames guests memory some few split most size laid at = absurd (omega arith)
-booted (first ∷ specs) parts frames [] memory some few split most size laid at = absurd (omega (arith, at.count))
-booted (first ∷ specs) parts frames (one ∷ guests) memory some few split most size laid at =
-    booted_from first one (first ∷ specs) parts frames (one ∷ guests) memory few split most size laid at
+booted [] parts frames guests memory some few bootable split most size laid at = absurd (omega arith)
+booted (first ∷ specs) parts frames [] memory some few bootable split most size laid at = absurd (omega (arith, at.count))
+booted (first ∷ specs) parts frames (one ∷ guests) memory some few bootable split most size laid at =
+    booted_from first one (first ∷ specs) parts frames (one ∷ guests) memory few bootable split most size laid at
 
 -- so no step is made
 steps_zero : (specs : List GuestSpec) → All (λ m. m.platform.steps ≡ 0) (map start specs)
@@ -264,13 +354,24 @@ steps_zero (first ∷ specs) g d inside =
 pub none_made : (specs : List GuestSpec) (machines : List Machine) → machines ≡ map start specs → All (λ m. m.platform.steps ≡ 0) machines
 none_made specs machines is = subst (All (λ m. m.platform.steps ≡ 0)) (sym is) (steps_zero specs)
 
+-- and spaces have room for few entries
+room_of_start : (spec : GuestSpec) → (start spec).entry_room ≡ spec.entries
+unfolding start
+room_of_start spec = refl
+
+pub rooms_of : (specs : List GuestSpec) → All IsBootable specs → All (λ m. m.entry_room ≤ 256) (map start specs)
+rooms_of [] each i d inside = absurd (omega arith)
+rooms_of (first ∷ specs) each i d inside =
+    let there : i < length (first ∷ specs) = rw length-map at inside in
+    rw (get_or-map start (first ∷ specs) i first d there, room_of_start (get_or (first ∷ specs) i first)) (each i first there).entries
+
 -- all of it, with the slices that the calls take
 pub booted_by : (specs : List GuestSpec) (shared laid_out : List GuestSpec) (parts laid_parts start_parts : List Layout) (frames : ℕ) (guests : List Guest)
-    (fresh memory : List ℕ) → 1 ≤ length specs → length specs ≤ 16 → frames_for specs ≤ 131072 → shared ≡ specs → laid_out ≡ specs → laid_parts ≡ parts → start_parts ≡ parts
+    (fresh memory : List ℕ) → 1 ≤ length specs → length specs ≤ 16 → All IsBootable specs → frames_for specs ≤ 131072 → shared ≡ specs → laid_out ≡ specs → laid_parts ≡ parts → start_parts ≡ parts
     → IsSplit (needs_of shared) parts frames → frames ≡ frames_for shared → fresh ≡ zeros (frames * 4096) → length memory ≡ length fresh
     → AreLaidOut laid_out laid_parts (length laid_out) memory → AreAtStart specs start_parts guests → AreBooted specs parts guests memory
-booted_by specs shared laid_out parts laid_parts start_parts frames guests fresh memory some few most shared_is laid_is laid_parts_are start_parts_are split frames_are fresh_is size laid started =
-    booted specs parts (frames_for specs) guests memory some few
+booted_by specs shared laid_out parts laid_parts start_parts frames guests fresh memory some few bootable most shared_is laid_is laid_parts_are start_parts_are split frames_are fresh_is size laid started =
+    booted specs parts (frames_for specs) guests memory some few bootable
     (rw (frames_are, shared_is) at split) most
     (size ∙ ap length fresh_is ∙ length_zeros (frames * 4096) ∙ ap (λ n. n * 4096) (frames_are ∙ ap frames_for shared_is))
     (rw (laid_is, laid_parts_are) at laid) (rw start_parts_are at started)

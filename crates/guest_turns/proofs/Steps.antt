@@ -1,23 +1,30 @@
 -- How many steps a step and a run make.
-use Rattle.std.proofs.Common.{zero, suc, ◌+◌, ◌≤◌, arith}
+use Rattle.std.proofs.Common.{◌≡◌, ℕ, zero, suc, ◌+◌, ◌≤◌, ap, arith}
+use Rattle.enough_tries.proofs.Filling.{only_spaces}
 use Rattle.machine_defs.specs.declared.guests.Status.{Status}
 use Rattle.machine_defs.specs.declared.guests.Status.TheVariants as status
-use Rattle.machine_defs.specs.Machine.{Machine, Tried, Ended, WaitsForGood, try}
-use Rattle.machine_defs.specs.Machine as tried
+use Rattle.machine_defs.specs.Fills.{after_fills, most_fills, ready}
+use Rattle.machine_defs.specs.Machine.{Machine, Tried, Ended, WaitsForGood}
 use Rattle.machine_defs.specs.Runs.{left_by, run, step, stepped}
+use Rattle.machine_defs.specs.Tries.{try}
 use Rattle.guest_turns.specs.TurnLists.{RunsMakeAtMost}
 use Rattle.guest_turns.proofs.Tries.{LeavesStep, try_step}
+
+-- fills leave the platform as it is
+pub same_platform : (m : Machine) (n : ℕ) → (after_fills n m).platform ≡ m.platform
+same_platform m n = ap (λ m. m.platform) (only_spaces m n)
 
 left_adds : (m : Machine) (t : Tried) → LeavesStep m t → (left_by m t).platform.steps ≤ m.platform.steps + 1
 left_adds m (Ended after event) one = omega (arith, one.counted)
 left_adds m WaitsForGood one = omega arith
-left_adds m tried.Outside one = omega arith
 
 stepped_adds : (m : Machine) (s : Status) → (stepped m s).platform.steps ≤ m.platform.steps + 1
-stepped_adds m status.Running = left_adds m (try m) (try_step m)
+stepped_adds m status.Running =
+    let same = ap (λ p. p.steps) (same_platform m (most_fills m)) in
+    let one = left_adds (ready m) (try (ready m)) (try_step (ready m)) in
+    omega (arith, one, same)
 stepped_adds m status.Waiting = omega arith
 stepped_adds m status.Stopped = omega arith
-stepped_adds m status.Outside = omega arith
 
 pub runs_make_at_most : RunsMakeAtMost
 unfolding run step

@@ -4,16 +4,14 @@ use Rattle.std.proofs.Common.{cond, ◌≡◌, ℕ, ◌+◌, Option, Some, None,
 use Rattle.arch_defs.specs.declared.registers.Virtual.{Virtual}
 use Rattle.arch_defs.specs.Calls.{environment, state_of}
 use Rattle.arch_defs.specs.Inputs.{next_input}
-use Rattle.arch_defs.specs.Memory.{SecondStage, Stored, reading_of, ram_base}
+use Rattle.arch_defs.specs.Memory.{SecondStage, reading_of, ram_base}
 use Rattle.arch_defs.specs.Registers.{a7, read}
 use Rattle.arch_defs.specs.Waits.{wake_moment}
-use Rattle.machine_defs.specs.declared.events.Event.{Event}
 use Rattle.machine_defs.specs.Core.{core}
-use Rattle.machine_defs.specs.GuestAccesses.{guest_outcome}
-use Rattle.machine_defs.specs.Machine.{Machine, Platform, Tried, Ended, WaitsForGood, accessed_for_guest, called, concluded, has_enabled_interrupt, informed, made, second_of, stopped_if, tried_with, try, try_under, waited, waited_until, with_call}
-use Rattle.machine_defs.specs.Machine as tried
+use Rattle.machine_defs.specs.GuestAccesses.{GuestOutcome, Completes, Traps, guest_outcome}
+use Rattle.machine_defs.specs.Machine.{Machine, Platform, Tried, Ended, WaitsForGood, called, has_enabled_interrupt, informed, stopped_if, waited, waited_until, with_call}
 use Rattle.machine_defs.specs.Outcomes.{Outcome, Done, Trapped, Stuck, Called, Waits, Fenced, Accesses}
-use Rattle.machine_defs.specs.Outside.{sets_v_under_table}
+use Rattle.machine_defs.specs.Tries.{accessed_for_guest, concluded, second_of, tried_with, try, try_under}
 
 pub record IsStep (m after : Machine) : Type 0 where
   pub counted : after.platform.steps ≡ m.platform.steps + 1
@@ -22,7 +20,6 @@ pub record IsStep (m after : Machine) : Type 0 where
 abbrev pub LeavesStep : Machine → Tried → Type 0
 LeavesStep m (Ended after event) = IsStep m after
 LeavesStep m WaitsForGood = Unit {0}
-LeavesStep m tried.Outside = Unit {0}
 
 either : (m : Machine) (b : Bool) (one other : Tried) → LeavesStep m one → LeavesStep m other → LeavesStep m (cond b one other)
 either m true one other h i = h
@@ -35,9 +32,6 @@ stops_or_not p false = refl
 called_steps : (p : Platform) → (called p).steps ≡ p.steps
 called_steps p = stops_or_not (with_call p (environment (state_of p.virt.regs p.clock p.console))) (read p.virt.regs a7 == 8)
 
-made_step : (m : Machine) (virt : Virtual) (stored : Option Stored) (event : Event) → LeavesStep m (made m virt stored event)
-made_step m virt stored event = either m (sets_v_under_table m.platform.virt virt) _ _ tt (record { counted = refl; current = refl })
-
 until_step : (m : Machine) (virt : Virtual) (moment : Option ℕ) → LeavesStep m (waited_until m virt moment)
 until_step m virt (Some moment) = record { counted = refl; current = refl }
 until_step m virt None = tt
@@ -48,22 +42,17 @@ waited_step m virt =
     either m (has_enabled_interrupt p.virt.csrs) _ _ (record { counted = refl; current = refl })
     (until_step m virt (wake_moment p.virt.csrs.sie p.clock.timer (next_input p.console.inputs)))
 
-accessed_step : (m : Machine) (o : Outcome) → LeavesStep m (accessed_for_guest m o)
-accessed_step m (Done virt stored event) = made_step m virt stored event
-accessed_step m (Trapped trap) = record { counted = refl; current = refl }
-accessed_step m (Stuck unplaced) = tt
-accessed_step m Called = tt
-accessed_step m (Waits virt) = tt
-accessed_step m (Fenced virt fence) = tt
-accessed_step m (Accesses access) = tt
+accessed_step : (m : Machine) (o : GuestOutcome) → LeavesStep m (accessed_for_guest m o)
+accessed_step m (Completes virt stored) = record { counted = refl; current = refl }
+accessed_step m (Traps trap) = record { counted = refl; current = refl }
 
 concluded_step : (m : Machine) (o : Outcome) → LeavesStep m (concluded m o)
-concluded_step m (Done virt stored event) = made_step m virt stored event
+concluded_step m (Done virt stored event) = record { counted = refl; current = refl }
 concluded_step m (Trapped trap) = record { counted = refl; current = refl }
 concluded_step m (Stuck unplaced) = record { counted = refl; current = refl }
 concluded_step m Called = record { counted = rw (called_steps m.platform) refl; current = refl }
 concluded_step m (Waits virt) = waited_step m virt
-concluded_step m (Fenced virt fence) = tt
+concluded_step m (Fenced virt fence) = record { counted = refl; current = refl }
 concluded_step m (Accesses access) = accessed_step m (guest_outcome ram_base m.ram m.platform.virt access)
 
 tried_step : (second : SecondStage) (m : Machine) (due : Option ℕ) → LeavesStep m (tried_with second m due)

@@ -1,17 +1,24 @@
 -- What a host keeps of its guests in machine memory.
 use Rattle.std.specs.Prelude.{ℕ, ◌≡◌, ◌+◌, ◌*◌, ◌^◌, ◌<◌, ◌≤◌, List, length, get_or, map}
 use Rattle.std.specs.List.{All}
-use Rattle.arch_defs.specs.Frames.{Only, in_blocks}
+use Rattle.arch_defs.specs.Frames.{Frames, Only}
 use Rattle.arch_defs.specs.Layouts.{Layout}
 use Rattle.arch_defs.specs.Memory.{block_size, loaded}
 use Rattle.arch_defs.specs.Ram.{ram_of}
+use Rattle.enough_tries.specs.Budgets.{Goes}
 use Rattle.frame_split.specs.Shares.{ArePairwiseApart}
 use Rattle.host_tables.specs.HostTable.{IsHostTable}
 use Rattle.machine_defs.specs.declared.guests.GuestSpec.{GuestSpec}
 use Rattle.machine_defs.specs.Machine.{informed, start}
 use Rattle.machine_defs.specs.Runs.{run}
+use Rattle.shadow_pool.specs.Slots as slots
+use Rattle.shadow_pool.specs.Slots.{room_of}
+use Rattle.shadow_space.specs.Shadows.{AreZeros}
 use Rattle.guest_exit.specs.declared.guests.Guest.{Guest}
-use Rattle.guest_exit.specs.View.{IsPlaced, StaysFixed, machine_of, seen}
+use Rattle.guest_exit.specs.declared.handling.Handled.{Handled}
+use Rattle.guest_exit.specs.declared.handling.Handled.TheVariants.{Stepped, Retry, Waits, Stopped}
+use Rattle.guest_exit.specs.Starting.{IsNewPool}
+use Rattle.guest_exit.specs.View.{IsPlaced, StaysFixed, changed_by, machine_of, seen}
 
 -- a guest is in machine memory, its clock is bounded by its steps, and the registers that the clock sets are
 -- as the clock sets them
@@ -33,14 +40,31 @@ pub record AreHosted (guests : List Guest) (memory : List ℕ) : Type 0 where
 pub record HasRun (old : Guest) (memory : List ℕ) (k : ℕ) (new : Guest) (changed : List ℕ) : Type 0 where
   pub machine : machine_of new changed ≡ run (machine_of old memory) k
   pub fixed : StaysFixed old new
-  pub only : Only (in_blocks old.part.blocks) memory changed
+  pub only : Only (changed_by old) memory changed
 
--- a guest that has made no step: wherever its RAM is the loaded image, it is the machine at its start
+-- after a part of so many steps: as many steps as are left are the same run, and take fewer tries
+pub record Advances (old : Guest) (memory : List ℕ) (k : ℕ) (new : Guest) (changed : List ℕ)
+    (left : ℕ) : Type 0 where
+  pub goes : Goes (machine_of old memory) k (machine_of new changed) left
+  pub fixed : StaysFixed old new
+  pub only : Only (changed_by old) memory changed
+
+-- how many of the steps that are left are used up by what the host makes: a fill uses none, and a wait for
+-- good, which is not made, one
+abbrev pub used_by : Handled → ℕ
+used_by Stepped = 1
+used_by Retry = 0
+used_by Waits = 1
+used_by Stopped = 1
+
+-- a guest that has made no step and entered no space: wherever its RAM is the loaded image, it is the machine
+-- at its start
 pub record IsAtStart (spec : GuestSpec) (part : Layout) (guest : Guest) : Type 0 where
   pub own_part : guest.part ≡ part
   pub platform : seen guest ≡ (start spec).platform
-  pub spaces : guest.space_room ≡ spec.spaces
-  pub entries : guest.entry_room ≡ spec.entries
+  pub pool : IsNewPool part guest.pool
+  pub spaces : room_of guest.pool ≡ spec.spaces
+  pub entries : guest.pool.most ≡ spec.entries
 
 -- so of each of them, in their parts
 pub record AreAtStart (specs : List GuestSpec) (parts : List Layout)
@@ -49,10 +73,16 @@ pub record AreAtStart (specs : List GuestSpec) (parts : List Layout)
   pub each : (i : ℕ) (s : GuestSpec) (p : Layout) (d : Guest) → i < length specs
       → IsAtStart (get_or specs i s) (get_or parts i p) (get_or guests i d)
 
--- the RAM of so many guests in machine memory is their images, and their host tables are written
+-- the frames of a part for the tables of its spaces
+abbrev pub space_tables : Layout → Frames
+space_tables part = slots.frames_for part part.spaces
+
+-- the RAM of so many guests in machine memory is their images, and their host tables are written; the frames
+-- for the tables of all guests' spaces are zeros
 pub record AreLaidOut (specs : List GuestSpec) (parts : List Layout) (done : ℕ)
     (memory : List ℕ) : Type 0 where
   pub ram : (i : ℕ) (s : GuestSpec) (d : Layout) → i < done
       → ram_of (get_or parts i d).blocks memory
       ≡ loaded ((get_or specs i s).blocks * block_size) (get_or specs i s).image
   pub tables : (i : ℕ) (d : Layout) → i < done → IsHostTable (get_or parts i d) memory
+  pub spaces : (i : ℕ) (d : Layout) → i < length parts → AreZeros (space_tables (get_or parts i d)) memory

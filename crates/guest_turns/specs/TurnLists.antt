@@ -1,5 +1,5 @@
 -- Turns of guests, one after another, as steps of their lone machines.
-use Rattle.std.specs.Prelude.{ℕ, zero, suc, ◌≡◌, ◌+◌, ◌<◌, ◌≤◌, ◌==◌, List, [], ◌∷◌, ◌++◌, length, sum_by, if◌then◌else◌}
+use Rattle.std.specs.Prelude.{ℕ, zero, suc, ◌≡◌, ◌+◌, ◌*◌, ◌<◌, ◌≤◌, ◌==◌, List, [], ◌∷◌, ◌++◌, length, sum_by, if◌then◌else◌}
 use Rattle.machine_defs.specs.declared.events.Event.{Event}
 use Rattle.machine_defs.specs.Machine.{Machine}
 use Rattle.machine_defs.specs.Runs.{events, run}
@@ -60,6 +60,16 @@ own_events turns machines = events_from 0 turns machines
 abbrev pub TurnsCountAlike : Type 0
 TurnsCountAlike = (count : Event → ℕ) (turns : List (ℕ × ℕ)) (machines : List Machine)
     → sum_by count (turn_events turns machines) ≡ sum_by count (own_events turns machines)
+
+-- at most how many entries of the hart a turn of k steps takes, where a space has room for so many cached
+-- translations: each try of a step is one
+abbrev pub turn_entries : ℕ → ℕ → ℕ
+turn_entries room k = (k + 1) * (room + 9)
+
+-- and turns of guests with such machines
+abbrev pub entries_for : List Machine → List (ℕ × ℕ) → ℕ
+entries_for machines turns =
+    sum_by (λ turn. turn_entries (machine_at machines turn.0).entry_room turn.1) turns
 
 -- a run of k makes at most k steps
 abbrev pub RunsMakeAtMost : Type 0

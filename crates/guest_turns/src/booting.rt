@@ -1,6 +1,7 @@
 // Guests in machine memory, at their start.
 
 ghost use Rattle.std.specs.Prelude.{◌≡◌, ◌*◌, ◌≤◌, length, All, IfOk};
+ghost use Rattle.arch_defs.specs.Memory.{zeros};
 ghost use Rattle.frame_split.specs.Shares.{IsSplit};
 ghost use Rattle.guest_turns.specs.Hosting.{AreAtStart, AreLaidOut, IsAtStart};
 ghost use Rattle.guest_turns.specs.Limits.{IsBootable, frames_for, needs_of};
@@ -8,7 +9,7 @@ ghost use Rattle.guest_turns.specs.Limits.{IsBootable, frames_for, needs_of};
 use arch_defs::{Mode, Need, Part, Virtual};
 use console_dev::Console;
 use frame_split::{PlanFault, Split, plan};
-use guest_exit::Guest;
+use guest_exit::{Guest, Pool};
 use guest_loader::load;
 use host_tables::build;
 use machine_defs::{GuestSpec, Status};
@@ -51,7 +52,7 @@ fn needs(alloc: Global, guests: &[GuestSpec]) -> Result<Vec<Need>, AllocError>
 pub fn lay_out(memory: &mut PhysMem, guests: &[GuestSpec], parts: &[Part])
     requires each { All IsBootable guests.now }
     requires split { IsSplit (needs_of guests.now) parts.now (frames_for guests.now) }
-    requires size { length memory.old ≡ frames_for guests.now * 4096 }
+    requires zeros { memory.old ≡ zeros (frames_for guests.now * 4096) }
     ensures laid { AreLaidOut guests.now parts.now (length guests.now) memory.new }
     ensures size { length memory.new ≡ length memory.old }
 {
@@ -70,7 +71,7 @@ pub fn guests_at_start(
     parts: &[Part],
 ) -> Result<Vec<Guest>, AllocError>
     requires each { All IsBootable specs.items }
-    requires parts { length parts.now ≡ length specs.items }
+    requires split { IsSplit (needs_of specs.items) parts.now (frames_for specs.items) }
     ensures { IfOk result (λ guests. AreAtStart specs.items parts.now guests.items) }
 {
     let mut guests = Vec::with_capacity(alloc, specs.len())?;
@@ -86,19 +87,21 @@ pub fn guests_at_start(
 // A guest at its start.
 #[tactic(auto, unfolding(machine_defs::specs::Machine::start))]
 fn guest_at_start(alloc: Global, spec: GuestSpec, part: Part) -> Result<Guest, AllocError>
-    requires { IsBootable spec }
+    requires bootable { IsBootable spec }
+    requires spaces { part.spaces ≡ spec.spaces }
+    requires entries { part.entries ≡ spec.entries }
     ensures { IfOk result (λ guest. IsAtStart spec part guest) }
 {
     let console = Console::new(alloc, spec.console, spec.inputs.into_vec())?;
+    let pool = Pool::new(alloc, &part, spec.spaces, spec.entries)?;
     let mut guest = Guest {
         part,
         virt: Virtual::starting_at(Mode::HS, RAM_BASE),
+        pool,
         clock: Clock::new(),
         console,
         steps: 0,
         status: Status::Running,
-        space_room: spec.spaces,
-        entry_room: spec.entries,
     };
     guest.inform();
     Ok(guest)

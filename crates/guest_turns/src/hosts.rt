@@ -1,7 +1,8 @@
 // The host of the guests.
 
 ghost use Rattle.std.specs.Prelude.{◌≡◌, ◌≢◌, ◌+◌, ◌^◌, ◌<◌, ◌≤◌, length, map, All, IfOk};
-ghost use Rattle.arch_defs.specs.Frames.{Only, in_blocks};
+ghost use Rattle.arch_defs.specs.Frames.{Only};
+ghost use Rattle.arch_defs.specs.Layouts.{named_by};
 ghost use Rattle.frame_split.specs.Shares.{IsSplit};
 ghost use Rattle.machine_defs.specs.declared.guests.Status.TheVariants.{Running};
 ghost use Rattle.machine_defs.specs.Machine.{start};
@@ -9,7 +10,7 @@ ghost use Rattle.machine_defs.specs.Runs.{events, instruction_count, plain_count
 ghost use Rattle.rv64_hart.specs.Counts.{IsRaisedBy};
 ghost use Rattle.guest_turns.specs.Hosted.{machine_at, part_at};
 ghost use Rattle.guest_turns.specs.Limits.{IsBootable, frames_for, needs_of};
-ghost use Rattle.guest_turns.specs.TurnLists.{updated};
+ghost use Rattle.guest_turns.specs.TurnLists.{turn_entries, updated};
 
 use crate::booting::{guests_at_start, lay_out, share};
 use crate::turning::turn_of;
@@ -73,29 +74,40 @@ impl Host {
         self.guests.len() as u32
     }
 
+    /// The spaces of each guest's machine have room for at most 256 cached translations.
+    pub fn rooms_are_small(&self)
+        ensures { All (λ m. m.entry_room ≤ 256) self.now.machines }
+    {
+        let _ = &self.guests;
+    }
+
     /// Makes at most `k` steps of a guest's machine, and answers how many: `k`, or fewer only where the
-    /// machine does not go on, because it has stopped, waits for good, or is outside what is built so far. All
-    /// other machines stay as they were, and no byte outside the blocks of the guest's part changes.
+    /// machine does not go on, because it has stopped or waits for good. All other machines stay as they were,
+    /// and no byte outside the guest's part changes.
     pub fn turn(&mut self, g: u32, k: u64, tally: &mut Tally) -> u64
         requires guest { g < length self.old.machines }
         requires steps { (machine_at self.old.machines g).platform.steps + k ≤ 2 ^ 61 }
-        requires entries { tally.old.entries + k ≤ 2 ^ 62 }
+        requires entries { tally.old.entries + turn_entries (machine_at self.old.machines g).entry_room k
+            ≤ 2 ^ 62 }
         requires taken { tally.old.taken + k ≤ 2 ^ 62 }
 
         ensures machines { self.new.machines ≡ updated g (λ m. run m k) self.old.machines }
         ensures parts { self.new.parts ≡ self.old.parts }
-        ensures isolated { Only (in_blocks (part_at self.old.parts g).blocks)
-            self.old.memory self.new.memory }
+        ensures isolated { Only (named_by (part_at self.old.parts g)) self.old.memory self.new.memory }
         ensures made { (machine_at self.old.machines g).platform.steps + result
             ≡ (machine_at self.new.machines g).platform.steps }
         ensures most { result ≤ k }
         ensures fewer { result < k → (machine_at self.new.machines g).platform.status ≢ Running }
+        ensures room { (machine_at self.new.machines g).entry_room
+            ≡ (machine_at self.old.machines g).entry_room }
 
-        // The account of the hart: it makes each plain step, and no more steps than the machine.
+        // The account of the hart: it makes each plain step, and no more steps than the machine. A step takes
+        // at most as many entries as a space has room for cached translations, and nine.
         ensures entries_grow { tally.old.entries ≤ tally.new.entries }
         ensures entries_least { 0 < instruction_count (events (machine_at self.old.machines g) k)
             → tally.old.entries < tally.new.entries }
-        ensures entries_most { tally.new.entries ≤ tally.old.entries + k }
+        ensures entries_most { tally.new.entries
+            ≤ tally.old.entries + turn_entries (machine_at self.old.machines g).entry_room k }
         ensures taken_least { tally.old.taken + plain_count (events (machine_at self.old.machines g) k)
             ≤ tally.new.taken }
         ensures taken_most { tally.new.taken ≤ tally.old.taken + result }

@@ -1,13 +1,14 @@
 // A turn of one guest.
 
-ghost use Rattle.std.specs.Prelude.{◌≡◌, ◌≢◌, ◌+◌, ◌^◌, ◌<◌, ◌≤◌};
+ghost use Rattle.std.specs.Prelude.{◌≡◌, ◌≢◌, ◌+◌, ◌%◌, ◌^◌, ◌<◌, ◌≤◌};
 ghost use Rattle.machine_defs.specs.declared.guests.Status.TheVariants.{Running};
 ghost use Rattle.machine_defs.specs.Runs.{events, instruction_count, plain_count, trace_of};
 ghost use Rattle.rv64_hart.specs.Counts.{IsRaisedBy};
 ghost use Rattle.guest_exit.specs.View.{machine_of};
-ghost use Rattle.guest_turns.specs.Hosting.{HasRun, IsHosted};
+ghost use Rattle.guest_turns.specs.Hosting.{Advances, HasRun, IsHosted, used_by};
+ghost use Rattle.guest_turns.specs.TurnLists.{turn_entries};
 
-use guest_exit::{Guest, enter, handle, interrupt, limit};
+use guest_exit::{Guest, Handled, enter, handle, interrupt, limit};
 use machine_defs::Status;
 use phys_mem::PhysMem;
 use rv64_hart::{Hart, Tally, Why};
@@ -23,7 +24,7 @@ pub fn turn_of(
 ) -> u64
     requires hosted { IsHosted guest.old memory.old }
     requires steps { guest.old.steps + k ≤ 2 ^ 61 }
-    requires entries { tally.old.entries + k ≤ 2 ^ 62 }
+    requires entries { tally.old.entries + turn_entries guest.old.pool.most k ≤ 2 ^ 62 }
     requires taken { tally.old.taken + k ≤ 2 ^ 62 }
 
     ensures run { HasRun guest.old memory.old k guest.new memory.new }
@@ -34,7 +35,7 @@ pub fn turn_of(
     ensures entries_grow { tally.old.entries ≤ tally.new.entries }
     ensures entries_least { 0 < instruction_count (events (machine_of guest.old memory.old) k)
         → tally.old.entries < tally.new.entries }
-    ensures entries_most { tally.new.entries ≤ tally.old.entries + k }
+    ensures entries_most { tally.new.entries ≤ tally.old.entries + turn_entries guest.old.pool.most k }
     ensures taken_least { tally.old.taken + plain_count (events (machine_of guest.old memory.old) k)
         ≤ tally.new.taken }
     ensures taken_most { tally.new.taken ≤ tally.old.taken + result }
@@ -47,52 +48,64 @@ pub fn turn_of(
         if guest.status != Status::Running {
             return guest.steps - before;
         }
-        left -= advance(guest, hart, memory, left, tally);
+        left = advance(guest, hart, memory, left, tally);
     }
     guest.steps - before
 }
 
-// Some steps of a guest that goes on, and at most so many: in one entry of the hart where it can make them.
-// Answers how many; one that ends in a wait for good or outside, which is not made, is one of them.
+// Makes some of so many steps of a guest that goes on, in one entry of the hart where it can make them, or
+// fills a cached translation that the next one lacks. Answers how many steps are left.
 fn advance(
     guest: &mut Guest,
     hart: &mut Hart,
     memory: &mut PhysMem,
-    most: u64,
+    left: u64,
     tally: &mut Tally,
 ) -> u64
     requires running { guest.old.status ≡ Running }
     requires hosted { IsHosted guest.old memory.old }
-    requires some { 1 ≤ most }
-    requires steps { guest.old.steps + most ≤ 2 ^ 61 }
+    requires some { 1 ≤ left }
+    requires steps { guest.old.steps + left ≤ 2 ^ 61 }
     requires entries { tally.old.entries < 2 ^ 62 }
-    requires taken { tally.old.taken + most ≤ 2 ^ 62 }
+    requires taken { tally.old.taken + left ≤ 2 ^ 62 }
 
-    ensures run { HasRun guest.old memory.old result guest.new memory.new }
-    ensures within { (1 ≤ result) × (result ≤ most) }
+    ensures advances { Advances guest.old memory.old left guest.new memory.new result }
+    ensures within { result ≤ left }
     ensures hosted { IsHosted guest.new memory.new }
     ensures forward { guest.old.steps ≤ guest.new.steps }
-    ensures made { guest.new.steps ≤ guest.old.steps + result }
-    ensures counts { guest.new.status ≡ Running → guest.new.steps ≡ guest.old.steps + result }
+    ensures made { guest.new.steps + result ≤ guest.old.steps + left }
+    ensures counts { guest.new.status ≡ Running → guest.new.steps + result ≡ guest.old.steps + left }
     ensures entries { (tally.old.entries ≤ tally.new.entries) × (tally.new.entries ≤ tally.old.entries + 1) }
     ensures none { tally.new.entries ≡ tally.old.entries
-        → instruction_count (events (machine_of guest.old memory.old) result) ≡ 0 }
-    ensures taken_least { tally.old.taken
-        + plain_count (events (machine_of guest.old memory.old) result) ≤ tally.new.taken }
+        → instruction_count (events (machine_of guest.old memory.old) left)
+        ≡ instruction_count (events (machine_of guest.new memory.new) result) }
+    ensures taken_least { tally.old.taken + plain_count (events (machine_of guest.old memory.old) left)
+        ≤ tally.new.taken + plain_count (events (machine_of guest.new memory.new) result) }
     ensures taken_most { tally.new.taken + guest.old.steps ≤ tally.old.taken + guest.new.steps }
-    ensures trace { IsRaisedBy (trace_of (events (machine_of guest.old memory.old) result))
-        tally.old.trace tally.new.trace }
+    ensures trace { (tally.new.trace + trace_of (events (machine_of guest.new memory.new) result)) % 2 ^ 64
+        ≡ (tally.old.trace + trace_of (events (machine_of guest.old memory.old) left)) % 2 ^ 64 }
 {
     if interrupt(guest) {
-        return 1;
+        return left - 1;
     }
-    let stop = enter(guest, hart, memory, limit(guest, most), tally);
+    let stop = enter(guest, hart, memory, limit(guest, left), tally);
     match stop.why {
-        Why::Limit => stop.taken,
-        Why::VsTrap => stop.taken,
+        Why::Limit => left - stop.taken,
+        Why::VsTrap => left - stop.taken,
         Why::Exit(trap) => {
-            handle(guest, memory, &trap);
-            stop.taken + 1
+            let made = handle(guest, memory, &trap);
+            left - stop.taken - used(made)
         }
+    }
+}
+
+// How many of the steps that are left the host has used up: none where it filled a cached translation, and one
+// also where the step waits for good, which is not made.
+fn used(made: Handled) -> u64
+    ensures { result ≡ used_by made }
+{
+    match made {
+        Handled::Retry => 0,
+        Handled::Stepped | Handled::Waits | Handled::Stopped => 1,
     }
 }

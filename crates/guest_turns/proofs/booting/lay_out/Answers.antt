@@ -1,6 +1,7 @@
-use Rattle.std.proofs.Common.{sym, ◌∙◌}
+use Rattle.std.proofs.Common.{◌*◌, length, ap, sym, ◌∙◌}
+use Rattle.arch_defs.proofs.Images.{length_zeros}
 use Rattle.guest_turns.specs.Limits.{frames_for}
-use Rattle.guest_turns.proofs.Starting.{laid_more, part_for}
+use Rattle.guest_turns.proofs.Starting.{laid_more, none_laid, part_for}
 use Rattle.guest_turns.proofs.booting.lay_out.Goals as goal
 
 pub load-requires-clause-fits : goal.load-requires-clause-fits
@@ -14,17 +15,25 @@ build-requires-clause-blocks c =
     sym (part_for c.args.guests.now c.args.parts.now (frames_for c.args.guests.now) c.loop-i.i c.index-guests-i.result c.index-parts-i.result c.requires.each c.requires.split
     c.loop-i-test.true c.index-guests-i.is c.index-parts-i.is).blocks
 
+pub loop-i-init : goal.loop-i-init
+loop-i-init c = record {
+  laid = none_laid c.args.guests.now c.args.parts.now (frames_for c.args.guests.now * 4096) c.args.memory.now c.requires.zeros;
+  size = ap length c.requires.zeros ∙ length_zeros (frames_for c.args.guests.now * 4096);
+}
+
 pub loop-i-preserved : goal.loop-i-preserved
 loop-i-preserved c =
     let guest = c.index-guests-i.result in
     let part = c.index-parts-i.result in
-    let size = c.loop-i.invariant.size ∙ c.requires.size in
     let for = part_for c.args.guests.now c.args.parts.now (frames_for c.args.guests.now) c.loop-i.i guest part c.requires.each c.requires.split
     c.loop-i-test.true c.index-guests-i.is c.index-parts-i.is in
     record {
       laid =
           laid_more c.args.guests.now c.args.parts.now (frames_for c.args.guests.now) c.loop-i.i guest part c.loop-i.memory c.load.new.mem c.build.new.mem
-          c.requires.split size c.loop-i-test.true c.index-guests-i.is c.index-parts-i.is for c.loop-i.invariant.laid (rw c.as_slice.ensures at c.load.ensures.ram)
+          c.requires.split c.loop-i.invariant.size c.loop-i-test.true c.index-guests-i.is c.index-parts-i.is for c.loop-i.invariant.laid (rw c.as_slice.ensures at c.load.ensures.ram)
           c.load.ensures.only c.build.ensures.table c.build.ensures.only;
       size = c.build.ensures.only.size ∙ c.load.ensures.only.size ∙ c.loop-i.invariant.size;
     }
+
+pub returns-clause-size : goal.returns-clause-size
+returns-clause-size c = c.loop-i.invariant.size ∙ sym (ap length c.requires.zeros ∙ length_zeros (frames_for c.args.guests.now * 4096))

@@ -1,111 +1,216 @@
-use Rattle.std.proofs.Common.{◌+◌, ◌^◌, ◌≤◌, sym, arith}
+use Rattle.std.proofs.Common.{◌+◌, ◌^◌, ◌<◌, ◌≤◌, ◌∙◌, ap, sym, arith}
 use Rattle.arch_defs.proofs.FrameSets.{only_none}
-use Rattle.machine_defs.specs.Machine.{try}
-use Rattle.machine_defs.specs.Runs.{event_in, trace_of}
-use Rattle.rv64_hart.specs.Counts.{IsRaisedBy}
-use Rattle.guest_exit.specs.View.{machine_of}
-use Rattle.guest_exit.proofs.Entries.{one_event, one_run, trace_further}
-use Rattle.guest_turns.proofs.Placing.{entered_run, handled_run, hosted_after}
-use Rattle.guest_turns.proofs.Turns.{plain_further, plain_within}
+use Rattle.guest_exit.specs.View.{changed_by, machine_of}
+use Rattle.guest_turns.proofs.Current.{after_step}
+use Rattle.guest_turns.proofs.Parts.{entered_part, handed_current, handed_part, interrupt_part}
+use Rattle.guest_turns.proofs.Placing.{fixed_both, fixed_by, only_of_blocks, only_then}
+use Rattle.guest_turns.proofs.Turns.{exit_plain, exit_trace, instructions_made, made_at_most, made_if_running, plain_made, plain_within, trace_made, used_at_most}
 use Rattle.guest_turns.proofs.turning.advance.Goals as goal
 
 -- an interrupt that the host takes
-pub returns-then-interrupt-clause-run : goal.returns-then-interrupt-clause-run
-returns-then-interrupt-clause-run c =
-    let m = machine_of c.args.guest.now c.args.memory.now in
+pub returns-then-interrupt-clause-advances : goal.returns-then-interrupt-clause-advances
+returns-then-interrupt-clause-advances c =
+    let part = interrupt_part c.args.guest.now c.interrupt.new.guest c.args.memory.now c.args.left c.requires.hosted c.requires.running c.requires.some
+    (c.interrupt.ensures.step c.if-interrupt.true c.args.memory.now) in
     record {
-      machine = rw (one_run m c.requires.running) (c.interrupt.ensures.step c.if-interrupt.true c.args.memory.now);
-      fixed = c.interrupt.ensures.fixed;
-      only = only_none _ c.args.memory.now;
+      goes = part.goes;
+      fixed = fixed_by c.args.guest.now c.interrupt.new.guest c.interrupt.ensures.fixed;
+      only = only_none (changed_by c.args.guest.now) c.args.memory.now;
     }
 
 pub returns-then-interrupt-clause-hosted : goal.returns-then-interrupt-clause-hosted
-returns-then-interrupt-clause-hosted c =
-    hosted_after c.args.guest.now c.interrupt.new.guest c.args.memory.now c.args.memory.now 1 c.requires.hosted (returns-then-interrupt-clause-run c)
-    (c.interrupt.ensures.placed c.args.memory.now c.requires.hosted.placed)
-    (omega (arith, c.requires.hosted.clock, c.interrupt.ensures.made c.if-interrupt.true, c.interrupt.ensures.clock c.if-interrupt.true))
+returns-then-interrupt-clause-hosted c = record {
+  placed = c.interrupt.ensures.placed c.args.memory.now c.requires.hosted.placed;
+  clock = omega (arith, c.requires.hosted.clock, c.interrupt.ensures.made c.if-interrupt.true, c.interrupt.ensures.clock c.if-interrupt.true);
+  current =
+      after_step (machine_of c.args.guest.now c.args.memory.now) (machine_of c.interrupt.new.guest c.args.memory.now) c.requires.hosted.current
+      (c.interrupt.ensures.step c.if-interrupt.true c.args.memory.now);
+}
 
 pub returns-then-interrupt-clause-none : goal.returns-then-interrupt-clause-none
 returns-then-interrupt-clause-none c = λ same.
-    let m = machine_of c.args.guest.now c.args.memory.now in
-    rw (one_event m c.requires.running) (c.interrupt.ensures.none c.if-interrupt.true c.args.memory.now)
+    let part = interrupt_part c.args.guest.now c.interrupt.new.guest c.args.memory.now c.args.left c.requires.hosted c.requires.running c.requires.some
+    (c.interrupt.ensures.step c.if-interrupt.true c.args.memory.now) in
+    let sum = instructions_made _ _ _ _ _ part in
+    let none = c.interrupt.ensures.none c.if-interrupt.true c.args.memory.now in
+    omega (arith, sum, none)
 
 pub returns-then-interrupt-clause-taken_least : goal.returns-then-interrupt-clause-taken_least
 returns-then-interrupt-clause-taken_least c =
-    let m = machine_of c.args.guest.now c.args.memory.now in
+    let part = interrupt_part c.args.guest.now c.interrupt.new.guest c.args.memory.now c.args.left c.requires.hosted c.requires.running c.requires.some
+    (c.interrupt.ensures.step c.if-interrupt.true c.args.memory.now) in
+    let sum = plain_made _ _ _ _ _ part in
     let quiet = c.interrupt.ensures.quiet c.if-interrupt.true c.args.memory.now in
-    rw (one_event m c.requires.running, quiet.plain) (omega arith)
+    omega (arith, sum, quiet.plain)
 
 pub returns-then-interrupt-clause-trace : goal.returns-then-interrupt-clause-trace
 returns-then-interrupt-clause-trace c =
-    let m = machine_of c.args.guest.now c.args.memory.now in
+    let part = interrupt_part c.args.guest.now c.interrupt.new.guest c.args.memory.now c.args.left c.requires.hosted c.requires.running c.requires.some
+    (c.interrupt.ensures.step c.if-interrupt.true c.args.memory.now) in
     let quiet = c.interrupt.ensures.quiet c.if-interrupt.true c.args.memory.now in
-    rw (one_event m c.requires.running, quiet.trace) (omega arith)
+    trace_made _ _ _ _ _ c.args.tally.now.trace c.args.tally.now.trace part (rw quiet.trace (omega arith))
 
--- an entry that the hart ends itself
-pub returns-in-Limit-clause-run : goal.returns-in-Limit-clause-run
-returns-in-Limit-clause-run c =
-    entered_run c.interrupt.new.guest c.args.guest.now c.enter-stop.new.guest c.args.memory.now c.enter-stop.new.memory c.enter-stop.result.taken
-    (c.interrupt.ensures.stays c.if-interrupt.false) (record { machine = c.enter-stop.ensures.run; fixed = c.enter-stop.ensures.fixed; only = c.enter-stop.ensures.only })
+-- an entry that the hart ends itself, at the limit
+pub returns-in-Limit-clause-advances : goal.returns-in-Limit-clause-advances
+returns-in-Limit-clause-advances c =
+    let some : 0 < c.enter-stop.result.taken = omega (arith, rw c.in-Limit.is at c.enter-stop.ensures.why, c.limit.ensures.some) in
+    let few : c.enter-stop.result.taken ≤ c.args.left = omega (arith, c.enter-stop.ensures.within, c.limit.ensures.most) in
+    let part = entered_part c.args.guest.now c.interrupt.new.guest c.enter-stop.new.guest c.args.memory.now c.enter-stop.new.memory c.args.left c.enter-stop.result.taken
+    c.requires.hosted (c.interrupt.ensures.stays c.if-interrupt.false) some few c.enter-stop.ensures.ready c.enter-stop.ensures.run in
+    record {
+      goes = part.goes;
+      fixed =
+          fixed_both c.args.guest.now c.interrupt.new.guest c.enter-stop.new.guest (fixed_by c.args.guest.now c.interrupt.new.guest c.interrupt.ensures.fixed)
+          (fixed_by c.interrupt.new.guest c.enter-stop.new.guest c.enter-stop.ensures.fixed);
+      only =
+          rw (c.interrupt.ensures.stays c.if-interrupt.false) at
+          (only_of_blocks c.interrupt.new.guest c.args.memory.now c.enter-stop.new.memory c.enter-stop.ensures.only);
+    }
 
 pub returns-in-Limit-clause-hosted : goal.returns-in-Limit-clause-hosted
 returns-in-Limit-clause-hosted c =
     let before : c.interrupt.new.guest.clock.time ≤ 2 ^ 62 + c.interrupt.new.guest.steps = rw (c.interrupt.ensures.stays c.if-interrupt.false) c.requires.hosted.clock in
-    hosted_after c.args.guest.now c.enter-stop.new.guest c.args.memory.now c.enter-stop.new.memory c.enter-stop.result.taken c.requires.hosted
-    (returns-in-Limit-clause-run c) c.enter-stop.ensures.placed (omega (arith, before, c.enter-stop.ensures.clock, c.enter-stop.ensures.steps))
+    record {
+      placed = c.enter-stop.ensures.placed;
+      clock = omega (arith, before, c.enter-stop.ensures.clock, c.enter-stop.ensures.steps);
+      current = c.enter-stop.ensures.current;
+    }
 
 pub returns-in-Limit-clause-taken_least : goal.returns-in-Limit-clause-taken_least
 returns-in-Limit-clause-taken_least c =
+    let some : 0 < c.enter-stop.result.taken = omega (arith, rw c.in-Limit.is at c.enter-stop.ensures.why, c.limit.ensures.some) in
+    let few : c.enter-stop.result.taken ≤ c.args.left = omega (arith, c.enter-stop.ensures.within, c.limit.ensures.most) in
+    let part = entered_part c.args.guest.now c.interrupt.new.guest c.enter-stop.new.guest c.args.memory.now c.enter-stop.new.memory c.args.left c.enter-stop.result.taken
+    c.requires.hosted (c.interrupt.ensures.stays c.if-interrupt.false) some few c.enter-stop.ensures.ready c.enter-stop.ensures.run in
+    let sum = plain_made _ _ _ _ _ part in
     let within = plain_within (machine_of c.args.guest.now c.args.memory.now) c.enter-stop.result.taken in
-    omega (arith, within, c.enter-stop.ensures.taken)
+    omega (arith, sum, within, c.enter-stop.ensures.taken)
 
 pub returns-in-Limit-clause-trace : goal.returns-in-Limit-clause-trace
-returns-in-Limit-clause-trace c = rw (c.interrupt.ensures.stays c.if-interrupt.false) at c.enter-stop.ensures.trace
+returns-in-Limit-clause-trace c =
+    let some : 0 < c.enter-stop.result.taken = omega (arith, rw c.in-Limit.is at c.enter-stop.ensures.why, c.limit.ensures.some) in
+    let few : c.enter-stop.result.taken ≤ c.args.left = omega (arith, c.enter-stop.ensures.within, c.limit.ensures.most) in
+    let part = entered_part c.args.guest.now c.interrupt.new.guest c.enter-stop.new.guest c.args.memory.now c.enter-stop.new.memory c.args.left c.enter-stop.result.taken
+    c.requires.hosted (c.interrupt.ensures.stays c.if-interrupt.false) some few c.enter-stop.ensures.ready c.enter-stop.ensures.run in
+    let raised = rw (c.interrupt.ensures.stays c.if-interrupt.false) at c.enter-stop.ensures.trace in
+    trace_made _ _ _ _ _ c.args.tally.now.trace c.enter-stop.new.tally.trace part raised
 
-pub returns-in-VsTrap-clause-run : goal.returns-in-VsTrap-clause-run
-returns-in-VsTrap-clause-run c =
-    entered_run c.interrupt.new.guest c.args.guest.now c.enter-stop.new.guest c.args.memory.now c.enter-stop.new.memory c.enter-stop.result.taken
-    (c.interrupt.ensures.stays c.if-interrupt.false) (record { machine = c.enter-stop.ensures.run; fixed = c.enter-stop.ensures.fixed; only = c.enter-stop.ensures.only })
+-- and after a trap into VS
+pub returns-in-VsTrap-clause-advances : goal.returns-in-VsTrap-clause-advances
+returns-in-VsTrap-clause-advances c =
+    let some : 0 < c.enter-stop.result.taken = rw c.in-VsTrap.is at c.enter-stop.ensures.why in
+    let few : c.enter-stop.result.taken ≤ c.args.left = omega (arith, c.enter-stop.ensures.within, c.limit.ensures.most) in
+    let part = entered_part c.args.guest.now c.interrupt.new.guest c.enter-stop.new.guest c.args.memory.now c.enter-stop.new.memory c.args.left c.enter-stop.result.taken
+    c.requires.hosted (c.interrupt.ensures.stays c.if-interrupt.false) some few c.enter-stop.ensures.ready c.enter-stop.ensures.run in
+    record {
+      goes = part.goes;
+      fixed =
+          fixed_both c.args.guest.now c.interrupt.new.guest c.enter-stop.new.guest (fixed_by c.args.guest.now c.interrupt.new.guest c.interrupt.ensures.fixed)
+          (fixed_by c.interrupt.new.guest c.enter-stop.new.guest c.enter-stop.ensures.fixed);
+      only =
+          rw (c.interrupt.ensures.stays c.if-interrupt.false) at
+          (only_of_blocks c.interrupt.new.guest c.args.memory.now c.enter-stop.new.memory c.enter-stop.ensures.only);
+    }
 
 pub returns-in-VsTrap-clause-hosted : goal.returns-in-VsTrap-clause-hosted
 returns-in-VsTrap-clause-hosted c =
     let before : c.interrupt.new.guest.clock.time ≤ 2 ^ 62 + c.interrupt.new.guest.steps = rw (c.interrupt.ensures.stays c.if-interrupt.false) c.requires.hosted.clock in
-    hosted_after c.args.guest.now c.enter-stop.new.guest c.args.memory.now c.enter-stop.new.memory c.enter-stop.result.taken c.requires.hosted
-    (returns-in-VsTrap-clause-run c) c.enter-stop.ensures.placed (omega (arith, before, c.enter-stop.ensures.clock, c.enter-stop.ensures.steps))
+    record {
+      placed = c.enter-stop.ensures.placed;
+      clock = omega (arith, before, c.enter-stop.ensures.clock, c.enter-stop.ensures.steps);
+      current = c.enter-stop.ensures.current;
+    }
 
 pub returns-in-VsTrap-clause-taken_least : goal.returns-in-VsTrap-clause-taken_least
 returns-in-VsTrap-clause-taken_least c =
+    let some : 0 < c.enter-stop.result.taken = rw c.in-VsTrap.is at c.enter-stop.ensures.why in
+    let few : c.enter-stop.result.taken ≤ c.args.left = omega (arith, c.enter-stop.ensures.within, c.limit.ensures.most) in
+    let part = entered_part c.args.guest.now c.interrupt.new.guest c.enter-stop.new.guest c.args.memory.now c.enter-stop.new.memory c.args.left c.enter-stop.result.taken
+    c.requires.hosted (c.interrupt.ensures.stays c.if-interrupt.false) some few c.enter-stop.ensures.ready c.enter-stop.ensures.run in
+    let sum = plain_made _ _ _ _ _ part in
     let within = plain_within (machine_of c.args.guest.now c.args.memory.now) c.enter-stop.result.taken in
-    omega (arith, within, c.enter-stop.ensures.taken)
+    omega (arith, sum, within, c.enter-stop.ensures.taken)
 
 pub returns-in-VsTrap-clause-trace : goal.returns-in-VsTrap-clause-trace
-returns-in-VsTrap-clause-trace c = rw (c.interrupt.ensures.stays c.if-interrupt.false) at c.enter-stop.ensures.trace
+returns-in-VsTrap-clause-trace c =
+    let some : 0 < c.enter-stop.result.taken = rw c.in-VsTrap.is at c.enter-stop.ensures.why in
+    let few : c.enter-stop.result.taken ≤ c.args.left = omega (arith, c.enter-stop.ensures.within, c.limit.ensures.most) in
+    let part = entered_part c.args.guest.now c.interrupt.new.guest c.enter-stop.new.guest c.args.memory.now c.enter-stop.new.memory c.args.left c.enter-stop.result.taken
+    c.requires.hosted (c.interrupt.ensures.stays c.if-interrupt.false) some few c.enter-stop.ensures.ready c.enter-stop.ensures.run in
+    let raised = rw (c.interrupt.ensures.stays c.if-interrupt.false) at c.enter-stop.ensures.trace in
+    trace_made _ _ _ _ _ c.args.tally.now.trace c.enter-stop.new.tally.trace part raised
 
--- an entry after which the host makes the next step
-pub returns-in-Exit-clause-run : goal.returns-in-Exit-clause-run
-returns-in-Exit-clause-run c =
-    let ran = entered_run c.interrupt.new.guest c.args.guest.now c.enter-stop.new.guest c.args.memory.now c.enter-stop.new.memory c.enter-stop.result.taken
-    (c.interrupt.ensures.stays c.if-interrupt.false) (record { machine = c.enter-stop.ensures.run; fixed = c.enter-stop.ensures.fixed; only = c.enter-stop.ensures.only }) in
-    handled_run c.args.guest.now c.enter-stop.new.guest c.handle.new.guest c.args.memory.now c.enter-stop.new.memory c.handle.new.memory c.enter-stop.result.taken
-    ran c.enter-stop.ensures.status c.handle.ensures.step c.handle.ensures.fixed c.handle.ensures.only
+-- an entry after which the host makes the next step, or fills a cached translation
+pub returns-in-Exit-clause-advances : goal.returns-in-Exit-clause-advances
+returns-in-Exit-clause-advances c =
+    let some : c.enter-stop.result.taken < c.args.left = omega (arith, (rw c.in-Exit.is at c.enter-stop.ensures.why).0, c.limit.ensures.most) in
+    let part = handed_part c.args.guest.now c.interrupt.new.guest c.enter-stop.new.guest c.handle-made.new.guest c.args.memory.now c.enter-stop.new.memory c.handle-made.new.memory
+    c.args.left c.enter-stop.result.taken c.handle-made.result c.requires.hosted (c.interrupt.ensures.stays c.if-interrupt.false) some c.enter-stop.ensures.ready
+    c.enter-stop.ensures.run c.enter-stop.ensures.status c.handle-made.ensures.step c.handle-made.ensures.fill in
+    let entered =
+    fixed_both c.args.guest.now c.interrupt.new.guest c.enter-stop.new.guest (fixed_by c.args.guest.now c.interrupt.new.guest c.interrupt.ensures.fixed)
+    (fixed_by c.interrupt.new.guest c.enter-stop.new.guest c.enter-stop.ensures.fixed) in
+    let only = rw (c.interrupt.ensures.stays c.if-interrupt.false) at
+    (only_of_blocks c.interrupt.new.guest c.args.memory.now c.enter-stop.new.memory c.enter-stop.ensures.only) in
+    record {
+      goes = rw c.used.ensures part.goes;
+      fixed = fixed_both c.args.guest.now c.enter-stop.new.guest c.handle-made.new.guest entered c.handle-made.ensures.fixed;
+      only =
+          only_then c.args.guest.now c.enter-stop.new.guest c.handle-made.new.guest c.args.memory.now c.enter-stop.new.memory c.handle-made.new.memory entered only
+          c.handle-made.ensures.only;
+    }
 
 pub returns-in-Exit-clause-hosted : goal.returns-in-Exit-clause-hosted
-returns-in-Exit-clause-hosted c =
-    hosted_after c.args.guest.now c.handle.new.guest c.args.memory.now c.handle.new.memory (c.enter-stop.result.taken + 1) c.requires.hosted
-    (returns-in-Exit-clause-run c) c.handle.ensures.placed c.handle.ensures.clock
+returns-in-Exit-clause-hosted c = record {
+  placed = c.handle-made.ensures.placed;
+  clock = c.handle-made.ensures.clock;
+  current =
+      handed_current c.enter-stop.new.guest c.handle-made.new.guest c.enter-stop.new.memory c.handle-made.new.memory c.handle-made.result c.enter-stop.ensures.current
+      c.handle-made.ensures.step c.handle-made.ensures.fill;
+}
+
+pub returns-in-Exit-clause-forward : goal.returns-in-Exit-clause-forward
+returns-in-Exit-clause-forward c =
+    omega (arith, ap (λ guest. guest.steps) (c.interrupt.ensures.stays c.if-interrupt.false), c.enter-stop.ensures.steps, c.handle-made.ensures.made)
+
+pub returns-in-Exit-clause-made : goal.returns-in-Exit-clause-made
+returns-in-Exit-clause-made c =
+    let some : c.enter-stop.result.taken < c.args.left = omega (arith, (rw c.in-Exit.is at c.enter-stop.ensures.why).0, c.limit.ensures.most) in
+    let before = ap (λ guest. guest.steps) (c.interrupt.ensures.stays c.if-interrupt.false) in
+    let most = made_at_most c.handle-made.result in
+    let one = used_at_most c.handle-made.result in
+    omega (arith, some, before, c.enter-stop.ensures.steps, c.handle-made.ensures.made, most, one, c.used.ensures)
+
+pub returns-in-Exit-clause-counts : goal.returns-in-Exit-clause-counts
+returns-in-Exit-clause-counts c = λ running.
+    let some : c.enter-stop.result.taken < c.args.left = omega (arith, (rw c.in-Exit.is at c.enter-stop.ensures.why).0, c.limit.ensures.most) in
+    let before = ap (λ guest. guest.steps) (c.interrupt.ensures.stays c.if-interrupt.false) in
+    let same = made_if_running c.handle-made.result (sym c.handle-made.ensures.status ∙ running) in
+    let one = used_at_most c.handle-made.result in
+    omega (arith, some, before, c.enter-stop.ensures.steps, c.handle-made.ensures.made, same, one, c.used.ensures)
 
 pub returns-in-Exit-clause-taken_least : goal.returns-in-Exit-clause-taken_least
 returns-in-Exit-clause-taken_least c =
-    let m = machine_of c.args.guest.now c.args.memory.now in
-    let there = rw (c.interrupt.ensures.stays c.if-interrupt.false) at c.enter-stop.ensures.run in
-    let within = plain_further m _ c.enter-stop.result.taken (sym there) c.enter-stop.ensures.status c.handle.ensures.quiet.plain in
-    omega (arith, within, c.enter-stop.ensures.taken)
+    let some : c.enter-stop.result.taken < c.args.left = omega (arith, (rw c.in-Exit.is at c.enter-stop.ensures.why).0, c.limit.ensures.most) in
+    let part = handed_part c.args.guest.now c.interrupt.new.guest c.enter-stop.new.guest c.handle-made.new.guest c.args.memory.now c.enter-stop.new.memory c.handle-made.new.memory
+    c.args.left c.enter-stop.result.taken c.handle-made.result c.requires.hosted (c.interrupt.ensures.stays c.if-interrupt.false) some c.enter-stop.ensures.ready
+    c.enter-stop.ensures.run c.enter-stop.ensures.status c.handle-made.ensures.step c.handle-made.ensures.fill in
+    let sum = rw (← c.used.ensures) at (plain_made _ _ _ _ _ part) in
+    let within = exit_plain (machine_of c.args.guest.now c.args.memory.now) c.enter-stop.result.taken
+    (machine_of c.enter-stop.new.guest c.enter-stop.new.memory) c.handle-made.result c.handle-made.ensures.quiet in
+    omega (arith, sum, within, c.enter-stop.ensures.taken)
+
+pub returns-in-Exit-clause-taken_most : goal.returns-in-Exit-clause-taken_most
+returns-in-Exit-clause-taken_most c =
+    omega (arith, ap (λ guest. guest.steps) (c.interrupt.ensures.stays c.if-interrupt.false), c.enter-stop.ensures.steps, c.enter-stop.ensures.taken, c.handle-made.ensures.made)
 
 pub returns-in-Exit-clause-trace : goal.returns-in-Exit-clause-trace
 returns-in-Exit-clause-trace c =
-    let m = machine_of c.args.guest.now c.args.memory.now in
-    let there = rw (c.interrupt.ensures.stays c.if-interrupt.false) at c.enter-stop.ensures.run in
+    let some : c.enter-stop.result.taken < c.args.left = omega (arith, (rw c.in-Exit.is at c.enter-stop.ensures.why).0, c.limit.ensures.most) in
+    let part = handed_part c.args.guest.now c.interrupt.new.guest c.enter-stop.new.guest c.handle-made.new.guest c.args.memory.now c.enter-stop.new.memory c.handle-made.new.memory
+    c.args.left c.enter-stop.result.taken c.handle-made.result c.requires.hosted (c.interrupt.ensures.stays c.if-interrupt.false) some c.enter-stop.ensures.ready
+    c.enter-stop.ensures.run c.enter-stop.ensures.status c.handle-made.ensures.step c.handle-made.ensures.fill in
     let before = rw (c.interrupt.ensures.stays c.if-interrupt.false) at c.enter-stop.ensures.trace in
-    let none : IsRaisedBy (trace_of (event_in (try (machine_of c.enter-stop.new.guest c.enter-stop.new.memory)))) c.enter-stop.new.tally.trace c.enter-stop.new.tally.trace =
-    rw c.handle.ensures.quiet.trace (omega arith) in
-    trace_further m _ c.enter-stop.result.taken _ _ _ (sym there) c.enter-stop.ensures.status before none
+    let raised = exit_trace (machine_of c.args.guest.now c.args.memory.now) c.enter-stop.result.taken c.args.tally.now.trace c.enter-stop.new.tally.trace
+    (machine_of c.enter-stop.new.guest c.enter-stop.new.memory) c.handle-made.result before c.handle-made.ensures.quiet in
+    rw c.used.ensures (trace_made _ _ _ _ _ c.args.tally.now.trace c.enter-stop.new.tally.trace part raised)

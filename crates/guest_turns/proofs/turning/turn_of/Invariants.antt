@@ -1,19 +1,20 @@
 use Rattle.std.proofs.Common.{◌≡◌, ◌+◌, ◌%◌, ◌^◌, ◌≤◌}
-use Rattle.arch_defs.specs.Frames.{Only, in_blocks}
+use Rattle.arch_defs.specs.Frames.{Only}
+use Rattle.enough_tries.specs.Budgets.{budget}
 use Rattle.machine_defs.specs.declared.guests.Status.TheVariants.{Running}
 use Rattle.machine_defs.specs.Runs.{run, events, instruction_count, plain_count, trace_of}
-use Rattle.guest_exit.specs.View.{StaysFixed, machine_of}
+use Rattle.guest_exit.specs.View.{StaysFixed, changed_by, machine_of}
 use Rattle.guest_turns.specs.Hosting.{IsHosted}
 use Rattle.guest_turns.proofs.turning.turn_of.Given as goal
 
 abbrev pub decreases-loop-left : goal.decreases-loop-left
-decreases-loop-left l = l.left
+decreases-loop-left l = budget (machine_of l.guest l.memory) l.left
 
 abbrev pub invariant-loop-left : goal.invariant-loop-left
 invariant-loop-left l = record {
   run : run (machine_of l.guest l.memory) l.left ≡ run (machine_of l.fn.guest l.fn.memory) l.k;
   fixed : StaysFixed l.fn.guest l.guest;
-  only : Only (in_blocks l.fn.guest.part.blocks) l.fn.memory l.memory;
+  only : Only (changed_by l.fn.guest) l.fn.memory l.memory;
   hosted : IsHosted l.guest l.memory;
   began : l.before ≡ l.fn.guest.steps;
   within : l.left ≤ l.k;
@@ -21,7 +22,8 @@ invariant-loop-left l = record {
   made : l.guest.steps + l.left ≤ l.before + l.k;
   counted : l.guest.status ≡ Running → l.guest.steps + l.left ≡ l.before + l.k;
   entries_grow : l.fn.tally.entries ≤ l.tally.entries;
-  entries_most : l.tally.entries + l.left ≤ l.fn.tally.entries + l.k;
+  entries_most : l.tally.entries + budget (machine_of l.guest l.memory) l.left
+      ≤ l.fn.tally.entries + budget (machine_of l.fn.guest l.fn.memory) l.k;
   entries_least : l.tally.entries ≡ l.fn.tally.entries
       → instruction_count (events (machine_of l.fn.guest l.fn.memory) l.k) ≡ instruction_count (events (machine_of l.guest l.memory) l.left);
   taken_least : l.fn.tally.taken + plain_count (events (machine_of l.fn.guest l.fn.memory) l.k)

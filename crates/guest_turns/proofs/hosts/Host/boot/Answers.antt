@@ -1,5 +1,5 @@
-use Rattle.std.proofs.Common.{◌*◌, length, ap, sym, subst, ◌∙◌}
-use Rattle.arch_defs.proofs.Images.{length_zeros}
+use Rattle.std.proofs.Common.{◌*◌, ap, sym, subst, ◌∙◌}
+use Rattle.arch_defs.specs.Memory.{zeros}
 use Rattle.frame_split.specs.Shares.{IsSplit}
 use Rattle.guest_turns.specs.Limits.{frames_for, needs_of}
 use Rattle.guest_turns.proofs.Starting.{booted_by, none_made, some_frames}
@@ -9,22 +9,21 @@ pub new-requires-clause-some : goal.new-requires-clause-some
 new-requires-clause-some c =
     rw (c.in_ok-split.ensures.frames, c.as_slice.ensures.value) (some_frames c.args.guests.items c.requires.some)
 
-pub lay_out-requires-clause-size : goal.lay_out-requires-clause-size
-lay_out-requires-clause-size c =
-    ap length c.in_ok-memory.ensures ∙ length_zeros (c.in_ok-split.split.frames * 4096)
-    ∙ ap (λ n. n * 4096) (c.in_ok-split.ensures.frames ∙ ap frames_for (c.as_slice.ensures.value ∙ sym c.as_slice-2.ensures.value))
+pub lay_out-requires-clause-zeros : goal.lay_out-requires-clause-zeros
+lay_out-requires-clause-zeros c =
+    c.in_ok-memory.ensures ∙ ap (λ n. zeros (n * 4096)) (c.in_ok-split.ensures.frames ∙ ap frames_for (c.as_slice.ensures.value ∙ sym c.as_slice-2.ensures.value))
 
 pub invariant_of-result : goal.invariant_of-result
 invariant_of-result c =
     (booted_by c.args.guests.items c.as_slice.result.now c.as_slice-2.result.now c.in_ok-split.split.parts.items c.as_slice-3.result.now c.as_slice-4.result.now
-    c.in_ok-split.split.frames c.in_ok-guests.guests.items c.in_ok-memory.memory c.lay_out.new.memory c.requires.some c.requires.few c.requires.frames
+    c.in_ok-split.split.frames c.in_ok-guests.guests.items c.in_ok-memory.memory c.lay_out.new.memory c.requires.some c.requires.few c.requires.each c.requires.frames
     c.as_slice.ensures.value c.as_slice-2.ensures.value c.as_slice-3.ensures.value c.as_slice-4.ensures.value c.in_ok-split.ensures.split c.in_ok-split.ensures.frames
     c.in_ok-memory.ensures c.lay_out.ensures.size c.lay_out.ensures.laid c.in_ok-guests.ensures).hosted
 
 pub returns-clause-machines : goal.returns-clause-machines
 returns-clause-machines c =
     (booted_by c.args.guests.items c.as_slice.result.now c.as_slice-2.result.now c.in_ok-split.split.parts.items c.as_slice-3.result.now c.as_slice-4.result.now
-    c.in_ok-split.split.frames c.in_ok-guests.guests.items c.in_ok-memory.memory c.lay_out.new.memory c.requires.some c.requires.few c.requires.frames
+    c.in_ok-split.split.frames c.in_ok-guests.guests.items c.in_ok-memory.memory c.lay_out.new.memory c.requires.some c.requires.few c.requires.each c.requires.frames
     c.as_slice.ensures.value c.as_slice-2.ensures.value c.as_slice-3.ensures.value c.as_slice-4.ensures.value c.in_ok-split.ensures.split c.in_ok-split.ensures.frames
     c.in_ok-memory.ensures c.lay_out.ensures.size c.lay_out.ensures.laid c.in_ok-guests.ensures).machines
 
@@ -32,7 +31,7 @@ pub returns-clause-parts : goal.returns-clause-parts
 returns-clause-parts c =
     let parts_are =
     (booted_by c.args.guests.items c.as_slice.result.now c.as_slice-2.result.now c.in_ok-split.split.parts.items c.as_slice-3.result.now c.as_slice-4.result.now
-    c.in_ok-split.split.frames c.in_ok-guests.guests.items c.in_ok-memory.memory c.lay_out.new.memory c.requires.some c.requires.few c.requires.frames
+    c.in_ok-split.split.frames c.in_ok-guests.guests.items c.in_ok-memory.memory c.lay_out.new.memory c.requires.some c.requires.few c.requires.each c.requires.frames
     c.as_slice.ensures.value c.as_slice-2.ensures.value c.as_slice-3.ensures.value c.as_slice-4.ensures.value c.in_ok-split.ensures.split c.in_ok-split.ensures.frames
     c.in_ok-memory.ensures c.lay_out.ensures.size c.lay_out.ensures.laid c.in_ok-guests.ensures).parts_are in
     let split = rw (c.in_ok-split.ensures.frames, c.as_slice.ensures.value) at c.in_ok-split.ensures.split in
@@ -42,6 +41,6 @@ pub returns-clause-fresh : goal.returns-clause-fresh
 returns-clause-fresh c =
     none_made c.args.guests.items _
     (booted_by c.args.guests.items c.as_slice.result.now c.as_slice-2.result.now c.in_ok-split.split.parts.items c.as_slice-3.result.now c.as_slice-4.result.now
-    c.in_ok-split.split.frames c.in_ok-guests.guests.items c.in_ok-memory.memory c.lay_out.new.memory c.requires.some c.requires.few c.requires.frames
+    c.in_ok-split.split.frames c.in_ok-guests.guests.items c.in_ok-memory.memory c.lay_out.new.memory c.requires.some c.requires.few c.requires.each c.requires.frames
     c.as_slice.ensures.value c.as_slice-2.ensures.value c.as_slice-3.ensures.value c.as_slice-4.ensures.value c.in_ok-split.ensures.split c.in_ok-split.ensures.frames
     c.in_ok-memory.ensures c.lay_out.ensures.size c.lay_out.ensures.laid c.in_ok-guests.ensures).machines

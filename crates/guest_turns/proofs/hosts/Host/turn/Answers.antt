@@ -1,9 +1,11 @@
 use Rattle.std.proofs.Common.{◌+◌, ap, subst, sym, ◌∙◌}
-use Rattle.arch_defs.specs.Frames.{Only, in_blocks}
+use Rattle.arch_defs.specs.Frames.{Only}
+use Rattle.arch_defs.specs.Layouts.{named_by}
 use Rattle.machine_defs.specs.Runs.{run}
 use Rattle.guest_turns.specs.Hosting.{IsHosted}
 use Rattle.guest_turns.specs.TurnLists.{updated}
 use Rattle.guest_turns.proofs.Among.{among, host_machine, host_part, turned, written_machine}
+use Rattle.guest_turns.proofs.Placing.{only_in_part}
 use Rattle.guest_turns.proofs.hosts.Host.turn.Goals as goal
 
 pub turn_of-requires-clause-hosted : goal.turn_of-requires-clause-hosted
@@ -40,7 +42,9 @@ returns-clause-isolated c =
     let host = c.self.inside in
     let inside = among host.guests.items host.memory _ c.args.g c.self.view_is c.requires.guest in
     let part = host_part host.guests.items host.memory _ c.args.g c.index_mut-guest.result.now c.self.view_is inside c.index_mut-guest.ensures.value in
-    rw part (subst (λ host. Only (in_blocks c.index_mut-guest.result.now.part.blocks) host.memory c.turn_of.new.memory) c.self.view_is c.turn_of.ensures.run.only)
+    let hosted = subst (λ guest. IsHosted guest host.memory) (sym c.index_mut-guest.ensures.value) (c.self.invariant.each c.args.g c.index_mut-guest.result.now inside) in
+    let only = only_in_part c.index_mut-guest.result.now host.memory c.turn_of.new.memory hosted.placed c.turn_of.ensures.run.only in
+    rw part (subst (λ host. Only (named_by c.index_mut-guest.result.now.part) host.memory c.turn_of.new.memory) c.self.view_is only)
 
 pub returns-clause-made : goal.returns-clause-made
 returns-clause-made c =
@@ -56,3 +60,11 @@ returns-clause-fewer c = λ fewer still.
     let inside = among host.guests.items host.memory _ c.args.g c.self.view_is c.requires.guest in
     let after = written_machine host.guests.items c.turn_of.new.memory c.args.g c.turn_of.new.guest inside in
     c.turn_of.ensures.fewer fewer (ap (λ m. m.platform.status) (sym after) ∙ still)
+
+pub returns-clause-room : goal.returns-clause-room
+returns-clause-room c =
+    let host = c.self.inside in
+    let inside = among host.guests.items host.memory _ c.args.g c.self.view_is c.requires.guest in
+    let before = host_machine host.guests.items host.memory _ c.args.g c.index_mut-guest.result.now c.self.view_is inside c.index_mut-guest.ensures.value in
+    let after = written_machine host.guests.items c.turn_of.new.memory c.args.g c.turn_of.new.guest inside in
+    ap (λ m. m.entry_room) after ∙ c.turn_of.ensures.run.fixed.entry_room ∙ ap (λ m. m.entry_room) (sym before)

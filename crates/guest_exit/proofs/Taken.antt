@@ -1,0 +1,256 @@
+-- A trap of the hart that stands for a guest, as what the guest's lone machine makes of it.
+use Rattle.std.proofs.Common.{◌≡◌, ℕ, ◌+◌, ◌∙◌, Bool, List, Option, Some, None, true, false, refl, ap, sym, subst, arith}
+use Rattle.arch_defs.specs.declared.levels.Level.{Level}
+use Rattle.arch_defs.specs.declared.levels.Level.TheVariants as level
+use Rattle.arch_defs.specs.declared.modes.Access.{Access}
+use Rattle.arch_defs.specs.declared.modes.Access.TheVariants.{Fetch, Load, Store, ExecLoad, Implicit}
+use Rattle.arch_defs.specs.declared.modes.Mode.{Mode}
+use Rattle.arch_defs.specs.declared.modes.Mode.TheVariants.{HS, U, VS, VU}
+use Rattle.arch_defs.specs.declared.modes.Trap.{Trap}
+use Rattle.arch_defs.specs.declared.modes.TheConstants.{ECALL_FROM_VS, VIRTUAL_INSTRUCTION}
+use Rattle.arch_defs.specs.declared.registers.Csrs.{Csrs}
+use Rattle.arch_defs.specs.declared.registers.GuestRoot.{GuestRoot}
+use Rattle.arch_defs.specs.declared.registers.Regs.{Regs}
+use Rattle.arch_defs.specs.declared.registers.Virtual.{Virtual}
+use Rattle.arch_defs.specs.Interrupts.{guest_bit, interrupt_of}
+use Rattle.arch_defs.specs.Frames.{in_blocks}
+use Rattle.arch_defs.specs.Layouts.{Layout}
+use Rattle.arch_defs.specs.Traps.{access_fault, entered_at, entered_vs, exception, is_delegated, is_virtual, target}
+use Rattle.arch_defs.proofs.FrameSets.{only_none}
+use Rattle.machine_defs.specs.declared.events.Event.TheVariants as event
+use Rattle.machine_defs.specs.HostPlaces.{in_ram, memory_place}
+use Rattle.machine_defs.specs.Machine.{Machine, Tried, stepped_to, trapped}
+use Rattle.machine_defs.specs.Tries.{concluded}
+use Rattle.machine_defs.specs.Outcomes.{Outcome}
+use Rattle.machine_defs.specs.Renaming.{ReservesHeld, renamed}
+use Rattle.world_switch.specs.Hosting.{all_interrupts, fixed_up, hosted, hosted_csrs, hosted_mode, loaded, saved, taken_back}
+use Rattle.world_switch.specs.Laws.{KeepsHidden}
+use Rattle.world_switch.proofs.Undone.{exceptions_alike, interrupts_alike, nested_traps_alike, virtual_mode}
+use Rattle.guest_exit.specs.Following.{FollowsTry, IsAt, IsLeft, IsMade, Keeps, hosted_level, is_guest_page_code, step_for}
+use Rattle.rv64_hart.specs.Steps.{HartEnd, end_by, next_attempt, trapped_to}
+use Rattle.guest_exit.proofs.Interrupts.{IsDue}
+use Rattle.guest_exit.proofs.Delegation.{IsOwn, never_10, never_22, own_1, own_5, own_7}
+use Rattle.guest_exit.proofs.Stands.{Own, Call, Nested, Left, Traps}
+use Rattle.arch_defs.specs.declared.cached.Entry.{Entry}
+use Rattle.shadow_pool.specs.Slots.{Pooled}
+
+-- where traps go: with V = 0 the guest's to its HS, with V = 1 where it delegates them, and the hart's to VS where they are
+-- delegated, or to the host
+to_hs : (csrs : Csrs) (mode : Mode) (trap : Trap) → is_virtual mode ≡ false → target csrs mode trap ≡ level.HS
+unfolding target
+to_hs csrs HS trap own = refl
+to_hs csrs U trap own = refl
+to_hs csrs VS trap own = cc
+to_hs csrs VU trap own = cc
+
+to_vs : (csrs : Csrs) (mode : Mode) (trap : Trap) → is_virtual mode ≡ true → is_delegated csrs trap.interrupt trap.cause ≡ true → target csrs mode trap ≡ level.VS
+unfolding target
+to_vs csrs mode trap on e = rw (on, e) refl
+
+pub to_host : (csrs : Csrs) (mode : Mode) (trap : Trap) → is_virtual mode ≡ true → is_delegated csrs trap.interrupt trap.cause ≡ false → target csrs mode trap ≡ level.HS
+unfolding target
+to_host csrs mode trap on e = rw (on, e) refl
+
+-- what the hart makes of a trap in a part of machine memory
+abbrev pub taken : Layout → GuestRoot → Machine → List ℕ → Trap → HartEnd
+taken part root m memory trap =
+    let v = m.platform.virt in
+    trapped_to (loaded part root v) memory trap (target (hosted_csrs root (is_virtual v.mode) v.csrs) (hosted_mode v.mode) trap)
+
+-- a trap into VS changes nothing that the hart does not have for the guest
+entry_keeps : (root : GuestRoot) (virtual : Bool) (csrs : Csrs) (regs : Regs) (mode : Mode) (trap : Trap)
+    → KeepsHidden root virtual csrs (entered_vs (hosted_csrs root virtual csrs) regs mode trap).csrs
+unfolding entered_vs
+entry_keeps root false csrs regs mode trap = record { rest = refl; timer = λ e. refl; external = λ e. refl; waits = refl }
+entry_keeps root true csrs regs mode trap = record { rest = refl; timer = λ e. cc; external = λ e. cc; waits = refl }
+
+entered_keeps : (root : GuestRoot) (v : Virtual) (trap : Trap) → Keeps root v (entered_at (hosted root v) trap level.VS)
+unfolding entered_vs
+entered_keeps root v trap = record { csrs = entry_keeps root (is_virtual v.mode) v.csrs v.regs (hosted_mode v.mode) trap; mode = refl }
+
+-- nor the reservation
+entered_renamed : (h : ℕ → ℕ) (s : Virtual) (trap : Trap) → entered_at (renamed h s) trap level.VS ≡ renamed h (entered_at s trap level.VS)
+unfolding entered_vs
+entered_renamed h s trap = refl
+
+entered_held : (part : Layout) (s : Virtual) (trap : Trap) → ReservesHeld (in_ram part.blocks) s.reservation
+    → ReservesHeld (in_ram part.blocks) (entered_at s trap level.VS).reservation
+unfolding entered_vs
+entered_held part s trap held = held
+
+-- an entry into VS that stands for the machine's trap
+entry_made : (part : Layout) {pool : Pooled} (root : GuestRoot) (m : Machine) (memory : List ℕ) (trap : Trap) (tried : Tried) (lacks : Option Entry) (interrupt : Bool)
+    → IsAt part pool m memory → lacks ≡ None
+    → tried ≡ step_for m (entered_at (hosted root m.platform.virt) trap level.VS) true m.ram (event.Trap (hosted_level (is_virtual m.platform.virt.mode)) interrupt)
+    → IsMade part root m tried lacks memory (entered_at (loaded part root m.platform.virt) trap level.VS) memory (event.Trap level.VS interrupt)
+entry_made part root m memory trap tried lacks interrupt at ready step =
+    let v = m.platform.virt in
+    record {
+      own = entered_at (hosted root v) trap level.VS;
+      state = entered_renamed (memory_place part.blocks) (hosted root v) trap;
+      step = rw (← at.ram) step;
+      ready = ready;
+      keeps = entered_keeps root v trap;
+      held = entered_held part (hosted root v) trap at.reserved;
+      only = only_none (in_blocks part.blocks) memory;
+    }
+
+-- what is taken back after it, by the guest's V
+back_own : (hart before : Virtual) → is_virtual before.mode ≡ false → taken_back true hart before ≡ fixed_up (saved hart before)
+back_own hart before own = rw own refl
+
+back_nested : (hart before : Virtual) → is_virtual before.mode ≡ true → taken_back true hart before ≡ saved hart before
+back_nested hart before on = rw on refl
+
+-- a trap of the machine by its level, and so with V = 0 into HS, and with V = 1 into VS
+trapped_at : (m : Machine) (trap : Trap) (into : Level) → target m.platform.virt.csrs m.platform.virt.mode trap ≡ into
+    → trapped m trap ≡ stepped_to m (record m.platform { virt = entered_at m.platform.virt trap into }) (event.Trap into trap.interrupt)
+trapped_at m trap into e = ap (λ l. stepped_to m (record m.platform { virt = entered_at m.platform.virt trap l }) (event.Trap l trap.interrupt)) e
+
+entry_is : (m : Machine) (trap : Trap) (own : Virtual) (virtual : Bool) → is_virtual m.platform.virt.mode ≡ virtual
+    → target m.platform.virt.csrs m.platform.virt.mode trap ≡ hosted_level virtual
+    → taken_back true own m.platform.virt ≡ entered_at m.platform.virt trap (hosted_level virtual)
+    → trapped m trap ≡ step_for m own true m.ram (event.Trap (hosted_level (is_virtual m.platform.virt.mode)) trap.interrupt)
+entry_is m trap own virtual is goes same =
+    trapped_at m trap (hosted_level virtual) goes
+    ∙ ap (λ virt. stepped_to m (record m.platform { virt = virt }) (event.Trap (hosted_level virtual) trap.interrupt)) (sym same)
+    ∙ ap (λ v. step_for m own true m.ram (event.Trap (hosted_level v) trap.interrupt)) (sym is)
+
+hs_entry : (m : Machine) (trap : Trap) (own : Virtual) → is_virtual m.platform.virt.mode ≡ false → fixed_up (saved own m.platform.virt) ≡ entered_at m.platform.virt trap level.HS
+    → trapped m trap ≡ step_for m own true m.ram (event.Trap (hosted_level (is_virtual m.platform.virt.mode)) trap.interrupt)
+hs_entry m trap own is same = entry_is m trap own false is (to_hs m.platform.virt.csrs m.platform.virt.mode trap is) (back_own own m.platform.virt is ∙ same)
+
+vs_entry : (m : Machine) (trap : Trap) (own : Virtual) → is_virtual m.platform.virt.mode ≡ true → is_delegated m.platform.virt.csrs trap.interrupt trap.cause ≡ true
+    → saved own m.platform.virt ≡ entered_at m.platform.virt trap level.VS
+    → trapped m trap ≡ step_for m own true m.ram (event.Trap (hosted_level (is_virtual m.platform.virt.mode)) trap.interrupt)
+vs_entry m trap own on given same = entry_is m trap own true on (to_vs m.platform.virt.csrs m.platform.virt.mode trap on given) (back_nested own m.platform.virt on ∙ same)
+
+-- an interrupt that both take, by the guest's V
+own_interrupt : (part : Layout) {pool : Pooled} (root : GuestRoot) (m : Machine) (memory : List ℕ) (lacks : Option Entry) (code : ℕ) → is_virtual m.platform.virt.mode ≡ false → guest_bit all_interrupts (code + 1) ≡ true
+    → IsAt part pool m memory → lacks ≡ None → FollowsTry part root m (trapped m (interrupt_of code)) lacks memory (taken part root m memory (interrupt_of (code + 1)))
+own_interrupt part root m memory lacks code own e at ready =
+    let v = m.platform.virt in
+    rw (to_vs (hosted_csrs root (is_virtual v.mode) v.csrs) (hosted_mode v.mode) (interrupt_of (code + 1)) (virtual_mode v.mode) (rw own e))
+    (entry_made part root m memory (interrupt_of (code + 1)) _ lacks true at ready
+    (hs_entry m (interrupt_of code) (entered_at (hosted root v) (interrupt_of (code + 1)) level.VS) own (interrupts_alike root v code own)))
+
+nested_interrupt : (part : Layout) {pool : Pooled} (root : GuestRoot) (m : Machine) (memory : List ℕ) (lacks : Option Entry) (code : ℕ) → is_virtual m.platform.virt.mode ≡ true → guest_bit m.platform.virt.csrs.hideleg code ≡ true
+    → IsAt part pool m memory → lacks ≡ None → FollowsTry part root m (trapped m (interrupt_of code)) lacks memory (taken part root m memory (interrupt_of code))
+nested_interrupt part root m memory lacks code on e at ready =
+    let v = m.platform.virt in
+    rw (to_vs (hosted_csrs root (is_virtual v.mode) v.csrs) (hosted_mode v.mode) (interrupt_of code) (virtual_mode v.mode) (rw on e))
+    (entry_made part root m memory (interrupt_of code) _ lacks true at ready
+    (vs_entry m (interrupt_of code) (entered_at (hosted root v) (interrupt_of code) level.VS) on e (nested_traps_alike root v (interrupt_of code) on)))
+
+pub interrupt_follows : (part : Layout) {pool : Pooled} (root : GuestRoot) (m : Machine) (memory : List ℕ) (lacks : Option Entry) (code : ℕ) (hart : Option ℕ) (virtual : Bool) → is_virtual m.platform.virt.mode ≡ virtual
+    → IsDue (Some code) virtual m.platform.virt.csrs.hideleg hart → IsAt part pool m memory → lacks ≡ None
+    → FollowsTry part root m (trapped m (interrupt_of code)) lacks memory (end_by (loaded part root m.platform.virt) memory (next_attempt (loaded part root m.platform.virt) memory hart))
+interrupt_follows part root m memory lacks code hart false own (e, good) at ready = rw e (own_interrupt part root m memory lacks code own good at ready)
+interrupt_follows part root m memory lacks code hart true on (e, good) at ready = rw e (nested_interrupt part root m memory lacks code on good at ready)
+
+-- the hart delegates a guest's own exception with V = 0, and with V = 1 where the guest does
+given_own : (root : GuestRoot) (csrs : Csrs) (cause : ℕ) → IsOwn cause → is_delegated (hosted_csrs root false csrs) false cause ≡ true
+given_own root csrs cause own = rw (own.small, own.own) refl
+
+given_alike : (root : GuestRoot) (csrs : Csrs) (cause : ℕ) → IsOwn cause → is_delegated (hosted_csrs root true csrs) false cause ≡ is_delegated csrs false cause
+given_alike root csrs cause own = rw (own.kept csrs.hedeleg) refl
+
+-- a trap that the host makes, of the machine in its own mode
+raised : (m : Machine) (lacks : Option Entry) (trap : Trap) → lacks ≡ None → is_virtual m.platform.virt.mode ≡ true → (trap.cause ≡ VIRTUAL_INSTRUCTION → ⊥) → is_guest_page_code trap.cause ≡ false
+    → IsLeft m (trapped m trap) lacks trap
+raised m lacks trap ready on other fault = record {
+  word = λ h. absurd (other h);
+  decided = λ h. absurd (other h);
+  faulted = λ h. let never : true ≡ false = rw h at fault in cc;
+  other = λ h k. rw on refl;
+  ready = λ h. ready;
+}
+
+-- an exception that the guest takes, by its V and by whether it delegates it
+own_exception : (part : Layout) {pool : Pooled} (root : GuestRoot) (m : Machine) (memory : List ℕ) (lacks : Option Entry) (cause tval : ℕ) → is_virtual m.platform.virt.mode ≡ false → IsOwn cause → IsAt part pool m memory → lacks ≡ None
+    → FollowsTry part root m (trapped m (exception m.platform.virt.mode cause tval)) lacks memory (taken part root m memory (exception (hosted_mode m.platform.virt.mode) cause tval))
+own_exception part root m memory lacks cause tval own good at ready =
+    let v = m.platform.virt in
+    let trap = exception (hosted_mode v.mode) cause tval in
+    rw (to_vs (hosted_csrs root (is_virtual v.mode) v.csrs) (hosted_mode v.mode) trap (virtual_mode v.mode) (rw own (given_own root v.csrs cause good)))
+    (entry_made part root m memory trap _ lacks false at ready
+    (hs_entry m (exception v.mode cause tval) (entered_at (hosted root v) trap level.VS) own (exceptions_alike root v cause tval own)))
+
+pub hosted_here : (mode : Mode) → is_virtual mode ≡ true → hosted_mode mode ≡ mode
+hosted_here HS on = cc
+hosted_here U on = cc
+hosted_here VS on = refl
+hosted_here VU on = refl
+
+nested_exception : (part : Layout) {pool : Pooled} (root : GuestRoot) (m : Machine) (memory : List ℕ) (lacks : Option Entry) (cause tval : ℕ) → is_virtual m.platform.virt.mode ≡ true → IsOwn cause
+    → IsAt part pool m memory → lacks ≡ None → (given : Bool) → is_delegated m.platform.virt.csrs false cause ≡ given
+    → FollowsTry part root m (trapped m (exception m.platform.virt.mode cause tval)) lacks memory (taken part root m memory (exception (hosted_mode m.platform.virt.mode) cause tval))
+nested_exception part root m memory lacks cause tval on good at ready true given =
+    let v = m.platform.virt in
+    let trap = exception (hosted_mode v.mode) cause tval in
+    let here : trap ≡ exception v.mode cause tval = ap (λ mode. exception mode cause tval) (hosted_here v.mode on) in
+    rw (to_vs (hosted_csrs root (is_virtual v.mode) v.csrs) (hosted_mode v.mode) trap (virtual_mode v.mode) (rw on (given_alike root v.csrs cause good ∙ given)))
+    (entry_made part root m memory trap _ lacks false at ready
+    (subst (λ t. trapped m t ≡ step_for m (entered_at (hosted root v) trap level.VS) true m.ram (event.Trap (hosted_level (is_virtual v.mode)) false)) here
+    (vs_entry m trap (entered_at (hosted root v) trap level.VS) on given (nested_traps_alike root v trap on))))
+nested_exception part root m memory lacks cause tval on good at ready false given =
+    let v = m.platform.virt in
+    let trap = exception (hosted_mode v.mode) cause tval in
+    let here : trap ≡ exception v.mode cause tval = ap (λ mode. exception mode cause tval) (hosted_here v.mode on) in
+    rw (to_host (hosted_csrs root (is_virtual v.mode) v.csrs) (hosted_mode v.mode) trap (virtual_mode v.mode) (rw on (given_alike root v.csrs cause good ∙ given)))
+    (subst (λ t. IsLeft m (trapped m t) lacks trap) here (raised m lacks trap ready on good.other good.fault))
+
+exception_by : (part : Layout) {pool : Pooled} (root : GuestRoot) (m : Machine) (memory : List ℕ) (lacks : Option Entry) (cause tval : ℕ) → IsOwn cause → IsAt part pool m memory → lacks ≡ None → (virtual : Bool) → is_virtual m.platform.virt.mode ≡ virtual
+    → FollowsTry part root m (trapped m (exception m.platform.virt.mode cause tval)) lacks memory (taken part root m memory (exception (hosted_mode m.platform.virt.mode) cause tval))
+exception_by part root m memory lacks cause tval good at ready false own = own_exception part root m memory lacks cause tval own good at ready
+exception_by part root m memory lacks cause tval good at ready true on = nested_exception part root m memory lacks cause tval on good at ready (is_delegated m.platform.virt.csrs false cause) refl
+
+pub exception_follows : (part : Layout) {pool : Pooled} (root : GuestRoot) (m : Machine) (memory : List ℕ) (lacks : Option Entry) (cause tval : ℕ) → IsOwn cause → IsAt part pool m memory → lacks ≡ None
+    → FollowsTry part root m (trapped m (exception m.platform.virt.mode cause tval)) lacks memory (taken part root m memory (exception (hosted_mode m.platform.virt.mode) cause tval))
+exception_follows part root m memory lacks cause tval good at ready = exception_by part root m memory lacks cause tval good at ready (is_virtual m.platform.virt.mode) refl
+
+-- an access fault is the guest's own
+pub access_fault_own : (access : Access) → IsOwn (access_fault access)
+access_fault_own Fetch = own_1
+access_fault_own Load = own_5
+access_fault_own Store = own_7
+access_fault_own ExecLoad = own_5
+access_fault_own Implicit = own_5
+
+-- the traps that the hart never delegates
+kept_10 : (root : GuestRoot) (virtual : Bool) (csrs : Csrs) → is_delegated (hosted_csrs root virtual csrs) false ECALL_FROM_VS ≡ false
+kept_10 root false csrs = refl
+kept_10 root true csrs = never_10 csrs.hedeleg
+
+kept_22 : (root : GuestRoot) (virtual : Bool) (csrs : Csrs) → is_delegated (hosted_csrs root virtual csrs) false VIRTUAL_INSTRUCTION ≡ false
+kept_22 root false csrs = refl
+kept_22 root true csrs = never_22 csrs.hedeleg
+
+-- a trap of an instruction on the hart
+pub trap_follows : (part : Layout) {pool : Pooled} (root : GuestRoot) (m : Machine) (memory : List ℕ) (lacks : Option Entry) (lone : Outcome) (trap : Trap)
+    → IsAt part pool m memory → lacks ≡ None → Traps m.platform.virt lone trap → FollowsTry part root m (concluded m lone) lacks memory (taken part root m memory trap)
+trap_follows part root m memory lacks lone trap at ready (Own cause tval is e good) = rw (is, e) (exception_follows part root m memory lacks cause tval good at ready)
+trap_follows part root m memory lacks lone trap at ready (Call own is e) =
+    let v = m.platform.virt in
+    rw (is, to_host (hosted_csrs root (is_virtual v.mode) v.csrs) (hosted_mode v.mode) (exception (hosted_mode v.mode) ECALL_FROM_VS 0) (virtual_mode v.mode) (kept_10 root (is_virtual v.mode) v.csrs), e)
+    (record {
+      word = λ h. absurd (omega (arith, h));
+      decided = λ h. absurd (omega (arith, h));
+      faulted = λ h. cc;
+      other = λ h k. rw own refl;
+      ready = λ h. ready;
+    })
+trap_follows part root m memory lacks lone trap at ready (Nested on is e) =
+    let v = m.platform.virt in
+    rw (e, is, to_host (hosted_csrs root (is_virtual v.mode) v.csrs) (hosted_mode v.mode) (exception (hosted_mode v.mode) ECALL_FROM_VS 0) (virtual_mode v.mode) (kept_10 root (is_virtual v.mode) v.csrs))
+    (raised m lacks (exception (hosted_mode v.mode) ECALL_FROM_VS 0) ready on (λ h. absurd (omega (arith, h))) refl)
+trap_follows part root m memory lacks lone trap at ready (Left tval is small p e f) =
+    let v = m.platform.virt in
+    rw (is, to_host (hosted_csrs root (is_virtual v.mode) v.csrs) (hosted_mode v.mode) (exception (hosted_mode v.mode) VIRTUAL_INSTRUCTION tval) (virtual_mode v.mode) (kept_22 root (is_virtual v.mode) v.csrs))
+    (record {
+      word = λ h. small;
+      decided = λ h. rw e (ap (concluded m) f);
+      faulted = λ h. cc;
+      other = λ h k. absurd (h refl);
+      ready = λ h. ready;
+    })

@@ -1,0 +1,48 @@
+-- What one advance of a guest is to its lone machine: what the hart makes in an entry, and what the host makes after it.
+use Rattle.std.proofs.Common.{◌≡◌, ◌≢◌, ℕ, ◌-◌, ◌<◌, ◌≤◌, List, ◌++◌, refl}
+use Rattle.machine_defs.specs.declared.guests.Status.TheVariants.{Running}
+use Rattle.machine_defs.specs.Machine.{informed}
+use Rattle.machine_defs.specs.Runs.{events, run}
+use Rattle.enough_tries.specs.Budgets.{NeedNoFill}
+use Rattle.guest_exit.specs.declared.guests.Guest.{Guest}
+use Rattle.guest_exit.specs.declared.handling.Handled.{Handled}
+use Rattle.guest_exit.specs.declared.handling.Handled.TheVariants as handled
+use Rattle.guest_exit.specs.Entering.{Fills, MakesStep}
+use Rattle.guest_exit.specs.View.{machine_of, seen}
+use Rattle.guest_turns.specs.Hosting.{IsHosted, used_by}
+use Rattle.guest_turns.proofs.Current.{after_fill, after_step}
+use Rattle.guest_turns.proofs.Turns.{Made, events_of, exit_made, run_made, step_made}
+
+-- an interrupt that the host takes
+pub interrupt_part : (guest new : Guest) (memory : List ℕ) (left : ℕ) → IsHosted guest memory → guest.status ≡ Running → 0 < left
+    → MakesStep (machine_of guest memory) (machine_of new memory)
+    → Made (machine_of guest memory) left (machine_of new memory) (left - 1) (events_of handled.Stepped (machine_of guest memory))
+interrupt_part guest new memory left hosted running some step =
+    step_made (machine_of guest memory) (machine_of new memory) left hosted.placed.orderly.entries some running step
+
+-- an entry of the hart that the host makes nothing after
+pub entered_part : (guest same new : Guest) (memory changed : List ℕ) (left taken : ℕ) → IsHosted guest memory → same ≡ guest → 0 < taken → taken ≤ left
+    → NeedNoFill taken (machine_of same memory) → machine_of new changed ≡ run (machine_of same memory) taken
+    → Made (machine_of guest memory) left (machine_of new changed) (left - taken) (events (machine_of guest memory) taken)
+entered_part guest same new memory changed left taken hosted is some few need ran =
+    run_made (machine_of guest memory) (machine_of new changed) taken left hosted.placed.orderly.entries some few (rw is at need) (rw is at ran)
+
+-- and one after which it makes the next step, or a fill
+pub handed_part : (guest same between new : Guest) (memory changed last : List ℕ) (left taken : ℕ) (result : Handled) → IsHosted guest memory → same ≡ guest
+    → taken < left → NeedNoFill taken (machine_of same memory) → machine_of between changed ≡ run (machine_of same memory) taken → between.status ≡ Running
+    → (result ≢ handled.Retry → MakesStep (machine_of between changed) (machine_of new last))
+    → (result ≡ handled.Retry → Fills (machine_of between changed) (machine_of new last))
+    → Made (machine_of guest memory) left (machine_of new last) (left - taken - used_by result)
+    (events (machine_of guest memory) taken ++ events_of result (machine_of between changed))
+handed_part guest same between new memory changed last left taken result hosted is some need ran running steps fills =
+    exit_made (machine_of guest memory) (machine_of between changed) (machine_of new last) taken left result hosted.placed.orderly.entries some
+    (rw is at need) (rw is at ran) running steps fills
+
+-- what the clock sets is as the clock sets it
+pub handed_current : (between new : Guest) (changed last : List ℕ) (result : Handled) → informed (seen between) ≡ seen between
+    → (result ≢ handled.Retry → MakesStep (machine_of between changed) (machine_of new last))
+    → (result ≡ handled.Retry → Fills (machine_of between changed) (machine_of new last)) → informed (seen new) ≡ seen new
+handed_current between new changed last handled.Stepped e steps fills = after_step (machine_of between changed) (machine_of new last) e (steps (λ e. cc))
+handed_current between new changed last handled.Retry e steps fills = after_fill (machine_of between changed) (machine_of new last) e (fills refl)
+handed_current between new changed last handled.Waits e steps fills = after_step (machine_of between changed) (machine_of new last) e (steps (λ e. cc))
+handed_current between new changed last handled.Stopped e steps fills = after_step (machine_of between changed) (machine_of new last) e (steps (λ e. cc))
