@@ -11,7 +11,7 @@ use Rattle.nesthv_top.specs.declared.ends.Ended.TheVariants.{Done, NoCommand, Re
 use Rattle.nesthv_top.specs.Commands.{Command}
 use Rattle.nesthv_top.specs.Lines.{usage_line, configuration_line, read_line, write_line, memory_line}
 use Rattle.run_config.specs.declared.faults.ConfigFault.{ConfigFault}
-use Rattle.nesthv_top.specs.Plans.{Plan, fault_of, plan_of, report_of, steps_of, events_of}
+use Rattle.nesthv_top.specs.Plans.{Plan, fault_of, plan_of, report_of, entries_of, steps_of, events_of}
 use Rattle.nesthv_top.specs.Reads.{asks_of, AskedMore, BeginsWithConfig, IsFailedRead, IsWanting}
 use Rattle.nesthv_top.specs.Written.{IsTold}
 
@@ -84,16 +84,21 @@ pub record SaysOfOut {O : Type 0} (stands_for : O → List ℕ → Type 0) (faul
   pub count : faults old ≤ faults new
   pub stays : made_with new ≡ made_with old
 
+-- a fact for an end after the whole command
+abbrev pub IfDone : Ended → Type 0 → Type 0
+IfDone Done P = P
+IfDone other P = ⊤
+
 -- a run to its end made each plain step of the lone machines, and their trace
 abbrev pub IsCounted : Option Plan → Ended → Counts → Counts → Type 0
 IsCounted plan Done old new = IfSome plan (λ p. old.taken + plain_count (events_of p) ≤ new.taken)
     × IfSome plan (λ p. IsRaisedBy (trace_of (events_of p)) old.trace new.trace)
 IsCounted plan other old new = ⊤
 
--- entries and steps of the hart grew by at most n
-pub record GrewBy (n : ℕ) (old new : Counts) : Type 0 where
-  pub entries : new.entries ≤ old.entries + n
-  pub taken : new.taken ≤ old.taken + n
+-- entries and steps of the hart grew by at most so many
+pub record GrewBy (entries steps : ℕ) (old new : Counts) : Type 0 where
+  pub entries_most : new.entries ≤ old.entries + entries
+  pub taken_most : new.taken ≤ old.taken + steps
 
 -- what an end says of the account of the hart, where the store tells these files
 pub record SaysOfAccount (files : Option Files) (command : Option Command) (ended : Ended)
@@ -102,8 +107,9 @@ pub record SaysOfAccount (files : Option Files) (command : Option Command) (ende
   pub idle : IsIdle ended old new
   pub entries : old.entries ≤ new.entries
   pub taken : old.taken ≤ new.taken
-  pub bound : GrewBy (2 ^ 52) old new
-  pub most : (f : Files) → files ≡ Some f → GrewBy (steps_of (plan_of f command)) old new
+  pub bound : GrewBy (2 ^ 61) (2 ^ 52) old new
+  pub most : (f : Files) → files ≡ Some f
+      → GrewBy (entries_of (plan_of f command)) (steps_of (plan_of f command)) old new
 
 -- the line on `err` that tells of an end
 abbrev pub IsLineOf : {E : Type 0} → (E → List ℕ → Type 0) → (E → ℕ) → Ended → E → E → Type 0

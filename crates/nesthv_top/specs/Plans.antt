@@ -1,11 +1,13 @@
 -- What a command does with the files: the guests that it runs, their turns, and the report.
-use Rattle.std.specs.Prelude.{ℕ, ◌+◌, ◌*◌, List, [], ◌∷◌, ◌++◌, Option, Some, None, Result, Ok, Err, Bool, length, map, nat_le, sum_by, unwrap_or}
+use Rattle.std.specs.Prelude.{ℕ, ◌≡◌, ◌+◌, ◌*◌, ◌<◌, ◌≤◌, List, get_or, [], ◌∷◌, ◌++◌, Option, Some, None, Result, Ok, Err, Bool, length, map, nat_le, sum_by, unwrap_or}
 use Rattle.arch_defs.specs.Memory.{block_size}
 use Rattle.guest_turns.specs.Limits.{frames_for}
 use Rattle.machine_defs.specs.declared.events.Event.{Event}
 use Rattle.machine_defs.specs.declared.guests.GuestSpec.{GuestSpec}
+use Rattle.machine_defs.specs.Fills.{lacking, ready}
 use Rattle.machine_defs.specs.Machine.{start}
 use Rattle.machine_defs.specs.Report.{section}
+use Rattle.machine_defs.specs.Runs.{run}
 use Rattle.outside.specs.Files.{Files, read_of}
 use Rattle.run_config.specs.declared.faults.ConfigFault.{ConfigFault}
 use Rattle.run_config.specs.declared.faults.ConfigFault.TheVariants as fault
@@ -13,7 +15,7 @@ use Rattle.run_config.specs.declared.guests.GuestSettings.{GuestSettings}
 use Rattle.run_config.specs.Accept.{accept}
 use Rattle.run_config.specs.Configurations.{Configuration}
 use Rattle.run_config.specs.Tests.{first_fault, unless}
-use Rattle.guest_turns.specs.TurnLists.{own_events, own_steps}
+use Rattle.guest_turns.specs.TurnLists.{entries_for, own_events, own_steps}
 use Rattle.nesthv_top.specs.Commands.{Command, Run}
 
 -- the first bytes of a file; one that is not there counts as empty
@@ -133,3 +135,18 @@ turn_steps turns = sum_by (λ turn. turn.1) turns
 abbrev pub steps_of : Option Plan → ℕ
 steps_of (Some plan) = turn_steps plan.turns
 steps_of None = 0
+
+-- at most how many entries of the hart they take: the sum of the turns' bounds
+abbrev pub plan_entries : Plan → ℕ
+plan_entries plan = entries_for (map start plan.guests) plan.turns
+
+abbrev pub entries_of : Option Plan → ℕ
+entries_of (Some plan) = plan_entries plan
+entries_of None = 0
+
+-- however small the spaces of a guest are, and however stale: at each moment of the run of its section, its
+-- machine lacks no cached translation for its next step after as many fills as a space has room for and
+-- eight. So a step is never put off for good
+abbrev pub FillsSufficeIn : Plan → Type 0
+FillsSufficeIn plan = (i n : ℕ) (d : GuestSpec) → i < length plan.guests → n ≤ own_steps i plan.turns
+    → lacking (ready (run (start (get_or plan.guests i d)) n)) ≡ None

@@ -11,6 +11,10 @@ mod running;
 #[cfg(test)]
 mod tests;
 #[cfg(test)]
+mod tests_fences;
+#[cfg(test)]
+mod tests_folded;
+#[cfg(test)]
 mod tests_guest_accesses;
 #[cfg(test)]
 mod tests_guests;
@@ -18,6 +22,8 @@ mod tests_guests;
 mod tests_kernel;
 #[cfg(test)]
 mod tests_nested;
+#[cfg(test)]
+mod tests_rooms;
 #[cfg(test)]
 mod tests_waits;
 mod top;

@@ -1,19 +1,20 @@
 // From a job to its report.
 
-ghost use Rattle.std.specs.Prelude.{◌≡◌, ◌+◌, ◌^◌, ◌≤◌, ℕ, ◌<◌, is_ok, length, IsErrOf, OnErr, OnOk};
+ghost use Rattle.std.specs.Prelude.{◌≡◌, ◌+◌, ◌^◌, ◌≤◌, ◌<◌, is_ok, length, IsErrOf, OnErr, OnOk};
 ghost use Rattle.std.specs.List.{All};
 ghost use Rattle.machine_defs.specs.Runs.{plain_count, trace_of};
 ghost use Rattle.outside.specs.Faults.{Rose};
 ghost use Rattle.outside.specs.Pieces.{Puts};
-ghost use Rattle.guest_turns.specs.TurnLists.{turn_events, with_turns};
+ghost use Rattle.guest_turns.specs.TurnLists.{entries_for, turn_events, with_turns};
 ghost use Rattle.rv64_hart.specs.Counts.{IsRaisedBy};
 ghost use Rattle.run_config.specs.Configurations.{IsGuestWithin, IsTurnWithin};
-ghost use Rattle.nesthv_top.specs.Plans.{report_of, events_of, steps_of, turn_steps};
+ghost use Rattle.nesthv_top.specs.Plans.{FillsSufficeIn, events_of, plan_entries, report_of, turn_steps};
 ghost use Rattle.nesthv_top.specs.Runnings.{sections_of};
 ghost use Rattle.nesthv_top.specs.Seen.{names_in, plan_seen, IsJob};
 ghost use Rattle.nesthv_top.specs.Written.{IsWritten};
 
 use crate::ends::{Job, RunEnd};
+use enough_tries::fills_suffice;
 use guest_turns::Host;
 use outside::{Sink, SinkFault};
 use report::{GuestLine, section};
@@ -34,19 +35,22 @@ pub fn run<O: Sink>(alloc: Global, job: Job, out: &mut O, tally: &mut Tally) -> 
 
     ensures idle { IsErrOf result RunEnd.NoMemory → tally.new ≡ tally.old }
     ensures entries_grow { tally.old.entries ≤ tally.new.entries }
-    ensures entries_most { tally.new.entries ≤ tally.old.entries + turn_steps (plan_seen job).turns }
+    ensures entries_most { tally.new.entries ≤ tally.old.entries + plan_entries (plan_seen job) }
     ensures taken_grow { tally.old.taken ≤ tally.new.taken }
     ensures taken_most { tally.new.taken ≤ tally.old.taken + turn_steps (plan_seen job).turns }
     ensures taken_least { OnOk result
         (tally.old.taken + plain_count (events_of (plan_seen job)) ≤ tally.new.taken) }
     ensures trace { OnOk result
         (IsRaisedBy (trace_of (events_of (plan_seen job))) tally.old.trace tally.new.trace) }
+    ensures fills { FillsSufficeIn (plan_seen job) }
 {
+    fills_suffice();
     let Job { config, guests } = job;
     let mut host = match Host::boot(alloc, guests) {
         Ok(host) => host,
         Err(_) => return Err(RunEnd::NoMemory),
     };
+    host.rooms_are_small();
     run_turns(&mut host, config.turns().as_slice(), tally);
     match put_sections(&host, config.guests(), out) {
         Ok(()) => Ok(()),
@@ -57,6 +61,7 @@ pub fn run<O: Sink>(alloc: Global, job: Job, out: &mut O, tally: &mut Tally) -> 
 // Makes the turns, in order.
 fn run_turns(host: &mut Host, turns: &[(u32, u64)], tally: &mut Tally)
     requires fresh { All (λ m. m.platform.steps ≡ 0) host.old.machines }
+    requires rooms { All (λ m. m.entry_room ≤ 256) host.old.machines }
     requires few { length turns.now ≤ 2 ^ 20 }
     requires short { All (IsTurnWithin (length host.old.machines)) turns.now }
     requires entries { tally.old.entries ≤ 2 ^ 61 }
@@ -64,7 +69,7 @@ fn run_turns(host: &mut Host, turns: &[(u32, u64)], tally: &mut Tally)
 
     ensures machines { host.new.machines ≡ with_turns turns.now host.old.machines }
     ensures entries_grow { tally.old.entries ≤ tally.new.entries }
-    ensures entries_most { tally.new.entries ≤ tally.old.entries + turn_steps turns.now }
+    ensures entries_most { tally.new.entries ≤ tally.old.entries + entries_for host.old.machines turns.now }
     ensures taken_most { tally.new.taken ≤ tally.old.taken + turn_steps turns.now }
     ensures taken_least { tally.old.taken + plain_count (turn_events turns.now host.old.machines)
         ≤ tally.new.taken }

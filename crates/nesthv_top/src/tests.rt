@@ -109,13 +109,13 @@ pub const RUN: [&str; 3] = ["nesthv", "run", "k"];
 
 /// Which read, put on `out` and put on `err` fails, and takes nothing; 0 where none does.
 #[derive(Clone, Copy)]
-struct Failing {
+pub struct Failing {
     read: u64,
     put: u64,
     err: u64,
 }
 
-const NONE: Failing = Failing {
+pub const NONE: Failing = Failing {
     read: 0,
     put: 0,
     err: 0,
@@ -123,7 +123,7 @@ const NONE: Failing = Failing {
 
 /// What a call answered and left.
 #[derive(Drop)]
-struct Left {
+pub struct Left {
     status: u8,
     store: MapStore,
     out: ListSink,
@@ -132,8 +132,16 @@ struct Left {
 }
 
 impl Left {
-    fn is(&self, status: u8, out: &[u8], err: &[u8]) -> bool {
+    pub fn is(&self, status: u8, out: &[u8], err: &[u8]) -> bool {
         self.status == status && self.out.bytes() == out && self.err.bytes() == err
+    }
+
+    pub fn trace(&self) -> u64 {
+        self.tally.trace()
+    }
+
+    pub fn taken(&self) -> u64 {
+        self.tally.taken()
     }
 
     /// Whether nothing was read and no step made.
@@ -207,7 +215,7 @@ fn store_of(alloc: Global, config: &str, image: &[u8]) -> Result<MapStore, Alloc
 }
 
 /// Calls `nesthv` with these words on a store with this configuration and image.
-fn outcome(
+pub fn outcome(
     alloc: Global,
     texts: &[&str],
     config: &str,
@@ -303,13 +311,23 @@ pub fn is_reported(alloc: Global, case: Case<'_>, report: &str) -> Result<bool, 
 const IMAGES: [(&[u32], usize, &str); 7] = [
     // jal zero, 0
     (&[0x0000_006F], 0, "guest a running steps 10000 bytes 0\n\n"),
-    // hfence.gvma zero, zero
-    (&[0x6200_0073], 0, "guest a outside steps 0 bytes 0\n\n"),
-    // hfence.vvma zero, zero; csrrs a0, hstatus, zero; csrrw zero, vsstatus, a0; hfence.gvma zero, zero
+    // hfence.gvma zero, zero; wfi
     (
-        &[0x2200_0073, 0x6000_2573, 0x2005_1073, 0x6200_0073],
+        &[0x6200_0073, 0x1050_0073],
         0,
-        "guest a outside steps 3 bytes 0\n\n",
+        "guest a waiting steps 1 bytes 0\n\n",
+    ),
+    // hfence.vvma zero, zero; csrrs a0, hstatus, zero; csrrw zero, vsstatus, a0; hfence.gvma zero, zero; wfi
+    (
+        &[
+            0x2200_0073,
+            0x6000_2573,
+            0x2005_1073,
+            0x6200_0073,
+            0x1050_0073,
+        ],
+        0,
+        "guest a waiting steps 4 bytes 0\n\n",
     ),
     (&PUTS_A, BLOCK, "guest a stopped steps 5 bytes 1\nA\n"),
     (

@@ -10,7 +10,7 @@ ghost use Rattle.run_config.specs.declared.faults.ConfigFault.{ConfigFault};
 ghost use Rattle.nesthv_top.specs.Commands.{command_of};
 ghost use Rattle.nesthv_top.specs.Endings.{SaysOfReads, SaysOfOut, SaysOfErr};
 ghost use Rattle.nesthv_top.specs.Lines.{usage_line, configuration_line, read_line, write_line, memory_line};
-ghost use Rattle.nesthv_top.specs.Plans.{fault_of, plan_of, report_of, steps_of, events_of};
+ghost use Rattle.nesthv_top.specs.Plans.{FillsSufficeIn, entries_of, fault_of, plan_of, report_of, steps_of, events_of};
 ghost use Rattle.nesthv_top.specs.Reads.{asks_of, AskedMore, BeginsWithConfig, IsFailedRead, IsWanting};
 ghost use Rattle.nesthv_top.specs.Statuses.{status_of, IsStatusOf};
 ghost use Rattle.nesthv_top.specs.Written.{IsTold};
@@ -94,16 +94,20 @@ pub fn nesthv<S: Store, O: Sink, E: Sink>(
     ensures first_or_none { result ≡ 5 → AskedMore [] (S.asked store.old) (S.asked store.new)
         ⊎ BeginsWithConfig (command_of words.now) (S.asked store.old) (S.asked store.new) }
 
+    // No step of a reported machine is put off for good, however small its spaces of cached translations are.
+    ensures fills { (files : Files) → S.files store.old ≡ Some files → result ≡ 0
+        → IfSome (plan_of files (command_of words.now)) FillsSufficeIn }
+
     // The account of the hart: it makes each plain step of the lone machines, and no more steps than are asked
-    // for; where nothing was run it stays.
+    // for, in at most as many entries as the tries of these steps may be; where nothing was run it stays.
     ensures idle { result ≢ 0 → result ≢ 4 → tally.new ≡ tally.old }
     ensures entries_grow { tally.old.entries ≤ tally.new.entries }
     ensures taken_grow { tally.old.taken ≤ tally.new.taken }
     ensures entries_most { (files : Files) → S.files store.old ≡ Some files
-        → tally.new.entries ≤ tally.old.entries + steps_of (plan_of files (command_of words.now)) }
+        → tally.new.entries ≤ tally.old.entries + entries_of (plan_of files (command_of words.now)) }
     ensures taken_most { (files : Files) → S.files store.old ≡ Some files
         → tally.new.taken ≤ tally.old.taken + steps_of (plan_of files (command_of words.now)) }
-    ensures entries_bound { tally.new.entries ≤ tally.old.entries + 2 ^ 52 }
+    ensures entries_bound { tally.new.entries ≤ tally.old.entries + 2 ^ 61 }
     ensures taken_bound { tally.new.taken ≤ tally.old.taken + 2 ^ 52 }
     ensures taken_least { (files : Files) → S.files store.old ≡ Some files → result ≡ 0
         → IfSome (plan_of files (command_of words.now))

@@ -1,5 +1,5 @@
 use Rattle.std.proofs.Common.{◌<◌, length, get_or, refl, arith}
-use Rattle.nesthv_top.proofs.Turning.{bounded, left_next, taken_in_all, traced_in_all}
+use Rattle.nesthv_top.proofs.Turning.{bounded, entries_left, left_next, taken_in_all, traced_in_all}
 use Rattle.nesthv_top.proofs.running.run_turns.Goals as goal
 
 pub turn-requires-clause-steps : goal.turn-requires-clause-steps
@@ -12,8 +12,8 @@ turn-requires-clause-steps c =
 
 pub turn-requires-clause-entries : goal.turn-requires-clause-entries
 turn-requires-clause-entries c =
-    let b = bounded _ c.args.turns.now _ _ c.loop-guest.guest-index (0, 0) _ _ c.requires.few c.requires.short c.loop-guest-test.true c.loop-guest.invariant in
-    omega (arith, b.0, b.1, c.loop-guest.invariant.entries_most, c.requires.entries)
+    entries_left _ c.args.turns.now _ _ c.loop-guest.guest-index (0, 0) _ _ c.requires.few c.requires.short c.requires.rooms c.loop-guest-test.true c.loop-guest.invariant
+    c.requires.entries
 
 pub turn-requires-clause-taken : goal.turn-requires-clause-taken
 turn-requires-clause-taken c =
@@ -28,6 +28,7 @@ loop-guest-preserved c =
       made = c.turn.ensures.made;
       most = c.turn.ensures.most;
       entries_grow = c.turn.ensures.entries_grow;
+      room = c.turn.ensures.room;
       entries_most = c.turn.ensures.entries_most;
       taken_least = c.turn.ensures.taken_least;
       taken_most = c.turn.ensures.taken_most;
