@@ -63,7 +63,8 @@ abbrev pub StopsAreFaults : Type 0
 StopsAreFaults = (m : Machine) (unplaced : Unplaced) → IsOrderly m → folds m.platform.virt ≡ true
     → due m.platform.virt.csrs m.platform.virt.mode ≡ None → lacking m ≡ None
     → core (second_of m) (reading_of ram_base m.ram) m.platform.virt ≡ Stuck unplaced
-    → second_now m.platform.virt.csrs m.platform.virt.mode ram_base m.ram unplaced.address unplaced.kind ≡ None
+    → second_now m.platform.virt.csrs m.platform.virt.mode ram_base m.ram unplaced.address unplaced.kind
+    ≡ None
 
 -- so many fills suffice, as many as a space has room for and eight: the next try lacks nothing
 abbrev pub FillsSuffice : Type 0

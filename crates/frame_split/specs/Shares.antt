@@ -87,7 +87,8 @@ tables_of_all [] = 0
 tables_of_all (need ∷ needs) = 1 + need.spaces * (2 * need.entries) + tables_of_all needs
 
 -- the parts of the needs so far, from one place to another, and what is still to be shared out up to the ends
-pub record SoFar (needs : List Need) (done : ℕ) (parts : List Layout) (start free : Free) (frames : ℕ) : Type 0 where
+pub record SoFar (needs : List Need) (done : ℕ) (parts : List Layout) (start free : Free) (frames : ℕ)
+    : Type 0 where
   pub count : length parts ≡ done
   pub meet : (i : ℕ) (n : Need) (d : Layout) → i < done → Meets (get_or needs i n) (get_or parts i d)
   pub apart : ArePairwiseApart parts

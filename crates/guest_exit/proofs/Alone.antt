@@ -5,27 +5,28 @@ use Rattle.arch_defs.specs.declared.cached.Entry.{Entry}
 use Rattle.arch_defs.specs.declared.cached.Fence.{Fence}
 use Rattle.arch_defs.specs.declared.modes.Trap.{Trap}
 use Rattle.arch_defs.specs.declared.registers.Virtual.{Virtual}
-use Rattle.arch_defs.specs.Frames.{Only}
+use Rattle.arch_defs.specs.Frames.{Only, in_blocks}
 use Rattle.arch_defs.specs.Inputs.{next_input}
 use Rattle.arch_defs.specs.Ram.{ram_of}
 use Rattle.arch_defs.specs.Spaces.{Space, entered, fenced}
 use Rattle.arch_defs.specs.Waits.{wake_moment}
 use Rattle.arch_defs.specs.WalkedEntries.{folds}
+use Rattle.arch_defs.proofs.FrameSets.{left_within, only_more, only_none}
 use Rattle.machine_defs.specs.declared.events.Event.TheVariants.{System}
 use Rattle.machine_defs.specs.Fills.{lacking}
 use Rattle.machine_defs.specs.Machine.{Machine, Platform, Tried, has_enabled_interrupt, stepped_to, ticked, trapped, waited, waited_until}
 use Rattle.machine_defs.specs.Outcomes.{Fenced}
 use Rattle.machine_defs.specs.Runs.{left_by}
 use Rattle.machine_defs.specs.Tries.{concluded, enters, made, try}
-use Rattle.shadow_pool.specs.Slots.{TidyPool, pool_frames, room_of, spaces_of}
+use Rattle.shadow_pool.specs.Slots.{pool_frames, room_of, spaces_of}
 use Rattle.guest_exit.specs.declared.guests.Guest.{Guest}
 use Rattle.guest_exit.specs.declared.handling.Handled.{Handled}
 use Rattle.guest_exit.specs.declared.handling.Handled.TheVariants as handled
-use Rattle.guest_exit.specs.Entering.{Fills, IsMiss, IsNotPlain, MakesStep}
+use Rattle.guest_exit.specs.Entering.{Fills, IsMiss, IsNotPlain, MakesStep, StaysWithin}
 use Rattle.guest_exit.specs.Following.{IsFault, other_step}
 use Rattle.guest_exit.specs.View.{IsPlaced, KeepsSpaces, StaysFixed, changed_by, machine_of, seen}
 use Rattle.guest_exit.proofs.Placed.{placed_by_fill, placed_by_step}
-use Rattle.guest_exit.proofs.Pools.{ram_by_pool}
+use Rattle.guest_exit.proofs.Pools.{ram_by_pool, tidy_by_blocks}
 
 -- the machine of a guest, by what has changed
 pub machine_as : (old new : Guest) (memory changed ram : List ℕ) (p : Platform) (spaces : List Space) → new.part ≡ old.part → seen new ≡ p
@@ -42,6 +43,20 @@ machine_is old new p memory fixed e =
 -- what leaves the spaces leaves all that no step changes
 pub stays_by : (old new : Guest) → KeepsSpaces old new → StaysFixed old new
 stays_by old new keeps = record { part = keeps.part; pool = rw keeps.pool refl; entry_room = rw keeps.pool refl; space_room = rw keeps.pool refl }
+
+pub nothing_changed : (old new : Guest) (memory : List ℕ) → IsPlaced old memory → KeepsSpaces old new → StaysWithin old memory new memory
+nothing_changed old new memory at keeps = record { only = only_none _ memory; tidy = rw keeps.pool at.tidy; fixed = stays_by old new keeps }
+
+pub only_of_blocks : (guest : Guest) (memory changed : List ℕ) → Only (in_blocks guest.part.blocks) memory changed → Only (changed_by guest) memory changed
+only_of_blocks guest memory changed only =
+    only_more (in_blocks guest.part.blocks) (changed_by guest) memory changed (left_within (in_blocks guest.part.blocks) (pool_frames guest.pool)) only
+
+pub blocks_changed : (old new : Guest) (memory changed : List ℕ) → IsPlaced old memory → KeepsSpaces old new → Only (in_blocks old.part.blocks) memory changed → StaysWithin old memory new changed
+blocks_changed old new memory changed at keeps only = record {
+  only = only_of_blocks old memory changed only;
+  tidy = rw keeps.pool (tidy_by_blocks old.part old.pool memory changed at.once at.own at.tidy only);
+  fixed = stays_by old new keeps;
+}
 
 -- an instruction that leaves this state, where it enters no space, and where it enters one
 pub made_stays : (old new : Guest) (memory : List ℕ) (virt : Virtual) → enters old.virt virt ≡ false → KeepsSpaces old new → seen new ≡ ticked (record (seen old) { virt = virt })
@@ -73,12 +88,12 @@ retries_exactly m after handled.Waits step fill = (λ e. absurd (cc), λ miss. a
 retries_exactly m after handled.Stopped step fill = (λ e. absurd (cc), λ miss. absurd (never_both m miss (step (λ e. absurd (cc))).ready))
 
 -- and memory holds the guest's part after either
-pub placed_by : (old new : Guest) (memory changed : List ℕ) (result : Handled) → IsPlaced old memory → StaysFixed old new → Only (changed_by old) memory changed → TidyPool new.pool changed
+pub placed_by : (old new : Guest) (memory changed : List ℕ) (result : Handled) → IsPlaced old memory → StaysWithin old memory new changed
     → (result ≢ handled.Retry → MakesStep (machine_of old memory) (machine_of new changed)) → (result ≡ handled.Retry → Fills (machine_of old memory) (machine_of new changed)) → IsPlaced new changed
-placed_by old new memory changed handled.Retry at fixed only tidy step fill = placed_by_fill old new memory changed at fixed only tidy (fill refl)
-placed_by old new memory changed handled.Stepped at fixed only tidy step fill = placed_by_step old new memory changed at fixed only tidy (step (λ e. absurd (cc)))
-placed_by old new memory changed handled.Waits at fixed only tidy step fill = placed_by_step old new memory changed at fixed only tidy (step (λ e. absurd (cc)))
-placed_by old new memory changed handled.Stopped at fixed only tidy step fill = placed_by_step old new memory changed at fixed only tidy (step (λ e. absurd (cc)))
+placed_by old new memory changed handled.Retry at within step fill = placed_by_fill old new memory changed at within.fixed within.only within.tidy (fill refl)
+placed_by old new memory changed handled.Stepped at within step fill = placed_by_step old new memory changed at within.fixed within.only within.tidy (step (λ e. absurd (cc)))
+placed_by old new memory changed handled.Waits at within step fill = placed_by_step old new memory changed at within.fixed within.only within.tidy (step (λ e. absurd (cc)))
+placed_by old new memory changed handled.Stopped at within step fill = placed_by_step old new memory changed at within.fixed within.only within.tidy (step (λ e. absurd (cc)))
 
 -- none of these is plain
 pub other_is_quiet : (m : Machine) (trap : Trap) (virtual : Bool) → IsNotPlain (other_step m trap virtual)

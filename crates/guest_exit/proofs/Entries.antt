@@ -37,7 +37,7 @@ use Rattle.rv64_hart.specs.declared.harts.Why.{Why}
 use Rattle.rv64_hart.specs.declared.harts.Why.TheVariants.{Limit, Exit, VsTrap}
 use Rattle.rv64_hart.specs.Counts.{IsRaisedBy}
 use Rattle.rv64_hart.specs.Steps.{HartEnd, Goes, Exits, Progress, progress, progressed, enters_vs, hart_step, hart_steps, one_more, is_vs_trap, IsWhy}
-use Rattle.host_tables.proofs.Held.{held_stays}
+use Rattle.host_tables.proofs.Held.{held_by_blocks}
 use Rattle.shadow_pool.specs.Slots.{Pooled}
 use Rattle.world_switch.specs.Hosting.{fixed_up, hosted, hosted_csrs, loaded, saved, saved_csrs, saved_mode, table_from, taken_back}
 use Rattle.world_switch.specs.Laws.{KeepsHidden}
@@ -289,7 +289,7 @@ at_next : (part : Layout) (pool : Pooled) (m : Machine) (memory changed : List �
     → ReservesHeld (in_ram part.blocks) own.reservation → run m n ≡ placed m (saved own m.platform.virt) (ram_of part.blocks changed) n
     → IsAt part pool (placed m (saved own m.platform.virt) (ram_of part.blocks changed) n) changed
 at_next part pool m memory changed n own at only reserved there =
-    let held = held_stays part memory changed at.once at.held only in
+    let held = held_by_blocks part memory changed at.once at.held only in
     let before : length m.ram ≡ length part.blocks * block_size = rw at.ram (size_of part memory at.held) in
     record {
       once = at.once;

@@ -16,7 +16,7 @@ use Rattle.arch_defs.specs.Memory.{block_size, ram_base, zeros}
 use Rattle.arch_defs.specs.Ram.{ram_of}
 use Rattle.arch_defs.proofs.FrameSets.{apart_sym, kept, left_within, only_more}
 use Rattle.host_tables.specs.Walks.{IsHeld}
-use Rattle.host_tables.proofs.Held.{held_stays}
+use Rattle.host_tables.proofs.Held.{held_by_blocks}
 use Rattle.machine_defs.specs.HostPlaces.{in_ram}
 use Rattle.machine_defs.specs.Machine.{Machine}
 use Rattle.machine_defs.specs.Renaming.{ReservesHeld}
@@ -159,7 +159,7 @@ placed_built guest memory size once held new only reserved flat =
 pub placed_by_blocks : (guest : Guest) (memory changed : List ℕ) → IsPlaced guest memory → Only (in_blocks guest.part.blocks) memory changed → IsPlaced guest changed
 placed_by_blocks guest memory changed at only =
     let part = guest.part in
-    let held = held_stays part memory changed at.once at.held only in
+    let held = held_by_blocks part memory changed at.once at.held only in
     let same : length (ram_of part.blocks memory) ≡ length (ram_of part.blocks changed) = size_of part memory at.held ∙ sym (size_of part changed held) in
     record {
       once = at.once;

@@ -1,8 +1,9 @@
 -- What one entry of the hart, and what the host makes in its place, is to the guest's lone machine.
-use Rattle.std.specs.Prelude.{ℕ, ◌≡◌, ◌+◌, ◌<◌, nat_le, Bool, false, List, Some, None}
+use Rattle.std.specs.Prelude.{ℕ, ◌≡◌, ◌+◌, ◌^◌, ◌<◌, ◌≤◌, nat_le, Bool, false, List, Some, None}
 use Rattle.arch_defs.specs.declared.cached.Entry.{Entry}
 use Rattle.arch_defs.specs.declared.modes.Trap.{Trap}
 use Rattle.arch_defs.specs.declared.registers.Virtual.{Virtual}
+use Rattle.arch_defs.specs.Frames.{Only}
 use Rattle.arch_defs.specs.Inputs.{has_input}
 use Rattle.arch_defs.specs.Layouts.{Layout}
 use Rattle.machine_defs.specs.declared.guests.Status.{Status}
@@ -15,15 +16,16 @@ use Rattle.machine_defs.specs.Runs.{event_in, left_after, left_by, plain_count, 
 use Rattle.machine_defs.specs.Tries.{try}
 use Rattle.rv64_hart.specs.declared.harts.Why.{Why}
 use Rattle.rv64_hart.specs.declared.harts.Why.TheVariants.{Limit, Exit, VsTrap}
+use Rattle.rv64_hart.specs.Counts.{Counts, IsRaisedBy}
 use Rattle.rv64_hart.specs.Steps.{Exits, hart_step}
-use Rattle.shadow_pool.specs.Slots.{Pooled}
+use Rattle.shadow_pool.specs.Slots.{Pooled, TidyPool}
 use Rattle.world_switch.specs.Hosting.{loaded, taken_back}
 use Rattle.world_switch.specs.Laws.{waits_for_hs}
 use Rattle.guest_exit.specs.declared.guests.Guest.{Guest}
 use Rattle.guest_exit.specs.declared.handling.Handled.{Handled}
 use Rattle.guest_exit.specs.declared.handling.Handled.TheVariants as handled
 use Rattle.guest_exit.specs.Following.{host_takes, root_for}
-use Rattle.guest_exit.specs.View.{machine_of}
+use Rattle.guest_exit.specs.View.{StaysFixed, changed_by, machine_of, seen}
 
 -- whether something has come is the same at each step of so many as it is now
 abbrev pub Stays : (ℕ → Bool) → ℕ → ℕ → Type 0
@@ -63,6 +65,20 @@ IsStopped part pool m memory limit taken Limit = taken ≡ limit
 IsStopped part pool m memory limit taken VsTrap = 0 < taken
 IsStopped part pool m memory limit taken (Exit trap) = (taken < limit) × Hands part pool m memory trap
 
+-- the hart's account of one entry: so many steps, of so much pc and word
+pub record IsAccounted (steps sum : ℕ) (before after : Counts) : Type 0 where
+  pub entries : after.entries ≡ before.entries + 1
+  pub taken : after.taken ≡ before.taken + steps
+  pub trace : IsRaisedBy sum before.trace after.trace
+
+-- a guest goes on after so many steps of the hart, and the registers that the clock sets are as the clock has
+-- them
+pub record GoesOn (taken : ℕ) (before after : Guest) : Type 0 where
+  pub status : after.status ≡ status.Running
+  pub steps : after.steps ≡ before.steps + taken
+  pub clock : after.clock.time ≡ before.clock.time + taken
+  pub current : informed (seen after) ≡ seen after
+
 -- a try that is no plain step
 pub record IsNotPlain (tried : Tried) : Type 0 where
   pub trace : trace_of (event_in tried) ≡ 0
@@ -92,6 +108,12 @@ Makes before after tried =
     (memory : List ℕ)
     → machine_of after memory ≡ left_by (machine_of before memory) (tried (machine_of before memory))
 
+-- a guest goes on, and its clock and its count of steps have room for one step more
+pub record CanStep (guest : Guest) : Type 0 where
+  pub running : guest.status ≡ status.Running
+  pub clock : guest.clock.time ≤ 2 ^ 62 + guest.steps
+  pub steps : guest.steps < 2 ^ 61
+
 -- the status after what the host made of a step, and how many steps that was
 abbrev pub status_after : Handled → Status
 status_after handled.Stepped = status.Running
@@ -104,3 +126,15 @@ steps_made handled.Stepped = 1
 steps_made handled.Retry = 0
 steps_made handled.Waits = 0
 steps_made handled.Stopped = 1
+
+-- a guest's status, count of steps and clock are as the host's answer tells
+pub record IsTold (result : Handled) (before after : Guest) : Type 0 where
+  pub status : after.status ≡ status_after result
+  pub made : after.steps ≡ before.steps + steps_made result
+  pub clock : after.clock.time ≤ 2 ^ 62 + after.steps
+
+-- what the host makes changes machine memory in the guest's own frames alone, where its pool is tidy then
+pub record StaysWithin (before : Guest) (memory : List ℕ) (after : Guest) (changed : List ℕ) : Type 0 where
+  pub only : Only (changed_by before) memory changed
+  pub tidy : TidyPool after.pool changed
+  pub fixed : StaysFixed before after

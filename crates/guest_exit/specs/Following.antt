@@ -153,10 +153,8 @@ pub record Keeps (root : GuestRoot) (before hart : Virtual) : Type 0 where
 -- the step of the machine that a step of the hart is
 abbrev pub step_for : Machine → Virtual → Bool → List ℕ → Event → Tried
 step_for m hart trapped memory event =
-    stepped_to (record m {
-      ram =
-          memory;
-    }) (record m.platform { virt = taken_back trapped hart m.platform.virt }) event
+    let platform = record m.platform { virt = taken_back trapped hart m.platform.virt } in
+    stepped_to (record m { ram = memory }) platform event
 
 -- a step that the hart has made in a part of machine memory is the machine's, which lacks nothing: the hart's
 -- state is the one that stands for the machine after it, with its reservation's place in memory

@@ -1,6 +1,6 @@
 // Instructions on which the mode decides, made in the guest's own mode.
 
-ghost use Rattle.std.specs.Prelude.{◌≡◌, ◌≢◌, ◌+◌, ◌^◌, ◌<◌, ◌≤◌, None, length, true};
+ghost use Rattle.std.specs.Prelude.{◌≡◌, ◌≢◌, None, length, true};
 ghost use Rattle.arch_defs.specs.Frames.{LieIn, Only, in_blocks};
 ghost use Rattle.arch_defs.specs.Memory.{ram_base};
 ghost use Rattle.arch_defs.specs.Ram.{ram_of};
@@ -8,16 +8,14 @@ ghost use Rattle.arch_defs.specs.Traps.{is_virtual};
 ghost use Rattle.arch_defs.specs.WalkedEntries.{folds};
 ghost use Rattle.hlv_hsv.specs.Ends.{EndsAs, IfRaised};
 ghost use Rattle.machine_defs.specs.declared.events.Event.TheVariants.{System};
-ghost use Rattle.machine_defs.specs.declared.guests.Status.TheVariants.{Running};
 ghost use Rattle.machine_defs.specs.GuestAccesses.{guest_outcome};
 ghost use Rattle.machine_defs.specs.Machine.{informed};
 ghost use Rattle.machine_defs.specs.Outcomes.{Fenced};
 ghost use Rattle.machine_defs.specs.Privileges.{privileged};
 ghost use Rattle.machine_defs.specs.Runs.{left_by};
 ghost use Rattle.machine_defs.specs.Tries.{accessed_for_guest, concluded, enters, made};
-ghost use Rattle.shadow_pool.specs.Slots.{TidyPool};
-ghost use Rattle.guest_exit.specs.Entering.{IsNotPlain, status_after, steps_made};
-ghost use Rattle.guest_exit.specs.View.{IsPlaced, KeepsSpaces, StaysFixed, changed_by, machine_of, seen};
+ghost use Rattle.guest_exit.specs.Entering.{CanStep, IsNotPlain, IsTold, StaysWithin};
+ghost use Rattle.guest_exit.specs.View.{IsPlaced, KeepsSpaces, machine_of, seen};
 
 use crate::entering::folds;
 use crate::guests::Guest;
@@ -35,22 +33,16 @@ use two_stage_walk::ram_is_whole;
 /// guest of the guest, an HFENCE.GVMA drops cached translations, and an HLV, HLVX or HSV makes its access to
 /// the guest's RAM. Where the mode does not allow it, its exception is taken.
 pub fn emulate(guest: &mut Guest, memory: &mut PhysMem, word: u64, effect: Privileged) -> Handled
-    requires running { guest.old.status ≡ Running }
+    requires can { CanStep guest.old }
     requires current { informed (seen guest.old) ≡ seen guest.old }
-    requires clock { guest.old.clock.time ≤ 2 ^ 62 + guest.old.steps }
-    requires steps { guest.old.steps < 2 ^ 61 }
     requires placed { IsPlaced guest.old memory.old }
     ensures step { machine_of guest.new memory.new ≡ left_by (machine_of guest.old memory.old)
         (concluded (machine_of guest.old memory.old) (privileged guest.old.virt word effect)) }
     ensures quiet { IsNotPlain
         (concluded (machine_of guest.old memory.old) (privileged guest.old.virt word effect)) }
     ensures went { result ≢ Handled.Retry }
-    ensures only { Only (changed_by guest.old) memory.old memory.new }
-    ensures tidy { TidyPool guest.new.pool memory.new }
-    ensures status { guest.new.status ≡ status_after result }
-    ensures made { guest.new.steps ≡ guest.old.steps + steps_made result }
-    ensures clock { guest.new.clock.time ≤ 2 ^ 62 + guest.new.steps }
-    ensures fixed { StaysFixed guest.old guest.new }
+    ensures within { StaysWithin guest.old memory.old guest.new memory.new }
+    ensures told { IsTold result guest.old guest.new }
 {
     let mut virt = guest.virt;
     match execute(&mut virt, effect) {
@@ -67,19 +59,13 @@ pub fn emulate(guest: &mut Guest, memory: &mut PhysMem, word: u64, effect: Privi
 
 // An instruction leaves this state.
 fn finish(guest: &mut Guest, memory: &mut PhysMem, virt: Virtual) -> Handled
-    requires running { guest.old.status ≡ Running }
-    requires clock { guest.old.clock.time ≤ 2 ^ 62 + guest.old.steps }
-    requires steps { guest.old.steps < 2 ^ 61 }
+    requires can { CanStep guest.old }
     requires placed { IsPlaced guest.old memory.old }
     ensures step { machine_of guest.new memory.new ≡ left_by (machine_of guest.old memory.old)
         (made (machine_of guest.old memory.old) virt None System) }
     ensures went { result ≢ Handled.Retry }
-    ensures only { Only (changed_by guest.old) memory.old memory.new }
-    ensures tidy { TidyPool guest.new.pool memory.new }
-    ensures status { guest.new.status ≡ status_after result }
-    ensures made { guest.new.steps ≡ guest.old.steps + steps_made result }
-    ensures clock { guest.new.clock.time ≤ 2 ^ 62 + guest.new.steps }
-    ensures fixed { StaysFixed guest.old guest.new }
+    ensures within { StaysWithin guest.old memory.old guest.new memory.new }
+    ensures told { IsTold result guest.old guest.new }
 {
     if enters(&guest.virt, &virt) {
         return enter_space(guest, memory, virt);
@@ -98,20 +84,14 @@ fn enters(before: &Virtual, after: &Virtual) -> bool
 
 // An SRET leaves this state, which folds: the space of its hgatp comes to the front.
 fn enter_space(guest: &mut Guest, memory: &mut PhysMem, virt: Virtual) -> Handled
-    requires running { guest.old.status ≡ Running }
-    requires clock { guest.old.clock.time ≤ 2 ^ 62 + guest.old.steps }
-    requires steps { guest.old.steps < 2 ^ 61 }
+    requires can { CanStep guest.old }
     requires placed { IsPlaced guest.old memory.old }
     requires enters { enters guest.old.virt virt ≡ true }
     ensures step { machine_of guest.new memory.new ≡ left_by (machine_of guest.old memory.old)
         (made (machine_of guest.old memory.old) virt None System) }
     ensures went { result ≢ Handled.Retry }
-    ensures only { Only (changed_by guest.old) memory.old memory.new }
-    ensures tidy { TidyPool guest.new.pool memory.new }
-    ensures status { guest.new.status ≡ status_after result }
-    ensures made { guest.new.steps ≡ guest.old.steps + steps_made result }
-    ensures clock { guest.new.clock.time ≤ 2 ^ 62 + guest.new.steps }
-    ensures fixed { StaysFixed guest.old guest.new }
+    ensures within { StaysWithin guest.old memory.old guest.new memory.new }
+    ensures told { IsTold result guest.old guest.new }
 {
     guest.pool.enter(memory, virt.csrs.hgatp);
     guest.virt = virt;
@@ -121,19 +101,13 @@ fn enter_space(guest: &mut Guest, memory: &mut PhysMem, virt: Virtual) -> Handle
 
 // An HFENCE.GVMA leaves this state, and drops the cached translations that it names.
 fn fence(guest: &mut Guest, memory: &mut PhysMem, virt: Virtual, named: Fence) -> Handled
-    requires running { guest.old.status ≡ Running }
-    requires clock { guest.old.clock.time ≤ 2 ^ 62 + guest.old.steps }
-    requires steps { guest.old.steps < 2 ^ 61 }
+    requires can { CanStep guest.old }
     requires placed { IsPlaced guest.old memory.old }
     ensures step { machine_of guest.new memory.new ≡ left_by (machine_of guest.old memory.old)
         (concluded (machine_of guest.old memory.old) (Fenced virt named)) }
     ensures went { result ≢ Handled.Retry }
-    ensures only { Only (changed_by guest.old) memory.old memory.new }
-    ensures tidy { TidyPool guest.new.pool memory.new }
-    ensures status { guest.new.status ≡ status_after result }
-    ensures made { guest.new.steps ≡ guest.old.steps + steps_made result }
-    ensures clock { guest.new.clock.time ≤ 2 ^ 62 + guest.new.steps }
-    ensures fixed { StaysFixed guest.old guest.new }
+    ensures within { StaysWithin guest.old memory.old guest.new memory.new }
+    ensures told { IsTold result guest.old guest.new }
 {
     guest.pool.fence(memory, named);
     guest.virt = virt;
@@ -143,18 +117,14 @@ fn fence(guest: &mut Guest, memory: &mut PhysMem, virt: Virtual, named: Fence) -
 
 // An HLV, HLVX or HSV. Its trap is taken in the mode of the instruction.
 fn access_ram(guest: &mut Guest, memory: &mut PhysMem, wanted: GuestAccess) -> Handled
-    requires running { guest.old.status ≡ Running }
-    requires clock { guest.old.clock.time ≤ 2 ^ 62 + guest.old.steps }
-    requires steps { guest.old.steps < 2 ^ 61 }
+    requires can { CanStep guest.old }
     requires lies { LieIn (in_blocks guest.old.part.blocks) (length memory.old) }
     ensures step { machine_of guest.new memory.new ≡ left_by (machine_of guest.old memory.old)
         (accessed_for_guest (machine_of guest.old memory.old)
         (guest_outcome ram_base (ram_of guest.old.part.blocks memory.old) guest.old.virt wanted)) }
     ensures only { Only (in_blocks guest.old.part.blocks) memory.old memory.new }
     ensures went { result ≢ Handled.Retry }
-    ensures status { guest.new.status ≡ status_after result }
-    ensures made { guest.new.steps ≡ guest.old.steps + steps_made result }
-    ensures clock { guest.new.clock.time ≤ 2 ^ 62 + guest.new.steps }
+    ensures told { IsTold result guest.old guest.new }
     ensures fixed { KeepsSpaces guest.old guest.new }
 {
     let mut virt = guest.virt;

@@ -6,11 +6,9 @@ ghost use Rattle.arch_defs.specs.Traps.{is_virtual};
 ghost use Rattle.arch_defs.specs.WalkedEntries.{folds, is_table};
 ghost use Rattle.enough_tries.specs.Budgets.{NeedNoFill};
 ghost use Rattle.machine_defs.specs.declared.guests.Status.TheVariants.{Running};
-ghost use Rattle.machine_defs.specs.Machine.{informed};
 ghost use Rattle.machine_defs.specs.Runs.{events, run, trace_of};
-ghost use Rattle.rv64_hart.specs.Counts.{IsRaisedBy};
 ghost use Rattle.rv64_hart.specs.Steps.{hart_steps, is_vs_trap, progress};
-ghost use Rattle.guest_exit.specs.Entering.{IsStopped, Lasts};
+ghost use Rattle.guest_exit.specs.Entering.{GoesOn, IsAccounted, IsStopped, Lasts};
 ghost use Rattle.guest_exit.specs.Following.{root_frame_for};
 ghost use Rattle.guest_exit.specs.View.{IsPlaced, KeepsSpaces, loaded_for, machine_of, seen};
 
@@ -46,17 +44,12 @@ pub fn enter(
     ensures hart { hart_steps true result.taken
         (progress (loaded_for guest.old) memory.old tally.old.trace false)
         ≡ Some (progress hart.new.state memory.new tally.new.trace (is_vs_trap result.why)) }
-    ensures trace { IsRaisedBy (trace_of (events (machine_of guest.old memory.old) result.taken))
-        tally.old.trace tally.new.trace }
     ensures only { Only (in_blocks guest.old.part.blocks) memory.old memory.new }
     ensures placed { IsPlaced guest.new memory.new }
     ensures fixed { KeepsSpaces guest.old guest.new }
-    ensures entries { tally.new.entries ≡ tally.old.entries + 1 }
-    ensures taken { tally.new.taken ≡ tally.old.taken + result.taken }
-    ensures current { informed (seen guest.new) ≡ seen guest.new }
-    ensures status { guest.new.status ≡ Running }
-    ensures steps { guest.new.steps ≡ guest.old.steps + result.taken }
-    ensures clock { guest.new.clock.time ≡ guest.old.clock.time + result.taken }
+    ensures goes { GoesOn result.taken guest.old guest.new }
+    ensures account { IsAccounted result.taken
+        (trace_of (events (machine_of guest.old memory.old) result.taken)) tally.old tally.new }
 {
     let root = root_frame_of(guest);
     *hart.state_mut() = load(&guest.virt, &guest.part, root);

@@ -10,8 +10,7 @@ ghost use Rattle.machine_defs.specs.Fills.{lacking};
 ghost use Rattle.machine_defs.specs.Machine.{WaitsForGood, called, informed, stepped_to, trapped};
 ghost use Rattle.machine_defs.specs.Tries.{try};
 ghost use Rattle.rv64_hart.specs.Steps.{Exits, hart_step};
-ghost use Rattle.shadow_pool.specs.Slots.{TidyPool};
-ghost use Rattle.guest_exit.specs.Entering.{Fills, IsMiss, IsQuiet, Makes, MakesStep, status_after, steps_made};
+ghost use Rattle.guest_exit.specs.Entering.{CanStep, Fills, IsMiss, IsQuiet, IsTold, Makes, MakesStep, StaysWithin, status_after, steps_made};
 ghost use Rattle.guest_exit.specs.Following.{IsFault, access_fault_for, host_takes, is_guest_page_code, other_step, privileged_in, privileged_of};
 ghost use Rattle.guest_exit.specs.View.{IsPlaced, KeepsSpaces, StaysFixed, changed_by, loaded_for, machine_of, seen};
 
@@ -95,9 +94,7 @@ fn is_guest_page_code(code: u64) -> bool
 // A guest-page fault of the hart. While the guest does not fold, the host table has no place for an access
 // outside RAM, which is the guest's access fault.
 fn fault(guest: &mut Guest, memory: &mut PhysMem, trap: &Trap) -> Handled
-    requires running { guest.old.status ≡ Running }
-    requires clock { guest.old.clock.time ≤ 2 ^ 62 + guest.old.steps }
-    requires steps { guest.old.steps < 2 ^ 61 }
+    requires can { CanStep guest.old }
     requires placed { IsPlaced guest.old memory.old }
     requires fault { IsFault (machine_of guest.old memory.old) (try (machine_of guest.old memory.old))
         (lacking (machine_of guest.old memory.old)) trap.now (folds guest.old.virt) }
@@ -106,12 +103,8 @@ fn fault(guest: &mut Guest, memory: &mut PhysMem, trap: &Trap) -> Handled
     ensures fill { result ≡ Handled.Retry
         → Fills (machine_of guest.old memory.old) (machine_of guest.new memory.new) }
     ensures goes { result ≢ Handled.Waits }
-    ensures only { Only (changed_by guest.old) memory.old memory.new }
-    ensures tidy { TidyPool guest.new.pool memory.new }
-    ensures status { guest.new.status ≡ status_after result }
-    ensures made { guest.new.steps ≡ guest.old.steps + steps_made result }
-    ensures clock { guest.new.clock.time ≤ 2 ^ 62 + guest.new.steps }
-    ensures fixed { StaysFixed guest.old guest.new }
+    ensures within { StaysWithin guest.old memory.old guest.new memory.new }
+    ensures told { IsTold result guest.old guest.new }
 {
     if folds(&guest.virt) {
         return miss(guest, memory, trap);
@@ -125,14 +118,10 @@ fn fault(guest: &mut Guest, memory: &mut PhysMem, trap: &Trap) -> Handled
 // Another trap of the hart: with V = 0 it is a call of the environment, with V = 1 the guest's own, which it
 // has not delegated.
 fn other(guest: &mut Guest, trap: &Trap) -> Handled
-    requires running { guest.old.status ≡ Running }
-    requires clock { guest.old.clock.time ≤ 2 ^ 62 + guest.old.steps }
-    requires steps { guest.old.steps < 2 ^ 61 }
+    requires can { CanStep guest.old }
     ensures step { Makes guest.old guest.new
         (λ m. other_step m trap.now (is_virtual m.platform.virt.mode)) }
-    ensures status { guest.new.status ≡ status_after result }
-    ensures made { guest.new.steps ≡ guest.old.steps + steps_made result }
-    ensures clock { guest.new.clock.time ≤ 2 ^ 62 + guest.new.steps }
+    ensures told { IsTold result guest.old guest.new }
     ensures went { result ≢ Handled.Retry }
     ensures fixed { KeepsSpaces guest.old guest.new }
 {
@@ -145,13 +134,9 @@ fn other(guest: &mut Guest, trap: &Trap) -> Handled
 
 /// The guest takes a trap.
 pub(crate) fn raise(guest: &mut Guest, trap: &Trap) -> Handled
-    requires running { guest.old.status ≡ Running }
-    requires clock { guest.old.clock.time ≤ 2 ^ 62 + guest.old.steps }
-    requires steps { guest.old.steps < 2 ^ 61 }
+    requires can { CanStep guest.old }
     ensures step { Makes guest.old guest.new (λ m. trapped m trap.now) }
-    ensures status { guest.new.status ≡ status_after result }
-    ensures made { guest.new.steps ≡ guest.old.steps + steps_made result }
-    ensures clock { guest.new.clock.time ≤ 2 ^ 62 + guest.new.steps }
+    ensures told { IsTold result guest.old guest.new }
     ensures went { result ≡ Handled.Stepped }
     ensures fixed { KeepsSpaces guest.old guest.new }
 {
@@ -162,13 +147,9 @@ pub(crate) fn raise(guest: &mut Guest, trap: &Trap) -> Handled
 
 // The guest calls the execution environment, and stops if it asks for that.
 fn call(guest: &mut Guest) -> Handled
-    requires running { guest.old.status ≡ Running }
-    requires clock { guest.old.clock.time ≤ 2 ^ 62 + guest.old.steps }
-    requires steps { guest.old.steps < 2 ^ 61 }
+    requires can { CanStep guest.old }
     ensures step { Makes guest.old guest.new (λ m. stepped_to m (called m.platform) System) }
-    ensures status { guest.new.status ≡ status_after result }
-    ensures made { guest.new.steps ≡ guest.old.steps + steps_made result }
-    ensures clock { guest.new.clock.time ≤ 2 ^ 62 + guest.new.steps }
+    ensures told { IsTold result guest.old guest.new }
     ensures went { result ≢ Handled.Retry }
     ensures fixed { KeepsSpaces guest.old guest.new }
 {

@@ -1,18 +1,16 @@
 // Accesses to which no cached translation gives a place.
 
-ghost use Rattle.std.specs.Prelude.{◌≡◌, ◌≢◌, ◌+◌, ◌^◌, ◌<◌, ◌≤◌, IfErr, IfOk, None, Some, length, true};
-ghost use Rattle.arch_defs.specs.Frames.{LieIn, Only, in_blocks};
+ghost use Rattle.std.specs.Prelude.{◌≡◌, ◌≢◌, ◌^◌, ◌<◌, IfErr, IfOk, None, Some, length, true};
+ghost use Rattle.arch_defs.specs.Frames.{LieIn, in_blocks};
 ghost use Rattle.arch_defs.specs.Memory.{ram_base};
 ghost use Rattle.arch_defs.specs.Ram.{ram_of};
 ghost use Rattle.arch_defs.specs.SecondStage.{unplaced_trap};
 ghost use Rattle.arch_defs.specs.WalkedEntries.{entry_now, folds};
-ghost use Rattle.machine_defs.specs.declared.guests.Status.TheVariants.{Running};
 ghost use Rattle.machine_defs.specs.Fills.{lacking};
 ghost use Rattle.machine_defs.specs.Tries.{try};
-ghost use Rattle.shadow_pool.specs.Slots.{TidyPool};
-ghost use Rattle.guest_exit.specs.Entering.{Fills, MakesStep, status_after, steps_made};
+ghost use Rattle.guest_exit.specs.Entering.{CanStep, Fills, IsTold, MakesStep, StaysWithin};
 ghost use Rattle.guest_exit.specs.Following.{IsMissed, access_of, missed};
-ghost use Rattle.guest_exit.specs.View.{IsPlaced, StaysFixed, changed_by, machine_of};
+ghost use Rattle.guest_exit.specs.View.{IsPlaced, machine_of};
 
 use crate::guests::Guest;
 use crate::handling::{Handled, raise};
@@ -29,9 +27,7 @@ const PAST_ADDRESSES: u64 = 0x80_0000_0000;
 /// An access to which the front space gives no place. Where the walk of the guest's own table has one, its
 /// entry is filled, and no step is made; else the fault of that walk is taken.
 pub fn miss(guest: &mut Guest, memory: &mut PhysMem, trap: &Trap) -> Handled
-    requires running { guest.old.status ≡ Running }
-    requires clock { guest.old.clock.time ≤ 2 ^ 62 + guest.old.steps }
-    requires steps { guest.old.steps < 2 ^ 61 }
+    requires can { CanStep guest.old }
     requires placed { IsPlaced guest.old memory.old }
     requires folds { folds guest.old.virt ≡ true }
     requires missed { IsMissed (machine_of guest.old memory.old) (try (machine_of guest.old memory.old))
@@ -41,12 +37,8 @@ pub fn miss(guest: &mut Guest, memory: &mut PhysMem, trap: &Trap) -> Handled
     ensures fill { result ≡ Handled.Retry
         → Fills (machine_of guest.old memory.old) (machine_of guest.new memory.new) }
     ensures goes { result ≢ Handled.Waits }
-    ensures only { Only (changed_by guest.old) memory.old memory.new }
-    ensures tidy { TidyPool guest.new.pool memory.new }
-    ensures status { guest.new.status ≡ status_after result }
-    ensures made { guest.new.steps ≡ guest.old.steps + steps_made result }
-    ensures clock { guest.new.clock.time ≤ 2 ^ 62 + guest.new.steps }
-    ensures fixed { StaysFixed guest.old guest.new }
+    ensures within { StaysWithin guest.old memory.old guest.new memory.new }
+    ensures told { IsTold result guest.old guest.new }
 {
     if trap.tval2 >= PAST_ADDRESSES {
         return raise(guest, trap);

@@ -1,9 +1,8 @@
 // WFI of a guest (Privileged Architecture 20211203, 3.3.3).
 
-ghost use Rattle.std.specs.Prelude.{◌≡◌, ◌≢◌, ◌+◌, ◌^◌, ◌<◌, ◌≤◌, ◌&&◌, ◌||◌, false};
-ghost use Rattle.machine_defs.specs.declared.guests.Status.TheVariants.{Running};
+ghost use Rattle.std.specs.Prelude.{◌≡◌, ◌≢◌, ◌&&◌, ◌||◌, false};
 ghost use Rattle.machine_defs.specs.Machine.{has_enabled_interrupt, informed, waited};
-ghost use Rattle.guest_exit.specs.Entering.{Makes, status_after, steps_made};
+ghost use Rattle.guest_exit.specs.Entering.{CanStep, IsTold, Makes};
 ghost use Rattle.guest_exit.specs.View.{KeepsSpaces, seen};
 
 use crate::guests::Guest;
@@ -15,14 +14,10 @@ use virtual_timer::{WaitEnd, wake_moment_is_least};
 /// A WFI, which leaves this state. Where an interrupt is pending and enabled it goes on at once, and else it
 /// waits for the wake moment, or for good.
 pub fn wait(guest: &mut Guest, virt: Virtual) -> Handled
-    requires running { guest.old.status ≡ Running }
+    requires can { CanStep guest.old }
     requires current { informed (seen guest.old) ≡ seen guest.old }
-    requires clock { guest.old.clock.time ≤ 2 ^ 62 + guest.old.steps }
-    requires steps { guest.old.steps < 2 ^ 61 }
     ensures step { Makes guest.old guest.new (λ m. waited m virt) }
-    ensures status { guest.new.status ≡ status_after result }
-    ensures made { guest.new.steps ≡ guest.old.steps + steps_made result }
-    ensures clock { guest.new.clock.time ≤ 2 ^ 62 + guest.new.steps }
+    ensures told { IsTold result guest.old guest.new }
     ensures went { result ≢ Handled.Retry }
     ensures fixed { KeepsSpaces guest.old guest.new }
 {
@@ -36,15 +31,11 @@ pub fn wait(guest: &mut Guest, virt: Virtual) -> Handled
 
 // A WFI at which no enabled interrupt is pending.
 fn wait_for_wake(guest: &mut Guest, virt: Virtual) -> Handled
-    requires running { guest.old.status ≡ Running }
+    requires can { CanStep guest.old }
     requires current { informed (seen guest.old) ≡ seen guest.old }
     requires none { has_enabled_interrupt guest.old.virt.csrs ≡ false }
-    requires steps { guest.old.steps < 2 ^ 61 }
-    requires clock { guest.old.clock.time ≤ 2 ^ 62 + guest.old.steps }
     ensures step { Makes guest.old guest.new (λ m. waited m virt) }
-    ensures status { guest.new.status ≡ status_after result }
-    ensures made { guest.new.steps ≡ guest.old.steps + steps_made result }
-    ensures clock { guest.new.clock.time ≤ 2 ^ 62 + guest.new.steps }
+    ensures told { IsTold result guest.old guest.new }
     ensures went { result ≢ Handled.Retry }
     ensures fixed { KeepsSpaces guest.old guest.new }
 {

@@ -18,6 +18,7 @@ use Rattle.enough_tries.proofs.Orderly.{start_is_orderly}
 use Rattle.frame_split.specs.Shares.{AreNeeds, IsSplit}
 use Rattle.host_tables.specs.HostTable.{IsHostTable}
 use Rattle.host_tables.specs.Walks.{IsHeld}
+use Rattle.host_tables.proofs.Held.{host_in_part, host_in_tables, table_stays}
 use Rattle.machine_defs.specs.declared.guests.GuestSpec.{GuestSpec}
 use Rattle.machine_defs.specs.HostPlaces.{in_ram}
 use Rattle.machine_defs.specs.Machine.{Machine, Platform, informed, start}
@@ -35,7 +36,7 @@ use Rattle.guest_turns.specs.Hosted.{no_machine, no_part}
 use Rattle.guest_turns.specs.Hosting.{AreAtStart, AreHosted, AreLaidOut, IsAtStart, IsHosted, parts_of, space_tables}
 use Rattle.guest_turns.specs.Limits.{IsBootable, frames_for, need_of, needs_of}
 use Rattle.guest_turns.proofs.Among.{machines_of}
-use Rattle.guest_turns.proofs.Placing.{host_in_part, host_in_tables, part_ram_kept, table_kept}
+use Rattle.guest_turns.proofs.Placing.{part_ram_kept}
 
 -- what bootable guests need is within the limits, and some frames are needed
 is_need : (guest : GuestSpec) → IsBootable guest → IsNeed (need_of guest)
@@ -171,7 +172,7 @@ laid_more guests parts frames i guest part memory between new split size inside 
         by (inr other) =
             let before : j < i = earlier i j h other in
             let j_in : j < length guests = omega (arith, before, inside) in
-            table_kept (get_or parts j d) memory new
+            table_stays (get_or parts j d) memory new
             (same_fewer (host_frames (get_or parts j d)) (named_by (get_or parts j d)) memory new (host_in_part (get_or parts j d)) (others j d j_in other))
             (laid.tables j d before)
 

@@ -82,8 +82,8 @@ impl Host {
     }
 
     /// Makes at most `k` steps of a guest's machine, and answers how many: `k`, or fewer only where the
-    /// machine does not go on, because it has stopped or waits for good. All other machines stay as they were,
-    /// and no byte outside the guest's part changes.
+    /// machine does not go on, because it has stopped or waits for good. All other machines stay as they
+    /// were, and no byte outside the guest's part changes.
     pub fn turn(&mut self, g: u32, k: u64, tally: &mut Tally) -> u64
         requires guest { g < length self.old.machines }
         requires steps { (machine_at self.old.machines g).platform.steps + k ≤ 2 ^ 61 }

@@ -99,8 +99,8 @@ fn advance(
     }
 }
 
-// How many of the steps that are left the host has used up: none where it filled a cached translation, and one
-// also where the step waits for good, which is not made.
+// How many of the steps that are left the host has used up: none where it filled a cached translation, and
+// one also where the step waits for good, which is not made.
 fn used(made: Handled) -> u64
     ensures { result ≡ used_by made }
 {

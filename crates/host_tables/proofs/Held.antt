@@ -7,27 +7,29 @@ use Rattle.arch_defs.specs.declared.modes.Access.{Access}
 use Rattle.arch_defs.specs.declared.modes.Access.TheVariants.{Fetch, Load, Store, ExecLoad, Implicit}
 use Rattle.arch_defs.specs.declared.walks.LeafEntry.{LeafEntry}
 use Rattle.arch_defs.specs.declared.walks.WalkEnd.TheVariants.{Leaf, PageFault}
-use Rattle.arch_defs.specs.Frames.{LieIn, Only, Same, Within, in_blocks, within}
+use Rattle.arch_defs.specs.Frames.{Apart, LieIn, Only, Same, Within, in_blocks, within}
 use Rattle.arch_defs.specs.Layouts.{Layout, NamesEachOnce, host_frames, in_tables, named_by, root_frames, table_frames}
 use Rattle.arch_defs.specs.Memory.{load, block_size, ram_base}
 use Rattle.arch_defs.specs.Permits.{permits_second}
 use Rattle.arch_defs.specs.Ram.{SlicesLieIn, host_place}
 use Rattle.arch_defs.specs.SecondStage.{guest_end, guest_root_frame, guest_walk, has_bytes, memory_words, place_under}
-use Rattle.arch_defs.proofs.FrameSets.{apart_sym, in_range, joined_within, kept, left_within, load_kept, right_within}
+use Rattle.arch_defs.proofs.FrameSets.{apart_sym, in_range, joined_within, kept, left_within, load_kept, right_within, within_apart}
 use Rattle.arch_defs.proofs.RamBlocks.{blocks_lie_in}
 use Rattle.arch_defs.proofs.Rooms.{first_lies}
-use Rattle.host_tables.specs.HostTable.{leaf_word, root_word}
+use Rattle.host_tables.specs.HostTable.{IsHostTable, leaf_word, root_word}
 use Rattle.host_tables.specs.Walks.{IsHeld, GivesRam, ReadsIn}
 use Rattle.host_tables.proofs.Entries.{root_in, root_room, table_in, table_room}
 use Rattle.host_tables.proofs.Walking.{block_below, walks_to_ram}
 
--- the host table's frames are of the part
-then_within : (part : Layout) (frame : ℕ) → host_frames part frame ≡ true → named_by part frame ≡ true
-then_within part frame is =
-    right_within (in_blocks part.blocks) (in_tables part) frame
-    (joined_within (within part.first_root 4) (within part.first_table 1) (in_tables part)
+-- the host table's frames are of the part's tables
+pub host_in_tables : (part : Layout) → Within (host_frames part) (in_tables part)
+host_in_tables part =
+    joined_within (within part.first_root 4) (within part.first_table 1) (in_tables part)
     (λ frame is. left_within (root_frames part) (table_frames part) frame (root_in part frame is))
-    (λ frame is. right_within (root_frames part) (table_frames part) frame (table_in part frame is)) frame is)
+    (λ frame is. right_within (root_frames part) (table_frames part) frame (table_in part frame is))
+
+pub host_in_part : (part : Layout) → Within (host_frames part) (named_by part)
+host_in_part part frame is = right_within (in_blocks part.blocks) (in_tables part) frame (host_in_tables part frame is)
 
 -- its entries are read as memory has them
 none_before : (n : ℕ) → 0 + n ≡ n
@@ -47,7 +49,7 @@ has memory place n h =
 
 reads : (part : Layout) (memory : List ℕ) → LieIn (named_by part) (length memory) → ReadsIn (host_frames part) memory (memory_words 0 memory)
 reads part memory lie place is eighth =
-    rw (has memory place 8 (entry_inside place (length memory) (lie (place / 4096) (then_within part (place / 4096) is)) eighth), from_zero place) refl
+    rw (has memory place 8 (entry_inside place (length memory) (lie (place / 4096) (host_in_part part (place / 4096) is)) eighth), from_zero place) refl
 
 -- the root is where hgatp's page says
 root_frame : (page : ℕ) → page % 4 ≡ 0 → page < 2 ^ 44 → guest_root_frame page ≡ page
@@ -123,30 +125,41 @@ gives_ram part once memory mxr vmid address access held =
     (blocks_small part.blocks (length memory) lie held.size) memory (memory_words 0 memory) address access held.table (reads part memory held.lies) in
     rw (root, walked) (end_by memory mxr part.blocks address access lie _ refl)
 
--- a write to the part's blocks leaves the part held
+-- the host table stays where the bytes of its frames do
 root_at : (first i at : ℕ) → i < 2048 → first * 4096 + 8 * i ≤ at → at < first * 4096 + 8 * i + 8 → (first ≤ at / 4096) × (at / 4096 < first + 4)
 root_at first i at h from to = (omega (arith, from), omega (arith, h, to))
 
 table_at : (first i at : ℕ) → i < 512 → first * 4096 + 8 * i ≤ at → at < first * 4096 + 8 * i + 8 → (first ≤ at / 4096) × (at / 4096 < first + 1)
 table_at first i at h from to = (omega (arith, from), omega (arith, h, to))
 
-pub held_stays : (part : Layout) (old new : List ℕ) → NamesEachOnce part → IsHeld part old → Only (in_blocks part.blocks) old new → IsHeld part new
-held_stays part old new once held only =
-    record { size = rw only.size held.size; lies = rw only.size held.lies; table = record { root = record { each = root }; leaves = record { each = leaves } } }
+pub table_stays : (part : Layout) (old new : List ℕ) → Same (host_frames part) old new → IsHostTable part old → IsHostTable part new
+table_stays part old new same table = record { root = record { each = root }; leaves = record { each = leaves } }
   where
-    same : Same (in_tables part) old new
-    same = kept (in_tables part) (in_blocks part.blocks) old new (apart_sym (in_blocks part.blocks) (in_tables part) once.tables) only
-
     root : (i : ℕ) → i < 2048 → load new (part.first_root * 4096 + 8 * i) 8 ≡ root_word part.first_table i
     root i h =
-        load_kept (in_tables part) old new (part.first_root * 4096 + 8 * i) 8 same (λ at from to.
+        load_kept (host_frames part) old new (part.first_root * 4096 + 8 * i) 8 same (λ at from to.
         let there = root_at part.first_root i at h from to in
-        left_within (root_frames part) (table_frames part) (at / 4096) (root_in part (at / 4096) (in_range part.first_root 4 (at / 4096) there.0 there.1)))
-        ∙ held.table.root.each i h
+        left_within (within part.first_root 4) (within part.first_table 1) (at / 4096) (in_range part.first_root 4 (at / 4096) there.0 there.1))
+        ∙ table.root.each i h
 
     leaves : (i : ℕ) → i < 512 → load new (part.first_table * 4096 + 8 * i) 8 ≡ leaf_word part.blocks i
     leaves i h =
-        load_kept (in_tables part) old new (part.first_table * 4096 + 8 * i) 8 same (λ at from to.
+        load_kept (host_frames part) old new (part.first_table * 4096 + 8 * i) 8 same (λ at from to.
         let there = table_at part.first_table i at h from to in
-        right_within (root_frames part) (table_frames part) (at / 4096) (table_in part (at / 4096) (in_range part.first_table 1 (at / 4096) there.0 there.1)))
-        ∙ held.table.leaves.each i h
+        right_within (within part.first_root 4) (within part.first_table 1) (at / 4096) (in_range part.first_table 1 (at / 4096) there.0 there.1))
+        ∙ table.leaves.each i h
+
+-- and so the part is held as before
+pub held_stays : (part : Layout) (old new : List ℕ) → Same (host_frames part) old new → IsHeld part old → IsHeld part new
+held_stays part old new same held =
+    record { size = rw same.size held.size; lies = rw same.size held.lies; table = table_stays part old new same held.table }
+
+-- no block of the part is in the host table
+pub host_apart_from_blocks : (part : Layout) → NamesEachOnce part → Apart (host_frames part) (in_blocks part.blocks)
+host_apart_from_blocks part once =
+    within_apart (host_frames part) (in_tables part) (in_blocks part.blocks) (host_in_tables part) (apart_sym (in_blocks part.blocks) (in_tables part) once.tables)
+
+-- so after a change of the blocks
+pub held_by_blocks : (part : Layout) (old new : List ℕ) → NamesEachOnce part → IsHeld part old → Only (in_blocks part.blocks) old new → IsHeld part new
+held_by_blocks part old new once held only =
+    held_stays part old new (kept (host_frames part) (in_blocks part.blocks) old new (host_apart_from_blocks part once) only) held

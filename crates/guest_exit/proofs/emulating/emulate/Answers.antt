@@ -1,7 +1,6 @@
 use Rattle.guest_exit.specs.View.{machine_of}
 use Rattle.guest_exit.proofs.Accessing.{access_is_quiet}
-use Rattle.guest_exit.proofs.Alone.{waited_is_quiet}
-use Rattle.guest_exit.proofs.Pools.{tidy_by_blocks}
+use Rattle.guest_exit.proofs.Alone.{blocks_changed, waited_is_quiet}
 use Rattle.guest_exit.proofs.emulating.emulate.Goals as goal
 
 pub returns-in-Waits-clause-quiet : goal.returns-in-Waits-clause-quiet
@@ -15,8 +14,6 @@ returns-in-Accesses-clause-quiet c =
     rw (c.in-Accesses.ensures.ends c.args.word) (access_is_quiet m c.in-Accesses.wanted)
 
 -- an access stores in the blocks
-pub returns-in-Accesses-clause-tidy : goal.returns-in-Accesses-clause-tidy
-returns-in-Accesses-clause-tidy c =
-    let at = c.requires.placed in
-    rw c.access_ram.ensures.fixed.pool
-    (tidy_by_blocks c.args.guest.now.part c.args.guest.now.pool c.args.memory.now c.access_ram.new.memory at.once at.own at.tidy c.access_ram.ensures.only)
+pub returns-in-Accesses-clause-within : goal.returns-in-Accesses-clause-within
+returns-in-Accesses-clause-within c =
+    blocks_changed c.args.guest.now c.access_ram.new.guest c.args.memory.now c.access_ram.new.memory c.requires.placed c.access_ram.ensures.fixed c.access_ram.ensures.only

@@ -27,13 +27,13 @@ returns-clause-run c =
     machine_as c.args.guest.now c.take_steps.new.self c.args.memory.now c.run-stop.new.memory _ _ _ fixed.part given refl
     (ap spaces_of fixed.pool) (ap room_of fixed.pool) (ap (λ (pool : Pooled). pool.most) fixed.pool) ∙ sym is.machine
 
-pub returns-clause-trace : goal.returns-clause-trace
-returns-clause-trace c =
+pub returns-clause-account : goal.returns-clause-account
+returns-clause-account c =
     let m = machine_of c.args.guest.now c.args.memory.now in
     let q = progress c.run-stop.new.self.state c.run-stop.new.memory c.run-stop.new.tally.trace (is_vs_trap c.run-stop.result.why) in
     let is = ran c.args.guest.now.part c.args.guest.now.pool m c.args.memory.now c.args.limit c.args.tally.now.trace c.requires.running c.requires.lasts c.requires.placed c.run-stop.result.taken c.run-stop.ensures.within q
     (returns-clause-hart c) in
-    is.trace
+    record { entries = c.run-stop.ensures.entries; taken = c.run-stop.ensures.taken; trace = is.trace }
 
 pub returns-clause-ready : goal.returns-clause-ready
 returns-clause-ready c =

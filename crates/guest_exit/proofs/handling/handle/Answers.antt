@@ -1,9 +1,8 @@
 use Rattle.std.proofs.Common.{sym, ◌∙◌}
 use Rattle.std.proofs.Math.Facts.{Fits-of_lt}
 use Rattle.arch_defs.specs.Traps.{is_virtual}
-use Rattle.arch_defs.proofs.FrameSets.{only_none}
 use Rattle.guest_exit.specs.View.{machine_of}
-use Rattle.guest_exit.proofs.Alone.{fault_is_quiet, fault_traps, other_is_quiet, placed_by, retries_exactly, stays_by}
+use Rattle.guest_exit.proofs.Alone.{fault_is_quiet, fault_traps, nothing_changed, other_is_quiet, placed_by, retries_exactly}
 use Rattle.guest_exit.proofs.Entries.{left}
 use Rattle.guest_exit.proofs.ForGood.{never_waits, waits_exactly}
 use Rattle.guest_exit.proofs.handling.handle.Goals as goal
@@ -31,8 +30,8 @@ returns-then-is_guest_page_code-clause-retry c =
 
 pub returns-then-is_guest_page_code-clause-placed : goal.returns-then-is_guest_page_code-clause-placed
 returns-then-is_guest_page_code-clause-placed c =
-    placed_by c.args.guest.now c.fault.new.guest c.args.memory.now c.fault.new.memory c.fault.result c.requires.placed c.fault.ensures.fixed
-    c.fault.ensures.only c.fault.ensures.tidy c.fault.ensures.step c.fault.ensures.fill
+    placed_by c.args.guest.now c.fault.new.guest c.args.memory.now c.fault.new.memory c.fault.result c.requires.placed c.fault.ensures.within
+    c.fault.ensures.step c.fault.ensures.fill
 
 -- another trap
 pub returns-then-trap-ne-VIRTUAL_INSTRUCTION-clause-step : goal.returns-then-trap-ne-VIRTUAL_INSTRUCTION-clause-step
@@ -58,14 +57,14 @@ returns-then-trap-ne-VIRTUAL_INSTRUCTION-clause-quiet c =
 
 pub returns-then-trap-ne-VIRTUAL_INSTRUCTION-clause-placed : goal.returns-then-trap-ne-VIRTUAL_INSTRUCTION-clause-placed
 returns-then-trap-ne-VIRTUAL_INSTRUCTION-clause-placed c =
-    placed_by c.args.guest.now c.other.new.guest c.args.memory.now c.args.memory.now c.other.result c.requires.placed (stays_by _ _ c.other.ensures.fixed)
-    (only_none _ c.args.memory.now) (rw c.other.ensures.fixed.pool c.requires.placed.tidy)
+    placed_by c.args.guest.now c.other.new.guest c.args.memory.now c.args.memory.now c.other.result c.requires.placed
+    (nothing_changed c.args.guest.now c.other.new.guest c.args.memory.now c.requires.placed c.other.ensures.fixed)
     (returns-then-trap-ne-VIRTUAL_INSTRUCTION-clause-step c) (returns-then-trap-ne-VIRTUAL_INSTRUCTION-clause-fill c)
 
 pub returns-then-trap-ne-VIRTUAL_INSTRUCTION-clause-waits : goal.returns-then-trap-ne-VIRTUAL_INSTRUCTION-clause-waits
 returns-then-trap-ne-VIRTUAL_INSTRUCTION-clause-waits c =
     waits_exactly (machine_of c.args.guest.now c.args.memory.now) (machine_of c.other.new.guest c.args.memory.now) c.other.result c.requires.running
-    (returns-then-trap-ne-VIRTUAL_INSTRUCTION-clause-step c c.other.ensures.went).step c.other.ensures.status
+    (returns-then-trap-ne-VIRTUAL_INSTRUCTION-clause-step c c.other.ensures.went).step c.other.ensures.told.status
 
 -- an instruction that the mode decides on
 pub overflow_cast-trap : goal.overflow_cast-trap
@@ -101,10 +100,10 @@ returns-clause-quiet c =
 
 pub returns-clause-placed : goal.returns-clause-placed
 returns-clause-placed c =
-    placed_by c.args.guest.now c.emulate.new.guest c.args.memory.now c.emulate.new.memory c.emulate.result c.requires.placed c.emulate.ensures.fixed
-    c.emulate.ensures.only c.emulate.ensures.tidy (returns-clause-step c) (returns-clause-fill c)
+    placed_by c.args.guest.now c.emulate.new.guest c.args.memory.now c.emulate.new.memory c.emulate.result c.requires.placed c.emulate.ensures.within
+    (returns-clause-step c) (returns-clause-fill c)
 
 pub returns-clause-waits : goal.returns-clause-waits
 returns-clause-waits c =
     waits_exactly (machine_of c.args.guest.now c.args.memory.now) (machine_of c.emulate.new.guest c.emulate.new.memory) c.emulate.result c.requires.running
-    (returns-clause-step c c.emulate.ensures.went).step c.emulate.ensures.status
+    (returns-clause-step c c.emulate.ensures.went).step c.emulate.ensures.told.status

@@ -1,9 +1,10 @@
 use Rattle.std.proofs.Common.{◌+◌, ◌^◌, ◌<◌, ◌≤◌, ◌∙◌, ap, sym, arith}
 use Rattle.arch_defs.proofs.FrameSets.{only_none}
+use Rattle.guest_exit.proofs.Alone.{only_of_blocks, stays_by}
 use Rattle.guest_exit.specs.View.{changed_by, machine_of}
 use Rattle.guest_turns.proofs.Current.{after_step}
 use Rattle.guest_turns.proofs.Parts.{entered_part, handed_current, handed_part, interrupt_part}
-use Rattle.guest_turns.proofs.Placing.{fixed_both, fixed_by, only_of_blocks, only_then}
+use Rattle.guest_turns.proofs.Placing.{fixed_both, only_then}
 use Rattle.guest_turns.proofs.Turns.{exit_plain, exit_trace, instructions_made, made_at_most, made_if_running, plain_made, plain_within, trace_made, used_at_most}
 use Rattle.guest_turns.proofs.turning.advance.Goals as goal
 
@@ -14,7 +15,7 @@ returns-then-interrupt-clause-advances c =
     (c.interrupt.ensures.step c.if-interrupt.true c.args.memory.now) in
     record {
       goes = part.goes;
-      fixed = fixed_by c.args.guest.now c.interrupt.new.guest c.interrupt.ensures.fixed;
+      fixed = stays_by c.args.guest.now c.interrupt.new.guest c.interrupt.ensures.fixed;
       only = only_none (changed_by c.args.guest.now) c.args.memory.now;
     }
 
@@ -60,8 +61,8 @@ returns-in-Limit-clause-advances c =
     record {
       goes = part.goes;
       fixed =
-          fixed_both c.args.guest.now c.interrupt.new.guest c.enter-stop.new.guest (fixed_by c.args.guest.now c.interrupt.new.guest c.interrupt.ensures.fixed)
-          (fixed_by c.interrupt.new.guest c.enter-stop.new.guest c.enter-stop.ensures.fixed);
+          fixed_both c.args.guest.now c.interrupt.new.guest c.enter-stop.new.guest (stays_by c.args.guest.now c.interrupt.new.guest c.interrupt.ensures.fixed)
+          (stays_by c.interrupt.new.guest c.enter-stop.new.guest c.enter-stop.ensures.fixed);
       only =
           rw (c.interrupt.ensures.stays c.if-interrupt.false) at
           (only_of_blocks c.interrupt.new.guest c.args.memory.now c.enter-stop.new.memory c.enter-stop.ensures.only);
@@ -72,8 +73,8 @@ returns-in-Limit-clause-hosted c =
     let before : c.interrupt.new.guest.clock.time ≤ 2 ^ 62 + c.interrupt.new.guest.steps = rw (c.interrupt.ensures.stays c.if-interrupt.false) c.requires.hosted.clock in
     record {
       placed = c.enter-stop.ensures.placed;
-      clock = omega (arith, before, c.enter-stop.ensures.clock, c.enter-stop.ensures.steps);
-      current = c.enter-stop.ensures.current;
+      clock = omega (arith, before, c.enter-stop.ensures.goes.clock, c.enter-stop.ensures.goes.steps);
+      current = c.enter-stop.ensures.goes.current;
     }
 
 pub returns-in-Limit-clause-taken_least : goal.returns-in-Limit-clause-taken_least
@@ -84,7 +85,7 @@ returns-in-Limit-clause-taken_least c =
     c.requires.hosted (c.interrupt.ensures.stays c.if-interrupt.false) some few c.enter-stop.ensures.ready c.enter-stop.ensures.run in
     let sum = plain_made _ _ _ _ _ part in
     let within = plain_within (machine_of c.args.guest.now c.args.memory.now) c.enter-stop.result.taken in
-    omega (arith, sum, within, c.enter-stop.ensures.taken)
+    omega (arith, sum, within, c.enter-stop.ensures.account.taken)
 
 pub returns-in-Limit-clause-trace : goal.returns-in-Limit-clause-trace
 returns-in-Limit-clause-trace c =
@@ -92,7 +93,7 @@ returns-in-Limit-clause-trace c =
     let few : c.enter-stop.result.taken ≤ c.args.left = omega (arith, c.enter-stop.ensures.within, c.limit.ensures.most) in
     let part = entered_part c.args.guest.now c.interrupt.new.guest c.enter-stop.new.guest c.args.memory.now c.enter-stop.new.memory c.args.left c.enter-stop.result.taken
     c.requires.hosted (c.interrupt.ensures.stays c.if-interrupt.false) some few c.enter-stop.ensures.ready c.enter-stop.ensures.run in
-    let raised = rw (c.interrupt.ensures.stays c.if-interrupt.false) at c.enter-stop.ensures.trace in
+    let raised = rw (c.interrupt.ensures.stays c.if-interrupt.false) at c.enter-stop.ensures.account.trace in
     trace_made _ _ _ _ _ c.args.tally.now.trace c.enter-stop.new.tally.trace part raised
 
 -- and after a trap into VS
@@ -105,8 +106,8 @@ returns-in-VsTrap-clause-advances c =
     record {
       goes = part.goes;
       fixed =
-          fixed_both c.args.guest.now c.interrupt.new.guest c.enter-stop.new.guest (fixed_by c.args.guest.now c.interrupt.new.guest c.interrupt.ensures.fixed)
-          (fixed_by c.interrupt.new.guest c.enter-stop.new.guest c.enter-stop.ensures.fixed);
+          fixed_both c.args.guest.now c.interrupt.new.guest c.enter-stop.new.guest (stays_by c.args.guest.now c.interrupt.new.guest c.interrupt.ensures.fixed)
+          (stays_by c.interrupt.new.guest c.enter-stop.new.guest c.enter-stop.ensures.fixed);
       only =
           rw (c.interrupt.ensures.stays c.if-interrupt.false) at
           (only_of_blocks c.interrupt.new.guest c.args.memory.now c.enter-stop.new.memory c.enter-stop.ensures.only);
@@ -117,8 +118,8 @@ returns-in-VsTrap-clause-hosted c =
     let before : c.interrupt.new.guest.clock.time ≤ 2 ^ 62 + c.interrupt.new.guest.steps = rw (c.interrupt.ensures.stays c.if-interrupt.false) c.requires.hosted.clock in
     record {
       placed = c.enter-stop.ensures.placed;
-      clock = omega (arith, before, c.enter-stop.ensures.clock, c.enter-stop.ensures.steps);
-      current = c.enter-stop.ensures.current;
+      clock = omega (arith, before, c.enter-stop.ensures.goes.clock, c.enter-stop.ensures.goes.steps);
+      current = c.enter-stop.ensures.goes.current;
     }
 
 pub returns-in-VsTrap-clause-taken_least : goal.returns-in-VsTrap-clause-taken_least
@@ -129,7 +130,7 @@ returns-in-VsTrap-clause-taken_least c =
     c.requires.hosted (c.interrupt.ensures.stays c.if-interrupt.false) some few c.enter-stop.ensures.ready c.enter-stop.ensures.run in
     let sum = plain_made _ _ _ _ _ part in
     let within = plain_within (machine_of c.args.guest.now c.args.memory.now) c.enter-stop.result.taken in
-    omega (arith, sum, within, c.enter-stop.ensures.taken)
+    omega (arith, sum, within, c.enter-stop.ensures.account.taken)
 
 pub returns-in-VsTrap-clause-trace : goal.returns-in-VsTrap-clause-trace
 returns-in-VsTrap-clause-trace c =
@@ -137,7 +138,7 @@ returns-in-VsTrap-clause-trace c =
     let few : c.enter-stop.result.taken ≤ c.args.left = omega (arith, c.enter-stop.ensures.within, c.limit.ensures.most) in
     let part = entered_part c.args.guest.now c.interrupt.new.guest c.enter-stop.new.guest c.args.memory.now c.enter-stop.new.memory c.args.left c.enter-stop.result.taken
     c.requires.hosted (c.interrupt.ensures.stays c.if-interrupt.false) some few c.enter-stop.ensures.ready c.enter-stop.ensures.run in
-    let raised = rw (c.interrupt.ensures.stays c.if-interrupt.false) at c.enter-stop.ensures.trace in
+    let raised = rw (c.interrupt.ensures.stays c.if-interrupt.false) at c.enter-stop.ensures.account.trace in
     trace_made _ _ _ _ _ c.args.tally.now.trace c.enter-stop.new.tally.trace part raised
 
 -- an entry after which the host makes the next step, or fills a cached translation
@@ -146,10 +147,10 @@ returns-in-Exit-clause-advances c =
     let some : c.enter-stop.result.taken < c.args.left = omega (arith, (rw c.in-Exit.is at c.enter-stop.ensures.why).0, c.limit.ensures.most) in
     let part = handed_part c.args.guest.now c.interrupt.new.guest c.enter-stop.new.guest c.handle-made.new.guest c.args.memory.now c.enter-stop.new.memory c.handle-made.new.memory
     c.args.left c.enter-stop.result.taken c.handle-made.result c.requires.hosted (c.interrupt.ensures.stays c.if-interrupt.false) some c.enter-stop.ensures.ready
-    c.enter-stop.ensures.run c.enter-stop.ensures.status c.handle-made.ensures.step c.handle-made.ensures.fill in
+    c.enter-stop.ensures.run c.enter-stop.ensures.goes.status c.handle-made.ensures.step c.handle-made.ensures.fill in
     let entered =
-    fixed_both c.args.guest.now c.interrupt.new.guest c.enter-stop.new.guest (fixed_by c.args.guest.now c.interrupt.new.guest c.interrupt.ensures.fixed)
-    (fixed_by c.interrupt.new.guest c.enter-stop.new.guest c.enter-stop.ensures.fixed) in
+    fixed_both c.args.guest.now c.interrupt.new.guest c.enter-stop.new.guest (stays_by c.args.guest.now c.interrupt.new.guest c.interrupt.ensures.fixed)
+    (stays_by c.interrupt.new.guest c.enter-stop.new.guest c.enter-stop.ensures.fixed) in
     let only = rw (c.interrupt.ensures.stays c.if-interrupt.false) at
     (only_of_blocks c.interrupt.new.guest c.args.memory.now c.enter-stop.new.memory c.enter-stop.ensures.only) in
     record {
@@ -165,13 +166,13 @@ returns-in-Exit-clause-hosted c = record {
   placed = c.handle-made.ensures.placed;
   clock = c.handle-made.ensures.clock;
   current =
-      handed_current c.enter-stop.new.guest c.handle-made.new.guest c.enter-stop.new.memory c.handle-made.new.memory c.handle-made.result c.enter-stop.ensures.current
+      handed_current c.enter-stop.new.guest c.handle-made.new.guest c.enter-stop.new.memory c.handle-made.new.memory c.handle-made.result c.enter-stop.ensures.goes.current
       c.handle-made.ensures.step c.handle-made.ensures.fill;
 }
 
 pub returns-in-Exit-clause-forward : goal.returns-in-Exit-clause-forward
 returns-in-Exit-clause-forward c =
-    omega (arith, ap (λ guest. guest.steps) (c.interrupt.ensures.stays c.if-interrupt.false), c.enter-stop.ensures.steps, c.handle-made.ensures.made)
+    omega (arith, ap (λ guest. guest.steps) (c.interrupt.ensures.stays c.if-interrupt.false), c.enter-stop.ensures.goes.steps, c.handle-made.ensures.made)
 
 pub returns-in-Exit-clause-made : goal.returns-in-Exit-clause-made
 returns-in-Exit-clause-made c =
@@ -179,7 +180,7 @@ returns-in-Exit-clause-made c =
     let before = ap (λ guest. guest.steps) (c.interrupt.ensures.stays c.if-interrupt.false) in
     let most = made_at_most c.handle-made.result in
     let one = used_at_most c.handle-made.result in
-    omega (arith, some, before, c.enter-stop.ensures.steps, c.handle-made.ensures.made, most, one, c.used.ensures)
+    omega (arith, some, before, c.enter-stop.ensures.goes.steps, c.handle-made.ensures.made, most, one, c.used.ensures)
 
 pub returns-in-Exit-clause-counts : goal.returns-in-Exit-clause-counts
 returns-in-Exit-clause-counts c = λ running.
@@ -187,30 +188,30 @@ returns-in-Exit-clause-counts c = λ running.
     let before = ap (λ guest. guest.steps) (c.interrupt.ensures.stays c.if-interrupt.false) in
     let same = made_if_running c.handle-made.result (sym c.handle-made.ensures.status ∙ running) in
     let one = used_at_most c.handle-made.result in
-    omega (arith, some, before, c.enter-stop.ensures.steps, c.handle-made.ensures.made, same, one, c.used.ensures)
+    omega (arith, some, before, c.enter-stop.ensures.goes.steps, c.handle-made.ensures.made, same, one, c.used.ensures)
 
 pub returns-in-Exit-clause-taken_least : goal.returns-in-Exit-clause-taken_least
 returns-in-Exit-clause-taken_least c =
     let some : c.enter-stop.result.taken < c.args.left = omega (arith, (rw c.in-Exit.is at c.enter-stop.ensures.why).0, c.limit.ensures.most) in
     let part = handed_part c.args.guest.now c.interrupt.new.guest c.enter-stop.new.guest c.handle-made.new.guest c.args.memory.now c.enter-stop.new.memory c.handle-made.new.memory
     c.args.left c.enter-stop.result.taken c.handle-made.result c.requires.hosted (c.interrupt.ensures.stays c.if-interrupt.false) some c.enter-stop.ensures.ready
-    c.enter-stop.ensures.run c.enter-stop.ensures.status c.handle-made.ensures.step c.handle-made.ensures.fill in
+    c.enter-stop.ensures.run c.enter-stop.ensures.goes.status c.handle-made.ensures.step c.handle-made.ensures.fill in
     let sum = rw (← c.used.ensures) at (plain_made _ _ _ _ _ part) in
     let within = exit_plain (machine_of c.args.guest.now c.args.memory.now) c.enter-stop.result.taken
     (machine_of c.enter-stop.new.guest c.enter-stop.new.memory) c.handle-made.result c.handle-made.ensures.quiet in
-    omega (arith, sum, within, c.enter-stop.ensures.taken)
+    omega (arith, sum, within, c.enter-stop.ensures.account.taken)
 
 pub returns-in-Exit-clause-taken_most : goal.returns-in-Exit-clause-taken_most
 returns-in-Exit-clause-taken_most c =
-    omega (arith, ap (λ guest. guest.steps) (c.interrupt.ensures.stays c.if-interrupt.false), c.enter-stop.ensures.steps, c.enter-stop.ensures.taken, c.handle-made.ensures.made)
+    omega (arith, ap (λ guest. guest.steps) (c.interrupt.ensures.stays c.if-interrupt.false), c.enter-stop.ensures.goes.steps, c.enter-stop.ensures.account.taken, c.handle-made.ensures.made)
 
 pub returns-in-Exit-clause-trace : goal.returns-in-Exit-clause-trace
 returns-in-Exit-clause-trace c =
     let some : c.enter-stop.result.taken < c.args.left = omega (arith, (rw c.in-Exit.is at c.enter-stop.ensures.why).0, c.limit.ensures.most) in
     let part = handed_part c.args.guest.now c.interrupt.new.guest c.enter-stop.new.guest c.handle-made.new.guest c.args.memory.now c.enter-stop.new.memory c.handle-made.new.memory
     c.args.left c.enter-stop.result.taken c.handle-made.result c.requires.hosted (c.interrupt.ensures.stays c.if-interrupt.false) some c.enter-stop.ensures.ready
-    c.enter-stop.ensures.run c.enter-stop.ensures.status c.handle-made.ensures.step c.handle-made.ensures.fill in
-    let before = rw (c.interrupt.ensures.stays c.if-interrupt.false) at c.enter-stop.ensures.trace in
+    c.enter-stop.ensures.run c.enter-stop.ensures.goes.status c.handle-made.ensures.step c.handle-made.ensures.fill in
+    let before = rw (c.interrupt.ensures.stays c.if-interrupt.false) at c.enter-stop.ensures.account.trace in
     let raised = exit_trace (machine_of c.args.guest.now c.args.memory.now) c.enter-stop.result.taken c.args.tally.now.trace c.enter-stop.new.tally.trace
     (machine_of c.enter-stop.new.guest c.enter-stop.new.memory) c.handle-made.result before c.handle-made.ensures.quiet in
     rw c.used.ensures (trace_made _ _ _ _ _ c.args.tally.now.trace c.enter-stop.new.tally.trace part raised)
