@@ -144,6 +144,10 @@ impl Left {
         self.tally.taken()
     }
 
+    pub fn entries(&self) -> u64 {
+        self.tally.entries()
+    }
+
     /// Whether nothing was read and no step made.
     fn is_untouched(&self) -> bool {
         self.store.asked().is_empty() && self.tally.entries() == 0

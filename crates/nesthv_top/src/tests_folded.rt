@@ -3,7 +3,7 @@
 
 use crate::tests::{append_at, image};
 use crate::tests_nested::{COMMANDED, HGATP};
-use crate::tests_rooms::{Room, SMALL, traced};
+use crate::tests_rooms::{Account, Room, SMALL, traced};
 use std::alloc::{AllocError, Global};
 use std::test::Fail;
 
@@ -71,7 +71,10 @@ fn stale_until_fence(rt: HostRuntime) -> Result<(), Fail> {
     let report = "guest a stopped steps 72 bytes 3\nAAB\n";
     assert_eq!(rt;
         traced(rt.alloc(), SMALL, image.as_slice(), report, 50)?,
-        Some(0x1B_3736_B6CE)
+        Some(Account {
+            trace: 0x1B_3736_B6CE,
+            entries: 72 + 3,
+        })
     );
     Ok(())
 }
@@ -91,7 +94,10 @@ fn superpage_fence(rt: HostRuntime) -> Result<(), Fail> {
     let report = "guest a stopped steps 72 bytes 3\nAAC\n";
     assert_eq!(rt;
         traced(rt.alloc(), two_blocks, image.as_slice(), report, 50)?,
-        Some(0x1B_3736_B6CE)
+        Some(Account {
+            trace: 0x1B_3736_B6CE,
+            entries: 72 + 3,
+        })
     );
     Ok(())
 }
@@ -109,7 +115,10 @@ fn nested_faults(rt: HostRuntime) -> Result<(), Fail> {
     let report = "guest a stopped steps 71 bytes 3\n5%A\n";
     assert_eq!(rt;
         traced(rt.alloc(), SMALL, image.as_slice(), report, 50)?,
-        Some(0x1C_3B30_37C6)
+        Some(Account {
+            trace: 0x1C_3B30_37C6,
+            entries: 71 + 2,
+        })
     );
     Ok(())
 }
@@ -136,7 +145,10 @@ fn clean_leaf(rt: HostRuntime) -> Result<(), Fail> {
     let report = "guest a stopped steps 56 bytes 2\n7S\n";
     assert_eq!(rt;
         traced(rt.alloc(), SMALL, image.as_slice(), report, 40)?,
-        Some(0x14_B7E5_6840)
+        Some(Account {
+            trace: 0x14_B7E5_6840,
+            entries: 56 + 3,
+        })
     );
     Ok(())
 }
@@ -168,7 +180,10 @@ fn oldest_first(rt: HostRuntime) -> Result<(), Fail> {
     let sixteen = "guest a stopped steps 323 bytes 17\nACCCCCCCCCCCCCCCB\n";
     assert_eq!(rt;
         traced(rt.alloc(), SMALL, image.as_slice(), sixteen, 232)?,
-        Some(0x7D_92B9_5320)
+        Some(Account {
+            trace: 0x7D_92B9_5320,
+            entries: 323 + 19,
+        })
     );
     let room = Room {
         entries: 17,
@@ -177,7 +192,10 @@ fn oldest_first(rt: HostRuntime) -> Result<(), Fail> {
     let seventeen = "guest a stopped steps 323 bytes 17\nACCCCCCCCCCCCCCCA\n";
     assert_eq!(rt;
         traced(rt.alloc(), room, image.as_slice(), seventeen, 232)?,
-        Some(0x7D_92B9_5320)
+        Some(Account {
+            trace: 0x7D_92B9_5320,
+            entries: 323 + 17,
+        })
     );
     Ok(())
 }
@@ -224,7 +242,10 @@ fn seven_regions(rt: HostRuntime) -> Result<(), Fail> {
     let report = "guest a stopped steps 305 bytes 16\nDEFGHIJKLMNOPQRS\n";
     assert_eq!(rt;
         traced(rt.alloc(), SMALL, image.as_slice(), report, 219)?,
-        Some(0x76_8C2F_FED1)
+        Some(Account {
+            trace: 0x76_8C2F_FED1,
+            entries: 305 + 28,
+        })
     );
     Ok(())
 }
@@ -237,7 +258,10 @@ fn nesting_under_a_table(rt: HostRuntime) -> Result<(), Fail> {
     let report = "guest a stopped steps 35 bytes 1\n5\n";
     assert_eq!(rt;
         traced(rt.alloc(), SMALL, image.as_slice(), report, 24)?,
-        Some(0xD_AC20_CEAC)
+        Some(Account {
+            trace: 0xD_AC20_CEAC,
+            entries: 35 + 1,
+        })
     );
     Ok(())
 }

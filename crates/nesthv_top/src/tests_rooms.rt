@@ -25,15 +25,23 @@ fn config(alloc: Global, room: Room, quantum: u64, rounds: u64) -> Result<String
     )
 }
 
-/// The hart's trace of a guest's run, if the run ends with this report, and in turns of one step too, with the same
-/// trace, and the hart has made so many steps at least, which are the plain ones.
+/// What the hart's account tells of a run: its trace, and its entries in turns of one step, which are one for each step
+/// and one for each fill.
+#[derive(Clone, Copy, Debug, PartialEq, Eq)]
+pub struct Account {
+    pub trace: u64,
+    pub entries: u64,
+}
+
+/// The account of a guest's run, if the run ends with this report, and in turns of one step too, with the same trace,
+/// and the hart has made so many steps at least, which are the plain ones.
 pub fn traced(
     alloc: Global,
     room: Room,
     image: &[u8],
     report: &str,
     plain: u64,
-) -> Result<Option<u64>, AllocError> {
+) -> Result<Option<Account>, AllocError> {
     let text = config(alloc, room, 10_000, 1)?;
     let whole = outcome(alloc, &RUN, text.as_str(), image, NONE)?;
     let text = config(alloc, room, 1, 2_000)?;
@@ -43,5 +51,12 @@ pub fn traced(
         && whole.taken() >= plain
         && stepwise.taken() >= plain
         && whole.trace() == stepwise.trace();
-    Ok(if same { Some(whole.trace()) } else { None })
+    Ok(if same {
+        Some(Account {
+            trace: whole.trace(),
+            entries: stepwise.entries(),
+        })
+    } else {
+        None
+    })
 }
