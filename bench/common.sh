@@ -1,0 +1,64 @@
+# What the scripts of this folder share; they source it after they set `steps`. `program` is the proved program,
+# crates/nesthv/out/nesthv. Where that is missing, `rt run` proves all crates and builds it, which takes long; where a
+# proof fails, the script ends with that status.
+program=$PWD/crates/nesthv/out/nesthv
+folder=$(mktemp -d)
+trap 'rm -rf "$folder"' EXIT
+
+# put IMAGE OFFSET WIDTH NUMBER...: writes numbers of so many bytes each, little endian, from this offset of an image
+# on; what is left out is zero
+put() {
+    local image=$1 offset=$2 width=$3 number i bytes=
+    shift 3
+    for number; do
+        for ((i = 0; i < width; i++)); do
+            bytes+=$(printf '\\x%02x' $((number >> 8 * i & 255)))
+        done
+    done
+    printf %b "$bytes" | dd of="$folder/$image.bin" bs=1 seek=$((offset)) conv=notrunc status=none
+}
+
+# configure IMAGE GUESTS QUANTUM SPACES ENTRIES: so many guests with this image, for all of the steps in all, in turns
+# of so many; at most 2^20 turns. `made` is how many steps they make
+configure() {
+    local guest rounds=$((steps / ($2 * $3)))
+    if ((rounds * $2 > 1048576)); then
+        rounds=$((1048576 / $2))
+    fi
+    made=$((rounds * $2 * $3))
+    printf 'format = 1\nquantum = %d\nrounds = %d\n' "$3" "$rounds" >"$folder/run.toml"
+    for ((guest = 0; guest < $2; guest++)); do
+        cat >>"$folder/run.toml" <<TOML
+[[guest]]
+name = "g$guest"
+image = "$folder/$1.bin"
+blocks = 1
+spaces = $4
+entries = $5
+console = 0
+TOML
+    done
+}
+
+# timed NAME COMMAND..: the seconds that the command takes, its steps a second, and what it writes on the first line;
+# `taken` is how many nanoseconds it took
+timed() {
+    local name=$1 from to
+    shift
+    from=$(date +%s%N)
+    "$@" >"$folder/output"
+    to=$(date +%s%N)
+    taken=$((to - from))
+    awk -v name="$name" -v steps="$made" -v ns="$taken" -v said="$(head -n 1 "$folder/output")" \
+        'BEGIN { printf "%s: %.3f s, %.0f steps/s (%s)\n", name, ns / 1e9, steps * 1e9 / ns, said }'
+}
+
+# run: the program on what `configure` wrote. `rt run` answers the program's own status, which is 0 here, and another
+# where a proof fails.
+run() {
+    if [ -x "$program" ]; then
+        "$program" run "$folder/run.toml"
+    else
+        (cd crates/nesthv && rt run -- run "$folder/run.toml")
+    fi
+}
