@@ -4,5 +4,6 @@ pub mod Naming
 pub mod Pastes
 pub mod RamBlocks
 pub mod Rooms
+pub mod Shapes
 pub mod SlicesOf
 pub mod Slots

@@ -1,6 +1,6 @@
 -- When the frames of a part lie in memory of so many bytes.
-use Rattle.std.proofs.Common.{◌≡◌, ℕ, ◌+◌, ◌-◌, ◌*◌, ◌/◌, ◌<◌, ◌≤◌, ◌⊎◌, inl, inr, Bool, true, false, ◌||◌, ◌↔◌, IsTrue, List, length, slice_index, refl, sym, ap, ◌∙◌, arith}
-use Rattle.std.proofs.lemmas.Bool.{or_cases, both_ways}
+use Rattle.std.proofs.Common.{◌≡◌, ℕ, ◌+◌, ◌-◌, ◌*◌, ◌/◌, ◌<◌, ◌≤◌, ◌⊎◌, inl, inr, Bool, true, ◌↔◌, IsTrue, List, length, slice_index, arith}
+use Rattle.std.proofs.lemmas.Bool.{or_cases}
 use Rattle.arch_defs.specs.Frames.{Frames, within, in_blocks, joined, LieIn, Within}
 use Rattle.arch_defs.proofs.FrameSets.{in_range, range_parts, in_block_at, block_found, left_within, right_within}
 

@@ -7,7 +7,7 @@ use Rattle.arch_defs.specs.declared.walks.LeafEntry.{LeafEntry}
 use Rattle.arch_defs.specs.Memory.{ram_base, block_size, SecondStage}
 use Rattle.arch_defs.specs.Permits.{permits_second}
 use Rattle.arch_defs.specs.TableEntries.{span}
-use Rattle.arch_defs.specs.Walk.{leaf_address}
+use Rattle.arch_defs.specs.Walk.{leaf_address, most_level}
 
 -- the entry of a page
 abbrev pub entry_at : ℕ → List Entry → Option Entry
@@ -36,13 +36,18 @@ cut_by page entries = filter (λ e. not (holds page e)) entries
 
 -- the level of an entry is one that a leaf can have
 abbrev pub HasLevel : Entry → Type 0
-HasLevel e = e.level ≤ 2
+HasLevel e = e.level ≤ most_level
 
--- an entry that a walk of a table of the shape Sv39x4 can give a guest whose RAM is of these blocks: its page
--- is of an address of 41 bits, its frame in RAM, it can be read or executed, and written only where it can be
+-- the bits of a guest physical page: a second-stage table translates addresses of at most 41 bits (8.5.1), and
+-- a page is such an address without the 12 bits of an offset
+abbrev pub guest_page_bits : ℕ
+guest_page_bits = 29
+
+-- an entry that a walk of a second-stage table can give a guest whose RAM is of these blocks: its page is one
+-- that such a table translates, its frame in RAM, it can be read or executed, and written only where it can be
 -- read
 pub record CanFill (blocks : List ℕ) (e : Entry) : Type 0 where
-  pub page : e.page < 2 ^ 29
+  pub page : e.page < 2 ^ guest_page_bits
   pub from : ram_base ≤ e.frame * 4096
   pub to : e.frame * 4096 < ram_base + length blocks * block_size
   pub level : HasLevel e

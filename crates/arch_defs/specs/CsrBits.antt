@@ -6,9 +6,12 @@ use Rattle.arch_defs.specs.declared.registers.HypervisorStatus.{HypervisorStatus
 use Rattle.arch_defs.specs.declared.registers.Interrupts.{Interrupts}
 use Rattle.arch_defs.specs.declared.registers.SupervisorRoot.{SupervisorRoot}
 use Rattle.arch_defs.specs.declared.registers.SupervisorRoot.TheVariants as supervisor_root
+use Rattle.arch_defs.specs.declared.registers.SupervisorMode.TheVariants as supervisor_mode
 use Rattle.arch_defs.specs.declared.registers.GuestRoot.{GuestRoot}
 use Rattle.arch_defs.specs.declared.registers.GuestRoot.TheVariants as guest_root
+use Rattle.arch_defs.specs.declared.registers.GuestMode.TheVariants as guest_mode
 use Rattle.arch_defs.specs.Bits.{bit, field}
+use Rattle.arch_defs.specs.Roots.{guest_mode_number, supervisor_mode_number}
 
 -- the number that has bit i where it is set
 abbrev pub bit_number : ℕ → Bool → ℕ
@@ -91,12 +94,13 @@ hedeleg_bits v = field 0 9 v + field 12 2 v * 2 ^ 12 + field 15 1 v * 2 ^ 15
 -- satp and vsatp (4.1.11, 8.2.18): MODE 63:60, ASID 59:44, PPN 43:0
 unfoldable pub supervisor_root_number : SupervisorRoot → ℕ
 supervisor_root_number supervisor_root.Bare = 0
-supervisor_root_number (supervisor_root.Sv39 asid page) = 8 * 2 ^ 60 + asid % 2 ^ 16 * 2 ^ 44 + page % 2 ^ 44
+supervisor_root_number (supervisor_root.Table mode asid ppn) =
+    supervisor_mode_number mode * 2 ^ 60 + asid % 2 ^ 16 * 2 ^ 44 + ppn % 2 ^ 44
 
 -- MODE 8 is Sv39 and 0 is Bare, stored as 0 (own); a write of another MODE has no effect
 unfoldable pub supervisor_root_of : SupervisorRoot → ℕ → SupervisorRoot
 supervisor_root_of kept v =
-    if field 60 4 v == 8 then supervisor_root.Sv39 (field 44 16 v) (field 0 44 v)
+    if field 60 4 v == 8 then supervisor_root.Table supervisor_mode.Sv39 (field 44 16 v) (field 0 44 v)
     else if field 60 4 v == 0 then supervisor_root.Bare
     else kept
 
@@ -104,10 +108,11 @@ supervisor_root_of kept v =
 -- bits 1:0 are zero
 unfoldable pub guest_root_number : GuestRoot → ℕ
 guest_root_number guest_root.Bare = 0
-guest_root_number (guest_root.Sv39x4 vmid page) = 8 * 2 ^ 60 + vmid % 2 ^ 7 * 2 ^ 44 + field 2 42 page * 2 ^ 2
+guest_root_number (guest_root.Table mode vmid ppn) =
+    guest_mode_number mode * 2 ^ 60 + vmid % 2 ^ 7 * 2 ^ 44 + field 2 42 ppn * 2 ^ 2
 
 -- MODE 8 is Sv39x4; 0, and another MODE (own), is Bare, stored as 0 (own)
 unfoldable pub guest_root_of : ℕ → GuestRoot
 guest_root_of v =
-    if field 60 4 v == 8 then guest_root.Sv39x4 (field 44 7 v) (field 2 42 v * 2 ^ 2)
+    if field 60 4 v == 8 then guest_root.Table guest_mode.Sv39x4 (field 44 7 v) (field 2 42 v * 2 ^ 2)
     else guest_root.Bare

@@ -18,9 +18,14 @@ pub record Layout : Type 0 where
 abbrev pub root_frames : Layout → Frames
 root_frames part = within part.first_root (4 * (1 + part.spaces))
 
--- the frames of its other tables: one of the host table's, and two for each entry of each space
+-- the tables below the root of a space that may have so many entries: an entry needs at most one on each level
+-- below the root's
+abbrev pub tables_for : ℕ → ℕ
+tables_for entries = 2 * entries
+
+-- the frames of its other tables: one of the host table's, and those of each space
 abbrev pub table_frames : Layout → Frames
-table_frames part = within part.first_table (1 + part.spaces * (2 * part.entries))
+table_frames part = within part.first_table (1 + part.spaces * tables_for part.entries)
 
 -- all frames of its tables
 abbrev pub in_tables : Layout → Frames
@@ -38,7 +43,7 @@ host_frames part = joined (within part.first_root 4) (within part.first_table 1)
 abbrev pub space_frames : Layout → ℕ → Frames
 space_frames part i =
     joined (within (part.first_root + 4 * (1 + i)) 4) (within (part.first_table + 1
-    + i * (2 * part.entries)) (2 * part.entries))
+    + i * tables_for part.entries) (tables_for part.entries))
 
 -- there are at most 32 blocks, the roots begin at a multiple of four frames, and no frame is named twice
 pub record NamesEachOnce (part : Layout) : Type 0 where
@@ -66,6 +71,6 @@ names_each_once part =
     (nat_le (length part.blocks) 32 && are_distinct part.blocks)
     && (part.first_root % 4 == 0
     && ((blocks_are_apart part.blocks part.first_root (4 * (1 + part.spaces))
-    && blocks_are_apart part.blocks part.first_table (1 + part.spaces * (2 * part.entries)))
+    && blocks_are_apart part.blocks part.first_table (1 + part.spaces * tables_for part.entries))
     && ranges_are_apart part.first_root (4 * (1 + part.spaces)) part.first_table (1
-    + part.spaces * (2 * part.entries))))
+    + part.spaces * tables_for part.entries)))

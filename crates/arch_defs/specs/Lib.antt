@@ -16,6 +16,7 @@ pub mod Needs
 pub mod Permits
 pub mod Ram
 pub mod Registers
+pub mod Roots
 pub mod SecondStage
 pub mod Spaces
 pub mod TableEntries

@@ -12,13 +12,14 @@ use Rattle.arch_defs.specs.declared.modes.TheConstants.{INSTRUCTION_GUEST_PAGE_F
 use Rattle.arch_defs.specs.declared.registers.Csrs.{Csrs}
 use Rattle.arch_defs.specs.declared.registers.GuestRoot.{GuestRoot}
 use Rattle.arch_defs.specs.declared.registers.GuestRoot.TheVariants as root
-use Rattle.arch_defs.specs.declared.walks.Shape.TheVariants.{Sv39x4}
+use Rattle.arch_defs.specs.declared.walks.Shape.{Shape}
 use Rattle.arch_defs.specs.declared.walks.Unplaced.{Unplaced}
 use Rattle.arch_defs.specs.declared.walks.WalkEnd.{WalkEnd}
 use Rattle.arch_defs.specs.declared.walks.WalkEnd.TheVariants.{Leaf, PageFault, FetchEnd}
 use Rattle.arch_defs.specs.Bits.{field}
 use Rattle.arch_defs.specs.Memory.{load, bare, SecondStage}
 use Rattle.arch_defs.specs.Permits.{permits_second}
+use Rattle.arch_defs.specs.Roots.{guest_shape}
 use Rattle.arch_defs.specs.Translation.{unread}
 use Rattle.arch_defs.specs.Traps.{exception, is_virtual, unplaced_fault}
 use Rattle.arch_defs.specs.Walk.{EntryReading, walk, leaf_address}
@@ -48,13 +49,13 @@ guest_end base bytes mxr address kind (FetchEnd place trap) = AccessFault
 
 -- the root's frame by hgatp's PPN: 16 KiB aligned, so bits 1:0 are zero (8.2.10)
 abbrev pub guest_root_frame : ℕ → ℕ
-guest_root_frame page = field 2 42 page * 2 ^ 2
+guest_root_frame ppn = field 2 42 ppn * 2 ^ 2
 
--- the walk of the table at hgatp's page for an access of a kind at a guest physical address (8.5.1)
-unfoldable pub guest_walk : ℕ → List ℕ → Bool → ℕ → ℕ → Access → GuestWalkEnd
-guest_walk base bytes mxr page address kind =
+-- the walk of the table of a shape at hgatp's PPN for an access of a kind at a guest physical address (8.5.1)
+unfoldable pub guest_walk : ℕ → List ℕ → Bool → Shape → ℕ → ℕ → Access → GuestWalkEnd
+guest_walk base bytes mxr shape ppn address kind =
     guest_end base bytes mxr address kind
-    (walk (memory_words base bytes) (guest_root_frame page) Sv39x4 address kind)
+    (walk (memory_words base bytes) (guest_root_frame ppn) shape address kind)
 
 -- the place under a leaf
 abbrev pub place_under : ℕ → GuestWalkEnd → Option ℕ
@@ -63,8 +64,9 @@ place_under address GuestPageFault = None
 place_under address AccessFault = None
 
 -- the second stage by that walk
-abbrev pub walked : ℕ → List ℕ → Bool → ℕ → SecondStage
-walked base bytes mxr page address kind = place_under address (guest_walk base bytes mxr page address kind)
+abbrev pub walked : ℕ → List ℕ → Bool → Shape → ℕ → SecondStage
+walked base bytes mxr shape ppn address kind =
+    place_under address (guest_walk base bytes mxr shape ppn address kind)
 
 -- the table of a mode's second stage: hgatp's with V = 1 (8.2.10), and none with V = 0
 abbrev pub second_root_of : Csrs → Mode → GuestRoot
@@ -73,7 +75,7 @@ second_root_of csrs mode = if is_virtual mode then csrs.hgatp else root.Bare
 -- the second stage by a table, and that of a mode's accesses as the registers and memory are
 abbrev pub second_under : ℕ → List ℕ → Bool → GuestRoot → SecondStage
 second_under base bytes mxr root.Bare = bare base (length bytes)
-second_under base bytes mxr (root.Sv39x4 vmid page) = walked base bytes mxr page
+second_under base bytes mxr (root.Table mode vmid ppn) = walked base bytes mxr (guest_shape mode) ppn
 
 abbrev pub second_now : Csrs → Mode → ℕ → List ℕ → SecondStage
 second_now csrs mode base bytes = second_under base bytes csrs.hs.status.mxr (second_root_of csrs mode)
@@ -114,8 +116,8 @@ unplaced_by unplaced AccessFault = unplaced_fault unplaced
 -- faults alone
 abbrev pub unplaced_under : ℕ → List ℕ → Bool → Unplaced → GuestRoot → Trap
 unplaced_under base bytes mxr unplaced root.Bare = unplaced_fault unplaced
-unplaced_under base bytes mxr unplaced (root.Sv39x4 vmid page) =
-    unplaced_by unplaced (guest_walk base bytes mxr page unplaced.address unplaced.kind)
+unplaced_under base bytes mxr unplaced (root.Table mode vmid ppn) =
+    unplaced_by unplaced (guest_walk base bytes mxr (guest_shape mode) ppn unplaced.address unplaced.kind)
 
 abbrev pub unplaced_trap : Csrs → ℕ → List ℕ → Unplaced → Trap
 unplaced_trap csrs base bytes unplaced =

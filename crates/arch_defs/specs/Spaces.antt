@@ -1,12 +1,12 @@
 -- The spaces of cached second-stage translations of a guest, the most recently entered first, each for a
 -- whole value of hgatp (own, within what Privileged Architecture 20211203, 8.3.2 and 8.5, permits).
-use Rattle.std.specs.Prelude.{ℕ, ◌==◌, Bool, true, false, not, ◌&&◌, List, [], ◌∷◌, Option, Some, None, filter, find, map, take, if◌then◌else◌}
+use Rattle.std.specs.Prelude.{ℕ, ◌==◌, Bool, true, not, ◌&&◌, List, [], ◌∷◌, Option, Some, None, filter, find, map, take, if◌then◌else◌}
 use Rattle.std.specs.List.{list_any}
 use Rattle.arch_defs.specs.declared.cached.Entry.{Entry}
 use Rattle.arch_defs.specs.declared.cached.Fence.{Fence}
 use Rattle.arch_defs.specs.declared.registers.GuestRoot.{GuestRoot}
-use Rattle.arch_defs.specs.declared.registers.GuestRoot.TheVariants.{Bare, Sv39x4}
 use Rattle.arch_defs.specs.CachedEntries.{filled, holds}
+use Rattle.arch_defs.specs.Roots.{is_root, vmid_of}
 
 -- the space of a value of hgatp: its cached translations, oldest first
 pub record Space : Type 0 where
@@ -18,13 +18,7 @@ abbrev pub front : List Space → List Entry
 front [] = []
 front (s ∷ ss) = s.entries
 
--- two values of hgatp are the same: the VMID and the root's page too
-abbrev pub is_root : GuestRoot → GuestRoot → Bool
-is_root Bare Bare = true
-is_root Bare (Sv39x4 vmid page) = false
-is_root (Sv39x4 vmid page) Bare = false
-is_root (Sv39x4 vmid page) (Sv39x4 other_vmid other_page) = vmid == other_vmid && page == other_page
-
+-- a space is for a value of hgatp
 abbrev pub is_for : GuestRoot → Space → Bool
 is_for key space = is_root space.key key
 
@@ -49,11 +43,6 @@ filled_if most key entry s = if is_for key s then record s { entries = filled mo
 
 unfoldable pub filled_in : ℕ → GuestRoot → Entry → List Space → List Space
 filled_in most key entry spaces = map (filled_if most key entry) spaces
-
--- the VMID of a value of hgatp
-abbrev pub vmid_of : GuestRoot → ℕ
-vmid_of Bare = 0
-vmid_of (Sv39x4 vmid page) = vmid
 
 -- whether a fence names a VMID: any, where it names none (8.3.2)
 abbrev pub names_vmid : Option ℕ → ℕ → Bool

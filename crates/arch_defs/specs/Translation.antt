@@ -14,11 +14,11 @@ use Rattle.arch_defs.specs.declared.registers.SupervisorRoot.TheVariants as root
 use Rattle.arch_defs.specs.declared.walks.Found.{Found}
 use Rattle.arch_defs.specs.declared.walks.Found.TheVariants.{Passes, PageFaults, Lacks}
 use Rattle.arch_defs.specs.declared.walks.Privilege.{Privilege}
-use Rattle.arch_defs.specs.declared.walks.Shape.TheVariants.{Sv39}
 use Rattle.arch_defs.specs.declared.walks.WalkEnd.{WalkEnd}
 use Rattle.arch_defs.specs.declared.walks.WalkEnd.TheVariants.{Leaf, PageFault, FetchEnd}
 use Rattle.arch_defs.specs.Memory.{Reading, SecondStage}
 use Rattle.arch_defs.specs.Permits.{permits_first}
+use Rattle.arch_defs.specs.Roots.{supervisor_shape}
 use Rattle.arch_defs.specs.Walk.{EntryReading, leaf_address, walk}
 
 -- the registers of the level whose table translates: HS's with V = 0, VS's with V = 1 (8.2.18)
@@ -68,8 +68,9 @@ found_by privilege access va (FetchEnd place trap) = Lacks place
 -- Bare passes each address on (4.1.11)
 abbrev pub found_under : SecondStage → Reading → Privilege → ℕ → Access → SupervisorRoot → Found
 found_under second reading privilege va access root.Bare = Passes va
-found_under second reading privilege va access (root.Sv39 asid page) =
-    found_by privilege access va (walk (entry_words_through second reading) (page % 2 ^ 44) Sv39 va access)
+found_under second reading privilege va access (root.Table mode asid ppn) =
+    found_by privilege access va
+    (walk (entry_words_through second reading) (ppn % 2 ^ 44) (supervisor_shape mode) va access)
 
 -- what the first stage makes of a virtual address for an access
 unfoldable pub first_stage : SecondStage → Reading → Csrs → Mode → ℕ → Access → Found

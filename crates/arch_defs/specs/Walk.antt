@@ -22,6 +22,13 @@ abbrev pub levels : Shape → ℕ
 levels Sv39 = 3
 levels Sv39x4 = 3
 
+-- the most levels that a table has, and the highest level
+abbrev pub most_levels : ℕ
+most_levels = 3
+
+abbrev pub most_level : ℕ
+most_level = 2
+
 -- how many bits the root's index has beyond the 9 of every other table (8.5.1)
 abbrev pub widening : Shape → ℕ
 widening Sv39 = 0

@@ -1,6 +1,6 @@
 -- What the walk of hgatp's table gives to be cached (own, within what Privileged Architecture 20211203, 8.3.2
 -- and 8.5, permits).
-use Rattle.std.specs.Prelude.{ℕ, ◌/◌, ◌&&◌, Bool, true, false, List, Option, Some, None}
+use Rattle.std.specs.Prelude.{ℕ, ◌/◌, ◌&&◌, Bool, List, Option, Some, None}
 use Rattle.arch_defs.specs.declared.cached.Entry.{Entry}
 use Rattle.arch_defs.specs.declared.guest_walks.GuestWalkEnd.{GuestWalkEnd}
 use Rattle.arch_defs.specs.declared.guest_walks.GuestWalkEnd.TheVariants.{Leaf, GuestPageFault, AccessFault}
@@ -11,14 +11,10 @@ use Rattle.arch_defs.specs.declared.registers.GuestRoot.TheVariants as root
 use Rattle.arch_defs.specs.declared.registers.Virtual.{Virtual}
 use Rattle.arch_defs.specs.declared.walks.LeafEntry.{LeafEntry}
 use Rattle.arch_defs.specs.Memory.{ram_base}
+use Rattle.arch_defs.specs.Roots.{guest_shape, is_table}
 use Rattle.arch_defs.specs.SecondStage.{guest_walk}
 use Rattle.arch_defs.specs.Traps.{is_virtual}
 use Rattle.arch_defs.specs.Walk.{leaf_address}
-
--- whether hgatp names a table (8.2.10)
-abbrev pub is_table : GuestRoot → Bool
-is_table root.Bare = false
-is_table (root.Sv39x4 vmid page) = true
 
 -- whether a state's accesses go by cached translations: with V = 1, while hgatp names a table
 abbrev pub folds : Virtual → Bool
@@ -44,8 +40,8 @@ entry_by_end address AccessFault = None
 -- by the walk of a table in RAM. MXR is sstatus's
 abbrev pub entry_by_table : Bool → List ℕ → ℕ → Access → GuestRoot → Option Entry
 entry_by_table mxr ram address kind root.Bare = None
-entry_by_table mxr ram address kind (root.Sv39x4 vmid page) =
-    entry_by_end address (guest_walk ram_base ram mxr page address kind)
+entry_by_table mxr ram address kind (root.Table mode vmid ppn) =
+    entry_by_end address (guest_walk ram_base ram mxr (guest_shape mode) ppn address kind)
 
 -- what is filled for an access of a kind at a guest physical address, as the registers and RAM are
 unfoldable pub entry_now : Csrs → List ℕ → ℕ → Access → Option Entry

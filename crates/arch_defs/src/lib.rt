@@ -35,10 +35,10 @@ pub use modes::{
     STORE_PAGE_FAULT, Trap, VIRTUAL_INSTRUCTION,
 };
 pub use needs::Need;
-pub use parts::{BLOCK_FRAMES, BLOCK_SIZE, FRAME_SIZE, MOST_BLOCKS, Part};
+pub use parts::{BLOCK_FRAMES, BLOCK_SIZE, FRAME_SIZE, MOST_BLOCKS, Part, TABLES_PER_ENTRY};
 pub use registers::{
-    Bank, Csrs, GuestRoot, HypervisorStatus, Interrupts, Reg, Regs, SupervisorRoot,
-    SupervisorStatus, Virtual,
+    Bank, Csrs, GuestMode, GuestRoot, HypervisorStatus, Interrupts, Reg, Regs, SupervisorMode,
+    SupervisorRoot, SupervisorStatus, Virtual,
 };
 pub use walks::{Found, LeafEntry, Next, Privilege, Shape, TableEntry, Unplaced, WalkEnd};
 pub use widths::{Width, extend};

@@ -3,6 +3,8 @@
 ghost use Rattle.std.specs.Prelude.{◌≡◌, ◌≤◌};
 ghost use Rattle.arch_defs.specs.Needs.{IsNeed, frames_needed};
 
+use crate::parts::TABLES_PER_ENTRY;
+
 /// What a guest needs of machine memory: so many blocks for its RAM, and tables for so many cached
 /// spaces of at most so many entries each.
 #[derive(Clone, Copy, Debug, PartialEq, Eq)]
@@ -13,13 +15,13 @@ pub struct Need {
 }
 
 impl Need {
-    /// How many frames of machine memory these are: 512 a block, 5 for the host table, and 4 and two for
-    /// each entry a space.
+    /// How many frames of machine memory these are: 512 a block, 5 for the host table, and for each space
+    /// 4 and `TABLES_PER_ENTRY` for each of its entries.
     pub fn frames(&self) -> u64
         requires { IsNeed self.now }
         ensures value { result ≡ frames_needed self.now }
         ensures most { result ≤ 20517 }
     {
-        512 * self.blocks + 5 + self.spaces * (4 + 2 * self.entries)
+        512 * self.blocks + 5 + self.spaces * (4 + TABLES_PER_ENTRY * self.entries)
     }
 }

@@ -20,10 +20,13 @@ pub const BLOCK_SIZE: u64 = 2_097_152;
 /// The most blocks of a part.
 pub const MOST_BLOCKS: usize = 32;
 
+/// How many tables below its root a space has for each of its entries: an entry needs at most one on each
+/// level below the root's.
+pub const TABLES_PER_ENTRY: u64 = 2;
+
 /// The frames of machine memory that a guest has: its blocks, in the order in which its RAM goes through
 /// them; its roots, of four frames each, the host table's first and then one for each space; and its other
-/// table frames, one of the host table's first and then two for each entry of each space. It names no
-/// frame twice.
+/// table frames, one of the host table's first and then those of each space. It names no frame twice.
 #[derive(Clone, Copy, Debug, PartialEq, Eq)]
 pub struct Part {
     // Those from `count` on are zero.
@@ -177,7 +180,7 @@ impl Part {
         if !range_lies_in(self.host_root(), 4 * (1 + self.spaces()), size) {
             return false;
         }
-        let tables = 1 + self.spaces() * (2 * self.entries());
+        let tables = 1 + self.spaces() * (TABLES_PER_ENTRY * self.entries());
         range_lies_in(self.host_table(), tables, size)
     }
 

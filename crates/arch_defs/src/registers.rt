@@ -2,9 +2,11 @@
 
 ghost use Rattle.std.specs.Prelude.{◌≡◌, ◌<◌};
 ghost use Rattle.arch_defs.specs.Bits.{field};
+ghost use Rattle.arch_defs.specs.Roots.{guest_mode_number, guest_shape, is_root, is_table, supervisor_mode_number, supervisor_shape, vmid_of};
 ghost use Rattle.arch_defs.specs.Registers.{read, advanced, clear_interrupts, csrs_at_reset, bank_at_reset, clear_supervisor_status, clear_hypervisor_status, regs_at, virtual_at};
 
 use crate::modes::Mode;
+use crate::walks::Shape;
 use std::marker::Model;
 
 /// The number of an x register, 0 to 31.
@@ -161,18 +163,117 @@ impl Interrupts {
     }
 }
 
+/// A MODE of satp and vsatp that names a table (Privileged Architecture 20211203, 4.1.11).
+#[derive(Clone, Copy, Debug, PartialEq, Eq)]
+pub enum SupervisorMode {
+    Sv39,
+}
+
+impl SupervisorMode {
+    /// The number of MODE.
+    pub fn number(self) -> u64
+        ensures value { result ≡ supervisor_mode_number self }
+        ensures small { result < 16 }
+    {
+        match self {
+            SupervisorMode::Sv39 => 8,
+        }
+    }
+
+    /// The shape of its tables.
+    pub fn shape(self) -> Shape
+        ensures { result ≡ supervisor_shape self }
+    {
+        match self {
+            SupervisorMode::Sv39 => Shape::Sv39,
+        }
+    }
+}
+
 /// satp or vsatp: the first-stage table, if any (Privileged Architecture 20211203, 4.1.11).
 #[derive(Clone, Copy, Debug, PartialEq, Eq)]
 pub enum SupervisorRoot {
     Bare,
-    Sv39 { asid: u64, page: u64 },
+    Table {
+        mode: SupervisorMode,
+        asid: u64,
+        ppn: u64,
+    },
+}
+
+/// A MODE of hgatp that names a table (Privileged Architecture 20211203, 8.2.10).
+#[derive(Clone, Copy, Debug, PartialEq, Eq)]
+pub enum GuestMode {
+    Sv39x4,
+}
+
+impl GuestMode {
+    /// The number of MODE.
+    pub fn number(self) -> u64
+        ensures value { result ≡ guest_mode_number self }
+        ensures small { result < 16 }
+    {
+        match self {
+            GuestMode::Sv39x4 => 8,
+        }
+    }
+
+    /// The shape of its tables.
+    pub fn shape(self) -> Shape
+        ensures { result ≡ guest_shape self }
+    {
+        match self {
+            GuestMode::Sv39x4 => Shape::Sv39x4,
+        }
+    }
 }
 
 /// hgatp: the second-stage table, if any (Privileged Architecture 20211203, 8.2.10).
 #[derive(Clone, Copy, Debug, PartialEq, Eq)]
 pub enum GuestRoot {
     Bare,
-    Sv39x4 { vmid: u64, page: u64 },
+    Table {
+        mode: GuestMode,
+        vmid: u64,
+        ppn: u64,
+    },
+}
+
+impl GuestRoot {
+    /// Whether it names a table.
+    pub fn is_table(self) -> bool
+        ensures { result ≡ is_table self }
+    {
+        matches!(self, GuestRoot::Table { .. })
+    }
+
+    /// Its VMID, 0 under Bare.
+    pub fn vmid(self) -> u64
+        ensures { result ≡ vmid_of self }
+    {
+        match self {
+            GuestRoot::Bare => 0,
+            GuestRoot::Table { vmid, .. } => vmid,
+        }
+    }
+
+    /// Whether `other` has the same MODE, VMID and PPN.
+    pub fn is_root(self, other: GuestRoot) -> bool
+        ensures { result ≡ is_root self other }
+    {
+        match (self, other) {
+            (GuestRoot::Bare, GuestRoot::Bare) => true,
+            (
+                GuestRoot::Table { mode, vmid, ppn },
+                GuestRoot::Table {
+                    mode: other_mode,
+                    vmid: other_vmid,
+                    ppn: other_ppn,
+                },
+            ) => mode.number() == other_mode.number() && vmid == other_vmid && ppn == other_ppn,
+            _ => false,
+        }
+    }
 }
 
 /// The registers that HS and VS each have: those of the 1xx rows, and those of the 2xx rows that match.

@@ -4,7 +4,7 @@ ghost use Rattle.std.specs.Prelude.{◌≡◌};
 ghost use Rattle.arch_defs.specs.CsrBits.{bit_number, status_number, status_of, tvec_bits, epc_bits, supervisor_root_number, supervisor_root_of};
 ghost use Rattle.arch_defs.specs.Access.{bank_shown, bank_written};
 
-use arch_defs::{Bank, BankRegister, SupervisorRoot, SupervisorStatus};
+use arch_defs::{Bank, BankRegister, SupervisorMode, SupervisorRoot, SupervisorStatus};
 
 /// UXL or VSXL: a width of 64 bits.
 pub const WIDTH_64: u64 = 0x2_0000_0000;
@@ -56,8 +56,10 @@ fn supervisor_root_number(root: SupervisorRoot) -> u64
 {
     match root {
         SupervisorRoot::Bare => 0,
-        SupervisorRoot::Sv39 { asid, page } => {
-            0x8000_0000_0000_0000 + (asid & 0xFFFF) * 0x1000_0000_0000 + (page & 0xFFF_FFFF_FFFF)
+        SupervisorRoot::Table { mode, asid, ppn } => {
+            mode.number() * 0x1000_0000_0000_0000
+                + (asid & 0xFFFF) * 0x1000_0000_0000
+                + (ppn & 0xFFF_FFFF_FFFF)
         }
     }
 }
@@ -68,9 +70,10 @@ fn supervisor_root_of(kept: SupervisorRoot, value: u64) -> SupervisorRoot
     ensures { result ≡ supervisor_root_of kept value }
 {
     match value >> 60 {
-        8 => SupervisorRoot::Sv39 {
+        8 => SupervisorRoot::Table {
+            mode: SupervisorMode::Sv39,
             asid: (value >> 44) & 0xFFFF,
-            page: value & 0xFFF_FFFF_FFFF,
+            ppn: value & 0xFFF_FFFF_FFFF,
         },
         0 => SupervisorRoot::Bare,
         _ => kept,

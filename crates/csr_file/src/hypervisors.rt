@@ -6,7 +6,7 @@ ghost use Rattle.arch_defs.specs.CsrBits.{bit_number, hstatus_number, hstatus_of
 ghost use Rattle.arch_defs.specs.Access.{bit_shown, bit_written, hypervisor_shown, hypervisor_written};
 
 use crate::banks::WIDTH_64;
-use arch_defs::{BitRegister, Csrs, GuestRoot, HypervisorRegister, HypervisorStatus};
+use arch_defs::{BitRegister, Csrs, GuestMode, GuestRoot, HypervisorRegister, HypervisorStatus};
 
 #[tactic(auto, unfolding(arch_defs::specs::CsrBits::hstatus_number))]
 fn hstatus_number(status: HypervisorStatus) -> u64
@@ -51,10 +51,10 @@ fn guest_root_number(root: GuestRoot) -> u64
 {
     match root {
         GuestRoot::Bare => 0,
-        GuestRoot::Sv39x4 { vmid, page } => {
-            0x8000_0000_0000_0000
+        GuestRoot::Table { mode, vmid, ppn } => {
+            mode.number() * 0x1000_0000_0000_0000
                 + (vmid & 0x7F) * 0x1000_0000_0000
-                + ((page >> 2) & 0x3FF_FFFF_FFFF) * 4
+                + ((ppn >> 2) & 0x3FF_FFFF_FFFF) * 4
         }
     }
 }
@@ -65,9 +65,10 @@ fn guest_root_of(value: u64) -> GuestRoot
     ensures { result ≡ guest_root_of value }
 {
     match value >> 60 {
-        8 => GuestRoot::Sv39x4 {
+        8 => GuestRoot::Table {
+            mode: GuestMode::Sv39x4,
             vmid: (value >> 44) & 0x7F,
-            page: ((value >> 2) & 0x3FF_FFFF_FFFF) * 4,
+            ppn: ((value >> 2) & 0x3FF_FFFF_FFFF) * 4,
         },
         _ => GuestRoot::Bare,
     }

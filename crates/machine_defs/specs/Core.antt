@@ -2,7 +2,8 @@
 -- gives at a physical address, and of the second stage. Each part of it takes the result of the part before.
 use Rattle.std.specs.Prelude.{ℕ, ◌%◌, ◌^◌, Bool, true, false, ◌&&◌, Option, Some, None, ◌==◌, if◌then◌else◌}
 use Rattle.arch_defs.specs.declared.modes.Access.{Access}
-use Rattle.arch_defs.specs.declared.modes.Access.TheVariants.{Fetch, Load, Store, Implicit}
+use Rattle.arch_defs.specs.declared.modes.Access.TheVariants as access
+use Rattle.arch_defs.specs.declared.modes.Access.TheVariants.{Fetch, Implicit}
 use Rattle.arch_defs.specs.declared.modes.Mode.{Mode}
 use Rattle.arch_defs.specs.declared.modes.Mode.TheVariants.{HS, U, VS, VU}
 use Rattle.arch_defs.specs.declared.modes.Trap.{Trap}
@@ -19,16 +20,18 @@ use Rattle.arch_defs.specs.Registers.{advanced}
 use Rattle.arch_defs.specs.Translation.{first_stage}
 use Rattle.arch_defs.specs.Traps.{exception, misaligned_fault, page_fault}
 use Rattle.arch_defs.specs.Widths.{bytes_in, extended}
-use Rattle.op_defs.specs.declared.ops.AmoOp.{AmoOp}
+use Rattle.op_defs.specs.declared.ops.DataAccess.{DataAccess}
 use Rattle.op_defs.specs.declared.ops.Op.{Op}
 use Rattle.op_defs.specs.declared.ops.Effect.{Effect}
-use Rattle.op_defs.specs.declared.ops.Effect.TheVariants.{Sets, Raises, Loads, Stores, Reserves, StoresReserved, Modifies, Calls, Privileged}
+use Rattle.op_defs.specs.declared.ops.Effect.TheVariants.{Sets, Raises, Data, Calls, Privileged}
+use Rattle.op_defs.specs.declared.ops.Purpose.{Purpose}
+use Rattle.op_defs.specs.declared.ops.Purpose.TheVariants.{Load, LoadCode, Store, Reserve, StoreReserved, Modify}
 use Rattle.op_defs.specs.Arithmetic.{amo}
 use Rattle.op_defs.specs.Meaning.{meaning}
 use Rattle.op_defs.specs.Table.{op_of, is_system}
 use Rattle.machine_defs.specs.declared.events.Event.{Event}
 use Rattle.machine_defs.specs.declared.events.Event.TheVariants.{Plain, System}
-use Rattle.machine_defs.specs.Outcomes.{Outcome, Done, Trapped, Stuck, Called, sets}
+use Rattle.machine_defs.specs.Outcomes.{Outcome, Done, Trapped, Stuck, Called, passed, sets}
 use Rattle.machine_defs.specs.Privileges.{privileged}
 
 -- why an access is not made: it is an exception, or the second stage has no place for it
@@ -40,11 +43,6 @@ pub data Failure : Type 0 where
 pub data Located : Type 0 where
   At : ℕ → Located
   Fails : Failure → Located
-
--- how the instruction ends whose access is not made
-abbrev pub failed : Failure → Outcome
-failed (Faults trap) = Trapped trap
-failed (Misses unplaced) = Stuck unplaced
 
 -- by the second stage, for a guest physical address
 abbrev pub located_at : Mode → ℕ → Access → ℕ → Option ℕ → Located
@@ -72,36 +70,43 @@ accessed second reading csrs mode va width access =
     if va % bytes_in width == 0 then located second reading csrs mode va access
     else Fails (Faults (exception mode (misaligned_fault access) va))
 
--- what an instruction leaves, or how it ends without that
-pub data Made : Type 0 where
-  Leaves : Virtual → Option Stored → Made
-  Ends : Outcome → Made
+-- how an instruction goes on at the place of its access; where there is none, it ends there
+abbrev pub at_place : Located → (ℕ → Outcome) → Outcome
+at_place (At place) rest = rest place
+at_place (Fails (Faults trap)) rest = Trapped trap
+at_place (Fails (Misses unplaced)) rest = Stuck unplaced
+
+-- what access to data an instruction makes for this purpose. LR is a load; SC, whatever is reserved, and an
+-- atomic memory operation are stores (Unprivileged ISA 20191213, 8.2 and 8.4). HLVX needs X in place of R in
+-- both stages (Privileged Architecture 20211203, 8.3.1)
+abbrev pub kind_of : Purpose → Access
+kind_of (Load signed rd) = access.Load
+kind_of (LoadCode rd) = access.ExecLoad
+kind_of (Store value) = access.Store
+kind_of (Reserve rd) = access.Load
+kind_of (StoreReserved value rd) = access.Store
+kind_of (Modify op operand rd) = access.Store
+
+-- where in memory an access to data is made, as a mode
+abbrev pub data_place : SecondStage → Reading → Csrs → Mode → DataAccess → Located
+data_place second reading csrs mode wanted =
+    accessed second reading csrs mode wanted.address wanted.width (kind_of wanted.purpose)
+
+-- what an instruction leaves that completes: the state after it, and what it stores
+pub record Completion : Type 0 where
+  pub state : Virtual
+  pub stored : Option Stored
+
+abbrev pub leaves : Virtual → Option Stored → Completion
+leaves state stored = record { state = state; stored = stored }
 
 -- a number is stored in the bytes of a width
 abbrev pub storing : ℕ → Width → ℕ → Option Stored
 storing place width value = Some (record { place = place; width = bytes_in width; value = value })
 
--- a load
-abbrev pub loaded_at : Reading → Virtual → Width → Bool → ℕ → Located → Made
-loaded_at reading state width signed rd (At place) =
-    Leaves (sets state rd (extended width signed (reading place (bytes_in width)))) None
-loaded_at reading state width signed rd (Fails failure) = Ends (failed failure)
-
--- a store
-abbrev pub stored_at : Virtual → Width → ℕ → Located → Made
-stored_at state width value (At place) = Leaves (sets state 0 0) (storing place width value)
-stored_at state width value (Fails failure) = Ends (failed failure)
-
 -- what is reserved after an instruction
 abbrev pub reserving : Virtual → Option (ℕ × ℕ) → Virtual
 reserving state place = record state { reservation = place }
-
--- LR reserves its physical address and width (Unprivileged ISA 20191213, 8.2)
-abbrev pub reserved_at : Reading → Virtual → Width → ℕ → Located → Made
-reserved_at reading state width rd (At place) =
-    let held = extended width true (reading place (bytes_in width)) in
-    Leaves (reserving (sets state rd held) (Some (place, bytes_in width))) None
-reserved_at reading state width rd (Fails failure) = Ends (failed failure)
 
 -- whether this place is reserved for this width: SC succeeds nowhere else (own)
 abbrev pub is_reserved : Option (ℕ × ℕ) → ℕ → Width → Bool
@@ -110,22 +115,37 @@ is_reserved None at width = false
 
 -- SC stores and gives 0 where the place is reserved, else it gives 1; it ends the reservation, and nothing
 -- else does (own)
-abbrev pub stored_if : Bool → Virtual → Width → ℕ → ℕ → ℕ → Made
+abbrev pub stored_if : Bool → Virtual → Width → ℕ → ℕ → ℕ → Completion
 stored_if true state width value rd place =
-    Leaves (reserving (sets state rd 0) None) (storing place width value)
-stored_if false state width value rd place = Leaves (reserving (sets state rd 1) None) None
+    leaves (reserving (sets state rd 0) None) (storing place width value)
+stored_if false state width value rd place = leaves (reserving (sets state rd 1) None) None
 
-abbrev pub stored_if_reserved : Virtual → Width → ℕ → ℕ → Located → Made
-stored_if_reserved state width value rd (At place) =
+-- what an instruction leaves whose access to data, of this width and purpose, is made at this place. LR
+-- reserves its physical address and width (Unprivileged ISA 20191213, 8.2)
+abbrev pub completed : Reading → Virtual → Width → Purpose → ℕ → Completion
+completed reading state width (Load signed rd) place =
+    leaves (sets state rd (extended width signed (reading place (bytes_in width)))) None
+completed reading state width (LoadCode rd) place =
+    leaves (sets state rd (extended width false (reading place (bytes_in width)))) None
+completed reading state width (Store value) place = leaves (passed state) (storing place width value)
+completed reading state width (Reserve rd) place =
+    let held = extended width true (reading place (bytes_in width)) in
+    leaves (reserving (sets state rd held) (Some (place, bytes_in width))) None
+completed reading state width (StoreReserved value rd) place =
     stored_if (is_reserved state.reservation place width) state width value rd place
-stored_if_reserved state width value rd (Fails failure) = Ends (failed failure)
-
--- an atomic memory operation (8.4)
-abbrev pub modified_at : Reading → Virtual → AmoOp → Width → ℕ → ℕ → Located → Made
-modified_at reading state op width operand rd (At place) =
+completed reading state width (Modify op operand rd) place =
     let held = reading place (bytes_in width) in
-    Leaves (sets state rd (extended width true held)) (storing place width (amo op width held operand))
-modified_at reading state op width operand rd (Fails failure) = Ends (failed failure)
+    leaves (sets state rd (extended width true held)) (storing place width (amo op width held operand))
+
+-- the end of an instruction that completes, where the step is this event
+abbrev pub done : Event → Completion → Outcome
+done event completion = Done completion.state completion.stored event
+
+-- an access to data as the instruction's own mode, and how the instruction ends with it
+abbrev pub accessed_data : SecondStage → Reading → Virtual → Event → DataAccess → Outcome
+accessed_data second reading state event wanted =
+    at_place (data_place second reading state.csrs state.mode wanted)
+    (λ place. done event (completed reading state wanted.width wanted.purpose place))
 
 -- a call of the environment, by mode (Privileged Architecture 20211203, 3.3.1 and 8.6)
 abbrev pub called_from : Mode → Outcome
@@ -134,57 +154,41 @@ called_from U = Trapped (exception U ECALL_FROM_USER 0)
 called_from VS = Trapped (exception VS ECALL_FROM_VS 0)
 called_from VU = Trapped (exception VU ECALL_FROM_USER 0)
 
--- an access of the instruction's own, as its mode
-abbrev pub own_access : SecondStage → Reading → Virtual → ℕ → Width → Access → Located
-own_access second reading state va width access =
-    accessed second reading state.csrs state.mode va width access
-
--- what an effect of the instruction of this word does
-abbrev pub executed : SecondStage → Reading → Virtual → ℕ → Effect → Made
-executed second reading state word (Sets rd value next) =
-    Leaves (record state { regs = advanced state.regs rd value next }) None
-executed second reading state word (Raises cause tval) = Ends (Trapped (exception state.mode cause tval))
-executed second reading state word (Loads address width signed rd) =
-    loaded_at reading state width signed rd (own_access second reading state address width Load)
-executed second reading state word (Stores address width value) =
-    stored_at state width value (own_access second reading state address width Store)
-executed second reading state word (Reserves address width rd) =
-    reserved_at reading state width rd (own_access second reading state address width Load)
-executed second reading state word (StoresReserved address width value rd) =
-    stored_if_reserved state width value rd (own_access second reading state address width Store)
-executed second reading state word (Modifies op address width operand rd) =
-    modified_at reading state op width operand rd (own_access second reading state address width Store)
-executed second reading state word Calls = Ends (called_from state.mode)
-executed second reading state word (Privileged effect) = Ends (privileged state word effect)
-
 -- what a step that made the instruction of this word at this pc was
 abbrev pub event_of : ℕ → ℕ → Event
 event_of pc word = if is_system word then System else Plain pc word
 
--- how an instruction that was such a step ends
-abbrev pub ended : Event → Made → Outcome
-ended event (Leaves state stored) = Done state stored event
-ended event (Ends outcome) = outcome
+-- how the instruction of this word ends, by what it asks for
+abbrev pub executed : SecondStage → Reading → Virtual → ℕ → Effect → Outcome
+executed second reading state word (Sets rd value next) =
+    Done (record state { regs = advanced state.regs rd value next }) None (event_of state.regs.pc word)
+executed second reading state word (Raises cause tval) = Trapped (exception state.mode cause tval)
+executed second reading state word (Data wanted) =
+    accessed_data second reading state (event_of state.regs.pc word) wanted
+executed second reading state word Calls = called_from state.mode
+executed second reading state word (Privileged effect) = privileged state word effect
 
 -- the instruction that was decoded from a word; a word that is none is illegal
 abbrev pub decoded : SecondStage → Reading → Virtual → ℕ → Option Op → Outcome
-decoded second reading state word (Some op) =
-    ended (event_of state.regs.pc word) (executed second reading state word (meaning op state.regs))
+decoded second reading state word (Some op) = executed second reading state word (meaning op state.regs)
 decoded second reading state word None = Trapped (exception state.mode ILLEGAL_INSTRUCTION word)
+
+-- the instruction of a word
+abbrev pub instruction : SecondStage → Reading → Virtual → ℕ → Outcome
+instruction second reading state word = decoded second reading state word (op_of word)
+
+-- where in memory the word at pc is
+abbrev pub fetch_place : SecondStage → Reading → Virtual → Located
+fetch_place second reading state = accessed second reading state.csrs state.mode state.regs.pc Word Fetch
 
 -- the word of 32 bits at a physical address
 abbrev pub word_at : Reading → ℕ → ℕ
 word_at reading place = reading place 4 % 2 ^ 32
 
--- the instruction at the physical address of pc, if it has one
-abbrev pub fetched : SecondStage → Reading → Virtual → Located → Outcome
-fetched second reading state (At place) =
-    decoded second reading state (word_at reading place) (op_of (word_at reading place))
-fetched second reading state (Fails failure) = failed failure
-
 -- one instruction, in this order: fetch, decode, checks of privilege, alignment, translation, access. pc is a
--- multiple of 4 from the start on: a jump to another target is an exception at the jump, and sepc and
--- handlers are multiples of 4
+-- multiple of 4 from the start on (the law `StaysStorable` of `machine_laws`): a jump to another target is an
+-- exception at the jump, and sepc and handlers are multiples of 4
 unfoldable pub core : SecondStage → Reading → Virtual → Outcome
 core second reading state =
-    fetched second reading state (own_access second reading state state.regs.pc Word Fetch)
+    at_place (fetch_place second reading state)
+    (λ place. instruction second reading state (word_at reading place))

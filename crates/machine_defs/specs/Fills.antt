@@ -60,6 +60,11 @@ needed = 8
 abbrev pub most_fills : Machine → ℕ
 most_fills m = m.entry_room + needed
 
+-- how many tries a step takes at most where a space has room for so many entries: one after each fill, and the
+-- first
+abbrev pub most_tries : ℕ → ℕ
+most_tries room = room + needed + 1
+
 -- the machine at the last try of its next step
 abbrev pub ready : Machine → Machine
 ready m = after_fills (most_fills m) m

@@ -6,7 +6,7 @@ use Rattle.arch_defs.specs.declared.registers.Virtual.{Virtual}
 use Rattle.arch_defs.specs.declared.walks.Unplaced.{Unplaced}
 use Rattle.arch_defs.specs.Memory.{Stored}
 use Rattle.arch_defs.specs.Registers.{advanced}
-use Rattle.op_defs.specs.declared.ops.GuestAccess.{GuestAccess}
+use Rattle.op_defs.specs.declared.ops.DataAccess.{DataAccess}
 use Rattle.op_defs.specs.Meaning.{next}
 use Rattle.machine_defs.specs.declared.events.Event.{Event}
 
@@ -24,7 +24,7 @@ pub data Outcome : Type 0 where
   -- an HFENCE.GVMA that is allowed, the state after it, and what it names
   Fenced : Virtual → Fence → Outcome
   -- the access of an HLV, HLVX or HSV that is allowed
-  Accesses : GuestAccess → Outcome
+  Accesses : DataAccess → Outcome
 
 -- a register is set, and pc goes on
 abbrev pub sets : Virtual → ℕ → ℕ → Virtual

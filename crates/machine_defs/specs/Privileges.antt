@@ -1,25 +1,25 @@
 -- Instructions of opcode SYSTEM that the mode decides on: how each ends, by mode (Privileged Architecture
 -- 20211203, but where another standard is named). Memory has no part in them.
-use Rattle.std.specs.Prelude.{ℕ, ◌-◌, ◌^◌, Bool, true, false, None, Result, Ok, Err, bit_and, bit_or, if◌then◌else◌}
+use Rattle.std.specs.Prelude.{ℕ, ◌-◌, ◌^◌, Bool, true, false, Option, Some, None, Result, Ok, Err, bit_and, bit_or, if◌then◌else◌}
 use Rattle.arch_defs.specs.declared.csr_names.CsrEnd.{CsrEnd}
 use Rattle.arch_defs.specs.declared.csr_names.CsrEnd.TheVariants.{Illegal, Virtual as VirtualInstruction}
 use Rattle.arch_defs.specs.declared.modes.Mode.{Mode}
 use Rattle.arch_defs.specs.declared.modes.Mode.TheVariants.{HS, U, VS, VU}
 use Rattle.arch_defs.specs.declared.modes.TheConstants.{ILLEGAL_INSTRUCTION, VIRTUAL_INSTRUCTION}
 use Rattle.arch_defs.specs.declared.registers.Csrs.{Csrs}
+use Rattle.arch_defs.specs.declared.registers.HypervisorStatus.{HypervisorStatus}
 use Rattle.arch_defs.specs.declared.registers.Virtual.{Virtual}
 use Rattle.arch_defs.specs.Access.{read, write}
 use Rattle.arch_defs.specs.Traps.{arrived, exception, returned}
 use Rattle.op_defs.specs.declared.ops.CsrOp.{CsrOp}
 use Rattle.op_defs.specs.declared.ops.CsrOp.TheVariants as csr
-use Rattle.op_defs.specs.declared.ops.GuestAccess.{GuestAccess}
 use Rattle.op_defs.specs.declared.ops.Privileged.{Privileged}
-use Rattle.op_defs.specs.declared.ops.Privileged.TheVariants.{Csr, Sret, Wfi, SfenceVma, HfenceVvma, HfenceGvma, GuestAccess as Access}
+use Rattle.op_defs.specs.declared.ops.Privileged.TheVariants.{Csr, Sret, Wfi, SfenceVma, HfenceVvma, HfenceGvma, HlvAccess}
 use Rattle.machine_defs.specs.declared.events.Event.TheVariants.{System}
 use Rattle.machine_defs.specs.Outcomes.{Outcome, Done, Trapped, Waits, Fenced, Accesses, passed, sets}
 
 -- the exception of an instruction that the mode does not allow: an illegal instruction, or a virtual one
--- (8.6.1; own: which of them, as the definitions by mode say)
+-- (8.6.1; own: which of them, as `refusal` says)
 abbrev pub refusal_code : CsrEnd → ℕ
 refusal_code Illegal = ILLEGAL_INSTRUCTION
 refusal_code VirtualInstruction = VIRTUAL_INSTRUCTION
@@ -60,51 +60,53 @@ csr_accessed state word op number operand false rd =
 abbrev pub left_by_sret : Virtual → Outcome
 left_by_sret state = Done (arrived state (returned state.csrs state.regs state.mode)) None System
 
--- SRET (8.6.1, and 8.2.1 for VTSR)
-abbrev pub returned_in : Virtual → ℕ → Mode → Outcome
-returned_in state word HS = left_by_sret state
-returned_in state word U = refused state word Illegal
-returned_in state word VS =
-    if state.csrs.hstatus.vtsr then refused state word VirtualInstruction else left_by_sret state
-returned_in state word VU = refused state word VirtualInstruction
+-- the refusal where a bit of hstatus keeps an instruction from VS, and where one does not allow it in U
+abbrev pub virtual_if : Bool → Option CsrEnd
+virtual_if kept = if kept then Some VirtualInstruction else None
 
--- WFI (8.6.1, and 8.2.1 for VTW), which is refused at once where it is (own); in U it is always illegal (own)
-abbrev pub waited_in : Virtual → ℕ → Mode → Outcome
-waited_in state word HS = Waits (passed state)
-waited_in state word U = refused state word Illegal
-waited_in state word VS =
-    if state.csrs.hstatus.vtw then refused state word VirtualInstruction else Waits (passed state)
-waited_in state word VU = refused state word VirtualInstruction
+abbrev pub illegal_unless : Bool → Option CsrEnd
+illegal_unless allowed = if allowed then None else Some Illegal
 
--- SFENCE.VMA, which changes nothing: first-stage walks read memory as it is (own) (4.2.1, and 8.2.1 for VTVM)
-abbrev pub fenced_in : Virtual → ℕ → Mode → Outcome
-fenced_in state word HS = Done (passed state) None System
-fenced_in state word U = refused state word Illegal
-fenced_in state word VS =
-    if state.csrs.hstatus.vtvm then refused state word VirtualInstruction else Done (passed state) None System
-fenced_in state word VU = refused state word VirtualInstruction
+-- one row of a table by mode: HS, U, VS, VU
+abbrev pub by_mode : Mode → Option CsrEnd → Option CsrEnd → Option CsrEnd → Option CsrEnd → Option CsrEnd
+by_mode HS hs u vs vu = hs
+by_mode U hs u vs vu = u
+by_mode VS hs u vs vu = vs
+by_mode VU hs u vs vu = vu
 
--- what HS alone may make, HFENCE (8.3.2, 8.6.1)
-abbrev pub in_hs : Virtual → ℕ → Outcome → Mode → Outcome
-in_hs state word outcome HS = outcome
-in_hs state word outcome U = refused state word Illegal
-in_hs state word outcome VS = refused state word VirtualInstruction
-in_hs state word outcome VU = refused state word VirtualInstruction
+-- the refusal of an instruction by a mode that does not allow it (8.6.1; 8.2.1 for VTSR, VTW, VTVM and HU;
+-- 8.3.1 and 8.3.2). A register says itself which modes may read and write it. A WFI that is refused is refused
+-- at once, and in U each is (own)
+unfoldable pub refusal : Privileged → HypervisorStatus → Mode → Option CsrEnd
+refusal (Csr op number operand writes rd) hstatus mode = None
+refusal Sret hstatus mode =
+    by_mode mode None (Some Illegal) (virtual_if hstatus.vtsr) (Some VirtualInstruction)
+refusal Wfi hstatus mode =
+    by_mode mode None (Some Illegal) (virtual_if hstatus.vtw) (Some VirtualInstruction)
+refusal SfenceVma hstatus mode =
+    by_mode mode None (Some Illegal) (virtual_if hstatus.vtvm) (Some VirtualInstruction)
+refusal HfenceVvma hstatus mode =
+    by_mode mode None (Some Illegal) (Some VirtualInstruction) (Some VirtualInstruction)
+refusal (HfenceGvma fence) hstatus mode =
+    by_mode mode None (Some Illegal) (Some VirtualInstruction) (Some VirtualInstruction)
+refusal (HlvAccess wanted) hstatus mode =
+    by_mode mode None (illegal_unless hstatus.hu) (Some VirtualInstruction) (Some VirtualInstruction)
 
--- HLV, HLVX and HSV (8.3.1, 8.6.1), in U where hstatus.HU lets it
-abbrev pub guest_accessed_in : Virtual → ℕ → GuestAccess → Mode → Outcome
-guest_accessed_in state word access HS = Accesses access
-guest_accessed_in state word access U =
-    if state.csrs.hstatus.hu then Accesses access else refused state word Illegal
-guest_accessed_in state word access VS = refused state word VirtualInstruction
-guest_accessed_in state word access VU = refused state word VirtualInstruction
+-- how an instruction ends that is allowed. SFENCE.VMA and HFENCE.VVMA change nothing: first-stage walks read
+-- memory as it is (own, within 4.2.1 and 8.3.2)
+abbrev pub performed : Virtual → ℕ → Privileged → Outcome
+performed state word (Csr op number operand writes rd) = csr_accessed state word op number operand writes rd
+performed state word Sret = left_by_sret state
+performed state word Wfi = Waits (passed state)
+performed state word SfenceVma = Done (passed state) None System
+performed state word HfenceVvma = Done (passed state) None System
+performed state word (HfenceGvma fence) = Fenced (passed state) fence
+performed state word (HlvAccess wanted) = Accesses wanted
 
--- how such an instruction ends. HFENCE.VVMA changes nothing, as SFENCE.VMA (own)
+-- how an instruction ends, by its refusal
+abbrev pub decided : Virtual → ℕ → Privileged → Option CsrEnd → Outcome
+decided state word effect (Some end) = refused state word end
+decided state word effect None = performed state word effect
+
 unfoldable pub privileged : Virtual → ℕ → Privileged → Outcome
-privileged state word (Csr op number operand writes rd) = csr_accessed state word op number operand writes rd
-privileged state word Sret = returned_in state word state.mode
-privileged state word Wfi = waited_in state word state.mode
-privileged state word SfenceVma = fenced_in state word state.mode
-privileged state word HfenceVvma = in_hs state word (Done (passed state) None System) state.mode
-privileged state word (HfenceGvma fence) = in_hs state word (Fenced (passed state) fence) state.mode
-privileged state word (Access access) = guest_accessed_in state word access state.mode
+privileged state word effect = decided state word effect (refusal effect state.csrs.hstatus state.mode)

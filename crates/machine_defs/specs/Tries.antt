@@ -1,8 +1,9 @@
 -- One try of a machine's next step: the due interrupt, or one instruction. While the machine folds, its
 -- second stage is by the cached translations of the front space (own, within what Privileged Architecture
 -- 20211203, 8.3.2 and 8.5, permits).
-use Rattle.std.specs.Prelude.{ℕ, ◌&&◌, Bool, not, List, Option, Some, None, length, if◌then◌else◌}
+use Rattle.std.specs.Prelude.{ℕ, ◌&&◌, Bool, not, List, Option, Some, None, Result, Ok, Err, length, if◌then◌else◌}
 use Rattle.arch_defs.specs.declared.cached.Fence.{Fence}
+use Rattle.arch_defs.specs.declared.modes.Trap.{Trap}
 use Rattle.arch_defs.specs.declared.registers.Virtual.{Virtual}
 use Rattle.arch_defs.specs.CachedEntries.{second_by}
 use Rattle.arch_defs.specs.Interrupts.{due, interrupt_of}
@@ -13,8 +14,8 @@ use Rattle.arch_defs.specs.Traps.{is_virtual}
 use Rattle.arch_defs.specs.WalkedEntries.{folds}
 use Rattle.machine_defs.specs.declared.events.Event.{Event}
 use Rattle.machine_defs.specs.declared.events.Event.TheVariants as event
-use Rattle.machine_defs.specs.Core.{core}
-use Rattle.machine_defs.specs.GuestAccesses.{GuestOutcome, Completes, Traps, guest_outcome}
+use Rattle.machine_defs.specs.Core.{Completion, core}
+use Rattle.machine_defs.specs.HlvAccesses.{hlv_outcome}
 use Rattle.machine_defs.specs.Machine.{Machine, Tried, called, stepped_to, trapped, waited}
 use Rattle.machine_defs.specs.Outcomes.{Outcome, Done, Trapped, Stuck, Called, Waits, Fenced, Accesses}
 
@@ -39,9 +40,9 @@ made m virt stored event =
     (record m.platform { virt = virt }) event
 
 -- an HLV, HLVX or HSV, as its access ends
-abbrev pub accessed_for_guest : Machine → GuestOutcome → Tried
-accessed_for_guest m (Completes virt stored) = made m virt stored event.System
-accessed_for_guest m (Traps trap) = trapped m trap
+abbrev pub hlv_made : Machine → Result Completion Trap → Tried
+hlv_made m (Ok completion) = made m completion.state completion.stored event.System
+hlv_made m (Err trap) = trapped m trap
 
 -- what the outcome of an instruction is to the machine. An access without a place is the fault of the walk of
 -- hgatp's table, as RAM is (8.5, 8.6.1). A fence drops the entries that it names (8.3.2)
@@ -53,8 +54,8 @@ concluded m Called = stepped_to m (called m.platform) event.System
 concluded m (Waits virt) = waited m virt
 concluded m (Fenced virt fence) =
     stepped_to (record m { spaces = fenced fence m.spaces }) (record m.platform { virt = virt }) event.System
-concluded m (Accesses access) =
-    accessed_for_guest m (guest_outcome ram_base m.ram m.platform.virt access)
+concluded m (Accesses wanted) =
+    hlv_made m (hlv_outcome ram_base m.ram m.platform.virt wanted)
 
 -- the interrupt of this code, if one is due, or else one instruction under a second stage
 abbrev pub tried_with : SecondStage → Machine → Option ℕ → Tried

@@ -4,6 +4,7 @@ use Rattle.std.specs.Prelude.{ℕ, ◌-◌, ◌/◌, ◌%◌, ◌^◌, Option, S
 use Rattle.arch_defs.specs.declared.cached.Fence.{Fence}
 use Rattle.arch_defs.specs.declared.modes.TheConstants.{INSTRUCTION_MISALIGNED, BREAKPOINT}
 use Rattle.arch_defs.specs.declared.registers.Regs.{Regs}
+use Rattle.arch_defs.specs.declared.widths.Width.{Width}
 use Rattle.arch_defs.specs.Bits.{add64}
 use Rattle.arch_defs.specs.Registers.{read}
 use Rattle.op_defs.specs.declared.ops.CsrOp.{CsrOp}
@@ -15,9 +16,10 @@ use Rattle.op_defs.specs.declared.ops.Op.TheVariants as op
 use Rattle.op_defs.specs.declared.ops.Test.{Test}
 use Rattle.op_defs.specs.declared.ops.Test.TheVariants.{Eq, Ne, Lt, Ge, Ltu, Geu}
 use Rattle.op_defs.specs.declared.ops.Effect.{Effect}
-use Rattle.op_defs.specs.declared.ops.Effect.TheVariants.{Sets, Raises, Loads, Stores, Reserves, StoresReserved, Modifies, Calls, Privileged}
-use Rattle.op_defs.specs.declared.ops.GuestAccess.TheVariants as guest
+use Rattle.op_defs.specs.declared.ops.Effect.TheVariants.{Sets, Raises, Data, Calls, Privileged}
 use Rattle.op_defs.specs.declared.ops.Privileged.TheVariants as privileged
+use Rattle.op_defs.specs.declared.ops.Purpose.{Purpose}
+use Rattle.op_defs.specs.declared.ops.Purpose.TheVariants.{Load, LoadCode, Store, Reserve, StoreReserved, Modify}
 use Rattle.op_defs.specs.Arithmetic.{signed, alu, word_alu}
 
 -- the address of the next instruction
@@ -76,6 +78,14 @@ abbrev pub fence_named : ℕ → ℕ → Regs → Fence
 fence_named rs1 rs2 regs =
     record { vmid = named_by rs2 (read regs rs2 % 2 ^ 7); page = named_by rs1 (read regs rs1 / 2 ^ 10) }
 
+-- an access to data as the instruction's own mode, and one as VS or VU
+abbrev pub accesses : ℕ → Width → Purpose → Effect
+accesses address width purpose = Data (record { address = address; width = width; purpose = purpose })
+
+abbrev pub accesses_by_hlv : ℕ → Width → Purpose → Effect
+accesses_by_hlv address width purpose =
+    Privileged (privileged.HlvAccess (record { address = address; width = width; purpose = purpose }))
+
 -- what an instruction asks for
 unfoldable pub meaning : Op → Regs → Effect
 meaning (op.Lui rd immediate) regs = Sets rd immediate (next regs)
@@ -84,8 +94,8 @@ meaning (op.Jal rd offset) regs = jump rd (next regs) (add64 regs.pc offset)
 meaning (op.Jalr rd rs1 offset) regs = jump rd (next regs) (even (address_at regs rs1 offset))
 meaning (op.Branch test rs1 rs2 offset) regs =
     branch (holds test (read regs rs1) (read regs rs2)) (next regs) (add64 regs.pc offset)
-meaning (op.Load width signed rd rs1 offset) regs = Loads (address_at regs rs1 offset) width signed rd
-meaning (op.Store width rs1 rs2 offset) regs = Stores (address_at regs rs1 offset) width (read regs rs2)
+meaning (op.Load width signed rd rs1 offset) regs = accesses (address_at regs rs1 offset) width (Load signed rd)
+meaning (op.Store width rs1 rs2 offset) regs = accesses (address_at regs rs1 offset) width (Store (read regs rs2))
 meaning (op.AluImmediate o rd rs1 immediate) regs = Sets rd (alu o (read regs rs1) immediate) (next regs)
 meaning (op.Alu o rd rs1 rs2) regs = Sets rd (alu o (read regs rs1) (read regs rs2)) (next regs)
 meaning (op.WordImmediate o rd rs1 immediate) regs =
@@ -93,9 +103,10 @@ meaning (op.WordImmediate o rd rs1 immediate) regs =
 meaning (op.Word o rd rs1 rs2) regs = Sets rd (word_alu o (read regs rs1) (read regs rs2)) (next regs)
 meaning op.Fence regs = Sets 0 0 (next regs)
 meaning op.FenceI regs = Sets 0 0 (next regs)
-meaning (op.LoadReserved width rd rs1) regs = Reserves (read regs rs1) width rd
-meaning (op.StoreConditional width rd rs1 rs2) regs = StoresReserved (read regs rs1) width (read regs rs2) rd
-meaning (op.Amo o width rd rs1 rs2) regs = Modifies o (read regs rs1) width (read regs rs2) rd
+meaning (op.LoadReserved width rd rs1) regs = accesses (read regs rs1) width (Reserve rd)
+meaning (op.StoreConditional width rd rs1 rs2) regs =
+    accesses (read regs rs1) width (StoreReserved (read regs rs2) rd)
+meaning (op.Amo o width rd rs1 rs2) regs = accesses (read regs rs1) width (Modify o (read regs rs2) rd)
 meaning op.Ecall regs = Calls
 meaning op.Ebreak regs = Raises BREAKPOINT regs.pc
 meaning op.Sret regs = Privileged privileged.Sret
@@ -105,9 +116,6 @@ meaning (op.Csr o operand rd number) regs =
 meaning (op.SfenceVma rs1 rs2) regs = Privileged privileged.SfenceVma
 meaning (op.HfenceVvma rs1 rs2) regs = Privileged privileged.HfenceVvma
 meaning (op.HfenceGvma rs1 rs2) regs = Privileged (privileged.HfenceGvma (fence_named rs1 rs2 regs))
-meaning (op.GuestLoad width signed rd rs1) regs =
-    Privileged (privileged.GuestAccess (guest.Loads (read regs rs1) width signed rd))
-meaning (op.GuestFetch width rd rs1) regs =
-    Privileged (privileged.GuestAccess (guest.LoadsCode (read regs rs1) width rd))
-meaning (op.GuestStore width rs1 rs2) regs =
-    Privileged (privileged.GuestAccess (guest.Stores (read regs rs1) width (read regs rs2)))
+meaning (op.GuestLoad width signed rd rs1) regs = accesses_by_hlv (read regs rs1) width (Load signed rd)
+meaning (op.GuestFetch width rd rs1) regs = accesses_by_hlv (read regs rs1) width (LoadCode rd)
+meaning (op.GuestStore width rs1 rs2) regs = accesses_by_hlv (read regs rs1) width (Store (read regs rs2))

@@ -3,4 +3,6 @@
 
 mod ops;
 
-pub use ops::{AluOp, AmoOp, CsrOp, CsrSource, Effect, GuestAccess, Op, Privileged, Test, WordOp};
+pub use ops::{
+    AluOp, AmoOp, CsrOp, CsrSource, DataAccess, Effect, Op, Privileged, Purpose, Test, WordOp,
+};

@@ -212,55 +212,43 @@ pub enum Op {
 #[derive(Clone, Copy, Debug, PartialEq, Eq)]
 pub enum Effect {
     /// `rd` becomes `value`, and pc `next`.
-    Sets {
-        rd: Reg,
-        value: u64,
-        next: u64,
-    },
+    Sets { rd: Reg, value: u64, next: u64 },
     /// An exception of this cause, with what stval gets.
-    Raises {
-        cause: u64,
-        tval: u64,
-    },
-    /// `rd` becomes what is loaded, extended.
-    Loads {
-        address: u64,
-        width: Width,
-        signed: bool,
-        rd: Reg,
-    },
-    /// The low bytes of `value` are stored.
-    Stores {
-        address: u64,
-        width: Width,
-        value: u64,
-    },
-    /// `rd` becomes what is loaded, sign extended, and the place is reserved.
-    Reserves {
-        address: u64,
-        width: Width,
-        rd: Reg,
-    },
-    /// The low bytes of `value` are stored if the place is reserved; `rd` says whether, and nothing is
-    /// reserved any more.
-    StoresReserved {
-        address: u64,
-        width: Width,
-        value: u64,
-        rd: Reg,
-    },
-    /// `rd` becomes what is loaded, sign extended, and what `op` makes of it and `operand` is stored.
-    Modifies {
-        op: AmoOp,
-        address: u64,
-        width: Width,
-        operand: u64,
-        rd: Reg,
-    },
+    Raises { cause: u64, tval: u64 },
+    /// An access to data.
+    Data(DataAccess),
     /// A call of the execution environment.
     Calls,
     /// What the mode decides on.
     Privileged(Privileged),
+}
+
+/// The one access to data that an instruction makes: where, how wide, and what for.
+#[derive(Clone, Copy, Debug, PartialEq, Eq)]
+pub struct DataAccess {
+    /// A virtual address.
+    pub address: u64,
+    pub width: Width,
+    pub purpose: Purpose,
+}
+
+/// What an access to data is for.
+#[derive(Clone, Copy, Debug, PartialEq, Eq)]
+pub enum Purpose {
+    /// A load, or HLV: `rd` becomes what is loaded, extended by its sign or by zeros.
+    Load { signed: bool, rd: Reg },
+    /// HLVX: `rd` becomes what is loaded, extended by zeros, where the page may be executed.
+    LoadCode { rd: Reg },
+    /// A store, or HSV: the low bytes of `value` are stored.
+    Store { value: u64 },
+    /// LR: `rd` becomes what is loaded, sign extended, and the place is reserved.
+    Reserve { rd: Reg },
+    /// SC: the low bytes of `value` are stored if the place is reserved. `rd` becomes 0 if they are and 1
+    /// if not, and nothing is reserved any more.
+    StoreReserved { value: u64, rd: Reg },
+    /// An atomic memory operation: `rd` becomes what is loaded, sign extended, and what `op` makes of it
+    /// and `operand` is stored.
+    Modify { op: AmoOp, operand: u64, rd: Reg },
 }
 
 /// What an instruction of opcode SYSTEM asks for, which the mode decides.
@@ -281,30 +269,6 @@ pub enum Privileged {
     HfenceVvma,
     /// HFENCE.GVMA, with what it names.
     HfenceGvma(Fence),
-    /// HLV, HLVX or HSV.
-    GuestAccess(GuestAccess),
-}
-
-/// The access of HLV, HLVX or HSV, which is made as VS or VU (Privileged Architecture 20211203, 8.3.1).
-#[derive(Clone, Copy, Debug, PartialEq, Eq)]
-pub enum GuestAccess {
-    /// HLV: `rd` becomes what is loaded, extended.
-    Loads {
-        address: u64,
-        width: Width,
-        signed: bool,
-        rd: Reg,
-    },
-    /// HLVX: the same without the sign, where the page may be executed.
-    LoadsCode {
-        address: u64,
-        width: Width,
-        rd: Reg,
-    },
-    /// HSV: the low bytes of `value` are stored.
-    Stores {
-        address: u64,
-        width: Width,
-        value: u64,
-    },
+    /// HLV, HLVX or HSV: an access that is made as VS or VU (Privileged Architecture 20211203, 8.3.1).
+    HlvAccess(DataAccess),
 }

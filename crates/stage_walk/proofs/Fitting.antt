@@ -1,16 +1,9 @@
 -- The numbers in what an entry says.
 use Rattle.std.proofs.Common.{ℕ, ◌≤◌, arith}
-use Rattle.arch_defs.specs.declared.walks.Shape.{Shape}
-use Rattle.arch_defs.specs.declared.walks.Shape.TheVariants.{Sv39, Sv39x4}
 use Rattle.arch_defs.specs.declared.walks.WalkEnd.TheVariants.{Leaf, PageFault, FetchEnd}
 use Rattle.arch_defs.specs.declared.walks.Next.{Next}
 use Rattle.arch_defs.specs.declared.walks.Next.TheVariants.{Ends, Below}
-use Rattle.arch_defs.specs.Walk.{levels}
 use Rattle.stage_walk.specs.Ends.{NextFits}
-
-pub few_levels : (shape : Shape) → levels shape ≤ 3
-few_levels Sv39 = omega arith
-few_levels Sv39x4 = omega arith
 
 -- what fits some levels fits more
 pub next_fits : (fewer more : ℕ) (next : Next) → NextFits fewer next → fewer ≤ more → NextFits more next

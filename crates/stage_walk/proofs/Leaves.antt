@@ -10,8 +10,8 @@ use Rattle.arch_defs.specs.declared.walks.Next.{Next}
 use Rattle.arch_defs.specs.declared.walks.Next.TheVariants.{Ends, Below}
 use Rattle.arch_defs.specs.Bits.{field}
 use Rattle.arch_defs.specs.TableEntries.{table_entry, is_valid, is_leaf, is_aligned, is_marked, span, leaf_entry, pointer_next, entry_next}
-use Rattle.arch_defs.specs.Walk.{EntryReading, levels, is_canonical, place_of, Met, met_in, read_next, next_of, later, path_from, path, or_else, end_of, walk}
-use Rattle.stage_walk.proofs.Fitting.{few_levels}
+use Rattle.arch_defs.specs.Walk.{EntryReading, levels, most_levels, is_canonical, place_of, Met, met_in, read_next, next_of, later, path_from, path, or_else, end_of, walk}
+use Rattle.arch_defs.proofs.Shapes.{few_levels}
 use Rattle.stage_walk.specs.Laws.{HasValid, AllValid, EntriesValid, IsTranslated, IsLeafOf, LastIsLeaf, LeafAddress}
 
 -- where the end of a table's entries on is no page fault, those that were read are valid
@@ -48,7 +48,7 @@ entries_valid reading root shape va access fine = by (is_canonical shape va) fin
     by false fine = absurd (fine refl)
 
 -- the standard's address, level by level
-translated : (level frame va : ℕ) → level < 3 → frame % span level ≡ 0 → IsTranslated level frame va (4096 * frame + va % 2 ^ (12 + 9 * level))
+translated : (level frame va : ℕ) → level < most_levels → frame % span level ≡ 0 → IsTranslated level frame va (4096 * frame + va % 2 ^ (12 + 9 * level))
 translated zero frame va small aligned = record {
   offset = omega arith;
   low = λ i below. absurd (omega arith);
@@ -84,7 +84,7 @@ pointer_leafless level e leaf = by (e.a || e.d || e.u || level == 0)
     by false = λ says. cc
 
 -- a leaf comes from the entry that says so
-leaf_read : (level place va : ℕ) (access : Access) (read : Result ℕ Trap) (leaf : LeafEntry) → level < 3 → read_next level place access read ≡ Ends (Leaf leaf)
+leaf_read : (level place va : ℕ) (access : Access) (read : Result ℕ Trap) (leaf : LeafEntry) → level < most_levels → read_next level place access read ≡ Ends (Leaf leaf)
     → IsLeafOf leaf va (record { level = level; place = place; read = read })
 unfolding entry_next
 leaf_read level place va access (Err trap) leaf small says = absurd cc
@@ -116,7 +116,7 @@ last_later : (leaf : LeafEntry) (va : ℕ) (m : Met) (ms : List Met) → LastIsL
 last_later leaf va m [] last = absurd last
 last_later leaf va m (n ∷ ms) last = last
 
-leaf_from : (reading : EntryReading) (shape : Shape) (va : ℕ) (access : Access) (leaf : LeafEntry) (level table : ℕ) → level ≤ 3
+leaf_from : (reading : EntryReading) (shape : Shape) (va : ℕ) (access : Access) (leaf : LeafEntry) (level table : ℕ) → level ≤ most_levels
     → end_of access (path_from reading shape va access level table) ≡ Leaf leaf → LastIsLeaf leaf va (path_from reading shape va access level table)
 unfolding path_from end_of
 leaf_from reading shape va access leaf zero table few ends = absurd cc

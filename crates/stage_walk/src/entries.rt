@@ -3,6 +3,7 @@
 ghost use Rattle.std.specs.Prelude.{⊤, ◌≡◌, ◌+◌, ◌<◌, ◌^◌, ◌==◌, [], ◌∷◌, codes};
 ghost use Rattle.std.specs.Int.RustNames.{bit_and};
 ghost use Rattle.arch_defs.specs.TableEntries.{table_entry, is_valid, is_leaf, is_aligned, is_marked, needs_dirty, leaf_next, pointer_next, entry_next};
+ghost use Rattle.arch_defs.specs.Walk.{most_levels};
 ghost use Rattle.stage_walk.specs.Ends.{NextFits};
 
 use arch_defs::{Access, LeafEntry, Next, TableEntry, WalkEnd};
@@ -77,7 +78,7 @@ fn is_valid(entry: &TableEntry) -> bool
 
 /// Whether a frame may be the first of a page of this level.
 fn is_aligned(level: u8, frame: u64) -> bool
-    requires { level < 3 }
+    requires { level < most_levels }
     ensures { result ≡ is_aligned level frame }
 {
     match level {
@@ -99,7 +100,7 @@ fn is_marked(access: Access, entry: &TableEntry) -> bool
 
 /// What a leaf says.
 fn leaf_next(level: u8, access: Access, entry: &TableEntry) -> Next
-    requires level { level < 3 }
+    requires level { level < most_levels }
     requires frame { entry.now.frame < 2 ^ 44 }
     ensures value { result ≡ leaf_next level access entry.now }
     ensures fits { NextFits (level + 1) result }
@@ -133,7 +134,7 @@ fn pointer_next(level: u8, entry: &TableEntry) -> Next
 /// What an entry that is met at a level says to the walk.
 #[tactic(auto, unfolding(arch_defs::specs::TableEntries::entry_next))]
 pub fn entry_next(level: u8, access: Access, entry: &TableEntry) -> Next
-    requires level { level < 3 }
+    requires level { level < most_levels }
     requires frame { entry.now.frame < 2 ^ 44 }
     ensures value { result ≡ entry_next level access entry.now }
     ensures fits { NextFits (level + 1) result }

@@ -1,14 +1,14 @@
 // The places of entries, by the shape of the table.
 
 ghost use Rattle.std.specs.Prelude.{◌≡◌, ◌+◌, ◌^◌, ◌<◌, ◌≤◌, ◌%◌};
-ghost use Rattle.arch_defs.specs.Walk.{levels, index_bits, is_canonical, place_of};
+ghost use Rattle.arch_defs.specs.Walk.{index_bits, is_canonical, levels, most_levels, place_of};
 
 use arch_defs::Shape;
 
 /// How many levels a table has.
 pub fn levels(shape: Shape) -> u8
     ensures value { result ≡ levels shape }
-    ensures few { result ≤ 3 }
+    ensures few { result ≤ most_levels }
 {
     match shape {
         Shape::Sv39 => 3,
@@ -18,7 +18,7 @@ pub fn levels(shape: Shape) -> u8
 
 /// How many entries a table of this level has: 512, but for Sv39x4's root, which has 2,048.
 fn slots(shape: Shape, level: u8) -> u64
-    requires { level < 3 }
+    requires { level < most_levels }
     ensures value { result ≡ 2 ^ index_bits shape level }
     ensures few { result ≤ 2048 }
     ensures some { 0 < result }
@@ -31,7 +31,7 @@ fn slots(shape: Shape, level: u8) -> u64
 
 /// The place of an address's entry in the table of a frame.
 pub fn place_of(shape: Shape, level: u8, table: u64, va: u64) -> u64
-    requires level { level < 3 }
+    requires level { level < most_levels }
     requires table { table < 2 ^ 44 }
     ensures value { result ≡ place_of shape level table va }
     ensures aligned { result % 8 ≡ 0 }

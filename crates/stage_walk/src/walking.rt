@@ -11,7 +11,7 @@ use arch_defs::{Access, Next, Shape, WalkEnd};
 
 /// What the entry for an address in the table of a frame says to the walk.
 #[inline(always)]
-#[tactic(auto, using(crate::proofs::Fitting::few_levels, crate::proofs::Fitting::next_fits))]
+#[tactic(auto, using(arch_defs::proofs::Shapes::few_levels, crate::proofs::Fitting::next_fits))]
 fn visit<F: Fetch>(fetch: &F, shape: Shape, va: u64, access: Access, level: u8, table: u64) -> Next
     requires level { level < levels shape }
     requires table { table < 2 ^ 44 }

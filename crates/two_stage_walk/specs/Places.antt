@@ -5,7 +5,7 @@ use Rattle.arch_defs.specs.declared.guest_walks.GuestWalkEnd.TheVariants.{Leaf, 
 use Rattle.arch_defs.specs.declared.walks.Found.{Found}
 use Rattle.arch_defs.specs.declared.walks.Found.TheVariants.{Passes, PageFaults, Lacks}
 use Rattle.arch_defs.specs.declared.walks.LeafEntry.{LeafEntry}
-use Rattle.arch_defs.specs.Walk.{leaf_address}
+use Rattle.arch_defs.specs.Walk.{leaf_address, most_levels}
 use Rattle.stage_walk.specs.Ends.{LeafFits}
 
 -- memory from a base on is of whole frames
@@ -28,7 +28,7 @@ KeepsOffset va (Lacks place) = place % 8 ≡ 0
 
 -- a walk's leaf has fields of their widths, and memory has the frame of the address under it
 pub record IsLeafIn (base : ℕ) (bytes : List ℕ) (address : ℕ) (leaf : LeafEntry) : Type 0 where
-  pub fits : LeafFits 3 leaf
+  pub fits : LeafFits most_levels leaf
   pub from : base ≤ leaf_address leaf address
   pub to : leaf_address leaf address < base + length bytes
 

@@ -4,6 +4,7 @@ ghost use Rattle.std.specs.Prelude.{◌≡◌, ◌^◌, ◌%◌, ◌<◌, IfSome
 ghost use Rattle.arch_defs.specs.SecondStage.{guest_end, guest_root_frame, second_root_of, guest_walk, has_frame_of, memory_words, second_now, walked};
 ghost use Rattle.arch_defs.specs.Memory.{bare};
 ghost use Rattle.arch_defs.specs.Translation.{unread};
+ghost use Rattle.arch_defs.specs.Walk.{most_levels};
 ghost use Rattle.stage_walk.specs.Ends.{EndFits};
 ghost use Rattle.two_stage_walk.specs.Places.{IsPlaceOf, IsWhole, LeafIn};
 
@@ -46,7 +47,7 @@ fn has_frame_of<M: Mem>(mem: &M, place: u64) -> bool
 fn guest_end<M: Mem>(mem: &M, mxr: bool, address: u64, kind: Access, end: WalkEnd) -> GuestWalkEnd
     requires backed { M.is_backed mem.now }
     requires whole { IsWhole (M.base mem.now) (M.bytes mem.now) }
-    requires fits { EndFits 3 end }
+    requires fits { EndFits most_levels end }
     ensures value { result ≡ guest_end (M.base mem.now) (M.bytes mem.now) mxr address kind end }
     ensures leaf { LeafIn (M.base mem.now) (M.bytes mem.now) address result }
 {
@@ -65,30 +66,44 @@ fn guest_end<M: Mem>(mem: &M, mxr: bool, address: u64, kind: Access, end: WalkEn
     }
 }
 
-/// The walk of the second-stage table at hgatp's page, for an access of a kind at a guest physical address.
-/// `mxr` is sstatus.MXR.
+/// The walk of the second-stage table of a shape at hgatp's PPN, for an access of a kind at a guest physical
+/// address. `mxr` is sstatus.MXR.
 #[inline(always)]
 #[tactic(auto, unfolding(arch_defs::specs::SecondStage::guest_walk))]
-pub fn guest_walk<M: Mem>(mem: &M, mxr: bool, page: u64, address: u64, kind: Access) -> GuestWalkEnd
+pub fn guest_walk<M: Mem>(
+    mem: &M,
+    mxr: bool,
+    shape: Shape,
+    ppn: u64,
+    address: u64,
+    kind: Access,
+) -> GuestWalkEnd
     requires backed { M.is_backed mem.now }
     requires whole { IsWhole (M.base mem.now) (M.bytes mem.now) }
-    ensures value { result ≡ guest_walk (M.base mem.now) (M.bytes mem.now) mxr page address kind }
+    ensures value { result ≡ guest_walk (M.base mem.now) (M.bytes mem.now) mxr shape ppn address kind }
     ensures leaf { LeafIn (M.base mem.now) (M.bytes mem.now) address result }
 {
-    let root = page / 4 % 0x400_0000_0000 * 4;
-    let end = walk(&Words { mem }, root, Shape::Sv39x4, address, kind);
+    let root = ppn / 4 % 0x400_0000_0000 * 4;
+    let end = walk(&Words { mem }, root, shape, address, kind);
     guest_end(mem, mxr, address, kind, end)
 }
 
 // The place that the walk of a table gives.
 #[inline(never)]
-fn walked<M: Mem>(mem: &M, mxr: bool, page: u64, address: u64, kind: Access) -> Option<u64>
+fn walked<M: Mem>(
+    mem: &M,
+    mxr: bool,
+    shape: Shape,
+    ppn: u64,
+    address: u64,
+    kind: Access,
+) -> Option<u64>
     requires backed { M.is_backed mem.now }
     requires whole { IsWhole (M.base mem.now) (M.bytes mem.now) }
-    ensures place { result ≡ walked (M.base mem.now) (M.bytes mem.now) mxr page address kind }
+    ensures place { result ≡ walked (M.base mem.now) (M.bytes mem.now) mxr shape ppn address kind }
     ensures inside { IfSome result (λ place. IsPlaceOf (M.base mem.now) (M.bytes mem.now) address place) }
 {
-    match guest_walk(mem, mxr, page, address, kind) {
+    match guest_walk(mem, mxr, shape, ppn, address, kind) {
         GuestWalkEnd::Leaf(leaf) => Some(leaf_address(&leaf, address)),
         GuestWalkEnd::GuestPageFault | GuestWalkEnd::AccessFault => None,
     }
@@ -134,6 +149,8 @@ pub fn second_place<M: Mem>(
 {
     match second_root_of(csrs, mode) {
         GuestRoot::Bare => bare(mem, address, kind),
-        GuestRoot::Sv39x4 { page, .. } => walked(mem, csrs.hs.status.mxr, page, address, kind),
+        GuestRoot::Table { mode, ppn, .. } => {
+            walked(mem, csrs.hs.status.mxr, mode.shape(), ppn, address, kind)
+        }
     }
 }

@@ -6,7 +6,9 @@ ghost use Rattle.std.specs.Prelude.{◌≡◌, ◌≤◌, true};
 ghost use Rattle.arch_defs.specs.Layouts.{names_each_once};
 
 use crate::{memory_is_whole, ram_is_whole, translate};
-use arch_defs::{Access, Csrs, GuestRoot, Mode, Part, Regs, SupervisorRoot, Trap};
+use arch_defs::{
+    Access, Csrs, GuestMode, GuestRoot, Mode, Part, Regs, SupervisorMode, SupervisorRoot, Trap,
+};
 use phys_mem::{Mem, PhysMem, Ram};
 use std::alloc::{AllocError, Global};
 use std::test::Fail;
@@ -35,10 +37,18 @@ fn part(blocks: &[u32], first_root: u32, first_table: u32) -> Part
 fn csrs_for(guest_page: Option<u64>, page: Option<u64>) -> Csrs {
     let mut csrs = Csrs::at_reset();
     if let Some(page) = guest_page {
-        csrs.hgatp = GuestRoot::Sv39x4 { vmid: 1, page };
+        csrs.hgatp = GuestRoot::Table {
+            mode: GuestMode::Sv39x4,
+            vmid: 1,
+            ppn: page,
+        };
     }
     if let Some(page) = page {
-        csrs.vs.atp = SupervisorRoot::Sv39 { asid: 0, page };
+        csrs.vs.atp = SupervisorRoot::Table {
+            mode: SupervisorMode::Sv39,
+            asid: 0,
+            ppn: page,
+        };
     }
     csrs
 }

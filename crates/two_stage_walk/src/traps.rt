@@ -61,9 +61,9 @@ pub fn unplaced_trap<M: Mem>(mem: &M, csrs: &Csrs, unplaced: &Unplaced) -> Trap
 {
     match second_root_of(csrs, unplaced.mode) {
         GuestRoot::Bare => unplaced_fault(unplaced),
-        GuestRoot::Sv39x4 { page, .. } => {
+        GuestRoot::Table { mode, ppn, .. } => {
             let mxr = csrs.hs.status.mxr;
-            let end = guest_walk(mem, mxr, page, unplaced.address, unplaced.kind);
+            let end = guest_walk(mem, mxr, mode.shape(), ppn, unplaced.address, unplaced.kind);
             unplaced_by(unplaced, end)
         }
     }

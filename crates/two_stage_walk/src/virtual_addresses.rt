@@ -4,8 +4,7 @@ ghost use Rattle.std.specs.Prelude.{◌≡◌, ◌^◌, ◌%◌, ◌<◌};
 ghost use Rattle.arch_defs.specs.Memory.{reading_of};
 ghost use Rattle.arch_defs.specs.SecondStage.{second_now};
 ghost use Rattle.arch_defs.specs.Translation.{bank_of, entry_words_through, first_stage, found_by, privilege_of, unread};
-ghost use Rattle.arch_defs.specs.declared.walks.Shape.TheVariants.{Sv39};
-ghost use Rattle.arch_defs.specs.Walk.{leaf_address, walk};
+ghost use Rattle.arch_defs.specs.Walk.{leaf_address, most_levels, walk};
 ghost use Rattle.stage_walk.specs.Ends.{EndFits, LeafFits};
 ghost use Rattle.two_stage_walk.specs.Places.{IsPlaceOf, IsWhole, KeepsOffset};
 
@@ -95,7 +94,7 @@ pub fn privilege_of(csrs: &Csrs, mode: Mode) -> Privilege
 
 /// The physical address of an address under a leaf.
 pub fn leaf_address(leaf: &LeafEntry, va: u64) -> u64
-    requires { LeafFits 3 leaf.now }
+    requires { LeafFits most_levels leaf.now }
     ensures value { result ≡ leaf_address leaf.now va }
     ensures offset { result % 4096 ≡ va % 4096 }
     ensures small { result < 2 ^ 56 }
@@ -110,7 +109,7 @@ pub fn leaf_address(leaf: &LeafEntry, va: u64) -> u64
 
 /// What the end of a first-stage walk is to an access.
 pub fn found_by(privilege: Privilege, access: Access, va: u64, end: WalkEnd) -> Found
-    requires { EndFits 3 end }
+    requires { EndFits most_levels end }
     ensures value { result ≡ found_by privilege access va end }
     ensures offset { KeepsOffset va result }
 {
@@ -127,12 +126,13 @@ pub fn found_by(privilege: Privilege, access: Access, va: u64, end: WalkEnd) -> 
     }
 }
 
-// What the walk of the table of this page makes of a virtual address.
+// What the walk of the table of a shape at this PPN makes of a virtual address.
 fn found_in_table<M: Mem>(
     mem: &M,
     csrs: &Csrs,
     mode: Mode,
-    page: u64,
+    shape: Shape,
+    ppn: u64,
     va: u64,
     access: Access,
 ) -> Found
@@ -140,11 +140,11 @@ fn found_in_table<M: Mem>(
     requires whole { IsWhole (M.base mem.now) (M.bytes mem.now) }
     ensures value { result ≡ found_by (privilege_of csrs.now mode) access va
         (walk (entry_words_through (second_now csrs.now mode (M.base mem.now) (M.bytes mem.now))
-        (reading_of (M.base mem.now) (M.bytes mem.now))) (page % 2 ^ 44) Sv39 va access) }
+        (reading_of (M.base mem.now) (M.bytes mem.now))) (ppn % 2 ^ 44) shape va access) }
     ensures offset { KeepsOffset va result }
 {
     let entries = Entries { mem, csrs, mode };
-    let end = walk(&entries, page % 0x1000_0000_0000, Shape::Sv39, va, access);
+    let end = walk(&entries, ppn % 0x1000_0000_0000, shape, va, access);
     found_by(privilege_of(csrs, mode), access, va, end)
 }
 
@@ -160,6 +160,10 @@ pub fn first_stage<M: Mem>(mem: &M, csrs: &Csrs, mode: Mode, va: u64, access: Ac
 {
     match bank_of(csrs, mode).atp {
         SupervisorRoot::Bare => Found::Passes(va),
-        SupervisorRoot::Sv39 { page, .. } => found_in_table(mem, csrs, mode, page, va, access),
+        SupervisorRoot::Table {
+            mode: table,
+            ppn,
+            ..
+        } => found_in_table(mem, csrs, mode, table.shape(), ppn, va, access),
     }
 }

@@ -3,6 +3,7 @@
 ghost use Rattle.std.specs.Prelude.{◌≡◌};
 ghost use Rattle.arch_defs.specs.Memory.{ram_base};
 ghost use Rattle.arch_defs.specs.WalkedEntries.{entry_by_end, entry_now, entry_under};
+ghost use Rattle.arch_defs.specs.Walk.{most_levels};
 ghost use Rattle.two_stage_walk.specs.Places.{IsWhole};
 ghost use Rattle.stage_walk.specs.Ends.{LeafFits};
 
@@ -23,8 +24,9 @@ pub fn entry_now<M: Mem>(mem: &M, csrs: &Csrs, address: u64, kind: Access) -> Op
 {
     match csrs.hgatp {
         GuestRoot::Bare => None,
-        GuestRoot::Sv39x4 { page, .. } => {
-            match guest_walk(mem, csrs.hs.status.mxr, page, address, kind) {
+        GuestRoot::Table { mode, ppn, .. } => {
+            let mxr = csrs.hs.status.mxr;
+            match guest_walk(mem, mxr, mode.shape(), ppn, address, kind) {
                 GuestWalkEnd::Leaf(leaf) => Some(entry_under(&leaf, address)),
                 GuestWalkEnd::GuestPageFault | GuestWalkEnd::AccessFault => None,
             }
@@ -34,7 +36,7 @@ pub fn entry_now<M: Mem>(mem: &M, csrs: &Csrs, address: u64, kind: Access) -> Op
 
 // The entry of an address's page under a leaf.
 fn entry_under(leaf: &LeafEntry, address: u64) -> Entry
-    requires fits { LeafFits 3 leaf.now }
+    requires fits { LeafFits most_levels leaf.now }
     ensures { result ≡ entry_under leaf.now address }
 {
     Entry {

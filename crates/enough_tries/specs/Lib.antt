@@ -1,3 +1,0 @@
-pub mod Budgets
-pub mod Keeping
-pub mod Laws

@@ -1,9 +1,0 @@
-pub mod Cached
-pub mod FrontSpaces
-pub mod GuestAccesses
-pub mod HostPlaces
-pub mod InRam
-pub mod Placed
-pub mod Renaming
-pub mod Running
-pub mod Walks

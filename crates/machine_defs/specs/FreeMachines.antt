@@ -1,0 +1,124 @@
+-- A machine that caches second-stage translations as freely as the architecture allows: at any time it may walk
+-- the table of hgatp and cache the translation, and drop what it has cached; each access goes by what is cached
+-- for hgatp's VMID or by a walk; and what an HFENCE.GVMA names is dropped (Privileged Architecture 20211203,
+-- 4.3.2, 8.2.10, 8.3.2 and 8.5). It is narrower than the architecture in four points (own): a walk reads all its
+-- entries at once, and none above the leaf is cached; equal accesses of one step have equal places; a fault is
+-- always that of the walk as RAM is; and HLV, HLVX and HSV go by this walk alone.
+use Rattle.std.specs.Prelude.{ℕ, zero, suc, ◌≡◌, ◌/◌, ◌⊎◌, Bool, true, false, List, [], Option, Some, None, All, Contains, flat_map, map}
+use Rattle.arch_defs.specs.declared.cached.Entry.{Entry}
+use Rattle.arch_defs.specs.declared.cached.Fence.{Fence}
+use Rattle.arch_defs.specs.declared.modes.Access.{Access}
+use Rattle.arch_defs.specs.declared.modes.Mode.{Mode}
+use Rattle.arch_defs.specs.declared.modes.Mode.TheVariants.{HS, U, VS, VU}
+use Rattle.arch_defs.specs.declared.registers.HypervisorStatus.{HypervisorStatus}
+use Rattle.arch_defs.specs.declared.registers.Virtual.{Virtual}
+use Rattle.arch_defs.specs.CachedEntries.{leaf_of}
+use Rattle.arch_defs.specs.Memory.{SecondStage, ram_base}
+use Rattle.arch_defs.specs.Permits.{permits_second}
+use Rattle.arch_defs.specs.SecondStage.{second_now}
+use Rattle.arch_defs.specs.Roots.{vmid_of}
+use Rattle.arch_defs.specs.Spaces.{Space, names}
+use Rattle.arch_defs.specs.Traps.{is_virtual}
+use Rattle.arch_defs.specs.Walk.{leaf_address}
+use Rattle.arch_defs.specs.WalkedEntries.{entry_now}
+use Rattle.machine_defs.specs.declared.guests.Status.{Status}
+use Rattle.machine_defs.specs.declared.guests.Status.TheVariants.{Running, Waiting, Stopped}
+use Rattle.machine_defs.specs.Machine.{Machine, Platform}
+use Rattle.machine_defs.specs.Runs.{left_by, run}
+use Rattle.machine_defs.specs.Tries.{fence_under, try_under}
+
+-- a cached translation, for the virtual machine of a VMID (8.2.10). It is of one guest physical page, whatever the
+-- level of the leaf; a fence that names any page of the leaf names it
+pub record CachedTranslation : Type 0 where
+  pub vmid : ℕ
+  pub entry : Entry
+
+-- a machine, and the translations that it has cached: any number, and any number for one page and VMID (4.3.2)
+pub record FreeMachine : Type 0 where
+  pub platform : Platform
+  pub ram : List ℕ
+  pub cache : List CachedTranslation
+
+-- whether hgatp is active: always but in U without hstatus.HU (8.2.10)
+abbrev pub is_active : HypervisorStatus → Mode → Bool
+is_active hstatus HS = true
+is_active hstatus U = hstatus.hu
+is_active hstatus VS = true
+is_active hstatus VU = true
+
+-- a translation that may be cached, at any time that hgatp is active and whatever the machine then executes:
+-- under hgatp's VMID, that of a walk of its table as RAM is, for an access of any kind at any address (4.3.2,
+-- 8.2.10)
+pub record IsWalked (virt : Virtual) (ram : List ℕ) (cached : CachedTranslation) : Type 0 where
+  pub active : is_active virt.csrs.hstatus virt.mode ≡ true
+  pub vmid : cached.vmid ≡ vmid_of virt.csrs.hgatp
+  pub address : ℕ
+  pub kind : Access
+  pub walked : entry_now virt.csrs ram address kind ≡ Some cached.entry
+
+-- a place by a cached translation: with V = 1, by one of hgatp's VMID and of the address's page that permits
+-- the access. Which table it was walked from is not asked, nor whether hgatp still names one: a write of hgatp
+-- is no fence (8.2.10, 8.3.2)
+pub record IsByCache (virt : Virtual) (cache : List CachedTranslation) (address : ℕ) (kind : Access)
+    (answer : Option ℕ) : Type 0 where
+  pub virtual : is_virtual virt.mode ≡ true
+  pub cached : CachedTranslation
+  pub held : Contains cache cached
+  pub vmid : cached.vmid ≡ vmid_of virt.csrs.hgatp
+  pub page : cached.entry.page ≡ address / 4096
+  pub permits : permits_second virt.csrs.hs.status.mxr kind (leaf_of cached.entry) ≡ true
+  pub place : answer ≡ Some (leaf_address (leaf_of cached.entry) address)
+
+-- a second stage that a machine with this cache may have: each answer is by a cached translation, or by the
+-- walk of hgatp's table as RAM is (8.5)
+abbrev pub MayTranslate : Virtual → List ℕ → List CachedTranslation → SecondStage → Type 0
+MayTranslate virt ram cache second = (address : ℕ) (kind : Access)
+    → IsByCache virt cache address kind (second address kind)
+    ⊎ (second address kind ≡ second_now virt.csrs virt.mode ram_base ram address kind)
+
+-- the machine without its cache, and what one try of its next step under a second stage leaves of it
+abbrev pub uncached : FreeMachine → Machine
+uncached f = record { platform = f.platform; ram = f.ram; spaces = []; space_room = 0; entry_room = 0 }
+
+abbrev pub left_under : SecondStage → FreeMachine → Machine
+left_under second f = left_by (uncached f) (try_under second (uncached f))
+
+-- whether a step that may be a fence names a translation (8.3.2)
+abbrev pub is_named : Option Fence → ℕ → Entry → Bool
+is_named None vmid e = false
+is_named (Some fence) vmid e = names fence vmid e
+
+-- one step. Before it, some translations were dropped and some were walked: what is cached then is `cache`. The
+-- step is made under a second stage that a machine with this cache may have. After it nothing else is cached,
+-- and nothing that the step names, if it is an HFENCE.GVMA (8.3.2)
+pub record FreeStep (f g : FreeMachine) : Type 0 where
+  pub cache : List CachedTranslation
+  pub allowed : All (λ c. Contains f.cache c ⊎ IsWalked f.platform.virt f.ram c) cache
+  pub second : SecondStage
+  pub translates : MayTranslate f.platform.virt f.ram cache second
+  pub platform : g.platform ≡ (left_under second f).platform
+  pub ram : g.ram ≡ (left_under second f).ram
+  pub kept : All (Contains cache) g.cache
+  pub fenced : All (λ c. is_named (fence_under second (uncached f)) c.vmid c.entry ≡ false) g.cache
+
+-- a machine that waits and cannot wake, or that has stopped, makes no step
+abbrev pub FreeMove : Status → FreeMachine → FreeMachine → Type 0
+FreeMove Running f g = FreeStep f g
+FreeMove Waiting f g = g ≡ f
+FreeMove Stopped f g = g ≡ f
+
+-- a run of at most `steps` steps
+abbrev pub FreeRun : ℕ → FreeMachine → FreeMachine → Type 0
+FreeRun zero f h = h ≡ f
+FreeRun (suc steps) f h = (g : FreeMachine) × FreeMove f.platform.status f g × FreeRun steps g h
+
+-- a lone machine as a free one: it has cached the entries of all its spaces, each for the VMID of its key
+abbrev pub cached_in : Space → List CachedTranslation
+cached_in s = map (λ e. record { vmid = vmid_of s.key; entry = e }) s.entries
+
+abbrev pub free_of : Machine → FreeMachine
+free_of m = record { platform = m.platform; ram = m.ram; cache = flat_map cached_in m.spaces }
+
+-- the first `steps` steps of a lone machine are architectural: a run of a free machine
+abbrev pub IsArchitectural : Machine → ℕ → Type 0
+IsArchitectural m steps = FreeRun steps (free_of m) (free_of (run m steps))

@@ -1,0 +1,48 @@
+-- How long a cached second-stage translation is used: until a fence that names it, and no longer (Privileged
+-- Architecture 20211203, 8.3.2).
+use Rattle.std.specs.Prelude.{ℕ, ◌≡◌, ◌*◌, ◌<◌, ◌≤◌, true, false, Option, Some, None, All}
+use Rattle.arch_defs.specs.declared.cached.Entry.{Entry}
+use Rattle.arch_defs.specs.declared.cached.Fence.{Fence}
+use Rattle.arch_defs.specs.declared.modes.Access.{Access}
+use Rattle.arch_defs.specs.declared.registers.GuestRoot.{GuestRoot}
+use Rattle.arch_defs.specs.Roots.{vmid_of}
+use Rattle.arch_defs.specs.Spaces.{front}
+use Rattle.arch_defs.specs.WalkedEntries.{entry_now, folds}
+use Rattle.machine_defs.specs.declared.guests.Status.{Status}
+use Rattle.machine_defs.specs.declared.guests.Status.TheVariants.{Running, Waiting, Stopped}
+use Rattle.machine_defs.specs.Fills.{ready}
+use Rattle.machine_defs.specs.FreeMachines.{is_named}
+use Rattle.machine_defs.specs.Machine.{Machine}
+use Rattle.machine_defs.specs.Runs.{run}
+use Rattle.machine_defs.specs.Tries.{fence_under, second_of}
+
+-- the fence that the next step of a machine is, if it is one
+abbrev pub fence_by_status : Machine → Status → Option Fence
+fence_by_status m Running = fence_under (second_of m) m
+fence_by_status m Waiting = None
+fence_by_status m Stopped = None
+
+unfoldable pub next_fence : Machine → Option Fence
+next_fence m = fence_by_status (ready m) m.platform.status
+
+-- an entry for a value of hgatp is fresh after the first `steps` steps of a run: under this value a walk gave it
+-- for its page, as RAM was after the first `walked_after` of them, and none of the later ones was a fence that
+-- names it
+pub record IsFresh (m : Machine) (steps : ℕ) (key : GuestRoot) (e : Entry) : Type 0 where
+  pub walked_after : ℕ
+  pub earlier : walked_after ≤ steps
+  pub root : (run m walked_after).platform.virt.csrs.hgatp ≡ key
+  pub kind : Access
+  pub walked :
+      entry_now (run m walked_after).platform.virt.csrs (run m walked_after).ram (4096 * e.page) kind ≡ Some e
+  pub unfenced : (i : ℕ) → walked_after ≤ i → i < steps
+      → is_named (next_fence (run m i)) (vmid_of key) e ≡ false
+
+-- so is each entry of each space, at the last try of the next step
+abbrev pub CachesFresh : Machine → ℕ → Type 0
+CachesFresh m steps = All (λ s. All (IsFresh m steps s.key) s.entries) (ready (run m steps)).spaces
+
+-- and each that the step may use: one of the front space, for hgatp as it is
+abbrev pub UsesFresh : Machine → ℕ → Type 0
+UsesFresh m steps = let virt = (run m steps).platform.virt in
+    folds virt ≡ true → All (IsFresh m steps virt.csrs.hgatp) (front (ready (run m steps)).spaces)

@@ -1,0 +1,449 @@
+-- What one instruction asks a second stage: at most eight addresses. Under a second stage that gives fewer
+-- places than another, but no others, it ends as under the other, or stops at one of what it asks the other.
+use Rattle.std.specs.Prelude.{Result, Ok, Err, ◌==◌, ◌&&◌, ◌||◌}
+use Rattle.std.proofs.Common.{cond, ◌≡◌, ℕ, zero, suc, ◌%◌, ◌^◌, ◌≤◌, ◌⊎◌, inl, inr, Bool, true, false, List, [], ◌∷◌, ◌++◌, length, Option, Some, None, refl, arith, length-append}
+use Rattle.arch_defs.specs.declared.csr_names.CsrEnd.{CsrEnd}
+use Rattle.arch_defs.specs.declared.modes.Access.{Access}
+use Rattle.arch_defs.specs.declared.modes.Access.TheVariants.{Fetch, Implicit}
+use Rattle.arch_defs.specs.declared.modes.Mode.{Mode}
+use Rattle.arch_defs.specs.declared.modes.Mode.TheVariants.{HS, U, VS, VU}
+use Rattle.arch_defs.specs.declared.registers.Csrs.{Csrs}
+use Rattle.arch_defs.specs.declared.registers.SupervisorRoot.{SupervisorRoot}
+use Rattle.arch_defs.specs.declared.registers.SupervisorRoot.TheVariants as root
+use Rattle.arch_defs.specs.declared.registers.Virtual.{Virtual}
+use Rattle.arch_defs.specs.declared.walks.Found.{Found}
+use Rattle.arch_defs.specs.declared.walks.Found.TheVariants.{Passes, PageFaults, Lacks}
+use Rattle.arch_defs.specs.declared.walks.Next.{Next}
+use Rattle.arch_defs.specs.declared.walks.Next.TheVariants.{Ends, Below}
+use Rattle.arch_defs.specs.declared.walks.Privilege.{Privilege}
+use Rattle.arch_defs.specs.declared.walks.Shape.{Shape}
+use Rattle.arch_defs.specs.declared.walks.TableEntry.{TableEntry}
+use Rattle.arch_defs.specs.declared.walks.Unplaced.{Unplaced}
+use Rattle.arch_defs.specs.declared.walks.WalkEnd.{WalkEnd}
+use Rattle.arch_defs.specs.declared.walks.WalkEnd.TheVariants.{Leaf, PageFault, FetchEnd}
+use Rattle.arch_defs.specs.declared.widths.Width.{Width}
+use Rattle.arch_defs.specs.declared.widths.Width.TheVariants.{Word}
+use Rattle.arch_defs.specs.Access.{read, write}
+use Rattle.arch_defs.specs.Memory.{Reading, SecondStage}
+use Rattle.arch_defs.specs.Permits.{permits_first}
+use Rattle.arch_defs.specs.Roots.{supervisor_shape}
+use Rattle.arch_defs.specs.TableEntries.{entry_next, is_aligned, is_leaf, is_marked, is_valid, leaf_entry, leaf_next, pointer_next, table_entry}
+use Rattle.arch_defs.specs.Traps.{exception, misaligned_fault}
+use Rattle.arch_defs.specs.Translation.{bank_of, entry_word_at, entry_words_through, first_stage, found_by, found_under, privilege_of}
+use Rattle.arch_defs.specs.Walk.{EntryReading, Met, end_of, is_canonical, later, leaf_address, levels, met_in, most_levels, next_of, or_else, path, path_from, place_of, read_next, walk}
+use Rattle.arch_defs.specs.Widths.{bytes_in}
+use Rattle.arch_defs.proofs.Shapes.{few_levels}
+use Rattle.op_defs.specs.declared.ops.CsrOp.{CsrOp}
+use Rattle.op_defs.specs.declared.ops.Effect.{Effect}
+use Rattle.op_defs.specs.declared.ops.Effect.TheVariants.{Sets, Raises, Data, Calls, Privileged as Decides}
+use Rattle.op_defs.specs.declared.ops.Op.{Op}
+use Rattle.op_defs.specs.declared.ops.Privileged.{Privileged}
+use Rattle.op_defs.specs.declared.ops.Privileged.TheVariants.{Csr, Sret, Wfi, SfenceVma, HfenceVvma, HfenceGvma, HlvAccess}
+use Rattle.op_defs.specs.Meaning.{meaning}
+use Rattle.op_defs.specs.Table.{op_of}
+use Rattle.machine_defs.specs.Outcomes.{Outcome, Done, Trapped, Stuck, Called, Waits, Fenced, Accesses}
+use Rattle.machine_defs.specs.Core.{At, Fails, Faults, Located, Misses, accessed, at_place, called_from, core, decoded, executed, fetch_place, kind_of, located, located_at, located_by, word_at}
+use Rattle.machine_defs.specs.Privileges.{combined, csr_accessed, csr_changed, csr_shown, decided, held, performed, privileged, refusal}
+use Rattle.machine_laws.proofs.Cached.{either}
+
+-- a number is one of these
+abbrev pub In : ℕ → List ℕ → Type 0
+In p [] = ⊥
+In p (q ∷ qs) = (q ≡ p) ⊎ In p qs
+
+in_left : (p : ℕ) (qs rs : List ℕ) → In p qs → In p (qs ++ rs)
+in_left p [] rs h = absurd h
+in_left p (q ∷ qs) rs (inl e) = inl e
+in_left p (q ∷ qs) rs (inr h) = inr (in_left p qs rs h)
+
+in_right : (p : ℕ) (qs rs : List ℕ) → In p rs → In p (qs ++ rs)
+in_right p [] rs h = h
+in_right p (q ∷ qs) rs h = inr (in_right p qs rs h)
+
+-- a second stage gives no place that another does not
+pub record IsWithin (small large : SecondStage) : Type 0 where
+  pub gives : (address place : ℕ) (kind : Access) → small address kind ≡ Some place → large address kind ≡ Some place
+
+-- an access has no place under the smaller, and is one of these; and where it has none under the larger,
+-- something is so
+abbrev StopsAt : SecondStage → SecondStage → List ℕ → ℕ → Access → Type 0 → Type 0
+StopsAt small large asked address kind same =
+    In address asked × (small address kind ≡ None) × (large address kind ≡ None → same)
+
+stops_more : (small large : SecondStage) (asked more : List ℕ) (address : ℕ) (kind : Access) (same same' : Type 0)
+    → (In address asked → In address more) → (same → same') → StopsAt small large asked address kind same → StopsAt small large more address kind same'
+stops_more small large asked more address kind same same' wider then (inside, none, also) = (wider inside, none, λ n. then (also n))
+
+-- the ends of two walks
+abbrev EndsAlike : SecondStage → SecondStage → List ℕ → WalkEnd → WalkEnd → Type 0
+EndsAlike small large asked (Leaf leaf) other = other ≡ Leaf leaf
+EndsAlike small large asked PageFault other = other ≡ PageFault
+EndsAlike small large asked (FetchEnd place trap) other = StopsAt small large asked place Implicit (other ≡ FetchEnd place trap)
+
+ends_more : (small large : SecondStage) (asked : List ℕ) (at : ℕ) (end other : WalkEnd)
+    → EndsAlike small large asked end other → EndsAlike small large (at ∷ asked) end other
+ends_more small large asked at (Leaf leaf) other alike = alike
+ends_more small large asked at PageFault other alike = alike
+ends_more small large asked at (FetchEnd place trap) other alike =
+    stops_more small large asked (at ∷ asked) place Implicit (other ≡ FetchEnd place trap) (other ≡ FetchEnd place trap) (λ h. inr h) (λ e. e) alike
+
+-- an entry that was read is no end of reading
+abbrev IsRead : Next → Type 0
+IsRead (Ends (Leaf leaf)) = Unit {0}
+IsRead (Ends PageFault) = Unit {0}
+IsRead (Ends (FetchEnd place trap)) = ⊥
+IsRead (Below table) = Unit {0}
+
+leaf_is_read : (level : ℕ) (access : Access) (e : TableEntry) → IsRead (leaf_next level access e)
+leaf_is_read level access e = either IsRead (is_aligned level e.frame && is_marked access e) (Ends (Leaf (leaf_entry level e))) (Ends PageFault) tt tt
+
+pointer_is_read : (level : ℕ) (e : TableEntry) → IsRead (pointer_next level e)
+pointer_is_read level e = either IsRead (e.a || e.d || e.u || level == 0) (Ends PageFault) (Below e.frame) tt tt
+
+is_read : (level : ℕ) (access : Access) (e : TableEntry) → IsRead (entry_next level access e)
+unfolding entry_next
+is_read level access e = either IsRead (is_valid e) (cond (is_leaf e) (leaf_next level access e) (pointer_next level e)) (Ends PageFault)
+    (either IsRead (is_leaf e) (leaf_next level access e) (pointer_next level e) (leaf_is_read level access e) (pointer_is_read level e)) tt
+
+-- the places of the entries met
+abbrev pub places_of : List Met → List ℕ
+places_of [] = []
+places_of (m ∷ ms) = m.place ∷ places_of ms
+
+-- the walks from one entry on that was read
+next_alike : (small large : SecondStage) (access : Access) (at : ℕ) (from_small from_large : ℕ → List Met)
+    → ((table : ℕ) → EndsAlike small large (places_of (from_large table)) (end_of access (from_small table)) (end_of access (from_large table)))
+    → (next : Next) → IsRead next
+    → EndsAlike small large (at ∷ places_of (later from_large next)) (or_else (end_of access (later from_small next)) next) (or_else (end_of access (later from_large next)) next)
+next_alike small large access at from_small from_large below (Ends (Leaf leaf)) read = refl
+next_alike small large access at from_small from_large below (Ends PageFault) read = refl
+next_alike small large access at from_small from_large below (Ends (FetchEnd place trap)) read = absurd read
+next_alike small large access at from_small from_large below (Below table) read =
+    ends_more small large (places_of (from_large table)) at (end_of access (from_small table)) (end_of access (from_large table)) (below table)
+
+-- the walks from one entry on, by what the smaller has for it
+paths_alike : (small large : SecondStage) → IsWithin small large → (reading : Reading) (shape : Shape) (va : ℕ) (access : Access) (level table : ℕ)
+    → EndsAlike small large (places_of (path_from (entry_words_through large reading) shape va access level table))
+    (end_of access (path_from (entry_words_through small reading) shape va access level table))
+    (end_of access (path_from (entry_words_through large reading) shape va access level table))
+unfolding path_from end_of
+paths_alike small large w reading shape va access zero table = refl
+paths_alike small large w reading shape va access (suc level) table =
+    by (place_of shape level table va) (small (place_of shape level table va) Implicit) refl (λ t. paths_alike small large w reading shape va access level t)
+  where
+    by : (at : ℕ) (place : Option ℕ) → small at Implicit ≡ place
+        → ((t : ℕ) → EndsAlike small large (places_of (path_from (entry_words_through large reading) shape va access level t))
+        (end_of access (path_from (entry_words_through small reading) shape va access level t))
+        (end_of access (path_from (entry_words_through large reading) shape va access level t)))
+        → EndsAlike small large
+        (at ∷ places_of (later (path_from (entry_words_through large reading) shape va access level) (read_next level at access (entry_word_at reading at (large at Implicit)))))
+        (or_else (end_of access (later (path_from (entry_words_through small reading) shape va access level) (read_next level at access (entry_word_at reading at (small at Implicit)))))
+        (read_next level at access (entry_word_at reading at (small at Implicit))))
+        (or_else (end_of access (later (path_from (entry_words_through large reading) shape va access level) (read_next level at access (entry_word_at reading at (large at Implicit)))))
+        (read_next level at access (entry_word_at reading at (large at Implicit))))
+    by at (Some place) e below = rw (e, w.gives at place Implicit e)
+        (next_alike small large access at _ _ below (entry_next level access (table_entry (reading place 8))) (is_read level access (table_entry (reading place 8))))
+    by at None e below = rw e (inl refl, e, λ none. rw none refl)
+
+walks_alike : (small large : SecondStage) → IsWithin small large → (reading : Reading) (page : ℕ) (shape : Shape) (va : ℕ) (access : Access)
+    → EndsAlike small large (places_of (path (entry_words_through large reading) page shape va access))
+    (walk (entry_words_through small reading) page shape va access) (walk (entry_words_through large reading) page shape va access)
+unfolding walk path end_of
+walks_alike small large w reading page shape va access = by (is_canonical shape va)
+  where
+    by : (right : Bool)
+        → EndsAlike small large (places_of (cond right (path_from (entry_words_through large reading) shape va access (levels shape) page) []))
+        (end_of access (cond right (path_from (entry_words_through small reading) shape va access (levels shape) page) []))
+        (end_of access (cond right (path_from (entry_words_through large reading) shape va access (levels shape) page) []))
+    by true = paths_alike small large w reading shape va access (levels shape) page
+    by false = refl
+
+-- the first stage: the places of the entries that it reads
+abbrev pub read_for : SecondStage → Reading → ℕ → Access → SupervisorRoot → List ℕ
+read_for second reading va access root.Bare = []
+read_for second reading va access (root.Table table asid ppn) =
+    places_of (path (entry_words_through second reading) (ppn % 2 ^ 44) (supervisor_shape table) va access)
+
+abbrev FindsAlike : SecondStage → SecondStage → List ℕ → Found → Found → Type 0
+FindsAlike small large asked (Passes address) other = other ≡ Passes address
+FindsAlike small large asked PageFaults other = other ≡ PageFaults
+FindsAlike small large asked (Lacks place) other = StopsAt small large asked place Implicit (other ≡ Lacks place)
+
+found_alike : (small large : SecondStage) (asked : List ℕ) (privilege : Privilege) (access : Access) (va : ℕ) (end other : WalkEnd)
+    → EndsAlike small large asked end other → FindsAlike small large asked (found_by privilege access va end) (found_by privilege access va other)
+found_alike small large asked privilege access va (Leaf leaf) other alike = rw alike (both (permits_first privilege access leaf))
+  where
+    both : (permits : Bool) → FindsAlike small large asked (cond permits (Passes (leaf_address leaf va)) PageFaults) (cond permits (Passes (leaf_address leaf va)) PageFaults)
+    both true = refl
+    both false = refl
+found_alike small large asked privilege access va PageFault other alike = rw alike refl
+found_alike small large asked privilege access va (FetchEnd place trap) other alike =
+    stops_more small large asked asked place Implicit (other ≡ FetchEnd place trap) (found_by privilege access va other ≡ Lacks place) (λ h. h) (λ e. rw e refl) alike
+
+under_alike : (small large : SecondStage) → IsWithin small large → (reading : Reading) (privilege : Privilege) (va : ℕ) (access : Access) (atp : SupervisorRoot)
+    → FindsAlike small large (read_for large reading va access atp) (found_under small reading privilege va access atp) (found_under large reading privilege va access atp)
+under_alike small large w reading privilege va access root.Bare = refl
+under_alike small large w reading privilege va access (root.Table table asid ppn) =
+    found_alike small large _ privilege access va _ _ (walks_alike small large w reading (ppn % 2 ^ 44) (supervisor_shape table) va access)
+
+-- an outcome, and whether something is so where it stops at no access
+abbrev OutcomeAlike : SecondStage → SecondStage → List ℕ → Outcome → Type 0 → Type 0
+OutcomeAlike small large asked (Stuck unplaced) same = StopsAt small large asked unplaced.address unplaced.kind same
+OutcomeAlike small large asked (Done state stored event) same = same
+OutcomeAlike small large asked (Trapped trap) same = same
+OutcomeAlike small large asked Called same = same
+OutcomeAlike small large asked (Waits state) same = same
+OutcomeAlike small large asked (Fenced state fence) same = same
+OutcomeAlike small large asked (Accesses access) same = same
+
+outcome_more : (small large : SecondStage) (asked more : List ℕ) (o : Outcome) (same same' : Type 0)
+    → ((p : ℕ) → In p asked → In p more) → (same → same') → OutcomeAlike small large asked o same → OutcomeAlike small large more o same'
+outcome_more small large asked more (Stuck unplaced) same same' wider then alike =
+    stops_more small large asked more unplaced.address unplaced.kind same same' (wider unplaced.address) then alike
+outcome_more small large asked more (Done state stored event) same same' wider then alike = then alike
+outcome_more small large asked more (Trapped trap) same same' wider then alike = then alike
+outcome_more small large asked more Called same same' wider then alike = then alike
+outcome_more small large asked more (Waits state) same same' wider then alike = then alike
+outcome_more small large asked more (Fenced state fence) same same' wider then alike = then alike
+outcome_more small large asked more (Accesses access) same same' wider then alike = then alike
+
+-- where an access is made: it asks for the entries, and for the address that they give
+abbrev pub final : Found → List ℕ
+final (Passes address) = address ∷ []
+final PageFaults = []
+final (Lacks place) = []
+
+abbrev pub asked_for : SecondStage → Reading → Csrs → Mode → ℕ → Access → List ℕ
+asked_for second reading csrs mode va access =
+    read_for second reading va access (bank_of csrs mode).atp ++ final (first_stage second reading csrs mode va access)
+
+abbrev PlacesAlike : SecondStage → SecondStage → List ℕ → Located → Located → Type 0
+PlacesAlike small large asked (At place) other = other ≡ At place
+PlacesAlike small large asked (Fails (Faults trap)) other = other ≡ Fails (Faults trap)
+PlacesAlike small large asked (Fails (Misses unplaced)) other = StopsAt small large asked unplaced.address unplaced.kind (other ≡ Fails (Misses unplaced))
+
+by_alike : (small large : SecondStage) → IsWithin small large → (asked : List ℕ) (mode : Mode) (va : ℕ) (access : Access) (found other : Found)
+    → FindsAlike small large asked found other
+    → PlacesAlike small large (asked ++ final other) (located_by small mode va access found) (located_by large mode va access other)
+by_alike small large w asked mode va access (Passes address) other alike = rw alike (by (small address access) refl)
+  where
+    by : (place : Option ℕ) → small address access ≡ place
+        → PlacesAlike small large (asked ++ address ∷ []) (located_at mode va access address place) (located_at mode va access address (large address access))
+    by (Some place) e = rw (w.gives address place access e) refl
+    by None e = (in_right address asked (address ∷ []) (inl refl), e, λ none. rw none refl)
+by_alike small large w asked mode va access PageFaults other alike = rw alike refl
+by_alike small large w asked mode va access (Lacks place) other alike =
+    stops_more small large asked (asked ++ final other) place Implicit (other ≡ Lacks place)
+    (located_by large mode va access other ≡ Fails (Misses (record { address = place; kind = Implicit; access = access; va = va; mode = mode })))
+    (in_left place asked (final other)) (λ e. rw e refl) alike
+
+located_alike : (small large : SecondStage) → IsWithin small large → (reading : Reading) (csrs : Csrs) (mode : Mode) (va : ℕ) (access : Access)
+    → PlacesAlike small large (asked_for large reading csrs mode va access) (located small reading csrs mode va access) (located large reading csrs mode va access)
+unfolding first_stage
+located_alike small large w reading csrs mode va access = by_alike small large w _ mode va access _ _
+    (under_alike small large w reading (privilege_of csrs mode) va access (bank_of csrs mode).atp)
+
+accessed_alike : (small large : SecondStage) → IsWithin small large → (reading : Reading) (csrs : Csrs) (mode : Mode) (va : ℕ) (width : Width) (access : Access)
+    → PlacesAlike small large (asked_for large reading csrs mode va access) (accessed small reading csrs mode va width access) (accessed large reading csrs mode va width access)
+accessed_alike small large w reading csrs mode va width access = by (va % bytes_in width == 0)
+  where
+    by : (whole : Bool) → PlacesAlike small large (asked_for large reading csrs mode va access)
+        (cond whole (located small reading csrs mode va access) (Fails (Faults (exception mode (misaligned_fault access) va))))
+        (cond whole (located large reading csrs mode va access) (Fails (Faults (exception mode (misaligned_fault access) va))))
+    by true = located_alike small large w reading csrs mode va access
+    by false = refl
+
+-- an instruction that goes on alike at each place: it asks what its access asks, and what it asks from there on
+at_alike : (small large : SecondStage) (asked : List ℕ) (more : Located → List ℕ) (rest rest' : ℕ → Outcome) → ((other : Located) (p : ℕ) → In p asked → In p (more other))
+    → ((place : ℕ) → OutcomeAlike small large (more (At place)) (rest place) (rest' place ≡ rest place)) → (own other : Located) → PlacesAlike small large asked own other
+    → OutcomeAlike small large (more other) (at_place own rest) (at_place other rest' ≡ at_place own rest)
+at_alike small large asked more rest rest' wider goes (At place) other alike = rw alike (goes place)
+at_alike small large asked more rest rest' wider goes (Fails (Faults trap)) other alike = rw alike refl
+at_alike small large asked more rest rest' wider goes (Fails (Misses unplaced)) other alike =
+    stops_more small large asked (more other) unplaced.address unplaced.kind (other ≡ Fails (Misses unplaced)) (at_place other rest' ≡ Stuck unplaced)
+    (wider other unplaced.address) (λ e. rw e refl) alike
+
+-- what the mode decides on stops at no access
+abbrev pub IsDecided : Outcome → Type 0
+IsDecided (Stuck unplaced) = ⊥
+IsDecided (Done state stored event) = Unit {0}
+IsDecided (Trapped trap) = Unit {0}
+IsDecided Called = Unit {0}
+IsDecided (Waits state) = Unit {0}
+IsDecided (Fenced state fence) = Unit {0}
+IsDecided (Accesses access) = Unit {0}
+
+decided_alike : (small large : SecondStage) (asked : List ℕ) (o : Outcome) (same : Type 0) → IsDecided o → same → OutcomeAlike small large asked o same
+decided_alike small large asked (Stuck unplaced) same is held = absurd is
+decided_alike small large asked (Done state stored event) same is held = held
+decided_alike small large asked (Trapped trap) same is held = held
+decided_alike small large asked Called same is held = held
+decided_alike small large asked (Waits state) same is held = held
+decided_alike small large asked (Fenced state fence) same is held = held
+decided_alike small large asked (Accesses access) same is held = held
+
+shown_decided : (s : Virtual) (word rd : ℕ) (value : Result ℕ CsrEnd) → IsDecided (csr_shown s word rd value)
+shown_decided s word rd (Ok value) = tt
+shown_decided s word rd (Err end) = tt
+
+changed_decided : (s : Virtual) (word rd value : ℕ) (csrs : Result Csrs CsrEnd) → IsDecided (csr_changed s word rd value csrs)
+changed_decided s word rd value (Ok csrs) = tt
+changed_decided s word rd value (Err end) = tt
+
+csr_decided : (s : Virtual) (word : ℕ) (o : CsrOp) (number operand : ℕ) (writes : Bool) (rd : ℕ) → IsDecided (csr_accessed s word o number operand writes rd)
+csr_decided s word o number operand true rd = let before = held (read s.csrs s.mode number) in
+    changed_decided s word rd before (write s.csrs s.mode number (combined o before operand))
+csr_decided s word o number operand false rd = shown_decided s word rd (read s.csrs s.mode number)
+
+-- each instruction that is allowed, and one by its refusal
+performed_decided : (s : Virtual) (word : ℕ) (p : Privileged) → IsDecided (performed s word p)
+performed_decided s word (Csr o number operand writes rd) = csr_decided s word o number operand writes rd
+performed_decided s word Sret = tt
+performed_decided s word Wfi = tt
+performed_decided s word SfenceVma = tt
+performed_decided s word HfenceVvma = tt
+performed_decided s word (HfenceGvma fence) = tt
+performed_decided s word (HlvAccess wanted) = tt
+
+pub privileged_decided : (s : Virtual) (word : ℕ) (p : Privileged) → IsDecided (privileged s word p)
+unfolding privileged
+privileged_decided s word p = by (refusal p s.csrs.hstatus s.mode)
+  where
+    by : (refusal : Option CsrEnd) → IsDecided (decided s word p refusal)
+    by (Some end) = tt
+    by None = performed_decided s word p
+
+called_decided : (mode : Mode) → IsDecided (called_from mode)
+called_decided HS = tt
+called_decided U = tt
+called_decided VS = tt
+called_decided VU = tt
+
+-- an effect
+abbrev pub asked_by_effect : SecondStage → Reading → Virtual → Effect → List ℕ
+asked_by_effect second reading state (Data wanted) = asked_for second reading state.csrs state.mode wanted.address (kind_of wanted.purpose)
+asked_by_effect second reading state _ = []
+
+executed_alike : (small large : SecondStage) → IsWithin small large → (reading : Reading) (s : Virtual) (word : ℕ) (effect : Effect)
+    → OutcomeAlike small large (asked_by_effect large reading s effect) (executed small reading s word effect) (executed large reading s word effect ≡ executed small reading s word effect)
+executed_alike small large w reading s word (Sets rd value next) = refl
+executed_alike small large w reading s word (Raises cause tval) = refl
+executed_alike small large w reading s word (Data wanted) = let asked = asked_for large reading s.csrs s.mode wanted.address (kind_of wanted.purpose) in
+    at_alike small large asked (λ other. asked) _ _ (λ other p h. h) (λ place. refl) _ _
+    (accessed_alike small large w reading s.csrs s.mode wanted.address wanted.width (kind_of wanted.purpose))
+executed_alike small large w reading s word Calls = decided_alike small large [] (called_from s.mode) _ (called_decided s.mode) refl
+executed_alike small large w reading s word (Decides effect) = decided_alike small large [] (privileged s word effect) _ (privileged_decided s word effect) refl
+
+-- an instruction
+abbrev pub asked_by_op : SecondStage → Reading → Virtual → Option Op → List ℕ
+asked_by_op second reading state (Some o) = asked_by_effect second reading state (meaning o state.regs)
+asked_by_op second reading state None = []
+
+abbrev pub asked_at : SecondStage → Reading → Virtual → Located → List ℕ
+asked_at second reading state (At place) = asked_by_op second reading state (op_of (word_at reading place))
+asked_at second reading state (Fails failure) = []
+
+pub asked : SecondStage → Reading → Virtual → List ℕ
+asked second reading state = asked_for second reading state.csrs state.mode state.regs.pc Fetch
+    ++ asked_at second reading state (fetch_place second reading state)
+
+decoded_alike : (small large : SecondStage) → IsWithin small large → (reading : Reading) (s : Virtual) (word : ℕ) (o : Option Op)
+    → OutcomeAlike small large (asked_by_op large reading s o) (decoded small reading s word o) (decoded large reading s word o ≡ decoded small reading s word o)
+decoded_alike small large w reading s word (Some o) = executed_alike small large w reading s word (meaning o s.regs)
+decoded_alike small large w reading s word None = refl
+
+core_alike : (small large : SecondStage) → IsWithin small large → (reading : Reading) (s : Virtual)
+    → OutcomeAlike small large (asked large reading s) (core small reading s) (core large reading s ≡ core small reading s)
+unfolding core asked
+core_alike small large w reading s = let front = asked_for large reading s.csrs s.mode s.regs.pc Fetch in
+    at_alike small large front (λ other. front ++ asked_at large reading s other) _ _ (λ other p. in_left p front (asked_at large reading s other))
+    (λ place. behind front (word_at reading place) (op_of (word_at reading place))) _ _ (accessed_alike small large w reading s.csrs s.mode s.regs.pc Word Fetch)
+  where
+    behind : (front : List ℕ) (word : ℕ) (o : Option Op) → OutcomeAlike small large (front ++ asked_by_op large reading s o) (decoded small reading s word o)
+        (decoded large reading s word o ≡ decoded small reading s word o)
+    behind front word o = outcome_more small large (asked_by_op large reading s o) (front ++ asked_by_op large reading s o) (decoded small reading s word o)
+        (decoded large reading s word o ≡ decoded small reading s word o) (decoded large reading s word o ≡ decoded small reading s word o)
+        (λ p. in_right p front (asked_by_op large reading s o)) (λ e. e) (decoded_alike small large w reading s word o)
+
+-- at most eight
+few_met : (reading : EntryReading) (shape : Shape) (va : ℕ) (access : Access) (level table : ℕ) → length (places_of (path_from reading shape va access level table)) ≤ level
+unfolding path_from
+few_met reading shape va access zero table = omega arith
+few_met reading shape va access (suc level) table = by (next_of access (met_in reading shape va level table)) (λ t. few_met reading shape va access level t)
+  where
+    by : (next : Next) → ((t : ℕ) → length (places_of (path_from reading shape va access level t)) ≤ level)
+        → suc (length (places_of (later (path_from reading shape va access level) next))) ≤ suc level
+    by (Ends end) below = omega arith
+    by (Below t) below = let few = below t in omega arith
+
+few_read : (second : SecondStage) (reading : Reading) (va : ℕ) (access : Access) (atp : SupervisorRoot) → length (read_for second reading va access atp) ≤ most_levels
+unfolding path
+few_read second reading va access root.Bare = omega arith
+few_read second reading va access (root.Table table asid ppn) = by (is_canonical (supervisor_shape table) va)
+  where
+    by : (right : Bool)
+        → length (places_of (cond right (path_from (entry_words_through second reading) (supervisor_shape table) va access (levels (supervisor_shape table)) (ppn % 2 ^ 44)) [])) ≤ most_levels
+    by true =
+        let met = few_met (entry_words_through second reading) (supervisor_shape table) va access (levels (supervisor_shape table)) (ppn % 2 ^ 44) in
+        omega (arith, met, few_levels (supervisor_shape table))
+    by false = omega arith
+
+few_final : (found : Found) → length (final found) ≤ 1
+few_final (Passes address) = omega arith
+few_final PageFaults = omega arith
+few_final (Lacks place) = omega arith
+
+few_for : (second : SecondStage) (reading : Reading) (csrs : Csrs) (mode : Mode) (va : ℕ) (access : Access) → length (asked_for second reading csrs mode va access) ≤ 4
+few_for second reading csrs mode va access =
+    let entries = few_read second reading va access (bank_of csrs mode).atp in
+    let one = few_final (first_stage second reading csrs mode va access) in
+    let both = length-append (read_for second reading va access (bank_of csrs mode).atp) (final (first_stage second reading csrs mode va access)) in omega arith
+
+few_by_effect : (second : SecondStage) (reading : Reading) (s : Virtual) (effect : Effect) → length (asked_by_effect second reading s effect) ≤ 4
+few_by_effect second reading s (Data wanted) = few_for second reading s.csrs s.mode wanted.address (kind_of wanted.purpose)
+few_by_effect second reading s _ = omega arith
+
+few_by_op : (second : SecondStage) (reading : Reading) (s : Virtual) (o : Option Op) → length (asked_by_op second reading s o) ≤ 4
+few_by_op second reading s (Some o) = few_by_effect second reading s (meaning o s.regs)
+few_by_op second reading s None = omega arith
+
+few_at : (second : SecondStage) (reading : Reading) (s : Virtual) (a : Located) → length (asked_at second reading s a) ≤ 4
+few_at second reading s (At place) = few_by_op second reading s (op_of (word_at reading place))
+few_at second reading s (Fails failure) = omega arith
+
+pub few_asked : (second : SecondStage) (reading : Reading) (s : Virtual) → length (asked second reading s) ≤ 8
+unfolding asked
+few_asked second reading s =
+    let fetch = few_for second reading s.csrs s.mode s.regs.pc Fetch in
+    let data_too = few_at second reading s (fetch_place second reading s) in
+    let both = length-append (asked_for second reading s.csrs s.mode s.regs.pc Fetch) (asked_at second reading s (fetch_place second reading s)) in omega arith
+
+-- where it stops under the smaller: at one of what it asks the larger; and if that has no place there either, it stops there too
+pub record Stops (small large : SecondStage) (reading : Reading) (s : Virtual) (unplaced : Unplaced) : Type 0 where
+  pub inside : In unplaced.address (asked large reading s)
+  pub none : small unplaced.address unplaced.kind ≡ None
+  pub also : large unplaced.address unplaced.kind ≡ None → core large reading s ≡ core small reading s
+
+pub stops : (small large : SecondStage) → IsWithin small large → (reading : Reading) (s : Virtual) (unplaced : Unplaced)
+    → core small reading s ≡ Stuck unplaced → Stops small large reading s unplaced
+stops small large w reading s unplaced e = by (core small reading s) e (core_alike small large w reading s)
+  where
+    by : (o : Outcome) → o ≡ Stuck unplaced → OutcomeAlike small large (asked large reading s) o (core large reading s ≡ core small reading s)
+        → Stops small large reading s unplaced
+    by o is alike = let at = rw is at alike in record { inside = at.0; none = at.1; also = at.2 }
+
+-- and else it ends as under the larger
+pub else_alike : (small large : SecondStage) → IsWithin small large → (reading : Reading) (s : Virtual)
+    → ((unplaced : Unplaced) → core small reading s ≡ Stuck unplaced → large unplaced.address unplaced.kind ≡ None)
+    → core large reading s ≡ core small reading s
+else_alike small large w reading s none = by (core small reading s) refl (core_alike small large w reading s)
+  where
+    by : (o : Outcome) → core small reading s ≡ o → OutcomeAlike small large (asked large reading s) o (core large reading s ≡ core small reading s)
+        → core large reading s ≡ core small reading s
+    by (Stuck unplaced) is (inside, lacks, also) = also (none unplaced is)
+    by (Done state stored event) is same = same
+    by (Trapped trap) is same = same
+    by Called is same = same
+    by (Waits state) is same = same
+    by (Fenced state fence) is same = same
+    by (Accesses access) is same = same

@@ -1,0 +1,113 @@
+-- An entry of now is one that a space can be filled with.
+use Rattle.std.specs.Prelude.{Result, Ok, Err, ◌==◌, ◌&&◌, ◌||◌, not, nat_le}
+use Rattle.std.proofs.Common.{cond, ◌≡◌, ℕ, zero, suc, ◌+◌, ◌*◌, ◌/◌, ◌^◌, ◌<◌, ◌≤◌, Bool, true, false, List, [], length, Some, refl, ap, arith}
+use Rattle.std.proofs.lemmas.Bool.{and_parts, leb-true, ltb-true}
+use Rattle.arch_defs.specs.declared.cached.Entry.{Entry}
+use Rattle.arch_defs.specs.declared.modes.Access.{Access}
+use Rattle.arch_defs.specs.declared.modes.Trap.{Trap}
+use Rattle.arch_defs.specs.declared.registers.GuestMode.{GuestMode}
+use Rattle.arch_defs.specs.declared.registers.GuestMode.TheVariants.{Sv39x4}
+use Rattle.arch_defs.specs.declared.registers.GuestRoot.{GuestRoot}
+use Rattle.arch_defs.specs.declared.registers.GuestRoot.TheVariants as root
+use Rattle.arch_defs.specs.declared.walks.LeafEntry.{LeafEntry}
+use Rattle.arch_defs.specs.declared.walks.Next.{Next}
+use Rattle.arch_defs.specs.declared.walks.Next.TheVariants.{Ends, Below}
+use Rattle.arch_defs.specs.declared.walks.Shape.{Shape}
+use Rattle.arch_defs.specs.declared.walks.TableEntry.{TableEntry}
+use Rattle.arch_defs.specs.declared.walks.WalkEnd.TheVariants.{Leaf, PageFault}
+use Rattle.arch_defs.specs.Memory.{block_size, ram_base}
+use Rattle.arch_defs.specs.Roots.{guest_shape}
+use Rattle.arch_defs.specs.SecondStage.{guest_root_frame, memory_words}
+use Rattle.arch_defs.specs.TableEntries.{entry_next, is_aligned, is_leaf, is_marked, is_valid, leaf_entry, table_entry}
+use Rattle.arch_defs.specs.Walk.{EntryReading, end_of, is_canonical, later, leaf_address, levels, most_level, most_levels, or_else, path, path_from, place_of, read_next, walk}
+use Rattle.arch_defs.specs.CachedEntries.{CanFill, guest_page_bits}
+use Rattle.arch_defs.specs.WalkedEntries.{entry_by_table, entry_now, entry_under}
+use Rattle.machine_laws.specs.Laws.{FillsCanBeMade}
+use Rattle.arch_defs.proofs.Shapes.{few_levels}
+use Rattle.machine_laws.proofs.Cached.{IsGiven, given}
+
+-- what holds of each leaf that a walk ends at
+record IsSound (leaf : LeafEntry) : Type 0 where
+  pub level : leaf.level ≤ most_level
+  pub right : (leaf.r || leaf.x) ≡ true
+  pub write : leaf.w ≡ true → leaf.r ≡ true
+
+ends_at : (valid is_one fit ends : Bool) (one leaf : LeafEntry) (table : ℕ)
+    → cond valid (cond is_one (cond fit (Ends (Leaf one)) (Ends PageFault)) (cond ends (Ends PageFault) (Below table))) (Ends PageFault) ≡ Ends (Leaf leaf)
+    → (valid ≡ true) × (is_one ≡ true) × (one ≡ leaf)
+ends_at true true true ends one leaf table is = let same : one ≡ leaf = cc in (refl, refl, same)
+ends_at true true false ends one leaf table is = absurd cc
+ends_at true false fit true one leaf table is = absurd cc
+ends_at true false fit false one leaf table is = absurd cc
+ends_at false is_one fit ends one leaf table is = absurd cc
+
+writes : (v w r z : Bool) → (v && not (w && not r) && z) ≡ true → w ≡ true → r ≡ true
+writes true true true z valid is = refl
+writes true true false z valid is = absurd cc
+writes true false r z valid is = absurd cc
+writes false w r z valid is = absurd cc
+
+sound_entry : (level : ℕ) (kind : Access) (e : TableEntry) (leaf : LeafEntry) → level ≤ most_level → entry_next level kind e ≡ Ends (Leaf leaf) → IsSound leaf
+unfolding entry_next
+sound_entry level kind e leaf low is =
+    let at = ends_at (is_valid e) (is_leaf e) (is_aligned level e.frame && is_marked kind e) (e.a || e.d || e.u || level == 0) (leaf_entry level e) leaf e.frame is in
+    rw (← at.2) (record { level = low; right = at.1; write = λ written. writes e.v e.w e.r (e.reserved == 0) at.0 (and_parts e.w e.d written).0 })
+
+sound_path : (reading : EntryReading) (shape : Shape) (va : ℕ) (kind : Access) (leaf : LeafEntry) (level table : ℕ) → level ≤ most_levels
+    → end_of kind (path_from reading shape va kind level table) ≡ Leaf leaf → IsSound leaf
+unfolding path_from end_of
+sound_path reading shape va kind leaf zero table low is = absurd cc
+sound_path reading shape va kind leaf (suc level) table low is =
+    by (place_of shape level table va) (reading (place_of shape level table va)) (λ t. sound_path reading shape va kind leaf level t (omega arith)) is
+  where
+    next : (next : Next) → (next ≡ Ends (Leaf leaf) → IsSound leaf) → ((t : ℕ) → end_of kind (path_from reading shape va kind level t) ≡ Leaf leaf → IsSound leaf)
+        → or_else (end_of kind (later (path_from reading shape va kind level) next)) next ≡ Leaf leaf → IsSound leaf
+    next (Ends end) here deeper is = here (ap Ends is)
+    next (Below t) here deeper is = deeper t is
+
+    by : (at : ℕ) (read : Result ℕ Trap) → ((t : ℕ) → end_of kind (path_from reading shape va kind level t) ≡ Leaf leaf → IsSound leaf)
+        → or_else (end_of kind (later (path_from reading shape va kind level) (read_next level at kind read))) (read_next level at kind read) ≡ Leaf leaf → IsSound leaf
+    by at (Ok word) deeper is = next (entry_next level kind (table_entry word)) (sound_entry level kind (table_entry word) leaf (omega arith)) deeper is
+    by at (Err trap) deeper is = absurd cc
+
+-- the pages that a mode's tables translate
+small_page : (mode : GuestMode) (va : ℕ) → is_canonical (guest_shape mode) va ≡ true → va / 4096 < 2 ^ guest_page_bits
+small_page Sv39x4 va is = let small = ltb-true va (2 ^ 41) is in omega (arith, small)
+
+sound_walk : (reading : EntryReading) (mode : GuestMode) (ppn va : ℕ) (kind : Access) (leaf : LeafEntry) → walk reading ppn (guest_shape mode) va kind ≡ Leaf leaf
+    → (va / 4096 < 2 ^ guest_page_bits) × IsSound leaf
+unfolding walk path end_of
+sound_walk reading mode ppn va kind leaf is = by (is_canonical (guest_shape mode) va) refl is
+  where
+    by : (right : Bool) → is_canonical (guest_shape mode) va ≡ right → end_of kind (cond right (path_from reading (guest_shape mode) va kind (levels (guest_shape mode)) ppn) []) ≡ Leaf leaf
+        → (va / 4096 < 2 ^ guest_page_bits) × IsSound leaf
+    by true right is = (small_page mode va right, sound_path reading (guest_shape mode) va kind leaf (levels (guest_shape mode)) ppn (few_levels (guest_shape mode)) is)
+    by false right is = absurd cc
+
+can_fill : (mxr : Bool) (ram blocks : List ℕ) (mode : GuestMode) (ppn address : ℕ) (kind : Access) (e : Entry) (leaf : LeafEntry) → length ram ≡ length blocks * block_size
+    → IsGiven mxr ram (guest_shape mode) ppn address kind e leaf → CanFill blocks e
+can_fill mxr ram blocks mode ppn address kind e leaf size g =
+    let sound = sound_walk (memory_words ram_base ram) mode (guest_root_frame ppn) address kind leaf g.walked in
+    let parts = and_parts (nat_le ram_base (leaf_address leaf address / 4096 * 4096)) (nat_le (leaf_address leaf address / 4096 * 4096 + 4096) (ram_base + length ram)) g.inside in
+    let low : ram_base ≤ leaf_address leaf address / 4096 * 4096 = leb-true ram_base (leaf_address leaf address / 4096 * 4096) parts.0 in
+    let high : leaf_address leaf address / 4096 * 4096 + 4096 ≤ ram_base + length ram = leb-true (leaf_address leaf address / 4096 * 4096 + 4096) (ram_base + length ram) parts.1 in
+    let one : CanFill blocks (entry_under leaf address) = record {
+      page = sound.0;
+      from = low;
+      to = below (leaf_address leaf address / 4096 * 4096) (length ram) (length blocks * block_size) size high;
+      level = sound.1.level;
+      right = sound.1.right;
+      write = sound.1.write;
+    } in
+    rw g.is one
+  where
+    below : (place size other : ℕ) → size ≡ other → place + 4096 ≤ ram_base + size → place < ram_base + other
+    below place size other same h = omega arith
+
+pub fills_can_be_made : FillsCanBeMade
+unfolding entry_now
+fills_can_be_made csrs ram blocks address kind e size found = by csrs.hgatp found
+  where
+    by : (hgatp : GuestRoot) → entry_by_table csrs.hs.status.mxr ram address kind hgatp ≡ Some e → CanFill blocks e
+    by root.Bare is = absurd cc
+    by (root.Table mode vmid ppn) is = let g = given csrs.hs.status.mxr ram (guest_shape mode) ppn address kind e is in can_fill csrs.hs.status.mxr ram blocks mode ppn address kind e g.0 size g.1

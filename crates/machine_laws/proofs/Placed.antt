@@ -1,0 +1,145 @@
+-- Where an access is made, under a renaming of places.
+use Rattle.std.specs.Prelude.{◌==◌, Ok}
+use Rattle.std.specs.Option.{option_map}
+use Rattle.std.proofs.Common.{cond, ◌≡◌, ℕ, ◌+◌, ◌*◌, ◌%◌, ◌^◌, ◌≤◌, Bool, true, false, Option, Some, None, refl, ap, arith}
+use Rattle.std.proofs.lemmas.Bool.{eqb-true}
+use Rattle.std.proofs.Math.Pow.{mod-mod-pow}
+use Rattle.arch_defs.specs.declared.modes.Access.{Access}
+use Rattle.arch_defs.specs.declared.modes.Access.TheVariants.{Implicit}
+use Rattle.arch_defs.specs.declared.modes.Mode.{Mode}
+use Rattle.arch_defs.specs.declared.registers.Csrs.{Csrs}
+use Rattle.arch_defs.specs.declared.registers.SupervisorRoot.{SupervisorRoot}
+use Rattle.arch_defs.specs.declared.registers.SupervisorRoot.TheVariants as root
+use Rattle.arch_defs.specs.declared.walks.Found.{Found}
+use Rattle.arch_defs.specs.declared.walks.Found.TheVariants.{Passes, PageFaults, Lacks}
+use Rattle.arch_defs.specs.declared.walks.Privilege.{Privilege}
+use Rattle.arch_defs.specs.declared.walks.WalkEnd.{WalkEnd}
+use Rattle.arch_defs.specs.declared.walks.WalkEnd.TheVariants.{Leaf, PageFault, FetchEnd}
+use Rattle.arch_defs.specs.declared.widths.Width.{Width}
+use Rattle.arch_defs.specs.declared.widths.Width.TheVariants.{Byte, Half, Word, Double}
+use Rattle.arch_defs.specs.Memory.{Reading, SecondStage}
+use Rattle.arch_defs.specs.Roots.{supervisor_shape}
+use Rattle.arch_defs.specs.Permits.{permits_first}
+use Rattle.arch_defs.specs.Translation.{bank_of, entry_word_at, entry_words_through, first_stage, found_by, found_under, privilege_of}
+use Rattle.arch_defs.specs.Traps.{exception, misaligned_fault}
+use Rattle.arch_defs.specs.Walk.{leaf_address, walk}
+use Rattle.arch_defs.specs.Widths.{bytes_in}
+use Rattle.machine_defs.specs.Core.{Faults, Misses, Located, At, Fails, accessed, at_place, located, located_at, located_by}
+use Rattle.machine_defs.specs.Outcomes.{Outcome}
+use Rattle.machine_laws.specs.Renaming.{IsRenamed, LeavesHeld, Places, outcome_renamed}
+use Rattle.machine_laws.proofs.AlikeWalks.{walks_alike}
+
+-- an outcome is the renamed one of another, which keeps to the places of the set
+abbrev pub EndsAlike : (ℕ → ℕ) → Places → Outcome → Outcome → Type 0
+EndsAlike h held own host = (host ≡ outcome_renamed h own) × LeavesHeld held own
+
+-- an access of n bytes is made at a place of the set, up to the end of its page, and at that place's new name;
+-- or both fail alike
+abbrev pub LocatedAlike : (ℕ → ℕ) → Places → ℕ → Located → Located → Type 0
+LocatedAlike h held n (At own) host = (host ≡ At (h own)) × (held own ≡ true) × (own % 4096 + n ≤ 4096)
+LocatedAlike h held n (Fails failure) host = host ≡ Fails failure
+
+-- an instruction that goes on alike at alike places ends alike
+pub at_alike : (h : ℕ → ℕ) (held : Places) (n : ℕ) (rest rest' : ℕ → Outcome)
+    → ((place : ℕ) → held place ≡ true → place % 4096 + n ≤ 4096 → EndsAlike h held (rest place) (rest' (h place)))
+    → (own host : Located) → LocatedAlike h held n own host → EndsAlike h held (at_place own rest) (at_place host rest')
+at_alike h held n rest rest' goes (At place) host (e, in_set, fits) = rw e (goes place in_set fits)
+at_alike h held n rest rest' goes (Fails (Faults trap)) host e = rw e (refl, tt)
+at_alike h held n rest rest' goes (Fails (Misses unplaced)) host e = rw e (refl, tt)
+
+-- the bytes of an entry end in its page
+entry_fits : (place at : ℕ) → place % 4096 ≡ at % 4096 → at % 8 ≡ 0 → place % 4096 + 8 ≤ 4096
+entry_fits place at offset eighth = grind arith
+
+-- entries are read alike
+entries_alike : {h : ℕ → ℕ} {held : Places} {own : SecondStage} {reading : Reading} {host : SecondStage} {other : Reading}
+    → IsRenamed h held own reading host other → (at : ℕ) → at % 8 ≡ 0 → entry_words_through host other at ≡ entry_words_through own reading at
+entries_alike {h = h} {own = own} {reading = reading} {other = other} r at eighth = rw (r.places at Implicit) (by (own at Implicit) refl)
+  where
+    by : (place : Option ℕ) → own at Implicit ≡ place → entry_word_at other at (option_map h place) ≡ entry_word_at reading at place
+    by (Some place) e = let is = r.inside at place Implicit e in ap Ok (r.same place 8 is.0 (entry_fits place at is.1 eighth))
+    by None e = refl
+
+-- the first stage translates alike
+under_alike : {h : ℕ → ℕ} {held : Places} {own : SecondStage} {reading : Reading} {host : SecondStage} {other : Reading}
+    → IsRenamed h held own reading host other → (privilege : Privilege) (va : ℕ) (access : Access) (atp : SupervisorRoot)
+    → found_under host other privilege va access atp ≡ found_under own reading privilege va access atp
+under_alike r privilege va access root.Bare = refl
+under_alike {own = own} {reading = reading} {host = host} {other = other} r privilege va access (root.Table table asid ppn) =
+    ap (found_by privilege access va) (walks_alike (entry_words_through own reading) (entry_words_through host other) (entries_alike r) (ppn % 2 ^ 44) (supervisor_shape table) va access)
+
+first_alike : {h : ℕ → ℕ} {held : Places} {own : SecondStage} {reading : Reading} {host : SecondStage} {other : Reading}
+    → IsRenamed h held own reading host other → (csrs : Csrs) (mode : Mode) (va : ℕ) (access : Access)
+    → first_stage host other csrs mode va access ≡ first_stage own reading csrs mode va access
+unfolding first_stage
+first_alike r csrs mode va access = under_alike r (privilege_of csrs mode) va access (bank_of csrs mode).atp
+
+-- and keeps the offset in the page
+abbrev pub KeepsOffset : ℕ → Found → Type 0
+KeepsOffset va (Passes address) = address % 4096 ≡ va % 4096
+KeepsOffset va PageFaults = Unit {0}
+KeepsOffset va (Lacks place) = Unit {0}
+
+added : (frame part va : ℕ) → part % 4096 ≡ va % 4096 → (4096 * frame + part) % 4096 ≡ va % 4096
+added frame part va same = omega arith
+
+pub leaf_keeps : (frame level va : ℕ) → (4096 * frame + va % 2 ^ (12 + 9 * level)) % 4096 ≡ va % 4096
+leaf_keeps frame level va = added frame (va % 2 ^ (12 + 9 * level)) va
+    (let turned : 12 + 9 * level ≡ 9 * level + 12 = omega arith in rw turned (mod-mod-pow va (9 * level) 12))
+
+by_keeps : (privilege : Privilege) (access : Access) (va : ℕ) (end : WalkEnd) → KeepsOffset va (found_by privilege access va end)
+by_keeps privilege access va (Leaf leaf) = elim (permits_first privilege access leaf) as (λ b. KeepsOffset va (cond b (Passes (leaf_address leaf va)) PageFaults))
+    [ true ↦ leaf_keeps leaf.frame leaf.level va | false ↦ tt ]
+by_keeps privilege access va PageFault = tt
+by_keeps privilege access va (FetchEnd place trap) = tt
+
+under_keeps : (second : SecondStage) (reading : Reading) (privilege : Privilege) (va : ℕ) (access : Access) (atp : SupervisorRoot)
+    → KeepsOffset va (found_under second reading privilege va access atp)
+under_keeps second reading privilege va access root.Bare = refl
+under_keeps second reading privilege va access (root.Table table asid ppn) =
+    by_keeps privilege access va (walk (entry_words_through second reading) (ppn % 2 ^ 44) (supervisor_shape table) va access)
+
+pub first_keeps : (second : SecondStage) (reading : Reading) (csrs : Csrs) (mode : Mode) (va : ℕ) (access : Access)
+    → KeepsOffset va (first_stage second reading csrs mode va access)
+unfolding first_stage
+first_keeps second reading csrs mode va access = under_keeps second reading (privilege_of csrs mode) va access (bank_of csrs mode).atp
+
+-- the bytes at a multiple of their width end in its page
+width_fits : (width : Width) (place address va : ℕ) → place % 4096 ≡ address % 4096 → address % 4096 ≡ va % 4096 → va % bytes_in width ≡ 0
+    → place % 4096 + bytes_in width ≤ 4096
+width_fits Byte place address va second first whole = grind arith
+width_fits Half place address va second first whole = grind arith
+width_fits Word place address va second first whole = grind arith
+width_fits Double place address va second first whole = grind arith
+
+-- by the second stage, and by both
+by_alike : {h : ℕ → ℕ} {held : Places} {own : SecondStage} {reading : Reading} {host : SecondStage} {other : Reading}
+    → IsRenamed h held own reading host other → (mode : Mode) (va : ℕ) (width : Width) (access : Access) (found : Found) → KeepsOffset va found
+    → va % bytes_in width ≡ 0 → LocatedAlike h held (bytes_in width) (located_by own mode va access found) (located_by host mode va access found)
+by_alike {h = h} {held = held} {own = own} r mode va width access (Passes address) keeps whole = rw (r.places address access) (by (own address access) refl)
+  where
+    by : (place : Option ℕ) → own address access ≡ place
+        → LocatedAlike h held (bytes_in width) (located_at mode va access address place) (located_at mode va access address (option_map h place))
+    by (Some place) e = let is = r.inside address place access e in (refl, is.0, width_fits width place address va is.1 keeps whole)
+    by None e = refl
+by_alike r mode va width access PageFaults keeps whole = refl
+by_alike r mode va width access (Lacks place) keeps whole = refl
+
+located_alike : {h : ℕ → ℕ} {held : Places} {own : SecondStage} {reading : Reading} {host : SecondStage} {other : Reading}
+    → IsRenamed h held own reading host other → (csrs : Csrs) (mode : Mode) (va : ℕ) (width : Width) (access : Access) → va % bytes_in width ≡ 0
+    → LocatedAlike h held (bytes_in width) (located own reading csrs mode va access) (located host other csrs mode va access)
+located_alike {own = own} {reading = reading} r csrs mode va width access whole =
+    rw (first_alike r csrs mode va access)
+    (by_alike r mode va width access (first_stage own reading csrs mode va access) (first_keeps own reading csrs mode va access) whole)
+
+pub accessed_alike : {h : ℕ → ℕ} {held : Places} {own : SecondStage} {reading : Reading} {host : SecondStage} {other : Reading}
+    → IsRenamed h held own reading host other → (csrs : Csrs) (mode : Mode) (va : ℕ) (width : Width) (access : Access)
+    → LocatedAlike h held (bytes_in width) (accessed own reading csrs mode va width access) (accessed host other csrs mode va width access)
+accessed_alike {h = h} {held = held} {own = own} {reading = reading} {host = host} {other = other} r csrs mode va width access =
+    by (va % bytes_in width == 0) (eqb-true (va % bytes_in width) 0)
+  where
+    by : (b : Bool) → (b ≡ true → va % bytes_in width ≡ 0)
+        → LocatedAlike h held (bytes_in width) (cond b (located own reading csrs mode va access) (Fails (Faults (exception mode (misaligned_fault access) va))))
+        (cond b (located host other csrs mode va access) (Fails (Faults (exception mode (misaligned_fault access) va))))
+    by true whole = located_alike r csrs mode va width access (whole refl)
+    by false whole = refl

@@ -1,0 +1,15 @@
+use Rattle.machine_laws.proofs.FreeRuns.{guests_are_architectural, runs_are_architectural}
+use Rattle.machine_laws.proofs.FreeSteps.{fenced_by_walks, uncached_by_walks}
+use Rattle.machine_laws.proofs.laws.runs_are_architectural.Goals as goal
+
+pub returns-clause-machines : goal.returns-clause-machines
+returns-clause-machines c = runs_are_architectural
+
+pub returns-clause-guests : goal.returns-clause-guests
+returns-clause-guests c = guests_are_architectural
+
+pub returns-clause-uncached : goal.returns-clause-uncached
+returns-clause-uncached c = uncached_by_walks
+
+pub returns-clause-fenced : goal.returns-clause-fenced
+returns-clause-fenced c = fenced_by_walks

@@ -1,0 +1,17 @@
+use Rattle.machine_laws.proofs.ShortRuns.{fenced_faults, fenced_faults_freely, may_drop_stale, may_use_stale, stale_is_used}
+use Rattle.machine_laws.proofs.laws.stale_until_the_fence.Goals as goal
+
+pub returns-clause-used : goal.returns-clause-used
+returns-clause-used c = stale_is_used
+
+pub returns-clause-faults : goal.returns-clause-faults
+returns-clause-faults c = fenced_faults
+
+pub returns-clause-may_use : goal.returns-clause-may_use
+returns-clause-may_use c = may_use_stale
+
+pub returns-clause-may_drop : goal.returns-clause-may_drop
+returns-clause-may_drop c = may_drop_stale
+
+pub returns-clause-faults_freely : goal.returns-clause-faults_freely
+returns-clause-faults_freely c = fenced_faults_freely

@@ -1,0 +1,66 @@
+-- Laws of caching: every run is architectural, and what it uses is fresh.
+use Rattle.std.specs.Prelude.{ℕ, ◌≡◌, ◌/◌, ◌≤◌, ◌==◌, Bool, true, [], Option, Some, None}
+use Rattle.arch_defs.specs.declared.cached.Fence.{Fence}
+use Rattle.arch_defs.specs.declared.modes.Access.{Access}
+use Rattle.arch_defs.specs.Memory.{SecondStage, ram_base}
+use Rattle.arch_defs.specs.SecondStage.{second_now}
+use Rattle.arch_defs.specs.Roots.{vmid_of}
+use Rattle.arch_defs.specs.Spaces.{names_vmid}
+use Rattle.machine_defs.specs.declared.guests.GuestSpec.{GuestSpec}
+use Rattle.machine_defs.specs.Fills.{needed}
+use Rattle.machine_defs.specs.FreeMachines.{FreeMachine, FreeStep, IsArchitectural, left_under, uncached}
+use Rattle.machine_defs.specs.Freshness.{CachesFresh, UsesFresh}
+use Rattle.machine_defs.specs.Machine.{Machine, start}
+use Rattle.machine_defs.specs.Tries.{fence_under}
+use Rattle.machine_laws.specs.Keeping.{IsOrderly}
+
+-- every run of an orderly machine is architectural
+abbrev pub RunsAreArchitectural : Type 0
+RunsAreArchitectural = (m : Machine) (steps : ℕ) → IsOrderly m → IsArchitectural m steps
+
+-- and so each guest's, which has cached nothing at its start
+abbrev pub GuestsAreArchitectural : Type 0
+GuestsAreArchitectural = (guest : GuestSpec) (steps : ℕ) → needed ≤ guest.entries → 1 ≤ guest.spaces
+    → IsArchitectural (start guest) steps
+
+-- a step of a free machine leaves what one try under this second stage does
+pub record IsStepUnder (second : SecondStage) (f g : FreeMachine) : Type 0 where
+  pub platform : g.platform ≡ (left_under second f).platform
+  pub ram : g.ram ≡ (left_under second f).ram
+
+-- where nothing is cached, that is the walk of hgatp's table as RAM is
+abbrev pub UncachedByWalks : Type 0
+UncachedByWalks = (f g : FreeMachine) → FreeStep f g → f.cache ≡ []
+    → IsStepUnder (second_now f.platform.virt.csrs f.platform.virt.mode ram_base f.ram) f g
+
+-- whether what a fence names is the page of an address, or every page
+abbrev pub names_address : Option ℕ → ℕ → Bool
+names_address None address = true
+names_address (Some page) address = page == address / 4096
+
+-- in the step after a fence, each access of a VMID and a page that the fence names is made by that walk too: its
+-- translation sees what was stored before the fence (8.3.2)
+abbrev pub FencedByWalks : Type 0
+FencedByWalks = (f g h : FreeMachine) (before : FreeStep f g) (after : FreeStep g h) (fence : Fence)
+    (address : ℕ) (kind : Access) → fence_under before.second (uncached f) ≡ Some fence
+    → names_vmid fence.vmid (vmid_of g.platform.virt.csrs.hgatp) ≡ true
+    → names_address fence.page address ≡ true
+    → after.second address kind
+    ≡ second_now g.platform.virt.csrs g.platform.virt.mode ram_base g.ram address kind
+
+-- in every run of an orderly machine that begins without spaces, all cached translations are fresh
+abbrev pub RunsCacheFresh : Type 0
+RunsCacheFresh = (m : Machine) (steps : ℕ) → IsOrderly m → m.spaces ≡ [] → CachesFresh m steps
+
+-- so are those that the next step may use
+abbrev pub RunsUseFresh : Type 0
+RunsUseFresh = (m : Machine) (steps : ℕ) → IsOrderly m → m.spaces ≡ [] → UsesFresh m steps
+
+-- and so in each guest's run
+abbrev pub GuestsCacheFresh : Type 0
+GuestsCacheFresh = (guest : GuestSpec) (steps : ℕ) → needed ≤ guest.entries → 1 ≤ guest.spaces
+    → CachesFresh (start guest) steps
+
+abbrev pub GuestsUseFresh : Type 0
+GuestsUseFresh = (guest : GuestSpec) (steps : ℕ) → needed ≤ guest.entries → 1 ≤ guest.spaces
+    → UsesFresh (start guest) steps

@@ -1,0 +1,12 @@
+pub mod Budgets
+pub mod Caching
+pub mod EachEntry
+pub mod FrontSpaces
+pub mod HostPlaces
+pub mod InstructionEnds
+pub mod Keeping
+pub mod Laws
+pub mod Renaming
+pub mod Reservations
+pub mod ShortRuns
+pub mod StorableStates

@@ -1,0 +1,87 @@
+-- Two short runs, computed: a guest of the guest is entered while a stale translation is cached, after an
+-- HFENCE.GVMA and without one.
+use Rattle.std.specs.Prelude.{ℕ, ◌≡◌, ◌+◌, ◌*◌, ◌^◌, true, false, List, [], ◌∷◌, ◌++◌}
+use Rattle.arch_defs.specs.declared.cached.Entry.{Entry}
+use Rattle.arch_defs.specs.declared.modes.Mode.TheVariants.{HS, VS}
+use Rattle.arch_defs.specs.declared.modes.TheConstants.{INSTRUCTION_ACCESS_FAULT}
+use Rattle.arch_defs.specs.declared.registers.Csrs.{Csrs}
+use Rattle.arch_defs.specs.declared.registers.GuestRoot.{GuestRoot}
+use Rattle.arch_defs.specs.Clocks.{times_at_start}
+use Rattle.arch_defs.specs.CsrBits.{guest_root_of}
+use Rattle.arch_defs.specs.Memory.{ram_base}
+use Rattle.arch_defs.specs.Registers.{csrs_at_reset, read, virtual_at}
+use Rattle.machine_defs.specs.declared.guests.Status.TheVariants.{Running}
+use Rattle.machine_defs.specs.Fills.{needed}
+use Rattle.machine_defs.specs.FreeMachines.{FreeMachine, FreeRun, free_of}
+use Rattle.machine_defs.specs.Machine.{Machine, Platform}
+use Rattle.machine_defs.specs.Runs.{run}
+
+-- RAM of three instructions: a first one, SRET, and ADDI x1, x0, 1
+abbrev pub code_after : List ℕ → List ℕ
+code_after first = first ++ (0x73 ∷ 0 ∷ 0x20 ∷ 0x10 ∷ 0x93 ∷ 0 ∷ 0x10 ∷ 0 ∷ [])
+
+-- HFENCE.GVMA x0, x0, and NOP
+abbrev pub hfence_gvma : List ℕ
+hfence_gvma = 0x73 ∷ 0 ∷ 0 ∷ 0x62 ∷ []
+
+abbrev pub nop : List ℕ
+nop = 0x13 ∷ 0 ∷ 0 ∷ 0 ∷ []
+
+-- hgatp: MODE Sv39x4, VMID 1, and a root outside RAM, so that no walk gives a leaf
+unfoldable pub stale_root : GuestRoot
+stale_root = guest_root_of (8 * 2 ^ 60 + 2 ^ 44)
+
+-- HS, with an SRET to VS at the third instruction of the guest physical page 5
+unfoldable pub csrs_before : Csrs
+csrs_before = record csrs_at_reset {
+  hs = record csrs_at_reset.hs { epc = 5 * 4096 + 8; status = record csrs_at_reset.hs.status { spp = true } };
+  hstatus = record csrs_at_reset.hstatus { spv = true };
+  hgatp = stale_root;
+}
+
+-- the first frame of RAM for page 5, which may be executed
+unfoldable pub stale_entry : Entry
+stale_entry = record { page = 5; frame = 0x80000; r = false; w = false; x = true; level = 0 }
+
+-- a machine at the first instruction, which has cached this
+unfoldable pub stale_machine : List ℕ → Machine
+stale_machine first = record {
+  platform = record {
+    virt = record (virtual_at HS ram_base) { csrs = csrs_before };
+    clock = times_at_start;
+    console = record { bytes = []; room = 0; inputs = [] };
+    steps = 0;
+    status = Running;
+  };
+  ram = code_after first;
+  spaces = record { key = stale_root; entries = stale_entry ∷ [] } ∷ [];
+  space_room = 1;
+  entry_room = needed;
+}
+
+-- how the runs end: with an instruction access fault, since no walk gives anything, or with the instruction,
+-- by the stale translation
+pub record HasFaulted (p : Platform) : Type 0 where
+  pub mode : p.virt.mode ≡ HS
+  pub cause : p.virt.csrs.hs.cause ≡ INSTRUCTION_ACCESS_FAULT
+
+pub record HasExecuted (p : Platform) : Type 0 where
+  pub mode : p.virt.mode ≡ VS
+  pub value : read p.virt.regs 1 ≡ 1
+
+-- the lone machine executes it where it made no fence, and else not
+abbrev pub StaleIsUsed : Type 0
+StaleIsUsed = HasExecuted (run (stale_machine nop) 3).platform
+
+abbrev pub FencedFaults : Type 0
+FencedFaults = HasFaulted (run (stale_machine hfence_gvma) 3).platform
+
+-- a free machine may use the translation or drop it where it made no fence, and else cannot use it
+abbrev pub MayUseStale : Type 0
+MayUseStale = (end : FreeMachine) × FreeRun 3 (free_of (stale_machine nop)) end × HasExecuted end.platform
+
+abbrev pub MayDropStale : Type 0
+MayDropStale = (end : FreeMachine) × FreeRun 3 (free_of (stale_machine nop)) end × HasFaulted end.platform
+
+abbrev pub FencedFaultsFreely : Type 0
+FencedFaultsFreely = (end : FreeMachine) → FreeRun 3 (free_of (stale_machine hfence_gvma)) end → HasFaulted end.platform

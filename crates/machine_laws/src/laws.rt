@@ -1,0 +1,170 @@
+// Laws of the definitions.
+
+ghost use Rattle.machine_laws.specs.Budgets.{BudgetIsSmall, FillGoes, FillIsNoEvent, ReadyStepIsTry, ReadyStepsGo, TryGoes, TryIsEvent};
+ghost use Rattle.machine_laws.specs.Caching.{FencedByWalks, GuestsAreArchitectural, GuestsCacheFresh, GuestsUseFresh, RunsAreArchitectural, RunsCacheFresh, RunsUseFresh, UncachedByWalks};
+ghost use Rattle.machine_laws.specs.HostPlaces.{OnlyRamChanges, PlacesAreRenamed, RamIsRenamed, RamIsStored};
+ghost use Rattle.machine_laws.specs.Keeping.{FillStaysOrderly, StartIsOrderly, StaysOrderly, TryStaysOrderly};
+ghost use Rattle.machine_laws.specs.Laws.{EventsCompose, FewFills, FillsAreWalks, FillsCanBeMade, FillsGoOn, FillsServeThePage, FillsSuffice, FillsSufficeForGuests, FlatIsRam, FlatLacksNothing, FoldsByFront, FrontGivesPlaces, InterruptedLacksNothing, LacksAreRead, MoreChangeNothing, OnlySpaces, PageHasOneEntry, RunsCompose, StepsEndByRule, StepsGoOn, StepsSettle, StopsAreFaults, TriesChangeSpaces, TriesEndByRule};
+ghost use Rattle.machine_laws.specs.Renaming.{RenamedCore, StaysHeld};
+ghost use Rattle.machine_laws.specs.Reservations.{FillStaysInRam, GivesRam, StartIsInRam, StaysInRam, TryStaysInRam};
+ghost use Rattle.machine_laws.specs.ShortRuns.{FencedFaults, FencedFaultsFreely, MayDropStale, MayUseStale, StaleIsUsed};
+ghost use Rattle.machine_laws.specs.StorableStates.{FillStaysStorable, StartIsStorable, StaysStorable, TryStaysStorable};
+
+/// Runs compose: a run of `a` steps and then of `b` is a run of `a + b`, and so are its events.
+pub fn runs_compose()
+    ensures states { RunsCompose }
+    ensures events { EventsCompose }
+{}
+
+/// One instruction is the same where memory's bytes stand at other places: under a second stage that gives
+/// the renamed places, and a reading that gives the same bytes there, it stores to the renamed place,
+/// reserves the renamed place, and ends alike. And where the second stage gives places of a set alone, it
+/// stores and reserves nowhere else.
+pub fn renamed_places()
+    ensures renames { RenamedCore }
+    ensures stays { StaysHeld }
+{}
+
+/// A guest's RAM in its blocks of machine memory is the lone machine's, at other places: a second stage
+/// that has each place that another gives in RAM at its place in machine memory, and no other address
+/// anywhere, is the other with its places renamed, and machine memory has RAM's bytes there. So it is where
+/// each guest physical address of RAM is at its place. What an instruction stores
+/// in RAM is stored at the new place, and changes nothing else of machine memory.
+pub fn ram_is_renamed()
+    ensures places { PlacesAreRenamed }
+    ensures renames { RamIsRenamed }
+    ensures stores { RamIsStored }
+    ensures only { OnlyRamChanges }
+{}
+
+/// A machine caches and reserves in its RAM alone: where RAM is of whole pages of 4,096 bytes, the frame of
+/// each cached entry is in RAM, and what the machine has reserved, if anything, is a place of RAM, all three
+/// are so after a fill, after a try, and after a run of any number of steps, and RAM has as many bytes as
+/// before. Then its second stage gives places of RAM alone.
+pub fn machines_stay_in_ram()
+    ensures start { StartIsInRam }
+    ensures gives { GivesRam }
+    ensures filled { FillStaysInRam }
+    ensures tried { TryStaysInRam }
+    ensures runs { StaysInRam }
+{}
+
+/// A machine folds while V is 1 and hgatp names a table. Then its accesses have their places by the entries
+/// of the front space, and else by RAM as it is.
+pub fn folds_by_the_front_space()
+    ensures folding { FoldsByFront }
+    ensures places { FrontGivesPlaces }
+    ensures flat { FlatIsRam }
+{}
+
+/// What a machine lacks, where it folds and no interrupt is due: what the walk of the guest's own table gives
+/// for the access at which its next instruction stops under the entries of the front space. Else nothing.
+/// Where the instruction stops and nothing is lacking, this walk has a fault.
+pub fn lacks_are_read()
+    ensures read { LacksAreRead }
+    ensures flat { FlatLacksNothing }
+    ensures interrupted { InterruptedLacksNothing }
+    ensures faults { StopsAreFaults }
+{}
+
+/// However small and however stale the front space is, a step needs few fills: after as many as the space
+/// has room for and `needed` more, the next try lacks nothing, and more fills would change nothing. The only
+/// condition is that a space has room for `needed` entries.
+pub fn fills_suffice()
+    ensures suffice { FillsSuffice }
+    ensures guests { FillsSufficeForGuests }
+    ensures stay { MoreChangeNothing }
+    ensures steps { StepsSettle }
+{}
+
+/// A fill is no step: it changes the spaces alone, and leaves the step that was to be made, with one fill
+/// less to make.
+pub fn fills_go_on()
+    ensures only { OnlySpaces }
+    ensures few { FewFills }
+    ensures fills { FillsGoOn }
+    ensures steps { StepsGoOn }
+{}
+
+/// A run of k steps is made by tries, each of which fills an entry or ends a step. A step takes at most
+/// `most_tries` of them.
+pub fn tries_are_few()
+    ensures filled { FillGoes }
+    ensures tried { TryGoes }
+    ensures ready { ReadyStepIsTry }
+    ensures steps { ReadyStepsGo }
+    ensures budget { BudgetIsSmall }
+    ensures no_event { FillIsNoEvent }
+    ensures event { TryIsEvent }
+{}
+
+/// What is filled is what the walk of the guest's own table gives, and a step ends as if each access had been
+/// placed by a cached entry that permits it, and else by that walk.
+pub fn steps_end_by_the_walk()
+    ensures places { FillsAreWalks }
+    ensures same { PageHasOneEntry }
+    ensures page { FillsServeThePage }
+    ensures can { FillsCanBeMade }
+    ensures tries { TriesEndByRule }
+    ensures steps { StepsEndByRule }
+{}
+
+/// A try changes the spaces only by what it names as a fence, or by the entering of a space.
+pub fn tries_change_spaces()
+    ensures { TriesChangeSpaces }
+{}
+
+/// A machine is orderly if it has room for a space and for `needed` entries, and, while it folds, has the
+/// space of hgatp in front. It is so at its start, if it has this room, after a fill, after a try, and after
+/// a run of any number of steps.
+pub fn machines_stay_orderly()
+    ensures start { StartIsOrderly }
+    ensures filled { FillStaysOrderly }
+    ensures tried { TryStaysOrderly }
+    ensures stays { StaysOrderly }
+{}
+
+/// A machine's registers hold what they can store: x0 is 0, pc a multiple of 4, each control and status
+/// register as a write of what it shows would leave it, and what is reserved, if anything, is at a multiple
+/// of its width of 4 or 8 bytes. So it is at the machine's start, after a fill, after a try, and after a run
+/// of any number of steps.
+pub fn machines_stay_storable()
+    ensures start { StartIsStorable }
+    ensures filled { FillStaysStorable }
+    ensures tried { TryStaysStorable }
+    ensures runs { StaysStorable }
+{}
+
+/// Every run of a lone machine is architectural: it is one that a machine may make which caches second-stage
+/// translations as freely as the architecture allows (Privileged Architecture 20211203, 4.3.2, 8.2.10 and
+/// 8.3.2). A machine that caches so makes a step as the walk of hgatp's table gives, on RAM as it is, where it has
+/// cached nothing, and so it does each access that a fence before the step names.
+pub fn runs_are_architectural()
+    ensures machines { RunsAreArchitectural }
+    ensures guests { GuestsAreArchitectural }
+    ensures uncached { UncachedByWalks }
+    ensures fenced { FencedByWalks }
+{}
+
+/// Every run uses fresh translations alone: each entry that is cached at the last try of a step, and so each
+/// that the step may use, is what the walk of the guest's own table gave for its page on RAM as it was after
+/// some number of earlier steps of the run, under the same value of hgatp, and no step since then was an
+/// HFENCE.GVMA that names it (Privileged Architecture 20211203, 8.3.2). So it is in the run of each orderly
+/// machine that begins without spaces, and of each guest.
+pub fn runs_are_fresh()
+    ensures cached { RunsCacheFresh }
+    ensures uses { RunsUseFresh }
+    ensures guests_cached { GuestsCacheFresh }
+    ensures guests_uses { GuestsUseFresh }
+{}
+
+/// Two runs of three steps, computed. A guest of the guest is entered while a stale translation of its first
+/// page is cached. Without a fence the lone machine uses it, and a free machine may use or drop it. After an
+/// HFENCE.GVMA neither uses it.
+pub fn stale_until_the_fence()
+    ensures used { StaleIsUsed }
+    ensures faults { FencedFaults }
+    ensures may_use { MayUseStale }
+    ensures may_drop { MayDropStale }
+    ensures faults_freely { FencedFaultsFreely }
+{}
