@@ -32,14 +32,13 @@ impl Model for Console {
 }
 
 impl Console {
-    /// An empty console with room for so many bytes, at most 1,048,576, and these inputs, all unread. An input
-    /// is a pair of a moment and a byte.
+    /// An empty console with room for so many bytes, and these inputs, all unread. An input is a pair of a
+    /// moment and a byte.
     ///
     /// # Errors
     ///
     /// Out of memory.
     pub fn new(alloc: Global, room: u64, inputs: Vec<(u64, u8)>) -> Result<Console, AllocError>
-        requires room { room ≤ 1048576 }
         requires inputs { AreInputs inputs.items }
         ensures { IfOk result (λ c. c ≡ record { bytes = []; room = room; inputs = inputs.items }) }
     {

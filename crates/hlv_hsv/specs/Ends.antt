@@ -1,33 +1,22 @@
--- What `access` answers and leaves, by the outcome of its instruction.
-use Rattle.std.specs.Prelude.{ℕ, ◌≡◌, ◌+◌, ◌%◌, ◌≤◌, ⊤, List, length, Option, Result, Ok, Err}
+-- What `access` answers and leaves, by how its instruction ends.
+use Rattle.std.specs.Prelude.{ℕ, ◌≡◌, ⊤, List, Result, Ok, Err}
 use Rattle.arch_defs.specs.declared.modes.Trap.{Trap}
 use Rattle.arch_defs.specs.declared.registers.Virtual.{Virtual}
-use Rattle.arch_defs.specs.declared.widths.Width.{Width}
-use Rattle.arch_defs.specs.Memory.{Stored, with_stored}
-use Rattle.arch_defs.specs.Widths.{bytes_in}
-use Rattle.machine_defs.specs.GuestAccesses.{GuestOutcome, Completes, Traps}
-use Rattle.hlv_hsv.specs.declared.accessing.Accessed.{Accessed}
-use Rattle.hlv_hsv.specs.declared.accessing.Accessed.TheVariants.{Done, Raise}
+use Rattle.arch_defs.specs.Memory.{with_stored}
+use Rattle.machine_defs.specs.Core.{Completion}
+use Rattle.hlv_hsv.specs.declared.accesses.Accessed.{Accessed}
+use Rattle.hlv_hsv.specs.declared.accesses.Accessed.TheVariants.{Done, Raise}
 
--- an instruction over memory from a base on ended as its outcome says, by the answer, and the registers and
--- memory after it: it was made, and memory has what it stores, if it stores anything; or it is to trap
-abbrev pub EndsAs : ℕ → List ℕ → GuestOutcome → Accessed → Virtual → List ℕ → Type 0
-EndsAs base bytes ends Done state after =
-    (stored : Option Stored) × (ends ≡ Completes state stored) × (after ≡ with_stored base stored bytes)
-EndsAs base bytes ends (Raise trap) state after = ends ≡ Traps trap
-
--- the answer, of the functions inside
-abbrev pub told : Result (Unit {0}) Trap → Accessed
-told (Ok u) = Done
-told (Err trap) = Raise trap
+-- an instruction over memory from a base on, whose bytes were these, ended as it is to end, by the answer, and
+-- the registers and bytes after it: it was made, and left this state and what it stores; or it is to trap
+abbrev pub EndsAs : ℕ → List ℕ → Result Completion Trap → Accessed → Virtual → List ℕ → Type 0
+EndsAs base bytes (Ok completion) Done state after =
+    (state ≡ completion.state) × (after ≡ with_stored base completion.stored bytes)
+EndsAs base bytes (Err trap) (Raise raised) state after = raised ≡ trap
+EndsAs base bytes (Ok completion) (Raise raised) state after = ⊥
+EndsAs base bytes (Err trap) Done state after = ⊥
 
 -- where the instruction trapped
 abbrev pub IfRaised : Accessed → Type 0 → Type 0
 IfRaised Done P = ⊤
 IfRaised (Raise trap) P = P
-
--- a place is a multiple of a width, and memory has all bytes of the width from it on
-pub record IsPlaceFor (base : ℕ) (bytes : List ℕ) (width : Width) (place : ℕ) : Type 0 where
-  pub from : base ≤ place
-  pub to : place + bytes_in width ≤ base + length bytes
-  pub aligned : place % bytes_in width ≡ 0

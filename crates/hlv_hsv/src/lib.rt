@@ -1,11 +1,10 @@
 // HLV, HLVX and HSV: accesses as VS or VU by an instruction that runs with V = 0, on any memory.
 #![tactic(auto)]
 
-mod accessing;
-mod places;
+mod accesses;
 #[cfg(test)]
 mod tests;
 
-pub use accessing::{Accessed, access};
-pub use op_defs::GuestAccess;
+pub use accesses::{Accessed, access};
+pub use op_defs::DataAccess;
 pub use phys_mem::Mem;

@@ -6,9 +6,12 @@ ghost use Rattle.std.specs.Prelude.{◌≡◌, ◌≤◌, ◌<◌, length, true}
 ghost use Rattle.arch_defs.specs.Frames.{LieIn, in_blocks};
 ghost use Rattle.arch_defs.specs.Layouts.{names_each_once};
 
-use crate::{Accessed, GuestAccess, access};
-use arch_defs::{CsrEnd, GuestRoot, Mode, Part, Reg, SupervisorRoot, Trap, Virtual, Width};
-use op_defs::Privileged;
+use crate::{Accessed, DataAccess, access};
+use arch_defs::{
+    CsrEnd, GuestMode, GuestRoot, Mode, Part, Reg, SupervisorMode, SupervisorRoot, Trap, Virtual,
+    Width,
+};
+use op_defs::{Privileged, Purpose};
 use phys_mem::{Mem, PhysMem, Ram};
 use std::alloc::{AllocError, Global};
 use std::test::Fail;
@@ -64,51 +67,62 @@ fn state_as(spvp: bool, guest_page: Option<u64>, page: Option<u64>) -> Virtual {
     let mut state = Virtual::starting_at(Mode::HS, START);
     state.csrs.hstatus.spvp = spvp;
     state.csrs.hgatp = match guest_page {
-        Some(page) => GuestRoot::Sv39x4 { vmid: 1, page },
+        Some(ppn) => GuestRoot::Table {
+            mode: GuestMode::Sv39x4,
+            vmid: 1,
+            ppn,
+        },
         None => GuestRoot::Bare,
     };
     state.csrs.vs.atp = match page {
-        Some(page) => SupervisorRoot::Sv39 { asid: 0, page },
+        Some(ppn) => SupervisorRoot::Table {
+            mode: SupervisorMode::Sv39,
+            asid: 0,
+            ppn,
+        },
         None => SupervisorRoot::Bare,
     };
     state
 }
 
+fn x10() -> Reg {
+    Reg::new(10)
+}
+
 // HLV into x10.
-fn hlv(address: u64, width: Width, signed: bool) -> GuestAccess {
-    GuestAccess::Loads {
+fn hlv(address: u64, width: Width, signed: bool) -> DataAccess {
+    DataAccess {
         address,
         width,
-        signed,
-        rd: Reg::new(10),
+        purpose: Purpose::Load { signed, rd: x10() },
     }
 }
 
 // HLVX into x10.
-fn hlvx(address: u64, width: Width) -> GuestAccess {
-    GuestAccess::LoadsCode {
+fn hlvx(address: u64, width: Width) -> DataAccess {
+    DataAccess {
         address,
         width,
-        rd: Reg::new(10),
+        purpose: Purpose::LoadCode { rd: x10() },
     }
 }
 
-fn hsv(address: u64, width: Width, value: u64) -> GuestAccess {
-    GuestAccess::Stores {
+fn hsv(address: u64, width: Width, value: u64) -> DataAccess {
+    DataAccess {
         address,
         width,
-        value,
+        purpose: Purpose::Store { value },
     }
 }
 
 // How an access to RAM ends, and what x10 is then.
-fn ended_in_ram(ram: &mut Ram, state: &Virtual, made: &GuestAccess) -> (Accessed, u64)
+fn ended_in_ram(ram: &mut Ram, state: &Virtual, wanted: &DataAccess) -> (Accessed, u64)
     requires { LieIn (in_blocks ram.old.part.now.blocks) (length ram.old.mem.now) }
     ensures { LieIn (in_blocks ram.new.part.now.blocks) (length ram.new.mem.now) }
 {
     let mut state = *state;
     ram_is_whole(ram);
-    let end = access(ram, &mut state, *made);
+    let end = access(ram, &mut state, *wanted);
     (end, state.regs.x[10])
 }
 
@@ -144,7 +158,7 @@ fn hlv_execute_only(rt: HostRuntime) {
     assert_eq!(rt; ended_in_ram(&mut ram, &state, &byte), (DONE, 65));
     assert_eq!(rt; ended_in_ram(&mut ram, &state, &code), (DONE, 65));
     state.mode = Mode::U;
-    let refused = execute(&mut state, Privileged::GuestAccess(byte));
+    let refused = execute(&mut state, Privileged::HlvAccess(byte));
     assert_eq!(rt; refused, Executed::Refused(CsrEnd::Illegal));
     state.csrs.hstatus.hu = true;
     assert_eq!(rt; ended_in_ram(&mut ram, &state, &byte), (DONE, 65));
@@ -214,16 +228,16 @@ fn word(memory: &PhysMem, at: u64) -> Option<u64> {
     if at % 8 == 0 { memory.get(at, 8) } else { None }
 }
 
-fn made_in(memory: &mut PhysMem, state: &mut Virtual, made: GuestAccess) -> Accessed {
+fn made_in(memory: &mut PhysMem, state: &mut Virtual, wanted: DataAccess) -> Accessed {
     memory_is_whole(memory);
-    access(memory, state, made)
+    access(memory, state, wanted)
 }
 
 // How an access ends, and what x10 is then, which was 7.
-fn ended(memory: &mut PhysMem, state: &Virtual, made: GuestAccess) -> (Accessed, u64) {
+fn ended(memory: &mut PhysMem, state: &Virtual, wanted: DataAccess) -> (Accessed, u64) {
     let mut state = *state;
     state.regs.x[10] = 7;
-    let end = made_in(memory, &mut state, made);
+    let end = made_in(memory, &mut state, wanted);
     (end, state.regs.x[10])
 }
 
@@ -270,11 +284,13 @@ fn registers(rt: HostRuntime) -> Result<(), Fail> {
     assert_eq!(rt; end, DONE);
     assert_eq!(rt; state, expected);
     expected.regs.pc = START + 8;
-    let to_zero = GuestAccess::Loads {
+    let to_zero = DataAccess {
         address: 0x1000,
         width: Width::Double,
-        signed: true,
-        rd: Reg::new(0),
+        purpose: Purpose::Load {
+            signed: true,
+            rd: Reg::new(0),
+        },
     };
     assert_eq!(rt; made_in(&mut memory, &mut state, to_zero), DONE);
     assert_eq!(rt; state, expected);
@@ -435,7 +451,11 @@ fn tables_elsewhere(rt: HostRuntime) -> Result<(), Fail> {
         assert_eq!(rt; ended(&mut memory, &state, made), (end, 7));
     }
     let mut state = state_as(true, None, None);
-    state.csrs.hs.atp = SupervisorRoot::Sv39 { asid: 0, page: 6 };
+    state.csrs.hs.atp = SupervisorRoot::Table {
+        mode: SupervisorMode::Sv39,
+        asid: 0,
+        ppn: 6,
+    };
     for (made, end) in [
         (hlv(0xA008, Width::Half, true), (DONE, 0x7708)),
         (hlvx(0xA008, Width::Half), (DONE, 0x7708)),

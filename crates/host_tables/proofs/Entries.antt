@@ -4,7 +4,7 @@ use Rattle.std.proofs.lemmas.Bool.{cases_lt}
 use Rattle.byteorder.specs.Endian.{little_bytes}
 use Rattle.byteorder.specs.Numbers.{length-bytes_low_first}
 use Rattle.arch_defs.specs.Frames.{LieIn, Only, Within, within}
-use Rattle.arch_defs.specs.Layouts.{Layout, NamesEachOnce, host_frames, named_by, root_frames, table_frames, in_tables}
+use Rattle.arch_defs.specs.Layouts.{Layout, NamesEachOnce, host_frames, named_by, root_frames, table_frames, in_tables, tables_for}
 use Rattle.arch_defs.specs.Memory.{load, pasted}
 use Rattle.arch_defs.proofs.Pastes.{load_pasted, load_apart}
 use Rattle.arch_defs.proofs.FrameSets.{only_none, only_both, only_more, only_pasted, in_range, range_within, left_within, right_within, kept, load_kept, within_apart, apart_within}
@@ -62,7 +62,7 @@ pub root_in : (part : Layout) → Within (within part.first_root 4) (root_frames
 root_in part = range_within part.first_root 4 part.first_root (4 * (1 + part.spaces)) (omega arith) (omega arith)
 
 pub table_in : (part : Layout) → Within (within part.first_table 1) (table_frames part)
-table_in part = range_within part.first_table 1 part.first_table (1 + part.spaces * (2 * part.entries)) (omega arith) (omega arith)
+table_in part = range_within part.first_table 1 part.first_table (1 + part.spaces * tables_for part.entries) (omega arith) (omega arith)
 
 pub root_room : (part : Layout) (size : ℕ) → LieIn (named_by part) size → (part.first_root + 4) * 4096 ≤ size
 root_room part size lie =

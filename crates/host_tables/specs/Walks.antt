@@ -1,6 +1,7 @@
 -- What the walk of a host table gives.
 use Rattle.std.specs.Prelude.{ℕ, ◌≡◌, ◌+◌, ◌-◌, ◌*◌, ◌/◌, ◌%◌, ◌≤◌, ◌^◌, ◌&&◌, Bool, true, List, Ok, length, slice_index, nat_le, nat_lt, if◌then◌else◌}
 use Rattle.arch_defs.specs.declared.modes.Access.{Access}
+use Rattle.arch_defs.specs.declared.registers.GuestMode.TheVariants as mode
 use Rattle.arch_defs.specs.declared.registers.GuestRoot.TheVariants as root
 use Rattle.arch_defs.specs.declared.walks.Shape.TheVariants.{Sv39x4}
 use Rattle.arch_defs.specs.declared.walks.WalkEnd.{WalkEnd}
@@ -48,5 +49,5 @@ pub record IsHeld (part : Layout) (memory : List ℕ) : Type 0 where
 -- the second stage by that table has each guest physical address of RAM at its place, and no other
 abbrev pub GivesRam : Layout → Type 0
 GivesRam part = (memory : List ℕ) (mxr : Bool) (vmid address : ℕ) (access : Access) → IsHeld part memory
-    → second_under 0 memory mxr (root.Sv39x4 vmid part.first_root) address access
+    → second_under 0 memory mxr (root.Table mode.Sv39x4 vmid part.first_root) address access
     ≡ host_answer part.blocks address

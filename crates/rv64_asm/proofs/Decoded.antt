@@ -28,10 +28,10 @@ pub record IsCoded (o : Op) : Type 0 where
 pub record Each {A : Type 0} (P : A → Type 0) (found : Option A) : Type 0 where
   pub each : (x : A) → found ≡ Some x → P x
 
-none : {A : Type 0} (P : A → Type 0) → Each P None
+pub none : {A : Type 0} (P : A → Type 0) → Each P None
 none P = record { each = λ x e. cc }
 
-some : {A : Type 0} (P : A → Type 0) (x : A) → P x → Each P (Some x)
+pub some : {A : Type 0} (P : A → Type 0) (x : A) → P x → Each P (Some x)
 some P x h = record { each = λ y e. subst P (same_Some x y e) h }
 
 -- of either branch of a test
@@ -42,7 +42,7 @@ picked P false x y h k = k
 chosen : {A : Type 0} (P : A → Type 0) (test : Bool) (x y : Option A) → Each P x → Each P y → Each P (if test then x else y)
 chosen P test x y h k = picked (Each P) test x y h k
 
-tested : {A : Type 0} (P : A → Type 0) (test : Bool) (x y : Option A) → (test ≡ true → Each P x) → (test ≡ false → Each P y)
+pub tested : {A : Type 0} (P : A → Type 0) (test : Bool) (x y : Option A) → (test ≡ true → Each P x) → (test ≡ false → Each P y)
     → Each P (if test then x else y)
 tested P true x y h k = h refl
 tested P false x y h k = k refl

@@ -6,3 +6,4 @@ pub mod Coding
 pub mod Loops
 pub mod Faultless
 pub mod Decoded
+pub mod SystemWords

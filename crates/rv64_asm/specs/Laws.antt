@@ -1,10 +1,10 @@
 -- Decoding gives the op back, and each op that is decoded can be encoded.
-use Rattle.std.specs.Prelude.{ℕ, ◌≡◌, Bool, true, Some, ◌&&◌, nat_lt}
+use Rattle.std.specs.Prelude.{ℕ, ◌≡◌, ◌<◌, ◌^◌, Bool, true, Some, ◌&&◌, nat_lt}
 use Rattle.op_defs.specs.declared.ops.CsrSource.{CsrSource}
 use Rattle.op_defs.specs.declared.ops.CsrSource.TheVariants as source
 use Rattle.op_defs.specs.declared.ops.Op.{Op}
 use Rattle.op_defs.specs.declared.ops.Op.TheVariants as op
-use Rattle.op_defs.specs.Table.{op_of}
+use Rattle.op_defs.specs.Table.{is_system, op_of}
 use Rattle.rv64_asm.specs.Words.{encoded}
 use Rattle.rv64_asm.specs.Fitting.{fits}
 
@@ -50,3 +50,8 @@ DecodedFits = (word : ℕ) (o : Op) → op_of word ≡ Some o → fits o ≡ tru
 -- the word of a decoded op, which may differ in fields that the op has not, is decoded to the same op
 abbrev pub DecodedStays : Type 0
 DecodedStays = (word : ℕ) (o : Op) → op_of word ≡ Some o → op_of (encoded o) ≡ Some o
+
+-- a word of opcode SYSTEM is the one that its op is encoded to: the op has each of its bits
+abbrev pub SystemHasOneWord : Type 0
+SystemHasOneWord = (word : ℕ) (o : Op) → word < 2 ^ 32 → is_system word ≡ true → op_of word ≡ Some o
+    → encoded o ≡ word

@@ -1,6 +1,6 @@
 // Laws of the definitions.
 
-ghost use Rattle.rv64_asm.specs.Laws.{DecodedFits, DecodedStays, DecodesBack};
+ghost use Rattle.rv64_asm.specs.Laws.{DecodedFits, DecodedStays, DecodesBack, SystemHasOneWord};
 
 /// Decoding gives each op back whose fields fit: the instruction table has it at its word.
 pub fn decodes_back()
@@ -11,4 +11,10 @@ pub fn decodes_back()
 pub fn decoded_fits()
     ensures fits { DecodedFits }
     ensures stays { DecodedStays }
+{}
+
+/// The word of an op of opcode SYSTEM is the only one of 32 bits that is decoded to it: none of its bits is
+/// ignored.
+pub fn system_has_one_word()
+    ensures { SystemHasOneWord }
 {}

@@ -5,7 +5,7 @@ use Rattle.arch_defs.specs.declared.registers.Virtual.{Virtual}
 use Rattle.arch_defs.specs.declared.widths.Width.{Width}
 use Rattle.arch_defs.specs.Memory.{Reading, SecondStage, reading_of}
 use Rattle.arch_defs.specs.SecondStage.{second_now}
-use Rattle.machine_defs.specs.Core.{Located, own_access}
+use Rattle.machine_defs.specs.Core.{Located, accessed}
 
 -- what it gives at a physical address
 abbrev pub reading_of_memory : List ℕ → Reading
@@ -18,4 +18,4 @@ second_of_memory state memory = second_now state.csrs state.mode 0 memory
 -- where in it an instruction makes an access of its own
 abbrev pub access_over : List ℕ → Virtual → ℕ → Width → Access → Located
 access_over memory state va width access =
-    own_access (second_of_memory state memory) (reading_of_memory memory) state va width access
+    accessed (second_of_memory state memory) (reading_of_memory memory) state.csrs state.mode va width access

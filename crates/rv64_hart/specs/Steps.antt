@@ -37,7 +37,7 @@ attempt_of csrs mode memory (Stuck unplaced) = Raises (unplaced_trap csrs 0 memo
 attempt_of csrs mode memory Called = Raises (exception mode ECALL_FROM_HS 0)
 attempt_of csrs mode memory (Waits state) = Makes state memory event.System
 attempt_of csrs mode memory (Fenced state fence) = Makes state memory event.System
-attempt_of csrs mode memory (Accesses access) = Raises (exception mode ILLEGAL_INSTRUCTION 0)
+attempt_of csrs mode memory (Accesses wanted) = Raises (exception mode ILLEGAL_INSTRUCTION 0)
 
 -- the due interrupt, or one instruction over machine memory
 abbrev pub next_attempt : Virtual → List ℕ → Option ℕ → Attempt

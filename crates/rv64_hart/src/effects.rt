@@ -1,16 +1,15 @@
 // What an instruction asks for, and what it is to the account.
 
 ghost use Rattle.std.specs.Prelude.{◌≡◌};
-ghost use Rattle.op_defs.specs.declared.ops.Effect.TheVariants as effect;
 ghost use Rattle.op_defs.specs.declared.ops.Effect.TheVariants.{Sets, Raises};
-ghost use Rattle.op_defs.specs.declared.ops.Privileged.TheVariants as privileged;
-ghost use Rattle.op_defs.specs.Meaning.{address_at, branch, even, fence_named, holds, is_none, jump, meaning, named_by, operand_of, writes};
+ghost use Rattle.op_defs.specs.Meaning.{accesses, accesses_by_hlv, address_at, branch, even, holds, is_none, jump, meaning, operand_of, writes};
 ghost use Rattle.machine_defs.specs.Core.{event_of};
 
-use arch_defs::{BREAKPOINT, Fence, INSTRUCTION_MISALIGNED, Reg, Regs};
+use arch_defs::{BREAKPOINT, INSTRUCTION_MISALIGNED, Reg, Regs, Width};
+use fence_handler::request;
 use int_ops::{alu, word_alu};
 use machine_defs::Event;
-use op_defs::{CsrOp, CsrSource, Effect, GuestAccess, Op, Privileged, Test};
+use op_defs::{CsrOp, CsrSource, DataAccess, Effect, Op, Privileged, Purpose, Test};
 
 /// What an instruction asks for, read off the registers.
 #[tactic(auto, unfolding(op_defs::specs::Meaning::meaning))]
@@ -41,22 +40,23 @@ pub fn effect_of(op: &Op, regs: &Regs) -> Effect
             rd,
             rs1,
             offset,
-        } => Effect::Loads {
-            address: address_at(regs, rs1, offset),
+        } => accesses(
+            address_at(regs, rs1, offset),
             width,
-            signed,
-            rd,
-        },
+            Purpose::Load { signed, rd },
+        ),
         Op::Store {
             width,
             rs1,
             rs2,
             offset,
-        } => Effect::Stores {
-            address: address_at(regs, rs1, offset),
+        } => accesses(
+            address_at(regs, rs1, offset),
             width,
-            value: regs.read(rs2),
-        },
+            Purpose::Store {
+                value: regs.read(rs2),
+            },
+        ),
         Op::AluImmediate {
             op,
             rd,
@@ -76,35 +76,37 @@ pub fn effect_of(op: &Op, regs: &Regs) -> Effect
             next,
         ),
         Op::Fence | Op::FenceI => set(Reg::new(0), 0, next),
-        Op::LoadReserved { width, rd, rs1 } => Effect::Reserves {
-            address: regs.read(rs1),
-            width,
-            rd,
-        },
+        Op::LoadReserved { width, rd, rs1 } => {
+            accesses(regs.read(rs1), width, Purpose::Reserve { rd })
+        }
         Op::StoreConditional {
             width,
             rd,
             rs1,
             rs2,
-        } => Effect::StoresReserved {
-            address: regs.read(rs1),
+        } => accesses(
+            regs.read(rs1),
             width,
-            value: regs.read(rs2),
-            rd,
-        },
+            Purpose::StoreReserved {
+                value: regs.read(rs2),
+                rd,
+            },
+        ),
         Op::Amo {
             op,
             width,
             rd,
             rs1,
             rs2,
-        } => Effect::Modifies {
-            op,
-            address: regs.read(rs1),
+        } => accesses(
+            regs.read(rs1),
             width,
-            operand: regs.read(rs2),
-            rd,
-        },
+            Purpose::Modify {
+                op,
+                operand: regs.read(rs2),
+                rd,
+            },
+        ),
         Op::Ecall => Effect::Calls,
         Op::Ebreak => Effect::Raises {
             cause: BREAKPOINT,
@@ -126,30 +128,25 @@ pub fn effect_of(op: &Op, regs: &Regs) -> Effect
         }),
         Op::SfenceVma { .. } => Effect::Privileged(Privileged::SfenceVma),
         Op::HfenceVvma { .. } => Effect::Privileged(Privileged::HfenceVvma),
-        Op::HfenceGvma { rs1, rs2 } => {
-            Effect::Privileged(Privileged::HfenceGvma(fence_named(rs1, rs2, regs)))
-        }
+        Op::HfenceGvma { .. } => Effect::Privileged(Privileged::HfenceGvma(request(*op, regs))),
         Op::GuestLoad {
             width,
             signed,
             rd,
             rs1,
-        } => guest_access(GuestAccess::Loads {
-            address: regs.read(rs1),
-            width,
-            signed,
-            rd,
-        }),
-        Op::GuestFetch { width, rd, rs1 } => guest_access(GuestAccess::LoadsCode {
-            address: regs.read(rs1),
-            width,
-            rd,
-        }),
-        Op::GuestStore { width, rs1, rs2 } => guest_access(GuestAccess::Stores {
-            address: regs.read(rs1),
-            width,
-            value: regs.read(rs2),
-        }),
+        } => accesses_by_hlv(regs.read(rs1), width, Purpose::Load { signed, rd }),
+        Op::GuestFetch { width, rd, rs1 } => {
+            accesses_by_hlv(regs.read(rs1), width, Purpose::LoadCode { rd })
+        }
+        Op::GuestStore { width, rs1, rs2 } => {
+            accesses_by_hlv(
+                regs.read(rs1),
+                width,
+                Purpose::Store {
+                    value: regs.read(rs2),
+                },
+            )
+        }
     }
 }
 
@@ -159,31 +156,24 @@ fn set(rd: Reg, value: u64, next: u64) -> Effect
     Effect::Sets { rd, value, next }
 }
 
-fn guest_access(access: GuestAccess) -> Effect
-    ensures { result ≡ effect.Privileged (privileged.GuestAccess access) }
+fn accesses(address: u64, width: Width, purpose: Purpose) -> Effect
+    ensures { result ≡ accesses address width purpose }
 {
-    Effect::Privileged(Privileged::GuestAccess(access))
+    Effect::Data(DataAccess {
+        address,
+        width,
+        purpose,
+    })
 }
 
-// The operand of a fence: what a register has, if it is not x0.
-fn named_by(register: Reg, value: u64) -> Option<u64>
-    ensures { result ≡ named_by register value }
+fn accesses_by_hlv(address: u64, width: Width, purpose: Purpose) -> Effect
+    ensures { result ≡ accesses_by_hlv address width purpose }
 {
-    if register.number() == 0 {
-        None
-    } else {
-        Some(value)
-    }
-}
-
-// What HFENCE.GVMA names: a VMID of 7 bits by rs2, and a page by rs1, which has an address divided by 4.
-fn fence_named(rs1: Reg, rs2: Reg, regs: &Regs) -> Fence
-    ensures { result ≡ fence_named rs1 rs2 regs.now }
-{
-    Fence {
-        vmid: named_by(rs2, regs.read(rs2) % 0x80),
-        page: named_by(rs1, regs.read(rs1) >> 10),
-    }
+    Effect::Privileged(Privileged::HlvAccess(DataAccess {
+        address,
+        width,
+        purpose,
+    }))
 }
 
 fn address_at(regs: &Regs, rs1: Reg, offset: u64) -> u64

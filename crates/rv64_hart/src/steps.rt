@@ -4,14 +4,13 @@ ghost use Rattle.std.specs.Prelude.{◌≡◌, ℕ, List, IsTrue, OnErr};
 ghost use Rattle.arch_defs.specs.declared.registers.Csrs.{Csrs};
 ghost use Rattle.arch_defs.specs.Interrupts.{due};
 ghost use Rattle.arch_defs.specs.Traps.{entered_at, is_virtual, target};
-ghost use Rattle.op_defs.specs.Table.{op_of};
-ghost use Rattle.machine_defs.specs.Core.{called_from, core, decoded, ended, executed};
+ghost use Rattle.machine_defs.specs.Core.{called_from, core, executed, instruction};
 ghost use Rattle.machine_defs.specs.Privileges.{privileged};
 ghost use Rattle.rv64_hart.specs.Endings.{attempt_by, end_of};
 ghost use Rattle.rv64_hart.specs.MachineMemory.{reading_of_memory, second_of_memory};
 ghost use Rattle.rv64_hart.specs.Steps.{Raises, attempt_of, hart_step, next_attempt, trapped_to};
 
-use crate::accesses::{access_place, load, modify, reserve, store, store_reserved, word_at};
+use crate::accesses::{access_data, access_place, word_at};
 use crate::effects::{effect_of, event_of};
 use arch_defs::{
     Access, ECALL_FROM_HS, ECALL_FROM_USER, ECALL_FROM_VS, ILLEGAL_INSTRUCTION, Level, Mode, Trap,
@@ -90,71 +89,49 @@ fn instruction(state: &mut Virtual, memory: &mut PhysMem) -> Result<Event, Trap>
     decoded(state, memory, word)
 }
 
-// The instruction that a word is.
+// The instruction of a word.
 fn decoded(state: &mut Virtual, memory: &mut PhysMem, word: u32) -> Result<Event, Trap>
     ensures ends { attempt_of state.old.csrs state.old.mode memory.old
-        (decoded (second_of_memory state.old memory.old) (reading_of_memory memory.old)
-        state.old word (op_of word))
+        (instruction (second_of_memory state.old memory.old) (reading_of_memory memory.old) state.old word)
         ≡ attempt_by result state.new memory.new }
     ensures stays { OnErr result ((state.new ≡ state.old) × (memory.new ≡ memory.old)) }
 {
     match decode(word) {
         Some(op) => {
-            let event = event_of(state.regs.pc, word);
             let effect = effect_of(&op, &state.regs);
-            apply(state, memory, word, event, effect)
+            apply(state, memory, word, effect)
         }
         None => Err(exception(state.mode, ILLEGAL_INSTRUCTION, word as u64)),
     }
 }
 
-// What an instruction's effect does, which makes the step this event.
+// Does what the instruction of this word asks for.
 fn apply(
     state: &mut Virtual,
     memory: &mut PhysMem,
     word: u32,
-    event: Event,
     effect: Effect,
 ) -> Result<Event, Trap>
     ensures ends { attempt_of state.old.csrs state.old.mode memory.old
-        (ended event
         (executed (second_of_memory state.old memory.old) (reading_of_memory memory.old)
-        state.old word effect))
+        state.old word effect)
         ≡ attempt_by result state.new memory.new }
     ensures stays { OnErr result ((state.new ≡ state.old) × (memory.new ≡ memory.old)) }
 {
     match effect {
-        Effect::Sets { rd, value, next } => state.regs.advance(rd, value, next),
-        Effect::Raises { cause, tval } => return Err(exception(state.mode, cause, tval)),
-        Effect::Loads {
-            address,
-            width,
-            signed,
-            rd,
-        } => load(state, memory, address, width, signed, rd)?,
-        Effect::Stores {
-            address,
-            width,
-            value,
-        } => store(state, memory, address, width, value)?,
-        Effect::Reserves { address, width, rd } => reserve(state, memory, address, width, rd)?,
-        Effect::StoresReserved {
-            address,
-            width,
-            value,
-            rd,
-        } => store_reserved(state, memory, address, width, value, rd)?,
-        Effect::Modifies {
-            op,
-            address,
-            width,
-            operand,
-            rd,
-        } => modify(state, memory, op, address, width, operand, rd)?,
-        Effect::Calls => return Err(call_trap(state.mode)),
-        Effect::Privileged(effect) => return privileged(state, word, effect),
+        Effect::Sets { rd, value, next } => {
+            let event = event_of(state.regs.pc, word);
+            state.regs.advance(rd, value, next);
+            Ok(event)
+        }
+        Effect::Raises { cause, tval } => Err(exception(state.mode, cause, tval)),
+        Effect::Data(wanted) => {
+            let event = event_of(state.regs.pc, word);
+            access_data(state, memory, wanted, event)
+        }
+        Effect::Calls => Err(call_trap(state.mode)),
+        Effect::Privileged(effect) => privileged(state, word, effect),
     }
-    Ok(event)
 }
 
 // The exception of ECALL by mode.

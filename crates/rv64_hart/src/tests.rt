@@ -3,7 +3,7 @@ ghost use Rattle.std.specs.Prelude.{◌≤◌};
 use crate::test_programs::START;
 use crate::{Hart, PhysMem, Stop, Tally, Why, effect_of};
 use arch_defs::{Fence, Reg, Regs, Trap, Width};
-use op_defs::{Effect, GuestAccess, Op, Privileged};
+use op_defs::{DataAccess, Effect, Op, Privileged, Purpose};
 use std::alloc::{AllocError, Global};
 use std::test::Fail;
 
@@ -171,7 +171,7 @@ fn accesses_of_guests(rt: HostRuntime) {
     regs.x[6] = 9;
     let (rd, rs1, rs2) = (Reg::new(7), Reg::new(5), Reg::new(6));
     let width = Width::Word;
-    for (op, access) in [
+    for (op, purpose) in [
         (
             Op::GuestLoad {
                 width,
@@ -179,31 +179,20 @@ fn accesses_of_guests(rt: HostRuntime) {
                 rd,
                 rs1,
             },
-            GuestAccess::Loads {
-                address: 0x1004,
-                width,
-                signed: true,
-                rd,
-            },
+            Purpose::Load { signed: true, rd },
         ),
-        (
-            Op::GuestFetch { width, rd, rs1 },
-            GuestAccess::LoadsCode {
-                address: 0x1004,
-                width,
-                rd,
-            },
-        ),
+        (Op::GuestFetch { width, rd, rs1 }, Purpose::LoadCode { rd }),
         (
             Op::GuestStore { width, rs1, rs2 },
-            GuestAccess::Stores {
-                address: 0x1004,
-                width,
-                value: 9,
-            },
+            Purpose::Store { value: 9 },
         ),
     ] {
-        let effect = Effect::Privileged(Privileged::GuestAccess(access));
+        let access = DataAccess {
+            address: 0x1004,
+            width,
+            purpose,
+        };
+        let effect = Effect::Privileged(Privileged::HlvAccess(access));
         assert_eq!(rt; effect_of(&op, &regs), effect);
     }
 }

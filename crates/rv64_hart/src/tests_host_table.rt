@@ -4,7 +4,7 @@
 
 use crate::test_programs::{HELD, doubleword, put, trap};
 use crate::{Hart, HartState, PhysMem, Stop, Tally, Why};
-use arch_defs::{GuestRoot, Mode, SupervisorRoot, Trap, Virtual};
+use arch_defs::{GuestMode, GuestRoot, Mode, SupervisorMode, SupervisorRoot, Trap, Virtual};
 use std::alloc::{AllocError, Global};
 use std::process::Abort;
 use std::test::Fail;
@@ -60,11 +60,16 @@ fn memory_for(alloc: Global, code: &[u32]) -> Result<PhysMem, AllocError> {
 // A state under the host table, with the guest's table or with vsatp Bare, at the program.
 fn state_for(has_table: bool, x9: u64) -> HartState {
     let mut state = Virtual::starting_at(Mode::VS, if has_table { 0 } else { RAM });
-    state.csrs.hgatp = GuestRoot::Sv39x4 { vmid: 1, page: 4 };
+    state.csrs.hgatp = GuestRoot::Table {
+        mode: GuestMode::Sv39x4,
+        vmid: 1,
+        ppn: 4,
+    };
     if has_table {
-        state.csrs.vs.atp = SupervisorRoot::Sv39 {
+        state.csrs.vs.atp = SupervisorRoot::Table {
+            mode: SupervisorMode::Sv39,
             asid: 3,
-            page: 0x8_0002,
+            ppn: 0x8_0002,
         };
     }
     state.regs.x[6] = 1;

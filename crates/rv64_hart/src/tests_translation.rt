@@ -4,7 +4,7 @@
 
 use crate::test_programs::{DATA, HELD, doubleword, put, trap};
 use crate::{Hart, PhysMem, Stop, Tally, Why};
-use arch_defs::{Mode, SupervisorRoot, Virtual};
+use arch_defs::{Mode, SupervisorMode, SupervisorRoot, Virtual};
 use std::alloc::{AllocError, Global};
 use std::process::Abort;
 use std::test::Fail;
@@ -72,9 +72,10 @@ const ACCESS_FAULTS: Ends = (5, 7, 1);
 fn hart_for(accessor: Accessor, address: u64) -> Hart {
     let (mode, sum, mxr, hs_mxr) = accessor;
     let mut state = Virtual::starting_at(mode, CODE);
-    state.csrs.vs.atp = SupervisorRoot::Sv39 {
+    state.csrs.vs.atp = SupervisorRoot::Table {
+        mode: SupervisorMode::Sv39,
         asid: 3,
-        page: ROOT,
+        ppn: ROOT,
     };
     state.csrs.vs.status.sum = sum;
     state.csrs.vs.status.mxr = mxr;

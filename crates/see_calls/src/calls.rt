@@ -67,7 +67,7 @@ pub fn call(regs: &mut Regs, clock: &mut Clock, console: &mut Console) -> CallEn
         }
         PUT => put(regs, console),
         GET => {
-            let byte = console.get(clock.time());
+            let byte = console.get(clock.now());
             answer(regs, byte.map_or(FAILED, u64::from));
         }
         STOP => {

@@ -61,7 +61,7 @@ fn call_0_sets_the_timer(rt: HostRuntime) -> Result<(), Fail> {
             (due, next),
             "moment {moment}"
         );
-        assert_eq!(rt; clock.time(), 5);
+        assert_eq!(rt; clock.now(), 5);
     }
     assert_eq!(rt; console.bytes().len(), 0);
     Ok(())

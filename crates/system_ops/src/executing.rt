@@ -1,16 +1,17 @@
 // How each of these instructions ends.
 
-ghost use Rattle.std.specs.Prelude.{◌≡◌, ℕ};
-ghost use Rattle.machine_defs.specs.Privileges.{privileged, refusal_code};
+ghost use Rattle.std.specs.Prelude.{◌≡◌, ℕ, None};
+ghost use Rattle.arch_defs.specs.Traps.{arrived, returned};
+ghost use Rattle.op_defs.specs.declared.ops.Privileged.TheVariants as effect;
+ghost use Rattle.machine_defs.specs.Privileges.{performed, privileged, refusal};
 ghost use Rattle.system_ops.specs.Executions.{outcome_of, IfNotMade};
 
+use crate::advancing::pass;
 use crate::csrs::access;
-use crate::fences::{fence, fence_guest, fence_virtual};
-use crate::guest_accesses::access_guest;
-use crate::returns::return_from_trap;
-use crate::waits::wait;
-use arch_defs::{CsrEnd, Fence, ILLEGAL_INSTRUCTION, VIRTUAL_INSTRUCTION, Virtual};
-use op_defs::{GuestAccess, Privileged};
+use crate::refusals::refusal;
+use arch_defs::{CsrEnd, Fence, Virtual};
+use op_defs::{DataAccess, Privileged};
+use trap_delegation::sret;
 
 /// How an instruction ended.
 #[derive(Clone, Copy, Debug, PartialEq, Eq)]
@@ -22,7 +23,7 @@ pub enum Executed {
     /// It was an HFENCE.GVMA, and was made but for the cached translations, of which it names these.
     Fenced(Fence),
     /// It is an HLV, HLVX or HSV, and is allowed to make this access as VS or VU.
-    Accesses(GuestAccess),
+    Accesses(DataAccess),
     /// The mode does not allow it: an illegal instruction, or a virtual one.
     Refused(CsrEnd),
 }
@@ -33,6 +34,19 @@ pub fn execute(state: &mut Virtual, effect: Privileged) -> Executed
     ensures ends { (word : ℕ) → privileged state.old word effect ≡ outcome_of word result state.new }
     ensures stays { IfNotMade result (state.new ≡ state.old) }
 {
+    match refusal(&effect, &state.csrs.hstatus, state.mode) {
+        Some(end) => Executed::Refused(end),
+        None => perform(state, effect),
+    }
+}
+
+// Makes what an instruction asks for that its mode allows. SFENCE.VMA and HFENCE.VVMA change nothing but pc,
+// since walks of the first stage read memory as it is.
+fn perform(state: &mut Virtual, effect: Privileged) -> Executed
+    requires { refusal effect state.old.csrs.hstatus state.old.mode ≡ None }
+    ensures ends { (word : ℕ) → performed state.old word effect ≡ outcome_of word result state.new }
+    ensures stays { IfNotMade result (state.new ≡ state.old) }
+{
     match effect {
         Privileged::Csr {
             op,
@@ -41,21 +55,31 @@ pub fn execute(state: &mut Virtual, effect: Privileged) -> Executed
             writes,
             rd,
         } => access(state, op, number, operand, writes, rd),
-        Privileged::Sret => return_from_trap(state),
-        Privileged::Wfi => wait(state),
-        Privileged::SfenceVma => fence(state),
-        Privileged::HfenceVvma => fence_virtual(state),
-        Privileged::HfenceGvma(named) => fence_guest(state, named),
-        Privileged::GuestAccess(made) => access_guest(state, made),
+        Privileged::Sret => leave(state),
+        Privileged::Wfi => {
+            pass(state);
+            Executed::Waits
+        }
+        Privileged::SfenceVma | Privileged::HfenceVvma => {
+            pass(state);
+            Executed::Done
+        }
+        Privileged::HfenceGvma(named) => {
+            pass(state);
+            Executed::Fenced(named)
+        }
+        Privileged::HlvAccess(wanted) => Executed::Accesses(wanted),
     }
 }
 
-/// The code of the exception of a refused instruction (Privileged Architecture 20211203, 8.6.1).
-pub fn refusal_code(end: CsrEnd) -> u64
-    ensures { result ≡ refusal_code end }
+// SRET (Privileged Architecture 20211203, 8.6.4).
+#[tactic(auto, using(crate::proofs::Returns::sret_is_supervisor))]
+fn leave(state: &mut Virtual) -> Executed
+    requires { refusal effect.Sret state.old.csrs.hstatus state.old.mode ≡ None }
+    ensures state { state.new
+        ≡ arrived state.old (returned state.old.csrs state.old.regs state.old.mode) }
+    ensures done { result ≡ Executed.Done }
 {
-    match end {
-        CsrEnd::Illegal => ILLEGAL_INSTRUCTION,
-        CsrEnd::Virtual => VIRTUAL_INSTRUCTION,
-    }
+    state.mode = sret(&mut state.csrs, &mut state.regs, state.mode);
+    Executed::Done
 }

@@ -4,12 +4,10 @@
 mod advancing;
 mod csrs;
 mod executing;
-mod fences;
-mod guest_accesses;
-mod returns;
+mod refusals;
 #[cfg(test)]
 mod tests;
-mod waits;
 
 pub use advancing::{pass, set};
-pub use executing::{Executed, execute, refusal_code};
+pub use executing::{Executed, execute};
+pub use refusals::refusal_code;

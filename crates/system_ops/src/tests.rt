@@ -3,9 +3,10 @@
 
 use crate::{Executed, execute};
 use arch_defs::{
-    CsrEnd, Csrs, Fence, Interrupts, Mode, Reg, SupervisorRoot, SupervisorStatus, Virtual, Width,
+    CsrEnd, Csrs, Fence, Interrupts, Mode, Reg, SupervisorMode, SupervisorRoot, SupervisorStatus,
+    Virtual, Width,
 };
-use op_defs::{CsrOp, GuestAccess, Privileged};
+use op_defs::{CsrOp, DataAccess, Privileged, Purpose};
 
 const START: u64 = 0x8000_0000;
 
@@ -212,7 +213,11 @@ fn aliases(rt: HostRuntime) {
     assert_eq!(rt; (state.regs.x[5], state.csrs.hvip.software), (0x222, false));
     assert!(rt; state.csrs.hvip.timer && state.csrs.hvip.external);
     let (_, state) = after(csrs, Mode::VS, &writes(0x180, (8 << 60) + 3));
-    let root = SupervisorRoot::Sv39 { asid: 0, page: 3 };
+    let root = SupervisorRoot::Table {
+        mode: SupervisorMode::Sv39,
+        asid: 0,
+        ppn: 3,
+    };
     assert_eq!(rt;
         (state.csrs.vs.atp, state.csrs.hs.atp),
         (root, SupervisorRoot::Bare)
@@ -359,46 +364,30 @@ fn hypervisor_fences(rt: HostRuntime) {
     }
 }
 
-// The instruction of an access of HLV, HLVX or HSV.
-fn asking(access: &GuestAccess) -> Privileged {
-    Privileged::GuestAccess(*access)
-}
-
-// Its ends in HS, U, VS and VU, by HU.
-fn ends_of(access: &GuestAccess, hu: bool) -> (Executed, Executed, Executed, Executed) {
-    let in_u = if hu {
-        Executed::Accesses(*access)
-    } else {
-        ILLEGAL
-    };
-    (Executed::Accesses(*access), in_u, VIRTUAL, VIRTUAL)
+// The ends of HLV, HLVX and HSV in HS, U, VS and VU, by HU.
+fn ends_of(wanted: &DataAccess, hu: bool) -> (Executed, Executed, Executed, Executed) {
+    let made = Executed::Accesses(*wanted);
+    (made, if hu { made } else { ILLEGAL }, VIRTUAL, VIRTUAL)
 }
 
 // HLV, HLVX and HSV are for HS, and for U with HU (8.2.1, 8.6.1). They are left to be made, and change
 // nothing.
 #[test]
-fn guest_accesses(rt: HostRuntime) {
-    for access in [
-        GuestAccess::Loads {
-            address: 0x1004,
-            width: Width::Word,
-            signed: true,
-            rd: Reg::new(5),
-        },
-        GuestAccess::LoadsCode {
-            address: 0x1004,
-            width: Width::Half,
-            rd: Reg::new(5),
-        },
-        GuestAccess::Stores {
-            address: 0x1008,
-            width: Width::Double,
-            value: 9,
-        },
+fn hlv_accesses(rt: HostRuntime) {
+    let rd = Reg::new(5);
+    for (width, purpose) in [
+        (Width::Word, Purpose::Load { signed: true, rd }),
+        (Width::Half, Purpose::LoadCode { rd }),
+        (Width::Double, Purpose::Store { value: 9 }),
     ] {
-        let effect = asking(&access);
+        let wanted = DataAccess {
+            address: 0x1008,
+            width,
+            purpose,
+        };
+        let effect = Privileged::HlvAccess(wanted);
         for hu in [false, true] {
-            let want = ends_of(&access, hu);
+            let want = ends_of(&wanted, hu);
             assert_eq!(rt; ends(with_hu(hu), &effect), want, "{effect:?}");
         }
         let (_, state) = after(timed(true), Mode::HS, &effect);

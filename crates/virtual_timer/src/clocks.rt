@@ -55,7 +55,7 @@ impl Clock {
     }
 
     /// The time.
-    pub fn time(&self) -> u64
+    pub fn now(&self) -> u64
         ensures { result ≡ self.now.time }
     {
         self.time

@@ -10,7 +10,7 @@ const FAR: u64 = 1 << 62;
 #[test]
 fn starts_with_its_timer_far_off(rt: HostRuntime) {
     let clock = Clock::new();
-    assert_eq!(rt; clock.time(), 0);
+    assert_eq!(rt; clock.now(), 0);
     assert_eq!(rt; clock.due(), false);
     assert_eq!(rt; clock.next_event(), Some(18_446_744_073_709_551_615));
 }
@@ -31,7 +31,7 @@ fn is_due_from_its_moment_on(rt: HostRuntime) {
         clock.set(timer);
         assert_eq!(rt; clock.due(), due, "timer {timer}");
         assert_eq!(rt; clock.next_event(), next, "timer {timer}");
-        assert_eq!(rt; clock.time(), 5);
+        assert_eq!(rt; clock.now(), 5);
     }
 }
 
@@ -41,18 +41,18 @@ fn comes_to_its_timer_by_steps(rt: HostRuntime) {
     clock.set(2);
     clock.step();
     assert_eq!(rt;
-        (clock.time(), clock.due(), clock.next_event()),
+        (clock.now(), clock.due(), clock.next_event()),
         (1, false, Some(2))
     );
     clock.step();
     assert_eq!(rt;
-        (clock.time(), clock.due(), clock.next_event()),
+        (clock.now(), clock.due(), clock.next_event()),
         (2, true, None)
     );
     clock.set(10);
     clock.advance(8);
     assert_eq!(rt;
-        (clock.time(), clock.due(), clock.next_event()),
+        (clock.now(), clock.due(), clock.next_event()),
         (10, true, None)
     );
 }
@@ -69,7 +69,7 @@ fn waited(timer: bool, external: bool, moment: u64, input: Option<u64>) -> (Wait
         timer,
         external,
     };
-    (clock.wait(sie, input), clock.time())
+    (clock.wait(sie, input), clock.now())
 }
 
 #[test]

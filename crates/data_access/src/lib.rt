@@ -1,0 +1,13 @@
+// The one access to data that an instruction makes: where it is made, and how the instruction is completed
+// there, on any memory.
+#![tactic(auto)]
+
+mod places;
+mod purposes;
+#[cfg(test)]
+mod tests;
+
+pub use op_defs::{DataAccess, Purpose};
+pub use phys_mem::Mem;
+pub use places::place_for;
+pub use purposes::{complete, kind_of};

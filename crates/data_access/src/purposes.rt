@@ -1,0 +1,124 @@
+// What an access to data is for: which access that is, and how the instruction is completed at its place.
+
+ghost use Rattle.std.specs.Prelude.{◌≡◌, ◌⊎◌, length};
+ghost use Rattle.arch_defs.specs.Memory.{reading_of, with_stored};
+ghost use Rattle.arch_defs.specs.Widths.{bytes_in, extended};
+ghost use Rattle.machine_defs.specs.Core.{completed, is_reserved, kind_of, stored_if};
+ghost use Rattle.machine_defs.specs.Outcomes.{sets};
+ghost use Rattle.data_access.specs.Places.{IsPlaceFor};
+
+use crate::places::{read_at, write_at};
+use arch_defs::{Access, Reg, Virtual, Width, extend};
+use int_ops::amo;
+use op_defs::Purpose;
+use phys_mem::Mem;
+use system_ops::{pass, set};
+
+/// What access to data an instruction makes for a purpose: LR is a load; SC, whatever is reserved, and an
+/// atomic memory operation are stores (Unprivileged ISA 20191213, 8.2 and 8.4); HLVX needs X in place of R
+/// (Privileged Architecture 20211203, 8.3.1).
+pub fn kind_of(purpose: Purpose) -> Access
+    ensures { result ≡ kind_of purpose }
+{
+    match purpose {
+        Purpose::Load { .. } | Purpose::Reserve { .. } => Access::Load,
+        Purpose::LoadCode { .. } => Access::ExecLoad,
+        Purpose::Store { .. } | Purpose::StoreReserved { .. } | Purpose::Modify { .. } => {
+            Access::Store
+        }
+    }
+}
+
+/// Completes an instruction at the place of its access: stores what it stores, sets what it sets, and has pc
+/// go on. No other byte of memory changes.
+pub fn complete<M: Mem>(
+    mem: &mut M,
+    state: &mut Virtual,
+    width: Width,
+    purpose: Purpose,
+    place: u64,
+)
+    requires backed { M.is_backed mem.old }
+    requires place { IsPlaceFor (M.base mem.old) (M.bytes mem.old) width place }
+    ensures state { state.new ≡
+        (completed (reading_of (M.base mem.old) (M.bytes mem.old)) state.old width purpose place).state }
+    ensures bytes { M.bytes mem.new ≡ with_stored (M.base mem.old)
+        (completed (reading_of (M.base mem.old) (M.bytes mem.old)) state.old width purpose place).stored
+        (M.bytes mem.old) }
+    ensures size { length (M.bytes mem.new) ≡ length (M.bytes mem.old) }
+    ensures base { M.base mem.new ≡ M.base mem.old }
+    ensures backed { M.is_backed mem.new }
+    ensures keeps { (mem.new ≡ mem.old) ⊎ M.keeps mem.old mem.new }
+{
+    match purpose {
+        Purpose::Load { signed, rd } => load(mem, state, width, signed, rd, place),
+        Purpose::LoadCode { rd } => load(mem, state, width, false, rd, place),
+        Purpose::Store { value } => {
+            write_at(mem, place, width, value);
+            pass(state);
+        }
+        Purpose::Reserve { rd } => {
+            load(mem, state, width, true, rd, place);
+            state.reservation = Some((place, width.bytes()));
+        }
+        Purpose::StoreReserved { value, rd } => {
+            let reserved = is_reserved(state.reservation, place, width);
+            store_if(reserved, mem, state, width, value, rd, place);
+        }
+        Purpose::Modify { op, operand, rd } => {
+            let held = read_at(mem, place, width);
+            write_at(mem, place, width, amo(op, width, held, operand));
+            set(state, rd, extend(width, true, held));
+        }
+    }
+}
+
+// A load.
+fn load<M: Mem>(mem: &M, state: &mut Virtual, width: Width, signed: bool, rd: Reg, place: u64)
+    requires backed { M.is_backed mem.now }
+    requires place { IsPlaceFor (M.base mem.now) (M.bytes mem.now) width place }
+    ensures { state.new ≡ sets state.old rd
+        (extended width signed (reading_of (M.base mem.now) (M.bytes mem.now) place (bytes_in width))) }
+{
+    let held = read_at(mem, place, width);
+    set(state, rd, extend(width, signed, held));
+}
+
+// Whether this place is reserved for this width.
+fn is_reserved(reservation: Option<(u64, u8)>, place: u64, width: Width) -> bool
+    ensures { result ≡ is_reserved reservation place width }
+{
+    match reservation {
+        Some((at, bytes)) => at == place && bytes == width.bytes(),
+        None => false,
+    }
+}
+
+// SC, where its place is reserved or not.
+fn store_if<M: Mem>(
+    reserved: bool,
+    mem: &mut M,
+    state: &mut Virtual,
+    width: Width,
+    value: u64,
+    rd: Reg,
+    place: u64,
+)
+    requires backed { M.is_backed mem.old }
+    requires place { IsPlaceFor (M.base mem.old) (M.bytes mem.old) width place }
+    ensures state { state.new ≡ (stored_if reserved state.old width value rd place).state }
+    ensures bytes { M.bytes mem.new ≡ with_stored (M.base mem.old)
+        (stored_if reserved state.old width value rd place).stored (M.bytes mem.old) }
+    ensures size { length (M.bytes mem.new) ≡ length (M.bytes mem.old) }
+    ensures base { M.base mem.new ≡ M.base mem.old }
+    ensures backed { M.is_backed mem.new }
+    ensures keeps { (mem.new ≡ mem.old) ⊎ M.keeps mem.old mem.new }
+{
+    state.reservation = None;
+    if reserved {
+        write_at(mem, place, width, value);
+        set(state, rd, 0);
+    } else {
+        set(state, rd, 1);
+    }
+}

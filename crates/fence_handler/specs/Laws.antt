@@ -1,0 +1,29 @@
+-- What an HFENCE.GVMA names (Privileged Architecture 20211203, 8.3.2).
+use Rattle.std.specs.Prelude.{ℕ, ◌≡◌, ◌≢◌, ◌/◌, ◌%◌, ◌^◌, Some, None}
+use Rattle.arch_defs.specs.declared.registers.Regs.{Regs}
+use Rattle.arch_defs.specs.Registers.{read}
+use Rattle.op_defs.specs.declared.ops.Op.TheVariants as op
+use Rattle.op_defs.specs.Meaning.{fence_named, meaning}
+use Rattle.fence_handler.specs.Requests.{fences}
+
+-- the fence that it makes
+abbrev pub InstructionMakesFence : Type 0
+InstructionMakesFence = (rs1 rs2 : ℕ) (regs : Regs)
+    → meaning (op.HfenceGvma rs1 rs2) regs ≡ fences (fence_named rs1 rs2 regs)
+
+-- the low 7 bits of rs2 are the VMID that it names, and rs2 as x0 names none
+abbrev pub FenceNamesVmid : Type 0
+FenceNamesVmid = (rs1 rs2 : ℕ) (regs : Regs) → rs2 ≢ 0
+    → (fence_named rs1 rs2 regs).vmid ≡ Some (read regs rs2 % 2 ^ 7)
+
+abbrev pub FenceNamesNoVmid : Type 0
+FenceNamesNoVmid = (rs1 : ℕ) (regs : Regs) → (fence_named rs1 0 regs).vmid ≡ None
+
+-- rs1 has a guest physical address shifted right by 2: the fence names the page of this address, and rs1 as
+-- x0 names none
+abbrev pub FenceNamesPage : Type 0
+FenceNamesPage = (rs1 rs2 address : ℕ) (regs : Regs) → rs1 ≢ 0 → read regs rs1 ≡ address / 2 ^ 2
+    → (fence_named rs1 rs2 regs).page ≡ Some (address / 4096)
+
+abbrev pub FenceNamesNoPage : Type 0
+FenceNamesNoPage = (rs2 : ℕ) (regs : Regs) → (fence_named 0 rs2 regs).page ≡ None

@@ -1,0 +1,41 @@
+// What an HFENCE.GVMA names (Privileged Architecture 20211203, 8.3.2).
+
+ghost use Rattle.std.specs.Prelude.{◌≡◌};
+ghost use Rattle.op_defs.specs.Meaning.{fence_named, meaning, named_by};
+ghost use Rattle.fence_handler.specs.Requests.{IsHfenceGvma, fences};
+
+use arch_defs::{Fence, Reg, Regs};
+use op_defs::Op;
+
+/// What an HFENCE.GVMA names, by its registers: the VMID in the low 7 bits of rs2, and the guest physical
+/// page of the address that rs1 has divided by 4. Where a register is x0, it names none.
+#[tactic(auto, unfolding(op_defs::specs::Meaning::meaning))]
+pub fn request(op: Op, regs: &Regs) -> Fence
+    requires { IsHfenceGvma op }
+    ensures { meaning op regs.now ≡ fences result }
+{
+    match op {
+        Op::HfenceGvma { rs1, rs2 } => fence_named(rs1, rs2, regs),
+        _ => unreachable!(),
+    }
+}
+
+fn fence_named(rs1: Reg, rs2: Reg, regs: &Regs) -> Fence
+    ensures { result ≡ fence_named rs1 rs2 regs.now }
+{
+    Fence {
+        vmid: named_by(rs2, regs.read(rs2) % 0x80),
+        page: named_by(rs1, regs.read(rs1) >> 10),
+    }
+}
+
+// What a register names: a value, if the register is not x0.
+fn named_by(register: Reg, value: u64) -> Option<u64>
+    ensures { result ≡ named_by register value }
+{
+    if register.number() == 0 {
+        None
+    } else {
+        Some(value)
+    }
+}
