@@ -1,29 +1,26 @@
 -- What the host makes of a step, as the step of the machine.
-use Rattle.std.specs.Prelude.{◌≢◌, ◌↔◌}
+use Rattle.std.specs.Prelude.{◌↔◌}
 use Rattle.std.proofs.Common.{cond, ◌≡◌, ℕ, List, Option, Some, None, Bool, true, false, refl, ap, sym, ◌∙◌}
-use Rattle.arch_defs.specs.declared.cached.Entry.{Entry}
 use Rattle.arch_defs.specs.declared.cached.Fence.{Fence}
-use Rattle.arch_defs.specs.declared.modes.Trap.{Trap}
 use Rattle.arch_defs.specs.declared.registers.Virtual.{Virtual}
 use Rattle.arch_defs.specs.Frames.{Only, in_blocks}
 use Rattle.arch_defs.specs.Inputs.{next_input}
 use Rattle.arch_defs.specs.Ram.{ram_of}
 use Rattle.arch_defs.specs.Spaces.{Space, entered, fenced}
 use Rattle.arch_defs.specs.Waits.{wake_moment}
-use Rattle.arch_defs.specs.WalkedEntries.{folds}
 use Rattle.arch_defs.proofs.FrameSets.{left_within, only_more, only_none}
 use Rattle.machine_defs.specs.declared.events.Event.TheVariants.{System}
 use Rattle.machine_defs.specs.Fills.{lacking}
-use Rattle.machine_defs.specs.Machine.{Machine, Platform, Tried, has_enabled_interrupt, stepped_to, ticked, trapped, waited, waited_until}
+use Rattle.machine_defs.specs.Machine.{Machine, Platform, has_enabled_interrupt, stepped_to, ticked, waited, waited_until}
 use Rattle.machine_defs.specs.Outcomes.{Fenced}
 use Rattle.machine_defs.specs.Runs.{left_by}
-use Rattle.machine_defs.specs.Tries.{concluded, enters, made, try}
+use Rattle.machine_defs.specs.Tries.{concluded, enters, made}
 use Rattle.shadow_pool.specs.Slots.{pool_frames, room_of, spaces_of}
 use Rattle.guest_exit.specs.declared.guests.Guest.{Guest}
-use Rattle.guest_exit.specs.declared.handling.Handled.{Handled}
-use Rattle.guest_exit.specs.declared.handling.Handled.TheVariants as handled
-use Rattle.guest_exit.specs.Entering.{Fills, IsMiss, IsNotPlain, MakesStep, StaysWithin}
-use Rattle.guest_exit.specs.Following.{IsFault, other_step}
+use Rattle.guest_exit.specs.declared.hart_exit.Handled.{Handled}
+use Rattle.guest_exit.specs.declared.hart_exit.Handled.TheVariants as handled
+use Rattle.guest_exit.specs.HartExit.{IsHandled, KeepsPart, StaysWithin}
+use Rattle.guest_exit.specs.Steps.{IsMiss, IsNotPlain}
 use Rattle.guest_exit.specs.View.{IsPlaced, KeepsSpaces, StaysFixed, changed_by, machine_of, seen}
 use Rattle.guest_exit.proofs.Placed.{placed_by_fill, placed_by_step}
 use Rattle.guest_exit.proofs.Pools.{ram_by_pool, tidy_by_blocks}
@@ -80,37 +77,26 @@ fence_made old new memory changed virt fence at fixed e are only =
 never_both : (m : Machine) → IsMiss m → lacking m ≡ None → ⊥
 never_both m (e, some) none = let both : Some e ≡ None = sym some ∙ none in absurd (cc)
 
-pub retries_exactly : (m after : Machine) (result : Handled) → (result ≢ handled.Retry → MakesStep m after) → (result ≡ handled.Retry → Fills m after)
-    → (result ≡ handled.Retry) ↔ IsMiss m
-retries_exactly m after handled.Retry step fill = let is = fill refl in (λ e. (is.0, is.1), λ miss. refl)
-retries_exactly m after handled.Stepped step fill = (λ e. absurd (cc), λ miss. absurd (never_both m miss (step (λ e. absurd (cc))).ready))
-retries_exactly m after handled.Waits step fill = (λ e. absurd (cc), λ miss. absurd (never_both m miss (step (λ e. absurd (cc))).ready))
-retries_exactly m after handled.Stopped step fill = (λ e. absurd (cc), λ miss. absurd (never_both m miss (step (λ e. absurd (cc))).ready))
+pub retries_exactly : (m after : Machine) (result : Handled) → IsHandled result m after → (result ≡ handled.Retry) ↔ IsMiss m
+retries_exactly m after handled.Retry is = let filled = is.fill refl in (λ e. (filled.0, filled.1), λ miss. refl)
+retries_exactly m after handled.Stepped is = (λ e. absurd (cc), λ miss. absurd (never_both m miss (is.step (λ e. absurd (cc))).ready))
+retries_exactly m after handled.Waits is = (λ e. absurd (cc), λ miss. absurd (never_both m miss (is.step (λ e. absurd (cc))).ready))
+retries_exactly m after handled.Stopped is = (λ e. absurd (cc), λ miss. absurd (never_both m miss (is.step (λ e. absurd (cc))).ready))
 
 -- and memory holds the guest's part after either
-pub placed_by : (old new : Guest) (memory changed : List ℕ) (result : Handled) → IsPlaced old memory → StaysWithin old memory new changed
-    → (result ≢ handled.Retry → MakesStep (machine_of old memory) (machine_of new changed)) → (result ≡ handled.Retry → Fills (machine_of old memory) (machine_of new changed)) → IsPlaced new changed
-placed_by old new memory changed handled.Retry at within step fill = placed_by_fill old new memory changed at within.fixed within.only within.tidy (fill refl)
-placed_by old new memory changed handled.Stepped at within step fill = placed_by_step old new memory changed at within.fixed within.only within.tidy (step (λ e. absurd (cc)))
-placed_by old new memory changed handled.Waits at within step fill = placed_by_step old new memory changed at within.fixed within.only within.tidy (step (λ e. absurd (cc)))
-placed_by old new memory changed handled.Stopped at within step fill = placed_by_step old new memory changed at within.fixed within.only within.tidy (step (λ e. absurd (cc)))
+placed_by : (old new : Guest) (memory changed : List ℕ) (result : Handled) → IsPlaced old memory → StaysWithin old memory new changed
+    → IsHandled result (machine_of old memory) (machine_of new changed) → IsPlaced new changed
+placed_by old new memory changed handled.Retry at within is = placed_by_fill old new memory changed at within.fixed within.only within.tidy (is.fill refl)
+placed_by old new memory changed handled.Stepped at within is = placed_by_step old new memory changed at within.fixed within.only within.tidy (is.step (λ e. absurd (cc)))
+placed_by old new memory changed handled.Waits at within is = placed_by_step old new memory changed at within.fixed within.only within.tidy (is.step (λ e. absurd (cc)))
+placed_by old new memory changed handled.Stopped at within is = placed_by_step old new memory changed at within.fixed within.only within.tidy (is.step (λ e. absurd (cc)))
 
--- none of these is plain
-pub other_is_quiet : (m : Machine) (trap : Trap) (virtual : Bool) → IsNotPlain (other_step m trap virtual)
-other_is_quiet m trap false = record { trace = refl; plain = refl }
-other_is_quiet m trap true = record { trace = refl; plain = refl }
+pub part_kept : (old new : Guest) (memory changed : List ℕ) (result : Handled) → IsPlaced old memory → StaysWithin old memory new changed
+    → IsHandled result (machine_of old memory) (machine_of new changed) → KeepsPart old memory new changed
+part_kept old new memory changed result at within is =
+    record { only = within.only; placed = placed_by old new memory changed result at within is; fixed = within.fixed }
 
--- a guest-page fault of the hart is a trap of the machine, if nothing is filled
-trap_by : (m : Machine) (tried : Tried) (lacks : Option Entry) (trap : Trap) (folding : Bool) → IsFault m tried lacks trap folding → (t : Trap) × (tried ≡ trapped m t)
-trap_by m tried lacks trap false is = (_, is)
-trap_by m tried lacks trap true is = (_, is.faults)
-
-pub fault_traps : (m : Machine) (trap : Trap) → IsFault m (try m) (lacking m) trap (folds m.platform.virt) → (t : Trap) × (try m ≡ trapped m t)
-fault_traps m trap is = trap_by m (try m) (lacking m) trap (folds m.platform.virt) is
-
-pub fault_is_quiet : (m : Machine) (trap : Trap) → IsFault m (try m) (lacking m) trap (folds m.platform.virt) → IsNotPlain (try m)
-fault_is_quiet m trap is = rw (fault_traps m trap is).1 (record { trace = refl; plain = refl })
-
+-- a wait is no plain step
 until_is_quiet : (m : Machine) (virt : Virtual) (moment : Option ℕ) → IsNotPlain (waited_until m virt moment)
 until_is_quiet m virt (Some moment) = record { trace = refl; plain = refl }
 until_is_quiet m virt None = record { trace = refl; plain = refl }

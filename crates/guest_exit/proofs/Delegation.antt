@@ -5,7 +5,7 @@ use Rattle.arch_defs.specs.declared.modes.TheConstants.{VIRTUAL_INSTRUCTION}
 use Rattle.arch_defs.specs.Bits.{bit}
 use Rattle.arch_defs.specs.CsrBits.{hedeleg_bits}
 use Rattle.world_switch.specs.Hosting.{own_exceptions}
-use Rattle.guest_exit.specs.Following.{is_guest_page_code}
+use Rattle.guest_exit.specs.ExitCases.{is_guest_page_code}
 
 -- an exception that the hart takes into VS: with V = 0 always, with V = 1 where the guest delegates it. It is none of those for
 -- which the host does more than to raise it
@@ -13,7 +13,7 @@ pub record IsOwn (cause : ℕ) : Type 0 where
   pub small : nat_lt cause 64 ≡ true
   pub own : bit cause own_exceptions ≡ true
   pub kept : (hedeleg : ℕ) → bit cause (hedeleg_bits hedeleg) ≡ bit cause hedeleg
-  pub other : cause ≡ VIRTUAL_INSTRUCTION → ⊥
+  pub other : (cause == VIRTUAL_INSTRUCTION) ≡ false
   pub fault : is_guest_page_code cause ≡ false
 
 kept_0 : (h : ℕ) → bit 0 (hedeleg_bits h) ≡ bit 0 h
@@ -65,40 +65,40 @@ unfolding hedeleg_bits
 kept_15 h = ap (λ n. n == 1) (omega arith)
 
 pub own_0 : IsOwn 0
-own_0 = record { small = refl; own = refl; kept = kept_0; other = λ e. absurd (omega (arith, e)); fault = refl }
+own_0 = record { small = refl; own = refl; kept = kept_0; other = refl; fault = refl }
 
 pub own_1 : IsOwn 1
-own_1 = record { small = refl; own = refl; kept = kept_1; other = λ e. absurd (omega (arith, e)); fault = refl }
+own_1 = record { small = refl; own = refl; kept = kept_1; other = refl; fault = refl }
 
 pub own_2 : IsOwn 2
-own_2 = record { small = refl; own = refl; kept = kept_2; other = λ e. absurd (omega (arith, e)); fault = refl }
+own_2 = record { small = refl; own = refl; kept = kept_2; other = refl; fault = refl }
 
 pub own_3 : IsOwn 3
-own_3 = record { small = refl; own = refl; kept = kept_3; other = λ e. absurd (omega (arith, e)); fault = refl }
+own_3 = record { small = refl; own = refl; kept = kept_3; other = refl; fault = refl }
 
 pub own_4 : IsOwn 4
-own_4 = record { small = refl; own = refl; kept = kept_4; other = λ e. absurd (omega (arith, e)); fault = refl }
+own_4 = record { small = refl; own = refl; kept = kept_4; other = refl; fault = refl }
 
 pub own_5 : IsOwn 5
-own_5 = record { small = refl; own = refl; kept = kept_5; other = λ e. absurd (omega (arith, e)); fault = refl }
+own_5 = record { small = refl; own = refl; kept = kept_5; other = refl; fault = refl }
 
 pub own_6 : IsOwn 6
-own_6 = record { small = refl; own = refl; kept = kept_6; other = λ e. absurd (omega (arith, e)); fault = refl }
+own_6 = record { small = refl; own = refl; kept = kept_6; other = refl; fault = refl }
 
 pub own_7 : IsOwn 7
-own_7 = record { small = refl; own = refl; kept = kept_7; other = λ e. absurd (omega (arith, e)); fault = refl }
+own_7 = record { small = refl; own = refl; kept = kept_7; other = refl; fault = refl }
 
 pub own_8 : IsOwn 8
-own_8 = record { small = refl; own = refl; kept = kept_8; other = λ e. absurd (omega (arith, e)); fault = refl }
+own_8 = record { small = refl; own = refl; kept = kept_8; other = refl; fault = refl }
 
 pub own_12 : IsOwn 12
-own_12 = record { small = refl; own = refl; kept = kept_12; other = λ e. absurd (omega (arith, e)); fault = refl }
+own_12 = record { small = refl; own = refl; kept = kept_12; other = refl; fault = refl }
 
 pub own_13 : IsOwn 13
-own_13 = record { small = refl; own = refl; kept = kept_13; other = λ e. absurd (omega (arith, e)); fault = refl }
+own_13 = record { small = refl; own = refl; kept = kept_13; other = refl; fault = refl }
 
 pub own_15 : IsOwn 15
-own_15 = record { small = refl; own = refl; kept = kept_15; other = λ e. absurd (omega (arith, e)); fault = refl }
+own_15 = record { small = refl; own = refl; kept = kept_15; other = refl; fault = refl }
 
 -- the exceptions that always go to HS
 pub never_10 : (h : ℕ) → bit 10 (hedeleg_bits h) ≡ false

@@ -12,7 +12,7 @@ use Rattle.arch_defs.specs.Interrupts.{due, interrupt_of}
 use Rattle.arch_defs.specs.Layouts.{Layout}
 use Rattle.arch_defs.specs.Ram.{ram_of}
 use Rattle.arch_defs.specs.Memory.{block_size}
-use Rattle.enough_tries.specs.Keeping.{IsOrderly}
+use Rattle.machine_laws.specs.Keeping.{IsOrderly}
 use Rattle.std.specs.List.{All}
 use Rattle.std.specs.Prelude.{length, nat_lt, ◌*◌}
 use Rattle.arch_defs.specs.Traps.{is_virtual}
@@ -20,19 +20,19 @@ use Rattle.arch_defs.proofs.FrameSets.{only_both, only_none}
 use Rattle.machine_defs.specs.declared.events.Event.{Event}
 use Rattle.machine_defs.specs.declared.events.Event.TheVariants as event
 use Rattle.machine_defs.specs.declared.guests.Status.TheVariants.{Running}
-use Rattle.machine_defs.specs.HostPlaces.{in_ram, memory_place}
+use Rattle.machine_laws.specs.HostPlaces.{in_ram, memory_place}
 use Rattle.machine_defs.specs.Fills.{lacking}
 use Rattle.machine_defs.specs.Machine.{Machine, Platform, informed, ticked, timed, trapped}
-use Rattle.machine_defs.specs.Reservations.{IsInRam}
+use Rattle.machine_laws.specs.Reservations.{IsInRam}
 use Rattle.machine_defs.specs.Tries.{try, try_under}
 use Rattle.arch_defs.specs.Inputs.{has_input}
 use Rattle.machine_defs.specs.Runs.{event_in, events, left_after, left_by, pc_and_word, run, trace_of}
-use Rattle.machine_defs.specs.Renaming.{ReservesHeld, renamed}
-use Rattle.machine_defs.proofs.Running.{events_compose, runs_compose}
-use Rattle.enough_tries.specs.Budgets.{NeedNoFill}
-use Rattle.enough_tries.proofs.Filling.{interrupted_lacks_nothing}
-use Rattle.enough_tries.proofs.Orderly.{stays_orderly}
-use Rattle.enough_tries.proofs.Stepping.{step_ready, try_is_event}
+use Rattle.machine_laws.specs.Renaming.{ReservesHeld, renamed}
+use Rattle.machine_laws.proofs.Running.{events_compose, runs_compose}
+use Rattle.machine_laws.specs.Budgets.{NeedNoFill}
+use Rattle.machine_laws.proofs.Filling.{interrupted_lacks_nothing}
+use Rattle.machine_laws.proofs.Orderly.{stays_orderly}
+use Rattle.machine_laws.proofs.Stepping.{step_ready, try_is_event}
 use Rattle.rv64_hart.specs.declared.harts.Why.{Why}
 use Rattle.rv64_hart.specs.declared.harts.Why.TheVariants.{Limit, Exit, VsTrap}
 use Rattle.rv64_hart.specs.Counts.{IsRaisedBy}
@@ -43,8 +43,9 @@ use Rattle.world_switch.specs.Hosting.{fixed_up, hosted, hosted_csrs, loaded, sa
 use Rattle.world_switch.specs.Laws.{KeepsHidden}
 use Rattle.world_switch.proofs.Registers.{none_waits}
 use Rattle.world_switch.proofs.Undone.{load_after_save, save_after_load, saved_v, virtual_mode}
-use Rattle.guest_exit.specs.Entering.{Hands, IsStopped, Lasts, moved}
-use Rattle.guest_exit.specs.Following.{Follows, IsAt, IsLeft, Keeps, event_for, host_takes, root_for, root_frame_for}
+use Rattle.guest_exit.specs.ExitCases.{IsLeft, exit_of}
+use Rattle.guest_exit.specs.HartEntry.{Hands, IsStopped, Lasts, moved}
+use Rattle.guest_exit.specs.HartSteps.{Follows, IsAt, Keeps, event_for, host_takes, root_for, root_frame_for}
 use Rattle.guest_exit.proofs.Followed.{followed}
 use Rattle.guest_exit.proofs.Interrupts.{own_after}
 use Rattle.guest_exit.proofs.Pools.{size_of, tidy_by_blocks}
@@ -427,11 +428,11 @@ stopped part pool m memory limit t state changed t' taken (Exit trap) running la
     )
 
 -- a step that the hart has left to the host
-pub left : (part : Layout) (pool : Pooled) (m : Machine) (memory : List ℕ) (trap : Trap) → host_takes m.platform.virt ≡ false → IsAt part pool m memory
-    → hart_step (loaded part (root_for part pool m.platform.virt) m.platform.virt) memory ≡ Exits trap → IsLeft m (try m) (lacking m) trap
-left part pool m memory trap own at exits =
+pub left : (part : Layout) (pool : Pooled) (m : Machine) (memory : List ℕ) (trap : Trap) → IsAt part pool m memory → Hands part pool m memory trap
+    → IsLeft m (try m) (lacking m) (exit_of m.platform.virt trap)
+left part pool m memory trap at hands =
     let root = root_for part pool m.platform.virt in
-    let there : Follows part root m memory (Exits trap) = subst (λ end. Follows part root m memory end) exits (followed part pool m memory own at) in there
+    let there : Follows part root m memory (Exits trap) = subst (λ end. Follows part root m memory end) hands.exits (followed part pool m memory hands.own at) in there
 
 -- an interrupt that is due
 pub interrupted : (m : Machine) (code : ℕ) → due m.platform.virt.csrs m.platform.virt.mode ≡ Some code → (lacking m ≡ None) × (try m ≡ trapped m (interrupt_of code))

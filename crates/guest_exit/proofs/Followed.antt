@@ -1,5 +1,5 @@
 -- One step of the hart that stands for a guest is a try of the guest's lone machine.
-use Rattle.std.specs.Prelude.{◌&&◌, not}
+use Rattle.std.specs.Prelude.{◌&&◌, ◌^◌, nat_lt, not}
 use Rattle.std.proofs.Common.{cond, ◌≡◌, ℕ, ◌⊎◌, inl, inr, ◌∙◌, Bool, List, Option, Some, None, true, false, refl, ap, sym, subst, length, arith}
 use Rattle.arch_defs.specs.declared.guest_walks.GuestWalkEnd.{GuestWalkEnd}
 use Rattle.arch_defs.specs.declared.guest_walks.GuestWalkEnd.TheVariants.{GuestPageFault, AccessFault}
@@ -8,32 +8,38 @@ use Rattle.arch_defs.specs.declared.modes.Access.{Access}
 use Rattle.arch_defs.specs.declared.modes.Access.TheVariants.{Fetch, Load, Store, ExecLoad, Implicit}
 use Rattle.arch_defs.specs.declared.modes.Mode.{Mode}
 use Rattle.arch_defs.specs.declared.modes.Trap.{Trap}
-use Rattle.arch_defs.specs.declared.modes.TheConstants.{VIRTUAL_INSTRUCTION}
 use Rattle.arch_defs.specs.declared.registers.Csrs.{Csrs}
 use Rattle.arch_defs.specs.declared.registers.GuestRoot.{GuestRoot}
 use Rattle.arch_defs.specs.declared.registers.GuestRoot.TheVariants as root
 use Rattle.arch_defs.specs.declared.registers.Virtual.{Virtual}
+use Rattle.arch_defs.specs.declared.walks.Shape.TheVariants.{Sv39x4}
 use Rattle.arch_defs.specs.declared.walks.Unplaced.{Unplaced}
 use Rattle.arch_defs.specs.Frames.{in_blocks}
 use Rattle.arch_defs.specs.Layouts.{Layout, in_tables}
 use Rattle.arch_defs.specs.Memory.{block_size, ram_base, reading_of, with_stored}
 use Rattle.arch_defs.specs.Ram.{SlicesLieIn}
+use Rattle.arch_defs.specs.Roots.{guest_shape, is_table}
 use Rattle.arch_defs.specs.SecondStage.{guest_page_fault, guest_page_trap, guest_walk, second_now, second_root_of, unplaced_by, unplaced_under}
 use Rattle.arch_defs.specs.Traps.{access_fault, exception, is_delegated, is_virtual, unplaced_fault}
 use Rattle.arch_defs.proofs.RamBlocks.{blocks_lie_in, ram_length}
 use Rattle.arch_defs.proofs.Rooms.{first_lies}
-use Rattle.machine_defs.specs.HostPlaces.{in_ram, memory_place}
+use Rattle.machine_laws.specs.HostPlaces.{in_ram, memory_place}
 use Rattle.machine_defs.specs.Machine.{Machine, Tried, stepped_to, trapped}
 use Rattle.machine_defs.specs.Tries.{concluded, enters, made, second_of, tried_with, try_under}
 use Rattle.machine_defs.specs.Outcomes.{Outcome, Done, Trapped, Stuck, Called, Waits, Fenced, Accesses}
-use Rattle.machine_defs.specs.Renaming.{IsRenamed, LeavesHeld, outcome_renamed}
-use Rattle.machine_defs.proofs.HostPlaces.{only_ram_changes, ram_is_renamed, ram_is_stored}
-use Rattle.machine_defs.proofs.Renaming.{renamed_core, stays_held}
+use Rattle.machine_laws.specs.Renaming.{IsRenamed, LeavesHeld, outcome_renamed}
+use Rattle.machine_laws.proofs.HostPlaces.{only_ram_changes, ram_is_renamed, ram_is_stored}
+use Rattle.machine_laws.proofs.Renaming.{renamed_core, stays_held}
 use Rattle.host_tables.specs.Walks.{IsHeld}
 use Rattle.host_tables.proofs.Held.{gives_ram}
 use Rattle.world_switch.specs.Hosting.{fixed_up, host_root, hosted, hosted_csrs, hosted_mode, loaded, saved, table_from, taken_back}
 use Rattle.world_switch.proofs.Undone.{saved_v, virtual_mode}
-use Rattle.guest_exit.specs.Following.{Follows, FollowsTry, IsAt, access_fault_for, event_for, host_takes, is_guest_page_code}
+use Rattle.guest_exit.specs.declared.exit_cases.Exit.{Exit}
+use Rattle.guest_exit.specs.declared.exit_cases.Exit.TheVariants as case
+use Rattle.guest_exit.specs.ExitCases.{access_fault_for, entry_at, is_guest_page_code, missed, try_at, unplaced_exit}
+use Rattle.guest_exit.proofs.ExitCases.{left_as, page_exit_is}
+use Rattle.guest_exit.proofs.Missed.{far_is}
+use Rattle.guest_exit.specs.HartSteps.{Follows, FollowsTry, IsAt, event_for, host_takes, root_for}
 use Rattle.rv64_hart.specs.MachineMemory.{reading_of_memory, second_of_memory}
 use Rattle.rv64_hart.specs.Steps.{HartEnd, attempt_of, end_by, enters_vs, hart_step, next_attempt}
 use Rattle.guest_exit.proofs.Agreement.{core_stands}
@@ -46,7 +52,7 @@ use Rattle.arch_defs.specs.Memory.{bare}
 use Rattle.arch_defs.specs.SecondStage.{second_under, unplaced_trap}
 use Rattle.arch_defs.specs.CachedEntries.{second_by}
 use Rattle.arch_defs.specs.Spaces.{Space, entered, front}
-use Rattle.machine_defs.specs.FrontSpaces.{FrontIs}
+use Rattle.machine_laws.specs.FrontSpaces.{FrontIs}
 use Rattle.std.specs.Prelude.{[], ◌∷◌, ◌*◌, ◌/◌, ◌-◌}
 use Rattle.std.specs.Option.{option_map}
 use Rattle.std.proofs.lemmas.Bool.{and_parts}
@@ -54,23 +60,22 @@ use Rattle.arch_defs.specs.Frames.{LieIn}
 use Rattle.arch_defs.specs.Memory.{SecondStage, Stored}
 use Rattle.arch_defs.specs.Ram.{host_place, ram_of}
 use Rattle.machine_defs.specs.declared.events.Event.{Event}
-use Rattle.arch_defs.specs.WalkedEntries.{folds, is_table}
+use Rattle.arch_defs.specs.WalkedEntries.{folds}
 use Rattle.arch_defs.specs.Interrupts.{due}
 use Rattle.machine_defs.specs.Core.{core}
 use Rattle.machine_defs.specs.Fills.{lacking, lacking_at}
-use Rattle.machine_defs.specs.Renaming.{GivesHeld}
-use Rattle.machine_defs.specs.Reservations.{places_from}
-use Rattle.machine_defs.specs.HostPlaces.{ram_size}
-use Rattle.machine_defs.proofs.HostPlaces.{places_are_renamed}
-use Rattle.machine_defs.proofs.InRam.{gives_ram as gives_own_ram}
-use Rattle.enough_tries.proofs.Filling.{flat_lacks_nothing, interrupted_lacks_nothing}
-use Rattle.enough_tries.specs.Keeping.{IsOrderly}
-use Rattle.enough_tries.proofs.Asking.{IsDecided, privileged_decided, stops}
-use Rattle.enough_tries.proofs.Ruling.{flat_is_ram, folds_by_front, lacks_are_read}
-use Rattle.enough_tries.proofs.Walks.{now_same, trap_same}
+use Rattle.machine_laws.specs.Renaming.{GivesHeld}
+use Rattle.machine_laws.specs.Reservations.{places_from}
+use Rattle.machine_laws.specs.HostPlaces.{ram_size}
+use Rattle.machine_laws.proofs.HostPlaces.{places_are_renamed}
+use Rattle.machine_laws.proofs.InRam.{gives_ram as gives_own_ram}
+use Rattle.machine_laws.proofs.Filling.{flat_lacks_nothing, interrupted_lacks_nothing}
+use Rattle.machine_laws.specs.Keeping.{IsOrderly}
+use Rattle.machine_laws.proofs.Asking.{IsDecided, privileged_decided, stops}
+use Rattle.machine_laws.proofs.Ruling.{flat_is_ram, folds_by_front, lacks_are_read}
+use Rattle.machine_laws.proofs.Walks.{now_same, trap_same}
 use Rattle.shadow_pool.specs.Slots.{front_root, spaces_of}
 use Rattle.shadow_pool.proofs.Front.{front_gives, front_lacks}
-use Rattle.guest_exit.specs.Following.{IsFault, IsMissed, missed, root_for}
 use Rattle.guest_exit.proofs.Taken.{access_fault_own, exception_follows, hosted_here, interrupt_follows, taken, to_host, trap_follows}
 use Rattle.guest_exit.proofs.Stands.{IsTold}
 
@@ -120,12 +125,12 @@ unplaced_end unplaced AccessFault = inl refl
 unplaced_is : (mxr : Bool) (memory : List ℕ) (unplaced : Unplaced) (root : GuestRoot)
     → (unplaced_under 0 memory mxr unplaced root ≡ unplaced_fault unplaced) ⊎ (unplaced_under 0 memory mxr unplaced root ≡ guest_page_trap unplaced)
 unplaced_is mxr memory unplaced root.Bare = inl refl
-unplaced_is mxr memory unplaced (root.Sv39x4 vmid page) = unplaced_end unplaced (guest_walk 0 memory mxr page unplaced.address unplaced.kind)
+unplaced_is mxr memory unplaced (root.Table mode vmid ppn) =
+    unplaced_end unplaced (guest_walk 0 memory mxr (guest_shape mode) ppn unplaced.address unplaced.kind)
 
 -- a guest-page fault is the host's
 record IsHosts (access : Access) : Type 0 where
   kept : (root : GuestRoot) (virtual : Bool) (csrs : Csrs) → is_delegated (hosted_csrs root virtual csrs) false (guest_page_fault access) ≡ false
-  other : (guest_page_fault access ≡ VIRTUAL_INSTRUCTION) → ⊥
   fault : is_guest_page_code (guest_page_fault access) ≡ true
   own : access_fault_for (guest_page_fault access) ≡ access_fault access
 
@@ -142,25 +147,21 @@ kept_23 root false csrs = refl
 kept_23 root true csrs = never_23 csrs.hedeleg
 
 hosts : (access : Access) → IsHosts access
-hosts Fetch = record { kept = kept_20; other = λ h. omega (arith, h); fault = refl; own = refl }
-hosts Load = record { kept = kept_21; other = λ h. omega (arith, h); fault = refl; own = refl }
-hosts Store = record { kept = kept_23; other = λ h. omega (arith, h); fault = refl; own = refl }
-hosts ExecLoad = record { kept = kept_21; other = λ h. omega (arith, h); fault = refl; own = refl }
-hosts Implicit = record { kept = kept_21; other = λ h. omega (arith, h); fault = refl; own = refl }
+hosts Fetch = record { kept = kept_20; fault = refl; own = refl }
+hosts Load = record { kept = kept_21; fault = refl; own = refl }
+hosts Store = record { kept = kept_23; fault = refl; own = refl }
+hosts ExecLoad = record { kept = kept_21; fault = refl; own = refl }
+hosts Implicit = record { kept = kept_21; fault = refl; own = refl }
 
-guest_page_left : (part : Layout) (root : GuestRoot) (m : Machine) (memory : List ℕ) (unplaced : Unplaced) (tried : Tried) (lacks : Option Entry)
-    → IsFault m tried lacks (guest_page_trap unplaced) (folds m.platform.virt) → FollowsTry part root m tried lacks memory (taken part root m memory (guest_page_trap unplaced))
-guest_page_left part root m memory unplaced tried lacks fault =
+guest_page_left : (part : Layout) (root : GuestRoot) (m : Machine) (memory : List ℕ) (unplaced : Unplaced) (tried : Tried) (lacks : Option Entry) (left : Exit)
+    → unplaced_exit m.platform.virt (guest_page_trap unplaced) (folds m.platform.virt) ≡ left → tried ≡ try_at m left → lacks ≡ entry_at m left
+    → FollowsTry part root m tried lacks memory (taken part root m memory (guest_page_trap unplaced))
+guest_page_left part root m memory unplaced tried lacks left is step lacking =
     let v = m.platform.virt in
+    let trap = guest_page_trap unplaced in
     let h = hosts unplaced.access in
-    rw (to_host (hosted_csrs root (is_virtual v.mode) v.csrs) (hosted_mode v.mode) (guest_page_trap unplaced) (virtual_mode v.mode) (h.kept root (is_virtual v.mode) v.csrs))
-    (record {
-      word = λ is. absurd (h.other is);
-      decided = λ is. absurd (h.other is);
-      faulted = λ is. fault;
-      other = λ other not. let never : true ≡ false = rw (← h.fault) not in cc;
-      ready = λ not. let never : true ≡ false = rw (← h.fault) not in cc;
-    })
+    rw (to_host (hosted_csrs root (is_virtual v.mode) v.csrs) (hosted_mode v.mode) trap (virtual_mode v.mode) (h.kept root (is_virtual v.mode) v.csrs))
+    (left_as m tried lacks trap left (page_exit_is v trap h.fault ∙ is) step lacking)
 
 follows_as : (part : Layout) (root : GuestRoot) (m : Machine) (tried tried' : Tried) (lacks lacks' : Option Entry) (memory : List ℕ) (end : HartEnd)
     → tried' ≡ tried → lacks' ≡ lacks → FollowsTry part root m tried lacks memory end → FollowsTry part root m tried' lacks' memory end
@@ -173,8 +174,8 @@ flat_fault v ram unplaced flat = by v.csrs.hgatp (is_virtual v.mode) flat
   where
     by : (hgatp : GuestRoot) (virtual : Bool) → (virtual && is_table hgatp) ≡ false
         → unplaced_under ram_base ram v.csrs.hs.status.mxr (record unplaced { mode = v.mode }) (cond virtual hgatp root.Bare) ≡ exception v.mode (access_fault unplaced.access) unplaced.va
-    by (root.Sv39x4 vmid page) true is = absurd cc
-    by (root.Sv39x4 vmid page) false is = refl
+    by (root.Table mode vmid ppn) true is = absurd cc
+    by (root.Table mode vmid ppn) false is = refl
     by root.Bare true is = refl
     by root.Bare false is = refl
 
@@ -184,8 +185,10 @@ flat_ends : (part : Layout) {pool : Pooled} (root : GuestRoot) (m : Machine) (me
 flat_ends part root m memory unplaced trap at flat mode (inl e) =
     rw (e, mode) (exception_follows part root m memory None (access_fault unplaced.access) unplaced.va (access_fault_own unplaced.access) at refl)
 flat_ends part root m memory unplaced trap at flat mode (inr e) =
-    rw e (guest_page_left part root m memory unplaced _ None
-    (rw flat (ap (λ cause. trapped m (exception m.platform.virt.mode cause unplaced.va)) (sym (hosts unplaced.access).own))))
+    let v = m.platform.virt in
+    let fault = exception v.mode (access_fault_for (guest_page_fault unplaced.access)) unplaced.va in
+    rw e (guest_page_left part root m memory unplaced _ None (case.OutsideRam fault) (ap (unplaced_exit v (guest_page_trap unplaced)) flat)
+    (ap (λ cause. trapped m (exception v.mode cause unplaced.va)) (sym (hosts unplaced.access).own)) refl)
 
 flat_follows : (part : Layout) {pool : Pooled} (root : GuestRoot) (m : Machine) (memory : List ℕ) (unplaced : Unplaced) (trap : Trap) → IsAt part pool m memory
     → folds m.platform.virt ≡ false → unplaced.mode ≡ hosted_mode m.platform.virt.mode → (trap ≡ unplaced_fault unplaced) ⊎ (trap ≡ guest_page_trap unplaced)
@@ -205,27 +208,38 @@ missed_is : (v : Virtual) (unplaced : Unplaced) → IsTold unplaced
     → missed v (guest_page_trap unplaced) ≡ record unplaced { address = unplaced.address / 4 * 4; mode = v.mode }
 missed_is v unplaced told = rw (told.access, told.kind) refl
 
-told_again : (v : Virtual) (unplaced : Unplaced) → unplaced.mode ≡ v.mode
-    → guest_page_trap unplaced ≡ guest_page_trap (record unplaced { address = unplaced.address / 4 * 4; mode = v.mode })
-told_again v unplaced mode = rw (mode, same_told unplaced.address) refl
+far_told : (address : ℕ) → nat_lt (address / 4) (2 ^ 39) ≡ false → nat_lt address (2 ^ 41) ≡ false
+far_told address far = grind (arith, far)
+
+-- by whether its guest physical address has more than 41 bits
+missing_exit : (v : Virtual) (unplaced : Unplaced) → folds v ≡ true → IsTold unplaced → (small : Bool) → nat_lt (unplaced.address / 4) (2 ^ 39) ≡ small
+    → unplaced_exit v (guest_page_trap unplaced) (folds v)
+    ≡ cond small (case.Missing (record unplaced { address = unplaced.address / 4 * 4; mode = v.mode })) (case.Own (guest_page_trap unplaced))
+missing_exit v unplaced folding told small is = rw (folding, is, missed_is v unplaced told) refl
+
+folding_by : (part : Layout) (root : GuestRoot) (m : Machine) (memory : List ℕ) (unplaced : Unplaced) → folds m.platform.virt ≡ true → unplaced.mode ≡ m.platform.virt.mode → IsTold unplaced
+    → (small : Bool) → nat_lt (unplaced.address / 4) (2 ^ 39) ≡ small
+    → FollowsTry part root m (concluded m (Stuck (record unplaced { mode = m.platform.virt.mode }))) (missing m (Stuck (record unplaced { mode = m.platform.virt.mode })))
+    memory (taken part root m memory (guest_page_trap unplaced))
+folding_by part root m memory unplaced folding mode told true small =
+    let v = m.platform.virt in
+    let own : Unplaced = record unplaced { mode = v.mode } in
+    let page = same_page unplaced.address in
+    guest_page_left part root m memory unplaced (concluded m (Stuck own)) (missing m (Stuck own)) _ (missing_exit v unplaced folding told true small)
+    (ap (trapped m) (sym (trap_same v.csrs m.ram own (unplaced.address / 4 * 4) page (same_told unplaced.address))))
+    (rw folding (sym (now_same v.csrs m.ram (unplaced.address / 4 * 4) unplaced.address unplaced.kind page)))
+folding_by part root m memory unplaced folding mode told false far =
+    let v = m.platform.virt in
+    let own : Unplaced = record unplaced { mode = v.mode } in
+    let is = far_is v m.ram own folding refl (far_told unplaced.address far) in
+    let same : guest_page_trap own ≡ guest_page_trap unplaced = rw mode refl in
+    guest_page_left part root m memory unplaced (concluded m (Stuck own)) (missing m (Stuck own)) _ (missing_exit v unplaced folding told false far)
+    (ap (trapped m) (is.faults ∙ same)) (rw folding is.none)
 
 folding_follows : (part : Layout) (root : GuestRoot) (m : Machine) (memory : List ℕ) (unplaced : Unplaced) → folds m.platform.virt ≡ true → unplaced.mode ≡ m.platform.virt.mode → IsTold unplaced
     → FollowsTry part root m (concluded m (Stuck (record unplaced { mode = m.platform.virt.mode }))) (missing m (Stuck (record unplaced { mode = m.platform.virt.mode })))
     memory (taken part root m memory (guest_page_trap unplaced))
-folding_follows part root m memory unplaced folding mode told =
-    let v = m.platform.virt in
-    let own : Unplaced = record unplaced { mode = v.mode } in
-    let page = same_page unplaced.address in
-    let trap = guest_page_trap unplaced in
-    let is : IsMissed m (concluded m (Stuck own)) (missing m (Stuck own)) trap (record unplaced { address = unplaced.address / 4 * 4; mode = v.mode }) = record {
-      told = told_again v unplaced mode;
-      fills = rw folding (sym (now_same v.csrs m.ram (unplaced.address / 4 * 4) unplaced.address unplaced.kind page));
-      faults = ap (trapped m) (sym (trap_same v.csrs m.ram own (unplaced.address / 4 * 4) page (same_told unplaced.address)));
-    } in
-    let fault : IsFault m (concluded m (Stuck own)) (missing m (Stuck own)) trap true =
-    subst (λ at. IsMissed m (concluded m (Stuck own)) (missing m (Stuck own)) trap at) (sym (missed_is v unplaced told)) is in
-    guest_page_left part root m memory unplaced (concluded m (Stuck own)) (missing m (Stuck own))
-    (subst (λ b. IsFault m (concluded m (Stuck own)) (missing m (Stuck own)) trap b) (sym folding) fault)
+folding_follows part root m memory unplaced folding mode told = folding_by part root m memory unplaced folding mode told (nat_lt (unplaced.address / 4) (2 ^ 39)) refl
 
 -- the table under which the hart runs
 root_flat : (part : Layout) (pool : Pooled) (v : Virtual) → folds v ≡ false → root_for part pool v ≡ host_root part
@@ -280,7 +294,7 @@ trap_under : (csrs : Csrs) (memory : List ℕ) (unplaced : Unplaced) (root : Gue
     → unplaced_trap csrs 0 memory unplaced ≡ unplaced_under 0 memory csrs.hs.status.mxr unplaced root
 trap_under csrs memory unplaced root on is = rw (on, is) refl
 
-trap_by : (memory : List ℕ) (mxr : Bool) (unplaced : Unplaced) (frame : ℕ) → guest_walk 0 memory mxr frame unplaced.address unplaced.kind ≡ GuestPageFault
+trap_by : (memory : List ℕ) (mxr : Bool) (unplaced : Unplaced) (frame : ℕ) → guest_walk 0 memory mxr Sv39x4 frame unplaced.address unplaced.kind ≡ GuestPageFault
     → unplaced_under 0 memory mxr unplaced (table_from frame) ≡ guest_page_trap unplaced
 trap_by memory mxr unplaced frame is = ap (unplaced_by unplaced) is
 

@@ -10,7 +10,7 @@ use Rattle.arch_defs.specs.declared.registers.Interrupts.{Interrupts}
 use Rattle.arch_defs.specs.Interrupts.{due, due_for_hs, due_for_vs, guest_bit, hs_order, is_ready_for_hs, is_ready_for_vs, vs_order}
 use Rattle.arch_defs.specs.Traps.{is_virtual}
 use Rattle.machine_defs.specs.Machine.{timed}
-use Rattle.guest_exit.specs.Following.{is_hosts}
+use Rattle.guest_exit.specs.HartSteps.{is_hosts}
 use Rattle.world_switch.specs.Hosting.{all_interrupts, hosted_csrs, hosted_mode, saved_csrs, saved_mode}
 use Rattle.world_switch.specs.Laws.{KeepsHidden, waits_for_hs}
 use Rattle.world_switch.proofs.Undone.{saved_v}

@@ -4,7 +4,7 @@ use Rattle.std.specs.Option.{ForSome}
 use Rattle.std.proofs.Common.{cond, ◌≡◌, ℕ, ◌+◌, ◌-◌, ◌<◌, ◌≤◌, Bool, true, false, Some, None, refl, arith}
 use Rattle.arch_defs.specs.Clocks.{Times, next_event}
 use Rattle.arch_defs.specs.Inputs.{has_come}
-use Rattle.guest_exit.specs.Entering.{Stays}
+use Rattle.guest_exit.specs.HartEntry.{Stays}
 
 -- where the timer has not come, or has, so it is with its moment, if that is ahead
 ahead_by : (timer time : ℕ) (ahead : Bool) → nat_lt time timer ≡ ahead → (n : ℕ)

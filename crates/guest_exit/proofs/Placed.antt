@@ -17,18 +17,18 @@ use Rattle.arch_defs.specs.Ram.{ram_of}
 use Rattle.arch_defs.proofs.FrameSets.{apart_sym, kept, left_within, only_more}
 use Rattle.host_tables.specs.Walks.{IsHeld}
 use Rattle.host_tables.proofs.Held.{held_by_blocks}
-use Rattle.machine_defs.specs.HostPlaces.{in_ram}
+use Rattle.machine_laws.specs.HostPlaces.{in_ram}
 use Rattle.machine_defs.specs.Machine.{Machine}
-use Rattle.machine_defs.specs.Renaming.{ReservesHeld}
-use Rattle.machine_defs.specs.Reservations.{IsInRam, KeepsInRam, ReservesInRam, places_from}
+use Rattle.machine_laws.specs.Renaming.{ReservesHeld}
+use Rattle.machine_laws.specs.Reservations.{IsInRam, KeepsInRam, ReservesInRam, places_from}
 use Rattle.machine_defs.specs.Runs.{left_after, run}
-use Rattle.machine_defs.proofs.InRam.{fill_stays_in_ram, stays_in_ram, try_stays_in_ram}
-use Rattle.enough_tries.specs.Keeping.{IsOrderly}
-use Rattle.enough_tries.proofs.Orderly.{fill_stays_orderly, stays_orderly, try_stays_orderly}
+use Rattle.machine_laws.proofs.InRam.{fill_stays_in_ram, stays_in_ram, try_stays_in_ram}
+use Rattle.machine_laws.specs.Keeping.{IsOrderly}
+use Rattle.machine_laws.proofs.Orderly.{fill_stays_orderly, stays_orderly, try_stays_orderly}
 use Rattle.shadow_pool.specs.Slots.{Pooled, TidyPool, frames_for, pool_frames, room_of, spaces_of}
 use Rattle.guest_exit.specs.declared.guests.Guest.{Guest}
-use Rattle.guest_exit.specs.Entering.{Fills, MakesStep}
-use Rattle.guest_exit.specs.Following.{IsAt, changing}
+use Rattle.guest_exit.specs.HartSteps.{IsAt, changing}
+use Rattle.guest_exit.specs.Steps.{Fills, MakesStep}
 use Rattle.guest_exit.specs.View.{IsPlaced, KeepsSpaces, StaysFixed, changed_by, machine_of}
 use Rattle.guest_exit.proofs.Pools.{held_after, size_of, tidy_by_blocks}
 

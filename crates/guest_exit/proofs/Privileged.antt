@@ -1,6 +1,7 @@
 -- Instructions that the mode decides on, on the lone machine and on the hart.
 use Rattle.std.specs.Prelude.{◌^◌, nat_le, Result, Err}
 use Rattle.std.proofs.Common.{cond, ◌≡◌, ℕ, ◌<◌, Some, None, Bool, true, false, refl}
+use Rattle.arch_defs.specs.declared.cached.Fence.{Fence}
 use Rattle.arch_defs.specs.declared.csr_names.CsrEnd.{CsrEnd}
 use Rattle.arch_defs.specs.declared.csr_names.CsrEnd.TheVariants.{Illegal, Virtual as VirtualInstruction}
 use Rattle.arch_defs.specs.declared.csr_names.Register.{Register}
@@ -13,13 +14,13 @@ use Rattle.arch_defs.specs.Access.{changed_by, named_to_write, read, shown, valu
 use Rattle.arch_defs.specs.CsrNames.{register_of}
 use Rattle.arch_defs.specs.Traps.{exception, is_virtual, returned}
 use Rattle.op_defs.specs.declared.ops.CsrOp.{CsrOp}
-use Rattle.op_defs.specs.declared.ops.GuestAccess.{GuestAccess}
+use Rattle.op_defs.specs.declared.ops.DataAccess.{DataAccess}
 use Rattle.op_defs.specs.declared.ops.Privileged.{Privileged}
-use Rattle.op_defs.specs.declared.ops.Privileged.TheVariants.{Csr, Sret, Wfi, SfenceVma, HfenceVvma, HfenceGvma, GuestAccess as Access}
+use Rattle.op_defs.specs.declared.ops.Privileged.TheVariants.{Csr, Sret, Wfi, SfenceVma, HfenceVvma, HfenceGvma, HlvAccess}
 use Rattle.machine_defs.specs.declared.events.Event.TheVariants.{System}
 use Rattle.machine_defs.specs.Outcomes.{Outcome, Done, passed, sets}
-use Rattle.machine_defs.specs.Privileges.{combined, csr_accessed, csr_changed, csr_shown, fenced_in, guest_accessed_in, held, in_hs, left_by_sret, privileged, refused, returned_in, waited_in}
-use Rattle.guest_exit.specs.Following.{privileged_in}
+use Rattle.machine_defs.specs.Privileges.{combined, csr_accessed, csr_changed, csr_shown, decided, held, left_by_sret, privileged, refusal, refused, virtual_if}
+use Rattle.guest_exit.specs.ExitCases.{privileged_in}
 use Rattle.world_switch.specs.Hosting.{hosted, hosted_csrs, hosted_mode}
 use Rattle.world_switch.proofs.Instructions.{always_virtual, supervisor_again}
 use Rattle.world_switch.proofs.Registers.{Nothing, Withheld, Both, Reaches, reached_alike}
@@ -76,17 +77,14 @@ passes : (root : GuestRoot) (s : Virtual) → Stands root s (Done (passed s) Non
 passes root s =
     ends_csrs root s (sets s 0 0).regs (hosted_csrs root (is_virtual s.mode) s.csrs) s.csrs (same_csrs root (is_virtual s.mode) s.csrs) (none_written root (is_virtual s.mode) s.csrs)
 
-fence_if : (root : GuestRoot) (s : Virtual) (word : ℕ) (kept : Bool)
-    → Leaves s (cond kept (refused s word VirtualInstruction) (Done (passed s) None System)) word
-    → Stands root s (cond kept (refused s word VirtualInstruction) (Done (passed s) None System))
-    (cond kept (refused (hosted root s) word VirtualInstruction) (Done (passed (hosted root s)) None System))
+fence_if : (root : GuestRoot) (s : Virtual) (word : ℕ) (kept : Bool) → Leaves s (decided s word SfenceVma (virtual_if kept)) word
+    → Stands root s (decided s word SfenceVma (virtual_if kept)) (decided (hosted root s) word SfenceVma (virtual_if kept))
 fence_if root s word true leaves = leaves
 fence_if root s word false leaves = passes root s
 
-fence_stands : (root : GuestRoot) (s : Virtual) (word : ℕ) (mode : Mode)
-    → Leaves (record s { mode = mode }) (fenced_in (record s { mode = mode }) word mode) word
-    → Stands root (record s { mode = mode }) (fenced_in (record s { mode = mode }) word mode)
-    (fenced_in (hosted root (record s { mode = mode })) word (hosted_mode mode))
+fence_stands : (root : GuestRoot) (s : Virtual) (word : ℕ) (mode : Mode) → Leaves (record s { mode = mode }) (privileged (record s { mode = mode }) word SfenceVma) word
+    → Stands root (record s { mode = mode }) (privileged (record s { mode = mode }) word SfenceVma) (privileged (hosted root (record s { mode = mode })) word SfenceVma)
+unfolding privileged refusal
 fence_stands root s word HS leaves = passes root (record s { mode = HS })
 fence_stands root s word U leaves = leaves
 fence_stands root s word VS leaves = fence_if root (record s { mode = VS }) word s.csrs.hstatus.vtvm leaves
@@ -103,45 +101,48 @@ returns root s = (
   },
 )
 
-return_if : (root : GuestRoot) (s : Virtual) (word : ℕ) (kept : Bool)
-    → Leaves (record s { mode = VS }) (cond kept (refused (record s { mode = VS }) word VirtualInstruction) (left_by_sret (record s { mode = VS }))) word
-    → Stands root (record s { mode = VS }) (cond kept (refused (record s { mode = VS }) word VirtualInstruction) (left_by_sret (record s { mode = VS })))
-    (cond kept (refused (hosted root (record s { mode = VS })) word VirtualInstruction) (left_by_sret (hosted root (record s { mode = VS }))))
+return_if : (root : GuestRoot) (s : Virtual) (word : ℕ) (kept : Bool) → Leaves (record s { mode = VS }) (decided (record s { mode = VS }) word Sret (virtual_if kept)) word
+    → Stands root (record s { mode = VS }) (decided (record s { mode = VS }) word Sret (virtual_if kept)) (decided (hosted root (record s { mode = VS })) word Sret (virtual_if kept))
 return_if root s word true leaves = leaves
 return_if root s word false leaves = returns root s
 
-return_stands : (root : GuestRoot) (s : Virtual) (word : ℕ) (mode : Mode)
-    → Leaves (record s { mode = mode }) (returned_in (record s { mode = mode }) word mode) word
-    → Stands root (record s { mode = mode }) (returned_in (record s { mode = mode }) word mode)
-    (returned_in (hosted root (record s { mode = mode })) word (hosted_mode mode))
+return_stands : (root : GuestRoot) (s : Virtual) (word : ℕ) (mode : Mode) → Leaves (record s { mode = mode }) (privileged (record s { mode = mode }) word Sret) word
+    → Stands root (record s { mode = mode }) (privileged (record s { mode = mode }) word Sret) (privileged (hosted root (record s { mode = mode })) word Sret)
+unfolding privileged refusal
 return_stands root s word HS leaves = leaves
 return_stands root s word U leaves = leaves
 return_stands root s word VS leaves = return_if root s word s.csrs.hstatus.vtsr leaves
 return_stands root s word VU leaves = leaves
 
 -- what the hart has in neither of its modes
-record IsWithheld (s : Virtual) (word : ℕ) (mode : Mode) : Type 0 where
-  wfi : waited_in s word mode ≡ refused s word VirtualInstruction
-  fence : (o : Outcome) → in_hs s word o mode ≡ refused s word VirtualInstruction
-  access : (a : GuestAccess) → guest_accessed_in s word a mode ≡ refused s word VirtualInstruction
+record IsWithheld (s : Virtual) (word : ℕ) : Type 0 where
+  wfi : privileged s word Wfi ≡ refused s word VirtualInstruction
+  vvma : privileged s word HfenceVvma ≡ refused s word VirtualInstruction
+  gvma : (fence : Fence) → privileged s word (HfenceGvma fence) ≡ refused s word VirtualInstruction
+  hlv : (wanted : DataAccess) → privileged s word (HlvAccess wanted) ≡ refused s word VirtualInstruction
 
-withheld : (root : GuestRoot) (s : Virtual) (word : ℕ) (mode : Mode) → IsWithheld (hosted root (record s { mode = mode })) word (hosted_mode mode)
-withheld root s word HS = record { wfi = refl; fence = λ o. refl; access = λ a. refl }
-withheld root s word U = record { wfi = refl; fence = λ o. refl; access = λ a. refl }
-withheld root s word VS = record { wfi = refl; fence = λ o. refl; access = λ a. refl }
-withheld root s word VU = record { wfi = refl; fence = λ o. refl; access = λ a. refl }
+withheld : (root : GuestRoot) (s : Virtual) (word : ℕ) (mode : Mode) → IsWithheld (hosted root (record s { mode = mode })) word
+unfolding privileged refusal
+withheld root s word HS = record { wfi = refl; vvma = refl; gvma = λ fence. refl; hlv = λ wanted. refl }
+withheld root s word U = record { wfi = refl; vvma = refl; gvma = λ fence. refl; hlv = λ wanted. refl }
+withheld root s word VS = record { wfi = refl; vvma = refl; gvma = λ fence. refl; hlv = λ wanted. refl }
+withheld root s word VU = record { wfi = refl; vvma = refl; gvma = λ fence. refl; hlv = λ wanted. refl }
+
+csr_decided : (root : GuestRoot) (s : Virtual) (word : ℕ) (op : CsrOp) (n operand : ℕ) (writes : Bool) (rd : ℕ) → Leaves s (privileged s word (Csr op n operand writes rd)) word
+    → Stands root s (privileged s word (Csr op n operand writes rd)) (privileged (hosted root s) word (Csr op n operand writes rd))
+unfolding privileged refusal
+csr_decided root s word op n operand writes rd leaves = csr_stands root s word op n operand writes rd leaves
 
 -- an instruction that the mode decides on, by what it is
 decided_stands : (root : GuestRoot) (s : Virtual) (word : ℕ) (p : Privileged) → Leaves s (privileged s word p) word
     → Stands root s (privileged s word p) (privileged (hosted root s) word p)
-unfolding privileged
-decided_stands root s word (Csr op n operand writes rd) leaves = csr_stands root s word op n operand writes rd leaves
+decided_stands root s word (Csr op n operand writes rd) leaves = csr_decided root s word op n operand writes rd leaves
 decided_stands root s word Sret leaves = return_stands root s word s.mode leaves
 decided_stands root s word Wfi leaves = rw (withheld root s word s.mode).wfi leaves
 decided_stands root s word SfenceVma leaves = fence_stands root s word s.mode leaves
-decided_stands root s word HfenceVvma leaves = rw ((withheld root s word s.mode).fence _) leaves
-decided_stands root s word (HfenceGvma fence) leaves = rw ((withheld root s word s.mode).fence _) leaves
-decided_stands root s word (Access access) leaves = rw ((withheld root s word s.mode).access access) leaves
+decided_stands root s word HfenceVvma leaves = rw (withheld root s word s.mode).vvma leaves
+decided_stands root s word (HfenceGvma fence) leaves = rw ((withheld root s word s.mode).gvma fence) leaves
+decided_stands root s word (HlvAccess wanted) leaves = rw ((withheld root s word s.mode).hlv wanted) leaves
 
 pub privileged_stands : (root : GuestRoot) (s : Virtual) (word : ℕ) (p : Privileged) → word < 2 ^ 32 → privileged_in word s.regs ≡ Some p
     → Stands root s (privileged s word p) (privileged (hosted root s) word p)

@@ -1,5 +1,5 @@
 -- What an instruction is on the hart, by what it is to the lone machine for which the hart stands.
-use Rattle.std.proofs.Common.{cond, ◌≡◌, ℕ, ◌^◌, ◌<◌, Option, Some, None, Bool, true, false, refl, sym}
+use Rattle.std.proofs.Common.{cond, ◌≡◌, ℕ, ◌^◌, ◌<◌, Option, Some, None, Bool, true, false, refl, ap, sym}
 use Rattle.arch_defs.specs.declared.modes.Access.TheVariants.{Implicit}
 use Rattle.arch_defs.specs.declared.modes.Trap.{Trap}
 use Rattle.arch_defs.specs.declared.modes.TheConstants.{ECALL_FROM_VS, VIRTUAL_INSTRUCTION}
@@ -14,14 +14,15 @@ use Rattle.arch_defs.specs.Traps.{exception, is_virtual}
 use Rattle.op_defs.specs.declared.ops.Privileged.{Privileged}
 use Rattle.op_defs.specs.Table.{is_system}
 use Rattle.machine_defs.specs.declared.events.Event.TheVariants.{Plain, System}
-use Rattle.machine_defs.specs.Core.{Located, At, Fails, Made, Leaves, Ends, ended, event_of, failed}
+use Rattle.machine_defs.specs.Core.{Located, At, Fails, Faults, Misses, at_place, event_of}
 use Rattle.machine_defs.specs.Outcomes.{Outcome, Done, Trapped, Stuck, Called, Waits, Fenced, Accesses}
 use Rattle.machine_defs.specs.Privileges.{privileged}
 use Rattle.rv64_hart.specs.Steps.{enters_vs}
 use Rattle.world_switch.specs.Hosting.{hosted, hosted_csrs, hosted_mode, saved, saved_csrs, taken_back}
 use Rattle.world_switch.specs.Laws.{KeepsHidden}
 use Rattle.world_switch.proofs.Undone.{same_csrs, same_mode, virtual_mode}
-use Rattle.guest_exit.specs.Following.{Keeps, access_of, event_for, privileged_in}
+use Rattle.guest_exit.specs.ExitCases.{access_of, privileged_in}
+use Rattle.guest_exit.specs.HartSteps.{Keeps, event_for}
 use Rattle.guest_exit.proofs.Delegation.{IsOwn}
 
 -- what a trap on the hart is: the lone machine's own, with V = 0 its call of the environment, with V = 1 that of its HS, or an
@@ -50,19 +51,19 @@ Stands root s lone (Waits hart) = ⊥
 Stands root s lone (Fenced hart fence) = ⊥
 Stands root s lone (Accesses access) = ⊥
 
--- where an access is made, in both
-abbrev pub SamePlace : (root : GuestRoot) → Virtual → Located → Located → Type 0
-SamePlace root s (At own) (At hart) = own ≡ hart
-SamePlace root s (Fails own) (Fails hart) = Stands root s (failed own) (failed hart)
-SamePlace root s (At own) (Fails hart) = ⊥
-SamePlace root s (Fails own) (At hart) = ⊥
+-- where an access is made, in both, by where the hart makes it
+abbrev pub SamePlace : Virtual → Located → Located → Type 0
+SamePlace s lone (At place) = lone ≡ At place
+SamePlace s lone (Fails (Faults trap)) = (own : Trap) × (lone ≡ Fails (Faults own)) × Traps s (Trapped own) trap
+SamePlace s lone (Fails (Misses unplaced)) =
+    (lone ≡ Fails (Misses (record unplaced { mode = s.mode }))) × (unplaced.mode ≡ hosted_mode s.mode) × IsTold unplaced
 
--- what an instruction leaves, in both
-abbrev pub SameMade : (root : GuestRoot) → Virtual → Made → Made → Type 0
-SameMade root s (Leaves own stored) (Leaves hart stored') = (own ≡ saved hart s) × (stored ≡ stored') × Keeps root s hart
-SameMade root s (Ends own) (Ends hart) = Stands root s own hart
-SameMade root s (Leaves own stored) (Ends hart) = ⊥
-SameMade root s (Ends own) (Leaves hart stored') = ⊥
+-- so what goes on there alike ends alike
+pub at_stands : (root : GuestRoot) (s : Virtual) (rest rest' : ℕ → Outcome) → ((place : ℕ) → Stands root s (rest place) (rest' place))
+    → (lone hart : Located) → SamePlace s lone hart → Stands root s (at_place lone rest) (at_place hart rest')
+at_stands root s rest rest' goes lone (At place) e = rw e (goes place)
+at_stands root s rest rest' goes lone (Fails (Faults trap)) (own, e, traps) = rw e traps
+at_stands root s rest rest' goes lone (Fails (Misses unplaced)) (e, mode, told) = rw e (refl, mode, told)
 
 -- what the hart does not change comes back
 pub kept : (root : GuestRoot) (s : Virtual) (regs : Regs) (hart own : Csrs) (place : Option (ℕ × ℕ)) → saved_csrs (is_virtual s.mode) hart s.csrs ≡ own
@@ -78,10 +79,18 @@ as_loaded : (root : GuestRoot) (s : Virtual) (regs : Regs) (place : Option (ℕ 
 as_loaded root s regs place = record { csrs = none_written root (is_virtual s.mode) s.csrs; mode = virtual_mode s.mode }
 
 -- an instruction that changes registers, memory and the reservation alone
-pub leaves : (root : GuestRoot) (s : Virtual) (regs : Regs) (place : Option (ℕ × ℕ)) (stored : Option Stored)
-    → SameMade root s (Leaves (record s { regs = regs; reservation = place }) stored) (Leaves (record (hosted root s) { regs = regs; reservation = place }) stored)
-leaves root s regs place stored =
-    (kept root s regs (hosted_csrs root (is_virtual s.mode) s.csrs) s.csrs place (same_csrs root (is_virtual s.mode) s.csrs), refl, as_loaded root s regs place)
+pub completes : (root : GuestRoot) (s : Virtual) (pc word : ℕ) (regs : Regs) (place : Option (ℕ × ℕ)) (stored : Option Stored)
+    → Stands root s (Done (record s { regs = regs; reservation = place }) stored (event_of pc word))
+    (Done (record (hosted root s) { regs = regs; reservation = place }) stored (event_of pc word))
+completes root s pc word regs place stored = by (is_system word)
+  where
+    back : record s { regs = regs; reservation = place } ≡ saved (record (hosted root s) { regs = regs; reservation = place }) s
+    back = kept root s regs (hosted_csrs root (is_virtual s.mode) s.csrs) s.csrs place (same_csrs root (is_virtual s.mode) s.csrs)
+
+    by : (system : Bool) → Stands root s (Done (record s { regs = regs; reservation = place }) stored (cond system System (Plain pc word)))
+        (Done (record (hosted root s) { regs = regs; reservation = place }) stored (cond system System (Plain pc word)))
+    by true = (ap (λ v. Done v stored System) back, as_loaded root s regs place)
+    by false = (ap (λ v. Done v stored (Plain pc word)) back, as_loaded root s regs place)
 
 -- an instruction that changes registers, control and status registers among them
 pub ends_csrs : (root : GuestRoot) (s : Virtual) (regs : Regs) (hart own : Csrs) → saved_csrs (is_virtual s.mode) hart s.csrs ≡ own
@@ -93,15 +102,3 @@ ends_csrs root s regs hart own same keeps =
 pub left : (s : Virtual) (word : ℕ) (p : Privileged) → word < 2 ^ 32 → privileged_in word s.regs ≡ Some p
     → Traps s (privileged s word p) (exception (hosted_mode s.mode) VIRTUAL_INSTRUCTION word)
 left s word p small e = Left word refl small p e refl
-
--- what was left, with the event of the step
-with_event : (root : GuestRoot) (s : Virtual) (pc word : ℕ) (system : Bool) (own hart : Made) → SameMade root s own hart
-    → Stands root s (ended (cond system System (Plain pc word)) own) (ended (cond system System (Plain pc word)) hart)
-with_event root s pc word true (Leaves own stored) (Leaves hart stored') (same, write, keeps) = (rw (same, write) refl, keeps)
-with_event root s pc word false (Leaves own stored) (Leaves hart stored') (same, write, keeps) = (rw (same, write) refl, keeps)
-with_event root s pc word system (Ends own) (Ends hart) stands = stands
-with_event root s pc word system (Leaves own stored) (Ends hart) never = absurd never
-with_event root s pc word system (Ends own) (Leaves hart stored') never = absurd never
-
-pub ended_stands : (root : GuestRoot) (s : Virtual) (pc word : ℕ) (own hart : Made) → SameMade root s own hart → Stands root s (ended (event_of pc word) own) (ended (event_of pc word) hart)
-ended_stands root s pc word own hart same = with_event root s pc word (is_system word) own hart same

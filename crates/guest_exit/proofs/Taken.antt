@@ -1,5 +1,6 @@
 -- A trap of the hart that stands for a guest, as what the guest's lone machine makes of it.
-use Rattle.std.proofs.Common.{◌≡◌, ℕ, ◌+◌, ◌∙◌, Bool, List, Option, Some, None, true, false, refl, ap, sym, subst, arith}
+use Rattle.std.specs.Prelude.{◌==◌}
+use Rattle.std.proofs.Common.{◌≡◌, ℕ, ◌+◌, ◌∙◌, Bool, List, Option, Some, None, true, false, refl, ap, sym, subst}
 use Rattle.arch_defs.specs.declared.levels.Level.{Level}
 use Rattle.arch_defs.specs.declared.levels.Level.TheVariants as level
 use Rattle.arch_defs.specs.declared.modes.Access.{Access}
@@ -18,16 +19,24 @@ use Rattle.arch_defs.specs.Layouts.{Layout}
 use Rattle.arch_defs.specs.Traps.{access_fault, entered_at, entered_vs, exception, is_delegated, is_virtual, target}
 use Rattle.arch_defs.proofs.FrameSets.{only_none}
 use Rattle.machine_defs.specs.declared.events.Event.TheVariants as event
-use Rattle.machine_defs.specs.HostPlaces.{in_ram, memory_place}
+use Rattle.machine_laws.specs.HostPlaces.{in_ram, memory_place}
 use Rattle.machine_defs.specs.Machine.{Machine, Tried, stepped_to, trapped}
 use Rattle.machine_defs.specs.Tries.{concluded}
-use Rattle.machine_defs.specs.Outcomes.{Outcome}
-use Rattle.machine_defs.specs.Renaming.{ReservesHeld, renamed}
+use Rattle.op_defs.specs.declared.ops.CsrOp.{CsrOp}
+use Rattle.op_defs.specs.declared.ops.Privileged.{Privileged}
+use Rattle.op_defs.specs.declared.ops.Privileged.TheVariants.{Csr, Wfi}
+use Rattle.machine_defs.specs.Outcomes.{Outcome, Trapped, Called}
+use Rattle.machine_defs.specs.Privileges.{privileged, refusal}
+use Rattle.world_switch.proofs.Instructions.{time_is_left}
+use Rattle.machine_laws.specs.Renaming.{ReservesHeld, renamed}
 use Rattle.world_switch.specs.Hosting.{all_interrupts, fixed_up, hosted, hosted_csrs, hosted_mode, loaded, saved, taken_back}
 use Rattle.world_switch.specs.Laws.{KeepsHidden}
 use Rattle.world_switch.proofs.Undone.{exceptions_alike, interrupts_alike, nested_traps_alike, virtual_mode}
-use Rattle.guest_exit.specs.Following.{FollowsTry, IsAt, IsLeft, IsMade, Keeps, hosted_level, is_guest_page_code, step_for}
+use Rattle.guest_exit.specs.declared.exit_cases.Exit.TheVariants as case
+use Rattle.guest_exit.specs.ExitCases.{IsLeft, exit_of, is_guest_page_code, other_exit}
+use Rattle.guest_exit.specs.HartSteps.{ExitsAt, FollowsTry, IsAt, IsMade, Keeps, TimeExits, WaitsExit, hosted_level, step_for}
 use Rattle.rv64_hart.specs.Steps.{HartEnd, end_by, next_attempt, trapped_to}
+use Rattle.guest_exit.proofs.ExitCases.{instruction_exit_is, left_as, other_exit_is}
 use Rattle.guest_exit.proofs.Interrupts.{IsDue}
 use Rattle.guest_exit.proofs.Delegation.{IsOwn, never_10, never_22, own_1, own_5, own_7}
 use Rattle.guest_exit.proofs.Stands.{Own, Call, Nested, Left, Traps}
@@ -155,16 +164,11 @@ given_own root csrs cause own = rw (own.small, own.own) refl
 given_alike : (root : GuestRoot) (csrs : Csrs) (cause : ℕ) → IsOwn cause → is_delegated (hosted_csrs root true csrs) false cause ≡ is_delegated csrs false cause
 given_alike root csrs cause own = rw (own.kept csrs.hedeleg) refl
 
--- a trap that the host makes, of the machine in its own mode
-raised : (m : Machine) (lacks : Option Entry) (trap : Trap) → lacks ≡ None → is_virtual m.platform.virt.mode ≡ true → (trap.cause ≡ VIRTUAL_INSTRUCTION → ⊥) → is_guest_page_code trap.cause ≡ false
-    → IsLeft m (trapped m trap) lacks trap
-raised m lacks trap ready on other fault = record {
-  word = λ h. absurd (other h);
-  decided = λ h. absurd (other h);
-  faulted = λ h. let never : true ≡ false = rw h at fault in cc;
-  other = λ h k. rw on refl;
-  ready = λ h. ready;
-}
+-- a trap that the guest does not delegate
+raised : (m : Machine) (lacks : Option Entry) (trap : Trap) → lacks ≡ None → is_virtual m.platform.virt.mode ≡ true → (trap.cause == VIRTUAL_INSTRUCTION) ≡ false → is_guest_page_code trap.cause ≡ false
+    → IsLeft m (trapped m trap) lacks (exit_of m.platform.virt trap)
+raised m lacks trap ready on other fault =
+    left_as m (trapped m trap) lacks trap (case.Own trap) (other_exit_is m.platform.virt trap fault other ∙ ap (other_exit trap) on) refl ready
 
 -- an exception that the guest takes, by its V and by whether it delegates it
 own_exception : (part : Layout) {pool : Pooled} (root : GuestRoot) (m : Machine) (memory : List ℕ) (lacks : Option Entry) (cause tval : ℕ) → is_virtual m.platform.virt.mode ≡ false → IsOwn cause → IsAt part pool m memory → lacks ≡ None
@@ -198,7 +202,7 @@ nested_exception part root m memory lacks cause tval on good at ready false give
     let trap = exception (hosted_mode v.mode) cause tval in
     let here : trap ≡ exception v.mode cause tval = ap (λ mode. exception mode cause tval) (hosted_here v.mode on) in
     rw (to_host (hosted_csrs root (is_virtual v.mode) v.csrs) (hosted_mode v.mode) trap (virtual_mode v.mode) (rw on (given_alike root v.csrs cause good ∙ given)))
-    (subst (λ t. IsLeft m (trapped m t) lacks trap) here (raised m lacks trap ready on good.other good.fault))
+    (subst (λ t. IsLeft m (trapped m t) lacks (exit_of v trap)) here (raised m lacks trap ready on good.other good.fault))
 
 exception_by : (part : Layout) {pool : Pooled} (root : GuestRoot) (m : Machine) (memory : List ℕ) (lacks : Option Entry) (cause tval : ℕ) → IsOwn cause → IsAt part pool m memory → lacks ≡ None → (virtual : Bool) → is_virtual m.platform.virt.mode ≡ virtual
     → FollowsTry part root m (trapped m (exception m.platform.virt.mode cause tval)) lacks memory (taken part root m memory (exception (hosted_mode m.platform.virt.mode) cause tval))
@@ -232,25 +236,44 @@ pub trap_follows : (part : Layout) {pool : Pooled} (root : GuestRoot) (m : Machi
 trap_follows part root m memory lacks lone trap at ready (Own cause tval is e good) = rw (is, e) (exception_follows part root m memory lacks cause tval good at ready)
 trap_follows part root m memory lacks lone trap at ready (Call own is e) =
     let v = m.platform.virt in
-    rw (is, to_host (hosted_csrs root (is_virtual v.mode) v.csrs) (hosted_mode v.mode) (exception (hosted_mode v.mode) ECALL_FROM_VS 0) (virtual_mode v.mode) (kept_10 root (is_virtual v.mode) v.csrs), e)
-    (record {
-      word = λ h. absurd (omega (arith, h));
-      decided = λ h. absurd (omega (arith, h));
-      faulted = λ h. cc;
-      other = λ h k. rw own refl;
-      ready = λ h. ready;
-    })
+    let call = exception (hosted_mode v.mode) ECALL_FROM_VS 0 in
+    rw (is, to_host (hosted_csrs root (is_virtual v.mode) v.csrs) (hosted_mode v.mode) call (virtual_mode v.mode) (kept_10 root (is_virtual v.mode) v.csrs), e)
+    (left_as m (concluded m Called) lacks call case.Call (other_exit_is v call refl refl ∙ ap (other_exit call) own) refl ready)
 trap_follows part root m memory lacks lone trap at ready (Nested on is e) =
     let v = m.platform.virt in
     rw (e, is, to_host (hosted_csrs root (is_virtual v.mode) v.csrs) (hosted_mode v.mode) (exception (hosted_mode v.mode) ECALL_FROM_VS 0) (virtual_mode v.mode) (kept_10 root (is_virtual v.mode) v.csrs))
-    (raised m lacks (exception (hosted_mode v.mode) ECALL_FROM_VS 0) ready on (λ h. absurd (omega (arith, h))) refl)
+    (raised m lacks (exception (hosted_mode v.mode) ECALL_FROM_VS 0) ready on refl refl)
 trap_follows part root m memory lacks lone trap at ready (Left tval is small p e f) =
     let v = m.platform.virt in
-    rw (is, to_host (hosted_csrs root (is_virtual v.mode) v.csrs) (hosted_mode v.mode) (exception (hosted_mode v.mode) VIRTUAL_INSTRUCTION tval) (virtual_mode v.mode) (kept_22 root (is_virtual v.mode) v.csrs))
-    (record {
-      word = λ h. small;
-      decided = λ h. rw e (ap (concluded m) f);
-      faulted = λ h. cc;
-      other = λ h k. absurd (h refl);
-      ready = λ h. ready;
-    })
+    let left = exception (hosted_mode v.mode) VIRTUAL_INSTRUCTION tval in
+    rw (is, to_host (hosted_csrs root (is_virtual v.mode) v.csrs) (hosted_mode v.mode) left (virtual_mode v.mode) (kept_22 root (is_virtual v.mode) v.csrs))
+    (left_as m (concluded m lone) lacks left (case.Instruction tval p) (instruction_exit_is v left p refl refl small e) (ap (concluded m) f) ready)
+
+-- the hart leaves a WFI and a read of time to the host
+exits_at : (part : Layout) (root : GuestRoot) (v : Virtual) (memory : List ℕ) (word : ℕ) (effect : Privileged)
+    → privileged (loaded part root v) word effect ≡ Trapped (exception (hosted_mode v.mode) VIRTUAL_INSTRUCTION word) → ExitsAt part root v memory word effect
+exits_at part root v memory word effect is =
+    rw (
+      is,
+      to_host (hosted_csrs root (is_virtual v.mode) v.csrs) (hosted_mode v.mode) (exception (hosted_mode v.mode) VIRTUAL_INSTRUCTION word) (virtual_mode v.mode)
+          (kept_22 root (is_virtual v.mode) v.csrs),
+    ) refl
+
+wait_is_left : (part : Layout) (root : GuestRoot) (v : Virtual) (word : ℕ) (mode : Mode)
+    → privileged (loaded part root (record v { mode = mode })) word Wfi ≡ Trapped (exception (hosted_mode mode) VIRTUAL_INSTRUCTION word)
+unfolding privileged refusal
+wait_is_left part root v word HS = refl
+wait_is_left part root v word U = refl
+wait_is_left part root v word VS = refl
+wait_is_left part root v word VU = refl
+
+pub waits_exit : WaitsExit
+waits_exit = λ part root v memory word. exits_at part root v memory word Wfi (wait_is_left part root v word v.mode)
+
+time_is_left_to_host : (part : Layout) (root : GuestRoot) (v : Virtual) (word : ℕ) (op : CsrOp) (operand rd : ℕ)
+    → privileged (loaded part root v) word (Csr op 0xC01 operand false rd) ≡ Trapped (exception (hosted_mode v.mode) VIRTUAL_INSTRUCTION word)
+unfolding privileged refusal
+time_is_left_to_host part root v word op operand rd = rw (time_is_left root v.csrs v.mode) refl
+
+pub time_exits : TimeExits
+time_exits = λ part root v memory word op operand rd. exits_at part root v memory word (Csr op 0xC01 operand false rd) (time_is_left_to_host part root v word op operand rd)

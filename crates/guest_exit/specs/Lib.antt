@@ -1,4 +1,7 @@
-pub mod Entering
-pub mod Following
+pub mod ExitCases
+pub mod HartEntry
+pub mod HartExit
+pub mod HartSteps
 pub mod Starting
+pub mod Steps
 pub mod View

@@ -7,7 +7,7 @@ use Rattle.machine_defs.specs.Machine.{Machine, Platform}
 use Rattle.shadow_pool.specs.Slots.{room_of, spaces_of}
 use Rattle.world_switch.specs.Hosting.{loaded}
 use Rattle.guest_exit.specs.declared.guests.Guest.{Guest}
-use Rattle.guest_exit.specs.Following.{IsAt, changing, root_for}
+use Rattle.guest_exit.specs.HartSteps.{IsAt, changing, root_for}
 
 -- the lone machine's platform
 abbrev pub seen : Guest → Platform

@@ -3,14 +3,17 @@
 ghost use Rattle.std.specs.Prelude.{◌≡◌, ◌+◌, ◌^◌, ◌<◌, ◌≤◌};
 ghost use Rattle.std.specs.Option.{ForSome};
 ghost use Rattle.arch_defs.specs.Clocks.{next_event};
+ghost use Rattle.arch_defs.specs.Traps.{is_virtual};
+ghost use Rattle.arch_defs.specs.WalkedEntries.{folds};
 ghost use Rattle.machine_defs.specs.Machine.{informed, made_by, ticked};
-ghost use Rattle.guest_exit.specs.Entering.{GivesSteps};
+ghost use Rattle.guest_exit.specs.HartEntry.{GivesSteps};
 ghost use Rattle.guest_exit.specs.View.{KeepsSpaces, seen};
 
 use arch_defs::{Part, Virtual};
 use console_dev::Console;
 use machine_defs::Status;
 use shadow_pool::Pool;
+use trap_delegation::is_virtual;
 use virtual_timer::Clock;
 use world_switch::take_back;
 
@@ -36,7 +39,7 @@ impl Guest {
             × (self.new.clock ≡ self.old.clock) }
         ensures fixed { KeepsSpaces self.old self.new }
     {
-        let time = self.clock.time();
+        let time = self.clock.now();
         self.virt.csrs.sip.timer = self.clock.due();
         self.virt.csrs.sip.external = self.console.has_input(time);
         self.virt.csrs.time = time;
@@ -87,4 +90,11 @@ impl Guest {
         self.steps += taken;
         self.inform();
     }
+}
+
+/// Whether a state's accesses go by cached translations: with V = 1, while hgatp names a table.
+pub(crate) fn folds(virt: &Virtual) -> bool
+    ensures { result ≡ folds virt.now }
+{
+    is_virtual(virt.mode) && virt.csrs.hgatp.is_table()
 }

@@ -1,13 +1,15 @@
 // Between the host and the hart: steps of a guest on the hart, and what the hart leaves to the host.
 #![tactic(auto)]
 
-mod emulating;
-mod entering;
+mod entry_limit;
+mod exit_cases;
 mod guests;
-mod handling;
-mod interrupting;
-mod limits;
-mod missing;
+mod hart_entry;
+mod hart_exit;
+mod host_interrupts;
+mod laws;
+mod miss;
+mod system;
 #[cfg(test)]
 mod tests;
 #[cfg(test)]
@@ -18,13 +20,14 @@ mod tests_clock;
 mod tests_folded;
 #[cfg(test)]
 mod tests_nested;
-mod trapping;
-mod waiting;
+mod traps;
+mod wfi;
 
 pub use console_dev::Console;
-pub use entering::enter;
+pub use entry_limit::limit;
 pub use guests::Guest;
-pub use handling::{Handled, handle};
-pub use interrupting::interrupt;
-pub use limits::limit;
+pub use hart_entry::enter;
+pub use hart_exit::{Handled, handle};
+pub use host_interrupts::interrupt;
+pub use laws::hart_steps_follow;
 pub use shadow_pool::Pool;

@@ -7,7 +7,7 @@ ghost use Rattle.machine_defs.specs.Machine.{informed};
 ghost use Rattle.guest_exit.specs.View.{IsPlaced, seen};
 ghost use Rattle.guest_exit.specs.Starting.{IsNewPool};
 
-use crate::entering::folds;
+use crate::guests::folds;
 use crate::{Console, Guest, Handled, Pool, enter, handle, interrupt, limit};
 use arch_defs::{BLOCK_SIZE, Mode, Part, Reg, Virtual};
 use host_tables::build;
@@ -179,7 +179,7 @@ fn the_hart_makes_a_plain_step(rt: HostRuntime) -> Result<(), Fail> {
     assert_eq!(rt; guest.virt.regs.pc, 0x8000_0004);
     assert_eq!(rt; guest.virt.mode, Mode::U);
     assert_eq!(rt;
-        (guest.clock.time(), guest.steps, guest.virt.csrs.time),
+        (guest.clock.now(), guest.steps, guest.virt.csrs.time),
         (1, 1, 1)
     );
     Ok(())
@@ -242,7 +242,7 @@ fn the_host_refuses_in_user_mode(rt: HostRuntime) -> Result<(), Fail> {
             (guest.virt.regs.pc, guest.virt.mode),
             (0x8000_0100, Mode::HS)
         );
-        assert_eq!(rt; (guest.clock.time(), guest.steps), (1, 1));
+        assert_eq!(rt; (guest.clock.now(), guest.steps), (1, 1));
     }
     Ok(())
 }
@@ -269,7 +269,7 @@ fn accesses_outside_ram(rt: HostRuntime) -> Result<(), Fail> {
         let csrs = guest.virt.csrs;
         assert_eq!(rt; (csrs.hs.cause, csrs.hs.tval), (cause, tval));
         assert_eq!(rt; (csrs.htval, csrs.hstatus.gva), (0, false));
-        assert_eq!(rt; (guest.clock.time(), guest.steps), (1, 1));
+        assert_eq!(rt; (guest.clock.now(), guest.steps), (1, 1));
     }
     let mut guest = guest(rt.alloc(), Mode::HS)?;
     guest.virt.regs.pc = 0x7FFF_FFFC;
@@ -294,7 +294,7 @@ fn the_host_makes_sret(rt: HostRuntime) -> Result<(), Fail> {
     );
     let status = guest.virt.csrs.hs.status;
     assert_eq!(rt; (status.sie, status.spie, status.spp), (true, true, false));
-    assert_eq!(rt; (guest.clock.time(), guest.steps), (1, 1));
+    assert_eq!(rt; (guest.clock.now(), guest.steps), (1, 1));
     Ok(())
 }
 
@@ -310,7 +310,7 @@ fn interrupts(rt: HostRuntime) -> Result<(), Fail> {
     assert_eq!(rt; one(rt.alloc(), &mut guest, 0)?, By::HostByInterrupt);
     assert_eq!(rt; guest.virt.csrs.hs.cause, 0x8000_0000_0000_0002);
     assert_eq!(rt; guest.virt.regs.pc, 0x8000_0108);
-    assert_eq!(rt; (guest.clock.time(), guest.steps), (1, 1));
+    assert_eq!(rt; (guest.clock.now(), guest.steps), (1, 1));
     let mut guest = guest_with_software_interrupt(rt.alloc())?;
     assert_eq!(rt; one(rt.alloc(), &mut guest, 0)?, By::HartByTrap);
     assert_eq!(rt; guest.virt.csrs.hs.cause, 0x8000_0000_0000_0001);
@@ -381,7 +381,7 @@ fn an_entry_of_many_steps(rt: HostRuntime) -> Result<(), Fail> {
     assert_eq!(rt; guest.virt.regs.read(Reg::new(5)), 8);
     assert_eq!(rt; guest.virt.regs.pc, 0x8000_0008);
     assert_eq!(rt;
-        (guest.clock.time(), guest.steps, guest.virt.csrs.time),
+        (guest.clock.now(), guest.steps, guest.virt.csrs.time),
         (10, 10, 10)
     );
     assert_eq!(rt; (tally.entries(), tally.taken()), (1, 10));
@@ -415,7 +415,7 @@ fn entries_end_before_what_the_clock_changes(rt: HostRuntime) -> Result<(), Fail
         );
         assert_eq!(rt; guest.virt.csrs.sip.timer, timer <= taken);
         assert_eq!(rt; guest.virt.csrs.sip.external, moment <= taken);
-        assert_eq!(rt; (guest.clock.time(), guest.steps), (taken, taken));
+        assert_eq!(rt; (guest.clock.now(), guest.steps), (taken, taken));
     }
     Ok(())
 }

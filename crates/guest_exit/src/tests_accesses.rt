@@ -7,7 +7,7 @@ ghost use Rattle.guest_exit.specs.Starting.{IsNewPool};
 
 use crate::tests::{By, FRAMES, guest, one_in, one_on, placed};
 use crate::{Guest, Handled};
-use arch_defs::{GuestRoot, Mode, Reg, SupervisorRoot};
+use arch_defs::{GuestMode, GuestRoot, Mode, Reg, SupervisorMode, SupervisorRoot};
 use phys_mem::RAM_BASE;
 use std::alloc::{AllocError, Global};
 use std::test::Fail;
@@ -57,9 +57,10 @@ fn image(alloc: Global, word: u32) -> Result<Vec<u8>, AllocError> {
     Ok(bytes)
 }
 
-const TABLE: SupervisorRoot = SupervisorRoot::Sv39 {
+const TABLE: SupervisorRoot = SupervisorRoot::Table {
+    mode: SupervisorMode::Sv39,
     asid: 0,
-    page: 0x8_0001,
+    ppn: 0x8_0001,
 };
 
 // Without tables an HLV reads what a load would: 80001010 has 2000_0049, whose byte 73 is 0x49.
@@ -73,7 +74,7 @@ fn loads_in_hs_and_u(rt: HostRuntime) -> Result<(), Fail> {
             assert_eq!(rt; by, STEPPED, "{word:#x}");
             assert_eq!(rt; guest.virt.regs.read(Reg::new(10)), value);
             assert_eq!(rt; (guest.virt.mode, guest.virt.regs.pc), (mode, 0x8000_0004));
-            assert_eq!(rt; (guest.clock.time(), guest.steps), (1, 1));
+            assert_eq!(rt; (guest.clock.now(), guest.steps), (1, 1));
         }
     }
     Ok(())
@@ -165,9 +166,10 @@ fn a_page_to_be_executed_alone(rt: HostRuntime) -> Result<(), Fail> {
 // hgatp that has no entry a guest-page fault, whose address is in htval, shifted (8.2.9, 8.6.2, 8.6.3).
 #[test]
 fn traps_with_gva(rt: HostRuntime) -> Result<(), Fail> {
-    let root = GuestRoot::Sv39x4 {
+    let root = GuestRoot::Table {
+        mode: GuestMode::Sv39x4,
         vmid: 1,
-        page: 0x8_0004,
+        ppn: 0x8_0004,
     };
     for (word, address, hgatp, cause, htval) in [
         (HLV_W, 0x8000_1012, root, 4, 0),
@@ -193,7 +195,7 @@ fn traps_with_gva(rt: HostRuntime) -> Result<(), Fail> {
             assert_eq!(rt; (csrs.htval, csrs.htinst), (htval, 0));
             assert_eq!(rt; (csrs.hstatus.spv, csrs.hstatus.gva), (false, true));
             assert_eq!(rt; (guest.virt.mode, guest.virt.regs.pc), (Mode::HS, HANDLER));
-            assert_eq!(rt; (guest.clock.time(), guest.steps), (1, 1));
+            assert_eq!(rt; (guest.clock.now(), guest.steps), (1, 1));
         }
     }
     Ok(())

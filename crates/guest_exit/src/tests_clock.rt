@@ -72,7 +72,7 @@ fn calls(rt: HostRuntime) -> Result<(), Fail> {
         assert_eq!(rt; one(rt.alloc(), &mut guest, ECALL)?, By::Host(by));
         assert_eq!(rt; answers(&guest), (a0, a1), "call {number}");
         assert_eq!(rt; guest.virt.regs.pc, 0x8000_0004);
-        assert_eq!(rt; (guest.clock.time(), guest.steps), (1, 1));
+        assert_eq!(rt; (guest.clock.now(), guest.steps), (1, 1));
         assert_eq!(rt; guest.console.bytes() == b"A".as_slice(), number == 1);
         assert_eq!(rt; guest.clock.next_event() == Some(65), number == 0);
         assert_eq!(rt; guest.status == Status::Stopped, number == 8);
@@ -121,7 +121,7 @@ fn timer_in_the_past_at_the_next_step_and_later(rt: HostRuntime) -> Result<(), F
         guest.clock.set(timer);
         assert_eq!(rt; one(rt.alloc(), &mut guest, ADDI)?, By::Hart);
         assert_eq!(rt; guest.virt.csrs.sip.timer, due, "timer {timer}");
-        assert_eq!(rt; guest.clock.time(), 6);
+        assert_eq!(rt; guest.clock.now(), 6);
     }
     Ok(())
 }
@@ -162,7 +162,7 @@ fn interrupts_of_the_clock(rt: HostRuntime) -> Result<(), Fail> {
         assert_eq!(rt; one(rt.alloc(), &mut guest, ADDI)?, by, "clock {time}");
         let taken = if cause == 0 { 0 } else { INTERRUPT | cause };
         assert_eq!(rt; guest.virt.csrs.hs.cause, taken);
-        assert_eq!(rt; (guest.clock.time(), guest.steps), (time + 1, 1));
+        assert_eq!(rt; (guest.clock.now(), guest.steps), (time + 1, 1));
     }
     Ok(())
 }
@@ -192,7 +192,7 @@ fn wfi_with_a_pending_enabled_interrupt(rt: HostRuntime) -> Result<(), Fail> {
         guest.virt.csrs.hvip.external = which == 2;
         guest.virt.csrs.hie.external = which == 2;
         assert_eq!(rt; one(rt.alloc(), &mut guest, WFI)?, STEPPED);
-        assert_eq!(rt; (guest.clock.time(), guest.steps), (6, 1), "{which}");
+        assert_eq!(rt; (guest.clock.now(), guest.steps), (6, 1), "{which}");
         assert_eq!(rt;
             (guest.virt.regs.pc, guest.virt.mode),
             (0x8000_0004, Mode::HS)
@@ -221,7 +221,7 @@ fn wfi_wakes(rt: HostRuntime) -> Result<(), Fail> {
             guest.virt.csrs.sie.external = by_input;
             assert_eq!(rt; one(rt.alloc(), &mut guest, WFI)?, STEPPED);
             assert_eq!(rt;
-                (guest.clock.time(), guest.steps),
+                (guest.clock.now(), guest.steps),
                 (wakes, 1),
                 "timer {timer}"
             );
@@ -248,7 +248,7 @@ fn wfi_waits_for_good(rt: HostRuntime) -> Result<(), Fail> {
             assert_eq!(rt; by, By::Host(Handled::Waits), "timer {timer}");
             assert_eq!(rt; guest.virt, before);
             assert_eq!(rt;
-                (guest.clock.time(), guest.steps, guest.status),
+                (guest.clock.now(), guest.steps, guest.status),
                 (5, 0, Status::Waiting)
             );
         }
@@ -265,7 +265,7 @@ fn wfi_is_refused(rt: HostRuntime) -> Result<(), Fail> {
         assert_eq!(rt; one(rt.alloc(), &mut guest, WFI)?, STEPPED);
         let hs = guest.virt.csrs.hs;
         assert_eq!(rt; (hs.cause, hs.tval), (cause, WFI as u64));
-        assert_eq!(rt; (guest.clock.time(), guest.steps), (6, 1));
+        assert_eq!(rt; (guest.clock.now(), guest.steps), (6, 1));
     }
     Ok(())
 }

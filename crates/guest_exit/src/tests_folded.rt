@@ -9,7 +9,7 @@ ghost use Rattle.guest_exit.specs.Starting.{IsNewPool};
 
 use crate::tests::{By, FRAMES, guest, one_in, placed};
 use crate::{Guest, Handled};
-use arch_defs::{GuestRoot, Mode, Reg, Regs, SupervisorRoot};
+use arch_defs::{GuestMode, GuestRoot, Mode, Reg, Regs, SupervisorMode, SupervisorRoot};
 use machine_defs::Status;
 use phys_mem::RAM_BASE;
 use std::alloc::{AllocError, Global};
@@ -23,9 +23,10 @@ const HANDLER: u64 = 0x8000_0100;
 
 // hgatp's root is the four pages from 80004000 on, with a table of level 1 at 80008000 and one of level 0 at
 // 80009000.
-const TABLE: GuestRoot = GuestRoot::Sv39x4 {
+const TABLE: GuestRoot = GuestRoot::Table {
+    mode: GuestMode::Sv39x4,
     vmid: 1,
-    page: 0x8_0004,
+    ppn: 0x8_0004,
 };
 
 // Pages 0 to 3 of the nested guest: its code at 80001000 (V, R, X, U, A); 8000A000, to be read and written
@@ -136,7 +137,7 @@ fn misses_are_no_steps(rt: HostRuntime) -> Result<(), Fail> {
     );
     assert_eq!(rt; (guest.virt.mode, guest.virt.regs.pc), (Mode::VS, 4));
     assert_eq!(rt; guest.virt.regs.read(Reg::new(10)), 0x41);
-    assert_eq!(rt; (guest.clock.time(), guest.steps), (2, 2));
+    assert_eq!(rt; (guest.clock.now(), guest.steps), (2, 2));
     Ok(())
 }
 
@@ -250,7 +251,11 @@ fn implicit_reads(rt: HostRuntime) -> Result<(), Fail> {
         (3, 0, 1, 0, 0),
     ] {
         let mut guest = hypervisor(rt.alloc(), 8, 0)?;
-        guest.virt.csrs.vs.atp = SupervisorRoot::Sv39 { asid: 0, page };
+        guest.virt.csrs.vs.atp = SupervisorRoot::Table {
+            mode: SupervisorMode::Sv39,
+            asid: 0,
+            ppn: page,
+        };
         let image = image(rt.alloc(), 0x13, DATA)?;
         let made = tries(rt.alloc(), &mut guest, image.as_slice(), 2 + misses)?;
         let wanted = if misses == 1 { RETRY } else { STEPPED };

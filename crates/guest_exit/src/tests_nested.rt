@@ -7,7 +7,7 @@ ghost use Rattle.guest_exit.specs.Starting.{IsNewPool};
 
 use crate::tests::{By, guest, one, one_on};
 use crate::{Guest, Handled};
-use arch_defs::{GuestRoot, Interrupts, Mode, Reg, SupervisorRoot};
+use arch_defs::{GuestMode, GuestRoot, Interrupts, Mode, Reg, SupervisorMode, SupervisorRoot};
 use machine_defs::Status;
 use phys_mem::RAM_BASE;
 use std::alloc::{AllocError, Global};
@@ -150,7 +150,7 @@ fn exceptions(rt: HostRuntime) -> Result<(), Fail> {
                 assert_eq!(rt; guest.virt.csrs.hs.status.spp, mode == Mode::VS);
             }
             assert_eq!(rt;
-                (guest.clock.time(), guest.steps, guest.virt.csrs.htimedelta),
+                (guest.clock.now(), guest.steps, guest.virt.csrs.htimedelta),
                 (1, 1, 1234)
             );
         }
@@ -242,7 +242,7 @@ fn time_in_vs(rt: HostRuntime) -> Result<(), Fail> {
         assert_eq!(rt; one(rt.alloc(), &mut guest, 0xC010_2573)?, STEPPED);
         assert_eq!(rt; guest.virt.regs.read(Reg::new(10)), 1239);
         assert_eq!(rt; (guest.virt.mode, guest.virt.regs.pc), (mode, 0x8000_0004));
-        assert_eq!(rt; (guest.clock.time(), guest.virt.csrs.time), (6, 6));
+        assert_eq!(rt; (guest.clock.now(), guest.virt.csrs.time), (6, 6));
     }
     Ok(())
 }
@@ -279,9 +279,10 @@ fn returns(rt: HostRuntime) -> Result<(), Fail> {
     }
     let mut guest = nested(rt.alloc(), Mode::HS, 0)?;
     guest.virt.csrs.hstatus.spv = true;
-    guest.virt.csrs.hgatp = GuestRoot::Sv39x4 {
+    guest.virt.csrs.hgatp = GuestRoot::Table {
+        mode: GuestMode::Sv39x4,
         vmid: 1,
-        page: 0x8_0004,
+        ppn: 0x8_0004,
     };
     let by = one(rt.alloc(), &mut guest, 0x1020_0073)?;
     assert_eq!(rt; by, By::Host(Handled::Stepped));
@@ -384,9 +385,10 @@ fn image(alloc: Global, word: u32) -> Result<Vec<u8>, AllocError> {
 // with V = 0 (8.5). A load from a page of U needs the SUM of the level whose table it is (8.2.11).
 #[test]
 fn rights_of_loads(rt: HostRuntime) -> Result<(), Fail> {
-    let table = SupervisorRoot::Sv39 {
+    let table = SupervisorRoot::Table {
+        mode: SupervisorMode::Sv39,
         asid: 0,
-        page: 0x8_0001,
+        ppn: 0x8_0001,
     };
     let from_x = image(rt.alloc(), 0x0002_B503)?; // ld x10, 0(x5)
     let from_u = image(rt.alloc(), 0x0000_3503)?; // ld x10, 0(x0)

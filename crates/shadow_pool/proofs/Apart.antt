@@ -2,7 +2,7 @@
 use Rattle.std.proofs.Common.{ℕ, ◌+◌, ◌*◌, ◌≤◌, arith}
 use Rattle.std.proofs.lemmas.Nat.{mul-le}
 use Rattle.arch_defs.specs.Frames.{Apart, Frames, Within, in_blocks, within}
-use Rattle.arch_defs.specs.Layouts.{Layout, NamesEachOnce, host_frames, in_tables, root_frames, table_frames}
+use Rattle.arch_defs.specs.Layouts.{Layout, NamesEachOnce, host_frames, in_tables, root_frames, table_frames, tables_for}
 use Rattle.arch_defs.proofs.FrameSets.{apart_sym, apart_within, joined_within, left_within, range_within, ranges_apart, right_within, within_apart}
 use Rattle.arch_defs.proofs.Naming.{apart_joined}
 use Rattle.shadow_pool.specs.Laws.{HostFramesAreApart, PoolLiesWithin, RamIsApart}
@@ -13,15 +13,15 @@ module _ (part : Layout) (count : ℕ) (own : count ≤ part.spaces) where
   roots = within (part.first_root + 4) (4 * count)
 
   abbrev tables : Frames
-  tables = within (part.first_table + 1) (count * (2 * part.entries))
+  tables = within (part.first_table + 1) (count * tables_for part.entries)
 
   roots_within : Within roots (root_frames part)
   roots_within = range_within (part.first_root + 4) (4 * count) part.first_root (4 * (1 + part.spaces)) (omega arith) (omega (arith, own))
 
   tables_within : Within tables (table_frames part)
   tables_within =
-      range_within (part.first_table + 1) (count * (2 * part.entries)) part.first_table (1 + part.spaces * (2 * part.entries)) (omega arith)
-      (omega (arith, mul-le count (2 * part.entries) part.spaces (2 * part.entries) own (omega arith)))
+      range_within (part.first_table + 1) (count * tables_for part.entries) part.first_table (1 + part.spaces * tables_for part.entries) (omega arith)
+      (omega (arith, mul-le count (tables_for part.entries) part.spaces (tables_for part.entries) own (omega arith)))
 
   in_part_tables : Within (frames_for part count) (in_tables part)
   in_part_tables =
@@ -38,13 +38,13 @@ module _ (part : Layout) (count : ℕ) (own : count ≤ part.spaces) where
       (apart_sym (within part.first_table 1) (frames_for part count)
       (apart_joined (within part.first_table 1) roots tables
       (apart_sym roots (within part.first_table 1) (within_apart roots (root_frames part) (within part.first_table 1) roots_within (apart_within (root_frames part) (within part.first_table 1) (table_frames part) host_table once.roots)))
-      (ranges_apart part.first_table 1 (part.first_table + 1) (count * (2 * part.entries)) (omega arith)))))
+      (ranges_apart part.first_table 1 (part.first_table + 1) (count * tables_for part.entries) (omega arith)))))
     where
       host_root : Within (within part.first_root 4) (root_frames part)
       host_root = range_within part.first_root 4 part.first_root (4 * (1 + part.spaces)) (omega arith) (omega arith)
 
       host_table : Within (within part.first_table 1) (table_frames part)
-      host_table = range_within part.first_table 1 part.first_table (1 + part.spaces * (2 * part.entries)) (omega arith) (omega arith)
+      host_table = range_within part.first_table 1 part.first_table (1 + part.spaces * tables_for part.entries) (omega arith) (omega arith)
 
 pub pool_within : (part : Layout) → PoolLiesWithin part
 pool_within part count own f is = right_within (in_blocks part.blocks) (in_tables part) f (in_part_tables part count own f is)

@@ -8,7 +8,8 @@ use Rattle.arch_defs.specs.CachedEntries.{cut_by}
 use Rattle.shadow_space.specs.Shadows.{Shadow}
 use Rattle.shadow_pool.specs.declared.slots.Slot.{Slot}
 use Rattle.shadow_pool.specs.Slots.{fenced_slot, left_for}
-use Rattle.arch_defs.specs.Spaces.{left_by, names, names_page, names_vmid, vmid_of}
+use Rattle.arch_defs.specs.Roots.{vmid_of}
+use Rattle.arch_defs.specs.Spaces.{left_by, names, names_page, names_vmid}
 
 -- a filter by what is the same for all entries
 none_named : (page : Option ℕ) (es : List Entry) → filter (λ e. not (false && names_page page e)) es ≡ es

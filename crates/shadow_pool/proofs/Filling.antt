@@ -6,7 +6,8 @@ use Rattle.std.proofs.lemmas.List.Elements.{All-head, All-tail}
 use Rattle.arch_defs.specs.declared.cached.Entry.{Entry}
 use Rattle.arch_defs.specs.declared.cached.Fence.{Fence}
 use Rattle.arch_defs.specs.declared.registers.GuestRoot.{GuestRoot}
-use Rattle.arch_defs.specs.Spaces.{Space, fenced, fenced_space, filled_if, filled_in, is_for, is_held, left_by, vmid_of}
+use Rattle.arch_defs.specs.Roots.{vmid_of}
+use Rattle.arch_defs.specs.Spaces.{Space, fenced, fenced_space, filled_if, filled_in, is_for, is_held, left_by}
 use Rattle.arch_defs.specs.CachedEntries.{filled}
 use Rattle.shadow_pool.specs.declared.slots.Slot.{Slot}
 use Rattle.shadow_pool.specs.Slots.{ComesBefore, fenced_slot, has_key, key_is, left_for, space_if, spaces_in}

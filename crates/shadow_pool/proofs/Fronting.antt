@@ -9,7 +9,7 @@ use Rattle.arch_defs.specs.declared.registers.GuestRoot.{GuestRoot}
 use Rattle.arch_defs.specs.Layouts.{Layout}
 use Rattle.shadow_pool.specs.declared.slots.Slot.{Slot}
 use Rattle.shadow_pool.specs.Slots.{ArePooled, AreSlots, ComesBefore, IsSlot, has_key, key_is, most_of, part_of}
-use Rattle.machine_defs.proofs.FrontSpaces.{root_same}
+use Rattle.machine_laws.proofs.FrontSpaces.{root_same}
 use Rattle.shadow_pool.proofs.Keys.{not_none, turns}
 use Rattle.shadow_pool.proofs.Ordering.{all_moved, pairs_moved, pairs_take}
 use Rattle.shadow_pool.proofs.Tidying.{IsLike}

@@ -5,7 +5,7 @@ use Rattle.std.proofs.lemmas.Bool.{both_ways, cases_Bool}
 use Rattle.arch_defs.specs.declared.registers.GuestRoot.{GuestRoot}
 use Rattle.shadow_pool.specs.declared.slots.Slot.{Slot}
 use Rattle.shadow_pool.specs.Slots.{ComesBefore, has_key, key_is}
-use Rattle.machine_defs.proofs.FrontSpaces.{root_is, root_same}
+use Rattle.machine_laws.proofs.FrontSpaces.{root_is, root_same}
 
 -- a table with a value of hgatp
 pub key_of : (key : GuestRoot) (slot : Slot) → has_key key slot ≡ true → slot.key ≡ Some key

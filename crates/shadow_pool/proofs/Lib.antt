@@ -7,6 +7,5 @@ pub mod Front
 pub mod Fronting
 pub mod Keys
 pub mod Making
-pub mod Naming
 pub mod Ordering
 pub mod Tidying

@@ -5,7 +5,7 @@ use Rattle.std.proofs.lemmas.Bool.{cases_lt, cases_eq}
 use Rattle.std.proofs.lemmas.List.{get_or_default, get_or-set_same, get_or-set_other}
 use Rattle.std.proofs.lemmas.List.Elements.{All-set}
 use Rattle.arch_defs.specs.Frames.{Apart, Only, Within, within}
-use Rattle.arch_defs.specs.Layouts.{Layout, space_frames}
+use Rattle.arch_defs.specs.Layouts.{Layout, space_frames, tables_for}
 use Rattle.arch_defs.proofs.FrameSets.{joined_within, kept, left_within, only_more, range_within, right_within}
 use Rattle.shadow_space.specs.Shadows.{Shadow, Tidy, own_frames}
 use Rattle.shadow_space.proofs.Partings.{spaces_apart}
@@ -18,12 +18,12 @@ use Rattle.shadow_pool.proofs.Ordering.{pairs_set}
 -- a space's frames are among those of so many spaces
 pub space_within : (part : Layout) (i count : ℕ) → i < count → Within (space_frames part i) (frames_for part count)
 space_within part i count own =
-    joined_within (within (part.first_root + 4 * (1 + i)) 4) (within (part.first_table + 1 + i * (2 * part.entries)) (2 * part.entries)) (frames_for part count)
-    (λ f is. left_within (within (part.first_root + 4) (4 * count)) (within (part.first_table + 1) (count * (2 * part.entries))) f
+    joined_within (within (part.first_root + 4 * (1 + i)) 4) (within (part.first_table + 1 + i * tables_for part.entries) (tables_for part.entries)) (frames_for part count)
+    (λ f is. left_within (within (part.first_root + 4) (4 * count)) (within (part.first_table + 1) (count * tables_for part.entries)) f
     (range_within (part.first_root + 4 * (1 + i)) 4 (part.first_root + 4) (4 * count) (omega arith) (omega (arith, own)) f is))
-    (λ f is. right_within (within (part.first_root + 4) (4 * count)) (within (part.first_table + 1) (count * (2 * part.entries))) f
-    (range_within (part.first_table + 1 + i * (2 * part.entries)) (2 * part.entries) (part.first_table + 1) (count * (2 * part.entries)) (omega arith)
-    (omega (arith, tables_end i count (2 * part.entries) own)) f is))
+    (λ f is. right_within (within (part.first_root + 4) (4 * count)) (within (part.first_table + 1) (count * tables_for part.entries)) f
+    (range_within (part.first_table + 1 + i * tables_for part.entries) (tables_for part.entries) (part.first_table + 1) (count * tables_for part.entries) (omega arith)
+    (omega (arith, tables_end i count (tables_for part.entries) own)) f is))
 
 -- a table is like another but for its entries and its value of hgatp
 pub record IsLike (a b : Shadow) : Type 0 where

@@ -3,21 +3,17 @@ use Rattle.std.specs.Prelude.{ℕ, ◌≡◌, ◌≢◌, ◌+◌, ◌-◌, ◌*�
 use Rattle.arch_defs.specs.declared.cached.Entry.{Entry}
 use Rattle.arch_defs.specs.declared.guest_walks.GuestWalkEnd.TheVariants.{GuestPageFault}
 use Rattle.arch_defs.specs.declared.modes.Access.{Access}
+use Rattle.arch_defs.specs.declared.registers.GuestMode.TheVariants as mode
 use Rattle.arch_defs.specs.declared.registers.GuestRoot.{GuestRoot}
 use Rattle.arch_defs.specs.declared.registers.GuestRoot.TheVariants as root
-use Rattle.arch_defs.specs.declared.registers.Regs.{Regs}
+use Rattle.arch_defs.specs.declared.walks.Shape.TheVariants.{Sv39x4}
 use Rattle.arch_defs.specs.Frames.{Apart, LieIn, Same, Within, in_blocks}
 use Rattle.arch_defs.specs.Layouts.{Layout, host_frames, named_by}
 use Rattle.arch_defs.specs.Memory.{ram_base, block_size}
 use Rattle.arch_defs.specs.Ram.{host_place}
-use Rattle.arch_defs.specs.Registers.{read}
 use Rattle.arch_defs.specs.SecondStage.{guest_walk, second_under}
 use Rattle.arch_defs.specs.Spaces.{Space, entered, filled_in, is_held}
-use Rattle.machine_defs.specs.FrontSpaces.{FrontIs}
-use Rattle.op_defs.specs.declared.ops.Effect.TheVariants.{Privileged}
-use Rattle.op_defs.specs.declared.ops.Op.TheVariants as op
-use Rattle.op_defs.specs.declared.ops.Privileged.TheVariants as privileged
-use Rattle.op_defs.specs.Meaning.{fence_named, meaning}
+use Rattle.machine_laws.specs.FrontSpaces.{FrontIs}
 use Rattle.arch_defs.specs.CachedEntries.{filled, second_by}
 use Rattle.shadow_pool.specs.Slots.{Pooled, TidyPool, frames_for, front_root, pool_frames, room_of, spaces_of}
 
@@ -33,7 +29,7 @@ FrontGivesEntries = (pool : Pooled) (memory : List ℕ) (front : Space) (others 
     (vmid address : ℕ) (access : Access)
     → TidyPool pool memory → LieIn (in_blocks pool.part.blocks) (length memory)
     → spaces_of pool ≡ front ∷ others
-    → second_under 0 memory mxr (root.Sv39x4 vmid (front_root pool.slots)) address access
+    → second_under 0 memory mxr (root.Table mode.Sv39x4 vmid (front_root pool.slots)) address access
     ≡ option_map (λ place. host_place pool.part.blocks (place - ram_base))
     (second_by front.entries mxr address access)
 
@@ -44,7 +40,7 @@ FrontLacksAreGuestPageFaults = (pool : Pooled) (memory : List ℕ) (front : Spac
     → TidyPool pool memory → LieIn (in_blocks pool.part.blocks) (length memory)
     → spaces_of pool ≡ front ∷ others
     → second_by front.entries mxr address access ≡ None
-    → guest_walk 0 memory mxr (front_root pool.slots) address access ≡ GuestPageFault
+    → guest_walk 0 memory mxr Sv39x4 (front_root pool.slots) address access ≡ GuestPageFault
 
 -- the places that they give are of the guest's RAM, with the offsets that the addresses have in pages
 abbrev pub FrontGivesRam : Type 0
@@ -87,25 +83,3 @@ FrontIsFilled = (pool : Pooled) (memory : List ℕ) (front : Space) (others : Li
 abbrev pub EnteredIsHeld : Type 0
 EnteredIsHeld = (most : ℕ) (key : GuestRoot) (spaces : List Space) → 1 ≤ most
     → is_held key (entered most key spaces) ≡ true
-
--- the fence that an HFENCE.GVMA makes (Privileged Architecture 20211203, 8.3.2)
-abbrev pub InstructionMakesFence : Type 0
-InstructionMakesFence = (rs1 rs2 : ℕ) (regs : Regs)
-    → meaning (op.HfenceGvma rs1 rs2) regs ≡ Privileged (privileged.HfenceGvma (fence_named rs1 rs2 regs))
-
--- the low 7 bits of rs2 are the VMID that it names, and rs2 as x0 names none
-abbrev pub FenceNamesVmid : Type 0
-FenceNamesVmid = (rs1 rs2 : ℕ) (regs : Regs) → rs2 ≢ 0
-    → (fence_named rs1 rs2 regs).vmid ≡ Some (read regs rs2 % 2 ^ 7)
-
-abbrev pub FenceNamesNoVmid : Type 0
-FenceNamesNoVmid = (rs1 : ℕ) (regs : Regs) → (fence_named rs1 0 regs).vmid ≡ None
-
--- rs1 has a guest physical address shifted right by 2: the fence names the page of this address, and rs1 as
--- x0 names none
-abbrev pub FenceNamesPage : Type 0
-FenceNamesPage = (rs1 rs2 address : ℕ) (regs : Regs) → rs1 ≢ 0 → read regs rs1 ≡ address / 2 ^ 2
-    → (fence_named rs1 rs2 regs).page ≡ Some (address / 4096)
-
-abbrev pub FenceNamesNoPage : Type 0
-FenceNamesNoPage = (rs2 : ℕ) (regs : Regs) → (fence_named 0 rs2 regs).page ≡ None

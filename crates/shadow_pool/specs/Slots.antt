@@ -4,8 +4,9 @@ use Rattle.std.specs.List.{All, AllPairs, filter_map, slice_index_or}
 use Rattle.arch_defs.specs.declared.cached.Entry.{Entry}
 use Rattle.arch_defs.specs.declared.registers.GuestRoot.{GuestRoot}
 use Rattle.arch_defs.specs.Frames.{Frames, LieIn, joined, within}
-use Rattle.arch_defs.specs.Layouts.{Layout, NamesEachOnce, space_frames}
-use Rattle.arch_defs.specs.Spaces.{Space, is_root, left_by, vmid_of}
+use Rattle.arch_defs.specs.Layouts.{Layout, NamesEachOnce, space_frames, tables_for}
+use Rattle.arch_defs.specs.Roots.{is_root, vmid_of}
+use Rattle.arch_defs.specs.Spaces.{Space, left_by}
 use Rattle.shadow_space.specs.Folding.{Folded}
 use Rattle.shadow_space.specs.Shadows.{AreZeros, Tidy, root_of}
 use Rattle.shadow_pool.specs.declared.slots.Slot.{Slot}
@@ -37,7 +38,7 @@ front_root (slot ∷ slots) = root_of slot.space
 abbrev pub frames_for : Layout → ℕ → Frames
 frames_for part count =
     joined (within (part.first_root + 4) (4 * count))
-    (within (part.first_table + 1) (count * (2 * part.entries)))
+    (within (part.first_table + 1) (count * tables_for part.entries))
 
 -- each table is tidy, and folded
 abbrev pub AreTidy : List Slot → List ℕ → Type 0

@@ -1,6 +1,6 @@
 // Laws of pools.
 
-ghost use Rattle.shadow_pool.specs.Laws.{EnteredIsHeld, EnteredIsInFront, FenceNamesNoPage, FenceNamesNoVmid, FenceNamesPage, FenceNamesVmid, FrontGivesEntries, FrontGivesRam, FrontIsEnteredAgain, FrontIsFilled, FrontLacksAreGuestPageFaults, HostFramesAreApart, InstructionMakesFence, PoolLiesWithin, RamIsApart, TidyPoolLasts};
+ghost use Rattle.shadow_pool.specs.Laws.{EnteredIsHeld, EnteredIsInFront, FrontGivesEntries, FrontGivesRam, FrontIsEnteredAgain, FrontIsFilled, FrontLacksAreGuestPageFaults, HostFramesAreApart, PoolLiesWithin, RamIsApart, TidyPoolLasts};
 
 use arch_defs::Part;
 
@@ -36,14 +36,3 @@ pub fn pool_is_apart(part: &Part)
 {
     part.names_each_once();
 }
-
-/// What an HFENCE.GVMA names: a VMID by the low 7 bits of rs2, and a guest physical page by rs1, which has
-/// the address shifted right by 2. Where the register is x0, it names none (Privileged Architecture 20211203,
-/// 8.3.2).
-pub fn instruction_makes_fence()
-    ensures fence { InstructionMakesFence }
-    ensures vmid { FenceNamesVmid }
-    ensures no_vmid { FenceNamesNoVmid }
-    ensures page { FenceNamesPage }
-    ensures no_page { FenceNamesNoPage }
-{}

@@ -9,9 +9,6 @@ mod slots;
 mod tests;
 
 pub use arch_defs::{Entry, Fence, GuestRoot, Part};
-pub use laws::{
-    entered_is_in_front, front_gives_entries, instruction_makes_fence, pool_is_apart,
-    tidy_pool_lasts,
-};
+pub use laws::{entered_is_in_front, front_gives_entries, pool_is_apart, tidy_pool_lasts};
 pub use phys_mem::PhysMem;
 pub use pools::Pool;

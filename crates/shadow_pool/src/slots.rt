@@ -5,7 +5,7 @@ ghost use Rattle.arch_defs.specs.Frames.{Only};
 ghost use Rattle.arch_defs.specs.CachedEntries.{CanFill, filled};
 ghost use Rattle.shadow_space.specs.Shadows.{Tidy, own_frames};
 ghost use Rattle.shadow_pool.specs.Slots.{fenced_slot, has_key};
-ghost use Rattle.arch_defs.specs.Spaces.{is_root, names_vmid, vmid_of};
+ghost use Rattle.arch_defs.specs.Spaces.{names_vmid};
 
 use arch_defs::{Entry, Fence, GuestRoot};
 use phys_mem::PhysMem;
@@ -16,33 +16,6 @@ use shadow_space::Space;
 pub struct Slot {
     pub key: Option<GuestRoot>,
     pub space: Space,
-}
-
-// Whether two values of hgatp are the same.
-fn is_root(a: GuestRoot, b: GuestRoot) -> bool
-    ensures { result ≡ is_root a b }
-{
-    match (a, b) {
-        (GuestRoot::Bare, GuestRoot::Bare) => true,
-        (
-            GuestRoot::Sv39x4 { vmid, page },
-            GuestRoot::Sv39x4 {
-                vmid: other_vmid,
-                page: other_page,
-            },
-        ) => vmid == other_vmid && page == other_page,
-        _ => false,
-    }
-}
-
-// The VMID of a value of hgatp.
-fn vmid_of(key: GuestRoot) -> u64
-    ensures { result ≡ vmid_of key }
-{
-    match key {
-        GuestRoot::Bare => 0,
-        GuestRoot::Sv39x4 { vmid, .. } => vmid,
-    }
 }
 
 // Whether a fence names a VMID.
@@ -62,7 +35,7 @@ impl Slot {
     {
         match self.key {
             None => false,
-            Some(other) => is_root(other, key),
+            Some(other) => other.is_root(key),
         }
     }
 
@@ -101,7 +74,7 @@ impl Slot {
         ensures only { Only (own_frames self.old.space) mem.old mem.new }
     {
         let Some(key) = self.key else { return };
-        if !names_vmid(fence.vmid, vmid_of(key)) {
+        if !names_vmid(fence.vmid, key.vmid()) {
             return;
         }
         match fence.page {

@@ -5,7 +5,7 @@ ghost use Rattle.arch_defs.specs.SecondStage.{memory_words};
 ghost use Rattle.shadow_pool.specs.Slots.{TidyPool};
 
 use crate::{Entry, Fence, GuestRoot, Part, PhysMem, Pool};
-use arch_defs::{Access, LOAD_ACCESS_FAULT, Shape, Trap, WalkEnd};
+use arch_defs::{Access, GuestMode, LOAD_ACCESS_FAULT, Shape, TABLES_PER_ENTRY, Trap, WalkEnd};
 use phys_mem::Mem;
 use stage_walk::{Fetch, walk};
 use std::alloc::{AllocError, Global};
@@ -65,7 +65,7 @@ fn empty_pool(
 {
     let mem = memory(alloc, frames)?;
     let spaces = part.spaces();
-    let end = part.host_table() + 1 + spaces * (2 * part.entries());
+    let end = part.host_table() + 1 + spaces * (TABLES_PER_ENTRY * part.entries());
     if part.host_root() + 4 * (1 + spaces) > frames || end > frames {
         return Ok(None);
     }
@@ -147,20 +147,23 @@ fn filled(machine: &mut Machine, key: GuestRoot, entry: Entry) -> u64
     root
 }
 
-// The values of hgatp of three guests' guests. The first two have the same VMID, the last two the same page.
-const P: GuestRoot = GuestRoot::Sv39x4 {
+// The values of hgatp of three guests' guests. The first two have the same VMID, the last two the same PPN.
+const P: GuestRoot = GuestRoot::Table {
+    mode: GuestMode::Sv39x4,
     vmid: 1,
-    page: 0x8_0100,
+    ppn: 0x8_0100,
 };
 
-const Q: GuestRoot = GuestRoot::Sv39x4 {
+const Q: GuestRoot = GuestRoot::Table {
+    mode: GuestMode::Sv39x4,
     vmid: 1,
-    page: 0x8_0200,
+    ppn: 0x8_0200,
 };
 
-const R: GuestRoot = GuestRoot::Sv39x4 {
+const R: GuestRoot = GuestRoot::Table {
+    mode: GuestMode::Sv39x4,
     vmid: 2,
-    page: 0x8_0200,
+    ppn: 0x8_0200,
 };
 
 // With room for two spaces, P's is kept while it is one of the last two that were entered, and empty when it

@@ -8,6 +8,7 @@ use Rattle.arch_defs.specs.declared.guest_walks.GuestWalkEnd.TheVariants as gues
 use Rattle.arch_defs.specs.declared.modes.Access.{Access}
 use Rattle.arch_defs.specs.declared.modes.Access.TheVariants.{Fetch, Load, Store, ExecLoad, Implicit}
 use Rattle.arch_defs.specs.declared.walks.LeafEntry.{LeafEntry}
+use Rattle.arch_defs.specs.declared.walks.Shape.TheVariants.{Sv39x4}
 use Rattle.arch_defs.specs.declared.walks.WalkEnd.TheVariants.{Leaf, PageFault}
 use Rattle.arch_defs.specs.Frames.{Frames, LieIn, in_blocks}
 use Rattle.arch_defs.specs.Memory.{block_size, ram_base}
@@ -46,7 +47,7 @@ root_frame page aligned small = omega (arith, aligned, small)
 
 -- the walk's end for an entry
 pub walk_is : (space : Shadow) (memory : List ℕ) (mxr : Bool) (address : ℕ) (access : Access) → Tidy space memory
-    → guest_walk 0 memory mxr (root_of space) address access ≡ guest_end 0 memory mxr address access (leaf_end space.part.blocks access (entry_at (address / 4096) space.entries))
+    → guest_walk 0 memory mxr Sv39x4 (root_of space) address access ≡ guest_end 0 memory mxr address access (leaf_end space.part.blocks access (entry_at (address / 4096) space.entries))
 unfolding guest_walk
 walk_is space memory mxr address access tidy =
     let parts = tidy_parts space memory tidy in

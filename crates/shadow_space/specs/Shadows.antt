@@ -3,7 +3,7 @@ use Rattle.std.specs.Prelude.{ℕ, ◌≡◌, ◌+◌, ◌-◌, ◌*◌, ◌/◌
 use Rattle.std.specs.List.{All, AllPairs}
 use Rattle.arch_defs.specs.declared.cached.Entry.{Entry}
 use Rattle.arch_defs.specs.Frames.{Frames, LieIn}
-use Rattle.arch_defs.specs.Layouts.{Layout, NamesEachOnce, space_frames}
+use Rattle.arch_defs.specs.Layouts.{Layout, NamesEachOnce, space_frames, tables_for}
 use Rattle.arch_defs.specs.Memory.{ram_base}
 use Rattle.arch_defs.specs.Ram.{host_place}
 use Rattle.shadow_space.specs.declared.writing.Tables.{Tables}
@@ -30,8 +30,8 @@ own_frames space = space_frames space.part space.index
 abbrev pub tables_in : Layout → ℕ → Tables
 tables_in part index = record {
   root = part.first_root + 4 * (1 + index);
-  first = part.first_table + 1 + index * (2 * part.entries);
-  count = 2 * part.entries;
+  first = part.first_table + 1 + index * tables_for part.entries;
+  count = tables_for part.entries;
 }
 
 -- the frame of machine memory that a frame of RAM is

@@ -3,6 +3,7 @@
 ghost use Rattle.std.specs.Prelude.{◌≡◌, ◌≤◌, ◌<◌, [], ◌∷◌, ◌++◌, length};
 ghost use Rattle.std.specs.List.{All};
 ghost use Rattle.arch_defs.specs.CachedEntries.{HasLevel, cut_by, filled, newest, without};
+ghost use Rattle.arch_defs.specs.Walk.{most_level};
 ghost use Rattle.arch_defs.specs.TableEntries.{span};
 
 use arch_defs::Entry;
@@ -124,7 +125,7 @@ pub fn filled(most: usize, entries: &[Entry], entry: Entry) -> EntryList
 
 // The pages that a leaf of this level maps.
 fn span(level: u8) -> u64
-    requires { level ≤ 2 }
+    requires { level ≤ most_level }
     ensures value { result ≡ span level }
     ensures some { 0 < result }
 {

@@ -9,7 +9,7 @@ ghost use Rattle.shadow_space.specs.Shadows.{AreZeros, HasSmallNumbers, Tidy, ow
 
 use crate::listing::{EntryList, cut, filled};
 use crate::writing::{Tables, rebuild};
-use arch_defs::{Entry, Part};
+use arch_defs::{Entry, Part, TABLES_PER_ENTRY};
 use phys_mem::PhysMem;
 use std::marker::Model;
 
@@ -152,7 +152,7 @@ fn tables_of(part: &Part, index: u64) -> Tables
     ensures aligned { result.root % 4 ≡ 0 }
     ensures small { result.root + 4 < 2 ^ 44 }
 {
-    let count = 2 * part.entries();
+    let count = TABLES_PER_ENTRY * part.entries();
     Tables {
         root: part.host_root() + 4 * (1 + index),
         first: part.host_table() + 1 + index * count,

@@ -5,7 +5,7 @@ ghost use Rattle.arch_defs.specs.SecondStage.{memory_words};
 ghost use Rattle.shadow_space.specs.Shadows.{Tidy};
 
 use crate::{Entry, MOST_ENTRIES, Part, PhysMem, Space};
-use arch_defs::{Access, LOAD_ACCESS_FAULT, LeafEntry, Shape, Trap, WalkEnd};
+use arch_defs::{Access, LOAD_ACCESS_FAULT, LeafEntry, Shape, TABLES_PER_ENTRY, Trap, WalkEnd};
 use phys_mem::Mem;
 use stage_walk::{Fetch, walk};
 use std::alloc::{AllocError, Global};
@@ -64,7 +64,7 @@ fn empty_space(
     ensures part { IfOk result (λ made. IfSome made (λ m. m.space.part ≡ part.now)) }
 {
     let mem = memory(alloc, frames)?;
-    let end = part.host_table() + 1 + part.spaces() * (2 * part.entries());
+    let end = part.host_table() + 1 + part.spaces() * (TABLES_PER_ENTRY * part.entries());
     if part.host_root() + 4 * (1 + part.spaces()) > frames || end > frames {
         return Ok(None);
     }

@@ -4,6 +4,7 @@ ghost use Rattle.std.specs.Prelude.{◌≡◌, ◌+◌, ◌*◌, ◌<◌, ◌≤
 ghost use Rattle.std.specs.List.{All, AllPairs};
 ghost use Rattle.arch_defs.specs.Frames.{Only};
 ghost use Rattle.arch_defs.specs.CachedEntries.{CanFill, HasOtherPage};
+ghost use Rattle.arch_defs.specs.Memory.{pasted, zeros};
 ghost use Rattle.shadow_space.specs.Trees.{RootIsApart, built, frames_of};
 ghost use Rattle.shadow_space.specs.Shadows.{AreZeros, IsPlaced, Stands, flag, leaf_word, leaves};
 ghost use Rattle.shadow_space.specs.Words.{below, linked, used_with, with_word, word};
@@ -107,10 +108,19 @@ fn clear(mem: &mut PhysMem, tables: &Tables)
     ensures zeros { AreZeros (frames_of tables.now) mem.new }
     ensures only { Only (frames_of tables.now) mem.old mem.new }
 {
-    mem.clear(tables.root * FRAME_SIZE, 4 * FRAME_SIZE);
+    clear_frames(mem, tables.root, 4);
     if tables.count > 0 {
-        mem.clear(tables.first * FRAME_SIZE, tables.count * FRAME_SIZE);
+        clear_frames(mem, tables.first, tables.count);
     }
+}
+
+// Fills so many frames from a first one on with zeros.
+fn clear_frames(mem: &mut PhysMem, first: u64, count: u64)
+    requires small { first + count < 2 ^ 44 }
+    requires inside { first * 4096 + count * 4096 ≤ length mem.old }
+    ensures { mem.new ≡ pasted mem.old (first * 4096) (zeros (count * 4096)) }
+{
+    mem.clear(first * FRAME_SIZE, count * FRAME_SIZE);
 }
 
 // Puts entry i into the tables of those before it, which have so many frames. Tells how many they have then.

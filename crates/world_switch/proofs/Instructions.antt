@@ -1,6 +1,6 @@
 -- Instructions that the mode decides on, which the hart makes or leaves to the host.
 use Rattle.std.specs.Prelude.{◌&&◌}
-use Rattle.std.proofs.Common.{cond, ◌≡◌, ℕ, None, Bool, true, false, refl}
+use Rattle.std.proofs.Common.{◌≡◌, ℕ, None, Bool, true, false, refl}
 use Rattle.arch_defs.specs.declared.csr_names.CsrEnd.TheVariants.{Virtual as VirtualInstruction}
 use Rattle.arch_defs.specs.declared.modes.Mode.{Mode}
 use Rattle.arch_defs.specs.declared.modes.Mode.TheVariants.{HS, U, VS, VU}
@@ -9,10 +9,11 @@ use Rattle.arch_defs.specs.declared.registers.Virtual.{Virtual}
 use Rattle.arch_defs.specs.Access.{reached, reached_by, reached_in_vs, reached_in_vu, read}
 use Rattle.arch_defs.specs.CsrNames.{read_only_register, register_of}
 use Rattle.arch_defs.specs.Traps.{arrived, is_supervisor, is_virtual, mode_of, returned, returned_from_vs}
+use Rattle.op_defs.specs.declared.ops.Privileged.TheVariants.{Sret, Wfi, SfenceVma}
 use Rattle.machine_defs.specs.declared.events.Event.TheVariants.{System}
 use Rattle.machine_defs.specs.Outcomes.{Done, passed}
-use Rattle.machine_defs.specs.Privileges.{fenced_in, left_by_sret, refused, returned_in, waited_in}
-use Rattle.world_switch.specs.Hosting.{hosted, hosted_mode, saved}
+use Rattle.machine_defs.specs.Privileges.{decided, privileged, refusal, refused, virtual_if}
+use Rattle.world_switch.specs.Hosting.{hosted, saved}
 use Rattle.world_switch.specs.Laws.{FencesAlike, OwnMxr, ReturnsAlike, TimeIsLeft, WaitsAreLeft}
 use Rattle.world_switch.proofs.Undone.{same_csrs, same_mode}
 
@@ -35,8 +36,8 @@ always_virtual true = refl
 always_virtual false = refl
 
 returned_if : (root : GuestRoot) (v after : Virtual) (word : ℕ) (kept : Bool)
-    → cond kept (refused (hosted root (record v { mode = VS })) word VirtualInstruction) (left_by_sret (hosted root (record v { mode = VS }))) ≡ Done after None System
-    → cond kept (refused (record v { mode = VS }) word VirtualInstruction) (left_by_sret (record v { mode = VS })) ≡ Done (saved after (record v { mode = VS })) None System
+    → decided (hosted root (record v { mode = VS })) word Sret (virtual_if kept) ≡ Done after None System
+    → decided (record v { mode = VS }) word Sret (virtual_if kept) ≡ Done (saved after (record v { mode = VS })) None System
 unfolding returned
 returned_if root v after word true e = cc
 returned_if root v after word false e =
@@ -44,8 +45,9 @@ returned_if root v after word false e =
     let is : arrived s (returned_from_vs s.csrs s.regs) ≡ after = cc in rw (← is, supervisor_again v.csrs.vs.status.spp) refl
 
 returned_by : (root : GuestRoot) (v after : Virtual) (word : ℕ) (mode : Mode)
-    → returned_in (hosted root (record v { mode = mode })) word (hosted_mode mode) ≡ Done after None System
-    → returned_in (record v { mode = mode }) word mode ≡ Done (saved after (record v { mode = mode })) None System
+    → privileged (hosted root (record v { mode = mode })) word Sret ≡ Done after None System
+    → privileged (record v { mode = mode }) word Sret ≡ Done (saved after (record v { mode = mode })) None System
+unfolding privileged refusal
 returned_by root v after word HS e = cc
 returned_by root v after word U e = cc
 returned_by root v after word VS e = returned_if root v after word v.csrs.hstatus.vtsr e
@@ -62,14 +64,15 @@ passed_saved root v after e =
     rw (← is, same_csrs root (is_virtual v.mode) v.csrs, same_mode v.mode) refl
 
 fenced_if : (root : GuestRoot) (v after : Virtual) (word : ℕ) (kept : Bool)
-    → cond kept (refused (hosted root v) word VirtualInstruction) (Done (passed (hosted root v)) None System) ≡ Done after None System
-    → cond kept (refused v word VirtualInstruction) (Done (passed v) None System) ≡ Done (saved after v) None System
+    → decided (hosted root v) word SfenceVma (virtual_if kept) ≡ Done after None System
+    → decided v word SfenceVma (virtual_if kept) ≡ Done (saved after v) None System
 fenced_if root v after word true e = cc
 fenced_if root v after word false e = passed_saved root v after e
 
 fenced_by : (root : GuestRoot) (v after : Virtual) (word : ℕ) (mode : Mode)
-    → fenced_in (hosted root (record v { mode = mode })) word (hosted_mode mode) ≡ Done after None System
-    → fenced_in (record v { mode = mode }) word mode ≡ Done (saved after (record v { mode = mode })) None System
+    → privileged (hosted root (record v { mode = mode })) word SfenceVma ≡ Done after None System
+    → privileged (record v { mode = mode }) word SfenceVma ≡ Done (saved after (record v { mode = mode })) None System
+unfolding privileged refusal
 fenced_by root v after word HS e = passed_saved root (record v { mode = HS }) after e
 fenced_by root v after word U e = cc
 fenced_by root v after word VS e = fenced_if root (record v { mode = VS }) after word v.csrs.hstatus.vtvm e
@@ -80,7 +83,8 @@ fences_alike = λ root v after word e. fenced_by root v after word v.mode e
 
 -- a WFI, and a read of time
 waits_by : (root : GuestRoot) (v : Virtual) (word : ℕ) (mode : Mode)
-    → waited_in (hosted root (record v { mode = mode })) word (hosted_mode mode) ≡ refused (hosted root (record v { mode = mode })) word VirtualInstruction
+    → privileged (hosted root (record v { mode = mode })) word Wfi ≡ refused (hosted root (record v { mode = mode })) word VirtualInstruction
+unfolding privileged refusal
 waits_by root v word HS = refl
 waits_by root v word U = refl
 waits_by root v word VS = refl

@@ -5,7 +5,8 @@ use Rattle.arch_defs.specs.declared.modes.Mode.{Mode}
 use Rattle.arch_defs.specs.declared.registers.Bank.{Bank}
 use Rattle.arch_defs.specs.declared.registers.Csrs.{Csrs}
 use Rattle.arch_defs.specs.declared.registers.GuestRoot.{GuestRoot}
-use Rattle.arch_defs.specs.declared.registers.GuestRoot.TheVariants.{Sv39x4}
+use Rattle.arch_defs.specs.declared.registers.GuestMode.TheVariants.{Sv39x4}
+use Rattle.arch_defs.specs.declared.registers.GuestRoot.TheVariants.{Table}
 use Rattle.arch_defs.specs.declared.registers.HypervisorStatus.{HypervisorStatus}
 use Rattle.arch_defs.specs.declared.registers.Interrupts.{Interrupts}
 use Rattle.arch_defs.specs.declared.registers.Virtual.{Virtual}
@@ -13,8 +14,8 @@ use Rattle.arch_defs.specs.CsrBits.{hedeleg_bits}
 use Rattle.arch_defs.specs.Layouts.{Layout}
 use Rattle.arch_defs.specs.Registers.{bank_at_reset, clear_hypervisor_status, clear_supervisor_status, csrs_at_reset}
 use Rattle.arch_defs.specs.Traps.{is_supervisor, is_virtual, mode_of}
-use Rattle.machine_defs.specs.HostPlaces.{memory_place}
-use Rattle.machine_defs.specs.Renaming.{renamed}
+use Rattle.machine_laws.specs.HostPlaces.{memory_place}
+use Rattle.machine_laws.specs.Renaming.{renamed}
 
 -- the hart's mode for a mode of the guest
 abbrev pub hosted_mode : Mode → Mode
@@ -87,7 +88,7 @@ hosted root virt = record {
 -- the second stage by the table whose root begins at a frame: Sv39x4 with VMID 0 (Privileged Architecture
 -- 20211203, 8.2.10)
 abbrev pub table_from : ℕ → GuestRoot
-table_from frame = Sv39x4 0 frame
+table_from frame = Table Sv39x4 0 frame
 
 -- that of the host table of the guest that has this part
 abbrev pub host_root : Layout → GuestRoot

@@ -16,11 +16,13 @@ use Rattle.arch_defs.specs.Memory.{Reading, SecondStage}
 use Rattle.arch_defs.specs.Registers.{bank_at_reset, clear_interrupts}
 use Rattle.arch_defs.specs.Translation.{first_stage}
 use Rattle.arch_defs.specs.Traps.{entered_at, exception, is_virtual}
+use Rattle.op_defs.specs.declared.ops.Privileged.{Privileged}
+use Rattle.op_defs.specs.declared.ops.Privileged.TheVariants.{Sret, Wfi, SfenceVma}
 use Rattle.machine_defs.specs.declared.events.Event.TheVariants.{System}
-use Rattle.machine_defs.specs.HostPlaces.{in_ram, memory_place}
+use Rattle.machine_laws.specs.HostPlaces.{in_ram, memory_place}
 use Rattle.machine_defs.specs.Outcomes.{Done}
-use Rattle.machine_defs.specs.Privileges.{fenced_in, refused, returned_in, waited_in}
-use Rattle.machine_defs.specs.Renaming.{ReservesHeld, renamed}
+use Rattle.machine_defs.specs.Privileges.{privileged, refused}
+use Rattle.machine_laws.specs.Renaming.{ReservesHeld, renamed}
 use Rattle.world_switch.specs.Hosting.{fixed_up, hosted, hosted_csrs, hosted_mode, saved, saved_csrs, taken_back}
 
 -- the hart runs with V = 1
@@ -104,24 +106,25 @@ OwnMxr =
     (root : GuestRoot) (v : Virtual)
     → (hosted root v).csrs.hs.status.mxr ≡ (is_virtual v.mode && v.csrs.hs.status.mxr)
 
--- an SRET that the hart makes is the guest's, and so is an SFENCE.VMA
-abbrev pub ReturnsAlike : Type 0
-ReturnsAlike =
+-- an instruction that the mode decides on and that the hart makes is the guest's
+abbrev pub PrivilegedAlike : Privileged → Type 0
+PrivilegedAlike effect =
     (root : GuestRoot) (v after : Virtual) (word : ℕ)
-    → returned_in (hosted root v) word (hosted root v).mode ≡ Done after None System
-    → returned_in v word v.mode ≡ Done (saved after v) None System
+    → privileged (hosted root v) word effect ≡ Done after None System
+    → privileged v word effect ≡ Done (saved after v) None System
+
+-- so is an SRET, and an SFENCE.VMA
+abbrev pub ReturnsAlike : Type 0
+ReturnsAlike = PrivilegedAlike Sret
 
 abbrev pub FencesAlike : Type 0
-FencesAlike =
-    (root : GuestRoot) (v after : Virtual) (word : ℕ)
-    → fenced_in (hosted root v) word (hosted root v).mode ≡ Done after None System
-    → fenced_in v word v.mode ≡ Done (saved after v) None System
+FencesAlike = PrivilegedAlike SfenceVma
 
 -- a WFI is a virtual instruction on the hart, and so is a read of time
 abbrev pub WaitsAreLeft : Type 0
 WaitsAreLeft =
     (root : GuestRoot) (v : Virtual) (word : ℕ)
-    → waited_in (hosted root v) word (hosted root v).mode ≡ refused (hosted root v) word VirtualInstruction
+    → privileged (hosted root v) word Wfi ≡ refused (hosted root v) word VirtualInstruction
 
 abbrev pub TimeIsLeft : Type 0
 TimeIsLeft =

@@ -3,14 +3,14 @@
 ghost use Rattle.std.specs.Prelude.{◌≡◌, ℕ, Option, Some, true, false};
 ghost use Rattle.arch_defs.specs.Registers.{clear_hypervisor_status};
 ghost use Rattle.arch_defs.specs.Traps.{is_virtual};
-ghost use Rattle.machine_defs.specs.HostPlaces.{in_ram, memory_place};
-ghost use Rattle.machine_defs.specs.Renaming.{ReservesHeld, renamed, reservation_renamed};
+ghost use Rattle.machine_laws.specs.HostPlaces.{in_ram, memory_place};
+ghost use Rattle.machine_laws.specs.Renaming.{ReservesHeld, renamed, reservation_renamed};
 ghost use Rattle.world_switch.specs.Hosting.{all_interrupts, bank_with, fixed_up, hosted_csrs, hosted_mode, loaded, saved, saved_csrs, saved_mode, table_from};
 ghost use Rattle.world_switch.specs.Laws.{GivesBack};
 
 use arch_defs::{
-    BLOCK_SIZE, Bank, Csrs, GuestRoot, HypervisorStatus, Interrupts, Mode, Part, SupervisorStatus,
-    Virtual,
+    BLOCK_SIZE, Bank, Csrs, GuestMode, GuestRoot, HypervisorStatus, Interrupts, Mode, Part,
+    SupervisorStatus, Virtual,
 };
 use csr_file::hedeleg_bits;
 use phys_mem::RAM_BASE;
@@ -163,9 +163,10 @@ fn ram_place(part: &Part, place: u64) -> Option<u64>
 fn table_from(frame: u64) -> GuestRoot
     ensures { result ≡ table_from frame }
 {
-    GuestRoot::Sv39x4 {
+    GuestRoot::Table {
+        mode: GuestMode::Sv39x4,
         vmid: 0,
-        page: frame,
+        ppn: frame,
     }
 }
 

@@ -3,10 +3,10 @@
 
 ghost use Rattle.std.specs.Prelude.{◌≡◌, [], ◌∷◌, Some, true};
 ghost use Rattle.arch_defs.specs.Layouts.{names_each_once};
-ghost use Rattle.machine_defs.specs.HostPlaces.{in_ram};
+ghost use Rattle.machine_laws.specs.HostPlaces.{in_ram};
 
 use crate::{fix_up, load, save, take_back};
-use arch_defs::{GuestRoot, Interrupts, Mode, Part, Virtual};
+use arch_defs::{GuestMode, GuestRoot, Interrupts, Mode, Part, Virtual};
 
 const START: u64 = 0x8000_0000;
 
@@ -93,8 +93,12 @@ fn under_a_table(rt: HostRuntime) {
     for mode in [Mode::HS, Mode::U, Mode::VS, Mode::VU] {
         for root in [8, 24] {
             let hart = load(&guest(mode), &part(), root);
-            let page = root;
-            assert_eq!(rt; hart.csrs.hgatp, GuestRoot::Sv39x4 { vmid: 0, page });
+            let table = GuestRoot::Table {
+                mode: GuestMode::Sv39x4,
+                vmid: 0,
+                ppn: root,
+            };
+            assert_eq!(rt; hart.csrs.hgatp, table);
         }
     }
 }

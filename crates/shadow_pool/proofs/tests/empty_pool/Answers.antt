@@ -1,6 +1,6 @@
 use Rattle.std.proofs.Common.{◌≡◌, ℕ, ◌+◌, ◌*◌, ◌<◌, ◌≤◌, List, length, sym, ap, subst, ◌∙◌, arith}
 use Rattle.arch_defs.specs.Frames.{LieIn, Same, within}
-use Rattle.arch_defs.specs.Layouts.{Layout}
+use Rattle.arch_defs.specs.Layouts.{Layout, tables_for}
 use Rattle.arch_defs.specs.Memory.{zeros}
 use Rattle.arch_defs.proofs.FrameSets.{same_none}
 use Rattle.arch_defs.proofs.Rooms.{joined_lie, range_lies}
@@ -10,15 +10,15 @@ use Rattle.shadow_space.proofs.Partings.{untouched}
 use Rattle.shadow_pool.specs.Slots.{Pooled, TidyPool, frames_for, pool_frames}
 use Rattle.shadow_pool.proofs.tests.empty_pool.Goals as goal
 
-lies : (part : Layout) (frames : ℕ) → part.first_root + 4 * (1 + part.spaces) ≤ frames → part.first_table + 1 + part.spaces * (2 * part.entries) ≤ frames
+lies : (part : Layout) (frames : ℕ) → part.first_root + 4 * (1 + part.spaces) ≤ frames → part.first_table + 1 + part.spaces * tables_for part.entries ≤ frames
     → LieIn (frames_for part part.spaces) (length (zeros (frames * 4096)))
 lies part frames roots tables =
-    joined_lie (within (part.first_root + 4) (4 * part.spaces)) (within (part.first_table + 1) (part.spaces * (2 * part.entries))) (length (zeros (frames * 4096)))
+    joined_lie (within (part.first_root + 4) (4 * part.spaces)) (within (part.first_table + 1) (part.spaces * tables_for part.entries)) (length (zeros (frames * 4096)))
     (range_lies (part.first_root + 4) (4 * part.spaces) (length (zeros (frames * 4096))) (omega (arith, zeros_length (frames * 4096), roots)))
-    (range_lies (part.first_table + 1) (part.spaces * (2 * part.entries)) (length (zeros (frames * 4096))) (omega (arith, zeros_length (frames * 4096), tables)))
+    (range_lies (part.first_table + 1) (part.spaces * tables_for part.entries) (length (zeros (frames * 4096))) (omega (arith, zeros_length (frames * 4096), tables)))
 
 new_tidy : (part : Layout) (pool : Pooled) (frames : ℕ) (memory : List ℕ) → memory ≡ zeros (frames * 4096) → part.first_root + 4 * (1 + part.spaces) ≤ frames
-    → part.first_table + 1 + part.spaces * (2 * part.entries) ≤ frames → pool.part ≡ part → length pool.slots ≡ part.spaces
+    → part.first_table + 1 + part.spaces * tables_for part.entries ≤ frames → pool.part ≡ part → length pool.slots ≡ part.spaces
     → ((memory : List ℕ) → LieIn (pool_frames pool) (length memory) → AreZeros (pool_frames pool) memory → TidyPool pool memory) → TidyPool pool memory
 new_tidy part pool frames memory is roots tables same count tidy =
     let own : frames_for part part.spaces ≡ pool_frames pool = sym (ap (λ p. frames_for p (length pool.slots)) same ∙ ap (frames_for part) count) in

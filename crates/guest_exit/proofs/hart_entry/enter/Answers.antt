@@ -1,0 +1,75 @@
+use Rattle.std.proofs.Common.{ap, refl, sym, subst, ◌∙◌}
+use Rattle.rv64_hart.specs.Steps.{is_vs_trap, progress}
+use Rattle.guest_exit.specs.HartEntry.{IsStopped}
+use Rattle.guest_exit.specs.View.{machine_of}
+use Rattle.shadow_pool.specs.Slots.{Pooled, room_of, spaces_of}
+use Rattle.guest_exit.proofs.Alone.{machine_as}
+use Rattle.guest_exit.proofs.Entries.{ran, steps_from, stopped}
+use Rattle.guest_exit.proofs.Moments.{before_timer}
+use Rattle.guest_exit.proofs.Placed.{placed_after}
+use Rattle.guest_exit.proofs.hart_entry.enter.Goals as goal
+
+pub returns-clause-hart : goal.returns-clause-hart
+returns-clause-hart c = record {
+  steps =
+      steps_from c.args.guest.now.part c.args.guest.now.pool c.args.guest.now.virt c.args.memory.now c.args.tally.now.trace c.run-stop.result.taken _
+      (rw (c.load.ensures, c.root_frame_of-root.ensures) at c.run-stop.ensures.steps);
+  saves = rw (c.is_vs_trap.ensures, c.state.ensures) at c.take_steps.ensures.platform;
+}
+
+pub returns-clause-run : goal.returns-clause-run
+returns-clause-run c =
+    let part = c.args.guest.now.part in
+    let pool = c.args.guest.now.pool in
+    let m = machine_of c.args.guest.now c.args.memory.now in
+    let can = c.requires.can in
+    let q = progress c.run-stop.new.self.state c.run-stop.new.memory c.run-stop.new.tally.trace (is_vs_trap c.run-stop.result.why) in
+    let hart = returns-clause-hart c in
+    let is = ran part pool m c.args.memory.now c.args.limit c.args.tally.now.trace can.running can.lasts can.placed c.run-stop.result.taken c.run-stop.ensures.within q hart.steps in
+    let fixed = c.take_steps.ensures.fixed in
+    record {
+      ready = is.need;
+      steps =
+          machine_as c.args.guest.now c.take_steps.new.self c.args.memory.now c.run-stop.new.memory _ _ _ fixed.part (hart.saves is.own is.held is.state) refl
+          (ap spaces_of fixed.pool) (ap room_of fixed.pool) (ap (λ (pool : Pooled). pool.most) fixed.pool) ∙ sym is.machine;
+    }
+
+pub returns-clause-account : goal.returns-clause-account
+returns-clause-account c =
+    let m = machine_of c.args.guest.now c.args.memory.now in
+    let can = c.requires.can in
+    let q = progress c.run-stop.new.self.state c.run-stop.new.memory c.run-stop.new.tally.trace (is_vs_trap c.run-stop.result.why) in
+    let is = ran c.args.guest.now.part c.args.guest.now.pool m c.args.memory.now c.args.limit c.args.tally.now.trace can.running can.lasts can.placed c.run-stop.result.taken c.run-stop.ensures.within q
+    (returns-clause-hart c).steps in
+    record { entries = c.run-stop.ensures.entries; taken = c.run-stop.ensures.taken; trace = is.trace }
+
+pub returns-clause-keeps : goal.returns-clause-keeps
+returns-clause-keeps c =
+    let m = machine_of c.args.guest.now c.args.memory.now in
+    let can = c.requires.can in
+    let q = progress c.run-stop.new.self.state c.run-stop.new.memory c.run-stop.new.tally.trace (is_vs_trap c.run-stop.result.why) in
+    let is = ran c.args.guest.now.part c.args.guest.now.pool m c.args.memory.now c.args.limit c.args.tally.now.trace can.running can.lasts can.placed c.run-stop.result.taken c.run-stop.ensures.within q
+    (returns-clause-hart c).steps in
+    record {
+      only = is.only;
+      placed = placed_after c.args.guest.now c.take_steps.new.self c.args.memory.now c.run-stop.new.memory c.run-stop.result.taken can.placed c.take_steps.ensures.fixed is.only (returns-clause-run c).steps;
+      fixed = c.take_steps.ensures.fixed;
+    }
+
+pub returns-clause-why : goal.returns-clause-why
+returns-clause-why c =
+    let part = c.args.guest.now.part in
+    let pool = c.args.guest.now.pool in
+    let m = machine_of c.args.guest.now c.args.memory.now in
+    let can = c.requires.can in
+    let why = c.run-stop.result.why in
+    let is = stopped part pool m c.args.memory.now c.args.limit c.args.tally.now.trace c.run-stop.new.self.state c.run-stop.new.memory c.run-stop.new.tally.trace c.run-stop.result.taken why
+    can.running can.lasts can.placed c.run-stop.ensures.within (returns-clause-hart c).steps c.run-stop.ensures.why in
+    record {
+      within = c.run-stop.ensures.within;
+      why = subst (λ m. IsStopped part pool m c.run-stop.new.memory c.args.limit c.run-stop.result.taken why) (sym (returns-clause-run c).steps) is;
+    }
+
+pub take_steps-requires-clause-event : goal.take_steps-requires-clause-event
+take_steps-requires-clause-event c =
+    before_timer c.args.guest.now.clock c.args.limit c.run-stop.result.taken c.requires.can.lasts.timer c.run-stop.ensures.within

@@ -1,0 +1,27 @@
+use Rattle.std.proofs.Common.{ℕ, List, refl}
+use Rattle.arch_defs.proofs.FrameSets.{only_none}
+use Rattle.guest_exit.specs.View.{machine_of}
+use Rattle.guest_exit.proofs.Alone.{machine_is, stays_by}
+use Rattle.guest_exit.proofs.Entries.{interrupted}
+use Rattle.guest_exit.proofs.Placed.{placed_by_step}
+use Rattle.guest_exit.proofs.host_interrupts.interrupt.Goals as goal
+
+pub returns-then-is_hosts-clause-takes : goal.returns-then-is_hosts-clause-takes
+returns-then-is_hosts-clause-takes c = λ yes.
+    let is = λ (memory : List ℕ). interrupted (machine_of c.args.guest.now memory) c.in-Some.code (rw c.pending.ensures at c.in-Some.is) in
+    record {
+      step = λ memory. record {
+        ready = (is memory).0;
+        step = rw (is memory).1 (machine_is c.args.guest.now c.tick.new.self _ memory (record { part = c.tick.ensures.fixed.part; pool = c.tick.ensures.fixed.pool })
+            (rw (c.take.ensures, c.interrupt_trap.ensures) at c.tick.ensures.platform));
+      };
+      quiet = λ memory. record { trace = rw (is memory).1 refl; plain = rw (is memory).1 refl };
+      none = λ memory. rw (is memory).1 refl;
+      made = c.tick.ensures.made;
+      clock = c.tick.ensures.clock;
+    }
+
+pub returns-then-is_hosts-clause-placed : goal.returns-then-is_hosts-clause-placed
+returns-then-is_hosts-clause-placed c = λ memory placed.
+    placed_by_step c.args.guest.now c.tick.new.self memory memory placed (stays_by _ _ (record { part = c.tick.ensures.fixed.part; pool = c.tick.ensures.fixed.pool }))
+    (only_none _ memory) (rw c.tick.ensures.fixed.pool placed.tidy) ((returns-then-is_hosts-clause-takes c refl).step memory)

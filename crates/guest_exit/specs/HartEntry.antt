@@ -1,0 +1,108 @@
+-- One entry of the hart: for how many steps, what it makes of the guest, and why it ends.
+use Rattle.std.specs.Prelude.{ℕ, ◌≡◌, ◌+◌, ◌^◌, ◌<◌, ◌≤◌, nat_le, Bool, true, false, List, Some}
+use Rattle.arch_defs.specs.declared.modes.Trap.{Trap}
+use Rattle.arch_defs.specs.declared.registers.Virtual.{Virtual}
+use Rattle.arch_defs.specs.Frames.{Only, in_blocks}
+use Rattle.arch_defs.specs.Inputs.{has_input}
+use Rattle.arch_defs.specs.Layouts.{Layout}
+use Rattle.machine_defs.specs.declared.guests.Status.TheVariants.{Running}
+use Rattle.machine_laws.specs.HostPlaces.{in_ram, memory_place}
+use Rattle.machine_defs.specs.Machine.{Machine, Platform, informed}
+use Rattle.machine_laws.specs.Renaming.{ReservesHeld, renamed}
+use Rattle.rv64_hart.specs.declared.harts.Stop.{Stop}
+use Rattle.rv64_hart.specs.declared.harts.Why.{Why}
+use Rattle.rv64_hart.specs.declared.harts.Why.TheVariants.{Limit, Exit, VsTrap}
+use Rattle.rv64_hart.specs.Counts.{Counts, IsRaisedBy}
+use Rattle.rv64_hart.specs.Steps.{Exits, Progress, hart_step, hart_steps, progress}
+use Rattle.shadow_pool.specs.Slots.{Pooled}
+use Rattle.world_switch.specs.Hosting.{loaded, taken_back}
+use Rattle.world_switch.specs.Laws.{waits_for_hs}
+use Rattle.guest_exit.specs.declared.guests.Guest.{Guest}
+use Rattle.guest_exit.specs.HartSteps.{host_takes, root_for}
+use Rattle.guest_exit.specs.View.{IsPlaced, KeepsSpaces, loaded_for, seen}
+
+-- whether something has come is the same at each step of so many as it is now
+abbrev pub Stays : (ℕ → Bool) → ℕ → ℕ → Type 0
+Stays has_come clock limit = (n : ℕ) → n < limit → has_come (clock + n) ≡ has_come clock
+
+-- nothing that the hart does not have for the guest changes before the last of so many steps begins: the step
+-- is the hart's now, no interrupt of VS waits for HS to take it, and no moment comes
+pub record Lasts (p : Platform) (limit : ℕ) : Type 0 where
+  pub current : informed p ≡ p
+  pub own : host_takes p.virt ≡ false
+  pub interrupts : 1 < limit → waits_for_hs p.virt.csrs ≡ false
+  pub timer : Stays (nat_le p.clock.timer) p.clock.time limit
+  pub inputs : Stays (has_input p.console.inputs) p.clock.time limit
+
+-- a guest may enter the hart for so many steps: nothing that the hart does not have for it changes in them, and
+-- its clock and its count of steps have room for them
+pub record CanEnter (guest : Guest) (memory : List ℕ) (limit : ℕ) : Type 0 where
+  pub running : guest.status ≡ Running
+  pub placed : IsPlaced guest memory
+  pub lasts : Lasts (seen guest) limit
+  pub clock : guest.clock.time ≤ 2 ^ 62 + guest.steps
+  pub steps : guest.steps + limit ≤ 2 ^ 61
+
+-- the hart's account has room for one entry and so many steps
+pub record HasRoomFor (limit : ℕ) (account : Counts) : Type 0 where
+  pub entries : account.entries < 2 ^ 62
+  pub taken : account.taken + limit ≤ 2 ^ 62
+
+-- a platform after so many steps of the hart, which leave it this state
+abbrev pub moved : Platform → Virtual → ℕ → Platform
+moved p virt n =
+    let clock = record p.clock { time = p.clock.time + n } in
+    informed (record p { virt = virt; clock = clock; steps = p.steps + n })
+
+-- the platform after so many steps of the hart in a part of machine memory, by the hart's state after them
+abbrev pub GivesSteps : Layout → Platform → Virtual → Bool → ℕ → Platform → Type 0
+GivesSteps part before hart trapped taken after =
+    (own : Virtual) → ReservesHeld (in_ram part.blocks) own.reservation
+    → hart ≡ renamed (memory_place part.blocks) own
+    → after ≡ moved before (taken_back trapped own before.virt) taken
+
+-- the hart, in a part of machine memory, leaves the machine's next step to the host
+pub record Hands (part : Layout) (pool : Pooled) (m : Machine) (memory : List ℕ) (trap : Trap)
+    : Type 0 where
+  pub own : host_takes m.platform.virt ≡ false
+  pub exits : hart_step (loaded part (root_for part pool m.platform.virt) m.platform.virt) memory ≡ Exits trap
+
+-- why an entry ended, by the machine and the memory after it
+abbrev pub IsStopped : Layout → Pooled → Machine → List ℕ → ℕ → ℕ → Why → Type 0
+IsStopped part pool m memory limit taken Limit = taken ≡ limit
+IsStopped part pool m memory limit taken VsTrap = 0 < taken
+IsStopped part pool m memory limit taken (Exit trap) = (taken < limit) × Hands part pool m memory trap
+
+-- an entry in a part of machine memory ends within its limit, by the machine and the memory after it
+pub record Stops (part : Layout) (pool : Pooled) (m : Machine) (memory : List ℕ) (limit : ℕ) (stop : Stop)
+    : Type 0 where
+  pub within : stop.taken ≤ limit
+  pub why : IsStopped part pool m memory limit stop.taken stop.why
+
+-- the hart has made so many steps for a guest, from what it has for it. What it has then is the guest's: what
+-- is saved of it and, after a trap into VS, what that leaves to the host
+pub record HartMakes (n : ℕ) (before after : Guest) (memory : List ℕ) (trace : ℕ) (made : Progress)
+    : Type 0 where
+  pub steps : hart_steps true n (progress (loaded_for before) memory trace false) ≡ Some made
+  pub saves : GivesSteps before.part (seen before) made.state made.trapped n (seen after)
+
+-- the hart's account of one entry: so many steps, of so much pc and word
+pub record IsAccounted (steps sum : ℕ) (before after : Counts) : Type 0 where
+  pub entries : after.entries ≡ before.entries + 1
+  pub taken : after.taken ≡ before.taken + steps
+  pub trace : IsRaisedBy sum before.trace after.trace
+
+-- a guest goes on after so many steps of the hart, and the registers that the clock sets are as the clock has
+-- them
+pub record GoesOn (taken : ℕ) (before after : Guest) : Type 0 where
+  pub status : after.status ≡ Running
+  pub steps : after.steps ≡ before.steps + taken
+  pub clock : after.clock.time ≡ before.clock.time + taken
+  pub current : informed (seen after) ≡ seen after
+
+-- of machine memory only bytes of the guest's blocks change, and it holds the guest's part as before, whose
+-- cached translations stay
+pub record KeepsTables (before : Guest) (memory : List ℕ) (after : Guest) (changed : List ℕ) : Type 0 where
+  pub only : Only (in_blocks before.part.blocks) memory changed
+  pub placed : IsPlaced after changed
+  pub fixed : KeepsSpaces before after

@@ -1,0 +1,88 @@
+-- What the host makes of a step that the hart has left to it.
+use Rattle.std.specs.Prelude.{ℕ, ◌≡◌, ◌≢◌, ◌+◌, ◌^◌, ◌≤◌, Bool, true, List, Some, None}
+use Rattle.arch_defs.specs.declared.cached.Entry.{Entry}
+use Rattle.arch_defs.specs.declared.modes.Trap.{Trap}
+use Rattle.arch_defs.specs.declared.registers.Virtual.{Virtual}
+use Rattle.arch_defs.specs.Frames.{Only}
+use Rattle.arch_defs.specs.Registers.{a7, read}
+use Rattle.machine_defs.specs.declared.guests.Status.{Status}
+use Rattle.machine_defs.specs.declared.guests.Status.TheVariants as status
+use Rattle.machine_defs.specs.Fills.{fill}
+use Rattle.machine_defs.specs.Machine.{Machine, informed}
+use Rattle.machine_defs.specs.Runs.{left_by}
+use Rattle.shadow_pool.specs.Slots.{TidyPool}
+use Rattle.guest_exit.specs.declared.exit_cases.Exit.{Exit}
+use Rattle.guest_exit.specs.declared.exit_cases.Exit.TheVariants.{Instruction, Missing, OutsideRam, Call, Own}
+use Rattle.guest_exit.specs.declared.guests.Guest.{Guest}
+use Rattle.guest_exit.specs.declared.hart_exit.Handled.{Handled}
+use Rattle.guest_exit.specs.declared.hart_exit.Handled.TheVariants.{Stepped, Retry, Waits, Stopped}
+use Rattle.guest_exit.specs.ExitCases.{entry_at, try_at}
+use Rattle.guest_exit.specs.HartEntry.{Hands}
+use Rattle.guest_exit.specs.Steps.{CanStep, Fills, MakesStep}
+use Rattle.guest_exit.specs.View.{IsPlaced, StaysFixed, changed_by, machine_of, seen}
+
+-- a guest may go on by one step: the registers that the clock sets are as the clock has them, and memory holds
+-- its part
+pub record CanGoOn (guest : Guest) (memory : List ℕ) : Type 0 where
+  pub step : CanStep guest
+  pub current : informed (seen guest) ≡ seen guest
+  pub placed : IsPlaced guest memory
+
+-- the hart, with what it has for a guest, has left its next step to the host, by this trap
+pub record HasExited (guest : Guest) (memory : List ℕ) (trap : Trap) : Type 0 where
+  pub can : CanGoOn guest memory
+  pub hands : Hands guest.part guest.pool (machine_of guest memory) memory trap
+
+-- the machine's next step is made, or what it lacks is filled, as the answer says
+pub record IsHandled (result : Handled) (before after : Machine) : Type 0 where
+  pub step : result ≢ Retry → MakesStep before after
+  pub fill : result ≡ Retry → Fills before after
+
+-- the call of the environment that stops the machine: number 8
+abbrev pub IsStopCall : Exit → Virtual → Type 0
+IsStopCall left virt = (left ≡ Call) × (read virt.regs a7 ≡ 8)
+
+-- the status after what the host made of a step, and how many steps that was
+abbrev pub status_after : Handled → Status
+status_after Stepped = status.Running
+status_after Retry = status.Running
+status_after Waits = status.Waiting
+status_after Stopped = status.Stopped
+
+abbrev pub steps_made : Handled → ℕ
+steps_made Stepped = 1
+steps_made Retry = 0
+steps_made Waits = 0
+steps_made Stopped = 1
+
+-- a guest's status, count of steps and clock are as the host's answer tells
+pub record IsTold (result : Handled) (before after : Guest) : Type 0 where
+  pub status : after.status ≡ status_after result
+  pub made : after.steps ≡ before.steps + steps_made result
+  pub clock : after.clock.time ≤ 2 ^ 62 + after.steps
+
+-- what the host makes changes machine memory in the guest's own frames alone, where its pool is tidy then
+pub record StaysWithin (before : Guest) (memory : List ℕ) (after : Guest) (changed : List ℕ) : Type 0 where
+  pub only : Only (changed_by before) memory changed
+  pub tidy : TidyPool after.pool changed
+  pub fixed : StaysFixed before after
+
+-- and which holds the guest's part as before
+pub record KeepsPart (before : Guest) (memory : List ℕ) (after : Guest) (changed : List ℕ) : Type 0 where
+  pub only : Only (changed_by before) memory changed
+  pub placed : IsPlaced after changed
+  pub fixed : StaysFixed before after
+
+-- an access that has no place by the front space is one of a guest that folds
+abbrev pub IfMissing : Exit → Bool → Type 0
+IfMissing (Missing unplaced) folding = folding ≡ true
+IfMissing (Instruction word effect) folding = Unit {0}
+IfMissing (OutsideRam fault) folding = Unit {0}
+IfMissing Call folding = Unit {0}
+IfMissing (Own trap) folding = Unit {0}
+
+-- the step that the hart has left so is made of the machine, or what it lacks is filled
+pub record IsMadeOf (left : Exit) (result : Handled) (before after : Machine) : Type 0 where
+  pub ready : result ≢ Retry → entry_at before left ≡ None
+  pub step : result ≢ Retry → after ≡ left_by before (try_at before left)
+  pub fill : result ≡ Retry → (e : Entry) × (entry_at before left ≡ Some e) × (after ≡ fill before e)

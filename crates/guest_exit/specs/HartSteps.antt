@@ -1,0 +1,147 @@
+-- What one step of the hart is to the guest's lone machine.
+use Rattle.std.specs.Prelude.{ℕ, ◌≡◌, ◌==◌, ◌||◌, Bool, true, false, not, Option, Some, None, if◌then◌else◌, List}
+use Rattle.arch_defs.specs.declared.cached.Entry.{Entry}
+use Rattle.arch_defs.specs.declared.levels.Level.{Level}
+use Rattle.arch_defs.specs.declared.levels.Level.TheVariants as level
+use Rattle.arch_defs.specs.declared.levels.TheConstants.{VS_SOFTWARE, VS_TIMER, VS_EXTERNAL}
+use Rattle.arch_defs.specs.declared.modes.TheConstants.{VIRTUAL_INSTRUCTION}
+use Rattle.arch_defs.specs.declared.registers.Virtual.{Virtual}
+use Rattle.arch_defs.specs.declared.registers.GuestRoot.{GuestRoot}
+use Rattle.arch_defs.specs.Frames.{Frames, Only, in_blocks, joined}
+use Rattle.arch_defs.specs.declared.registers.Interrupts.{Interrupts}
+use Rattle.arch_defs.specs.Interrupts.{due, guest_bit}
+use Rattle.arch_defs.specs.Layouts.{Layout, NamesEachOnce}
+use Rattle.arch_defs.specs.Ram.{ram_of}
+use Rattle.arch_defs.specs.Traps.{exception, is_virtual}
+use Rattle.arch_defs.specs.WalkedEntries.{folds}
+use Rattle.op_defs.specs.declared.ops.CsrOp.{CsrOp}
+use Rattle.op_defs.specs.declared.ops.Privileged.{Privileged}
+use Rattle.op_defs.specs.declared.ops.Privileged.TheVariants.{Csr, Wfi}
+use Rattle.machine_defs.specs.declared.events.Event.{Event}
+use Rattle.machine_defs.specs.declared.events.Event.TheVariants as event
+use Rattle.machine_defs.specs.Fills.{lacking}
+use Rattle.machine_laws.specs.HostPlaces.{in_ram, memory_place}
+use Rattle.machine_defs.specs.Machine.{Machine, Tried, stepped_to, trapped}
+use Rattle.machine_defs.specs.Privileges.{privileged}
+use Rattle.machine_laws.specs.Renaming.{ReservesHeld, renamed}
+use Rattle.machine_laws.specs.Reservations.{CachesInRam}
+use Rattle.machine_defs.specs.Tries.{try}
+use Rattle.machine_laws.specs.Keeping.{IsOrderly}
+use Rattle.host_tables.specs.Walks.{IsHeld}
+use Rattle.shadow_pool.specs.Slots.{Pooled, TidyPool, front_root, pool_frames, room_of, spaces_of}
+use Rattle.rv64_hart.specs.Steps.{HartEnd, Goes, Exits, attempt_of, end_by, enters_vs, hart_step}
+use Rattle.world_switch.specs.Hosting.{loaded, table_from, taken_back}
+use Rattle.world_switch.specs.Laws.{KeepsHidden}
+use Rattle.guest_exit.specs.ExitCases.{IsLeft, exit_of}
+
+-- whether an interrupt is one that the hart does not take for the guest, by the guest's V and hideleg: with
+-- V = 0 one of VS, with V = 1 one that is not delegated, which goes to HS
+abbrev pub is_hosts : Option ℕ → Bool → Interrupts → Bool
+is_hosts None virtual hideleg = false
+is_hosts (Some code) false hideleg = code == VS_SOFTWARE || code == VS_TIMER || code == VS_EXTERNAL
+is_hosts (Some code) true hideleg = not (guest_bit hideleg code)
+
+-- whether the interrupt that is due is one that the host must take
+abbrev pub host_takes : Virtual → Bool
+host_takes virt = is_hosts (due virt.csrs virt.mode) (is_virtual virt.mode) virt.csrs.hideleg
+
+-- the level for which the hart's VS stands, by the guest's V
+abbrev pub hosted_level : Bool → Level
+hosted_level false = level.HS
+hosted_level true = level.VS
+
+-- what the hart's step was to the guest: a trap into VS is one into that level
+abbrev pub event_for : Bool → Event → Event
+event_for virtual (event.Plain pc word) = event.Plain pc word
+event_for virtual (event.Trap into interrupt) = event.Trap (hosted_level virtual) interrupt
+event_for virtual event.System = event.System
+
+-- the frame of the root of the table under which the hart runs for a guest: of the front space's folded
+-- table while the guest folds, else of its host table
+abbrev pub root_frame_for : Layout → Pooled → Virtual → ℕ
+root_frame_for part pool virt = if folds virt then front_root pool.slots else part.first_root
+
+unfoldable pub root_for : Layout → Pooled → Virtual → GuestRoot
+root_for part pool virt = table_from (root_frame_for part pool virt)
+
+-- the frames that steps of a guest may change: of its blocks, and of its spaces' tables
+abbrev pub changing : Layout → Pooled → Frames
+changing part pool = joined (in_blocks part.blocks) (pool_frames pool)
+
+-- the hart still stands for a guest with what it has run, but for what is saved of it
+pub record Keeps (root : GuestRoot) (before hart : Virtual) : Type 0 where
+  pub csrs : KeepsHidden root (is_virtual before.mode) before.csrs hart.csrs
+  pub mode : is_virtual hart.mode ≡ true
+
+-- the step of the machine that a step of the hart is
+abbrev pub step_for : Machine → Virtual → Bool → List ℕ → Event → Tried
+step_for m hart trapped memory event =
+    let platform = record m.platform { virt = taken_back trapped hart m.platform.virt } in
+    stepped_to (record m { ram = memory }) platform event
+
+-- a step that the hart has made in a part of machine memory is the machine's, which lacks nothing: the hart's
+-- state is the one that stands for the machine after it, with its reservation's place in memory
+pub record IsMade (part : Layout) (root : GuestRoot) (m : Machine) (tried : Tried) (lacks : Option Entry)
+    (memory : List ℕ) (hart : Virtual) (changed : List ℕ) (event : Event) : Type 0 where
+  pub own : Virtual
+  pub state : hart ≡ renamed (memory_place part.blocks) own
+  pub step : tried
+      ≡ step_for m own (enters_vs event) (ram_of part.blocks changed)
+      (event_for (is_virtual m.platform.virt.mode) event)
+  pub ready : lacks ≡ None
+  pub keeps : Keeps root m.platform.virt own
+  pub held : ReservesHeld (in_ram part.blocks) own.reservation
+  pub only : Only (in_blocks part.blocks) memory changed
+
+-- what a step of the hart under a root is to a try of the machine for which it stands, and to what that lacks
+abbrev pub FollowsTry : Layout → GuestRoot → Machine → Tried → Option Entry → List ℕ → HartEnd → Type 0
+FollowsTry part root m tried lacks memory (Goes hart changed event) =
+    IsMade part root m tried lacks memory hart changed event
+FollowsTry part root m tried lacks memory (Exits trap) =
+    IsLeft m tried lacks (exit_of m.platform.virt trap)
+
+abbrev pub Follows : Layout → GuestRoot → Machine → List ℕ → HartEnd → Type 0
+Follows part root m memory end = FollowsTry part root m (try m) (lacking m) memory end
+
+-- a machine in a part of machine memory: the part names no frame twice, and memory holds it with its host
+-- table; RAM is the bytes of its blocks; what is reserved, if anything, is a place of RAM; the spaces are
+-- those of a pool of the same part, whose tables are tidy in memory, and cache frames of RAM; and while the
+-- machine folds, the space of hgatp is in front
+pub record IsAt (part : Layout) (pool : Pooled) (m : Machine) (memory : List ℕ) : Type 0 where
+  pub once : NamesEachOnce part
+  pub held : IsHeld part memory
+  pub ram : m.ram ≡ ram_of part.blocks memory
+  pub reserved : ReservesHeld (in_ram part.blocks) m.platform.virt.reservation
+  pub own : pool.part ≡ part
+  pub tidy : TidyPool pool memory
+  pub spaces : m.spaces ≡ spaces_of pool
+  pub space_room : m.space_room ≡ room_of pool
+  pub entry_room : m.entry_room ≡ pool.most
+  pub caches : CachesInRam m
+  pub orderly : IsOrderly m
+
+-- a step of the hart that stands for a guest is a try of its lone machine, where no interrupt is due that the
+-- host must take, and memory holds the guest's part
+abbrev pub StepsFollow : Type 0
+StepsFollow =
+    (part : Layout) (pool : Pooled) (m : Machine) (memory : List ℕ)
+    → host_takes m.platform.virt ≡ false → IsAt part pool m memory
+    → Follows part (root_for part pool m.platform.virt) m memory
+    (hart_step (loaded part (root_for part pool m.platform.virt) m.platform.virt) memory)
+
+-- the hart, loaded for a guest, exits at an instruction that the mode decides on, with its word
+abbrev pub ExitsAt : Layout → GuestRoot → Virtual → List ℕ → ℕ → Privileged → Type 0
+ExitsAt part root virt memory word effect =
+    let hart = loaded part root virt in
+    end_by hart memory (attempt_of hart.csrs hart.mode memory (privileged hart word effect))
+    ≡ Exits (exception hart.mode VIRTUAL_INSTRUCTION word)
+
+-- so it does at a WFI, and at a read of time, whatever the guest's mode and registers are
+abbrev pub WaitsExit : Type 0
+WaitsExit = (part : Layout) (root : GuestRoot) (virt : Virtual) (memory : List ℕ) (word : ℕ)
+    → ExitsAt part root virt memory word Wfi
+
+abbrev pub TimeExits : Type 0
+TimeExits =
+    (part : Layout) (root : GuestRoot) (virt : Virtual) (memory : List ℕ) (word : ℕ)
+    (op : CsrOp) (operand rd : ℕ) → ExitsAt part root virt memory word (Csr op 0xC01 operand false rd)

@@ -1,0 +1,59 @@
+-- The next step of a guest's lone machine, and what is left after it.
+use Rattle.std.specs.Prelude.{ℕ, ◌≡◌, ◌+◌, ◌^◌, ◌<◌, ◌≤◌, List, Some, None}
+use Rattle.arch_defs.specs.declared.cached.Entry.{Entry}
+use Rattle.machine_defs.specs.declared.guests.Status.TheVariants.{Running}
+use Rattle.machine_defs.specs.Fills.{fill, lacking}
+use Rattle.machine_defs.specs.Machine.{Machine, Tried}
+use Rattle.machine_defs.specs.Runs.{event_in, instruction_count, left_after, left_by, plain_count, run, trace_of}
+use Rattle.machine_defs.specs.Tries.{try}
+use Rattle.machine_laws.specs.Budgets.{NeedNoFill}
+use Rattle.guest_exit.specs.declared.guests.Guest.{Guest}
+use Rattle.guest_exit.specs.View.{machine_of}
+
+-- a guest goes on, and its clock and its count of steps have room for one step more
+pub record CanStep (guest : Guest) : Type 0 where
+  pub running : guest.status ≡ Running
+  pub clock : guest.clock.time ≤ 2 ^ 62 + guest.steps
+  pub steps : guest.steps < 2 ^ 61
+
+-- a machine's next step is made: its try, which lacks no cached translation
+pub record MakesStep (before after : Machine) : Type 0 where
+  pub ready : lacking before ≡ None
+  pub step : after ≡ left_after before
+
+-- its next steps are made, which lack none either
+pub record MakesSteps (n : ℕ) (before after : Machine) : Type 0 where
+  pub ready : NeedNoFill n before
+  pub steps : after ≡ run before n
+
+-- its next try lacks a cached translation: the walk of the guest's own table, as RAM is, answers the access
+-- with a leaf that permits it and whose frame is in RAM
+abbrev pub IsMiss : Machine → Type 0
+IsMiss m = (e : Entry) × (lacking m ≡ Some e)
+
+-- which is filled, and nothing else happens
+abbrev pub Fills : Machine → Machine → Type 0
+Fills before after = (e : Entry) × (lacking before ≡ Some e) × (after ≡ fill before e)
+
+-- a try that is no plain step
+pub record IsNotPlain (tried : Tried) : Type 0 where
+  pub trace : trace_of (event_in tried) ≡ 0
+  pub plain : plain_count (event_in tried) ≡ 0
+
+-- the machine's next step is one in which the hart has no part: none such is plain
+abbrev pub IsQuiet : Machine → Type 0
+IsQuiet m = IsNotPlain (try m)
+
+-- a guest is left as a try leaves its machine, whatever is in memory, which stays
+abbrev pub Makes : Guest → Guest → (Machine → Tried) → Type 0
+Makes before after tried =
+    (memory : List ℕ)
+    → machine_of after memory ≡ left_by (machine_of before memory) (tried (machine_of before memory))
+
+-- the next step of its machine is made, an interrupt that is taken, whatever is in memory
+pub record TakesInterrupt (before after : Guest) : Type 0 where
+  pub step : (memory : List ℕ) → MakesStep (machine_of before memory) (machine_of after memory)
+  pub quiet : (memory : List ℕ) → IsQuiet (machine_of before memory)
+  pub none : (memory : List ℕ) → instruction_count (event_in (try (machine_of before memory))) ≡ 0
+  pub made : after.steps ≡ before.steps + 1
+  pub clock : after.clock.time ≡ before.clock.time + 1

@@ -1,0 +1,159 @@
+// How a step is read that the hart has left to the host.
+
+ghost use Rattle.std.specs.Prelude.{◌≡◌, ◌^◌, ◌<◌};
+ghost use Rattle.arch_defs.specs.WalkedEntries.{folds};
+ghost use Rattle.guest_exit.specs.ExitCases.{access_fault_for, access_of, exit_of, instruction_exit, is_guest_page_code, missed, privileged_at, privileged_in, privileged_of, unplaced_exit};
+
+use crate::guests::folds;
+use arch_defs::{
+    Access, INSTRUCTION_ACCESS_FAULT, INSTRUCTION_GUEST_PAGE_FAULT, LOAD_ACCESS_FAULT,
+    LOAD_GUEST_PAGE_FAULT, Regs, STORE_ACCESS_FAULT, STORE_GUEST_PAGE_FAULT, Trap,
+    VIRTUAL_INSTRUCTION, Virtual,
+};
+use op_defs::{Effect, Privileged};
+use rv64_decode::decode;
+use rv64_hart::effect_of;
+use trap_delegation::{exception, is_virtual};
+use two_stage_walk::Unplaced;
+
+// Guest physical addresses have 41 bits, of which a trap does not tell the low two (Privileged Architecture
+// 20211203, 8.2.8 and 8.5.1).
+const PAST_ADDRESSES: u64 = 0x80_0000_0000;
+
+/// A step that the hart has left to the host.
+#[derive(Clone, Copy)]
+pub enum Exit {
+    /// An instruction on which the mode decides: its word and its effect.
+    Instruction { word: u64, effect: Privileged },
+    /// An access to which the front space gives no place.
+    Missing(Unplaced),
+    /// An access outside RAM, with the guest's access fault.
+    OutsideRam(Trap),
+    /// A call of the execution environment.
+    Call,
+    /// A trap that the guest takes itself, since it does not delegate it.
+    Own(Trap),
+}
+
+/// Which step it is, by the trap of the hart.
+#[tactic(auto, unfolding(crate::specs::ExitCases::exit_of))]
+pub fn exit_of(virt: &Virtual, trap: &Trap) -> Exit
+    ensures { result ≡ exit_of virt.now trap.now }
+{
+    if is_guest_page_code(trap.cause) {
+        return unplaced_exit(virt, trap);
+    }
+    if trap.cause == VIRTUAL_INSTRUCTION {
+        return instruction_exit(virt, trap);
+    }
+    if is_virtual(virt.mode) {
+        Exit::Own(*trap)
+    } else {
+        Exit::Call
+    }
+}
+
+fn is_guest_page_code(code: u64) -> bool
+    ensures { result ≡ is_guest_page_code code }
+{
+    code == INSTRUCTION_GUEST_PAGE_FAULT
+        || code == LOAD_GUEST_PAGE_FAULT
+        || code == STORE_GUEST_PAGE_FAULT
+}
+
+// A guest-page fault. While the guest does not fold, the host table has no place outside RAM.
+fn unplaced_exit(virt: &Virtual, trap: &Trap) -> Exit
+    ensures { result ≡ unplaced_exit virt.now trap.now (folds virt.now) }
+{
+    if !folds(virt) {
+        return Exit::OutsideRam(exception(virt.mode, access_fault_for(trap.cause), trap.tval));
+    }
+    if trap.tval2 < PAST_ADDRESSES {
+        Exit::Missing(missed(virt, trap))
+    } else {
+        Exit::Own(*trap)
+    }
+}
+
+// The access fault for a guest-page fault of the host table.
+fn access_fault_for(code: u64) -> u64
+    ensures { result ≡ access_fault_for code }
+{
+    match code {
+        INSTRUCTION_GUEST_PAGE_FAULT => INSTRUCTION_ACCESS_FAULT,
+        LOAD_GUEST_PAGE_FAULT => LOAD_ACCESS_FAULT,
+        _ => STORE_ACCESS_FAULT,
+    }
+}
+
+// What the hart's trap tells of the access.
+fn missed(virt: &Virtual, trap: &Trap) -> Unplaced
+    requires small { trap.now.tval2 < 2 ^ 39 }
+    ensures { result ≡ missed virt.now trap.now }
+{
+    let access = access_of(trap.cause);
+    Unplaced {
+        address: trap.tval2 * 4,
+        kind: if trap.implicit {
+            Access::Implicit
+        } else {
+            access
+        },
+        access,
+        va: trap.tval,
+        mode: virt.mode,
+    }
+}
+
+fn access_of(code: u64) -> Access
+    ensures { result ≡ access_of code }
+{
+    match code {
+        INSTRUCTION_GUEST_PAGE_FAULT => Access::Fetch,
+        LOAD_GUEST_PAGE_FAULT => Access::Load,
+        _ => Access::Store,
+    }
+}
+
+// A virtual-instruction exception, whose tval is the word of the instruction.
+fn instruction_exit(virt: &Virtual, trap: &Trap) -> Exit
+    ensures { result ≡ instruction_exit trap.now (privileged_at trap.now.tval virt.now.regs) }
+{
+    match privileged_at(trap.tval, &virt.regs) {
+        Some(effect) => Exit::Instruction {
+            word: trap.tval,
+            effect,
+        },
+        None => Exit::Own(*trap),
+    }
+}
+
+fn privileged_at(tval: u64, regs: &Regs) -> Option<Privileged>
+    ensures { result ≡ privileged_at tval regs.now }
+{
+    if tval < 0x1_0000_0000 {
+        privileged_in(tval as u32, regs)
+    } else {
+        None
+    }
+}
+
+// The effect of the instruction that a word is, if the mode decides on it.
+#[tactic(auto, unfolding(crate::specs::ExitCases::privileged_in))]
+fn privileged_in(word: u32, regs: &Regs) -> Option<Privileged>
+    ensures { result ≡ privileged_in word regs.now }
+{
+    match decode(word) {
+        Some(op) => privileged_of(effect_of(&op, regs)),
+        None => None,
+    }
+}
+
+fn privileged_of(effect: Effect) -> Option<Privileged>
+    ensures { result ≡ privileged_of effect }
+{
+    match effect {
+        Effect::Privileged(effect) => Some(effect),
+        _ => None,
+    }
+}

@@ -1,0 +1,59 @@
+// One entry of the hart.
+
+ghost use Rattle.std.specs.Prelude.{◌≡◌};
+ghost use Rattle.machine_defs.specs.Runs.{events, trace_of};
+ghost use Rattle.rv64_hart.specs.Steps.{is_vs_trap, progress};
+ghost use Rattle.guest_exit.specs.HartEntry.{CanEnter, GoesOn, HartMakes, HasRoomFor, IsAccounted, KeepsTables, Stops};
+ghost use Rattle.guest_exit.specs.HartSteps.{root_frame_for};
+ghost use Rattle.guest_exit.specs.Steps.{MakesSteps};
+ghost use Rattle.guest_exit.specs.View.{machine_of};
+
+use crate::guests::{Guest, folds};
+use phys_mem::PhysMem;
+use rv64_hart::{Hart, Stop, Tally, Why};
+use world_switch::load;
+
+/// Enters the hart for at most `limit` steps of the guest, which are steps of its lone machine, and gives the
+/// guest what the hart then has for it. After `Exit` the machine's next step is for `handle`.
+pub fn enter(
+    guest: &mut Guest,
+    hart: &mut Hart,
+    memory: &mut PhysMem,
+    limit: u64,
+    tally: &mut Tally,
+) -> Stop
+    requires can { CanEnter guest.old memory.old limit }
+    requires room { HasRoomFor limit tally.old }
+
+    ensures run { MakesSteps result.taken (machine_of guest.old memory.old) (machine_of guest.new memory.new) }
+    ensures why { Stops guest.old.part guest.old.pool (machine_of guest.new memory.new) memory.new limit result }
+    ensures hart { HartMakes result.taken guest.old guest.new memory.old tally.old.trace
+        (progress hart.new.state memory.new tally.new.trace (is_vs_trap result.why)) }
+    ensures account { IsAccounted result.taken
+        (trace_of (events (machine_of guest.old memory.old) result.taken)) tally.old tally.new }
+    ensures goes { GoesOn result.taken guest.old guest.new }
+    ensures keeps { KeepsTables guest.old memory.old guest.new memory.new }
+{
+    let root = root_frame_of(guest);
+    *hart.state_mut() = load(&guest.virt, &guest.part, root);
+    let stop = hart.run(memory, limit, true, tally);
+    guest.take_steps(hart.state(), is_vs_trap(&stop.why), stop.taken);
+    stop
+}
+
+// The frame of the root of the table under which the hart runs for the guest.
+fn root_frame_of(guest: &Guest) -> u64
+    ensures { result ≡ root_frame_for guest.now.part guest.now.pool guest.now.virt }
+{
+    if folds(&guest.virt) {
+        guest.pool.root()
+    } else {
+        guest.part.host_root()
+    }
+}
+
+fn is_vs_trap(why: &Why) -> bool
+    ensures { result ≡ is_vs_trap why.now }
+{
+    matches!(why, Why::VsTrap)
+}

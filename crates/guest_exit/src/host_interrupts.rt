@@ -1,0 +1,62 @@
+// Interrupts that the host takes.
+
+ghost use Rattle.std.specs.Prelude.{◌≡◌, List, Some, ℕ, false, true};
+ghost use Rattle.arch_defs.specs.Interrupts.{guest_bit};
+ghost use Rattle.arch_defs.specs.Traps.{is_virtual};
+ghost use Rattle.machine_defs.specs.declared.guests.Status.TheVariants.{Running};
+ghost use Rattle.guest_exit.specs.HartSteps.{host_takes, is_hosts};
+ghost use Rattle.guest_exit.specs.Steps.{CanStep, TakesInterrupt};
+ghost use Rattle.guest_exit.specs.View.{IsPlaced, KeepsSpaces};
+
+use crate::guests::Guest;
+use crate::traps::take;
+use arch_defs::{Interrupts, VS_EXTERNAL, VS_SOFTWARE, VS_TIMER, Virtual};
+use trap_delegation::{interrupt_trap, is_virtual, pending};
+
+/// Takes the interrupt that is due where the hart cannot: with V = 0 one of VS that is not delegated, with V
+/// = 1 one for HS (Privileged Architecture 20211203, 8.2.2 and 8.2.3). Answers whether there was one, which
+/// is a step.
+pub fn interrupt(guest: &mut Guest) -> bool
+    requires can { CanStep guest.old }
+    ensures which { result ≡ host_takes guest.old.virt }
+    ensures takes { result ≡ true → TakesInterrupt guest.old guest.new }
+    ensures stays { result ≡ false → guest.new ≡ guest.old }
+    ensures placed { (memory : List ℕ) → IsPlaced guest.old memory → IsPlaced guest.new memory }
+    ensures status { guest.new.status ≡ Running }
+    ensures fixed { KeepsSpaces guest.old guest.new }
+{
+    match pending(&guest.virt.csrs, guest.virt.mode) {
+        Some(code) => {
+            if is_hosts(code, &guest.virt) {
+                take(&mut guest.virt, &interrupt_trap(code));
+                guest.tick();
+                true
+            } else {
+                false
+            }
+        }
+        None => false,
+    }
+}
+
+// Whether an interrupt is one that the hart does not take.
+fn is_hosts(code: u64, virt: &Virtual) -> bool
+    ensures { result ≡ is_hosts (Some code) (is_virtual virt.now.mode) virt.now.csrs.hideleg }
+{
+    if is_virtual(virt.mode) {
+        !is_delegated(&virt.csrs.hideleg, code)
+    } else {
+        matches!(code, VS_SOFTWARE | VS_TIMER | VS_EXTERNAL)
+    }
+}
+
+fn is_delegated(hideleg: &Interrupts, code: u64) -> bool
+    ensures { result ≡ guest_bit hideleg.now code }
+{
+    match code {
+        VS_SOFTWARE => hideleg.software,
+        VS_TIMER => hideleg.timer,
+        VS_EXTERNAL => hideleg.external,
+        _ => false,
+    }
+}

@@ -1,0 +1,74 @@
+// WFI of a guest (Privileged Architecture 20211203, 3.3.3).
+
+ghost use Rattle.std.specs.Prelude.{◌≡◌, ◌≢◌, ◌&&◌, ◌||◌, false};
+ghost use Rattle.machine_defs.specs.Machine.{has_enabled_interrupt, informed, waited};
+ghost use Rattle.guest_exit.specs.HartExit.{IsTold};
+ghost use Rattle.guest_exit.specs.Steps.{CanStep, Makes};
+ghost use Rattle.guest_exit.specs.View.{KeepsSpaces, seen};
+
+use crate::guests::Guest;
+use crate::hart_exit::Handled;
+use arch_defs::{Csrs, Interrupts, Virtual};
+use machine_defs::Status;
+use virtual_timer::{WaitEnd, wake_moment_is_least};
+
+/// A WFI, which leaves this state. Where an interrupt is pending and enabled it goes on at once, and else it
+/// waits for the wake moment, or for good.
+pub fn wait(guest: &mut Guest, virt: Virtual) -> Handled
+    requires can { CanStep guest.old }
+    requires current { informed (seen guest.old) ≡ seen guest.old }
+    ensures step { Makes guest.old guest.new (λ m. waited m virt) }
+    ensures told { IsTold result guest.old guest.new }
+    ensures went { result ≢ Handled.Retry }
+    ensures runs { result ≢ Handled.Stopped }
+    ensures fixed { KeepsSpaces guest.old guest.new }
+{
+    if has_enabled_interrupt(&guest.virt.csrs) {
+        guest.virt = virt;
+        guest.tick();
+        return Handled::Stepped;
+    }
+    wait_for_wake(guest, virt)
+}
+
+// A WFI at which no enabled interrupt is pending.
+fn wait_for_wake(guest: &mut Guest, virt: Virtual) -> Handled
+    requires can { CanStep guest.old }
+    requires current { informed (seen guest.old) ≡ seen guest.old }
+    requires none { has_enabled_interrupt guest.old.virt.csrs ≡ false }
+    ensures step { Makes guest.old guest.new (λ m. waited m virt) }
+    ensures told { IsTold result guest.old guest.new }
+    ensures went { result ≢ Handled.Retry }
+    ensures runs { result ≢ Handled.Stopped }
+    ensures fixed { KeepsSpaces guest.old guest.new }
+{
+    wake_moment_is_least();
+    match guest.clock.wait(guest.virt.csrs.sie, guest.console.next()) {
+        WaitEnd::Woke => {
+            guest.virt = virt;
+            guest.count();
+            Handled::Stepped
+        }
+        WaitEnd::ForGood => {
+            guest.status = Status::Waiting;
+            Handled::Waits
+        }
+    }
+}
+
+// Whether an interrupt is pending and enabled, whichever level takes it, and whether it is taken now or not.
+fn has_enabled_interrupt(csrs: &Csrs) -> bool
+    ensures { result ≡ has_enabled_interrupt csrs.now }
+{
+    any_in_both(&csrs.sip, &csrs.sie) || any_in_both(&csrs.hvip, &csrs.hie)
+}
+
+fn any_in_both(pending: &Interrupts, enabled: &Interrupts) -> bool
+    ensures { result ≡ (pending.now.external && enabled.now.external
+        || pending.now.software && enabled.now.software
+        || pending.now.timer && enabled.now.timer) }
+{
+    pending.external && enabled.external
+        || pending.software && enabled.software
+        || pending.timer && enabled.timer
+}
