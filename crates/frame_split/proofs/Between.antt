@@ -1,10 +1,10 @@
 -- Parts between two places.
-use Rattle.std.proofs.Common.{◌≡◌, ◌≢◌, ℕ, ◌+◌, ◌-◌, ◌*◌, ◌/◌, ◌%◌, ◌<◌, ◌≤◌, ◌⊎◌, inl, inr, Bool, true, false, ◌||◌, List, length, slice_index, take, refl, sym, ap, ◌∙◌, arith}
+use Rattle.std.proofs.Common.{◌≡◌, ℕ, ◌+◌, ◌*◌, ◌/◌, ◌%◌, ◌<◌, ◌≤◌, ◌⊎◌, inl, inr, true, false, List, length, slice_index, take, refl, ◌∙◌, arith}
 use Rattle.std.proofs.lemmas.Bool.{cases_Bool, or_cases}
 use Rattle.std.proofs.lemmas.List.{length-take-le, get_or-take}
 use Rattle.arch_defs.specs.declared.needs.Need.{Need}
-use Rattle.arch_defs.specs.Frames.{in_blocks, within, joined, Apart, LieIn}
-use Rattle.arch_defs.specs.Layouts.{Layout, NamesEachOnce, in_tables, root_frames, table_frames, named_by}
+use Rattle.arch_defs.specs.Frames.{in_blocks, Apart, LieIn}
+use Rattle.arch_defs.specs.Layouts.{Layout, NamesEachOnce, in_tables, root_frames, table_frames, named_by, tables_for}
 use Rattle.arch_defs.specs.Needs.{IsNeed, Meets}
 use Rattle.arch_defs.specs.Ram.{IsDistinct}
 use Rattle.arch_defs.proofs.FrameSets.{range_parts, ranges_apart, block_found}
@@ -33,7 +33,7 @@ roots_between from to part frame lies named =
 
 pub tables_between : (from to : Free) (part : Layout) (frame : ℕ) → LiesBetween from to part → table_frames part frame ≡ true → (from.table ≤ frame) × (frame < to.table)
 tables_between from to part frame lies named =
-    let parts = range_parts part.first_table (1 + part.spaces * (2 * part.entries)) frame named in
+    let parts = range_parts part.first_table (1 + part.spaces * tables_for part.entries) frame named in
     (omega (arith, parts.0, lies.tables_from), omega (arith, parts.1, lies.tables_to))
 
 -- where a frame of a part is
@@ -126,7 +126,7 @@ once_after need free part limits meets from root table blocks_room roots_room al
   distinct = consecutive free.block part.blocks from;
   aligned = rw root aligned;
   tables = λ frame named. by frame (blocks_between free (after need free) part frame lies named) (cases_Bool (in_tables part frame));
-  roots = ranges_apart part.first_root (4 * (1 + part.spaces)) part.first_table (1 + part.spaces * (2 * part.entries))
+  roots = ranges_apart part.first_root (4 * (1 + part.spaces)) part.first_table (1 + part.spaces * tables_for part.entries)
       (rw (root, table, meets.spaces) roots_room);
 }
   where

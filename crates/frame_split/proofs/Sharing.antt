@@ -1,11 +1,11 @@
 -- The loop that makes the parts.
-use Rattle.std.proofs.Common.{◌≡◌, ◌≢◌, ℕ, ◌+◌, ◌-◌, ◌*◌, ◌%◌, ◌<◌, ◌≤◌, ◌⊎◌, inl, inr, true, List, [], ◌∷◌, ◌++◌, length, get_or, drop, refl, sym, ap, subst, ◌∙◌, arith}
+use Rattle.std.proofs.Common.{◌≡◌, ℕ, ◌+◌, ◌*◌, ◌%◌, ◌<◌, ◌≤◌, ◌⊎◌, inl, inr, true, List, [], ◌∷◌, ◌++◌, length, get_or, drop, refl, sym, ap, subst, ◌∙◌, arith}
 use Rattle.std.proofs.lemmas.Bool.{cases_lt, or_cases}
 use Rattle.std.proofs.lemmas.List.{get_or_append_left, get_or_push, length_push, get_or_default}
 use Rattle.arch_defs.specs.declared.needs.Need.{Need}
 use Rattle.arch_defs.specs.Frames.{Apart}
-use Rattle.arch_defs.specs.Layouts.{Layout, NamesEachOnce, named_by, in_tables, root_frames, table_frames}
-use Rattle.arch_defs.specs.Needs.{IsNeed, Meets}
+use Rattle.arch_defs.specs.Layouts.{Layout, NamesEachOnce, named_by, in_tables, root_frames, table_frames, tables_for}
+use Rattle.arch_defs.specs.Needs.{Meets}
 use Rattle.arch_defs.proofs.FrameSets.{apart_sym}
 use Rattle.frame_split.specs.declared.planning.Free.{Free}
 use Rattle.frame_split.specs.Shares.{ArePairwiseApart, IsSplit, LiesBetween, IsOrdered, SoFar, after, blocks_of_all, roots_of_all, tables_of_all}
@@ -84,10 +84,10 @@ so_far_more needs i parts start free frames need part so h is meets once between
     root_step : roots_of_all (drop i needs) ≡ 1 + need.spaces + roots_of_all (drop (i + 1) needs)
     root_step = roots_more needs i need h ∙ ap (λ n. 1 + n.spaces + roots_of_all (drop (i + 1) needs)) (sym is)
 
-    table_step : tables_of_all (drop i needs) ≡ 1 + need.spaces * (2 * need.entries) + tables_of_all (drop (i + 1) needs)
-    table_step = tables_more needs i need h ∙ ap (λ n. 1 + n.spaces * (2 * n.entries) + tables_of_all (drop (i + 1) needs)) (sym is)
+    table_step : tables_of_all (drop i needs) ≡ 1 + need.spaces * tables_for need.entries + tables_of_all (drop (i + 1) needs)
+    table_step = tables_more needs i need h ∙ ap (λ n. 1 + n.spaces * tables_for n.entries + tables_of_all (drop (i + 1) needs)) (sym is)
 
-    on : (free.block ≤ free.block + need.blocks) × (free.root ≤ free.root + 4 * (1 + need.spaces)) × (free.table ≤ free.table + (1 + need.spaces * (2 * need.entries)))
+    on : (free.block ≤ free.block + need.blocks) × (free.root ≤ free.root + 4 * (1 + need.spaces)) × (free.table ≤ free.table + (1 + need.spaces * tables_for need.entries))
     on = (omega arith, omega arith, omega arith)
 
     order : IsOrdered start (after need free)

@@ -5,7 +5,7 @@ use Rattle.frame_split.specs.declared.planning.Free.{Free}
 use Rattle.frame_split.specs.declared.faults.PlanFault.{PlanFault}
 use Rattle.frame_split.specs.declared.faults.PlanFault.TheVariants.{NoMemory, TooMuch}
 use Rattle.arch_defs.specs.Frames.{in_blocks, Apart, LieIn}
-use Rattle.arch_defs.specs.Layouts.{Layout, NamesEachOnce, in_tables, root_frames, table_frames, named_by}
+use Rattle.arch_defs.specs.Layouts.{Layout, NamesEachOnce, in_tables, root_frames, table_frames, named_by, tables_for}
 use Rattle.arch_defs.specs.Needs.{IsNeed, frames_needed, Meets}
 
 -- the frames that all of them need
@@ -56,7 +56,7 @@ abbrev pub after : Need → Free → Free
 after need free = record {
   block = free.block + need.blocks;
   root = free.root + 4 * (1 + need.spaces);
-  table = free.table + (1 + need.spaces * (2 * need.entries));
+  table = free.table + (1 + need.spaces * tables_for need.entries);
 }
 
 -- a part lies between two such places
@@ -66,7 +66,7 @@ pub record LiesBetween (from to : Free) (part : Layout) : Type 0 where
   pub roots_from : from.root ≤ part.first_root
   pub roots_to : part.first_root + 4 * (1 + part.spaces) ≤ to.root
   pub tables_from : from.table ≤ part.first_table
-  pub tables_to : part.first_table + (1 + part.spaces * (2 * part.entries)) ≤ to.table
+  pub tables_to : part.first_table + (1 + part.spaces * tables_for part.entries) ≤ to.table
 
 -- the blocks end where the roots begin or before, and the roots where the other tables do
 pub record IsOrdered (from to : Free) : Type 0 where
@@ -84,7 +84,7 @@ roots_of_all (need ∷ needs) = 1 + need.spaces + roots_of_all needs
 
 abbrev pub tables_of_all : List Need → ℕ
 tables_of_all [] = 0
-tables_of_all (need ∷ needs) = 1 + need.spaces * (2 * need.entries) + tables_of_all needs
+tables_of_all (need ∷ needs) = 1 + need.spaces * tables_for need.entries + tables_of_all needs
 
 -- the parts of the needs so far, from one place to another, and what is still to be shared out up to the ends
 pub record SoFar (needs : List Need) (done : ℕ) (parts : List Layout) (start free : Free) (frames : ℕ)
@@ -100,7 +100,7 @@ pub record SoFar (needs : List Need) (done : ℕ) (parts : List Layout) (start f
   pub aligned : free.root % 4 ≡ 0
   pub from : (start.block ≤ free.block) × (start.root ≤ free.root) × (start.table ≤ free.table)
 
--- why there is no plan: want of memory, or the sum of the needs
+-- why there is no plan: the needs sum to too much, or they don't and memory is wanting
 abbrev pub Causes : PlanFault → List Need → Type 0
-Causes NoMemory needs = Unit {0}
+Causes NoMemory needs = frames_of_all needs ≤ 131072
 Causes (TooMuch sum) needs = (sum ≡ frames_of_all needs) × (131072 < sum)

@@ -1,12 +1,12 @@
 // The plan: all blocks first, then all roots, then all other tables, so that no frame is lost.
 
 ghost use Rattle.std.specs.Prelude.{◌≡◌, ℕ, ◌+◌, ◌*◌, ◌%◌, ◌<◌, ◌≤◌, ◌^◌, length, slice_index, IfOk, IfErr, IfSome};
-ghost use Rattle.arch_defs.specs.Layouts.{NamesEachOnce};
+ghost use Rattle.arch_defs.specs.Layouts.{NamesEachOnce, tables_for};
 ghost use Rattle.arch_defs.specs.Needs.{IsNeed, Meets};
 ghost use Rattle.frame_split.specs.Shares.{AreNeeds, Causes, IsSplit, LiesBetween, after, frames_of_all, blocks_of_all, roots_of_all, tables_of_all};
 
 use crate::faults::PlanFault;
-use arch_defs::{BLOCK_FRAMES, MOST_BLOCKS, Need, Part};
+use arch_defs::{BLOCK_FRAMES, MOST_BLOCKS, Need, Part, TABLES_PER_ENTRY};
 use std::alloc::Global;
 
 /// The most frames of machine memory.
@@ -36,8 +36,8 @@ struct Totals {
 }
 
 /// Shares out machine memory: each guest gets a part of the size that it needs, all blocks come first,
-/// then all roots, then all other tables. There is no plan exactly where the needs sum to more than
-/// 131,072 frames, but for want of memory.
+/// then all roots, then all other tables. It answers `TooMuch`, with the sum, exactly where the needs sum to
+/// more than 131,072 frames, and else may answer `NoMemory`.
 pub fn plan(alloc: Global, needs: &[Need]) -> Result<Split, PlanFault>
     requires few { length needs.now ≤ 16 }
     requires needs { AreNeeds needs.now }
@@ -88,14 +88,14 @@ fn with_need(totals: Totals, need: &Need) -> Totals
     requires room { (totals.blocks ≤ 2 ^ 32) × (totals.roots ≤ 2 ^ 32) × (totals.tables ≤ 2 ^ 32) }
     ensures blocks { result.blocks ≡ totals.blocks + need.now.blocks }
     ensures roots { result.roots ≡ totals.roots + (1 + need.now.spaces) }
-    ensures tables { result.tables ≡ totals.tables + (1 + need.now.spaces * (2 * need.now.entries)) }
+    ensures tables { result.tables ≡ totals.tables + (1 + need.now.spaces * tables_for need.now.entries) }
     ensures few { (result.blocks ≤ totals.blocks + 32) × (result.roots ≤ totals.roots + 9)
         × (result.tables ≤ totals.tables + 4097) }
 {
     Totals {
         blocks: totals.blocks + need.blocks,
         roots: totals.roots + 1 + need.spaces,
-        tables: totals.tables + 1 + need.spaces * (2 * need.entries),
+        tables: totals.tables + 1 + need.spaces * (TABLES_PER_ENTRY * need.entries),
     }
 }
 
@@ -106,7 +106,7 @@ fn share(alloc: Global, needs: &[Need], start: Free, frames: u64) -> Option<Vec<
     requires roots { start.root + 4 * roots_of_all needs.now ≤ start.table }
     requires tables { start.table + tables_of_all needs.now ≤ frames }
     requires aligned { start.root % 4 ≡ 0 }
-    requires most { frames ≤ 131072 }
+    requires most { frames < 2 ^ 32 }
     ensures { IfSome result (λ parts. IsSplit needs.now parts.items frames) }
 {
     let Ok(mut parts) = Vec::with_capacity(alloc, needs.len()) else {
@@ -133,7 +133,7 @@ fn after(need: &Need, free: Free) -> Free
     Free {
         block: free.block + need.blocks,
         root: free.root + 4 * (1 + need.spaces),
-        table: free.table + (1 + need.spaces * (2 * need.entries)),
+        table: free.table + (1 + need.spaces * (TABLES_PER_ENTRY * need.entries)),
     }
 }
 
@@ -143,7 +143,7 @@ fn part_at(need: &Need, free: Free) -> Part
     requires blocks { 512 * (free.block + need.now.blocks) ≤ free.root }
     requires roots { free.root + 4 * (1 + need.now.spaces) ≤ free.table }
     requires aligned { free.root % 4 ≡ 0 }
-    requires small { free.table ≤ 131072 }
+    requires small { free.table < 2 ^ 32 }
     ensures meets { Meets need.now result }
     ensures once { NamesEachOnce result }
     ensures between { LiesBetween free (after need.now free) result }

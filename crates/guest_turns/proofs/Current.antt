@@ -6,7 +6,7 @@ use Rattle.machine_defs.specs.Fills.{most_fills, ready}
 use Rattle.machine_defs.specs.Machine.{Machine, Platform, Tried, Ended, WaitsForGood, informed}
 use Rattle.machine_defs.specs.Runs.{left_by, run, step, stepped}
 use Rattle.machine_defs.specs.Tries.{try}
-use Rattle.guest_exit.specs.Entering.{Fills, MakesStep}
+use Rattle.guest_exit.specs.Steps.{Fills, MakesStep}
 use Rattle.guest_turns.proofs.Steps.{same_platform}
 use Rattle.guest_turns.proofs.Tries.{LeavesStep, try_step}
 

@@ -3,11 +3,11 @@ use Rattle.std.proofs.Common.{◌≡◌, ◌≢◌, ℕ, ◌-◌, ◌<◌, ◌�
 use Rattle.machine_defs.specs.declared.guests.Status.TheVariants.{Running}
 use Rattle.machine_defs.specs.Machine.{informed}
 use Rattle.machine_defs.specs.Runs.{events, run}
-use Rattle.enough_tries.specs.Budgets.{NeedNoFill}
+use Rattle.machine_laws.specs.Budgets.{NeedNoFill}
 use Rattle.guest_exit.specs.declared.guests.Guest.{Guest}
-use Rattle.guest_exit.specs.declared.handling.Handled.{Handled}
-use Rattle.guest_exit.specs.declared.handling.Handled.TheVariants as handled
-use Rattle.guest_exit.specs.Entering.{Fills, MakesStep}
+use Rattle.guest_exit.specs.declared.hart_exit.Handled.{Handled}
+use Rattle.guest_exit.specs.declared.hart_exit.Handled.TheVariants as handled
+use Rattle.guest_exit.specs.Steps.{Fills, MakesStep}
 use Rattle.guest_exit.specs.View.{machine_of, seen}
 use Rattle.guest_turns.specs.Hosting.{IsHosted, used_by}
 use Rattle.guest_turns.proofs.Current.{after_fill, after_step}

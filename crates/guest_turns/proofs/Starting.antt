@@ -13,18 +13,18 @@ use Rattle.arch_defs.proofs.FrameSets.{apart_sym, apart_within, kept, left_withi
 use Rattle.arch_defs.proofs.Images.{length_zeros}
 use Rattle.arch_defs.proofs.RamBlocks.{blocks_lie_in, ram_kept}
 use Rattle.arch_defs.proofs.Rooms.{first_lies}
-use Rattle.enough_tries.specs.Keeping.{IsOrderly}
-use Rattle.enough_tries.proofs.Orderly.{start_is_orderly}
+use Rattle.machine_laws.specs.Keeping.{IsOrderly}
+use Rattle.machine_laws.proofs.Orderly.{start_is_orderly}
 use Rattle.frame_split.specs.Shares.{AreNeeds, IsSplit}
 use Rattle.host_tables.specs.HostTable.{IsHostTable}
 use Rattle.host_tables.specs.Walks.{IsHeld}
 use Rattle.host_tables.proofs.Held.{host_in_part, host_in_tables, table_stays}
 use Rattle.machine_defs.specs.declared.guests.GuestSpec.{GuestSpec}
-use Rattle.machine_defs.specs.HostPlaces.{in_ram}
+use Rattle.machine_laws.specs.HostPlaces.{in_ram}
 use Rattle.machine_defs.specs.Machine.{Machine, Platform, informed, start}
-use Rattle.machine_defs.specs.Renaming.{ReservesHeld}
-use Rattle.machine_defs.specs.Reservations.{CachesInRam}
-use Rattle.machine_defs.proofs.InRam.{start_is_in_ram}
+use Rattle.machine_laws.specs.Renaming.{ReservesHeld}
+use Rattle.machine_laws.specs.Reservations.{CachesInRam}
+use Rattle.machine_laws.proofs.InRam.{start_is_in_ram}
 use Rattle.shadow_pool.specs.Slots as slots
 use Rattle.shadow_pool.specs.Slots.{TidyPool, pool_frames, room_of, spaces_of}
 use Rattle.shadow_pool.proofs.Apart.{host_apart, pool_within, ram_apart}

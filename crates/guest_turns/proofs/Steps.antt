@@ -1,6 +1,6 @@
 -- How many steps a step and a run make.
 use Rattle.std.proofs.Common.{◌≡◌, ℕ, zero, suc, ◌+◌, ◌≤◌, ap, arith}
-use Rattle.enough_tries.proofs.Filling.{only_spaces}
+use Rattle.machine_laws.proofs.Filling.{only_spaces}
 use Rattle.machine_defs.specs.declared.guests.Status.{Status}
 use Rattle.machine_defs.specs.declared.guests.Status.TheVariants as status
 use Rattle.machine_defs.specs.Fills.{after_fills, most_fills, ready}

@@ -1,21 +1,24 @@
 -- Turns, some steps at a time.
-use Rattle.std.proofs.Common.{cond, ◌≡◌, ◌≢◌, ℕ, zero, suc, ◌+◌, ◌*◌, ◌-◌, ◌%◌, ◌^◌, ◌<◌, ◌≤◌, List, [], ◌∷◌, ◌++◌, refl, ap, sym, subst, ◌∙◌, append_assoc, suc-mul, arith}
+use Rattle.std.proofs.Common.{cond, ◌≡◌, ◌≢◌, ℕ, zero, suc, ◌+◌, ◌*◌, ◌-◌, ◌%◌, ◌^◌, ◌<◌, ◌≤◌, ◌⊎◌, inl, inr, List, [], ◌∷◌, ◌++◌, refl, ap, sym, subst, ◌∙◌, append_assoc, suc-mul, arith}
+use Rattle.std.proofs.lemmas.Bool.{cases_lt}
 use Rattle.std.proofs.lemmas.List.Sums.{sum_by-append}
 use Rattle.machine_defs.specs.declared.events.Event.{Event}
 use Rattle.machine_defs.specs.declared.events.Event.TheVariants as event
 use Rattle.machine_defs.specs.declared.guests.Status.{Status}
 use Rattle.machine_defs.specs.declared.guests.Status.TheVariants as status
-use Rattle.machine_defs.specs.Fills.{needed, ready}
+use Rattle.machine_defs.specs.Fills.{most_tries, needed, ready}
 use Rattle.machine_defs.specs.Machine.{Machine, Tried, Ended, WaitsForGood}
 use Rattle.machine_defs.specs.Runs.{event_in, events, events_by, instruction_count, is_instruction, is_plain, pc_and_word, plain_count, run, step, trace_of}
 use Rattle.machine_defs.specs.Tries.{try}
-use Rattle.machine_defs.proofs.Running.{run_none, run_idle, events_none, events_idle, events_compose}
-use Rattle.enough_tries.specs.Budgets.{Goes, NeedNoFill, budget}
-use Rattle.enough_tries.proofs.Stepping.{budget_is_small, fill_goes, fill_is_no_event, ready_steps_go, try_goes, try_is_event}
-use Rattle.rv64_hart.specs.Counts.{IsRaisedBy}
-use Rattle.guest_exit.specs.declared.handling.Handled.{Handled}
-use Rattle.guest_exit.specs.declared.handling.Handled.TheVariants as handled
-use Rattle.guest_exit.specs.Entering.{Fills, IsQuiet, MakesStep, status_after, steps_made}
+use Rattle.machine_laws.proofs.Running.{run_none, run_idle, events_none, events_idle, events_compose}
+use Rattle.machine_laws.specs.Budgets.{Goes, NeedNoFill, budget}
+use Rattle.machine_laws.proofs.Stepping.{budget_is_small, fill_goes, fill_is_no_event, ready_steps_go, try_goes, try_is_event}
+use Rattle.rv64_hart.specs.Counts.{Counts, IsRaisedBy}
+use Rattle.guest_exit.specs.declared.hart_exit.Handled.{Handled}
+use Rattle.guest_exit.specs.declared.hart_exit.Handled.TheVariants as handled
+use Rattle.guest_exit.specs.HartExit.{status_after, steps_made}
+use Rattle.guest_exit.specs.Steps.{Fills, IsQuiet, MakesStep}
+use Rattle.guest_turns.specs.Account.{Accounted}
 use Rattle.guest_turns.specs.Hosting.{used_by}
 use Rattle.guest_turns.specs.TurnLists.{turn_entries}
 
@@ -182,12 +185,59 @@ used_at_most handled.Stopped = omega arith
 pub budget_within : (m : Machine) (k : ℕ) → budget m k ≤ turn_entries m.entry_room k
 budget_within m k =
     let small = budget_is_small m k in
-    let row : suc k * (m.entry_room + 9) ≡ k * (m.entry_room + 9) + (m.entry_room + 9) = suc-mul k (m.entry_room + 9) in
+    let row : suc k * most_tries m.entry_room ≡ k * most_tries m.entry_room + most_tries m.entry_room = suc-mul k (most_tries m.entry_room) in
     omega (arith, small, row)
 
 -- while steps are left, so is a try
 pub budget_positive : (m : Machine) (k : ℕ) → 0 < k → 0 < budget m k
 budget_positive m zero some = absurd (omega arith)
 budget_positive m (suc k) some = omega arith
+
+-- the account of a part of k steps, of which the next machine makes those that are left
+pub record AccountedTo (m : Machine) (k : ℕ) (next : Machine) (left : ℕ) (old new : Counts) : Type 0 where
+  pub entries_grow : old.entries ≤ new.entries
+  pub entries_least : new.entries ≡ old.entries → instruction_count (events m k) ≡ instruction_count (events next left)
+  pub entries_most : new.entries + budget next left ≤ old.entries + budget m k
+  pub taken_least : old.taken + plain_count (events m k) ≤ new.taken + plain_count (events next left)
+  pub taken_most : new.taken + m.platform.steps ≤ old.taken + next.platform.steps
+  pub trace : (new.trace + trace_of (events next left)) % 2 ^ 64 ≡ (old.trace + trace_of (events m k)) % 2 ^ 64
+
+pub accounted_then : (m between last : Machine) (k left rest : ℕ) (t u v : Counts) → AccountedTo m k between left t u → AccountedTo between left last rest u v
+    → AccountedTo m k last rest t v
+accounted_then m between last k left rest t u v one then = record {
+  entries_grow = omega (arith, one.entries_grow, then.entries_grow);
+  entries_least = λ same.
+      let before : u.entries ≡ t.entries = omega (arith, same, one.entries_grow, then.entries_grow) in
+      let after : v.entries ≡ u.entries = omega (arith, same, before) in
+      one.entries_least before ∙ then.entries_least after;
+  entries_most = omega (arith, one.entries_most, then.entries_most);
+  taken_least = omega (arith, one.taken_least, then.taken_least);
+  taken_most = omega (arith, one.taken_most, then.taken_most);
+  trace = then.trace ∙ one.trace;
+}
+
+-- and of all of them, where it makes none
+pub accounted : (m next : Machine) (k left made : ℕ) (old new : Counts) → events next left ≡ [] → m.platform.steps + made ≡ next.platform.steps
+    → AccountedTo m k next left old new → Accounted m k made old new
+accounted m next k left made old new none steps is =
+    let counted : instruction_count (events next left) ≡ 0 = ap instruction_count none in
+    let plain : plain_count (events next left) ≡ 0 = ap plain_count none in
+    let traced : trace_of (events next left) ≡ 0 = ap trace_of none in
+    let most = budget_within m k in
+    record {
+      entries_grow = is.entries_grow;
+      entries_least = λ some. by (cases_lt old.entries new.entries) counted some;
+      entries_most = omega (arith, is.entries_most, most);
+      taken_least = omega (arith, is.taken_least, plain);
+      taken_most = omega (arith, is.taken_most, steps);
+      trace = omega (arith, is.trace, traced);
+    }
+  where
+    by : (old.entries < new.entries) ⊎ (new.entries ≤ old.entries) → instruction_count (events next left) ≡ 0 → 0 < instruction_count (events m k) → old.entries < new.entries
+    by (inl grew) counted some = grew
+    by (inr stayed) counted some =
+        let same : new.entries ≡ old.entries = omega (arith, stayed, is.entries_grow) in
+        let none_made = is.entries_least same in
+        absurd (omega (arith, none_made, counted, some))
 
 pub ruleset turns = (run_none, run_idle, events_none, events_idle)

@@ -5,7 +5,7 @@ use Rattle.arch_defs.specs.Frames.{Frames, Only}
 use Rattle.arch_defs.specs.Layouts.{Layout}
 use Rattle.arch_defs.specs.Memory.{block_size, loaded}
 use Rattle.arch_defs.specs.Ram.{ram_of}
-use Rattle.enough_tries.specs.Budgets.{Goes}
+use Rattle.machine_laws.specs.Budgets.{Goes}
 use Rattle.frame_split.specs.Shares.{ArePairwiseApart}
 use Rattle.host_tables.specs.HostTable.{IsHostTable}
 use Rattle.machine_defs.specs.declared.guests.GuestSpec.{GuestSpec}
@@ -15,8 +15,8 @@ use Rattle.shadow_pool.specs.Slots as slots
 use Rattle.shadow_pool.specs.Slots.{room_of}
 use Rattle.shadow_space.specs.Shadows.{AreZeros}
 use Rattle.guest_exit.specs.declared.guests.Guest.{Guest}
-use Rattle.guest_exit.specs.declared.handling.Handled.{Handled}
-use Rattle.guest_exit.specs.declared.handling.Handled.TheVariants.{Stepped, Retry, Waits, Stopped}
+use Rattle.guest_exit.specs.declared.hart_exit.Handled.{Handled}
+use Rattle.guest_exit.specs.declared.hart_exit.Handled.TheVariants.{Stepped, Retry, Waits, Stopped}
 use Rattle.guest_exit.specs.Starting.{IsNewPool}
 use Rattle.guest_exit.specs.View.{IsPlaced, StaysFixed, changed_by, machine_of, seen}
 

@@ -1,3 +1,4 @@
+pub mod Account
 pub mod Hosted
 pub mod Hosting
 pub mod Limits

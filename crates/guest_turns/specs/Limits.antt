@@ -1,5 +1,6 @@
 -- What a host can boot.
 use Rattle.std.specs.Prelude.{ℕ, ◌*◌, ◌≤◌, List, length, map}
+use Rattle.std.specs.List.{All}
 use Rattle.arch_defs.specs.declared.needs.Need.{Need}
 use Rattle.arch_defs.specs.Inputs.{AreInputs}
 use Rattle.arch_defs.specs.Memory.{block_size}
@@ -28,3 +29,10 @@ needs_of guests = map need_of guests
 -- the frames that all of them need
 abbrev pub frames_for : List GuestSpec → ℕ
 frames_for guests = frames_of_all (needs_of guests)
+
+-- 1 to 16 guests, which need no more frames than machine memory has
+pub record AreBootable (guests : List GuestSpec) : Type 0 where
+  pub some : 1 ≤ length guests
+  pub few : length guests ≤ 16
+  pub each : All IsBootable guests
+  pub frames : frames_for guests ≤ 131072

@@ -1,6 +1,7 @@
 -- Turns of guests, one after another, as steps of their lone machines.
 use Rattle.std.specs.Prelude.{ℕ, zero, suc, ◌≡◌, ◌+◌, ◌*◌, ◌<◌, ◌≤◌, ◌==◌, List, [], ◌∷◌, ◌++◌, length, sum_by, if◌then◌else◌}
 use Rattle.machine_defs.specs.declared.events.Event.{Event}
+use Rattle.machine_defs.specs.Fills.{most_tries}
 use Rattle.machine_defs.specs.Machine.{Machine}
 use Rattle.machine_defs.specs.Runs.{events, run}
 use Rattle.guest_turns.specs.Hosted.{machine_at}
@@ -64,7 +65,7 @@ TurnsCountAlike = (count : Event → ℕ) (turns : List (ℕ × ℕ)) (machines 
 -- at most how many entries of the hart a turn of k steps takes, where a space has room for so many cached
 -- translations: each try of a step is one
 abbrev pub turn_entries : ℕ → ℕ → ℕ
-turn_entries room k = (k + 1) * (room + 9)
+turn_entries room k = (k + 1) * most_tries room
 
 -- and turns of guests with such machines
 abbrev pub entries_for : List Machine → List (ℕ × ℕ) → ℕ

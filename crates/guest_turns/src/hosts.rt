@@ -6,11 +6,11 @@ ghost use Rattle.arch_defs.specs.Layouts.{named_by};
 ghost use Rattle.frame_split.specs.Shares.{IsSplit};
 ghost use Rattle.machine_defs.specs.declared.guests.Status.TheVariants.{Running};
 ghost use Rattle.machine_defs.specs.Machine.{start};
-ghost use Rattle.machine_defs.specs.Runs.{events, instruction_count, plain_count, run, trace_of};
-ghost use Rattle.rv64_hart.specs.Counts.{IsRaisedBy};
+ghost use Rattle.machine_defs.specs.Runs.{run};
+ghost use Rattle.guest_turns.specs.Account.{Accounted, HasRoomFor};
 ghost use Rattle.guest_turns.specs.Hosted.{machine_at, part_at};
-ghost use Rattle.guest_turns.specs.Limits.{IsBootable, frames_for, needs_of};
-ghost use Rattle.guest_turns.specs.TurnLists.{turn_entries, updated};
+ghost use Rattle.guest_turns.specs.Limits.{AreBootable, frames_for, needs_of};
+ghost use Rattle.guest_turns.specs.TurnLists.{updated};
 
 use crate::booting::{guests_at_start, lay_out, share};
 use crate::turning::turn_of;
@@ -46,10 +46,7 @@ impl Host {
     /// The guests' machines at their start, in order, each in a part of machine memory of the size that it
     /// needs. No frame is in two parts. It may answer out of memory.
     pub fn boot(alloc: Global, guests: Vec<GuestSpec>) -> Result<Host, AllocError>
-        requires some { 1 ≤ length guests.items }
-        requires few { length guests.items ≤ 16 }
-        requires each { All IsBootable guests.items }
-        requires frames { frames_for guests.items ≤ 131072 }
+        requires bootable { AreBootable guests.items }
         ensures machines { IfOk result (λ host. host.machines ≡ map start guests.items) }
         ensures parts { IfOk result (λ host. IsSplit (needs_of guests.items) host.parts
             (frames_for guests.items)) }
@@ -83,14 +80,11 @@ impl Host {
 
     /// Makes at most `k` steps of a guest's machine, and answers how many: `k`, or fewer only where the
     /// machine does not go on, because it has stopped or waits for good. All other machines stay as they
-    /// were, and no byte outside the guest's part changes.
+    /// were, and no byte outside the guest's part changes. The tally gets the account of the hart.
     pub fn turn(&mut self, g: u32, k: u64, tally: &mut Tally) -> u64
         requires guest { g < length self.old.machines }
         requires steps { (machine_at self.old.machines g).platform.steps + k ≤ 2 ^ 61 }
-        requires entries { tally.old.entries + turn_entries (machine_at self.old.machines g).entry_room k
-            ≤ 2 ^ 62 }
-        requires taken { tally.old.taken + k ≤ 2 ^ 62 }
-
+        requires room { HasRoomFor (machine_at self.old.machines g) k tally.old }
         ensures machines { self.new.machines ≡ updated g (λ m. run m k) self.old.machines }
         ensures parts { self.new.parts ≡ self.old.parts }
         ensures isolated { Only (named_by (part_at self.old.parts g)) self.old.memory self.new.memory }
@@ -100,19 +94,7 @@ impl Host {
         ensures fewer { result < k → (machine_at self.new.machines g).platform.status ≢ Running }
         ensures room { (machine_at self.new.machines g).entry_room
             ≡ (machine_at self.old.machines g).entry_room }
-
-        // The account of the hart: it makes each plain step, and no more steps than the machine. A step takes
-        // at most as many entries as a space has room for cached translations, and nine.
-        ensures entries_grow { tally.old.entries ≤ tally.new.entries }
-        ensures entries_least { 0 < instruction_count (events (machine_at self.old.machines g) k)
-            → tally.old.entries < tally.new.entries }
-        ensures entries_most { tally.new.entries
-            ≤ tally.old.entries + turn_entries (machine_at self.old.machines g).entry_room k }
-        ensures taken_least { tally.old.taken + plain_count (events (machine_at self.old.machines g) k)
-            ≤ tally.new.taken }
-        ensures taken_most { tally.new.taken ≤ tally.old.taken + result }
-        ensures trace { IsRaisedBy (trace_of (events (machine_at self.old.machines g) k))
-            tally.old.trace tally.new.trace }
+        ensures account { Accounted (machine_at self.old.machines g) k result tally.old tally.new }
     {
         let guest = &mut self.guests[g as usize];
         turn_of(guest, &mut self.hart, &mut self.memory, k, tally)

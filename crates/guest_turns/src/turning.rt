@@ -3,10 +3,9 @@
 ghost use Rattle.std.specs.Prelude.{◌≡◌, ◌≢◌, ◌+◌, ◌%◌, ◌^◌, ◌<◌, ◌≤◌};
 ghost use Rattle.machine_defs.specs.declared.guests.Status.TheVariants.{Running};
 ghost use Rattle.machine_defs.specs.Runs.{events, instruction_count, plain_count, trace_of};
-ghost use Rattle.rv64_hart.specs.Counts.{IsRaisedBy};
 ghost use Rattle.guest_exit.specs.View.{machine_of};
+ghost use Rattle.guest_turns.specs.Account.{Accounted, HasRoomFor};
 ghost use Rattle.guest_turns.specs.Hosting.{Advances, HasRun, IsHosted, used_by};
-ghost use Rattle.guest_turns.specs.TurnLists.{turn_entries};
 
 use guest_exit::{Guest, Handled, enter, handle, interrupt, limit};
 use machine_defs::Status;
@@ -24,23 +23,14 @@ pub fn turn_of(
 ) -> u64
     requires hosted { IsHosted guest.old memory.old }
     requires steps { guest.old.steps + k ≤ 2 ^ 61 }
-    requires entries { tally.old.entries + turn_entries guest.old.pool.most k ≤ 2 ^ 62 }
-    requires taken { tally.old.taken + k ≤ 2 ^ 62 }
+    requires room { HasRoomFor (machine_of guest.old memory.old) k tally.old }
 
     ensures run { HasRun guest.old memory.old k guest.new memory.new }
     ensures hosted { IsHosted guest.new memory.new }
     ensures made { guest.old.steps + result ≡ guest.new.steps }
     ensures most { result ≤ k }
     ensures fewer { result < k → guest.new.status ≢ Running }
-    ensures entries_grow { tally.old.entries ≤ tally.new.entries }
-    ensures entries_least { 0 < instruction_count (events (machine_of guest.old memory.old) k)
-        → tally.old.entries < tally.new.entries }
-    ensures entries_most { tally.new.entries ≤ tally.old.entries + turn_entries guest.old.pool.most k }
-    ensures taken_least { tally.old.taken + plain_count (events (machine_of guest.old memory.old) k)
-        ≤ tally.new.taken }
-    ensures taken_most { tally.new.taken ≤ tally.old.taken + result }
-    ensures trace { IsRaisedBy (trace_of (events (machine_of guest.old memory.old) k))
-        tally.old.trace tally.new.trace }
+    ensures account { Accounted (machine_of guest.old memory.old) k result tally.old tally.new }
 {
     let before = guest.steps;
     let mut left = k;

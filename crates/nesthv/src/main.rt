@@ -1,8 +1,9 @@
-// Makes the words, the files and the streams that the program takes, and ends with its answer.
+// Makes the words, the files, the streams and the tally that the program takes, and ends with its answer.
 #![tactic(auto)]
 
 use nesthv_top::program;
 use outside::{FileStore, ProcessArguments, StdSink, words_of};
+use rv64_hart::Tally;
 use std::process::ExitCode;
 
 fn main(rt: HostRuntime) -> ExitCode {
@@ -10,5 +11,13 @@ fn main(rt: HostRuntime) -> ExitCode {
     let mut store = FileStore::new(&rt);
     let mut out = StdSink::new(rt.stdout());
     let mut err = StdSink::new(rt.stderr());
-    ExitCode::from(program(rt.alloc(), words, &mut store, &mut out, &mut err))
+    let mut tally = Tally::new();
+    ExitCode::from(program(
+        rt.alloc(),
+        words,
+        &mut store,
+        &mut out,
+        &mut err,
+        &mut tally,
+    ))
 }

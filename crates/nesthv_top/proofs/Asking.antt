@@ -2,6 +2,7 @@
 use Rattle.std.proofs.Common.{cond, ◌≡◌, ◌∙◌, ℕ, zero, suc, ◌+◌, ◌-◌, ◌<◌, ◌≤◌, ◌==◌, List, [], ◌∷◌, Option, Some, None, Result, Ok, Err, length, take, Bool, false, true, nat_le, refl, ap, sym, subst, arith}
 use Rattle.std.proofs.lemmas.Bool.{eq-eqb}
 use Rattle.std.proofs.lemmas.List.{take_all, length-map}
+use Rattle.outside.specs.declared.stores.Store as stores
 use Rattle.outside.specs.Asks.{Ask}
 use Rattle.outside.specs.Faults.{Rose}
 use Rattle.outside.specs.Files.{Files, GivesFile}
@@ -59,6 +60,12 @@ faultless f c e = ap (λ fault. unless_fault fault (record { guests = guests_of 
 rose_since : (before between after : ℕ) → before ≤ between → Rose between after → Rose before after
 rose_since before between after le rose = grind (arith, le, rose)
 
+pub rose_later : (end : LoadEnd) (before between after : ℕ) → before ≤ between → IfFailed end (λ n. (2 ≤ n) × (n ≤ 17) × Rose between after)
+    → IfFailed end (λ n. Rose before after)
+rose_later (Refused found) before between after le rose = tt
+rose_later (ReadFault n) before between after le (some, few, rose) = rose_since before between after le rose
+rose_later (NoMemory n) before between after le rose = tt
+
 -- a read that failed, and want of memory, after the first read
 failed_further : (a : Ask) (asks : List Ask) (n : ℕ) → 1 ≤ n - 1 → failed_at n (a ∷ asks) ≡ a ∷ failed_at (n - 1) asks
 failed_further a asks zero some = absurd (omega (arith, some))
@@ -82,58 +89,55 @@ frames_later f n c less = ap (λ b. cond b (frames_fault (guests_of f c.guests))
     not_equal a b less = grind (arith, less)
 
 -- what the store tells is the same after the first step
-told_since : {S : Type 0} (files : S → Option Files) (old mid : S) (f : Files) → files mid ≡ files old → files old ≡ Some f → files mid ≡ Some f
+told_since : {X : Type 0} (files : X → Option Files) (old mid : X) (f : Files) → files mid ≡ files old → files old ≡ Some f → files mid ≡ Some f
 told_since files old mid f stays told = stays ∙ told
 
 -- where some read was made, the first was that of the configuration
-later_first : {S : Type 0} (asked : S → Option (List Ask)) (name : List ℕ) (n : ℕ) (old new : S) → 1 ≤ n → BeginsWithConfig (Some (Run name)) (asked old) (asked new)
-    → IsFirstRead asked (Some (Run name)) (ended.NoMemory n) old new
-later_first asked name zero old new some begins = absurd (omega (arith, some))
-later_first asked name (suc n) old new some begins = begins
+later_first : {X : Type 0} (S : stores.Ghosts X) (name : List ℕ) (n : ℕ) (old new : X) → 1 ≤ n → BeginsWithConfig (Some (Run name)) (S.asked old) (S.asked new)
+    → IsFirstRead S (Some (Run name)) (ended.NoMemory n) old new
+later_first S name zero old new some begins = absurd (omega (arith, some))
+later_first S name (suc n) old new some begins = begins
 
 -- the end of a command whose images' reads stopped
-pub images_stop : {S : Type 0} (files : S → Option Files) (asked : S → Option (List Ask)) (faults : S → ℕ)
-    (name : List ℕ) (c : Configuration) (end : LoadEnd) (old mid new : S)
-    → ((f : Files) → files old ≡ Some f → accept (content f name config_most) ≡ Ok c)
-    → AskedMore (ask name config_most ∷ []) (asked old) (asked mid)
-    → ((f : Files) → files mid ≡ Some f → IsStopped f c.guests end (asked mid) (asked new)) → AskedSome (asked mid) (asked new)
-    → files mid ≡ files old → files new ≡ files mid → faults old ≤ faults mid → faults mid ≤ faults new
-    → IfFailed end (λ n. (2 ≤ n) × (n ≤ 17) × Rose (faults mid) (faults new)) → IfWanting end (λ n. 1 ≤ n)
-    → SaysOfReads files asked faults (Some (Run name)) (ended_by end) old new
-images_stop files asked faults name c (Refused found) old mid new accepted first stopped some stays stays' count count' cause memory = record {
-  words = refl;
-  plan = λ f told.
+pub images_stop : {X : Type 0} (S : stores.Ghosts X)
+    (name : List ℕ) (c : Configuration) (end : LoadEnd) (old mid new : X)
+    → ((f : Files) → S.files old ≡ Some f → accept (content f name config_most) ≡ Ok c)
+    → AskedMore (ask name config_most ∷ []) (S.asked old) (S.asked mid)
+    → ((f : Files) → S.files mid ≡ Some f → IsStopped f c.guests end (S.asked mid) (S.asked new)) → AskedSome (S.asked mid) (S.asked new)
+    → S.files mid ≡ S.files old → S.files new ≡ S.files mid → S.faults old ≤ S.faults mid → S.faults mid ≤ S.faults new
+    → IfFailed end (λ n. (2 ≤ n) × (n ≤ 17) × Rose (S.faults mid) (S.faults new)) → IfWanting end (λ n. 1 ≤ n)
+    → SaysOfReads S (Some (Run name)) (ended_by end) old new
+images_stop S name c (Refused found) old mid new accepted first stopped some stays stays' count count' cause memory = record {
+  number = tt;
+  fault = λ f told.
       let is = stopped f (stays ∙ told) in
       ap fault_in (planned_is f name c (accepted f told) ∙ refused_by f c found (one_is (images_fault f 0 c.guests) (frames_fault (guests_of f c.guests)) found is.0));
-  cause = tt;
-  first = (false, some.0, asked_then (ask name config_most ∷ []) some.0 (asked old) (asked mid) (asked new) first some.1);
+  first = (false, some.0, asked_then (ask name config_most ∷ []) some.0 (S.asked old) (S.asked mid) (S.asked new) first some.1);
   reads = λ f told.
-      subst (λ asks. AskedMore asks (asked old) (asked new)) (sym (asks_are f name c (accepted f told)))
-      (asked_then (ask name config_most ∷ []) (image_asks f c.guests) (asked old) (asked mid) (asked new) first (stopped f (stays ∙ told)).1);
+      subst (λ asks. AskedMore asks (S.asked old) (S.asked new)) (sym (asks_are f name c (accepted f told)))
+      (asked_then (ask name config_most ∷ []) (image_asks f c.guests) (S.asked old) (S.asked mid) (S.asked new) first (stopped f (stays ∙ told)).1);
   stays = stays' ∙ stays;
   count = omega (arith, count, count');
 }
-images_stop files asked faults name c (ReadFault n) old mid new accepted first stopped some stays stays' count count' cause memory = record {
-  words = refl;
-  plan = λ f told. tt;
-  cause = (omega (arith, cause.0), cause.1, rose_since (faults old) (faults mid) (faults new) count cause.2);
-  first = (false, some.0, asked_then (ask name config_most ∷ []) some.0 (asked old) (asked mid) (asked new) first some.1);
+images_stop S name c (ReadFault n) old mid new accepted first stopped some stays stays' count count' cause memory = record {
+  number = (omega (arith, cause.0), cause.1);
+  fault = λ f told. tt;
+  first = (false, some.0, asked_then (ask name config_most ∷ []) some.0 (S.asked old) (S.asked mid) (S.asked new) first some.1);
   reads = λ f told.
       let is = stopped f (stays ∙ told) in
-      subst (λ asks. IsFailedRead n asks (asked old) (asked new)) (sym (asks_are f name c (accepted f told))) (record {
+      subst (λ asks. IsFailedRead n asks (S.asked old) (S.asked new)) (sym (asks_are f name c (accepted f told))) (record {
         some = omega (arith, cause.0);
         number = omega (arith, is.number);
-        asked = subst (λ asks. AskedMore asks (asked old) (asked new)) (sym (failed_further (ask name config_most) (image_asks f c.guests) n is.some))
-            (asked_then (ask name config_most ∷ []) (failed_at (n - 1) (image_asks f c.guests)) (asked old) (asked mid) (asked new) first is.asked);
+        asked = subst (λ asks. AskedMore asks (S.asked old) (S.asked new)) (sym (failed_further (ask name config_most) (image_asks f c.guests) n is.some))
+            (asked_then (ask name config_most ∷ []) (failed_at (n - 1) (image_asks f c.guests)) (S.asked old) (S.asked mid) (S.asked new) first is.asked);
       });
   stays = stays' ∙ stays;
   count = omega (arith, count, count');
 }
-images_stop files asked faults name c (NoMemory n) old mid new accepted first stopped some stays stays' count count' cause memory = record {
-  words = refl;
-  plan = λ f told. tt;
-  cause = tt;
-  first = later_first asked name n old new memory (false, some.0, asked_then (ask name config_most ∷ []) some.0 (asked old) (asked mid) (asked new) first some.1);
+images_stop S name c (NoMemory n) old mid new accepted first stopped some stays stays' count count' cause memory = record {
+  number = tt;
+  fault = λ f told. tt;
+  first = later_first S name n old new memory (false, some.0, asked_then (ask name config_most ∷ []) some.0 (S.asked old) (S.asked mid) (S.asked new) first some.1);
   reads = λ f told.
       let is = stopped f (stays ∙ told) in
       let asks = asks_are f name c (accepted f told) in
@@ -141,9 +145,9 @@ images_stop files asked faults name c (NoMemory n) old mid new accepted first st
         number = subst (λ asks. n ≤ length asks) (sym asks) (omega (arith, is.0, is.1.number));
         early = λ _. accepted_short (content f name config_most) c (accepted f told);
         later = λ _. rw (accepted f told) (rest_is (images_fault f 0 (take (n - 1) c.guests)) (frames_after f (n - 1) c) is.1.fault ∙ frames_later f (n - 1) c is.1.more);
-        asked = subst (λ asks. AskedMore (take n asks) (asked old) (asked new)) (sym asks)
-            (subst (λ asks. AskedMore asks (asked old) (asked new)) (sym (taken_further (ask name config_most) (image_asks f c.guests) n is.0))
-            (asked_then (ask name config_most ∷ []) (take (n - 1) (image_asks f c.guests)) (asked old) (asked mid) (asked new) first is.1.asked));
+        asked = subst (λ asks. AskedMore (take n asks) (S.asked old) (S.asked new)) (sym asks)
+            (subst (λ asks. AskedMore asks (S.asked old) (S.asked new)) (sym (taken_further (ask name config_most) (image_asks f c.guests) n is.0))
+            (asked_then (ask name config_most ∷ []) (take (n - 1) (image_asks f c.guests)) (S.asked old) (S.asked mid) (S.asked new) first is.1.asked));
       };
   stays = stays' ∙ stays;
   count = omega (arith, count, count');
@@ -158,21 +162,25 @@ refused_config : (f : Files) (name : List ℕ) (found : ConfigFault) → accept 
 unfolding planned
 refused_config f name found refused = ap (planned_if f) refused
 
-pub config_stop : {S : Type 0} (files : S → Option Files) (asked : S → Option (List Ask)) (faults : S → ℕ) (name bytes : List ℕ) (found : ConfigFault) (old new : S)
-    → GivesFile (files old) name config_most bytes → accept bytes ≡ Err found → AskedMore (ask name config_most ∷ []) (asked old) (asked new)
-    → files new ≡ files old → faults old ≤ faults new → SaysOfReads files asked faults (Some (Run name)) (ended.Refused found) old new
-config_stop files asked faults name bytes found old new gives refused made stays count = record {
-  words = refl;
-  plan = λ f told. ap fault_in (refused_config f name found (at f told));
-  cause = tt;
+pub refused_plan : (f : Files) (name : List ℕ) (end : LoadEnd) → RefusesOnly end (accept (content f name config_most)) → RefusesOnly end (planned f name)
+refused_plan f name (Refused found) is = refused_config f name found is
+refused_plan f name (ReadFault n) is = tt
+refused_plan f name (NoMemory n) is = tt
+
+pub config_stop : {X : Type 0} (S : stores.Ghosts X) (name bytes : List ℕ) (found : ConfigFault) (old new : X)
+    → GivesFile (S.files old) name config_most bytes → accept bytes ≡ Err found → AskedMore (ask name config_most ∷ []) (S.asked old) (S.asked new)
+    → S.files new ≡ S.files old → S.faults old ≤ S.faults new → SaysOfReads S (Some (Run name)) (ended.Refused found) old new
+config_stop S name bytes found old new gives refused made stays count = record {
+  number = tt;
+  fault = λ f told. ap fault_in (refused_config f name found (at f told));
   first = (false, [], made);
-  reads = λ f told. subst (λ config. AskedMore (ask name config_most ∷ accepted_asks f config) (asked old) (asked new)) (sym (at f told)) made;
+  reads = λ f told. subst (λ config. AskedMore (ask name config_most ∷ accepted_asks f config) (S.asked old) (S.asked new)) (sym (at f told)) made;
   stays = stays;
   count = count;
 }
   where
-    at : (f : Files) → files old ≡ Some f → accept (content f name config_most) ≡ Err found
-    at f told = ap accept (content_is (files old) f name config_most bytes gives told) ∙ refused
+    at : (f : Files) → S.files old ≡ Some f → accept (content f name config_most) ≡ Err found
+    at f told = ap accept (content_is (S.files old) f name config_most bytes gives told) ∙ refused
 
 -- the plan of guests whose images were all read
 pub planned_as : (f : Files) (name : List ℕ) (c : Configuration) (guests : List GuestSpec) → accept (content f name config_most) ≡ Ok c
@@ -198,40 +206,38 @@ stopped_plan f name c (ReadFault n) before after accepted stopped = tt
 stopped_plan f name c (NoMemory n) before after accepted stopped = tt
 
 -- all images were read, and the frames are few enough, or not
-pub all_read : {S : Type 0} (files : S → Option Files) (asked : S → Option (List Ask)) (faults : S → ℕ)
-    (name : List ℕ) (c : Configuration) (guests : List GuestSpec) (old mid new : S)
-    → ((f : Files) → files old ≡ Some f → accept (content f name config_most) ≡ Ok c)
-    → AskedMore (ask name config_most ∷ []) (asked old) (asked mid)
-    → ((f : Files) → files mid ≡ Some f → AreRead f c.guests guests (asked mid) (asked new)) → AskedSome (asked mid) (asked new)
-    → files mid ≡ files old → files new ≡ files mid → faults old ≤ faults mid → faults mid ≤ faults new
-    → frames_fault guests ≡ None → SaysOfReads files asked faults (Some (Run name)) ended.Done old new
-all_read files asked faults name c guests old mid new accepted first read some stays stays' count count' frames = record {
-  words = refl;
-  plan = λ f told. rw (planned_as f name c guests (accepted f told) (read f (stays ∙ told)).fault (read f (stays ∙ told)).guests_are frames) refl;
-  cause = tt;
-  first = (false, some.0, asked_then (ask name config_most ∷ []) some.0 (asked old) (asked mid) (asked new) first some.1);
+pub all_read : {X : Type 0} (S : stores.Ghosts X)
+    (name : List ℕ) (c : Configuration) (guests : List GuestSpec) (old mid new : X)
+    → ((f : Files) → S.files old ≡ Some f → accept (content f name config_most) ≡ Ok c)
+    → AskedMore (ask name config_most ∷ []) (S.asked old) (S.asked mid)
+    → ((f : Files) → S.files mid ≡ Some f → AreRead f c.guests guests (S.asked mid) (S.asked new)) → AskedSome (S.asked mid) (S.asked new)
+    → S.files mid ≡ S.files old → S.files new ≡ S.files mid → S.faults old ≤ S.faults mid → S.faults mid ≤ S.faults new
+    → frames_fault guests ≡ None → SaysOfReads S (Some (Run name)) ended.Done old new
+all_read S name c guests old mid new accepted first read some stays stays' count count' frames = record {
+  number = tt;
+  fault = λ f told. tt;
+  first = (false, some.0, asked_then (ask name config_most ∷ []) some.0 (S.asked old) (S.asked mid) (S.asked new) first some.1);
   reads = λ f told.
-      subst (λ asks. AskedMore asks (asked old) (asked new)) (sym (asks_are f name c (accepted f told)))
-      (asked_then (ask name config_most ∷ []) (image_asks f c.guests) (asked old) (asked mid) (asked new) first (read f (stays ∙ told)).asked);
+      subst (λ asks. AskedMore asks (S.asked old) (S.asked new)) (sym (asks_are f name c (accepted f told)))
+      (asked_then (ask name config_most ∷ []) (image_asks f c.guests) (S.asked old) (S.asked mid) (S.asked new) first (read f (stays ∙ told)).asked);
   stays = stays' ∙ stays;
   count = omega (arith, count, count');
 }
 
-pub frames_stop : {S : Type 0} (files : S → Option Files) (asked : S → Option (List Ask)) (faults : S → ℕ)
-    (name : List ℕ) (c : Configuration) (guests : List GuestSpec) (found : ConfigFault) (old mid new : S)
-    → ((f : Files) → files old ≡ Some f → accept (content f name config_most) ≡ Ok c)
-    → AskedMore (ask name config_most ∷ []) (asked old) (asked mid)
-    → ((f : Files) → files mid ≡ Some f → AreRead f c.guests guests (asked mid) (asked new)) → AskedSome (asked mid) (asked new)
-    → files mid ≡ files old → files new ≡ files mid → faults old ≤ faults mid → faults mid ≤ faults new
-    → frames_fault guests ≡ Some found → SaysOfReads files asked faults (Some (Run name)) (ended.Refused found) old new
-frames_stop files asked faults name c guests found old mid new accepted first read some stays stays' count count' frames = record {
-  words = refl;
-  plan = λ f told. ap fault_in (refused_as f name c guests found (accepted f told) (read f (stays ∙ told)).fault (read f (stays ∙ told)).guests_are frames);
-  cause = tt;
-  first = (false, some.0, asked_then (ask name config_most ∷ []) some.0 (asked old) (asked mid) (asked new) first some.1);
+pub frames_stop : {X : Type 0} (S : stores.Ghosts X)
+    (name : List ℕ) (c : Configuration) (guests : List GuestSpec) (found : ConfigFault) (old mid new : X)
+    → ((f : Files) → S.files old ≡ Some f → accept (content f name config_most) ≡ Ok c)
+    → AskedMore (ask name config_most ∷ []) (S.asked old) (S.asked mid)
+    → ((f : Files) → S.files mid ≡ Some f → AreRead f c.guests guests (S.asked mid) (S.asked new)) → AskedSome (S.asked mid) (S.asked new)
+    → S.files mid ≡ S.files old → S.files new ≡ S.files mid → S.faults old ≤ S.faults mid → S.faults mid ≤ S.faults new
+    → frames_fault guests ≡ Some found → SaysOfReads S (Some (Run name)) (ended.Refused found) old new
+frames_stop S name c guests found old mid new accepted first read some stays stays' count count' frames = record {
+  number = tt;
+  fault = λ f told. ap fault_in (refused_as f name c guests found (accepted f told) (read f (stays ∙ told)).fault (read f (stays ∙ told)).guests_are frames);
+  first = (false, some.0, asked_then (ask name config_most ∷ []) some.0 (S.asked old) (S.asked mid) (S.asked new) first some.1);
   reads = λ f told.
-      subst (λ asks. AskedMore asks (asked old) (asked new)) (sym (asks_are f name c (accepted f told)))
-      (asked_then (ask name config_most ∷ []) (image_asks f c.guests) (asked old) (asked mid) (asked new) first (read f (stays ∙ told)).asked);
+      subst (λ asks. AskedMore asks (S.asked old) (S.asked new)) (sym (asks_are f name c (accepted f told)))
+      (asked_then (ask name config_most ∷ []) (image_asks f c.guests) (S.asked old) (S.asked mid) (S.asked new) first (read f (stays ∙ told)).asked);
   stays = stays' ∙ stays;
   count = omega (arith, count, count');
 }
@@ -282,14 +288,13 @@ frames_now f c n e = ap (λ b. cond b (frames_fault (guests_of f c.guests)) None
 whole_asks : (f : Files) (c : Configuration) → images_fault f 0 c.guests ≡ None → length (image_asks f c.guests) ≡ length c.guests
 whole_asks f c fit = ap length (asks_all f 0 c.guests fit) ∙ length-map c.guests image_ask
 
-pub late_wanting : {S : Type 0} (files : S → Option Files) (asked : S → Option (List Ask)) (faults : S → ℕ) (name : List ℕ) (plan : Plan) (old new : S)
-    → ((f : Files) → files old ≡ Some f → planned f name ≡ Ok plan) → SaysOfReads files asked faults (Some (Run name)) ended.Done old new
-    → SaysOfReads files asked faults (Some (Run name)) (ended.NoMemory (1 + length plan.guests)) old new
-late_wanting files asked faults name plan old new is made = record {
-  words = refl;
-  plan = λ f told. tt;
-  cause = tt;
-  first = later_first asked name (1 + length plan.guests) old new (omega arith) made.first;
+pub late_wanting : {X : Type 0} (S : stores.Ghosts X) (name : List ℕ) (plan : Plan) (old new : X)
+    → ((f : Files) → S.files old ≡ Some f → planned f name ≡ Ok plan) → SaysOfReads S (Some (Run name)) ended.Done old new
+    → SaysOfReads S (Some (Run name)) (ended.NoMemory (1 + length plan.guests)) old new
+late_wanting S name plan old new is made = record {
+  number = tt;
+  fault = λ f told. tt;
+  first = later_first S name (1 + length plan.guests) old new (omega arith) made.first;
   reads = λ f told.
       let there = planned_for f name plan (is f told) in
       let c = there.0 in
@@ -302,7 +307,7 @@ late_wanting files asked faults name plan old new is made = record {
         early = λ _. accepted_short (content f name config_most) c there.1;
         later = λ _. rw (less, there.1) (rw (take_all (length c.guests) c.guests (omega arith))
             (rest_is (images_fault f 0 c.guests) (frames_after f (length c.guests) c) whole.images ∙ frames_now f c (length c.guests) refl ∙ whole.frames));
-        asked = subst (λ reads. AskedMore reads (asked old) (asked new)) (sym (no_more (config_asks f name) (1 + length plan.guests)
+        asked = subst (λ reads. AskedMore reads (S.asked old) (S.asked new)) (sym (no_more (config_asks f name) (1 + length plan.guests)
             (subst (λ asks. length asks ≤ 1 + length plan.guests) (sym asks) (omega (arith, count))))) (made.reads f told);
       };
   stays = made.stays;

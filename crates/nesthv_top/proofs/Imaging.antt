@@ -16,7 +16,7 @@ use Rattle.nesthv_top.specs.Ends.{added_by, IfFailed, IfRefusal, IfWanting}
 use Rattle.nesthv_top.specs.Loads.{AreLoaded, AreRead, IsLoaded, IsShortOf, IsStopped}
 use Rattle.nesthv_top.specs.Plans.{fits, guest_of, guests_of, image_fault, image_of, images_fault}
 use Rattle.nesthv_top.specs.Reads.{AskedMore, AskedSome, failed_at, image_ask, image_asks, IsFailedRead}
-use Rattle.nesthv_top.specs.Seen.{names_in, names_of}
+use Rattle.nesthv_top.specs.Seen.{names_in, names_of_guests}
 
 -- the guest that comes next among guests of which the first i fit: what its image says of all
 pub first_of : (one : Option ConfigFault) (rest : Option ConfigFault) → first_fault (one ∷ rest ∷ []) ≡ None → (one ≡ None) × (rest ≡ None)
@@ -264,7 +264,7 @@ pub loaded_none : AreLoaded [] []
 loaded_none = record { names = refl; bootable = λ i d inside. absurd (omega (arith, inside)) }
 
 names_more : (settings : List GuestSettings) (i : ℕ) (d : GuestSettings) (guests : List GuestSpec) (guest : GuestSpec) → i < length settings
-    → names_of guests ≡ names_in (take i settings) → guest.name ≡ (get_or settings i d).name → names_of (guests ++ guest ∷ []) ≡ names_in (take (suc i) settings)
+    → names_of_guests guests ≡ names_in (take i settings) → guest.name ≡ (get_or settings i d).name → names_of_guests (guests ++ guest ∷ []) ≡ names_in (take (suc i) settings)
 names_more settings i d guests guest inside before is =
     map-append (λ (g : GuestSpec). g.name) guests (guest ∷ []) ∙ ap (λ names. names ++ guest.name ∷ []) before ∙ ap (λ name. names_in (take i settings) ++ name ∷ []) is
     ∙ sym (names_to settings i d inside)

@@ -1,17 +1,14 @@
 -- The machines and the events of turns, by the machines' own runs.
-use Rattle.std.proofs.Common.{cond, ◌≡◌, ℕ, zero, suc, ◌+◌, ◌<◌, List, [], ◌∷◌, ◌++◌, length, map, refl, ap, sym, ◌∙◌, arith}
+use Rattle.std.proofs.Common.{cond, ◌≡◌, ℕ, zero, suc, ◌+◌, ◌<◌, List, [], ◌∷◌, ◌++◌, length, refl, ap, sym, ◌∙◌, arith}
 use Rattle.std.proofs.lemmas.List.{ext_get_or}
-use Rattle.machine_defs.specs.declared.guests.GuestSpec.{GuestSpec}
-use Rattle.machine_defs.specs.Machine.{Machine, start}
-use Rattle.machine_defs.specs.Report.{section}
+use Rattle.machine_defs.specs.Machine.{Machine}
 use Rattle.machine_defs.specs.Runs.{is_plain, pc_and_word, plain_count, run, trace_of}
 use Rattle.guest_turns.specs.Hosted.{machine_at, no_machine}
 use Rattle.guest_turns.specs.TurnLists.{own_events, own_steps, turn_events, with_turns}
 use Rattle.guest_turns.proofs.Accounts.{turns_count_alike}
 use Rattle.guest_turns.proofs.TurnLists.{runs_its_own_turns, turns_keep_count}
-use Rattle.nesthv_top.specs.Plans.{sections}
+use Rattle.nesthv_top.specs.Plans.{section_from, sections}
 use Rattle.nesthv_top.specs.Runnings.{sections_of}
-use Rattle.nesthv_top.specs.Seen.{names_of}
 
 -- machines that have run for the steps of their own turns, after so many others
 abbrev runs_from : ℕ → List Machine → List (ℕ × ℕ) → List Machine
@@ -46,15 +43,16 @@ with_turns_are turns ms =
     runs_its_own_turns turns ms g there ∙ ap (λ n. run (machine_at ms g) (own_steps n turns)) (sym (zero_plus g)) ∙ sym (run_at 0 ms turns g there))
 
 -- the sections of these machines
-sections_run : (before : ℕ) (guests : List GuestSpec) (turns : List (ℕ × ℕ))
-    → sections_of (names_of guests) (runs_from before (map start guests) turns) ≡ sections before guests turns
+sections_run : (before : ℕ) (names : List (List ℕ)) (ms : List Machine) (turns : List (ℕ × ℕ))
+    → sections_of names (runs_from before ms turns) ≡ sections before names ms turns
 unfolding sections sections_of
-sections_run before [] turns = refl
-sections_run before (guest ∷ rest) turns = ap (λ text. section guest (own_steps before turns) ++ text) (sections_run (before + 1) rest turns)
+sections_run before [] ms turns = refl
+sections_run before (name ∷ names) [] turns = refl
+sections_run before (name ∷ names) (m ∷ ms) turns = ap (λ text. section_from name m (own_steps before turns) ++ text) (sections_run (before + 1) names ms turns)
 
-pub sections_are : (guests : List GuestSpec) (turns : List (ℕ × ℕ))
-    → sections_of (names_of guests) (with_turns turns (map start guests)) ≡ sections 0 guests turns
-sections_are guests turns = ap (sections_of (names_of guests)) (with_turns_are turns (map start guests)) ∙ sections_run 0 guests turns
+pub sections_are : (names : List (List ℕ)) (ms : List Machine) (turns : List (ℕ × ℕ))
+    → sections_of names (with_turns turns ms) ≡ sections 0 names ms turns
+sections_are names ms turns = ap (sections_of names) (with_turns_are turns ms) ∙ sections_run 0 names ms turns
 
 -- the plain steps of turns and their trace are those of the machines' own runs
 pub plain_are : (turns : List (ℕ × ℕ)) (ms : List Machine) → plain_count (turn_events turns ms) ≡ plain_count (own_events turns ms)

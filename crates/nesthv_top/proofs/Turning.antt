@@ -5,8 +5,10 @@ use Rattle.std.proofs.lemmas.Bool.{cases_Bool, cases_lt, eqb-true, eq-eqb, both_
 use Rattle.std.proofs.lemmas.List.{drop_all, get_or_past}
 use Rattle.std.proofs.lemmas.Nat.{mul-le}
 use Rattle.std.proofs.lemmas.List.Sums.{sum_by-cons}
+use Rattle.machine_defs.specs.Fills.{most_tries}
 use Rattle.machine_defs.specs.Machine.{Machine}
 use Rattle.machine_defs.specs.Runs.{events, plain_count, run, trace_of}
+use Rattle.guest_turns.specs.Account.{Accounted}
 use Rattle.guest_turns.specs.Hosted.{machine_at, no_machine}
 use Rattle.guest_turns.specs.TurnLists.{entries_for, turn_entries, turn_events, with_turn, with_turns}
 use Rattle.guest_turns.proofs.Turns.{plain_then, trace_then}
@@ -32,12 +34,8 @@ pub record IsTurn (g k taken : ℕ) (ms : List Machine) (tally : Counts) (after 
   pub machines : after ≡ with_turn g k ms
   pub made : (machine_at ms g).platform.steps + taken ≡ (machine_at after g).platform.steps
   pub most : taken ≤ k
-  pub entries_grow : tally.entries ≤ later.entries
   pub room : (machine_at after g).entry_room ≡ (machine_at ms g).entry_room
-  pub entries_most : later.entries ≤ tally.entries + turn_entries (machine_at ms g).entry_room k
-  pub taken_least : tally.taken + plain_count (events (machine_at ms g) k) ≤ later.taken
-  pub taken_most : later.taken ≤ tally.taken + taken
-  pub trace : IsRaisedBy (trace_of (events (machine_at ms g) k)) tally.trace later.trace
+  pub account : Accounted (machine_at ms g) k taken tally later
 
 steps_more : (g k : ℕ) (turns : List (ℕ × ℕ)) → turn_steps ((g, k) ∷ turns) ≡ k + turn_steps turns
 steps_more g k turns = sum_by-cons (λ turn. turn.1) (g, k) turns
@@ -110,12 +108,12 @@ left_next turns first began i g k taken d ms tally after later inside is before 
       steps = λ j h.
           let there : j < length ms = rw (turn.machines, length_updated g (λ m. run m k) ms) at h in
           steps_after g k taken j (turn_steps left) (turn_steps turns) ms after turn.machines turn.made turn.most (rw all at (before.steps j there));
-      entries_grow = omega (arith, before.entries_grow, turn.entries_grow);
+      entries_grow = omega (arith, before.entries_grow, turn.account.entries_grow);
       rooms = λ j. rooms_after g k j ms after turn.machines turn.room ∙ before.rooms j;
-      entries_most = omega (arith, entries, room, before.entries_most, turn.entries_most);
-      taken_most = omega (arith, all, before.taken_most, turn.taken_most, turn.most);
-      taken_least = omega (arith, plain, before.taken_least, turn.taken_least);
-      trace = omega (arith, trace, before.trace, turn.trace);
+      entries_most = omega (arith, entries, room, before.entries_most, turn.account.entries_most);
+      taken_most = omega (arith, all, before.taken_most, turn.account.taken_most, turn.most);
+      taken_least = omega (arith, plain, before.taken_least, turn.account.taken_least);
+      trace = omega (arith, trace, before.trace, turn.account.trace);
     }
 
 -- the room of the machine of a guest that there is not
@@ -150,8 +148,8 @@ entries_below ms [] rooms short = omega arith
 entries_below ms ((g, k) ∷ turns) rooms short =
     let one : k ≤ 2 ^ 32 = short 0 (g, k) (omega arith) in
     let room = room_below ms g rooms in
-    let most : (k + 1) * ((machine_at ms g).entry_room + 9) ≤ (2 ^ 32 + 1) * 265 =
-    mul-le (k + 1) ((machine_at ms g).entry_room + 9) (2 ^ 32 + 1) 265 (omega (arith, one)) (omega (arith, room)) in
+    let most : (k + 1) * most_tries (machine_at ms g).entry_room ≤ (2 ^ 32 + 1) * 265 =
+    mul-le (k + 1) (most_tries (machine_at ms g).entry_room) (2 ^ 32 + 1) 265 (omega (arith, one)) (omega (arith, room)) in
     let rest = entries_below ms turns rooms (λ i d inside. short (suc i) d (omega (arith, inside))) in
     omega (arith, entries_more ms g k turns, most, rest)
 

@@ -11,7 +11,7 @@ use Rattle.nesthv_top.specs.declared.ends.LoadEnd.{LoadEnd}
 use Rattle.nesthv_top.specs.declared.ends.LoadEnd.TheVariants.{Refused, ReadFault, NoMemory}
 use Rattle.nesthv_top.specs.Plans.{guests_of, images_fault}
 use Rattle.nesthv_top.specs.Reads.{AskedMore, image_asks, IsFailedRead}
-use Rattle.nesthv_top.specs.Seen.{names_in, names_of}
+use Rattle.nesthv_top.specs.Seen.{names_in, names_of_guests}
 
 -- a guest of these settings, and guests
 pub record IsLoaded (settings : GuestSettings) (guest : GuestSpec) : Type 0 where
@@ -19,7 +19,7 @@ pub record IsLoaded (settings : GuestSettings) (guest : GuestSpec) : Type 0 wher
   pub bootable : IsBootable guest
 
 pub record AreLoaded (settings : List GuestSettings) (guests : List GuestSpec) : Type 0 where
-  pub names : names_of guests ≡ names_in settings
+  pub names : names_of_guests guests ≡ names_in settings
   pub bootable : All IsBootable guests
 
 -- all images were read and fit, and these are the guests with them

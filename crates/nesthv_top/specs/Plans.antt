@@ -1,12 +1,15 @@
 -- What a command does with the files: the guests that it runs, their turns, and the report.
-use Rattle.std.specs.Prelude.{ℕ, ◌≡◌, ◌+◌, ◌*◌, ◌<◌, ◌≤◌, List, get_or, [], ◌∷◌, ◌++◌, Option, Some, None, Result, Ok, Err, Bool, length, map, nat_le, sum_by, unwrap_or}
+use Rattle.std.specs.Prelude.{ℕ, ◌≡◌, ◌+◌, ◌*◌, ◌<◌, ◌≤◌, List, [], ◌∷◌, ◌++◌, Option, Some, None, Result, Ok, Err, Bool, length, map, nat_le, sum_by, unwrap_or}
 use Rattle.arch_defs.specs.Memory.{block_size}
+use Rattle.guest_turns.specs.Hosted.{machine_at}
 use Rattle.guest_turns.specs.Limits.{frames_for}
 use Rattle.machine_defs.specs.declared.events.Event.{Event}
 use Rattle.machine_defs.specs.declared.guests.GuestSpec.{GuestSpec}
 use Rattle.machine_defs.specs.Fills.{lacking, ready}
-use Rattle.machine_defs.specs.Machine.{start}
-use Rattle.machine_defs.specs.Report.{section}
+use Rattle.machine_defs.specs.FreeMachines.{IsArchitectural}
+use Rattle.machine_defs.specs.Freshness.{UsesFresh}
+use Rattle.machine_defs.specs.Machine.{Machine, start}
+use Rattle.machine_defs.specs.Report.{section_of}
 use Rattle.machine_defs.specs.Runs.{run}
 use Rattle.outside.specs.Files.{Files, read_of}
 use Rattle.run_config.specs.declared.faults.ConfigFault.{ConfigFault}
@@ -114,19 +117,32 @@ abbrev pub fault_of : Files → Option Command → Option ConfigFault
 fault_of files (Some (Run name)) = fault_in (planned files name)
 fault_of files None = None
 
--- the sections of guests, in order, after so many other guests: each for the steps of its own turns
-unfoldable pub sections : ℕ → List GuestSpec → List (ℕ × ℕ) → List ℕ
-sections before [] turns = []
-sections before (guest ∷ rest) turns =
-    section guest (own_steps before turns) ++ sections (before + 1) rest turns
+-- the names of a plan's guests, and their lone machines at their start
+abbrev pub names_of : Plan → List (List ℕ)
+names_of plan = map (λ guest. guest.name) plan.guests
+
+abbrev pub machines_of : Plan → List Machine
+machines_of plan = map start plan.guests
+
+-- the section of a machine after n steps
+abbrev pub section_from : List ℕ → Machine → ℕ → List ℕ
+section_from name m n = section_of name (run m n)
+
+-- the sections of machines with these names, in order, the first of which has this number: each after the
+-- steps of its own turns
+unfoldable pub sections : ℕ → List (List ℕ) → List Machine → List (ℕ × ℕ) → List ℕ
+sections first [] machines turns = []
+sections first (name ∷ names) [] turns = []
+sections first (name ∷ names) (m ∷ machines) turns =
+    section_from name m (own_steps first turns) ++ sections (first + 1) names machines turns
 
 -- the report of a plan
 unfoldable pub report_of : Plan → List ℕ
-report_of plan = sections 0 plan.guests plan.turns
+report_of plan = sections 0 (names_of plan) (machines_of plan) plan.turns
 
 -- the events of the runs of the guests' lone machines, one guest after another
 unfoldable pub events_of : Plan → List Event
-events_of plan = own_events plan.turns (map start plan.guests)
+events_of plan = own_events plan.turns (machines_of plan)
 
 -- the steps of all turns of a plan, if there is one
 abbrev pub turn_steps : List (ℕ × ℕ) → ℕ
@@ -138,15 +154,22 @@ steps_of None = 0
 
 -- at most how many entries of the hart they take: the sum of the turns' bounds
 abbrev pub plan_entries : Plan → ℕ
-plan_entries plan = entries_for (map start plan.guests) plan.turns
+plan_entries plan = entries_for (machines_of plan) plan.turns
 
 abbrev pub entries_of : Option Plan → ℕ
 entries_of (Some plan) = plan_entries plan
 entries_of None = 0
 
--- however small the spaces of a guest are, and however stale: at each moment of the run of its section, its
--- machine lacks no cached translation for its next step after as many fills as a space has room for and
--- eight. So a step is never put off for good
-abbrev pub FillsSufficeIn : Plan → Type 0
-FillsSufficeIn plan = (i n : ℕ) (d : GuestSpec) → i < length plan.guests → n ≤ own_steps i plan.turns
-    → lacking (ready (run (start (get_or plan.guests i d)) n)) ≡ None
+-- after n steps of its run a machine lacks no cached translation for its next step, once this has made its
+-- fills, however small and however stale its spaces are: no step is put off for good. The run so far is one of
+-- the written architecture. And each cached translation that the next step may use is fresh: it is stale at
+-- most until the fence that names it
+pub record RunsAsWritten (m : Machine) (n : ℕ) : Type 0 where
+  pub fills : lacking (ready (run m n)) ≡ None
+  pub architectural : IsArchitectural m n
+  pub fresh : UsesFresh m n
+
+-- so does each machine of a plan, after each number of steps up to those of its section
+abbrev pub AllRunAsWritten : Plan → Type 0
+AllRunAsWritten plan = (i n : ℕ) → i < length (machines_of plan) → n ≤ own_steps i plan.turns
+    → RunsAsWritten (machine_at (machines_of plan) i) n

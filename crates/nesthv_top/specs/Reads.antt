@@ -24,6 +24,10 @@ image_asks files [] = []
 image_asks files (guest ∷ rest) =
     image_ask guest ∷ (if fits guest (image_of files guest) then image_asks files rest else [])
 
+-- the most reads of a command: a configuration and 16 images
+abbrev pub most_reads : ℕ
+most_reads = 17
+
 -- the reads of the images of a configuration, if it is accepted
 abbrev pub accepted_asks : Files → Result Configuration ConfigFault → List Ask
 accepted_asks files (Ok c) = image_asks files c.guests

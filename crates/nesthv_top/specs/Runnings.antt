@@ -1,5 +1,10 @@
--- The report of machines.
-use Rattle.std.specs.Prelude.{ℕ, List, [], ◌∷◌, ◌++◌}
+-- What a run of a plan leaves: its account, and the report of machines.
+use Rattle.std.specs.Prelude.{◌≡◌, ℕ, ◌+◌, ◌≤◌, List, [], ◌∷◌, ◌++◌, Result, Ok, Err}
+use Rattle.machine_defs.specs.Runs.{plain_count, trace_of}
+use Rattle.rv64_hart.specs.Counts.{Counts, IsRaisedBy}
+use Rattle.nesthv_top.specs.declared.ends.RunEnd.{RunEnd}
+use Rattle.nesthv_top.specs.declared.ends.RunEnd.TheVariants.{NoMemory, WriteFault}
+use Rattle.nesthv_top.specs.Plans.{Plan, events_of, plan_entries, turn_steps}
 use Rattle.machine_defs.specs.Machine.{Machine}
 use Rattle.machine_defs.specs.Report.{section_of}
 
@@ -8,3 +13,18 @@ unfoldable pub sections_of : List (List ℕ) → List Machine → List ℕ
 sections_of [] machines = []
 sections_of (name ∷ names) [] = []
 sections_of (name ∷ names) (m ∷ machines) = section_of name m ++ sections_of names machines
+
+-- the account of a plan's turns
+pub record CountsTurns (plan : Plan) (old new : Counts) : Type 0 where
+  pub entries_grow : old.entries ≤ new.entries
+  pub entries_most : new.entries ≤ old.entries + plan_entries plan
+  pub taken_grow : old.taken ≤ new.taken
+  pub taken_most : new.taken ≤ old.taken + turn_steps plan.turns
+  pub taken_least : old.taken + plain_count (events_of plan) ≤ new.taken
+  pub trace : IsRaisedBy (trace_of (events_of plan)) old.trace new.trace
+
+-- the same by how the run ended; where memory was wanting, nothing was run
+abbrev pub IsAccountOf : {A : Type 0} → Plan → Result A RunEnd → Counts → Counts → Type 0
+IsAccountOf plan (Ok a) old new = CountsTurns plan old new
+IsAccountOf plan (Err WriteFault) old new = CountsTurns plan old new
+IsAccountOf plan (Err NoMemory) old new = new ≡ old

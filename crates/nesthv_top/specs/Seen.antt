@@ -18,8 +18,8 @@ abbrev pub plan_seen : Job → Plan
 plan_seen job = record { guests = job.guests.items; turns = job.config.turns }
 
 -- the names of guests, and those that a configuration says
-abbrev pub names_of : List GuestSpec → List (List ℕ)
-names_of guests = map (λ guest. guest.name) guests
+abbrev pub names_of_guests : List GuestSpec → List (List ℕ)
+names_of_guests guests = map (λ guest. guest.name) guests
 
 abbrev pub names_in : List GuestSettings → List (List ℕ)
 names_in guests = map (λ guest. guest.name) guests
@@ -27,6 +27,6 @@ names_in guests = map (λ guest. guest.name) guests
 -- a job that an accepted configuration gives
 pub record IsJob (job : Job) : Type 0 where
   pub limits : IsWithinLimits job.config
-  pub names : names_of job.guests.items ≡ names_in job.config.guests
+  pub names : names_of_guests job.guests.items ≡ names_in job.config.guests
   pub guests : All IsBootable job.guests.items
   pub frames : frames_for job.guests.items ≤ 131072

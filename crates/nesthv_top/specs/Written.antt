@@ -1,5 +1,6 @@
 -- What stands in a sink after a step.
 use Rattle.std.specs.Prelude.{◌≡◌, ℕ, List, Result, Ok, Err, Bool, false}
+use Rattle.outside.specs.declared.sinks.Sink as sinks
 use Rattle.outside.specs.Faults.{Rose}
 use Rattle.outside.specs.Pieces.{Appends, Puts}
 use Rattle.nesthv_top.specs.declared.ends.RunEnd.{RunEnd}
@@ -12,6 +13,6 @@ IsWritten stands_for old new (Err WriteFault) text = Puts stands_for old new fal
 IsWritten stands_for old new (Err NoMemory) text = new ≡ old
 
 -- a line was put: whole, or a front of it where the count of faults rose
-abbrev pub IsTold : {S : Type 0} → (S → List ℕ → Type 0) → (S → ℕ) → S → S → List ℕ → Type 0
-IsTold stands_for faults old new line =
-    (whole : Bool) × Puts stands_for old new whole line × (whole ≡ false → Rose (faults old) (faults new))
+abbrev pub IsTold : {Z : Type 0} → sinks.Ghosts Z → Z → Z → List ℕ → Type 0
+IsTold E old new line = (whole : Bool) × Puts E.stands_for old new whole line
+    × (whole ≡ false → Rose (E.faults old) (E.faults new))

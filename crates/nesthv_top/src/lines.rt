@@ -13,7 +13,7 @@ use run_config::{ConfigFault, ConfigKey};
 
 /// Puts the line that tells of an end, if it has one.
 pub fn tell<E: Sink>(ended: Ended, err: &mut E)
-    ensures { SaysOfErr E.stands_for E.faults E.made_with ended err.old err.new }
+    ensures { SaysOfErr E.Sink ended err.old err.new }
 {
     match ended {
         Ended::Done => {}
@@ -30,7 +30,7 @@ pub fn tell<E: Sink>(ended: Ended, err: &mut E)
 
 // Puts a line; a fault of this sink changes nothing.
 fn put_line<E: Sink>(line: &[u8], err: &mut E)
-    ensures line { IsTold E.stands_for E.faults err.old err.new line.now }
+    ensures line { IsTold E.Sink err.old err.new line.now }
     ensures count { E.faults err.old ≤ E.faults err.new }
     ensures stays { E.made_with err.new ≡ E.made_with err.old }
 {

@@ -30,8 +30,8 @@ const MOST_FRAMES: u64 = 131_072;
 
 /// Reads a configuration and its images.
 pub fn load<S: Store>(alloc: Global, name: &str, store: &mut S) -> Result<Job, LoadEnd>
-    ensures reads { SaysOfReads S.files S.asked S.faults (Some (Run name.now)) (ended_of result)
-        store.old store.new }
+    ensures reads { SaysOfReads S.Store (Some (Run name.now)) (ended_of result) store.old store.new }
+    ensures cause { IfReadFault result (λ n. Rose (S.faults store.old) (S.faults store.new)) }
     ensures planned { (files : Files) → S.files store.old ≡ Some files
         → Answers plan_seen result (planned files name.now) }
     ensures job { IfOk result IsJob }
@@ -58,7 +58,8 @@ fn read_config<S: Store>(alloc: Global, name: &str, store: &mut S) -> Result<Con
     ensures asked { OnOk result
         (AskedMore (ask name.now config_most ∷ []) (S.asked store.old) (S.asked store.new)) }
     ensures ended { IfErr result (λ end.
-        SaysOfReads S.files S.asked S.faults (Some (Run name.now)) (ended_by end) store.old store.new) }
+        SaysOfReads S.Store (Some (Run name.now)) (ended_by end) store.old store.new) }
+    ensures cause { IfReadFault result (λ n. Rose (S.faults store.old) (S.faults store.new)) }
     ensures stays { S.files store.new ≡ S.files store.old }
     ensures count { S.faults store.old ≤ S.faults store.new }
 {

@@ -1,10 +1,8 @@
 // From a command to its end.
 
-ghost use Rattle.std.specs.Prelude.{◌≡◌, ◌^◌, ◌≤◌, Some, IfSome};
-ghost use Rattle.outside.specs.Files.{Files};
+ghost use Rattle.std.specs.Prelude.{◌^◌, ◌≤◌, Some};
 ghost use Rattle.nesthv_top.specs.Commands.{Run, command_of};
-ghost use Rattle.nesthv_top.specs.Endings.{IfDone, SaysOfReads, SaysOfOut, SaysOfAccount};
-ghost use Rattle.nesthv_top.specs.Plans.{FillsSufficeIn, plan_of};
+ghost use Rattle.nesthv_top.specs.Endings.{SaysOfAccount, SaysOfCause, SaysOfOut, SaysOfReads};
 
 use crate::commands::{Request, request_of};
 use crate::ends::{Ended, LoadEnd, RunEnd};
@@ -25,12 +23,11 @@ pub fn obey<S: Store, O: Sink>(
     requires entries { tally.old.entries ≤ 2 ^ 61 }
     requires taken { tally.old.taken ≤ 2 ^ 61 }
 
-    ensures reads { SaysOfReads S.files S.asked S.faults (command_of words.now) result store.old store.new }
-    ensures out { SaysOfOut O.stands_for O.faults O.made_with
-        (S.files store.old) (command_of words.now) result out.old out.new }
+    ensures cause { SaysOfCause S.Store O.Sink (command_of words.now) result store.old store.new
+        out.old out.new }
+    ensures reads { SaysOfReads S.Store (command_of words.now) result store.old store.new }
+    ensures out { SaysOfOut O.Sink (S.files store.old) (command_of words.now) result out.old out.new }
     ensures account { SaysOfAccount (S.files store.old) (command_of words.now) result tally.old tally.new }
-    ensures fills { (files : Files) → S.files store.old ≡ Some files
-        → IfDone result (IfSome (plan_of files (command_of words.now)) FillsSufficeIn) }
 {
     match request_of(words) {
         Some(Request::Run { config }) => run_configuration(alloc, config, store, out, tally),
@@ -49,12 +46,11 @@ fn run_configuration<S: Store, O: Sink>(
     requires entries { tally.old.entries ≤ 2 ^ 61 }
     requires taken { tally.old.taken ≤ 2 ^ 61 }
 
-    ensures reads { SaysOfReads S.files S.asked S.faults (Some (Run config.now)) result store.old store.new }
-    ensures out { SaysOfOut O.stands_for O.faults O.made_with
-        (S.files store.old) (Some (Run config.now)) result out.old out.new }
+    ensures cause { SaysOfCause S.Store O.Sink (Some (Run config.now)) result store.old store.new
+        out.old out.new }
+    ensures reads { SaysOfReads S.Store (Some (Run config.now)) result store.old store.new }
+    ensures out { SaysOfOut O.Sink (S.files store.old) (Some (Run config.now)) result out.old out.new }
     ensures account { SaysOfAccount (S.files store.old) (Some (Run config.now)) result tally.old tally.new }
-    ensures fills { (files : Files) → S.files store.old ≡ Some files
-        → IfDone result (IfSome (plan_of files (Some (Run config.now))) FillsSufficeIn) }
 {
     let job = match load(alloc, config, store) {
         Ok(job) => job,

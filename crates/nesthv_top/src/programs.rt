@@ -1,8 +1,8 @@
 // The whole program.
 
-ghost use Rattle.std.specs.Prelude.{◌≡◌, IfOk, OnErr};
+ghost use Rattle.std.specs.Prelude.{◌≡◌, ◌^◌, ◌≤◌, IfOk, OnErr};
 ghost use Rattle.nesthv_top.specs.Commands.{command_of};
-ghost use Rattle.nesthv_top.specs.Endings.{SaysOfReads, SaysOfOut, SaysOfErr};
+ghost use Rattle.nesthv_top.specs.Endings.{SaysOfAccount, SaysOfCause, SaysOfErr, SaysOfOut, SaysOfReads};
 ghost use Rattle.nesthv_top.specs.Lines.{memory_line};
 ghost use Rattle.nesthv_top.specs.Statuses.{IsStatusOf};
 ghost use Rattle.nesthv_top.specs.Written.{IsTold};
@@ -22,22 +22,28 @@ pub fn program<S: Store, O: Sink, E: Sink>(
     store: &mut S,
     out: &mut O,
     err: &mut E,
+    tally: &mut Tally,
 ) -> u8
-    // With words: the status, and what the end that it stands for says of the reads, of `out` and of `err`.
+    requires entries { tally.old.entries ≤ 2 ^ 61 }
+    requires taken { tally.old.taken ≤ 2 ^ 61 }
+
+    // With words: the status is that of an end of the command, which says why it comes and what it leaves.
     ensures ended { IfOk words (λ words. IsStatusOf result (λ ended.
-        SaysOfReads S.files S.asked S.faults (command_of words.items) ended store.old store.new
-        × SaysOfOut O.stands_for O.faults O.made_with (S.files store.old) (command_of words.items) ended
-        out.old out.new
-        × SaysOfErr E.stands_for E.faults E.made_with ended err.old err.new)) }
+        SaysOfCause S.Store O.Sink (command_of words.items) ended store.old store.new out.old out.new
+        × SaysOfReads S.Store (command_of words.items) ended store.old store.new
+        × SaysOfOut O.Sink (S.files store.old) (command_of words.items) ended out.old out.new
+        × SaysOfErr E.Sink ended err.old err.new
+        × SaysOfAccount (S.files store.old) (command_of words.items) ended tally.old tally.new)) }
 
     // Without words.
     ensures status { OnErr words (result ≡ 5) }
-    ensures line { OnErr words (IsTold E.stands_for E.faults err.old err.new memory_line) }
+    ensures line { OnErr words (IsTold E.Sink err.old err.new memory_line) }
     ensures store { OnErr words (store.new ≡ store.old) }
     ensures out { OnErr words (out.new ≡ out.old) }
+    ensures account { OnErr words (tally.new ≡ tally.old) }
 {
     match words {
-        Ok(words) => nesthv(alloc, words.as_slice(), store, out, err, &mut Tally::new()),
+        Ok(words) => nesthv(alloc, words.as_slice(), store, out, err, tally),
         Err(AllocError) => {
             let ended = Ended::NoMemory(0);
             tell(ended, err);

@@ -1,6 +1,6 @@
 // From a job to its report.
 
-ghost use Rattle.std.specs.Prelude.{◌≡◌, ◌+◌, ◌^◌, ◌≤◌, ◌<◌, is_ok, length, IsErrOf, OnErr, OnOk};
+ghost use Rattle.std.specs.Prelude.{◌≡◌, ◌+◌, ◌^◌, ◌≤◌, ◌<◌, is_ok, length, IsErrOf, OnErr};
 ghost use Rattle.std.specs.List.{All};
 ghost use Rattle.machine_defs.specs.Runs.{plain_count, trace_of};
 ghost use Rattle.outside.specs.Faults.{Rose};
@@ -8,14 +8,14 @@ ghost use Rattle.outside.specs.Pieces.{Puts};
 ghost use Rattle.guest_turns.specs.TurnLists.{entries_for, turn_events, with_turns};
 ghost use Rattle.rv64_hart.specs.Counts.{IsRaisedBy};
 ghost use Rattle.run_config.specs.Configurations.{IsGuestWithin, IsTurnWithin};
-ghost use Rattle.nesthv_top.specs.Plans.{FillsSufficeIn, events_of, plan_entries, report_of, turn_steps};
-ghost use Rattle.nesthv_top.specs.Runnings.{sections_of};
+ghost use Rattle.nesthv_top.specs.Plans.{AllRunAsWritten, report_of, turn_steps};
+ghost use Rattle.nesthv_top.specs.Runnings.{sections_of, IsAccountOf};
 ghost use Rattle.nesthv_top.specs.Seen.{names_in, plan_seen, IsJob};
 ghost use Rattle.nesthv_top.specs.Written.{IsWritten};
 
 use crate::ends::{Job, RunEnd};
-use enough_tries::fills_suffice;
 use guest_turns::Host;
+use machine_laws::{fills_suffice, runs_are_architectural, runs_are_fresh};
 use outside::{Sink, SinkFault};
 use report::{GuestLine, section};
 use run_config::GuestSettings;
@@ -32,19 +32,12 @@ pub fn run<O: Sink>(alloc: Global, job: Job, out: &mut O, tally: &mut Tally) -> 
     ensures cause { IsErrOf result RunEnd.WriteFault → Rose (O.faults out.old) (O.faults out.new) }
     ensures count { O.faults out.old ≤ O.faults out.new }
     ensures stays { O.made_with out.new ≡ O.made_with out.old }
-
-    ensures idle { IsErrOf result RunEnd.NoMemory → tally.new ≡ tally.old }
-    ensures entries_grow { tally.old.entries ≤ tally.new.entries }
-    ensures entries_most { tally.new.entries ≤ tally.old.entries + plan_entries (plan_seen job) }
-    ensures taken_grow { tally.old.taken ≤ tally.new.taken }
-    ensures taken_most { tally.new.taken ≤ tally.old.taken + turn_steps (plan_seen job).turns }
-    ensures taken_least { OnOk result
-        (tally.old.taken + plain_count (events_of (plan_seen job)) ≤ tally.new.taken) }
-    ensures trace { OnOk result
-        (IsRaisedBy (trace_of (events_of (plan_seen job))) tally.old.trace tally.new.trace) }
-    ensures fills { FillsSufficeIn (plan_seen job) }
+    ensures account { IsAccountOf (plan_seen job) result tally.old tally.new }
+    ensures machines { AllRunAsWritten (plan_seen job) }
 {
     fills_suffice();
+    runs_are_architectural();
+    runs_are_fresh();
     let Job { config, guests } = job;
     let mut host = match Host::boot(alloc, guests) {
         Ok(host) => host,

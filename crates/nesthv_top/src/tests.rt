@@ -278,14 +278,32 @@ fn whole_program(rt: HostRuntime) -> Result<(), Fail> {
     let mut store = store_of(rt.alloc(), config.as_str(), image.as_slice())?;
     let mut out = sink(rt.alloc(), 0)?;
     let mut err = sink(rt.alloc(), 0)?;
+    let mut tally = Tally::new();
     let words = Err(AllocError);
-    let status = program(rt.alloc(), words, &mut store, &mut out, &mut err);
+    let status = program(
+        rt.alloc(),
+        words,
+        &mut store,
+        &mut out,
+        &mut err,
+        &mut tally,
+    );
     assert_eq!(rt; status, 5);
-    assert_eq!(rt; (store.asked().len(), out.bytes().len()), (0, 0));
+    assert_eq!(rt;
+        (store.asked().len(), out.bytes().len(), tally.entries()),
+        (0, 0, 0)
+    );
     assert_eq!(rt; err.bytes(), b"nesthv: out of memory\n".as_slice());
     let words = Ok(words_of(rt.alloc(), &RUN)?);
-    let status = program(rt.alloc(), words, &mut store, &mut out, &mut CleanSink);
-    assert_eq!(rt; status, 0);
+    let status = program(
+        rt.alloc(),
+        words,
+        &mut store,
+        &mut out,
+        &mut CleanSink,
+        &mut tally,
+    );
+    assert_eq!(rt; (status, tally.entries(), tally.taken()), (0, 2, 3));
     assert_eq!(rt;
         out.bytes(),
         b"guest a stopped steps 5 bytes 1\nA\n".as_slice()

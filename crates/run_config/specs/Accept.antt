@@ -46,6 +46,11 @@ guests_in document = unwrap_or (guests_at document) []
 unfoldable pub has_format : Members → Bool
 has_format document = is_some (value_at key.Format document >>= number_within 1 1)
 
+-- the first fault of a document that is found with no memory: by `format`, and where there is no `guest` (own)
+unfoldable pub head_fault : Members → Option ConfigFault
+head_fault document =
+    first_fault (unless (has_format document) fault.Format ∷ missing None document key.Guest ∷ [])
+
 -- the first fault of a document (own)
 unfoldable pub document_fault : Members → Option ConfigFault
 document_fault document = first_fault (

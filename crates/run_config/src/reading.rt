@@ -1,11 +1,11 @@
 //! Reads a configuration.
 
-ghost use Rattle.std.specs.Prelude.{◌≡◌, ◌<◌, ◌≤◌, false, length, map, [], ◌∷◌, Some, None, Ok, Err, IfOk, IfSome, OnOk, option_map};
+ghost use Rattle.std.specs.Prelude.{◌≡◌, ◌<◌, ◌≤◌, false, length, map, [], ◌∷◌, Some, None, Ok, Err, IfOk, IfSome, IsErrOf, OnOk, option_map};
 ghost use Rattle.std.specs.Str.{is_utf8};
 ghost use Rattle.toml.specs.View.{view, items_view, table_view};
-ghost use Rattle.run_config.specs.declared.ends.ReadEnd.TheVariants.{Refused};
+ghost use Rattle.run_config.specs.declared.ends.ReadEnd.TheVariants.{NoMemory, Refused};
 ghost use Rattle.run_config.specs.declared.faults.ConfigFault.TheVariants as fault;
-ghost use Rattle.run_config.specs.Accept.{accept, array_length, configuration_of, document_fault, guests_at, guests_in, has_format, tree_of, AcceptedIsWithinLimits};
+ghost use Rattle.run_config.specs.Accept.{accept, array_length, configuration_of, document_fault, guests_at, guests_in, has_format, head_fault, tree_of, AcceptedIsWithinLimits};
 ghost use Rattle.run_config.specs.Answers.{IfRefused};
 ghost use Rattle.run_config.specs.Configurations.{IsWithinLimits};
 ghost use Rattle.run_config.specs.Guests.{guests_fault, settings_of};
@@ -137,12 +137,14 @@ fn all_settings(alloc: Global, tables: &[&Table]) -> Result<Vec<GuestSettings>, 
     Ok(guests)
 }
 
-/// The configuration that a document says.
-#[tactic(auto, unfolding(crate::specs::Accept::document_fault, crate::specs::Accept::configuration_of, crate::specs::Accept::guests_in, crate::specs::Tests::missing))]
+/// The configuration that a document says. Want of memory never stands in the place of a refusal by `format`,
+/// or of one where there is no `guest`.
+#[tactic(auto, unfolding(crate::specs::Accept::document_fault, crate::specs::Accept::head_fault, crate::specs::Accept::configuration_of, crate::specs::Accept::guests_in, crate::specs::Tests::missing))]
 fn configuration_of(alloc: Global, document: &Table) -> Result<Config, ReadEnd>
     ensures passed { OnOk result (document_fault (table_view document.now) ≡ None) }
     ensures configuration { IfOk result (λ c. c ≡ configuration_of (table_view document.now)) }
     ensures refused { IfRefused result (λ f. document_fault (table_view document.now) ≡ Some f) }
+    ensures memory { IsErrOf result NoMemory → head_fault (table_view document.now) ≡ None }
 {
     if !has_format(document) {
         return Err(ReadEnd::Refused(ConfigFault::Format));

@@ -1,4 +1,4 @@
-use Rattle.std.proofs.Common.{◌≡◌, ◌++◌, [], ◌∷◌, ◌≤◌, length, arith, rules, get_or, subst}
+use Rattle.std.proofs.Common.{◌≡◌, ◌++◌, [], ◌∷◌, length, arith, rules, get_or, subst}
 use Rattle.std.proofs.lemmas.List.{get_or_default}
 use Rattle.arch_defs.specs.declared.needs.Need.{Need}
 use Rattle.frame_split.specs.Shares.{SoFar}

@@ -1,8 +1,9 @@
-use Rattle.std.proofs.Common.{◌≡◌, ◌∙◌, rules, arith}
+use Rattle.std.proofs.Common.{◌≡◌, ◌≢◌, ◌∙◌, rules, arith}
 use Rattle.machine_defs.specs.declared.guests.Status.TheVariants.{Running}
 use Rattle.guest_exit.specs.View.{machine_of}
 use Rattle.guest_turns.proofs.Placing.{fixed_both, only_then}
-use Rattle.guest_turns.proofs.Turns.{budget_positive, budget_within}
+use Rattle.machine_laws.proofs.Running.{events_idle, events_none}
+use Rattle.guest_turns.proofs.Turns.{accounted, accounted_then, budget_positive, budget_within}
 use Rattle.guest_turns.proofs.turning.turn_of.Goals as goal
 
 -- while steps are left, so is a try, and the tries are within the bound
@@ -10,17 +11,20 @@ pub advance-left-requires-clause-entries : goal.advance-left-requires-clause-ent
 advance-left-requires-clause-entries c =
     let some = budget_positive (machine_of c.loop-left.guest c.loop-left.memory) c.loop-left.left c.loop-left-test.true in
     let most = budget_within (machine_of c.args.guest.now c.args.memory.now) c.args.k in
-    omega (arith, c.loop-left.invariant.entries_most, some, most, c.requires.entries)
+    omega (arith, c.loop-left.invariant.account.entries_most, some, most, c.requires.room.entries)
 
-pub returns-then-ne-clause-entries_most : goal.returns-then-ne-clause-entries_most
-returns-then-ne-clause-entries_most c =
-    let most = budget_within (machine_of c.args.guest.now c.args.memory.now) c.args.k in
-    omega (arith, c.loop-left.invariant.entries_most, most)
+pub returns-then-ne-clause-account : goal.returns-then-ne-clause-account
+returns-then-ne-clause-account c =
+    let is = c.loop-left.invariant in
+    let idle : c.loop-left.guest.status ≢ Running = search rules in
+    accounted (machine_of c.args.guest.now c.args.memory.now) (machine_of c.loop-left.guest c.loop-left.memory) c.args.k c.loop-left.left _ c.args.tally.now c.loop-left.tally
+    (events_idle (machine_of c.loop-left.guest c.loop-left.memory) c.loop-left.left idle) (omega (arith, is.began, is.forward)) is.account
 
-pub returns-clause-entries_most : goal.returns-clause-entries_most
-returns-clause-entries_most c =
-    let most = budget_within (machine_of c.args.guest.now c.args.memory.now) c.args.k in
-    omega (arith, c.loop-left.invariant.entries_most, most)
+pub returns-clause-account : goal.returns-clause-account
+returns-clause-account c =
+    let is = c.loop-left.invariant in
+    accounted (machine_of c.args.guest.now c.args.memory.now) (machine_of c.loop-left.guest c.loop-left.memory) c.args.k c.loop-left.left _ c.args.tally.now c.loop-left.tally
+    (events_none _ c.loop-left.left (omega (arith, c.loop-left-test.false))) (omega (arith, is.began, is.forward)) is.account
 
 pub loop-left-preserved : goal.loop-left-preserved
 loop-left-preserved c =
@@ -40,13 +44,12 @@ loop-left-preserved c =
       counted = λ running.
           let was : c.loop-left.guest.status ≡ Running = search rules in
           omega (arith, is.counted was, made.counts running);
-      entries_grow = omega (arith, is.entries_grow, made.entries.0);
-      entries_most = omega (arith, is.entries_most, made.entries.1, made.advances.goes.fewer);
-      entries_least = λ same.
-          let before : c.loop-left.tally.entries ≡ c.args.tally.now.entries = omega (arith, same, is.entries_grow, made.entries.0) in
-          let stays : c.advance-left.new.tally.entries ≡ c.loop-left.tally.entries = omega (arith, same, before) in
-          is.entries_least before ∙ made.none stays;
-      taken_least = omega (arith, is.taken_least, made.taken_least);
-      taken_most = omega (arith, is.taken_most, made.taken_most);
-      trace = made.trace ∙ is.trace;
+      account = accounted_then _ _ _ _ _ _ _ _ _ is.account (record {
+        entries_grow = made.entries.0;
+        entries_least = made.none;
+        entries_most = omega (arith, made.entries.1, made.advances.goes.fewer);
+        taken_least = made.taken_least;
+        taken_most = made.taken_most;
+        trace = made.trace;
+      });
     }

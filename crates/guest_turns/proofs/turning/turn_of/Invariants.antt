@@ -1,10 +1,11 @@
-use Rattle.std.proofs.Common.{◌≡◌, ◌+◌, ◌%◌, ◌^◌, ◌≤◌}
+use Rattle.std.proofs.Common.{◌≡◌, ◌+◌, ◌≤◌}
 use Rattle.arch_defs.specs.Frames.{Only}
-use Rattle.enough_tries.specs.Budgets.{budget}
+use Rattle.machine_laws.specs.Budgets.{budget}
 use Rattle.machine_defs.specs.declared.guests.Status.TheVariants.{Running}
-use Rattle.machine_defs.specs.Runs.{run, events, instruction_count, plain_count, trace_of}
+use Rattle.machine_defs.specs.Runs.{run}
 use Rattle.guest_exit.specs.View.{StaysFixed, changed_by, machine_of}
 use Rattle.guest_turns.specs.Hosting.{IsHosted}
+use Rattle.guest_turns.proofs.Turns.{AccountedTo}
 use Rattle.guest_turns.proofs.turning.turn_of.Given as goal
 
 abbrev pub decreases-loop-left : goal.decreases-loop-left
@@ -21,14 +22,5 @@ invariant-loop-left l = record {
   forward : l.before ≤ l.guest.steps;
   made : l.guest.steps + l.left ≤ l.before + l.k;
   counted : l.guest.status ≡ Running → l.guest.steps + l.left ≡ l.before + l.k;
-  entries_grow : l.fn.tally.entries ≤ l.tally.entries;
-  entries_most : l.tally.entries + budget (machine_of l.guest l.memory) l.left
-      ≤ l.fn.tally.entries + budget (machine_of l.fn.guest l.fn.memory) l.k;
-  entries_least : l.tally.entries ≡ l.fn.tally.entries
-      → instruction_count (events (machine_of l.fn.guest l.fn.memory) l.k) ≡ instruction_count (events (machine_of l.guest l.memory) l.left);
-  taken_least : l.fn.tally.taken + plain_count (events (machine_of l.fn.guest l.fn.memory) l.k)
-      ≤ l.tally.taken + plain_count (events (machine_of l.guest l.memory) l.left);
-  taken_most : l.tally.taken + l.before ≤ l.fn.tally.taken + l.guest.steps;
-  trace : (l.tally.trace + trace_of (events (machine_of l.guest l.memory) l.left)) % 2 ^ 64
-      ≡ (l.fn.tally.trace + trace_of (events (machine_of l.fn.guest l.fn.memory) l.k)) % 2 ^ 64;
+  account : AccountedTo (machine_of l.fn.guest l.fn.memory) l.k (machine_of l.guest l.memory) l.left l.fn.tally l.tally;
 }

@@ -1,14 +1,22 @@
 use Rattle.std.proofs.Common.{◌≡◌, Some, None, ◌∙◌, sym, ap}
 use Rattle.nesthv_top.specs.Plans.{frames_fault}
-use Rattle.nesthv_top.proofs.Asking.{all_read, frames_stop, images_stop, planned_as, refused_as, stopped_plan}
+use Rattle.nesthv_top.proofs.Asking.{all_read, frames_stop, images_stop, planned_as, refused_as, refused_plan, rose_later, stopped_plan}
 use Rattle.nesthv_top.proofs.loading.load.Goals as goal
+
+pub returns-in-Err-clause-planned : goal.returns-in-Err-clause-planned
+returns-in-Err-clause-planned g c = λ files told. refused_plan files c.args.name.now c.in-Err.end (c.in-Err.ensures.accepted files told)
 
 pub returns-in-Err-read_guests-clause-reads : goal.returns-in-Err-read_guests-clause-reads
 returns-in-Err-read_guests-clause-reads g c =
     let e = c.in-Ok.ensures in
     let f = c.in-Err-read_guests.ensures in
-    images_stop g.S.Store.files g.S.Store.asked g.S.Store.faults c.args.name.now c.in-Ok.config c.in-Err-read_guests.end c.args.store.now c.read_config.new.store c.read_guests.new.store
+    images_stop g.S.Store c.args.name.now c.in-Ok.config c.in-Err-read_guests.end c.args.store.now c.read_config.new.store c.read_guests.new.store
     e.accepted e.asked (rw c.guests.ensures.guests at f.stopped) f.asked e.stays f.stays e.count f.count f.cause f.memory
+
+pub returns-in-Err-read_guests-clause-cause : goal.returns-in-Err-read_guests-clause-cause
+returns-in-Err-read_guests-clause-cause g c =
+    rose_later c.in-Err-read_guests.end (g.S.Store.faults c.args.store.now) (g.S.Store.faults c.read_config.new.store) (g.S.Store.faults c.read_guests.new.store)
+    c.in-Ok.ensures.count c.in-Err-read_guests.ensures.cause
 
 pub returns-in-Err-read_guests-clause-planned : goal.returns-in-Err-read_guests-clause-planned
 returns-in-Err-read_guests-clause-planned g c = λ files told.
@@ -21,7 +29,7 @@ returns-in-Some-clause-reads g c =
     let e = c.in-Ok.ensures in
     let f = c.in-Ok-read_guests.ensures in
     let fault : frames_fault c.in-Ok-read_guests.guests.items ≡ Some c.in-Some.fault = ap frames_fault (sym c.as_slice.ensures.value) ∙ sym c.frames_fault.ensures ∙ c.in-Some.is in
-    frames_stop g.S.Store.files g.S.Store.asked g.S.Store.faults c.args.name.now c.in-Ok.config c.in-Ok-read_guests.guests.items c.in-Some.fault c.args.store.now
+    frames_stop g.S.Store c.args.name.now c.in-Ok.config c.in-Ok-read_guests.guests.items c.in-Some.fault c.args.store.now
     c.read_config.new.store c.read_guests.new.store e.accepted e.asked (rw c.guests.ensures.guests at f.read) f.asked e.stays f.stays e.count f.count fault
 
 pub returns-in-Some-clause-planned : goal.returns-in-Some-clause-planned
@@ -36,7 +44,7 @@ returns-in-None-clause-reads g c =
     let e = c.in-Ok.ensures in
     let f = c.in-Ok-read_guests.ensures in
     let none : frames_fault c.in-Ok-read_guests.guests.items ≡ None = ap frames_fault (sym c.as_slice.ensures.value) ∙ sym c.frames_fault.ensures ∙ c.in-None.is in
-    all_read g.S.Store.files g.S.Store.asked g.S.Store.faults c.args.name.now c.in-Ok.config c.in-Ok-read_guests.guests.items c.args.store.now
+    all_read g.S.Store c.args.name.now c.in-Ok.config c.in-Ok-read_guests.guests.items c.args.store.now
     c.read_config.new.store c.read_guests.new.store e.accepted e.asked (rw c.guests.ensures.guests at f.read) f.asked e.stays f.stays e.count f.count none
 
 pub returns-in-None-clause-planned : goal.returns-in-None-clause-planned

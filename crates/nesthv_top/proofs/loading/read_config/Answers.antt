@@ -8,4 +8,4 @@ returns-in-Err-Refused-clause-ended g c =
     let read = c.in-Ok.ensures in
     let refused = rw c.in-Err-Refused.field-0-is at c.in-Err-Refused.ensures.refused in
     let here : accept c.in-Ok.bytes.items ≡ Err c.in-Err-Refused.fault = rw (← c.as_slice.ensures.value) refused in
-    config_stop _ _ _ _ c.in-Ok.bytes.items c.in-Err-Refused.fault _ _ read.bytes here read.asked read.stays read.count
+    config_stop g.S.Store _ c.in-Ok.bytes.items c.in-Err-Refused.fault _ _ read.bytes here read.asked read.stays read.count

@@ -10,15 +10,15 @@ turn-requires-clause-steps c =
     rw c.loop-guest.invariant.count (c.requires.short c.loop-guest.guest-index (0, 0) c.loop-guest-test.true).guest in
     omega (arith, b.0, b.1, c.loop-guest.invariant.steps turn.0 inside)
 
-pub turn-requires-clause-entries : goal.turn-requires-clause-entries
-turn-requires-clause-entries c =
-    entries_left _ c.args.turns.now _ _ c.loop-guest.guest-index (0, 0) _ _ c.requires.few c.requires.short c.requires.rooms c.loop-guest-test.true c.loop-guest.invariant
-    c.requires.entries
-
-pub turn-requires-clause-taken : goal.turn-requires-clause-taken
-turn-requires-clause-taken c =
+pub turn-requires-clause-room : goal.turn-requires-clause-room
+turn-requires-clause-room c =
     let b = bounded _ c.args.turns.now _ _ c.loop-guest.guest-index (0, 0) _ _ c.requires.few c.requires.short c.loop-guest-test.true c.loop-guest.invariant in
-    omega (arith, b.0, b.1, c.loop-guest.invariant.taken_most, c.requires.taken)
+    record {
+      entries =
+          entries_left _ c.args.turns.now _ _ c.loop-guest.guest-index (0, 0) _ _ c.requires.few c.requires.short c.requires.rooms c.loop-guest-test.true
+          c.loop-guest.invariant c.requires.entries;
+      taken = omega (arith, b.0, b.1, c.loop-guest.invariant.taken_most, c.requires.taken);
+    }
 
 pub loop-guest-preserved : goal.loop-guest-preserved
 loop-guest-preserved c =
@@ -27,12 +27,8 @@ loop-guest-preserved c =
       machines = c.turn.ensures.machines;
       made = c.turn.ensures.made;
       most = c.turn.ensures.most;
-      entries_grow = c.turn.ensures.entries_grow;
       room = c.turn.ensures.room;
-      entries_most = c.turn.ensures.entries_most;
-      taken_least = c.turn.ensures.taken_least;
-      taken_most = c.turn.ensures.taken_most;
-      trace = c.turn.ensures.trace;
+      account = c.turn.ensures.account;
     })
 
 pub returns-clause-taken_least : goal.returns-clause-taken_least

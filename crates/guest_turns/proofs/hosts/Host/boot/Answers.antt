@@ -7,7 +7,7 @@ use Rattle.guest_turns.proofs.hosts.Host.boot.Goals as goal
 
 pub new-requires-clause-some : goal.new-requires-clause-some
 new-requires-clause-some c =
-    rw (c.in_ok-split.ensures.frames, c.as_slice.ensures.value) (some_frames c.args.guests.items c.requires.some)
+    rw (c.in_ok-split.ensures.frames, c.as_slice.ensures.value) (some_frames c.args.guests.items c.requires.bootable.some)
 
 pub lay_out-requires-clause-zeros : goal.lay_out-requires-clause-zeros
 lay_out-requires-clause-zeros c =
@@ -16,14 +16,14 @@ lay_out-requires-clause-zeros c =
 pub invariant_of-result : goal.invariant_of-result
 invariant_of-result c =
     (booted_by c.args.guests.items c.as_slice.result.now c.as_slice-2.result.now c.in_ok-split.split.parts.items c.as_slice-3.result.now c.as_slice-4.result.now
-    c.in_ok-split.split.frames c.in_ok-guests.guests.items c.in_ok-memory.memory c.lay_out.new.memory c.requires.some c.requires.few c.requires.each c.requires.frames
+    c.in_ok-split.split.frames c.in_ok-guests.guests.items c.in_ok-memory.memory c.lay_out.new.memory c.requires.bootable.some c.requires.bootable.few c.requires.bootable.each c.requires.bootable.frames
     c.as_slice.ensures.value c.as_slice-2.ensures.value c.as_slice-3.ensures.value c.as_slice-4.ensures.value c.in_ok-split.ensures.split c.in_ok-split.ensures.frames
     c.in_ok-memory.ensures c.lay_out.ensures.size c.lay_out.ensures.laid c.in_ok-guests.ensures).hosted
 
 pub returns-clause-machines : goal.returns-clause-machines
 returns-clause-machines c =
     (booted_by c.args.guests.items c.as_slice.result.now c.as_slice-2.result.now c.in_ok-split.split.parts.items c.as_slice-3.result.now c.as_slice-4.result.now
-    c.in_ok-split.split.frames c.in_ok-guests.guests.items c.in_ok-memory.memory c.lay_out.new.memory c.requires.some c.requires.few c.requires.each c.requires.frames
+    c.in_ok-split.split.frames c.in_ok-guests.guests.items c.in_ok-memory.memory c.lay_out.new.memory c.requires.bootable.some c.requires.bootable.few c.requires.bootable.each c.requires.bootable.frames
     c.as_slice.ensures.value c.as_slice-2.ensures.value c.as_slice-3.ensures.value c.as_slice-4.ensures.value c.in_ok-split.ensures.split c.in_ok-split.ensures.frames
     c.in_ok-memory.ensures c.lay_out.ensures.size c.lay_out.ensures.laid c.in_ok-guests.ensures).machines
 
@@ -31,7 +31,7 @@ pub returns-clause-parts : goal.returns-clause-parts
 returns-clause-parts c =
     let parts_are =
     (booted_by c.args.guests.items c.as_slice.result.now c.as_slice-2.result.now c.in_ok-split.split.parts.items c.as_slice-3.result.now c.as_slice-4.result.now
-    c.in_ok-split.split.frames c.in_ok-guests.guests.items c.in_ok-memory.memory c.lay_out.new.memory c.requires.some c.requires.few c.requires.each c.requires.frames
+    c.in_ok-split.split.frames c.in_ok-guests.guests.items c.in_ok-memory.memory c.lay_out.new.memory c.requires.bootable.some c.requires.bootable.few c.requires.bootable.each c.requires.bootable.frames
     c.as_slice.ensures.value c.as_slice-2.ensures.value c.as_slice-3.ensures.value c.as_slice-4.ensures.value c.in_ok-split.ensures.split c.in_ok-split.ensures.frames
     c.in_ok-memory.ensures c.lay_out.ensures.size c.lay_out.ensures.laid c.in_ok-guests.ensures).parts_are in
     let split = rw (c.in_ok-split.ensures.frames, c.as_slice.ensures.value) at c.in_ok-split.ensures.split in
@@ -41,6 +41,6 @@ pub returns-clause-fresh : goal.returns-clause-fresh
 returns-clause-fresh c =
     none_made c.args.guests.items _
     (booted_by c.args.guests.items c.as_slice.result.now c.as_slice-2.result.now c.in_ok-split.split.parts.items c.as_slice-3.result.now c.as_slice-4.result.now
-    c.in_ok-split.split.frames c.in_ok-guests.guests.items c.in_ok-memory.memory c.lay_out.new.memory c.requires.some c.requires.few c.requires.each c.requires.frames
+    c.in_ok-split.split.frames c.in_ok-guests.guests.items c.in_ok-memory.memory c.lay_out.new.memory c.requires.bootable.some c.requires.bootable.few c.requires.bootable.each c.requires.bootable.frames
     c.as_slice.ensures.value c.as_slice-2.ensures.value c.as_slice-3.ensures.value c.as_slice-4.ensures.value c.in_ok-split.ensures.split c.in_ok-split.ensures.frames
     c.in_ok-memory.ensures c.lay_out.ensures.size c.lay_out.ensures.laid c.in_ok-guests.ensures).machines

@@ -1,0 +1,22 @@
+-- What the tally says of a turn.
+use Rattle.std.specs.Prelude.{ℕ, ◌+◌, ◌^◌, ◌<◌, ◌≤◌}
+use Rattle.machine_defs.specs.Machine.{Machine}
+use Rattle.machine_defs.specs.Runs.{events, instruction_count, plain_count, trace_of}
+use Rattle.rv64_hart.specs.Counts.{Counts, IsRaisedBy}
+use Rattle.guest_turns.specs.TurnLists.{turn_entries}
+
+-- it has room for a turn of at most k steps of a machine
+pub record HasRoomFor (m : Machine) (k : ℕ) (tally : Counts) : Type 0 where
+  pub entries : tally.entries + turn_entries m.entry_room k ≤ 2 ^ 62
+  pub taken : tally.taken + k ≤ 2 ^ 62
+
+-- the account of a turn of at most k steps of a machine, which made this many: the hart made each plain step,
+-- and no more steps than the machine. Each step took at most as many entries as a space has room for cached
+-- translations, and nine
+pub record Accounted (m : Machine) (k made : ℕ) (old new : Counts) : Type 0 where
+  pub entries_grow : old.entries ≤ new.entries
+  pub entries_least : 0 < instruction_count (events m k) → old.entries < new.entries
+  pub entries_most : new.entries ≤ old.entries + turn_entries m.entry_room k
+  pub taken_least : old.taken + plain_count (events m k) ≤ new.taken
+  pub taken_most : new.taken ≤ old.taken + made
+  pub trace : IsRaisedBy (trace_of (events m k)) old.trace new.trace
