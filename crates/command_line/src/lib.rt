@@ -1,0 +1,8 @@
+//! The words of a command line, and what they ask for.
+#![tactic(auto)]
+
+pub use commands::{Request, request_of};
+
+mod commands;
+#[cfg(test)]
+mod tests;
