@@ -1,0 +1,28 @@
+# Completion of bash for nesthv and examples/run. Read it by `source tools/completion.bash`, or install it.
+_nesthv() {
+    if [ "$COMP_CWORD" -eq 1 ]; then
+        mapfile -t COMPREPLY < <(compgen -W run -- "$2")
+    elif [ "$COMP_CWORD" -eq 2 ]; then
+        compopt -o filenames
+        mapfile -t COMPREPLY < <(compgen -d -- "$2"; compgen -f -X '!*.toml' -- "$2")
+    fi
+}
+
+_nesthv_examples_run() {
+    local folder names
+    case $3 in
+    --expect) mapfile -t COMPREPLY < <(compgen -W 'running waiting stopped 0 1 2 3 4 5' -- "$2") && return ;;
+    --seconds) return ;;
+    esac
+    if [[ $2 == -* ]]; then
+        mapfile -t COMPREPLY < <(compgen -W '--json --expect --seconds --help' -- "$2")
+        return
+    fi
+    folder=$(dirname -- "$1")
+    names=$(cd "$folder" 2>/dev/null && printf '%s ' */ | tr -d /)
+    compopt -o filenames
+    mapfile -t COMPREPLY < <(compgen -W "$names" -- "$2"; compgen -d -- "$2"; compgen -f -X '!*.toml' -- "$2")
+}
+
+complete -F _nesthv nesthv
+complete -F _nesthv_examples_run examples/run ./run

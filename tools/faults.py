@@ -1,0 +1,161 @@
+"""Says in words what the program's line of a status means: which key, which range, which line of the file."""
+import os
+import re
+import tomllib
+
+BLOCK = 2097152
+FRAMES = 131072
+RANGES = {
+    "name": "a text of 1 to 32 ASCII letters and digits",
+    "image": "the name of a file, a text of 1 to 255 bytes",
+    "blocks": "an integer from 1 to 32",
+    "spaces": "an integer from 1 to 8",
+    "entries": "an integer from 16 to 256",
+    "console": "an integer from 0 to 1,048,576",
+}
+GUEST_KEYS = [*RANGES, "input"]
+FILE_KEYS = ["format", "guest", "turns", "quantum", "rounds"]
+
+
+def parsed(text):
+    """The document of these bytes, and why there is none."""
+    try:
+        return tomllib.loads(text.decode()), ""
+    except UnicodeDecodeError as error:
+        return None, f"the byte at offset {error.start} is no UTF-8"
+    except (tomllib.TOMLDecodeError, RecursionError) as error:
+        return None, str(error)
+
+
+def guests_of(document):
+    """The tables of the guests that a document has."""
+    guests = (document or {}).get("guest", [])
+    return [guest for guest in guests if isinstance(guest, dict)] if isinstance(guests, list) else []
+
+
+def is_integer(value, least, most):
+    return isinstance(value, int) and not isinstance(value, bool) and least <= value <= most
+
+
+def first_wrong(pairs, first_most, second_most):
+    """The index of the first element that is no pair of integers from 0 to these, or none."""
+    for index, pair in enumerate(pairs):
+        if not (isinstance(pair, list) and len(pair) == 2
+                and is_integer(pair[0], 0, first_most) and is_integer(pair[1], 0, second_most)):
+            return index
+    return None
+
+
+def frames_of(guest):
+    return 512 * guest["blocks"] + 5 + guest["spaces"] * (4 + 2 * guest["entries"])
+
+
+def turns_wrong(document, count):
+    """What is wrong with a document's turns."""
+    turns, pair = document.get("turns"), [key for key in ("quantum", "rounds") if key in document]
+    if turns is not None and pair:
+        return f"there are both `turns` and `{pair[0]}`: leave one of the two forms out"
+    if turns is None and not pair:
+        return "there are no turns: add `quantum` and `rounds`, or `turns`, before the first `[[guest]]`"
+    if len(pair) == 1:
+        return f"`{pair[0]}` is there and `{'rounds' if pair[0] == 'quantum' else 'quantum'}` is not"
+    if turns is None:
+        if not is_integer(document["quantum"], 0, 2**32):
+            return "`quantum` is an integer from 0 to 4,294,967,296"
+        return f"`rounds` is an integer from 0 on, and times {count} guests at most 1,048,576"
+    if not isinstance(turns, list):
+        return "`turns` is an array of pairs, `[[0, 1000], [1, 500]]`"
+    wrong = first_wrong(turns, count - 1, 2**32)
+    if wrong is None:
+        return "`turns` has more than 1,048,576 pairs"
+    return f"element {wrong} of `turns` is {turns[wrong]!r}: it is to be [guest, steps], a guest from 0 to " \
+        f"{count - 1} and steps from 0 to 4,294,967,296"
+
+
+def input_wrong(guest):
+    """What is wrong with a guest's inputs."""
+    inputs = guest.get("input")
+    if not isinstance(inputs, list):
+        return "`input` is an array of pairs, `[[10, 72], [500, 105]]`"
+    wrong = first_wrong(inputs, 2**62 - 1, 255)
+    if wrong is not None:
+        return f"element {wrong} of `input` is {inputs[wrong]!r}: it is to be [moment, byte], a moment below 2^62 " \
+            "and a byte from 0 to 255"
+    for index in range(1, len(inputs)):
+        if inputs[index][0] < inputs[index - 1][0]:
+            return f"element {index} of `input` has the moment {inputs[index][0]}, which is less than the one before"
+    return "`input` has more than 65,536 pairs"
+
+
+def of_configuration(text, number, guest, key, value):
+    """Why a configuration of these bytes is refused with this fault."""
+    document, why = parsed(text)
+    guests = guests_of(document)
+    table = guests[guest] if guest is not None and guest < len(guests) else {}
+    who = f"guest {guest} ({table['name']!r})" if isinstance(table.get("name"), str) else f"guest {guest}"
+    document = document or {}
+    match number:
+        case 1:
+            return f"it is no TOML: {why}" if why else \
+                "it is no TOML: an integer of more than 64 bits, or arrays, tables or dotted keys more than 80 deep"
+        case 2:
+            return "`format` is to be 1" if "format" in document else "the file lacks `format = 1`"
+        case 3 if key == "guest":
+            return "the file has no guest: write `[[guest]]` once for each, and its keys below"
+        case 3:
+            return f"{who} lacks `{key}`: {RANGES[key]}"
+        case 4 if key == "guest" and isinstance(document.get("guest"), dict):
+            return "`[guest]` is written for `[[guest]]`: two brackets on each side make one guest of several"
+        case 4 if key == "guest":
+            return f"there are {value} guests, and there may be 1 to 16" if value is not None else \
+                "`guest` is an array of tables: write `[[guest]]` once for each guest"
+        case 4:
+            shown = f"{value}" if value is not None else repr(table.get(key))
+            return f"`{key}` of {who} is {shown}: it is to be {RANGES[key]}"
+        case 5:
+            again = table.get("name") in [other.get("name") for other in guests[:guest]]
+            return f"`name` of {who}: " + (
+                "a guest before it has the same name" if again else f"it is to be {RANGES['name']}")
+        case 6:
+            return turns_wrong(document, len(guests))
+        case 7:
+            return f"{who}: {input_wrong(table)}"
+        case 8:
+            there, known = (document, FILE_KEYS) if guest is None else (table, GUEST_KEYS)
+            extra = ", ".join(f"`{name}`" for name in there if name not in known)
+            place = "the file" if guest is None else who
+            is_misplaced = guest is not None and set(there) & set(FILE_KEYS)
+            moved = "; keys of the file stand before the first `[[guest]]`" if is_misplaced else ""
+            return f"{place} has {extra}, and its keys are {', '.join(known)}{moved}"
+        case 9:
+            return f"the file has {len(text)} bytes, and may have 65,536"
+        case 10:
+            return f"the image {table.get('image')!r} of {who} is longer than its RAM of {table['blocks']} times " \
+                f"{BLOCK} bytes: raise `blocks`"
+        case 11:
+            needs = "; ".join(f"{index}: {frames_of(each)}" for index, each in enumerate(guests))
+            return f"the guests need {value} frames of 4,096 bytes, and there are {FRAMES}. By guest: {needs}"
+    return ""
+
+
+def explained(line, configuration):
+    """What the program's line on standard error means, for the configuration at this path, or nothing."""
+    fault = r"nesthv: configuration fault (\d+)(?: guest (\d+))?(?: key (\w+))?(?: value (-?\d+))?$"
+    if found := re.match(fault, line):
+        with open(configuration, "rb") as file:
+            text = file.read()
+        number, guest, value = (int(part) if part else None for part in (found[1], found[2], found[4]))
+        return of_configuration(text, number, guest, found[3], value)
+    if found := re.match(r"nesthv: read fault (\d+)$", line):
+        if found[1] == "1":
+            return f"{configuration} cannot be read"
+        with open(configuration, "rb") as file:
+            guest = guests_of(parsed(file.read())[0])[int(found[1]) - 2]
+        path = os.path.join(os.path.dirname(configuration), guest["image"])
+        return f"the image {path} of the guest {guest['name']!r} cannot be read" + (
+            ": there is no such file" if not os.path.exists(path) else "")
+    if line == "nesthv: write fault":
+        return "the report could not be written: the disk is full, or the program that reads the pipe has ended"
+    if line == "nesthv: out of memory":
+        return "there is no memory for the files, the guests' memory or a console: lower `blocks`, or free memory"
+    return ""
