@@ -3,7 +3,7 @@
 use Rattle.std.specs.Prelude.{ℕ, ◌≡◌, ◌≢◌, ◌+◌, ◌-◌, ◌*◌, ◌/◌, ◌<◌, ◌≤◌, ◌^◌, Bool, true, not, ◌||◌, ◌==◌, List, [], ◌∷◌, ◌++◌, Option, Some, None, length, drop, find, filter, if◌then◌else◌}
 use Rattle.arch_defs.specs.declared.cached.Entry.{Entry}
 use Rattle.arch_defs.specs.declared.modes.Access.{Access}
-use Rattle.arch_defs.specs.declared.walks.LeafEntry.{LeafEntry}
+use Rattle.arch_defs.specs.declared.walks.LeafPte.{LeafPte}
 use Rattle.arch_defs.specs.Memory.{ram_base, block_size, SecondStage}
 use Rattle.arch_defs.specs.Permits.{permits_second}
 use Rattle.arch_defs.specs.TableEntries.{span}
@@ -38,14 +38,14 @@ cut_by page entries = filter (λ e. not (holds page e)) entries
 abbrev pub HasLevel : Entry → Type 0
 HasLevel e = e.level ≤ most_level
 
--- the bits of a guest physical page: a second-stage table translates addresses of at most 41 bits (8.5.1), and
--- a page is such an address without the 12 bits of an offset
+-- the bits of a guest physical page: a second-stage table translates addresses of at most 41 bits (8.5.1),
+-- and a page is such an address without the 12 bits of an offset
 abbrev pub guest_page_bits : ℕ
 guest_page_bits = 29
 
 -- an entry that a walk of a second-stage table can give a guest whose RAM is of these blocks: its page is one
--- that such a table translates, its frame in RAM, it can be read or executed, and written only where it can be
--- read
+-- that such a table translates, its frame in RAM, it can be read or executed, and written only where it can
+-- be read
 pub record CanFill (blocks : List ℕ) (e : Entry) : Type 0 where
   pub page : e.page < 2 ^ guest_page_bits
   pub from : ram_base ≤ e.frame * 4096
@@ -59,7 +59,7 @@ abbrev pub HasOtherPage : Entry → Entry → Type 0
 HasOtherPage a b = a.page ≢ b.page
 
 -- the leaf that an entry stands for: of this one page, whatever the level of the leaf that it was filled from
-abbrev pub leaf_of : Entry → LeafEntry
+abbrev pub leaf_of : Entry → LeafPte
 leaf_of e = record { frame = e.frame; level = 0; r = e.r; w = e.w; x = e.x; u = true }
 
 -- the place of an address under the entry of its page, if that permits the access

@@ -5,16 +5,16 @@ use Rattle.arch_defs.specs.declared.registers.Regs.{Regs}
 use Rattle.arch_defs.specs.Bits.{add64}
 use Rattle.arch_defs.specs.Registers.{a0, a1, a7, advanced, read}
 use Rattle.arch_defs.specs.Clocks.{Times}
-use Rattle.arch_defs.specs.Consoles.{Held, has_room}
-use Rattle.arch_defs.specs.Inputs.{arrived, unread_after}
+use Rattle.arch_defs.specs.Consoles.{ConsoleState, has_room}
+use Rattle.arch_defs.specs.Inputs.{arrived_byte, unread_after}
 
 -- what a call reads and changes: the registers, the clock and the console of the machine that calls
 pub record CallState : Type 0 where
   pub regs : Regs
   pub clock : Times
-  pub console : Held
+  pub console : ConsoleState
 
-abbrev pub state_of : Regs → Times → Held → CallState
+abbrev pub state_of : Regs → Times → ConsoleState → CallState
 state_of regs clock console = record { regs = regs; clock = clock; console = console }
 
 -- a0 gets an answer, and pc goes on
@@ -42,7 +42,7 @@ put s = if has_room s.console
 abbrev pub get : CallState → CallState
 get s = let inputs = s.console.inputs in
     answered (record s { console = record s.console { inputs = unread_after inputs s.clock.time } })
-    (unwrap_or (arrived inputs s.clock.time) (2 ^ 64 - 1))
+    (unwrap_or (arrived_byte inputs s.clock.time) (2 ^ 64 - 1))
 
 -- call 8: the machine stops, and pc goes on
 abbrev pub stopped : CallState → CallState
@@ -56,8 +56,8 @@ abbrev pub unknown : CallState → CallState
 unknown s = record s { regs = refusing s.regs }
 
 -- the call of a number
-abbrev pub called : CallState → ℕ → CallState
-called s number = if number == 0 then set_timer s
+abbrev pub called_by_number : CallState → ℕ → CallState
+called_by_number s number = if number == 0 then set_timer s
     else if number == 1 then put s
     else if number == 2 then get s
     else if number == 8 then stopped s
@@ -65,4 +65,4 @@ called s number = if number == 0 then set_timer s
 
 -- the call whose number is in a7
 abbrev pub environment : CallState → CallState
-environment s = called s (read s.regs a7)
+environment s = called_by_number s (read s.regs a7)

@@ -23,17 +23,17 @@ abbrev pub width_64 : ℕ
 width_64 = 2 * 2 ^ 32
 
 -- sstatus and vsstatus (4.1.1, 8.2.11): SIE 1, SPIE 5, SPP 8, SUM 18, MXR 19; UXL reads 2
-unfoldable pub status_number : SupervisorStatus → ℕ
-status_number s =
+unfoldable pub sstatus_bits : SupervisorStatus → ℕ
+sstatus_bits s =
     bit_number 1 s.sie + bit_number 5 s.spie + bit_number 8 s.spp + bit_number 18 s.sum + bit_number 19 s.mxr
     + width_64
 
-unfoldable pub status_of : ℕ → SupervisorStatus
-status_of v = record { sie = bit 1 v; spie = bit 5 v; spp = bit 8 v; sum = bit 18 v; mxr = bit 19 v }
+unfoldable pub sstatus_of : ℕ → SupervisorStatus
+sstatus_of v = record { sie = bit 1 v; spie = bit 5 v; spp = bit 8 v; sum = bit 18 v; mxr = bit 19 v }
 
 -- hstatus (8.2.1): GVA 6, SPV 7, SPVP 8, HU 9, VTVM 20, VTW 21, VTSR 22; VSXL reads 2
-unfoldable pub hstatus_number : HypervisorStatus → ℕ
-hstatus_number s =
+unfoldable pub hstatus_bits : HypervisorStatus → ℕ
+hstatus_bits s =
     bit_number 6 s.gva + bit_number 7 s.spv + bit_number 8 s.spvp + bit_number 9 s.hu + bit_number 20 s.vtvm
     + bit_number 21 s.vtw + bit_number 22 s.vtsr + width_64
 
@@ -50,15 +50,15 @@ hstatus_of v = record {
 
 -- the interrupts of a supervisor level, in sie, sip, vsie and vsip (4.1.3, 8.2.12): software 1, timer 5,
 -- external 9
-unfoldable pub supervisor_number : Interrupts → ℕ
-supervisor_number s = bit_number 1 s.software + bit_number 5 s.timer + bit_number 9 s.external
+unfoldable pub sip_bits : Interrupts → ℕ
+sip_bits s = bit_number 1 s.software + bit_number 5 s.timer + bit_number 9 s.external
 
 unfoldable pub supervisor_interrupts : ℕ → Interrupts
 supervisor_interrupts v = record { software = bit 1 v; timer = bit 5 v; external = bit 9 v }
 
 -- the interrupts of VS, in hideleg, hie, hip and hvip (8.2.2, 8.2.3): each one bit higher
-unfoldable pub virtual_number : Interrupts → ℕ
-virtual_number s = bit_number 2 s.software + bit_number 6 s.timer + bit_number 10 s.external
+unfoldable pub hip_bits : Interrupts → ℕ
+hip_bits s = bit_number 2 s.software + bit_number 6 s.timer + bit_number 10 s.external
 
 unfoldable pub virtual_interrupts : ℕ → Interrupts
 virtual_interrupts v = record { software = bit 2 v; timer = bit 6 v; external = bit 10 v }
@@ -92,9 +92,9 @@ unfoldable pub hedeleg_bits : ℕ → ℕ
 hedeleg_bits v = field 0 9 v + field 12 2 v * 2 ^ 12 + field 15 1 v * 2 ^ 15
 
 -- satp and vsatp (4.1.11, 8.2.18): MODE 63:60, ASID 59:44, PPN 43:0
-unfoldable pub supervisor_root_number : SupervisorRoot → ℕ
-supervisor_root_number supervisor_root.Bare = 0
-supervisor_root_number (supervisor_root.Table mode asid ppn) =
+unfoldable pub satp_bits : SupervisorRoot → ℕ
+satp_bits supervisor_root.Bare = 0
+satp_bits (supervisor_root.Table mode asid ppn) =
     supervisor_mode_number mode * 2 ^ 60 + asid % 2 ^ 16 * 2 ^ 44 + ppn % 2 ^ 44
 
 -- MODE 8 is Sv39 and 0 is Bare, stored as 0 (own); a write of another MODE has no effect
@@ -106,9 +106,9 @@ supervisor_root_of kept v =
 
 -- hgatp (8.2.10): MODE 63:60, VMID 50:44, of 7 bits (own), PPN 43:0 of a root that is 16 KiB aligned, so its
 -- bits 1:0 are zero
-unfoldable pub guest_root_number : GuestRoot → ℕ
-guest_root_number guest_root.Bare = 0
-guest_root_number (guest_root.Table mode vmid ppn) =
+unfoldable pub hgatp_bits : GuestRoot → ℕ
+hgatp_bits guest_root.Bare = 0
+hgatp_bits (guest_root.Table mode vmid ppn) =
     guest_mode_number mode * 2 ^ 60 + vmid % 2 ^ 7 * 2 ^ 44 + field 2 42 ppn * 2 ^ 2
 
 -- MODE 8 is Sv39x4; 0, and another MODE (own), is Bare, stored as 0 (own)

@@ -1,41 +1,41 @@
 -- The numbers of the control and status registers, and what each names in HS
 -- (Privileged Architecture 20211203, tables 2.2 to 2.4).
 use Rattle.std.specs.Prelude.{ℕ, ◌/◌, ◌^◌, ◌==◌, Option, Some, None, if◌then◌else◌}
-use Rattle.arch_defs.specs.declared.csr_names.BankRegister.TheVariants as bank
-use Rattle.arch_defs.specs.declared.csr_names.InterruptRegister.TheVariants as interrupt
-use Rattle.arch_defs.specs.declared.csr_names.BitRegister.TheVariants as one
-use Rattle.arch_defs.specs.declared.csr_names.HypervisorRegister.TheVariants as hypervisor
+use Rattle.arch_defs.specs.declared.csr_names.SupervisorCsr.TheVariants as supervisor
+use Rattle.arch_defs.specs.declared.csr_names.InterruptCsr.TheVariants as interrupt
+use Rattle.arch_defs.specs.declared.csr_names.EnableCsr.TheVariants as one
+use Rattle.arch_defs.specs.declared.csr_names.HypervisorCsr.TheVariants as hypervisor
 use Rattle.arch_defs.specs.declared.csr_names.Register.{Register}
-use Rattle.arch_defs.specs.declared.csr_names.Register.TheVariants.{Supervisor, VirtualSupervisor, Interrupt, Bit, Hypervisor, Time}
+use Rattle.arch_defs.specs.declared.csr_names.Register.TheVariants.{Supervisor, VirtualSupervisor, Interrupt, Enable, Hypervisor, Time}
 
 -- 100 to 180: the supervisor's
 unfoldable pub supervisor_register : ℕ → Option Register
 supervisor_register n =
-    if n == 0x100 then Some (Supervisor bank.Status)
+    if n == 0x100 then Some (Supervisor supervisor.Status)
     else if n == 0x104 then Some (Interrupt interrupt.Sie)
-    else if n == 0x105 then Some (Supervisor bank.Tvec)
-    else if n == 0x106 then Some (Bit one.Scounteren)
-    else if n == 0x10A then Some (Bit one.Senvcfg)
-    else if n == 0x140 then Some (Supervisor bank.Scratch)
-    else if n == 0x141 then Some (Supervisor bank.Epc)
-    else if n == 0x142 then Some (Supervisor bank.Cause)
-    else if n == 0x143 then Some (Supervisor bank.Tval)
+    else if n == 0x105 then Some (Supervisor supervisor.Tvec)
+    else if n == 0x106 then Some (Enable one.Scounteren)
+    else if n == 0x10A then Some (Enable one.Senvcfg)
+    else if n == 0x140 then Some (Supervisor supervisor.Scratch)
+    else if n == 0x141 then Some (Supervisor supervisor.Epc)
+    else if n == 0x142 then Some (Supervisor supervisor.Cause)
+    else if n == 0x143 then Some (Supervisor supervisor.Tval)
     else if n == 0x144 then Some (Interrupt interrupt.Sip)
-    else if n == 0x180 then Some (Supervisor bank.Atp)
+    else if n == 0x180 then Some (Supervisor supervisor.Atp)
     else None
 
 -- 200 to 280: the virtual supervisor's
 unfoldable pub virtual_supervisor_register : ℕ → Option Register
 virtual_supervisor_register n =
-    if n == 0x200 then Some (VirtualSupervisor bank.Status)
+    if n == 0x200 then Some (VirtualSupervisor supervisor.Status)
     else if n == 0x204 then Some (Interrupt interrupt.Vsie)
-    else if n == 0x205 then Some (VirtualSupervisor bank.Tvec)
-    else if n == 0x240 then Some (VirtualSupervisor bank.Scratch)
-    else if n == 0x241 then Some (VirtualSupervisor bank.Epc)
-    else if n == 0x242 then Some (VirtualSupervisor bank.Cause)
-    else if n == 0x243 then Some (VirtualSupervisor bank.Tval)
+    else if n == 0x205 then Some (VirtualSupervisor supervisor.Tvec)
+    else if n == 0x240 then Some (VirtualSupervisor supervisor.Scratch)
+    else if n == 0x241 then Some (VirtualSupervisor supervisor.Epc)
+    else if n == 0x242 then Some (VirtualSupervisor supervisor.Cause)
+    else if n == 0x243 then Some (VirtualSupervisor supervisor.Tval)
     else if n == 0x244 then Some (Interrupt interrupt.Vsip)
-    else if n == 0x280 then Some (VirtualSupervisor bank.Atp)
+    else if n == 0x280 then Some (VirtualSupervisor supervisor.Atp)
     else None
 
 -- 600 to 680: the hypervisor's
@@ -46,9 +46,9 @@ hypervisor_register n =
     else if n == 0x603 then Some (Interrupt interrupt.Hideleg)
     else if n == 0x604 then Some (Interrupt interrupt.Hie)
     else if n == 0x605 then Some (Hypervisor hypervisor.Htimedelta)
-    else if n == 0x606 then Some (Bit one.Hcounteren)
+    else if n == 0x606 then Some (Enable one.Hcounteren)
     else if n == 0x607 then Some (Hypervisor hypervisor.Hgeie)
-    else if n == 0x60A then Some (Bit one.Henvcfg)
+    else if n == 0x60A then Some (Enable one.Henvcfg)
     else if n == 0x643 then Some (Hypervisor hypervisor.Htval)
     else if n == 0x644 then Some (Interrupt interrupt.Hip)
     else if n == 0x645 then Some (Interrupt interrupt.Hvip)

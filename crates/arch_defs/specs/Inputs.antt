@@ -23,9 +23,9 @@ abbrev pub has_input : List (ℕ × ℕ) → ℕ → Bool
 has_input inputs clock = has_come (next_input inputs) clock
 
 -- the byte of the first unread input, if its moment has come
-abbrev pub arrived : List (ℕ × ℕ) → ℕ → Option ℕ
-arrived [] clock = None
-arrived ((moment, byte) ∷ rest) clock = if nat_le moment clock then Some byte else None
+abbrev pub arrived_byte : List (ℕ × ℕ) → ℕ → Option ℕ
+arrived_byte [] clock = None
+arrived_byte ((moment, byte) ∷ rest) clock = if nat_le moment clock then Some byte else None
 
 -- the inputs that are unread after it is read
 abbrev pub unread_after : List (ℕ × ℕ) → ℕ → List (ℕ × ℕ)

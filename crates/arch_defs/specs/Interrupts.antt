@@ -20,8 +20,8 @@ supervisor_bit bits code =
     else false
 
 -- a code's bit among those of the VS level, as in hip, hie and hideleg (8.2.2, 8.2.3)
-abbrev pub guest_bit : Interrupts → ℕ → Bool
-guest_bit bits code =
+abbrev pub vs_bit : Interrupts → ℕ → Bool
+vs_bit bits code =
     if code == VS_SOFTWARE then bits.software
     else if code == VS_TIMER then bits.timer
     else if code == VS_EXTERNAL then bits.external
@@ -29,15 +29,15 @@ guest_bit bits code =
 
 -- pending in sip, or in hip, which shows hvip (4.1.3, 8.2.3)
 abbrev pub is_pending : Csrs → ℕ → Bool
-is_pending csrs code = supervisor_bit csrs.sip code || guest_bit csrs.hvip code
+is_pending csrs code = supervisor_bit csrs.sip code || vs_bit csrs.hvip code
 
 -- enabled in sie, or in hie (4.1.3, 8.2.3)
 abbrev pub is_enabled : Csrs → ℕ → Bool
-is_enabled csrs code = supervisor_bit csrs.sie code || guest_bit csrs.hie code
+is_enabled csrs code = supervisor_bit csrs.sie code || vs_bit csrs.hie code
 
 -- the level that an interrupt belongs to: VS where hideleg has it (8.2.2)
 abbrev pub level_of : Csrs → ℕ → Level
-level_of csrs code = if guest_bit csrs.hideleg code then level.VS else level.HS
+level_of csrs code = if vs_bit csrs.hideleg code then level.VS else level.HS
 
 -- whether a level takes interrupts now: HS in each mode below it, in HS where sstatus.SIE is set; VS in VU,
 -- in VS where vsstatus.SIE is set, and never with V = 0 (4.1.1, 4.1.3, 8.2.11)
@@ -54,10 +54,10 @@ takes csrs VU level.VS = true
 -- whether an interrupt is pending, enabled and HS's, or VS's
 abbrev pub is_ready_for_hs : Csrs → ℕ → Bool
 is_ready_for_hs csrs code =
-    is_pending csrs code && is_enabled csrs code && (if guest_bit csrs.hideleg code then false else true)
+    is_pending csrs code && is_enabled csrs code && (if vs_bit csrs.hideleg code then false else true)
 
 abbrev pub is_ready_for_vs : Csrs → ℕ → Bool
-is_ready_for_vs csrs code = is_pending csrs code && is_enabled csrs code && guest_bit csrs.hideleg code
+is_ready_for_vs csrs code = is_pending csrs code && is_enabled csrs code && vs_bit csrs.hideleg code
 
 -- the orders of interrupts of HS (8.2.3) and of VS (4.1.3): external, software, timer, HS's own first
 abbrev pub hs_order : List ℕ

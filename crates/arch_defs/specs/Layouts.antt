@@ -18,8 +18,8 @@ pub record Layout : Type 0 where
 abbrev pub root_frames : Layout → Frames
 root_frames part = within part.first_root (4 * (1 + part.spaces))
 
--- the tables below the root of a space that may have so many entries: an entry needs at most one on each level
--- below the root's
+-- the tables below the root of a space that may have so many entries: an entry needs at most one on each
+-- level below the root's
 abbrev pub tables_for : ℕ → ℕ
 tables_for entries = 2 * entries
 

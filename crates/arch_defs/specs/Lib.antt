@@ -1,9 +1,9 @@
-pub mod Access
 pub mod Bits
 pub mod CachedEntries
 pub mod Calls
 pub mod Clocks
 pub mod Consoles
+pub mod CsrAccess
 pub mod CsrBits
 pub mod CsrNames
 pub mod Frames

@@ -2,7 +2,7 @@
 use Rattle.std.specs.Prelude.{ℕ, None, false, ◌==◌, replicate, slice_index, slice_set, if◌then◌else◌}
 use Rattle.arch_defs.specs.declared.modes.Mode.{Mode}
 use Rattle.arch_defs.specs.declared.registers.Regs.{Regs}
-use Rattle.arch_defs.specs.declared.registers.Bank.{Bank}
+use Rattle.arch_defs.specs.declared.registers.SupervisorCsrs.{SupervisorCsrs}
 use Rattle.arch_defs.specs.declared.registers.Csrs.{Csrs}
 use Rattle.arch_defs.specs.declared.registers.Interrupts.{Interrupts}
 use Rattle.arch_defs.specs.declared.registers.SupervisorStatus.{SupervisorStatus}
@@ -45,8 +45,8 @@ abbrev pub clear_hypervisor_status : HypervisorStatus
 clear_hypervisor_status =
     record { gva = false; spv = false; spvp = false; hu = false; vtvm = false; vtw = false; vtsr = false }
 
-abbrev pub bank_at_reset : Bank
-bank_at_reset = record {
+abbrev pub supervisor_at_reset : SupervisorCsrs
+supervisor_at_reset = record {
   status = clear_supervisor_status;
   tvec = 0;
   scratch = 0;
@@ -58,8 +58,8 @@ bank_at_reset = record {
 
 abbrev pub csrs_at_reset : Csrs
 csrs_at_reset = record {
-  hs = bank_at_reset;
-  vs = bank_at_reset;
+  hs = supervisor_at_reset;
+  vs = supervisor_at_reset;
   sie = clear_interrupts;
   sip = clear_interrupts;
   scounteren_tm = false;

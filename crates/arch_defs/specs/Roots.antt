@@ -1,5 +1,5 @@
--- What the values of satp, vsatp and hgatp say of the tables that they name (Privileged Architecture 20211203,
--- 4.1.11, 8.2.10 and 8.2.18).
+-- What the values of satp, vsatp and hgatp say of the tables that they name (Privileged Architecture
+-- 20211203, 4.1.11, 8.2.10 and 8.2.18).
 use Rattle.std.specs.Prelude.{ℕ, Bool, true, false, ◌&&◌, ◌==◌}
 use Rattle.arch_defs.specs.declared.registers.GuestMode.{GuestMode}
 use Rattle.arch_defs.specs.declared.registers.GuestMode.TheVariants as guest_mode

@@ -1,9 +1,9 @@
 -- The second stage as memory is: the walk of hgatp's table, and the trap of an access that it gives no place
 -- (Privileged Architecture 20211203, 8.2.10, 8.5 and 8.6). Memory is a base and a list of bytes.
 use Rattle.std.specs.Prelude.{ℕ, ◌+◌, ◌-◌, ◌*◌, ◌/◌, ◌^◌, Bool, true, false, not, ◌&&◌, List, length, Option, Some, None, Ok, Err, nat_le, if◌then◌else◌}
-use Rattle.arch_defs.specs.declared.guest_walks.GuestWalkEnd.{GuestWalkEnd}
-use Rattle.arch_defs.specs.declared.guest_walks.GuestWalkEnd.TheVariants.{GuestPageFault, AccessFault}
-use Rattle.arch_defs.specs.declared.guest_walks.GuestWalkEnd.TheVariants as guest
+use Rattle.arch_defs.specs.declared.second_walks.SecondWalkEnd.{SecondWalkEnd}
+use Rattle.arch_defs.specs.declared.second_walks.SecondWalkEnd.TheVariants.{GuestPageFault, AccessFault}
+use Rattle.arch_defs.specs.declared.second_walks.SecondWalkEnd.TheVariants as guest
 use Rattle.arch_defs.specs.declared.modes.Access.{Access}
 use Rattle.arch_defs.specs.declared.modes.Access.TheVariants.{Fetch, Load, Store, ExecLoad, Implicit}
 use Rattle.arch_defs.specs.declared.modes.Mode.{Mode}
@@ -13,7 +13,7 @@ use Rattle.arch_defs.specs.declared.registers.Csrs.{Csrs}
 use Rattle.arch_defs.specs.declared.registers.GuestRoot.{GuestRoot}
 use Rattle.arch_defs.specs.declared.registers.GuestRoot.TheVariants as root
 use Rattle.arch_defs.specs.declared.walks.Shape.{Shape}
-use Rattle.arch_defs.specs.declared.walks.Unplaced.{Unplaced}
+use Rattle.arch_defs.specs.declared.walks.MissingPlace.{MissingPlace}
 use Rattle.arch_defs.specs.declared.walks.WalkEnd.{WalkEnd}
 use Rattle.arch_defs.specs.declared.walks.WalkEnd.TheVariants.{Leaf, PageFault, FetchEnd}
 use Rattle.arch_defs.specs.Bits.{field}
@@ -21,7 +21,7 @@ use Rattle.arch_defs.specs.Memory.{load, bare, SecondStage}
 use Rattle.arch_defs.specs.Permits.{permits_second}
 use Rattle.arch_defs.specs.Roots.{guest_shape}
 use Rattle.arch_defs.specs.Translation.{unread}
-use Rattle.arch_defs.specs.Traps.{exception, is_virtual, unplaced_fault}
+use Rattle.arch_defs.specs.Traps.{exception, is_virtual, missing_place_fault}
 use Rattle.arch_defs.specs.Walk.{EntryReading, walk, leaf_address}
 
 -- memory has so many bytes from a place on
@@ -39,26 +39,26 @@ memory_words base bytes place =
 
 -- what the walk's end is to an access. MXR is sstatus's (8.5.1); an entry, or the frame of the address under
 -- a leaf that permits the access, is an access fault where it is outside memory (4.3.2)
-abbrev pub guest_end : ℕ → List ℕ → Bool → ℕ → Access → WalkEnd → GuestWalkEnd
-guest_end base bytes mxr address kind (Leaf leaf) =
+abbrev pub second_end : ℕ → List ℕ → Bool → ℕ → Access → WalkEnd → SecondWalkEnd
+second_end base bytes mxr address kind (Leaf leaf) =
     if not (permits_second mxr kind leaf) then GuestPageFault
     else if has_frame_of base bytes (leaf_address leaf address) then guest.Leaf leaf
     else AccessFault
-guest_end base bytes mxr address kind PageFault = GuestPageFault
-guest_end base bytes mxr address kind (FetchEnd place trap) = AccessFault
+second_end base bytes mxr address kind PageFault = GuestPageFault
+second_end base bytes mxr address kind (FetchEnd place trap) = AccessFault
 
 -- the root's frame by hgatp's PPN: 16 KiB aligned, so bits 1:0 are zero (8.2.10)
 abbrev pub guest_root_frame : ℕ → ℕ
 guest_root_frame ppn = field 2 42 ppn * 2 ^ 2
 
 -- the walk of the table of a shape at hgatp's PPN for an access of a kind at a guest physical address (8.5.1)
-unfoldable pub guest_walk : ℕ → List ℕ → Bool → Shape → ℕ → ℕ → Access → GuestWalkEnd
-guest_walk base bytes mxr shape ppn address kind =
-    guest_end base bytes mxr address kind
+unfoldable pub second_walk : ℕ → List ℕ → Bool → Shape → ℕ → ℕ → Access → SecondWalkEnd
+second_walk base bytes mxr shape ppn address kind =
+    second_end base bytes mxr address kind
     (walk (memory_words base bytes) (guest_root_frame ppn) shape address kind)
 
 -- the place under a leaf
-abbrev pub place_under : ℕ → GuestWalkEnd → Option ℕ
+abbrev pub place_under : ℕ → SecondWalkEnd → Option ℕ
 place_under address (guest.Leaf leaf) = Some (leaf_address leaf address)
 place_under address GuestPageFault = None
 place_under address AccessFault = None
@@ -66,7 +66,7 @@ place_under address AccessFault = None
 -- the second stage by that walk
 abbrev pub walked : ℕ → List ℕ → Bool → Shape → ℕ → SecondStage
 walked base bytes mxr shape ppn address kind =
-    place_under address (guest_walk base bytes mxr shape ppn address kind)
+    place_under address (second_walk base bytes mxr shape ppn address kind)
 
 -- the table of a mode's second stage: hgatp's with V = 1 (8.2.10), and none with V = 0
 abbrev pub second_root_of : Csrs → Mode → GuestRoot
@@ -77,8 +77,8 @@ abbrev pub second_under : ℕ → List ℕ → Bool → GuestRoot → SecondStag
 second_under base bytes mxr root.Bare = bare base (length bytes)
 second_under base bytes mxr (root.Table mode vmid ppn) = walked base bytes mxr (guest_shape mode) ppn
 
-abbrev pub second_now : Csrs → Mode → ℕ → List ℕ → SecondStage
-second_now csrs mode base bytes = second_under base bytes csrs.hs.status.mxr (second_root_of csrs mode)
+abbrev pub second_by_walk : Csrs → Mode → ℕ → List ℕ → SecondStage
+second_by_walk csrs mode base bytes = second_under base bytes csrs.hs.status.mxr (second_root_of csrs mode)
 
 -- the guest-page faults of an access by its kind (8.6.1). An implicit read serves another access, whose fault
 -- is taken, so the line for it is for completeness
@@ -99,26 +99,26 @@ is_implicit Implicit = true
 
 -- the trap of a guest-page fault: with the guest physical address shifted right by 2, low bits too (8.2.8),
 -- and with whether it is that of an implicit read (8.6.3)
-abbrev pub guest_page_trap : Unplaced → Trap
-guest_page_trap unplaced = record (exception unplaced.mode (guest_page_fault unplaced.access) unplaced.va) {
-  tval2 = unplaced.address / 4;
-  implicit = is_implicit unplaced.kind;
+abbrev pub guest_page_trap : MissingPlace → Trap
+guest_page_trap missing = record (exception missing.mode (guest_page_fault missing.access) missing.va) {
+  tval2 = missing.address / 4;
+  implicit = is_implicit missing.kind;
 }
 
 -- the trap of an access that has no place, by the end of the walk of its address. Under a leaf it has one, so
 -- the line for it is for completeness
-abbrev pub unplaced_by : Unplaced → GuestWalkEnd → Trap
-unplaced_by unplaced (guest.Leaf leaf) = unplaced_fault unplaced
-unplaced_by unplaced GuestPageFault = guest_page_trap unplaced
-unplaced_by unplaced AccessFault = unplaced_fault unplaced
+abbrev pub missing_place_by : MissingPlace → SecondWalkEnd → Trap
+missing_place_by missing (guest.Leaf leaf) = missing_place_fault missing
+missing_place_by missing GuestPageFault = guest_page_trap missing
+missing_place_by missing AccessFault = missing_place_fault missing
 
 -- the trap by a table, and by that of the access's mode as the registers and memory are; Bare gives access
 -- faults alone
-abbrev pub unplaced_under : ℕ → List ℕ → Bool → Unplaced → GuestRoot → Trap
-unplaced_under base bytes mxr unplaced root.Bare = unplaced_fault unplaced
-unplaced_under base bytes mxr unplaced (root.Table mode vmid ppn) =
-    unplaced_by unplaced (guest_walk base bytes mxr (guest_shape mode) ppn unplaced.address unplaced.kind)
+abbrev pub missing_place_under : ℕ → List ℕ → Bool → MissingPlace → GuestRoot → Trap
+missing_place_under base bytes mxr missing root.Bare = missing_place_fault missing
+missing_place_under base bytes mxr missing (root.Table mode vmid ppn) =
+    missing_place_by missing (second_walk base bytes mxr (guest_shape mode) ppn missing.address missing.kind)
 
-abbrev pub unplaced_trap : Csrs → ℕ → List ℕ → Unplaced → Trap
-unplaced_trap csrs base bytes unplaced =
-    unplaced_under base bytes csrs.hs.status.mxr unplaced (second_root_of csrs unplaced.mode)
+abbrev pub missing_place_trap : Csrs → ℕ → List ℕ → MissingPlace → Trap
+missing_place_trap csrs base bytes missing =
+    missing_place_under base bytes csrs.hs.status.mxr missing (second_root_of csrs missing.mode)

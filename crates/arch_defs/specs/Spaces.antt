@@ -23,8 +23,8 @@ abbrev pub is_for : GuestRoot → Space → Bool
 is_for key space = is_root space.key key
 
 -- there is a space for a value of hgatp
-abbrev pub is_held : GuestRoot → List Space → Bool
-is_held key spaces = list_any (is_for key) spaces
+abbrev pub has_space : GuestRoot → List Space → Bool
+has_space key spaces = list_any (is_for key) spaces
 
 -- the space for a value of hgatp, or an empty one where there is none
 abbrev pub found_or_empty : GuestRoot → Option Space → Space
@@ -59,11 +59,11 @@ abbrev pub names : Fence → ℕ → Entry → Bool
 names fence vmid e = names_vmid fence.vmid vmid && names_page fence.page e
 
 -- the entries that it does not name
-abbrev pub left_by : Fence → ℕ → List Entry → List Entry
-left_by fence vmid entries = filter (λ e. not (names fence vmid e)) entries
+abbrev pub unnamed_by : Fence → ℕ → List Entry → List Entry
+unnamed_by fence vmid entries = filter (λ e. not (names fence vmid e)) entries
 
 abbrev pub fenced_space : Fence → Space → Space
-fenced_space fence s = record s { entries = left_by fence (vmid_of s.key) s.entries }
+fenced_space fence s = record s { entries = unnamed_by fence (vmid_of s.key) s.entries }
 
 -- after a fence: no space has an entry that it names, and each space stays
 unfoldable pub fenced : Fence → List Space → List Space

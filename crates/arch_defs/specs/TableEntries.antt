@@ -2,8 +2,8 @@
 use Rattle.std.specs.Prelude.{ℕ, ◌*◌, ◌%◌, ◌^◌, Bool, true, false, not, ◌&&◌, ◌||◌, ◌==◌, if◌then◌else◌}
 use Rattle.arch_defs.specs.declared.modes.Access.{Access}
 use Rattle.arch_defs.specs.declared.modes.Access.TheVariants.{Fetch, Load, Store, ExecLoad, Implicit}
-use Rattle.arch_defs.specs.declared.walks.TableEntry.{TableEntry}
-use Rattle.arch_defs.specs.declared.walks.LeafEntry.{LeafEntry}
+use Rattle.arch_defs.specs.declared.walks.Pte.{Pte}
+use Rattle.arch_defs.specs.declared.walks.LeafPte.{LeafPte}
 use Rattle.arch_defs.specs.declared.walks.WalkEnd.TheVariants.{Leaf, PageFault}
 use Rattle.arch_defs.specs.declared.walks.Next.{Next}
 use Rattle.arch_defs.specs.declared.walks.Next.TheVariants.{Ends, Below}
@@ -11,8 +11,8 @@ use Rattle.arch_defs.specs.Bits.{bit, field}
 
 -- an entry's word in named parts: V 0, R 1, W 2, X 3, U 4, A 6, D 7, the physical page number 53:10, reserved
 -- 63:54 (4.4.1)
-unfoldable pub table_entry : ℕ → TableEntry
-table_entry word = record {
+unfoldable pub pte_of : ℕ → Pte
+pte_of word = record {
   v = bit 0 word;
   r = bit 1 word;
   w = bit 2 word;
@@ -25,11 +25,11 @@ table_entry word = record {
 }
 
 -- what each entry needs, whatever it is: V, no W without R, no reserved bit (4.3.2, step 3)
-abbrev pub is_valid : TableEntry → Bool
+abbrev pub is_valid : Pte → Bool
 is_valid e = e.v && not (e.w && not e.r) && e.reserved == 0
 
 -- a valid entry is a leaf if it can be read or executed, else a pointer to the next level (4.3.2, step 4)
-abbrev pub is_leaf : TableEntry → Bool
+abbrev pub is_leaf : Pte → Bool
 is_leaf e = e.r || e.x
 
 -- the pages that a leaf of this level maps
@@ -49,25 +49,25 @@ needs_dirty ExecLoad = false
 needs_dirty Implicit = false
 
 -- A, and D for a store: the walker never writes (own), so software sets them (4.3.2, step 7)
-abbrev pub is_marked : Access → TableEntry → Bool
+abbrev pub is_marked : Access → Pte → Bool
 is_marked access e = e.a && (not (needs_dirty access) || e.d)
 
 -- what a leaf maps to and permits; a write needs D as well as W
-abbrev pub leaf_entry : ℕ → TableEntry → LeafEntry
-leaf_entry level e = record { frame = e.frame; level = level; r = e.r; w = e.w && e.d; x = e.x; u = e.u }
+abbrev pub leaf_pte : ℕ → Pte → LeafPte
+leaf_pte level e = record { frame = e.frame; level = level; r = e.r; w = e.w && e.d; x = e.x; u = e.u }
 
 -- a leaf ends the walk (4.3.2, steps 6 to 8)
-abbrev pub leaf_next : ℕ → Access → TableEntry → Next
+abbrev pub leaf_next : ℕ → Access → Pte → Next
 leaf_next level access e =
-    if is_aligned level e.frame && is_marked access e then Ends (Leaf (leaf_entry level e))
+    if is_aligned level e.frame && is_marked access e then Ends (Leaf (leaf_pte level e))
     else Ends PageFault
 
 -- A, D and U are reserved in a pointer (4.3.1), and there is no level below the last (4.3.2, step 4)
-abbrev pub pointer_next : ℕ → TableEntry → Next
+abbrev pub pointer_next : ℕ → Pte → Next
 pointer_next level e = if e.a || e.d || e.u || level == 0 then Ends PageFault else Below e.frame
 
 -- what an entry that is met at a level says to the walk (4.3.2, steps 3 to 8)
-unfoldable pub entry_next : ℕ → Access → TableEntry → Next
+unfoldable pub entry_next : ℕ → Access → Pte → Next
 entry_next level access e =
     if is_valid e then (if is_leaf e then leaf_next level access e else pointer_next level e)
     else Ends PageFault

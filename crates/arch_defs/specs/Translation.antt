@@ -7,12 +7,12 @@ use Rattle.arch_defs.specs.declared.modes.Mode.{Mode}
 use Rattle.arch_defs.specs.declared.modes.Mode.TheVariants.{HS, U, VS, VU}
 use Rattle.arch_defs.specs.declared.modes.Trap.{Trap}
 use Rattle.arch_defs.specs.declared.modes.TheConstants.{LOAD_ACCESS_FAULT}
-use Rattle.arch_defs.specs.declared.registers.Bank.{Bank}
+use Rattle.arch_defs.specs.declared.registers.SupervisorCsrs.{SupervisorCsrs}
 use Rattle.arch_defs.specs.declared.registers.Csrs.{Csrs}
 use Rattle.arch_defs.specs.declared.registers.SupervisorRoot.{SupervisorRoot}
 use Rattle.arch_defs.specs.declared.registers.SupervisorRoot.TheVariants as root
 use Rattle.arch_defs.specs.declared.walks.Found.{Found}
-use Rattle.arch_defs.specs.declared.walks.Found.TheVariants.{Passes, PageFaults, Lacks}
+use Rattle.arch_defs.specs.declared.walks.Found.TheVariants.{Passes, PageFaults, MissesEntry}
 use Rattle.arch_defs.specs.declared.walks.Privilege.{Privilege}
 use Rattle.arch_defs.specs.declared.walks.WalkEnd.{WalkEnd}
 use Rattle.arch_defs.specs.declared.walks.WalkEnd.TheVariants.{Leaf, PageFault, FetchEnd}
@@ -22,11 +22,11 @@ use Rattle.arch_defs.specs.Roots.{supervisor_shape}
 use Rattle.arch_defs.specs.Walk.{EntryReading, leaf_address, walk}
 
 -- the registers of the level whose table translates: HS's with V = 0, VS's with V = 1 (8.2.18)
-abbrev pub bank_of : Csrs → Mode → Bank
-bank_of csrs HS = csrs.hs
-bank_of csrs U = csrs.hs
-bank_of csrs VS = csrs.vs
-bank_of csrs VU = csrs.vs
+abbrev pub supervisor_of : Csrs → Mode → SupervisorCsrs
+supervisor_of csrs HS = csrs.hs
+supervisor_of csrs U = csrs.hs
+supervisor_of csrs VS = csrs.vs
+supervisor_of csrs VU = csrs.vs
 
 -- as whom a mode's accesses are translated: with V = 1 sstatus.MXR counts beside vsstatus.MXR (8.5)
 abbrev pub privilege_of : Csrs → Mode → Privilege
@@ -63,7 +63,7 @@ abbrev pub found_by : Privilege → Access → ℕ → WalkEnd → Found
 found_by privilege access va (Leaf leaf) =
     if permits_first privilege access leaf then Passes (leaf_address leaf va) else PageFaults
 found_by privilege access va PageFault = PageFaults
-found_by privilege access va (FetchEnd place trap) = Lacks place
+found_by privilege access va (FetchEnd place trap) = MissesEntry place
 
 -- Bare passes each address on (4.1.11)
 abbrev pub found_under : SecondStage → Reading → Privilege → ℕ → Access → SupervisorRoot → Found
@@ -75,4 +75,4 @@ found_under second reading privilege va access (root.Table mode asid ppn) =
 -- what the first stage makes of a virtual address for an access
 unfoldable pub first_stage : SecondStage → Reading → Csrs → Mode → ℕ → Access → Found
 first_stage second reading csrs mode va access =
-    found_under second reading (privilege_of csrs mode) va access (bank_of csrs mode).atp
+    found_under second reading (privilege_of csrs mode) va access (supervisor_of csrs mode).atp

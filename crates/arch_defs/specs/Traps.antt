@@ -11,12 +11,12 @@ use Rattle.arch_defs.specs.declared.modes.Mode.{Mode}
 use Rattle.arch_defs.specs.declared.modes.Mode.TheVariants.{HS, U, VS, VU}
 use Rattle.arch_defs.specs.declared.modes.Trap.{Trap}
 use Rattle.arch_defs.specs.declared.modes.TheConstants.{INSTRUCTION_MISALIGNED, LOAD_MISALIGNED, STORE_MISALIGNED, INSTRUCTION_ACCESS_FAULT, LOAD_ACCESS_FAULT, STORE_ACCESS_FAULT, INSTRUCTION_PAGE_FAULT, LOAD_PAGE_FAULT, STORE_PAGE_FAULT}
-use Rattle.arch_defs.specs.declared.registers.Bank.{Bank}
+use Rattle.arch_defs.specs.declared.registers.SupervisorCsrs.{SupervisorCsrs}
 use Rattle.arch_defs.specs.declared.registers.Csrs.{Csrs}
 use Rattle.arch_defs.specs.declared.registers.Regs.{Regs}
 use Rattle.arch_defs.specs.declared.registers.Virtual.{Virtual}
-use Rattle.arch_defs.specs.declared.walks.Unplaced.{Unplaced}
-use Rattle.arch_defs.specs.Interrupts.{guest_bit}
+use Rattle.arch_defs.specs.declared.walks.MissingPlace.{MissingPlace}
+use Rattle.arch_defs.specs.Interrupts.{vs_bit}
 
 -- V, the virtualization mode (8.1)
 abbrev pub is_virtual : Mode → Bool
@@ -42,7 +42,7 @@ mode_of true false = VU
 -- whether hideleg or hedeleg has a code's bit (8.2.2)
 abbrev pub is_delegated : Csrs → Bool → ℕ → Bool
 is_delegated csrs interrupt code =
-    if interrupt then guest_bit csrs.hideleg code else nat_lt code 64 && bit code csrs.hedeleg
+    if interrupt then vs_bit csrs.hideleg code else nat_lt code 64 && bit code csrs.hedeleg
 
 -- where a trap goes: to VS with V = 1 where hideleg has the interrupt, hedeleg the exception; else to HS
 -- (8.2.2, 8.6.2)
@@ -98,8 +98,8 @@ page_fault Implicit = LOAD_PAGE_FAULT
 page_fault Store = STORE_PAGE_FAULT
 
 -- the access fault of an access that has no place, made as whom the access is
-abbrev pub unplaced_fault : Unplaced → Trap
-unplaced_fault unplaced = exception unplaced.mode (access_fault unplaced.access) unplaced.va
+abbrev pub missing_place_fault : MissingPlace → Trap
+missing_place_fault missing = exception missing.mode (access_fault missing.access) missing.va
 
 -- what scause or vscause gets: the code, and bit 63 for an interrupt (4.1.8)
 abbrev pub cause_of : Bool → ℕ → ℕ
@@ -113,18 +113,20 @@ handler_of tvec interrupt code =
 
 -- a level's own registers after a trap into it, from privilege S or U, at pc (4.1.1, 4.1.7 to 4.1.9; for VS
 -- 8.2.11, 8.2.15 to 8.2.17)
-abbrev pub entered_bank : Bank → Bool → ℕ → ℕ → ℕ → Bank
-entered_bank bank supervisor pc cause tval = record bank {
-  status = record bank.status { spp = supervisor; spie = bank.status.sie; sie = false };
+abbrev pub entered_supervisor : SupervisorCsrs → Bool → ℕ → ℕ → ℕ → SupervisorCsrs
+entered_supervisor registers supervisor pc cause tval = record registers {
+  status = record registers.status { spp = supervisor; spie = registers.status.sie; sie = false };
   epc = pc;
   cause = cause;
   tval = tval;
 }
 
 -- a level's own registers after its SRET (4.1.1)
-abbrev pub returned_bank : Bank → Bank
-returned_bank bank =
-    record bank { status = record bank.status { sie = bank.status.spie; spie = true; spp = false } }
+abbrev pub returned_supervisor : SupervisorCsrs → SupervisorCsrs
+returned_supervisor registers =
+    record registers {
+      status = record registers.status { sie = registers.status.spie; spie = true; spp = false };
+    }
 
 -- what a trap or an SRET leaves: the registers and the mode
 pub record Arrival : Type 0 where
@@ -154,7 +156,9 @@ htinst_of trap = if trap.implicit && is_guest_page_fault trap && not (trap.tval2
 unfoldable pub entered_hs : Csrs → Regs → Mode → Trap → Arrival
 entered_hs csrs regs mode trap = record {
   csrs = record csrs {
-    hs = entered_bank csrs.hs (is_supervisor mode) regs.pc (cause_of trap.interrupt trap.cause) trap.tval;
+    hs =
+        entered_supervisor csrs.hs (is_supervisor mode) regs.pc (cause_of trap.interrupt trap.cause)
+        trap.tval;
     hstatus = record csrs.hstatus { gva = trap.gva; spv = is_virtual mode; spvp = spvp_after csrs mode };
     htval = htval_of trap;
     htinst = htinst_of trap;
@@ -173,7 +177,7 @@ unfoldable pub entered_vs : Csrs → Regs → Mode → Trap → Arrival
 entered_vs csrs regs mode trap = record {
   csrs = record csrs {
     vs =
-        entered_bank csrs.vs (is_supervisor mode) regs.pc (cause_of trap.interrupt (vs_code_of trap))
+        entered_supervisor csrs.vs (is_supervisor mode) regs.pc (cause_of trap.interrupt (vs_code_of trap))
         trap.tval;
   };
   regs = record regs { pc = handler_of csrs.vs.tvec trap.interrupt (vs_code_of trap) };
@@ -183,7 +187,7 @@ entered_vs csrs regs mode trap = record {
 -- SRET in HS (8.6.4)
 abbrev pub returned_from_hs : Csrs → Regs → Arrival
 returned_from_hs csrs regs = record {
-  csrs = record csrs { hs = returned_bank csrs.hs; hstatus = record csrs.hstatus { spv = false } };
+  csrs = record csrs { hs = returned_supervisor csrs.hs; hstatus = record csrs.hstatus { spv = false } };
   regs = record regs { pc = csrs.hs.epc };
   mode = mode_of csrs.hstatus.spv csrs.hs.status.spp;
 }
@@ -191,7 +195,7 @@ returned_from_hs csrs regs = record {
 -- SRET in VS: V stays 1 (8.6.4)
 abbrev pub returned_from_vs : Csrs → Regs → Arrival
 returned_from_vs csrs regs = record {
-  csrs = record csrs { vs = returned_bank csrs.vs };
+  csrs = record csrs { vs = returned_supervisor csrs.vs };
   regs = record regs { pc = csrs.vs.epc };
   mode = mode_of true csrs.vs.status.spp;
 }
@@ -209,5 +213,5 @@ abbrev pub entered_at : Virtual → Trap → Level → Virtual
 entered_at state trap level.HS = arrived state (entered_hs state.csrs state.regs state.mode trap)
 entered_at state trap level.VS = arrived state (entered_vs state.csrs state.regs state.mode trap)
 
-abbrev pub entered : Virtual → Trap → Virtual
-entered state trap = entered_at state trap (target state.csrs state.mode trap)
+abbrev pub entered_by_trap : Virtual → Trap → Virtual
+entered_by_trap state trap = entered_at state trap (target state.csrs state.mode trap)

@@ -5,13 +5,13 @@ use Rattle.arch_defs.specs.declared.modes.Access.{Access}
 use Rattle.arch_defs.specs.declared.modes.Trap.{Trap}
 use Rattle.arch_defs.specs.declared.walks.Shape.{Shape}
 use Rattle.arch_defs.specs.declared.walks.Shape.TheVariants.{Sv39, Sv39x4}
-use Rattle.arch_defs.specs.declared.walks.LeafEntry.{LeafEntry}
+use Rattle.arch_defs.specs.declared.walks.LeafPte.{LeafPte}
 use Rattle.arch_defs.specs.declared.walks.WalkEnd.{WalkEnd}
 use Rattle.arch_defs.specs.declared.walks.WalkEnd.TheVariants.{PageFault, FetchEnd}
 use Rattle.arch_defs.specs.declared.walks.Next.{Next}
 use Rattle.arch_defs.specs.declared.walks.Next.TheVariants.{Ends, Below}
 use Rattle.arch_defs.specs.Bits.{field, sign_extend}
-use Rattle.arch_defs.specs.TableEntries.{table_entry, entry_next}
+use Rattle.arch_defs.specs.TableEntries.{pte_of, entry_next}
 
 -- a reading of places: the entry's word at each, or the trap for which there is none
 abbrev pub EntryReading : Type 0
@@ -68,7 +68,7 @@ met_in reading shape va level table =
 
 -- what it says: one that could not be read ends the walk with its place and trap
 abbrev pub read_next : ℕ → ℕ → Access → Result ℕ Trap → Next
-read_next level place access (Ok word) = entry_next level access (table_entry word)
+read_next level place access (Ok word) = entry_next level access (pte_of word)
 read_next level place access (Err trap) = Ends (FetchEnd place trap)
 
 abbrev pub next_of : Access → Met → Next
@@ -107,5 +107,5 @@ walk reading root shape va access = end_of access (path reading root shape va ac
 
 -- the physical address of an address under a leaf: the leaf's frame, with the offset in the page of its level
 -- (4.3.2, step 8)
-abbrev pub leaf_address : LeafEntry → ℕ → ℕ
+abbrev pub leaf_address : LeafPte → ℕ → ℕ
 leaf_address leaf va = 4096 * leaf.frame + va % 2 ^ (12 + 9 * leaf.level)

@@ -2,17 +2,17 @@
 -- and 8.5, permits).
 use Rattle.std.specs.Prelude.{ℕ, ◌/◌, ◌&&◌, Bool, List, Option, Some, None}
 use Rattle.arch_defs.specs.declared.cached.Entry.{Entry}
-use Rattle.arch_defs.specs.declared.guest_walks.GuestWalkEnd.{GuestWalkEnd}
-use Rattle.arch_defs.specs.declared.guest_walks.GuestWalkEnd.TheVariants.{Leaf, GuestPageFault, AccessFault}
+use Rattle.arch_defs.specs.declared.second_walks.SecondWalkEnd.{SecondWalkEnd}
+use Rattle.arch_defs.specs.declared.second_walks.SecondWalkEnd.TheVariants.{Leaf, GuestPageFault, AccessFault}
 use Rattle.arch_defs.specs.declared.modes.Access.{Access}
 use Rattle.arch_defs.specs.declared.registers.Csrs.{Csrs}
 use Rattle.arch_defs.specs.declared.registers.GuestRoot.{GuestRoot}
 use Rattle.arch_defs.specs.declared.registers.GuestRoot.TheVariants as root
 use Rattle.arch_defs.specs.declared.registers.Virtual.{Virtual}
-use Rattle.arch_defs.specs.declared.walks.LeafEntry.{LeafEntry}
+use Rattle.arch_defs.specs.declared.walks.LeafPte.{LeafPte}
 use Rattle.arch_defs.specs.Memory.{ram_base}
 use Rattle.arch_defs.specs.Roots.{guest_shape, is_table}
-use Rattle.arch_defs.specs.SecondStage.{guest_walk}
+use Rattle.arch_defs.specs.SecondStage.{second_walk}
 use Rattle.arch_defs.specs.Traps.{is_virtual}
 use Rattle.arch_defs.specs.Walk.{leaf_address}
 
@@ -21,7 +21,7 @@ abbrev pub folds : Virtual → Bool
 folds virt = is_virtual virt.mode && is_table virt.csrs.hgatp
 
 -- the entry of an address's page under a leaf: it is for this one page, whatever the leaf's level
-abbrev pub entry_under : LeafEntry → ℕ → Entry
+abbrev pub entry_under : LeafPte → ℕ → Entry
 entry_under leaf address = record {
   page = address / 4096;
   frame = leaf_address leaf address / 4096;
@@ -32,7 +32,7 @@ entry_under leaf address = record {
 }
 
 -- what is filled for an address by the end of a walk: a leaf permits the access, and its frame is in RAM
-abbrev pub entry_by_end : ℕ → GuestWalkEnd → Option Entry
+abbrev pub entry_by_end : ℕ → SecondWalkEnd → Option Entry
 entry_by_end address (Leaf leaf) = Some (entry_under leaf address)
 entry_by_end address GuestPageFault = None
 entry_by_end address AccessFault = None
@@ -41,8 +41,8 @@ entry_by_end address AccessFault = None
 abbrev pub entry_by_table : Bool → List ℕ → ℕ → Access → GuestRoot → Option Entry
 entry_by_table mxr ram address kind root.Bare = None
 entry_by_table mxr ram address kind (root.Table mode vmid ppn) =
-    entry_by_end address (guest_walk ram_base ram mxr (guest_shape mode) ppn address kind)
+    entry_by_end address (second_walk ram_base ram mxr (guest_shape mode) ppn address kind)
 
 -- what is filled for an access of a kind at a guest physical address, as the registers and RAM are
-unfoldable pub entry_now : Csrs → List ℕ → ℕ → Access → Option Entry
-entry_now csrs ram address kind = entry_by_table csrs.hs.status.mxr ram address kind csrs.hgatp
+unfoldable pub entry_by_walk : Csrs → List ℕ → ℕ → Access → Option Entry
+entry_by_walk csrs ram address kind = entry_by_table csrs.hs.status.mxr ram address kind csrs.hgatp

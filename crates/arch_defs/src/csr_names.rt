@@ -1,8 +1,8 @@
 // The control and status registers by name, and how an access can be refused.
 
-/// The registers that HS and VS each have a copy of, each in its own bank.
+/// The registers that HS and VS each have a copy of, each in its own `SupervisorCsrs`.
 #[derive(Clone, Copy, Debug, PartialEq, Eq)]
-pub enum BankRegister {
+pub enum SupervisorCsr {
     Status,
     Tvec,
     Scratch,
@@ -14,7 +14,7 @@ pub enum BankRegister {
 
 /// The registers of interrupts.
 #[derive(Clone, Copy, Debug, PartialEq, Eq)]
-pub enum InterruptRegister {
+pub enum InterruptCsr {
     Sie,
     Sip,
     Vsie,
@@ -27,7 +27,7 @@ pub enum InterruptRegister {
 
 /// The registers of one named bit.
 #[derive(Clone, Copy, Debug, PartialEq, Eq)]
-pub enum BitRegister {
+pub enum EnableCsr {
     Scounteren,
     Senvcfg,
     Hcounteren,
@@ -36,7 +36,7 @@ pub enum BitRegister {
 
 /// The other registers of the hypervisor extension.
 #[derive(Clone, Copy, Debug, PartialEq, Eq)]
-pub enum HypervisorRegister {
+pub enum HypervisorCsr {
     Hstatus,
     Hedeleg,
     Htimedelta,
@@ -51,12 +51,12 @@ pub enum HypervisorRegister {
 #[derive(Clone, Copy, Debug, PartialEq, Eq)]
 pub enum Register {
     /// sstatus to satp of HS.
-    Supervisor(BankRegister),
+    Supervisor(SupervisorCsr),
     /// vsstatus to vsatp.
-    VirtualSupervisor(BankRegister),
-    Interrupt(InterruptRegister),
-    Bit(BitRegister),
-    Hypervisor(HypervisorRegister),
+    VirtualSupervisor(SupervisorCsr),
+    Interrupt(InterruptCsr),
+    Enable(EnableCsr),
+    Hypervisor(HypervisorCsr),
     /// time as it reads with V = 0.
     Time,
     /// time as it reads with V = 1.

@@ -3,13 +3,13 @@
 
 mod cached;
 mod csr_names;
-mod guest_walks;
 mod laws;
 mod levels;
 mod modes;
 mod needs;
 mod parts;
 mod registers;
+mod second_walks;
 #[cfg(test)]
 mod tests;
 #[cfg(test)]
@@ -18,10 +18,7 @@ mod walks;
 mod widths;
 
 pub use cached::{Entry, Fence};
-pub use csr_names::{
-    BankRegister, BitRegister, CsrEnd, HypervisorRegister, InterruptRegister, Register,
-};
-pub use guest_walks::GuestWalkEnd;
+pub use csr_names::{CsrEnd, EnableCsr, HypervisorCsr, InterruptCsr, Register, SupervisorCsr};
 pub use laws::{frames_apart_stay, ram_is_its_blocks};
 pub use levels::{
     Level, SUPERVISOR_EXTERNAL, SUPERVISOR_SOFTWARE, SUPERVISOR_TIMER, VS_EXTERNAL, VS_SOFTWARE,
@@ -37,8 +34,9 @@ pub use modes::{
 pub use needs::Need;
 pub use parts::{BLOCK_FRAMES, BLOCK_SIZE, FRAME_SIZE, MOST_BLOCKS, Part, TABLES_PER_ENTRY};
 pub use registers::{
-    Bank, Csrs, GuestMode, GuestRoot, HypervisorStatus, Interrupts, Reg, Regs, SupervisorMode,
-    SupervisorRoot, SupervisorStatus, Virtual,
+    Csrs, GuestMode, GuestRoot, HypervisorStatus, Interrupts, Reg, Regs, SupervisorCsrs,
+    SupervisorMode, SupervisorRoot, SupervisorStatus, Virtual,
 };
-pub use walks::{Found, LeafEntry, Next, Privilege, Shape, TableEntry, Unplaced, WalkEnd};
+pub use second_walks::SecondWalkEnd;
+pub use walks::{Found, LeafPte, MissingPlace, Next, Privilege, Pte, Shape, WalkEnd};
 pub use widths::{Width, extend};

@@ -3,7 +3,7 @@
 ghost use Rattle.std.specs.Prelude.{◌≡◌, ◌<◌};
 ghost use Rattle.arch_defs.specs.Bits.{field};
 ghost use Rattle.arch_defs.specs.Roots.{guest_mode_number, guest_shape, is_root, is_table, supervisor_mode_number, supervisor_shape, vmid_of};
-ghost use Rattle.arch_defs.specs.Registers.{read, advanced, clear_interrupts, csrs_at_reset, bank_at_reset, clear_supervisor_status, clear_hypervisor_status, regs_at, virtual_at};
+ghost use Rattle.arch_defs.specs.Registers.{read, advanced, clear_interrupts, csrs_at_reset, supervisor_at_reset, clear_supervisor_status, clear_hypervisor_status, regs_at, virtual_at};
 
 use crate::modes::Mode;
 use crate::walks::Shape;
@@ -278,7 +278,7 @@ impl GuestRoot {
 
 /// The registers that HS and VS each have: those of the 1xx rows, and those of the 2xx rows that match.
 #[derive(Clone, Copy, Debug, PartialEq, Eq)]
-pub struct Bank {
+pub struct SupervisorCsrs {
     pub status: SupervisorStatus,
     pub tvec: u64,
     pub scratch: u64,
@@ -288,12 +288,12 @@ pub struct Bank {
     pub atp: SupervisorRoot,
 }
 
-impl Bank {
+impl SupervisorCsrs {
     /// All registers zero.
-    pub fn at_reset() -> Bank
-        ensures { result ≡ bank_at_reset }
+    pub fn at_reset() -> SupervisorCsrs
+        ensures { result ≡ supervisor_at_reset }
     {
-        Bank {
+        SupervisorCsrs {
             status: SupervisorStatus::clear(),
             tvec: 0,
             scratch: 0,
@@ -310,9 +310,9 @@ impl Bank {
 #[derive(Clone, Copy, Debug, PartialEq, Eq)]
 pub struct Csrs {
     /// sstatus to satp.
-    pub hs: Bank,
+    pub hs: SupervisorCsrs,
     /// vsstatus to vsatp.
-    pub vs: Bank,
+    pub vs: SupervisorCsrs,
     pub sie: Interrupts,
     pub sip: Interrupts,
     pub scounteren_tm: bool,
@@ -339,8 +339,8 @@ impl Csrs {
         ensures { result ≡ csrs_at_reset }
     {
         Csrs {
-            hs: Bank::at_reset(),
-            vs: Bank::at_reset(),
+            hs: SupervisorCsrs::at_reset(),
+            vs: SupervisorCsrs::at_reset(),
             sie: Interrupts::clear(),
             sip: Interrupts::clear(),
             scounteren_tm: false,

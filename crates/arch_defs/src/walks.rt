@@ -13,7 +13,7 @@ pub enum Shape {
 /// A table entry in named parts (Privileged Architecture 20211203, 4.3.1 and 4.4.1). The walker needs
 /// neither G nor RSW.
 #[derive(Clone, Copy, Debug, PartialEq, Eq)]
-pub struct TableEntry {
+pub struct Pte {
     pub v: bool,
     pub r: bool,
     pub w: bool,
@@ -30,7 +30,7 @@ pub struct TableEntry {
 /// A leaf that a walk has found: the frame that it names (an address divided by 4,096), its level, and
 /// what it permits. `w` is its W and D.
 #[derive(Clone, Copy, Debug, PartialEq, Eq)]
-pub struct LeafEntry {
+pub struct LeafPte {
     pub frame: u64,
     pub level: u8,
     pub r: bool,
@@ -42,7 +42,7 @@ pub struct LeafEntry {
 /// How a walk ends.
 #[derive(Clone, Copy, Debug, PartialEq, Eq)]
 pub enum WalkEnd {
-    Leaf(LeafEntry),
+    Leaf(LeafPte),
     PageFault,
     /// The entry at this place could not be read, for this trap.
     FetchEnd { place: u64, trap: Trap },
@@ -67,7 +67,7 @@ pub struct Privilege {
 
 /// An access for which the second stage has no place.
 #[derive(Clone, Copy, Debug, PartialEq, Eq)]
-pub struct Unplaced {
+pub struct MissingPlace {
     /// The guest physical address that has none.
     pub address: u64,
     /// What the access at that address is: the access itself, or the implicit read of a first-stage entry for
@@ -89,5 +89,5 @@ pub enum Found {
     /// The table has no leaf for it that permits the access.
     PageFaults,
     /// The second stage has no place for the entry at this guest physical address.
-    Lacks(u64),
+    MissesEntry(u64),
 }

@@ -2,8 +2,8 @@
 use Rattle.std.specs.Prelude.{ℕ, Bool, false, List, [], ◌∷◌, Option, Some, None, codes, bytes_eq, nat_eq, not, if◌then◌else◌}
 use Rattle.std.specs.List.{list_all}
 
--- what is asked for: a run of the configuration in this file, the same compared with the report in another file, or
--- what a run would need
+-- what is asked for: a run of the configuration in this file, the same compared with the report in another
+-- file, or what a run would need
 pub data Command : Type 0 where
   Run : List ℕ → Command
   Replay : List ℕ → List ℕ → Command

@@ -2,11 +2,11 @@
 use Rattle.std.specs.Prelude.{◌≤◌, drop, length, vec_capacity}
 use Rattle.std.specs.List.Sorted.{IsNonDecreasingBy}
 use Rattle.console_dev.specs.declared.consoles.Console.TheInside.{Inside}
-use Rattle.arch_defs.specs.Consoles.{Held}
+use Rattle.arch_defs.specs.Consoles.{ConsoleState}
 
 -- the inputs from the first that is not read on
-abbrev pub held : Inside → Held
-held c = record { bytes = c.bytes.items; room = c.room; inputs = drop c.read c.inputs.items }
+abbrev pub console_state : Inside → ConsoleState
+console_state c = record { bytes = c.bytes.items; room = c.room; inputs = drop c.read c.inputs.items }
 
 -- the room is reserved and not exceeded, and the inputs stand in the order of their moments
 pub record IsSound (c : Inside) : Type 0 where

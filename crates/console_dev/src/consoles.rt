@@ -3,13 +3,13 @@
 ghost use Rattle.std.specs.Prelude.{◌≡◌, ◌≢◌, ◌↔◌, ◌<◌, ◌≤◌, [], ◌∷◌, ◌++◌, true, false, length, not, All, IfOk, IsTrue};
 ghost use Rattle.std.specs.List.Sorted.{IsNonDecreasingBy};
 ghost use Rattle.arch_defs.specs.Consoles.{has_room};
-ghost use Rattle.arch_defs.specs.Inputs.{AreInputs, arrived, has_input, next_input, unread_after};
+ghost use Rattle.arch_defs.specs.Inputs.{AreInputs, arrived_byte, has_input, next_input, unread_after};
 
 use std::alloc::{AllocError, Global};
 use std::marker::Model;
 
-/// The bytes that a guest has put, and its inputs: bytes that are there for it, each from a moment of its clock
-/// on. All room is taken when it is made: no other call takes memory.
+/// The bytes that a guest has put, and its inputs: bytes that are there for it, each from a moment of its
+/// clock on. All room is taken when it is made: no other call takes memory.
 #[derive(Debug, Drop)]
 pub struct Console {
     bytes: Vec<u8>,
@@ -20,13 +20,13 @@ pub struct Console {
 }
 
 impl Model for Console {
-    ghost use Rattle.arch_defs.specs.Consoles.{Held};
+    ghost use Rattle.arch_defs.specs.Consoles.{ConsoleState};
 
-    ghost Value = { Held };
+    ghost Value = { ConsoleState };
 
-    ghost use Rattle.console_dev.specs.View.{IsSound, held};
+    ghost use Rattle.console_dev.specs.View.{IsSound, console_state};
 
-    ghost view = { held };
+    ghost view = { console_state };
 
     ghost invariant = { IsSound };
 }
@@ -67,7 +67,7 @@ impl Console {
 
     /// Reads the first unread input whose moment has come by this clock, if there is one.
     pub fn get(&mut self, clock: u64) -> Option<u8>
-        ensures byte { result ≡ arrived self.old.inputs clock }
+        ensures byte { result ≡ arrived_byte self.old.inputs clock }
         ensures read { self.new ≡ record self.old { inputs = unread_after self.old.inputs clock } }
         ensures none { (result ≡ None) ↔ All (λ input. clock < input.0) self.old.inputs }
     {

@@ -6,7 +6,7 @@ use Rattle.arch_defs.specs.declared.modes.Mode.TheVariants.{HS, U, VS, VU}
 use Rattle.arch_defs.specs.declared.registers.Csrs.{Csrs}
 use Rattle.arch_defs.specs.declared.csr_names.Register.{Register}
 use Rattle.arch_defs.specs.CsrNames.{register_of}
-use Rattle.arch_defs.specs.Access.{named_to_write, reached_by, reached, reached_in_u, reached_in_vs, reached_in_vu, written, read, write, value_of, changed_by}
+use Rattle.arch_defs.specs.CsrAccess.{named_to_write, reached_by, reached, reached_in_u, reached_in_vs, reached_in_vu, written, read_csr, write_csr, value_of, written_by}
 use Rattle.csr_file.specs.Laws.{ReadsWhatWasWritten}
 
 -- time is not written, so it stays in reach
@@ -42,8 +42,8 @@ unfolding named_to_write
 reached_to_write csrs mode number r e = grind arith
 
 pub reads_what_was_written : ReadsWhatWasWritten
-unfolding read write
+unfolding read_csr write_csr
 reads_what_was_written csrs mode number v r e = (
-  ap (λ x. changed_by csrs x v) e,
+  ap (λ x. written_by csrs x v) e,
   ap (value_of (written csrs r v)) (still_by csrs mode (register_of number) r v (reached_to_write csrs mode number r e)),
 )

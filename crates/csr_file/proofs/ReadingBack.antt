@@ -2,22 +2,22 @@
 use Rattle.std.specs.Prelude.{bit_and, Bool, true, false, IfSome, ◌&&◌}
 use Rattle.std.proofs.Common.{cond, ◌≡◌, ℕ, ◌+◌, ◌*◌, ◌^◌, ◌<◌, refl, arith}
 use Rattle.std.proofs.lemmas.Nat.{and_comm}
-use Rattle.arch_defs.specs.declared.registers.Bank.{Bank}
+use Rattle.arch_defs.specs.declared.registers.SupervisorCsrs.{SupervisorCsrs}
 use Rattle.arch_defs.specs.declared.registers.Csrs.{Csrs}
 use Rattle.arch_defs.specs.declared.registers.Interrupts.{Interrupts}
-use Rattle.arch_defs.specs.declared.csr_names.BankRegister.{BankRegister}
-use Rattle.arch_defs.specs.declared.csr_names.BankRegister.TheVariants.{Status, Tvec, Scratch, Epc, Cause, Tval, Atp}
-use Rattle.arch_defs.specs.declared.csr_names.InterruptRegister.{InterruptRegister}
-use Rattle.arch_defs.specs.declared.csr_names.InterruptRegister.TheVariants.{Sie, Sip, Vsie, Vsip, Hideleg, Hie, Hip, Hvip}
-use Rattle.arch_defs.specs.declared.csr_names.BitRegister.{BitRegister}
-use Rattle.arch_defs.specs.declared.csr_names.BitRegister.TheVariants.{Scounteren, Senvcfg, Hcounteren, Henvcfg}
-use Rattle.arch_defs.specs.declared.csr_names.HypervisorRegister.{HypervisorRegister}
-use Rattle.arch_defs.specs.declared.csr_names.HypervisorRegister.TheVariants.{Hstatus, Hedeleg, Htimedelta, Hgeie, Hgeip, Htval, Htinst, Hgatp}
-use Rattle.arch_defs.specs.declared.csr_names.Register.TheVariants.{Supervisor, VirtualSupervisor, Interrupt, Bit, Hypervisor, Time, GuestTime}
+use Rattle.arch_defs.specs.declared.csr_names.SupervisorCsr.{SupervisorCsr}
+use Rattle.arch_defs.specs.declared.csr_names.SupervisorCsr.TheVariants.{Status, Tvec, Scratch, Epc, Cause, Tval, Atp}
+use Rattle.arch_defs.specs.declared.csr_names.InterruptCsr.{InterruptCsr}
+use Rattle.arch_defs.specs.declared.csr_names.InterruptCsr.TheVariants.{Sie, Sip, Vsie, Vsip, Hideleg, Hie, Hip, Hvip}
+use Rattle.arch_defs.specs.declared.csr_names.EnableCsr.{EnableCsr}
+use Rattle.arch_defs.specs.declared.csr_names.EnableCsr.TheVariants.{Scounteren, Senvcfg, Hcounteren, Henvcfg}
+use Rattle.arch_defs.specs.declared.csr_names.HypervisorCsr.{HypervisorCsr}
+use Rattle.arch_defs.specs.declared.csr_names.HypervisorCsr.TheVariants.{Hstatus, Hedeleg, Htimedelta, Hgeie, Hgeip, Htval, Htinst, Hgatp}
+use Rattle.arch_defs.specs.declared.csr_names.Register.TheVariants.{Supervisor, VirtualSupervisor, Interrupt, Enable, Hypervisor, Time, GuestTime}
 use Rattle.arch_defs.specs.Bits.{bit}
-use Rattle.arch_defs.specs.CsrBits.{bit_number, status_number, status_of, hstatus_number, hstatus_of, supervisor_number, supervisor_interrupts, virtual_number, virtual_interrupts, delegated, delegated_become, tvec_bits, epc_bits, hedeleg_bits}
-use Rattle.arch_defs.specs.Access.{bank_shown, bank_written, interrupts_shown, interrupts_written, bit_shown, bit_written, hypervisor_shown, hypervisor_written, shown, written}
-use Rattle.csr_file.specs.Laws.{merged, all_bits, bank_mask, interrupts_mask, bit_mask, hypervisor_mask, ReadsBack, SatpReadsBack, VsatpReadsBack, HgatpReadsBack}
+use Rattle.arch_defs.specs.CsrBits.{bit_number, sstatus_bits, sstatus_of, hstatus_bits, hstatus_of, sip_bits, supervisor_interrupts, hip_bits, virtual_interrupts, delegated, delegated_become, tvec_bits, epc_bits, hedeleg_bits}
+use Rattle.arch_defs.specs.CsrAccess.{supervisor_shown, supervisor_written, interrupts_shown, interrupts_written, enable_shown, enable_written, hypervisor_shown, hypervisor_written, shown, written}
+use Rattle.csr_file.specs.Laws.{merged, all_bits, supervisor_mask, interrupts_mask, enable_mask, hypervisor_mask, ReadsBack, SatpReadsBack, VsatpReadsBack, HgatpReadsBack}
 use Rattle.csr_file.proofs.Masks.{masked, under, flag, flag_most, replaced}
 use Rattle.csr_file.proofs.Statuses.{status_taken, status_kept, hstatus_taken, hstatus_kept, supervisor_taken, supervisor_kept, virtual_taken, virtual_kept, tvec_under, epc_under, hedeleg_under, all_under}
 use Rattle.csr_file.proofs.Delegated.{vsie_taken, vsie_kept}
@@ -64,26 +64,26 @@ hedeleg_replaced t v =
     replaced 0xB1FF 0 (hedeleg_bits t) (hedeleg_bits (hedeleg_bits v)) v (omega arith) (omega (arith, hedeleg_under v, hedeleg_twice v))
     (omega (arith, hedeleg_under (hedeleg_bits t), hedeleg_twice t))
 
-bank_back : (bank : Bank) (r : BankRegister) (v : ℕ) → v < 2 ^ 64
-    → IfSome (bank_mask r) (λ mask. bank_shown (bank_written bank r v) r ≡ merged mask (bank_shown bank r) v)
-unfolding bank_shown bank_written
-bank_back bank Status v h =
-    replaced 0xC0122 (2 * 2 ^ 32) (status_number bank.status) (status_number (status_of v)) v (omega arith) (status_taken v) (status_kept bank.status)
-bank_back bank Tvec v h = tvec_replaced bank.tvec v h
-bank_back bank Scratch v h = all_replaced bank.scratch v h
-bank_back bank Epc v h = epc_replaced bank.epc v h
-bank_back bank Cause v h = all_replaced bank.cause v h
-bank_back bank Tval v h = all_replaced bank.tval v h
-bank_back bank Atp v h = tt
+supervisor_back : (registers : SupervisorCsrs) (r : SupervisorCsr) (v : ℕ) → v < 2 ^ 64
+    → IfSome (supervisor_mask r) (λ mask. supervisor_shown (supervisor_written registers r v) r ≡ merged mask (supervisor_shown registers r) v)
+unfolding supervisor_shown supervisor_written
+supervisor_back registers Status v h =
+    replaced 0xC0122 (2 * 2 ^ 32) (sstatus_bits registers.status) (sstatus_bits (sstatus_of v)) v (omega arith) (status_taken v) (status_kept registers.status)
+supervisor_back registers Tvec v h = tvec_replaced registers.tvec v h
+supervisor_back registers Scratch v h = all_replaced registers.scratch v h
+supervisor_back registers Epc v h = epc_replaced registers.epc v h
+supervisor_back registers Cause v h = all_replaced registers.cause v h
+supervisor_back registers Tval v h = all_replaced registers.tval v h
+supervisor_back registers Atp v h = tt
 
-supervisor_replaced : (s : Interrupts) (v : ℕ) → supervisor_number (supervisor_interrupts v) ≡ merged 0x222 (supervisor_number s) v
+supervisor_replaced : (s : Interrupts) (v : ℕ) → sip_bits (supervisor_interrupts v) ≡ merged 0x222 (sip_bits s) v
 supervisor_replaced s v =
-    replaced 0x222 0 (supervisor_number s) (supervisor_number (supervisor_interrupts v)) v (omega arith) (omega (arith, supervisor_taken v))
+    replaced 0x222 0 (sip_bits s) (sip_bits (supervisor_interrupts v)) v (omega arith) (omega (arith, supervisor_taken v))
     (omega (arith, supervisor_kept s))
 
-virtual_replaced : (s : Interrupts) (v : ℕ) → virtual_number (virtual_interrupts v) ≡ merged 0x444 (virtual_number s) v
+virtual_replaced : (s : Interrupts) (v : ℕ) → hip_bits (virtual_interrupts v) ≡ merged 0x444 (hip_bits s) v
 virtual_replaced s v =
-    replaced 0x444 0 (virtual_number s) (virtual_number (virtual_interrupts v)) v (omega arith) (omega (arith, virtual_taken v))
+    replaced 0x444 0 (hip_bits s) (hip_bits (virtual_interrupts v)) v (omega arith) (omega (arith, virtual_taken v))
     (omega (arith, virtual_kept s))
 
 -- bit 1 of a supervisor level's set alone, and bit 2 of VS's
@@ -124,9 +124,9 @@ vsip_replaced : (a b c p q r : Bool) (v : ℕ)
 vsip_replaced true b c p q r v = software_replaced p (b && q) (c && r) v
 vsip_replaced false b c p q r v = none_under_zero (0 + bit_number 5 (b && q) + bit_number 9 (c && r)) v (omega (arith, flag_most 5 (b && q), flag_most 9 (c && r)))
 
-interrupts_back : (csrs : Csrs) (r : InterruptRegister) (v : ℕ)
+interrupts_back : (csrs : Csrs) (r : InterruptCsr) (v : ℕ)
     → interrupts_shown (interrupts_written csrs r v) r ≡ merged (interrupts_mask csrs r) (interrupts_shown csrs r) v
-unfolding interrupts_shown interrupts_written supervisor_number supervisor_interrupts virtual_number delegated delegated_become
+unfolding interrupts_shown interrupts_written sip_bits supervisor_interrupts hip_bits delegated delegated_become
 interrupts_back csrs Sie v = supervisor_replaced csrs.sie v
 interrupts_back csrs Sip v = software_replaced csrs.sip.software csrs.sip.timer csrs.sip.external v
 interrupts_back csrs Vsie v =
@@ -148,18 +148,18 @@ unfolding masked
 one_at_1 true v = replaced 2 0 2 (bit_number 1 (bit 1 v)) v (omega arith) (omega (arith, under 2 2 v (omega arith), flag 1 v)) refl
 one_at_1 false v = replaced 2 0 0 (bit_number 1 (bit 1 v)) v (omega arith) (omega (arith, under 2 2 v (omega arith), flag 1 v)) refl
 
-bits_back : (csrs : Csrs) (r : BitRegister) (v : ℕ) → bit_shown (bit_written csrs r v) r ≡ merged (bit_mask r) (bit_shown csrs r) v
-unfolding bit_shown bit_written
-bits_back csrs Scounteren v = one_at_1 csrs.scounteren_tm v
-bits_back csrs Senvcfg v = one_at_0 csrs.senvcfg_fiom v
-bits_back csrs Hcounteren v = one_at_1 csrs.hcounteren_tm v
-bits_back csrs Henvcfg v = one_at_0 csrs.henvcfg_fiom v
+enables_back : (csrs : Csrs) (r : EnableCsr) (v : ℕ) → enable_shown (enable_written csrs r v) r ≡ merged (enable_mask r) (enable_shown csrs r) v
+unfolding enable_shown enable_written
+enables_back csrs Scounteren v = one_at_1 csrs.scounteren_tm v
+enables_back csrs Senvcfg v = one_at_0 csrs.senvcfg_fiom v
+enables_back csrs Hcounteren v = one_at_1 csrs.hcounteren_tm v
+enables_back csrs Henvcfg v = one_at_0 csrs.henvcfg_fiom v
 
-hypervisor_back : (csrs : Csrs) (r : HypervisorRegister) (v : ℕ) → v < 2 ^ 64
+hypervisor_back : (csrs : Csrs) (r : HypervisorCsr) (v : ℕ) → v < 2 ^ 64
     → IfSome (hypervisor_mask r) (λ mask. hypervisor_shown (hypervisor_written csrs r v) r ≡ merged mask (hypervisor_shown csrs r) v)
 unfolding hypervisor_shown hypervisor_written
 hypervisor_back csrs Hstatus v h =
-    replaced 0x7003C0 (2 * 2 ^ 32) (hstatus_number csrs.hstatus) (hstatus_number (hstatus_of v)) v (omega arith) (hstatus_taken v)
+    replaced 0x7003C0 (2 * 2 ^ 32) (hstatus_bits csrs.hstatus) (hstatus_bits (hstatus_of v)) v (omega arith) (hstatus_taken v)
     (hstatus_kept csrs.hstatus)
 hypervisor_back csrs Hedeleg v h = hedeleg_replaced csrs.hedeleg v
 hypervisor_back csrs Htimedelta v h = all_replaced csrs.htimedelta v h
@@ -171,20 +171,20 @@ hypervisor_back csrs Hgatp v h = tt
 
 pub reads_back : ReadsBack
 unfolding shown written
-reads_back csrs (Supervisor r) v h = bank_back csrs.hs r v h
-reads_back csrs (VirtualSupervisor r) v h = bank_back csrs.vs r v h
+reads_back csrs (Supervisor r) v h = supervisor_back csrs.hs r v h
+reads_back csrs (VirtualSupervisor r) v h = supervisor_back csrs.vs r v h
 reads_back csrs (Interrupt r) v h = interrupts_back csrs r v
-reads_back csrs (Bit r) v h = bits_back csrs r v
+reads_back csrs (Enable r) v h = enables_back csrs r v
 reads_back csrs (Hypervisor r) v h = hypervisor_back csrs r v h
 reads_back csrs Time v h = tt
 reads_back csrs GuestTime v h = tt
 
 pub satp_back : SatpReadsBack
-unfolding shown written bank_shown bank_written
+unfolding shown written supervisor_shown supervisor_written
 satp_back csrs v h = root_shown csrs.hs.atp v h
 
 pub vsatp_back : VsatpReadsBack
-unfolding shown written bank_shown bank_written
+unfolding shown written supervisor_shown supervisor_written
 vsatp_back csrs v h = root_shown csrs.vs.atp v h
 
 pub hgatp_back : HgatpReadsBack

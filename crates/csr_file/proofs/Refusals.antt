@@ -7,7 +7,7 @@ use Rattle.arch_defs.specs.declared.csr_names.CsrEnd.TheVariants.{Illegal, Virtu
 use Rattle.arch_defs.specs.declared.registers.Csrs.{Csrs}
 use Rattle.arch_defs.specs.declared.csr_names.Register.{Register}
 use Rattle.arch_defs.specs.CsrNames.{register_of}
-use Rattle.arch_defs.specs.Access.{named, named_to_write, reached_by, reached, reached_in_vs, reached_in_vu, read, write, value_of, changed_by}
+use Rattle.arch_defs.specs.CsrAccess.{named, named_to_write, reached_by, reached, reached_in_vs, reached_in_vu, read_csr, write_csr, value_of, written_by}
 use Rattle.csr_file.specs.Laws.{is_illegal, IllegalAsInHs}
 
 none_in_vs : (csrs : Csrs) (q : Register) → is_illegal (reached_in_vs csrs q) ≡ false
@@ -34,7 +34,7 @@ by_value csrs (Ok r) = refl
 by_value csrs (Err Illegal) = refl
 by_value csrs (Err Virtual) = refl
 
-by_change : (csrs : Csrs) (x : Result Register CsrEnd) (v : ℕ) → is_illegal (changed_by csrs x v) ≡ is_illegal x
+by_change : (csrs : Csrs) (x : Result Register CsrEnd) (v : ℕ) → is_illegal (written_by csrs x v) ≡ is_illegal x
 by_change csrs (Ok r) v = refl
 by_change csrs (Err Illegal) v = refl
 by_change csrs (Err Virtual) v = refl
@@ -42,7 +42,7 @@ by_change csrs (Err Virtual) v = refl
 reads_alike : (csrs : Csrs) (x y : Result Register CsrEnd) → is_illegal x ≡ is_illegal y → is_illegal (value_of csrs x) ≡ is_illegal (value_of csrs y)
 reads_alike csrs x y e = rw (by_value csrs x, by_value csrs y) e
 
-writes_alike : (csrs : Csrs) (x y : Result Register CsrEnd) (v : ℕ) → is_illegal x ≡ is_illegal y → is_illegal (changed_by csrs x v) ≡ is_illegal (changed_by csrs y v)
+writes_alike : (csrs : Csrs) (x y : Result Register CsrEnd) (v : ℕ) → is_illegal x ≡ is_illegal y → is_illegal (written_by csrs x v) ≡ is_illegal (written_by csrs y v)
 writes_alike csrs x y v e = rw (by_change csrs x v, by_change csrs y v) e
 
 to_write_in_vs : (csrs : Csrs) (number : ℕ) → is_illegal (named_to_write csrs VS number) ≡ is_illegal (named_to_write csrs HS number)
@@ -54,7 +54,7 @@ unfolding named_to_write
 to_write_in_vu csrs number = grind (arith, alike_in_vu csrs (register_of number))
 
 pub illegal_as_in_hs : IllegalAsInHs
-unfolding read write
+unfolding read_csr write_csr
 illegal_as_in_hs csrs number v = (
   reads_alike csrs (named csrs VS number) (named csrs HS number) (alike_in_vs csrs (register_of number)),
   reads_alike csrs (named csrs VU number) (named csrs HS number) (alike_in_vu csrs (register_of number)),

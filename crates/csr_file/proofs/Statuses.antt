@@ -6,49 +6,49 @@ use Rattle.std.proofs.lemmas.Nat.{and-not, and_comm, and_mask}
 use Rattle.arch_defs.specs.declared.registers.SupervisorStatus.{SupervisorStatus}
 use Rattle.arch_defs.specs.declared.registers.HypervisorStatus.{HypervisorStatus}
 use Rattle.arch_defs.specs.declared.registers.Interrupts.{Interrupts}
-use Rattle.arch_defs.specs.CsrBits.{status_number, status_of, hstatus_number, hstatus_of, supervisor_number, supervisor_interrupts, virtual_number, virtual_interrupts, tvec_bits, epc_bits, hedeleg_bits}
+use Rattle.arch_defs.specs.CsrBits.{sstatus_bits, sstatus_of, hstatus_bits, hstatus_of, sip_bits, supervisor_interrupts, hip_bits, virtual_interrupts, tvec_bits, epc_bits, hedeleg_bits}
 use Rattle.csr_file.proofs.Masks.{masked, under, flag}
 
-pub status_taken : (v : ℕ) → bit_and v 0xC0122 + 2 * 2 ^ 32 ≡ status_number (status_of v)
-unfolding status_number status_of masked
+pub status_taken : (v : ℕ) → bit_and v 0xC0122 + 2 * 2 ^ 32 ≡ sstatus_bits (sstatus_of v)
+unfolding sstatus_bits sstatus_of masked
 status_taken v = omega (arith, under 20 0xC0122 v (omega arith), flag 1 v, flag 5 v, flag 8 v, flag 18 v, flag 19 v)
 
-pub status_kept : (s : SupervisorStatus) → bit_and (status_number s) 0xC0122 + 2 * 2 ^ 32 ≡ status_number s
-unfolding status_number
+pub status_kept : (s : SupervisorStatus) → bit_and (sstatus_bits s) 0xC0122 + 2 * 2 ^ 32 ≡ sstatus_bits s
+unfolding sstatus_bits
 status_kept s = grind arith
 
-pub hstatus_taken : (v : ℕ) → bit_and v 0x7003C0 + 2 * 2 ^ 32 ≡ hstatus_number (hstatus_of v)
-unfolding hstatus_number hstatus_of masked
+pub hstatus_taken : (v : ℕ) → bit_and v 0x7003C0 + 2 * 2 ^ 32 ≡ hstatus_bits (hstatus_of v)
+unfolding hstatus_bits hstatus_of masked
 hstatus_taken v =
     omega (arith, under 23 0x7003C0 v (omega arith), flag 6 v, flag 7 v, flag 8 v, flag 9 v, flag 20 v, flag 21 v, flag 22 v)
 
 hstatus_flags : (gva spv spvp hu vtvm vtw vtsr : Bool)
-    → bit_and (hstatus_number (record { gva = gva; spv = spv; spvp = spvp; hu = hu; vtvm = vtvm; vtw = vtw; vtsr = vtsr })) 0x7003C0 + 2 * 2 ^ 32
-    ≡ hstatus_number (record { gva = gva; spv = spv; spvp = spvp; hu = hu; vtvm = vtvm; vtw = vtw; vtsr = vtsr })
-unfolding hstatus_number
+    → bit_and (hstatus_bits (record { gva = gva; spv = spv; spvp = spvp; hu = hu; vtvm = vtvm; vtw = vtw; vtsr = vtsr })) 0x7003C0 + 2 * 2 ^ 32
+    ≡ hstatus_bits (record { gva = gva; spv = spv; spvp = spvp; hu = hu; vtvm = vtvm; vtw = vtw; vtsr = vtsr })
+unfolding hstatus_bits
 hstatus_flags true true spvp hu vtvm vtw vtsr = grind arith
 hstatus_flags true false spvp hu vtvm vtw vtsr = grind arith
 hstatus_flags false true spvp hu vtvm vtw vtsr = grind arith
 hstatus_flags false false spvp hu vtvm vtw vtsr = grind arith
 
-pub hstatus_kept : (s : HypervisorStatus) → bit_and (hstatus_number s) 0x7003C0 + 2 * 2 ^ 32 ≡ hstatus_number s
-unfolding hstatus_number
+pub hstatus_kept : (s : HypervisorStatus) → bit_and (hstatus_bits s) 0x7003C0 + 2 * 2 ^ 32 ≡ hstatus_bits s
+unfolding hstatus_bits
 hstatus_kept s = hstatus_flags s.gva s.spv s.spvp s.hu s.vtvm s.vtw s.vtsr
 
-pub supervisor_taken : (v : ℕ) → bit_and v 0x222 ≡ supervisor_number (supervisor_interrupts v)
-unfolding supervisor_number supervisor_interrupts masked
+pub supervisor_taken : (v : ℕ) → bit_and v 0x222 ≡ sip_bits (supervisor_interrupts v)
+unfolding sip_bits supervisor_interrupts masked
 supervisor_taken v = omega (arith, under 10 0x222 v (omega arith), flag 1 v, flag 5 v, flag 9 v)
 
-pub supervisor_kept : (s : Interrupts) → bit_and (supervisor_number s) 0x222 ≡ supervisor_number s
-unfolding supervisor_number
+pub supervisor_kept : (s : Interrupts) → bit_and (sip_bits s) 0x222 ≡ sip_bits s
+unfolding sip_bits
 supervisor_kept s = grind arith
 
-pub virtual_taken : (v : ℕ) → bit_and v 0x444 ≡ virtual_number (virtual_interrupts v)
-unfolding virtual_number virtual_interrupts masked
+pub virtual_taken : (v : ℕ) → bit_and v 0x444 ≡ hip_bits (virtual_interrupts v)
+unfolding hip_bits virtual_interrupts masked
 virtual_taken v = omega (arith, under 11 0x444 v (omega arith), flag 2 v, flag 6 v, flag 10 v)
 
-pub virtual_kept : (s : Interrupts) → bit_and (virtual_number s) 0x444 ≡ virtual_number s
-unfolding virtual_number
+pub virtual_kept : (s : Interrupts) → bit_and (hip_bits s) 0x444 ≡ hip_bits s
+unfolding hip_bits
 virtual_kept s = grind arith
 
 -- a value without bit 1, and without bits 1:0

@@ -4,21 +4,21 @@ use Rattle.std.specs.Prelude.{ℕ, ◌≡◌, ◌≢◌, Bool, true, false, Resu
 use Rattle.arch_defs.specs.declared.modes.Mode.{Mode}
 use Rattle.arch_defs.specs.declared.modes.Mode.TheVariants.{HS, VS, VU}
 use Rattle.arch_defs.specs.declared.registers.Csrs.{Csrs}
-use Rattle.arch_defs.specs.declared.csr_names.BankRegister.{BankRegister}
-use Rattle.arch_defs.specs.declared.csr_names.BankRegister.TheVariants.{Status, Tvec, Scratch, Epc, Cause, Tval, Atp}
-use Rattle.arch_defs.specs.declared.csr_names.InterruptRegister.{InterruptRegister}
-use Rattle.arch_defs.specs.declared.csr_names.InterruptRegister.TheVariants.{Sie, Sip, Vsie, Vsip, Hideleg, Hie, Hip, Hvip}
-use Rattle.arch_defs.specs.declared.csr_names.BitRegister.{BitRegister}
-use Rattle.arch_defs.specs.declared.csr_names.BitRegister.TheVariants.{Scounteren, Senvcfg, Hcounteren, Henvcfg}
-use Rattle.arch_defs.specs.declared.csr_names.HypervisorRegister.{HypervisorRegister}
-use Rattle.arch_defs.specs.declared.csr_names.HypervisorRegister.TheVariants.{Hstatus, Hedeleg, Htimedelta, Hgeie, Hgeip, Htval, Htinst, Hgatp}
+use Rattle.arch_defs.specs.declared.csr_names.SupervisorCsr.{SupervisorCsr}
+use Rattle.arch_defs.specs.declared.csr_names.SupervisorCsr.TheVariants.{Status, Tvec, Scratch, Epc, Cause, Tval, Atp}
+use Rattle.arch_defs.specs.declared.csr_names.InterruptCsr.{InterruptCsr}
+use Rattle.arch_defs.specs.declared.csr_names.InterruptCsr.TheVariants.{Sie, Sip, Vsie, Vsip, Hideleg, Hie, Hip, Hvip}
+use Rattle.arch_defs.specs.declared.csr_names.EnableCsr.{EnableCsr}
+use Rattle.arch_defs.specs.declared.csr_names.EnableCsr.TheVariants.{Scounteren, Senvcfg, Hcounteren, Henvcfg}
+use Rattle.arch_defs.specs.declared.csr_names.HypervisorCsr.{HypervisorCsr}
+use Rattle.arch_defs.specs.declared.csr_names.HypervisorCsr.TheVariants.{Hstatus, Hedeleg, Htimedelta, Hgeie, Hgeip, Htval, Htinst, Hgatp}
 use Rattle.arch_defs.specs.declared.csr_names.Register.{Register}
-use Rattle.arch_defs.specs.declared.csr_names.Register.TheVariants.{Supervisor, VirtualSupervisor, Interrupt, Bit, Hypervisor, Time, GuestTime}
+use Rattle.arch_defs.specs.declared.csr_names.Register.TheVariants.{Supervisor, VirtualSupervisor, Interrupt, Enable, Hypervisor, Time, GuestTime}
 use Rattle.arch_defs.specs.declared.csr_names.CsrEnd.{CsrEnd}
 use Rattle.arch_defs.specs.declared.csr_names.CsrEnd.TheVariants.{Illegal}
 use Rattle.arch_defs.specs.Bits.{field}
-use Rattle.arch_defs.specs.CsrBits.{bit_number, supervisor_number}
-use Rattle.arch_defs.specs.Access.{named_to_write, shown, written, read, write}
+use Rattle.arch_defs.specs.CsrBits.{bit_number, sip_bits}
+use Rattle.arch_defs.specs.CsrAccess.{named_to_write, shown, written, read_csr, write_csr}
 
 -- a number in which the bits of a mask are those of another
 abbrev pub merged : ℕ → ℕ → ℕ → ℕ
@@ -27,34 +27,34 @@ merged mask before v = bit_and before (2 ^ 64 - 1 - mask) + bit_and v mask
 abbrev pub all_bits : ℕ
 all_bits = 2 ^ 64 - 1
 
--- the writable bits of a register of a bank; a root has choices of its own
-abbrev pub bank_mask : BankRegister → Option ℕ
-bank_mask Status = Some 0xC0122
-bank_mask Tvec = Some 0xFFFFFFFFFFFFFFFD
-bank_mask Scratch = Some all_bits
-bank_mask Epc = Some 0xFFFFFFFFFFFFFFFC
-bank_mask Cause = Some all_bits
-bank_mask Tval = Some all_bits
-bank_mask Atp = None
+-- the writable bits of a supervisor register; a root has choices of its own
+abbrev pub supervisor_mask : SupervisorCsr → Option ℕ
+supervisor_mask Status = Some 0xC0122
+supervisor_mask Tvec = Some 0xFFFFFFFFFFFFFFFD
+supervisor_mask Scratch = Some all_bits
+supervisor_mask Epc = Some 0xFFFFFFFFFFFFFFFC
+supervisor_mask Cause = Some all_bits
+supervisor_mask Tval = Some all_bits
+supervisor_mask Atp = None
 
 -- of a register of interrupts; vsie and vsip by what hideleg delegates
-abbrev pub interrupts_mask : Csrs → InterruptRegister → ℕ
+abbrev pub interrupts_mask : Csrs → InterruptCsr → ℕ
 interrupts_mask csrs Sie = 0x222
 interrupts_mask csrs Sip = 0x2
-interrupts_mask csrs Vsie = supervisor_number csrs.hideleg
+interrupts_mask csrs Vsie = sip_bits csrs.hideleg
 interrupts_mask csrs Vsip = bit_number 1 csrs.hideleg.software
 interrupts_mask csrs Hideleg = 0x444
 interrupts_mask csrs Hie = 0x444
 interrupts_mask csrs Hip = 0x4
 interrupts_mask csrs Hvip = 0x444
 
-abbrev pub bit_mask : BitRegister → ℕ
-bit_mask Scounteren = 2
-bit_mask Senvcfg = 1
-bit_mask Hcounteren = 2
-bit_mask Henvcfg = 1
+abbrev pub enable_mask : EnableCsr → ℕ
+enable_mask Scounteren = 2
+enable_mask Senvcfg = 1
+enable_mask Hcounteren = 2
+enable_mask Henvcfg = 1
 
-abbrev pub hypervisor_mask : HypervisorRegister → Option ℕ
+abbrev pub hypervisor_mask : HypervisorCsr → Option ℕ
 hypervisor_mask Hstatus = Some 0x7003C0
 hypervisor_mask Hedeleg = Some 0xB1FF
 hypervisor_mask Htimedelta = Some all_bits
@@ -66,10 +66,10 @@ hypervisor_mask Hgatp = None
 
 -- the writable bits of a register, but for the three roots; time is not written
 abbrev pub mask_of : Csrs → Register → Option ℕ
-mask_of csrs (Supervisor r) = bank_mask r
-mask_of csrs (VirtualSupervisor r) = bank_mask r
+mask_of csrs (Supervisor r) = supervisor_mask r
+mask_of csrs (VirtualSupervisor r) = supervisor_mask r
 mask_of csrs (Interrupt r) = Some (interrupts_mask csrs r)
-mask_of csrs (Bit r) = Some (bit_mask r)
+mask_of csrs (Enable r) = Some (enable_mask r)
 mask_of csrs (Hypervisor r) = hypervisor_mask r
 mask_of csrs Time = None
 mask_of csrs GuestTime = None
@@ -104,8 +104,8 @@ HgatpReadsBack = (csrs : Csrs) (v : ℕ)
 abbrev pub ReadsWhatWasWritten : Type 0
 ReadsWhatWasWritten = (csrs : Csrs) (mode : Mode) (number v : ℕ) (r : Register)
     → named_to_write csrs mode number ≡ Ok r
-    → (write csrs mode number v ≡ Ok (written csrs r v))
-    × (read (written csrs r v) mode number ≡ Ok (shown (written csrs r v) r))
+    → (write_csr csrs mode number v ≡ Ok (written csrs r v))
+    × (read_csr (written csrs r v) mode number ≡ Ok (shown (written csrs r v) r))
 
 -- the other registers that show some of what a write of a register changes
 abbrev pub is_alias : Register → Register → Bool
@@ -135,7 +135,7 @@ is_illegal answer = false
 -- instruction (8.6.1)
 abbrev pub IllegalAsInHs : Type 0
 IllegalAsInHs = (csrs : Csrs) (number v : ℕ)
-    → (is_illegal (read csrs VS number) ≡ is_illegal (read csrs HS number))
-    × (is_illegal (read csrs VU number) ≡ is_illegal (read csrs HS number))
-    × (is_illegal (write csrs VS number v) ≡ is_illegal (write csrs HS number v))
-    × (is_illegal (write csrs VU number v) ≡ is_illegal (write csrs HS number v))
+    → (is_illegal (read_csr csrs VS number) ≡ is_illegal (read_csr csrs HS number))
+    × (is_illegal (read_csr csrs VU number) ≡ is_illegal (read_csr csrs HS number))
+    × (is_illegal (write_csr csrs VS number v) ≡ is_illegal (write_csr csrs HS number v))
+    × (is_illegal (write_csr csrs VU number v) ≡ is_illegal (write_csr csrs HS number v))

@@ -2,15 +2,15 @@
 
 ghost use Rattle.std.specs.Prelude.{◌≡◌};
 ghost use Rattle.arch_defs.specs.Bits.{bit};
-ghost use Rattle.arch_defs.specs.CsrBits.{bit_number, hstatus_number, hstatus_of, hedeleg_bits, guest_root_number, guest_root_of};
-ghost use Rattle.arch_defs.specs.Access.{bit_shown, bit_written, hypervisor_shown, hypervisor_written};
+ghost use Rattle.arch_defs.specs.CsrBits.{bit_number, hstatus_bits, hstatus_of, hedeleg_bits, hgatp_bits, guest_root_of};
+ghost use Rattle.arch_defs.specs.CsrAccess.{enable_shown, enable_written, hypervisor_shown, hypervisor_written};
 
-use crate::banks::WIDTH_64;
-use arch_defs::{BitRegister, Csrs, GuestMode, GuestRoot, HypervisorRegister, HypervisorStatus};
+use crate::supervisors::WIDTH_64;
+use arch_defs::{Csrs, EnableCsr, GuestMode, GuestRoot, HypervisorCsr, HypervisorStatus};
 
-#[tactic(auto, unfolding(arch_defs::specs::CsrBits::hstatus_number))]
-fn hstatus_number(status: HypervisorStatus) -> u64
-    ensures { result ≡ hstatus_number status }
+#[tactic(auto, unfolding(arch_defs::specs::CsrBits::hstatus_bits))]
+fn hstatus_bits(status: HypervisorStatus) -> u64
+    ensures { result ≡ hstatus_bits status }
 {
     status.gva as u64 * 0x40
         + status.spv as u64 * 0x80
@@ -45,9 +45,9 @@ pub fn hedeleg_bits(value: u64) -> u64
     (value & 0x1FF) + ((value >> 12) & 3) * 0x1000 + ((value >> 15) & 1) * 0x8000
 }
 
-#[tactic(auto, unfolding(arch_defs::specs::CsrBits::guest_root_number))]
-fn guest_root_number(root: GuestRoot) -> u64
-    ensures { result ≡ guest_root_number root }
+#[tactic(auto, unfolding(arch_defs::specs::CsrBits::hgatp_bits))]
+fn hgatp_bits(root: GuestRoot) -> u64
+    ensures { result ≡ hgatp_bits root }
 {
     match root {
         GuestRoot::Bare => 0,
@@ -75,59 +75,59 @@ fn guest_root_of(value: u64) -> GuestRoot
 }
 
 /// What a register of one bit shows: TM is bit 1, FIOM bit 0.
-#[tactic(auto, unfolding(arch_defs::specs::Access::bit_shown))]
-pub fn bit_shown(csrs: &Csrs, register: BitRegister) -> u64
-    ensures { result ≡ bit_shown csrs.now register }
+#[tactic(auto, unfolding(arch_defs::specs::CsrAccess::enable_shown))]
+pub fn enable_shown(csrs: &Csrs, register: EnableCsr) -> u64
+    ensures { result ≡ enable_shown csrs.now register }
 {
     match register {
-        BitRegister::Scounteren => csrs.scounteren_tm as u64 * 2,
-        BitRegister::Senvcfg => csrs.senvcfg_fiom as u64,
-        BitRegister::Hcounteren => csrs.hcounteren_tm as u64 * 2,
-        BitRegister::Henvcfg => csrs.henvcfg_fiom as u64,
+        EnableCsr::Scounteren => csrs.scounteren_tm as u64 * 2,
+        EnableCsr::Senvcfg => csrs.senvcfg_fiom as u64,
+        EnableCsr::Hcounteren => csrs.hcounteren_tm as u64 * 2,
+        EnableCsr::Henvcfg => csrs.henvcfg_fiom as u64,
     }
 }
 
 /// Writes a register of one bit.
-#[tactic(auto, unfolding(arch_defs::specs::Access::bit_written))]
-pub fn write_bit(csrs: &mut Csrs, register: BitRegister, value: u64)
-    ensures { csrs.new ≡ bit_written csrs.old register value }
+#[tactic(auto, unfolding(arch_defs::specs::CsrAccess::enable_written))]
+pub fn write_enable(csrs: &mut Csrs, register: EnableCsr, value: u64)
+    ensures { csrs.new ≡ enable_written csrs.old register value }
 {
     match register {
-        BitRegister::Scounteren => csrs.scounteren_tm = (value >> 1) & 1 == 1,
-        BitRegister::Senvcfg => csrs.senvcfg_fiom = value & 1 == 1,
-        BitRegister::Hcounteren => csrs.hcounteren_tm = (value >> 1) & 1 == 1,
-        BitRegister::Henvcfg => csrs.henvcfg_fiom = value & 1 == 1,
+        EnableCsr::Scounteren => csrs.scounteren_tm = (value >> 1) & 1 == 1,
+        EnableCsr::Senvcfg => csrs.senvcfg_fiom = value & 1 == 1,
+        EnableCsr::Hcounteren => csrs.hcounteren_tm = (value >> 1) & 1 == 1,
+        EnableCsr::Henvcfg => csrs.henvcfg_fiom = value & 1 == 1,
     }
 }
 
 /// What one of the other registers of the hypervisor extension shows.
-#[tactic(auto, unfolding(arch_defs::specs::Access::hypervisor_shown))]
-pub fn hypervisor_shown(csrs: &Csrs, register: HypervisorRegister) -> u64
+#[tactic(auto, unfolding(arch_defs::specs::CsrAccess::hypervisor_shown))]
+pub fn hypervisor_shown(csrs: &Csrs, register: HypervisorCsr) -> u64
     ensures { result ≡ hypervisor_shown csrs.now register }
 {
     match register {
-        HypervisorRegister::Hstatus => hstatus_number(csrs.hstatus),
-        HypervisorRegister::Hedeleg => hedeleg_bits(csrs.hedeleg),
-        HypervisorRegister::Htimedelta => csrs.htimedelta,
-        HypervisorRegister::Hgeie | HypervisorRegister::Hgeip => 0,
-        HypervisorRegister::Htval => csrs.htval,
-        HypervisorRegister::Htinst => csrs.htinst,
-        HypervisorRegister::Hgatp => guest_root_number(csrs.hgatp),
+        HypervisorCsr::Hstatus => hstatus_bits(csrs.hstatus),
+        HypervisorCsr::Hedeleg => hedeleg_bits(csrs.hedeleg),
+        HypervisorCsr::Htimedelta => csrs.htimedelta,
+        HypervisorCsr::Hgeie | HypervisorCsr::Hgeip => 0,
+        HypervisorCsr::Htval => csrs.htval,
+        HypervisorCsr::Htinst => csrs.htinst,
+        HypervisorCsr::Hgatp => hgatp_bits(csrs.hgatp),
     }
 }
 
 /// Writes one of them.
-#[tactic(auto, unfolding(arch_defs::specs::Access::hypervisor_written))]
-pub fn write_hypervisor(csrs: &mut Csrs, register: HypervisorRegister, value: u64)
+#[tactic(auto, unfolding(arch_defs::specs::CsrAccess::hypervisor_written))]
+pub fn write_hypervisor(csrs: &mut Csrs, register: HypervisorCsr, value: u64)
     ensures { csrs.new ≡ hypervisor_written csrs.old register value }
 {
     match register {
-        HypervisorRegister::Hstatus => csrs.hstatus = hstatus_of(value),
-        HypervisorRegister::Hedeleg => csrs.hedeleg = hedeleg_bits(value),
-        HypervisorRegister::Htimedelta => csrs.htimedelta = value,
-        HypervisorRegister::Hgeie | HypervisorRegister::Hgeip => {}
-        HypervisorRegister::Htval => csrs.htval = value,
-        HypervisorRegister::Htinst => csrs.htinst = value,
-        HypervisorRegister::Hgatp => csrs.hgatp = guest_root_of(value),
+        HypervisorCsr::Hstatus => csrs.hstatus = hstatus_of(value),
+        HypervisorCsr::Hedeleg => csrs.hedeleg = hedeleg_bits(value),
+        HypervisorCsr::Htimedelta => csrs.htimedelta = value,
+        HypervisorCsr::Hgeie | HypervisorCsr::Hgeip => {}
+        HypervisorCsr::Htval => csrs.htval = value,
+        HypervisorCsr::Htinst => csrs.htinst = value,
+        HypervisorCsr::Hgatp => csrs.hgatp = guest_root_of(value),
     }
 }

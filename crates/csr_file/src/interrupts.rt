@@ -2,15 +2,15 @@
 
 ghost use Rattle.std.specs.Prelude.{◌≡◌, if◌then◌else◌};
 ghost use Rattle.arch_defs.specs.Bits.{bit};
-ghost use Rattle.arch_defs.specs.CsrBits.{bit_number, supervisor_number, supervisor_interrupts, virtual_number, virtual_interrupts, delegated, delegated_become};
-ghost use Rattle.arch_defs.specs.Access.{interrupts_shown, interrupts_written};
+ghost use Rattle.arch_defs.specs.CsrBits.{bit_number, sip_bits, supervisor_interrupts, hip_bits, virtual_interrupts, delegated, delegated_become};
+ghost use Rattle.arch_defs.specs.CsrAccess.{interrupts_shown, interrupts_written};
 
-use arch_defs::{Csrs, InterruptRegister, Interrupts};
+use arch_defs::{Csrs, InterruptCsr, Interrupts};
 
 /// In the places of sie, sip, vsie and vsip.
-#[tactic(auto, unfolding(arch_defs::specs::CsrBits::supervisor_number))]
-fn supervisor_number(set: Interrupts) -> u64
-    ensures { result ≡ supervisor_number set }
+#[tactic(auto, unfolding(arch_defs::specs::CsrBits::sip_bits))]
+fn sip_bits(set: Interrupts) -> u64
+    ensures { result ≡ sip_bits set }
 {
     set.software as u64 * 0x2 + set.timer as u64 * 0x20 + set.external as u64 * 0x200
 }
@@ -27,9 +27,9 @@ fn supervisor_interrupts(value: u64) -> Interrupts
 }
 
 /// In the places of hideleg, hie, hip and hvip, one bit higher.
-#[tactic(auto, unfolding(arch_defs::specs::CsrBits::virtual_number))]
-fn virtual_number(set: Interrupts) -> u64
-    ensures { result ≡ virtual_number set }
+#[tactic(auto, unfolding(arch_defs::specs::CsrBits::hip_bits))]
+fn hip_bits(set: Interrupts) -> u64
+    ensures { result ≡ hip_bits set }
 {
     set.software as u64 * 0x4 + set.timer as u64 * 0x40 + set.external as u64 * 0x400
 }
@@ -76,39 +76,39 @@ fn delegated_become(hideleg: Interrupts, before: Interrupts, after: Interrupts) 
 }
 
 /// What a register of interrupts shows.
-#[tactic(auto, unfolding(arch_defs::specs::Access::interrupts_shown))]
-pub fn interrupts_shown(csrs: &Csrs, register: InterruptRegister) -> u64
+#[tactic(auto, unfolding(arch_defs::specs::CsrAccess::interrupts_shown))]
+pub fn interrupts_shown(csrs: &Csrs, register: InterruptCsr) -> u64
     ensures { result ≡ interrupts_shown csrs.now register }
 {
     match register {
-        InterruptRegister::Sie => supervisor_number(csrs.sie),
-        InterruptRegister::Sip => supervisor_number(csrs.sip),
-        InterruptRegister::Vsie => supervisor_number(delegated(csrs.hideleg, csrs.hie)),
-        InterruptRegister::Vsip => supervisor_number(delegated(csrs.hideleg, csrs.hvip)),
-        InterruptRegister::Hideleg => virtual_number(csrs.hideleg),
-        InterruptRegister::Hie => virtual_number(csrs.hie),
-        InterruptRegister::Hip | InterruptRegister::Hvip => virtual_number(csrs.hvip),
+        InterruptCsr::Sie => sip_bits(csrs.sie),
+        InterruptCsr::Sip => sip_bits(csrs.sip),
+        InterruptCsr::Vsie => sip_bits(delegated(csrs.hideleg, csrs.hie)),
+        InterruptCsr::Vsip => sip_bits(delegated(csrs.hideleg, csrs.hvip)),
+        InterruptCsr::Hideleg => hip_bits(csrs.hideleg),
+        InterruptCsr::Hie => hip_bits(csrs.hie),
+        InterruptCsr::Hip | InterruptCsr::Hvip => hip_bits(csrs.hvip),
     }
 }
 
 /// Writes a register of interrupts.
-#[tactic(auto, unfolding(arch_defs::specs::Access::interrupts_written))]
-pub fn write_interrupts(csrs: &mut Csrs, register: InterruptRegister, value: u64)
+#[tactic(auto, unfolding(arch_defs::specs::CsrAccess::interrupts_written))]
+pub fn write_interrupts(csrs: &mut Csrs, register: InterruptCsr, value: u64)
     ensures { csrs.new ≡ interrupts_written csrs.old register value }
 {
     match register {
-        InterruptRegister::Sie => csrs.sie = supervisor_interrupts(value),
-        InterruptRegister::Sip => csrs.sip.software = (value >> 1) & 1 == 1,
-        InterruptRegister::Vsie => {
+        InterruptCsr::Sie => csrs.sie = supervisor_interrupts(value),
+        InterruptCsr::Sip => csrs.sip.software = (value >> 1) & 1 == 1,
+        InterruptCsr::Vsie => {
             csrs.hie = delegated_become(csrs.hideleg, csrs.hie, supervisor_interrupts(value));
         }
-        InterruptRegister::Vsip => {
+        InterruptCsr::Vsip => {
             let after = (value >> 1) & 1 == 1;
             csrs.hvip.software = chosen(csrs.hideleg.software, csrs.hvip.software, after);
         }
-        InterruptRegister::Hideleg => csrs.hideleg = virtual_interrupts(value),
-        InterruptRegister::Hie => csrs.hie = virtual_interrupts(value),
-        InterruptRegister::Hip => csrs.hvip.software = (value >> 2) & 1 == 1,
-        InterruptRegister::Hvip => csrs.hvip = virtual_interrupts(value),
+        InterruptCsr::Hideleg => csrs.hideleg = virtual_interrupts(value),
+        InterruptCsr::Hie => csrs.hie = virtual_interrupts(value),
+        InterruptCsr::Hip => csrs.hvip.software = (value >> 2) & 1 == 1,
+        InterruptCsr::Hvip => csrs.hvip = virtual_interrupts(value),
     }
 }

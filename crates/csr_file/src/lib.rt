@@ -2,12 +2,12 @@
 #![tactic(auto)]
 
 mod access;
-mod banks;
 mod hypervisors;
 mod interrupts;
 mod laws;
 mod names;
 mod reach;
+mod supervisors;
 
 pub use access::{read, write};
 pub use arch_defs::CsrEnd;

@@ -3,24 +3,24 @@
 ghost use Rattle.std.specs.Prelude.{◌≡◌};
 ghost use Rattle.arch_defs.specs.CsrNames.{supervisor_register, virtual_supervisor_register, hypervisor_register, read_only_register, register_of};
 
-use arch_defs::{BankRegister, BitRegister, HypervisorRegister, InterruptRegister, Register};
+use arch_defs::{EnableCsr, HypervisorCsr, InterruptCsr, Register, SupervisorCsr};
 
 #[tactic(auto, unfolding(arch_defs::specs::CsrNames::supervisor_register))]
 fn supervisor_register(number: u16) -> Option<Register>
     ensures { result ≡ supervisor_register number }
 {
     match number {
-        0x100 => Some(Register::Supervisor(BankRegister::Status)),
-        0x104 => Some(Register::Interrupt(InterruptRegister::Sie)),
-        0x105 => Some(Register::Supervisor(BankRegister::Tvec)),
-        0x106 => Some(Register::Bit(BitRegister::Scounteren)),
-        0x10A => Some(Register::Bit(BitRegister::Senvcfg)),
-        0x140 => Some(Register::Supervisor(BankRegister::Scratch)),
-        0x141 => Some(Register::Supervisor(BankRegister::Epc)),
-        0x142 => Some(Register::Supervisor(BankRegister::Cause)),
-        0x143 => Some(Register::Supervisor(BankRegister::Tval)),
-        0x144 => Some(Register::Interrupt(InterruptRegister::Sip)),
-        0x180 => Some(Register::Supervisor(BankRegister::Atp)),
+        0x100 => Some(Register::Supervisor(SupervisorCsr::Status)),
+        0x104 => Some(Register::Interrupt(InterruptCsr::Sie)),
+        0x105 => Some(Register::Supervisor(SupervisorCsr::Tvec)),
+        0x106 => Some(Register::Enable(EnableCsr::Scounteren)),
+        0x10A => Some(Register::Enable(EnableCsr::Senvcfg)),
+        0x140 => Some(Register::Supervisor(SupervisorCsr::Scratch)),
+        0x141 => Some(Register::Supervisor(SupervisorCsr::Epc)),
+        0x142 => Some(Register::Supervisor(SupervisorCsr::Cause)),
+        0x143 => Some(Register::Supervisor(SupervisorCsr::Tval)),
+        0x144 => Some(Register::Interrupt(InterruptCsr::Sip)),
+        0x180 => Some(Register::Supervisor(SupervisorCsr::Atp)),
         _ => None,
     }
 }
@@ -30,15 +30,15 @@ fn virtual_supervisor_register(number: u16) -> Option<Register>
     ensures { result ≡ virtual_supervisor_register number }
 {
     match number {
-        0x200 => Some(Register::VirtualSupervisor(BankRegister::Status)),
-        0x204 => Some(Register::Interrupt(InterruptRegister::Vsie)),
-        0x205 => Some(Register::VirtualSupervisor(BankRegister::Tvec)),
-        0x240 => Some(Register::VirtualSupervisor(BankRegister::Scratch)),
-        0x241 => Some(Register::VirtualSupervisor(BankRegister::Epc)),
-        0x242 => Some(Register::VirtualSupervisor(BankRegister::Cause)),
-        0x243 => Some(Register::VirtualSupervisor(BankRegister::Tval)),
-        0x244 => Some(Register::Interrupt(InterruptRegister::Vsip)),
-        0x280 => Some(Register::VirtualSupervisor(BankRegister::Atp)),
+        0x200 => Some(Register::VirtualSupervisor(SupervisorCsr::Status)),
+        0x204 => Some(Register::Interrupt(InterruptCsr::Vsie)),
+        0x205 => Some(Register::VirtualSupervisor(SupervisorCsr::Tvec)),
+        0x240 => Some(Register::VirtualSupervisor(SupervisorCsr::Scratch)),
+        0x241 => Some(Register::VirtualSupervisor(SupervisorCsr::Epc)),
+        0x242 => Some(Register::VirtualSupervisor(SupervisorCsr::Cause)),
+        0x243 => Some(Register::VirtualSupervisor(SupervisorCsr::Tval)),
+        0x244 => Some(Register::Interrupt(InterruptCsr::Vsip)),
+        0x280 => Some(Register::VirtualSupervisor(SupervisorCsr::Atp)),
         _ => None,
     }
 }
@@ -48,19 +48,19 @@ fn hypervisor_register(number: u16) -> Option<Register>
     ensures { result ≡ hypervisor_register number }
 {
     match number {
-        0x600 => Some(Register::Hypervisor(HypervisorRegister::Hstatus)),
-        0x602 => Some(Register::Hypervisor(HypervisorRegister::Hedeleg)),
-        0x603 => Some(Register::Interrupt(InterruptRegister::Hideleg)),
-        0x604 => Some(Register::Interrupt(InterruptRegister::Hie)),
-        0x605 => Some(Register::Hypervisor(HypervisorRegister::Htimedelta)),
-        0x606 => Some(Register::Bit(BitRegister::Hcounteren)),
-        0x607 => Some(Register::Hypervisor(HypervisorRegister::Hgeie)),
-        0x60A => Some(Register::Bit(BitRegister::Henvcfg)),
-        0x643 => Some(Register::Hypervisor(HypervisorRegister::Htval)),
-        0x644 => Some(Register::Interrupt(InterruptRegister::Hip)),
-        0x645 => Some(Register::Interrupt(InterruptRegister::Hvip)),
-        0x64A => Some(Register::Hypervisor(HypervisorRegister::Htinst)),
-        0x680 => Some(Register::Hypervisor(HypervisorRegister::Hgatp)),
+        0x600 => Some(Register::Hypervisor(HypervisorCsr::Hstatus)),
+        0x602 => Some(Register::Hypervisor(HypervisorCsr::Hedeleg)),
+        0x603 => Some(Register::Interrupt(InterruptCsr::Hideleg)),
+        0x604 => Some(Register::Interrupt(InterruptCsr::Hie)),
+        0x605 => Some(Register::Hypervisor(HypervisorCsr::Htimedelta)),
+        0x606 => Some(Register::Enable(EnableCsr::Hcounteren)),
+        0x607 => Some(Register::Hypervisor(HypervisorCsr::Hgeie)),
+        0x60A => Some(Register::Enable(EnableCsr::Henvcfg)),
+        0x643 => Some(Register::Hypervisor(HypervisorCsr::Htval)),
+        0x644 => Some(Register::Interrupt(InterruptCsr::Hip)),
+        0x645 => Some(Register::Interrupt(InterruptCsr::Hvip)),
+        0x64A => Some(Register::Hypervisor(HypervisorCsr::Htinst)),
+        0x680 => Some(Register::Hypervisor(HypervisorCsr::Hgatp)),
         _ => None,
     }
 }
@@ -71,7 +71,7 @@ fn read_only_register(number: u16) -> Option<Register>
 {
     match number {
         0xC01 => Some(Register::Time),
-        0xE12 => Some(Register::Hypervisor(HypervisorRegister::Hgeip)),
+        0xE12 => Some(Register::Hypervisor(HypervisorCsr::Hgeip)),
         _ => None,
     }
 }

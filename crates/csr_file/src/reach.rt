@@ -1,12 +1,12 @@
 // What a mode reaches by a number: a register, or an exception.
 
 ghost use Rattle.std.specs.Prelude.{◌≡◌};
-ghost use Rattle.arch_defs.specs.Access.{reached_in_u, reached_in_vs, reached_in_vu, reached, reached_by, named, named_to_write};
+ghost use Rattle.arch_defs.specs.CsrAccess.{reached_in_u, reached_in_vs, reached_in_vu, reached, reached_by, named, named_to_write};
 
 use crate::names::register_of;
-use arch_defs::{BankRegister, BitRegister, CsrEnd, Csrs, InterruptRegister, Mode, Register};
+use arch_defs::{CsrEnd, Csrs, EnableCsr, InterruptCsr, Mode, Register, SupervisorCsr};
 
-#[tactic(auto, unfolding(arch_defs::specs::Access::reached_in_u))]
+#[tactic(auto, unfolding(arch_defs::specs::CsrAccess::reached_in_u))]
 fn reached_in_u(csrs: &Csrs, register: Register) -> Result<Register, CsrEnd>
     ensures { result ≡ reached_in_u csrs.now register }
 {
@@ -23,27 +23,23 @@ fn reached_in_u(csrs: &Csrs, register: Register) -> Result<Register, CsrEnd>
 }
 
 /// In VS a number of a supervisor register names the VS copy, where there is one.
-#[tactic(auto, unfolding(arch_defs::specs::Access::reached_in_vs))]
+#[tactic(auto, unfolding(arch_defs::specs::CsrAccess::reached_in_vs))]
 fn reached_in_vs(csrs: &Csrs, register: Register) -> Result<Register, CsrEnd>
     ensures { result ≡ reached_in_vs csrs.now register }
 {
     match register {
-        Register::Supervisor(BankRegister::Atp) => {
+        Register::Supervisor(SupervisorCsr::Atp) => {
             if csrs.hstatus.vtvm {
                 Err(CsrEnd::Virtual)
             } else {
-                Ok(Register::VirtualSupervisor(BankRegister::Atp))
+                Ok(Register::VirtualSupervisor(SupervisorCsr::Atp))
             }
         }
         Register::Supervisor(copied) => Ok(Register::VirtualSupervisor(copied)),
-        Register::Interrupt(InterruptRegister::Sie) => {
-            Ok(Register::Interrupt(InterruptRegister::Vsie))
-        }
-        Register::Interrupt(InterruptRegister::Sip) => {
-            Ok(Register::Interrupt(InterruptRegister::Vsip))
-        }
-        Register::Bit(BitRegister::Scounteren) => Ok(Register::Bit(BitRegister::Scounteren)),
-        Register::Bit(BitRegister::Senvcfg) => Ok(Register::Bit(BitRegister::Senvcfg)),
+        Register::Interrupt(InterruptCsr::Sie) => { Ok(Register::Interrupt(InterruptCsr::Vsie)) }
+        Register::Interrupt(InterruptCsr::Sip) => { Ok(Register::Interrupt(InterruptCsr::Vsip)) }
+        Register::Enable(EnableCsr::Scounteren) => Ok(Register::Enable(EnableCsr::Scounteren)),
+        Register::Enable(EnableCsr::Senvcfg) => Ok(Register::Enable(EnableCsr::Senvcfg)),
         Register::Time => {
             if csrs.hcounteren_tm {
                 Ok(Register::GuestTime)
@@ -55,7 +51,7 @@ fn reached_in_vs(csrs: &Csrs, register: Register) -> Result<Register, CsrEnd>
     }
 }
 
-#[tactic(auto, unfolding(arch_defs::specs::Access::reached_in_vu))]
+#[tactic(auto, unfolding(arch_defs::specs::CsrAccess::reached_in_vu))]
 fn reached_in_vu(csrs: &Csrs, register: Register) -> Result<Register, CsrEnd>
     ensures { result ≡ reached_in_vu csrs.now register }
 {
@@ -71,7 +67,7 @@ fn reached_in_vu(csrs: &Csrs, register: Register) -> Result<Register, CsrEnd>
     }
 }
 
-#[tactic(auto, unfolding(arch_defs::specs::Access::reached))]
+#[tactic(auto, unfolding(arch_defs::specs::CsrAccess::reached))]
 fn reached(csrs: &Csrs, mode: Mode, register: Register) -> Result<Register, CsrEnd>
     ensures { result ≡ reached csrs.now mode register }
 {
@@ -84,7 +80,7 @@ fn reached(csrs: &Csrs, mode: Mode, register: Register) -> Result<Register, CsrE
 }
 
 /// The register that a read of this number shows.
-#[tactic(auto, unfolding(arch_defs::specs::Access::reached_by))]
+#[tactic(auto, unfolding(arch_defs::specs::CsrAccess::reached_by))]
 pub fn named(csrs: &Csrs, mode: Mode, number: u16) -> Result<Register, CsrEnd>
     ensures { result ≡ named csrs.now mode number }
 {
@@ -95,7 +91,7 @@ pub fn named(csrs: &Csrs, mode: Mode, number: u16) -> Result<Register, CsrEnd>
 }
 
 /// The register that a write of this number changes. From 0xC00 on all are read-only.
-#[tactic(auto, unfolding(arch_defs::specs::Access::named_to_write))]
+#[tactic(auto, unfolding(arch_defs::specs::CsrAccess::named_to_write))]
 pub fn named_to_write(csrs: &Csrs, mode: Mode, number: u16) -> Result<Register, CsrEnd>
     ensures { result ≡ named_to_write csrs.now mode number }
 {

@@ -8,7 +8,7 @@ use Rattle.arch_defs.specs.declared.widths.Width.TheVariants.{Byte, Half, Word, 
 use Rattle.arch_defs.specs.Memory.{load, pasted}
 use Rattle.arch_defs.specs.Widths.{bytes_in}
 use Rattle.arch_defs.proofs.Pastes.{length_pasted}
-use Rattle.phys_mem.specs.Accesses.{bytes_with, is_inside, number_at}
+use Rattle.phys_mem.specs.MemoryBytes.{bytes_with, is_inside, number_at}
 use Rattle.two_stage_walk.specs.Places.{IsPlaceOf, IsWhole}
 use Rattle.data_access.specs.Places.{IsPlaceFor}
 

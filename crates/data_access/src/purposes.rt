@@ -12,7 +12,7 @@ use arch_defs::{Access, Reg, Virtual, Width, extend};
 use int_ops::amo;
 use op_defs::Purpose;
 use phys_mem::Mem;
-use system_ops::{pass, set};
+use privileged_ops::{pass, set};
 
 /// What access to data an instruction makes for a purpose: LR is a load; SC, whatever is reserved, and an
 /// atomic memory operation are stores (Unprivileged ISA 20191213, 8.2 and 8.4); HLVX needs X in place of R

@@ -2,17 +2,17 @@
 use Rattle.std.proofs.Common.{◌≡◌, ◌≢◌, ℕ, ◌/◌, ◌%◌, ◌^◌, ◌==◌, ◌⊎◌, inl, inr, true, false, Some, refl, ap, ◌∙◌, arith}
 use Rattle.std.proofs.lemmas.Bool.{cases_Bool, eqb-true}
 use Rattle.arch_defs.specs.Registers.{read}
-use Rattle.op_defs.specs.Meaning.{meaning, named_by}
+use Rattle.op_defs.specs.Meaning.{fence_operand, meaning}
 use Rattle.fence_handler.specs.Laws.{FenceNamesNoPage, FenceNamesNoVmid, FenceNamesPage, FenceNamesVmid, InstructionMakesFence}
 
 pub makes_fence : InstructionMakesFence
 unfolding meaning
 makes_fence rs1 rs2 regs = refl
 
-named : (register value : ℕ) → register ≢ 0 → named_by register value ≡ Some value
+named : (register value : ℕ) → register ≢ 0 → fence_operand register value ≡ Some value
 named register value some = by (cases_Bool (register == 0))
   where
-    by : ((register == 0) ≡ true) ⊎ ((register == 0) ≡ false) → named_by register value ≡ Some value
+    by : ((register == 0) ≡ true) ⊎ ((register == 0) ≡ false) → fence_operand register value ≡ Some value
     by (inl zero) = absurd (some (eqb-true register 0 zero))
     by (inr is) = rw is refl
 

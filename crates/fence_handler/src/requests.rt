@@ -1,7 +1,7 @@
 // What an HFENCE.GVMA names (Privileged Architecture 20211203, 8.3.2).
 
 ghost use Rattle.std.specs.Prelude.{◌≡◌};
-ghost use Rattle.op_defs.specs.Meaning.{fence_named, meaning, named_by};
+ghost use Rattle.op_defs.specs.Meaning.{fence_named, fence_operand, meaning};
 ghost use Rattle.fence_handler.specs.Requests.{IsHfenceGvma, fences};
 
 use arch_defs::{Fence, Reg, Regs};
@@ -24,14 +24,14 @@ fn fence_named(rs1: Reg, rs2: Reg, regs: &Regs) -> Fence
     ensures { result ≡ fence_named rs1 rs2 regs.now }
 {
     Fence {
-        vmid: named_by(rs2, regs.read(rs2) % 0x80),
-        page: named_by(rs1, regs.read(rs1) >> 10),
+        vmid: fence_operand(rs2, regs.read(rs2) % 0x80),
+        page: fence_operand(rs1, regs.read(rs1) >> 10),
     }
 }
 
 // What a register names: a value, if the register is not x0.
-fn named_by(register: Reg, value: u64) -> Option<u64>
-    ensures { result ≡ named_by register value }
+fn fence_operand(register: Reg, value: u64) -> Option<u64>
+    ensures { result ≡ fence_operand register value }
 {
     if register.number() == 0 {
         None

@@ -9,7 +9,7 @@ use Rattle.arch_defs.specs.Needs.{IsNeed, Meets}
 use Rattle.arch_defs.specs.Ram.{IsDistinct}
 use Rattle.arch_defs.proofs.FrameSets.{range_parts, ranges_apart, block_found}
 use Rattle.frame_split.specs.declared.planning.Free.{Free}
-use Rattle.frame_split.specs.Shares.{after, LiesBetween, IsOrdered}
+use Rattle.frame_split.specs.Shares.{after_need, LiesBetween, IsOrdered}
 
 -- a block's frames lie between those of the places of blocks
 frame_from : (first b frame : ℕ) → b ≡ frame / 512 → first ≤ b → 512 * first ≤ frame
@@ -105,7 +105,7 @@ between_lies a b p frames order roots tables most lies frame named = by (frame_b
 
 -- the part of the next guest: its blocks are so many numbers from the first free one on
 pub lies_after : (need : Need) (free : Free) (part : Layout) → Meets need part → ((i : ℕ) → i < length part.blocks → slice_index part.blocks i ≡ free.block + i)
-    → part.first_root ≡ free.root → part.first_table ≡ free.table → LiesBetween free (after need free) part
+    → part.first_root ≡ free.root → part.first_table ≡ free.table → LiesBetween free (after_need need free) part
 lies_after need free part meets from root table = record {
   blocks_from = λ i h. let e = from i h in omega (arith, e);
   blocks_to = λ i h. let e = from i h in omega (arith, e, h, meets.blocks);
@@ -125,17 +125,17 @@ once_after need free part limits meets from root table blocks_room roots_room al
   few = omega (arith, meets.blocks, limits.blocks);
   distinct = consecutive free.block part.blocks from;
   aligned = rw root aligned;
-  tables = λ frame named. by frame (blocks_between free (after need free) part frame lies named) (cases_Bool (in_tables part frame));
+  tables = λ frame named. by frame (blocks_between free (after_need need free) part frame lies named) (cases_Bool (in_tables part frame));
   roots = ranges_apart part.first_root (4 * (1 + part.spaces)) part.first_table (1 + part.spaces * tables_for part.entries)
       (rw (root, table, meets.spaces) roots_room);
 }
   where
-    lies : LiesBetween free (after need free) part
+    lies : LiesBetween free (after_need need free) part
     lies = lies_after need free part meets from root table
 
     in_one : (frame : ℕ) → (frame < 512 * (free.block + need.blocks)) → (root_frames part frame ≡ true) ⊎ (table_frames part frame ≡ true) → ⊥
-    in_one frame below (inl h) = let x = roots_between free (after need free) part frame lies h in omega (arith, below, x.0, blocks_room)
-    in_one frame below (inr h) = let x = tables_between free (after need free) part frame lies h in omega (arith, below, x.0, blocks_room, roots_room)
+    in_one frame below (inl h) = let x = roots_between free (after_need need free) part frame lies h in omega (arith, below, x.0, blocks_room)
+    in_one frame below (inr h) = let x = tables_between free (after_need need free) part frame lies h in omega (arith, below, x.0, blocks_room, roots_room)
 
     by : (frame : ℕ) → (512 * free.block ≤ frame) × (frame < 512 * (free.block + need.blocks)) → (in_tables part frame ≡ true) ⊎ (in_tables part frame ≡ false)
         → in_tables part frame ≡ false
@@ -161,7 +161,7 @@ once_here need free slots limits room from blocks roots aligned =
     limits (meets_here need free slots room) (numbered need free slots room from) refl refl blocks roots aligned
 
 pub between_here : (need : Need) (free : Free) (slots : List ℕ) → need.blocks ≤ length slots → ((i : ℕ) → i < need.blocks → slice_index slots i ≡ free.block + i)
-    → LiesBetween free (after need free) (record { blocks = take need.blocks slots; first_root = free.root; first_table = free.table; spaces = need.spaces; entries = need.entries })
+    → LiesBetween free (after_need need free) (record { blocks = take need.blocks slots; first_root = free.root; first_table = free.table; spaces = need.spaces; entries = need.entries })
 between_here need free slots room from =
     lies_after need free (record { blocks = take need.blocks slots; first_root = free.root; first_table = free.table; spaces = need.spaces; entries = need.entries })
     (meets_here need free slots room) (numbered need free slots room from) refl refl

@@ -8,7 +8,7 @@ use Rattle.arch_defs.specs.Layouts.{Layout, NamesEachOnce, named_by, in_tables, 
 use Rattle.arch_defs.specs.Needs.{Meets}
 use Rattle.arch_defs.proofs.FrameSets.{apart_sym}
 use Rattle.frame_split.specs.declared.planning.Free.{Free}
-use Rattle.frame_split.specs.Shares.{ArePairwiseApart, IsSplit, LiesBetween, IsOrdered, SoFar, after, blocks_of_all, roots_of_all, tables_of_all}
+use Rattle.frame_split.specs.Shares.{ArePairwiseApart, IsSplit, LiesBetween, IsOrdered, SoFar, after_need, blocks_of_all, roots_of_all, tables_of_all}
 use Rattle.frame_split.proofs.Between.{parts_apart, between_wider, between_later, between_lies, blocks_between, roots_between, tables_between}
 use Rattle.frame_split.proofs.Sums.{blocks_more, roots_more, tables_more}
 
@@ -61,16 +61,16 @@ so_far_none needs start frames blocks roots tables aligned = record {
 }
 
 pub so_far_more : (needs : List Need) (i : ℕ) (parts : List Layout) (start free : Free) (frames : ℕ) (need : Need) (part : Layout) → SoFar needs i parts start free frames
-    → i < length needs → need ≡ get_or needs i need → Meets need part → NamesEachOnce part → LiesBetween free (after need free) part
-    → SoFar needs (i + 1) (parts ++ part ∷ []) start (after need free) frames
+    → i < length needs → need ≡ get_or needs i need → Meets need part → NamesEachOnce part → LiesBetween free (after_need need free) part
+    → SoFar needs (i + 1) (parts ++ part ∷ []) start (after_need need free) frames
 so_far_more needs i parts start free frames need part so h is meets once between = record {
   count = length_push parts part ∙ ap (λ n. n + 1) so.count;
   meet = meet;
-  apart = pairs_push parts part so.apart (λ k d k_in. parts_apart start free (after need free) (get_or parts k d) part order (so.between k d (omega (arith, k_in, so.count))) between so.from on);
+  apart = pairs_push parts part so.apart (λ k d k_in. parts_apart start free (after_need need free) (get_or parts k d) part order (so.between k d (omega (arith, k_in, so.count))) between so.from on);
   once = λ k d k_in. each_push NamesEachOnce parts part (λ m e m_in. so.once m e (omega (arith, m_in, so.count))) once k d (omega (arith, k_in, so.count));
-  between = λ k d k_in. each_push (LiesBetween start (after need free)) parts part
-      (λ m e m_in. between_wider start free (after need free) (get_or parts m e) on (so.between m e (omega (arith, m_in, so.count))))
-      (between_later start free (after need free) part so.from between) k d (omega (arith, k_in, so.count));
+  between = λ k d k_in. each_push (LiesBetween start (after_need need free)) parts part
+      (λ m e m_in. between_wider start free (after_need need free) (get_or parts m e) on (so.between m e (omega (arith, m_in, so.count))))
+      (between_later start free (after_need need free) part so.from between) k d (omega (arith, k_in, so.count));
   blocks = omega (arith, so.blocks, block_step);
   roots = omega (arith, so.roots, root_step);
   tables = omega (arith, so.tables, table_step);
@@ -90,7 +90,7 @@ so_far_more needs i parts start free frames need part so h is meets once between
     on : (free.block ≤ free.block + need.blocks) × (free.root ≤ free.root + 4 * (1 + need.spaces)) × (free.table ≤ free.table + (1 + need.spaces * tables_for need.entries))
     on = (omega arith, omega arith, omega arith)
 
-    order : IsOrdered start (after need free)
+    order : IsOrdered start (after_need need free)
     order = record { blocks = omega (arith, so.blocks, block_step); roots = omega (arith, so.roots, root_step) }
 
     meet : (k : ℕ) (n : Need) (d : Layout) → k < i + 1 → Meets (get_or needs k n) (get_or (parts ++ part ∷ []) k d)

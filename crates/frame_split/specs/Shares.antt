@@ -52,8 +52,8 @@ pub record IsSplit (needs : List Need) (parts : List Layout) (frames : ℕ) : Ty
   pub roots_next : RootsComeNext parts
 
 -- where to go on: the first free block, the first free frame for roots, and that for other tables
-abbrev pub after : Need → Free → Free
-after need free = record {
+abbrev pub after_need : Need → Free → Free
+after_need need free = record {
   block = free.block + need.blocks;
   root = free.root + 4 * (1 + need.spaces);
   table = free.table + (1 + need.spaces * tables_for need.entries);

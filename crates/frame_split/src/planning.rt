@@ -3,7 +3,7 @@
 ghost use Rattle.std.specs.Prelude.{◌≡◌, ℕ, ◌+◌, ◌*◌, ◌%◌, ◌<◌, ◌≤◌, ◌^◌, length, slice_index, IfOk, IfErr, IfSome};
 ghost use Rattle.arch_defs.specs.Layouts.{NamesEachOnce, tables_for};
 ghost use Rattle.arch_defs.specs.Needs.{IsNeed, Meets};
-ghost use Rattle.frame_split.specs.Shares.{AreNeeds, Causes, IsSplit, LiesBetween, after, frames_of_all, blocks_of_all, roots_of_all, tables_of_all};
+ghost use Rattle.frame_split.specs.Shares.{AreNeeds, Causes, IsSplit, LiesBetween, after_need, frames_of_all, blocks_of_all, roots_of_all, tables_of_all};
 
 use crate::faults::PlanFault;
 use arch_defs::{BLOCK_FRAMES, MOST_BLOCKS, Need, Part, TABLES_PER_ENTRY};
@@ -119,16 +119,16 @@ fn share(alloc: Global, needs: &[Need], start: Free, frames: u64) -> Option<Vec<
         if parts.push(part).is_err() {
             return None;
         }
-        free = after(&need, free);
+        free = after_need(&need, free);
     }
     Some(parts)
 }
 
 // Where to go on after a part.
-fn after(need: &Need, free: Free) -> Free
+fn after_need(need: &Need, free: Free) -> Free
     requires need { IsNeed need.now }
     requires room { (free.block ≤ 2 ^ 32) × (free.root ≤ 2 ^ 32) × (free.table ≤ 2 ^ 32) }
-    ensures { result ≡ after need.now free }
+    ensures { result ≡ after_need need.now free }
 {
     Free {
         block: free.block + need.blocks,
@@ -146,7 +146,7 @@ fn part_at(need: &Need, free: Free) -> Part
     requires small { free.table < 2 ^ 32 }
     ensures meets { Meets need.now result }
     ensures once { NamesEachOnce result }
-    ensures between { LiesBetween free (after need.now free) result }
+    ensures between { LiesBetween free (after_need need.now free) result }
 {
     let slots = numbers(free.block, need.blocks);
     let part = Part::new(

@@ -10,7 +10,7 @@ use Rattle.arch_defs.specs.declared.registers.GuestRoot.{GuestRoot}
 use Rattle.arch_defs.specs.declared.registers.Regs.{Regs}
 use Rattle.arch_defs.specs.declared.registers.Virtual.{Virtual}
 use Rattle.arch_defs.specs.declared.walks.Found.{Found}
-use Rattle.arch_defs.specs.declared.walks.Found.TheVariants.{Passes, PageFaults, Lacks}
+use Rattle.arch_defs.specs.declared.walks.Found.TheVariants.{Passes, PageFaults, MissesEntry}
 use Rattle.arch_defs.specs.declared.widths.Width.{Width}
 use Rattle.arch_defs.specs.declared.widths.Width.TheVariants.{Word}
 use Rattle.arch_defs.specs.Bits.{add64}
@@ -28,11 +28,11 @@ use Rattle.op_defs.specs.declared.ops.DataAccess.{DataAccess}
 use Rattle.op_defs.specs.declared.ops.Purpose.{Purpose}
 use Rattle.op_defs.specs.declared.ops.Purpose.TheVariants as purpose
 use Rattle.op_defs.specs.Arithmetic.{amo}
-use Rattle.op_defs.specs.Meaning.{branch, holds, jump, meaning, next}
+use Rattle.op_defs.specs.Meaning.{branch, is_branch_taken, jump, meaning, next}
 use Rattle.op_defs.specs.Table.{op_of}
 use Rattle.machine_defs.specs.Core.{Fails, Faults, accessed, accessed_data, called_from, completed, core, decoded, done, event_of, executed, instruction, is_reserved, kind_of, located, located_at, located_by, stored_if, storing, word_at}
 use Rattle.machine_defs.specs.Outcomes.{passed, sets}
-use Rattle.world_switch.specs.Hosting.{hosted, hosted_csrs, hosted_mode}
+use Rattle.world_switch.specs.Hosting.{hart_state_of, hosted_csrs, hosted_mode}
 use Rattle.world_switch.proofs.Undone.{translates_alike}
 use Rattle.guest_exit.specs.ExitCases.{access_of, privileged_in, privileged_of}
 use Rattle.guest_exit.proofs.Delegation.{IsOwn, own_0, own_12, own_13, own_15, own_2, own_3, own_4, own_6, own_8}
@@ -78,7 +78,7 @@ by_first : (s : Virtual) (second : SecondStage) (va : ℕ) (access : Access) (fo
     → SamePlace s (located_by second s.mode va access found) (located_by second (hosted_mode s.mode) va access found)
 by_first s second va access (Passes address) plain = by_second s va access address (second address access) plain
 by_first s second va access PageFaults plain = (_, refl, Own (page_fault access) va refl refl (page_fault_own access))
-by_first s second va access (Lacks place) plain = (refl, refl, record { access = plain.told; kind = refl })
+by_first s second va access (MissesEntry place) plain = (refl, refl, record { access = plain.told; kind = refl })
 
 located_alike : (root : GuestRoot) (s : Virtual) (second : SecondStage) (reading : Reading) (va : ℕ) (access : Access) → IsPlain access
     → SamePlace s (located second reading s.csrs s.mode va access) (located second reading (hosted_csrs root (is_virtual s.mode) s.csrs) (hosted_mode s.mode) va access)
@@ -86,7 +86,7 @@ located_alike root s second reading va access plain =
     rw (translates_alike root second reading s.csrs s.mode va access) (by_first s second va access (first_stage second reading s.csrs s.mode va access) plain)
 
 access_alike : (root : GuestRoot) (s : Virtual) (second : SecondStage) (reading : Reading) (va : ℕ) (width : Width) (access : Access) → IsPlain access
-    → SamePlace s (accessed second reading s.csrs s.mode va width access) (accessed second reading (hosted root s).csrs (hosted_mode s.mode) va width access)
+    → SamePlace s (accessed second reading s.csrs s.mode va width access) (accessed second reading (hart_state_of root s).csrs (hosted_mode s.mode) va width access)
 access_alike root s second reading va width access plain =
     elim (va % bytes_in width == 0) as (λ b.
     SamePlace s (cond b (located second reading s.csrs s.mode va access) (Fails (Faults (exception s.mode (misaligned_fault access) va))))
@@ -95,12 +95,12 @@ access_alike root s second reading va width access plain =
 
 -- an instruction whose access to data is made at this place
 stored_if_stands : (root : GuestRoot) (s : Virtual) (pc word : ℕ) (held : Bool) (width : Width) (value rd place : ℕ)
-    → Stands root s (done (event_of pc word) (stored_if held s width value rd place)) (done (event_of pc word) (stored_if held (hosted root s) width value rd place))
+    → Stands root s (done (event_of pc word) (stored_if held s width value rd place)) (done (event_of pc word) (stored_if held (hart_state_of root s) width value rd place))
 stored_if_stands root s pc word true width value rd place = completes root s pc word (sets s rd 0).regs None (storing place width value)
 stored_if_stands root s pc word false width value rd place = completes root s pc word (sets s rd 1).regs None None
 
 completed_stands : (root : GuestRoot) (reading : Reading) (s : Virtual) (pc word : ℕ) (width : Width) (purpose : Purpose) (place : ℕ)
-    → Stands root s (done (event_of pc word) (completed reading s width purpose place)) (done (event_of pc word) (completed reading (hosted root s) width purpose place))
+    → Stands root s (done (event_of pc word) (completed reading s width purpose place)) (done (event_of pc word) (completed reading (hart_state_of root s) width purpose place))
 completed_stands root reading s pc word width (purpose.Load signed rd) place =
     completes root s pc word (sets s rd (extended width signed (reading place (bytes_in width)))).regs s.reservation None
 completed_stands root reading s pc word width (purpose.LoadCode rd) place =
@@ -116,7 +116,7 @@ completed_stands root reading s pc word width (purpose.Modify o operand rd) plac
     completes root s pc word (sets s rd (extended width true before)).regs s.reservation (storing place width (amo o width before operand))
 
 data_stands : (root : GuestRoot) (second : SecondStage) (reading : Reading) (s : Virtual) (pc word : ℕ) (wanted : DataAccess) → IsPlain (kind_of wanted.purpose)
-    → Stands root s (accessed_data second reading s (event_of pc word) wanted) (accessed_data second reading (hosted root s) (event_of pc word) wanted)
+    → Stands root s (accessed_data second reading s (event_of pc word) wanted) (accessed_data second reading (hart_state_of root s) (event_of pc word) wanted)
 data_stands root second reading s pc word wanted plain =
     at_stands root s _ _ (λ place. completed_stands root reading s pc word wanted.width wanted.purpose place) _ _
     (access_alike root s second reading wanted.address wanted.width (kind_of wanted.purpose) plain)
@@ -148,7 +148,7 @@ meaning_fine (op.Lui rd immediate) regs = tt
 meaning_fine (op.Auipc rd immediate) regs = tt
 meaning_fine (op.Jal rd offset) regs = jump_fine rd _ _
 meaning_fine (op.Jalr rd rs1 offset) regs = jump_fine rd _ _
-meaning_fine (op.Branch test rs1 rs2 offset) regs = branch_fine (holds test (read regs rs1) (read regs rs2)) (next regs) (add64 regs.pc offset)
+meaning_fine (op.Branch test rs1 rs2 offset) regs = branch_fine (is_branch_taken test (read regs rs1) (read regs rs2)) (next regs) (add64 regs.pc offset)
 meaning_fine (op.Load width signed rd rs1 offset) regs = load_plain
 meaning_fine (op.Store width rs1 rs2 offset) regs = store_plain
 meaning_fine (op.AluImmediate o rd rs1 immediate) regs = tt
@@ -174,7 +174,7 @@ meaning_fine (op.GuestStore width rs1 rs2) regs = tt
 
 -- what an effect does, what a decoded word does, and what was fetched
 executed_stands : (root : GuestRoot) (second : SecondStage) (reading : Reading) (s : Virtual) (word : ℕ) (effect : Effect) → IsFine effect
-    → word < 2 ^ 32 → privileged_in word s.regs ≡ privileged_of effect → Stands root s (executed second reading s word effect) (executed second reading (hosted root s) word effect)
+    → word < 2 ^ 32 → privileged_in word s.regs ≡ privileged_of effect → Stands root s (executed second reading s word effect) (executed second reading (hart_state_of root s) word effect)
 executed_stands root second reading s word (Sets rd value next) good small decided = completes root s s.regs.pc word (advanced s.regs rd value next) s.reservation None
 executed_stands root second reading s word (Raises cause tval) good small decided = Own cause tval refl refl good
 executed_stands root second reading s word (Data wanted) good small decided = data_stands root second reading s s.regs.pc word wanted good
@@ -187,7 +187,7 @@ unfolding privileged_in
 decided_by word o regs e = ap (option_and_then (λ p. privileged_of (meaning p regs))) e
 
 decoded_stands : (root : GuestRoot) (second : SecondStage) (reading : Reading) (s : Virtual) (word : ℕ) (o : Option Op) → word < 2 ^ 32 → op_of word ≡ o
-    → Stands root s (decoded second reading s word o) (decoded second reading (hosted root s) word o)
+    → Stands root s (decoded second reading s word o) (decoded second reading (hart_state_of root s) word o)
 decoded_stands root second reading s word (Some o) small e =
     executed_stands root second reading s word (meaning o s.regs) (meaning_fine o s.regs) small (decided_by word o s.regs e)
 decoded_stands root second reading s word None small e = Own ILLEGAL_INSTRUCTION word refl refl own_2
@@ -197,11 +197,11 @@ is_word : (n : ℕ) → n % 2 ^ 32 < 2 ^ 32
 is_word n = omega arith
 
 instruction_stands : (root : GuestRoot) (second : SecondStage) (reading : Reading) (s : Virtual) (place : ℕ)
-    → Stands root s (instruction second reading s (word_at reading place)) (instruction second reading (hosted root s) (word_at reading place))
+    → Stands root s (instruction second reading s (word_at reading place)) (instruction second reading (hart_state_of root s) (word_at reading place))
 instruction_stands root second reading s place = decoded_stands root second reading s (word_at reading place) (op_of (word_at reading place)) (is_word (reading place 4)) refl
 
 -- one instruction of the lone machine, and the same on the hart
-pub core_stands : (root : GuestRoot) (second : SecondStage) (reading : Reading) (s : Virtual) → Stands root s (core second reading s) (core second reading (hosted root s))
+pub core_stands : (root : GuestRoot) (second : SecondStage) (reading : Reading) (s : Virtual) → Stands root s (core second reading s) (core second reading (hart_state_of root s))
 unfolding core
 core_stands root second reading s =
     at_stands root s _ _ (λ place. instruction_stands root second reading s place) _ _ (access_alike root s second reading s.regs.pc Word Fetch fetch_plain)

@@ -10,71 +10,71 @@ use Rattle.arch_defs.specs.Spaces.{Space, entered, fenced}
 use Rattle.arch_defs.specs.Waits.{wake_moment}
 use Rattle.arch_defs.proofs.FrameSets.{left_within, only_more, only_none}
 use Rattle.machine_defs.specs.declared.events.Event.TheVariants.{System}
-use Rattle.machine_defs.specs.Fills.{lacking}
+use Rattle.machine_defs.specs.Fills.{missing_entry}
 use Rattle.machine_defs.specs.Machine.{Machine, Platform, has_enabled_interrupt, stepped_to, ticked, waited, waited_until}
 use Rattle.machine_defs.specs.Outcomes.{Fenced}
 use Rattle.machine_defs.specs.Runs.{left_by}
-use Rattle.machine_defs.specs.Tries.{concluded, enters, made}
+use Rattle.machine_defs.specs.Tries.{apply_outcome, committed, enters}
 use Rattle.shadow_pool.specs.Slots.{pool_frames, room_of, spaces_of}
 use Rattle.guest_exit.specs.declared.guests.Guest.{Guest}
 use Rattle.guest_exit.specs.declared.hart_exit.Handled.{Handled}
 use Rattle.guest_exit.specs.declared.hart_exit.Handled.TheVariants as handled
-use Rattle.guest_exit.specs.HartExit.{IsHandled, KeepsPart, StaysWithin}
+use Rattle.guest_exit.specs.HartExit.{IsHandled, KeepsOutside, KeepsPart}
 use Rattle.guest_exit.specs.Steps.{IsMiss, IsNotPlain}
-use Rattle.guest_exit.specs.View.{IsPlaced, KeepsSpaces, StaysFixed, changed_by, machine_of, seen}
+use Rattle.guest_exit.specs.View.{IsPlaced, KeepsLayout, KeepsSpaces, changed_by, machine_of, platform_of}
 use Rattle.guest_exit.proofs.Placed.{placed_by_fill, placed_by_step}
 use Rattle.guest_exit.proofs.Pools.{ram_by_pool, tidy_by_blocks}
 
 -- the machine of a guest, by what has changed
-pub machine_as : (old new : Guest) (memory changed ram : List ℕ) (p : Platform) (spaces : List Space) → new.part ≡ old.part → seen new ≡ p
+pub machine_as : (old new : Guest) (memory changed ram : List ℕ) (p : Platform) (spaces : List Space) → new.part ≡ old.part → platform_of new ≡ p
     → ram_of old.part.blocks changed ≡ ram → spaces_of new.pool ≡ spaces → room_of new.pool ≡ room_of old.pool → new.pool.most ≡ old.pool.most
     → machine_of new changed ≡ record (machine_of old memory) { platform = p; ram = ram; spaces = spaces }
 machine_as old new memory changed ram p spaces part e rams are room most =
     rw (part, rams, are, room, most) (ap (λ p. record (machine_of old memory) { platform = p; ram = ram; spaces = spaces }) e)
 
-pub machine_is : (old new : Guest) (p : Platform) (memory : List ℕ) → KeepsSpaces old new → seen new ≡ p
+pub machine_is : (old new : Guest) (p : Platform) (memory : List ℕ) → KeepsSpaces old new → platform_of new ≡ p
     → machine_of new memory ≡ record (machine_of old memory) { platform = p }
 machine_is old new p memory fixed e =
     rw (fixed.part, fixed.pool) (ap (λ p. record (machine_of old memory) { platform = p }) e)
 
 -- what leaves the spaces leaves all that no step changes
-pub stays_by : (old new : Guest) → KeepsSpaces old new → StaysFixed old new
+pub stays_by : (old new : Guest) → KeepsSpaces old new → KeepsLayout old new
 stays_by old new keeps = record { part = keeps.part; pool = rw keeps.pool refl; entry_room = rw keeps.pool refl; space_room = rw keeps.pool refl }
 
-pub nothing_changed : (old new : Guest) (memory : List ℕ) → IsPlaced old memory → KeepsSpaces old new → StaysWithin old memory new memory
-nothing_changed old new memory at keeps = record { only = only_none _ memory; tidy = rw keeps.pool at.tidy; fixed = stays_by old new keeps }
+pub nothing_changed : (old new : Guest) (memory : List ℕ) → IsPlaced old memory → KeepsSpaces old new → KeepsOutside old memory new memory
+nothing_changed old new memory at keeps = record { only = only_none _ memory; tidy = rw keeps.pool at.tidy; keeps = stays_by old new keeps }
 
 pub only_of_blocks : (guest : Guest) (memory changed : List ℕ) → Only (in_blocks guest.part.blocks) memory changed → Only (changed_by guest) memory changed
 only_of_blocks guest memory changed only =
     only_more (in_blocks guest.part.blocks) (changed_by guest) memory changed (left_within (in_blocks guest.part.blocks) (pool_frames guest.pool)) only
 
-pub blocks_changed : (old new : Guest) (memory changed : List ℕ) → IsPlaced old memory → KeepsSpaces old new → Only (in_blocks old.part.blocks) memory changed → StaysWithin old memory new changed
+pub blocks_changed : (old new : Guest) (memory changed : List ℕ) → IsPlaced old memory → KeepsSpaces old new → Only (in_blocks old.part.blocks) memory changed → KeepsOutside old memory new changed
 blocks_changed old new memory changed at keeps only = record {
   only = only_of_blocks old memory changed only;
   tidy = rw keeps.pool (tidy_by_blocks old.part old.pool memory changed at.once at.own at.tidy only);
-  fixed = stays_by old new keeps;
+  keeps = stays_by old new keeps;
 }
 
 -- an instruction that leaves this state, where it enters no space, and where it enters one
-pub made_stays : (old new : Guest) (memory : List ℕ) (virt : Virtual) → enters old.virt virt ≡ false → KeepsSpaces old new → seen new ≡ ticked (record (seen old) { virt = virt })
-    → machine_of new memory ≡ left_by (machine_of old memory) (made (machine_of old memory) virt None System)
+pub made_stays : (old new : Guest) (memory : List ℕ) (virt : Virtual) → enters old.virt virt ≡ false → KeepsSpaces old new → platform_of new ≡ ticked (record (platform_of old) { virt = virt })
+    → machine_of new memory ≡ left_by (machine_of old memory) (committed (machine_of old memory) virt None System)
 made_stays old new memory virt off keeps e = rw off (machine_is old new _ memory keeps e)
 
-pub made_enters : (old new : Guest) (memory changed : List ℕ) (virt : Virtual) → enters old.virt virt ≡ true → IsPlaced old memory → StaysFixed old new
-    → seen new ≡ ticked (record (seen old) { virt = virt }) → spaces_of new.pool ≡ entered (room_of old.pool) virt.csrs.hgatp (spaces_of old.pool) → Only (pool_frames old.pool) memory changed
-    → machine_of new changed ≡ left_by (machine_of old memory) (made (machine_of old memory) virt None System)
+pub made_enters : (old new : Guest) (memory changed : List ℕ) (virt : Virtual) → enters old.virt virt ≡ true → IsPlaced old memory → KeepsLayout old new
+    → platform_of new ≡ ticked (record (platform_of old) { virt = virt }) → spaces_of new.pool ≡ entered (room_of old.pool) virt.csrs.hgatp (spaces_of old.pool) → Only (pool_frames old.pool) memory changed
+    → machine_of new changed ≡ left_by (machine_of old memory) (committed (machine_of old memory) virt None System)
 made_enters old new memory changed virt on at fixed e are only =
     rw on (machine_as old new memory changed _ _ _ fixed.part e (ram_by_pool old.part old.pool memory changed at.once at.own at.tidy at.held only) are fixed.space_room fixed.entry_room)
 
 -- a fence
-pub fence_made : (old new : Guest) (memory changed : List ℕ) (virt : Virtual) (fence : Fence) → IsPlaced old memory → StaysFixed old new
-    → seen new ≡ ticked (record (seen old) { virt = virt }) → spaces_of new.pool ≡ fenced fence (spaces_of old.pool) → Only (pool_frames old.pool) memory changed
-    → machine_of new changed ≡ left_by (machine_of old memory) (concluded (machine_of old memory) (Fenced virt fence))
+pub fence_made : (old new : Guest) (memory changed : List ℕ) (virt : Virtual) (fence : Fence) → IsPlaced old memory → KeepsLayout old new
+    → platform_of new ≡ ticked (record (platform_of old) { virt = virt }) → spaces_of new.pool ≡ fenced fence (spaces_of old.pool) → Only (pool_frames old.pool) memory changed
+    → machine_of new changed ≡ left_by (machine_of old memory) (apply_outcome (machine_of old memory) (Fenced virt fence))
 fence_made old new memory changed virt fence at fixed e are only =
     machine_as old new memory changed _ _ _ fixed.part e (ram_by_pool old.part old.pool memory changed at.once at.own at.tidy at.held only) are fixed.space_room fixed.entry_room
 
 -- the answer tells whether a fill was made
-never_both : (m : Machine) → IsMiss m → lacking m ≡ None → ⊥
+never_both : (m : Machine) → IsMiss m → missing_entry m ≡ None → ⊥
 never_both m (e, some) none = let both : Some e ≡ None = sym some ∙ none in absurd (cc)
 
 pub retries_exactly : (m after : Machine) (result : Handled) → IsHandled result m after → (result ≡ handled.Retry) ↔ IsMiss m
@@ -84,17 +84,17 @@ retries_exactly m after handled.Waits is = (λ e. absurd (cc), λ miss. absurd (
 retries_exactly m after handled.Stopped is = (λ e. absurd (cc), λ miss. absurd (never_both m miss (is.step (λ e. absurd (cc))).ready))
 
 -- and memory holds the guest's part after either
-placed_by : (old new : Guest) (memory changed : List ℕ) (result : Handled) → IsPlaced old memory → StaysWithin old memory new changed
+placed_by : (old new : Guest) (memory changed : List ℕ) (result : Handled) → IsPlaced old memory → KeepsOutside old memory new changed
     → IsHandled result (machine_of old memory) (machine_of new changed) → IsPlaced new changed
-placed_by old new memory changed handled.Retry at within is = placed_by_fill old new memory changed at within.fixed within.only within.tidy (is.fill refl)
-placed_by old new memory changed handled.Stepped at within is = placed_by_step old new memory changed at within.fixed within.only within.tidy (is.step (λ e. absurd (cc)))
-placed_by old new memory changed handled.Waits at within is = placed_by_step old new memory changed at within.fixed within.only within.tidy (is.step (λ e. absurd (cc)))
-placed_by old new memory changed handled.Stopped at within is = placed_by_step old new memory changed at within.fixed within.only within.tidy (is.step (λ e. absurd (cc)))
+placed_by old new memory changed handled.Retry at within is = placed_by_fill old new memory changed at within.keeps within.only within.tidy (is.fill refl)
+placed_by old new memory changed handled.Stepped at within is = placed_by_step old new memory changed at within.keeps within.only within.tidy (is.step (λ e. absurd (cc)))
+placed_by old new memory changed handled.Waits at within is = placed_by_step old new memory changed at within.keeps within.only within.tidy (is.step (λ e. absurd (cc)))
+placed_by old new memory changed handled.Stopped at within is = placed_by_step old new memory changed at within.keeps within.only within.tidy (is.step (λ e. absurd (cc)))
 
-pub part_kept : (old new : Guest) (memory changed : List ℕ) (result : Handled) → IsPlaced old memory → StaysWithin old memory new changed
+pub part_kept : (old new : Guest) (memory changed : List ℕ) (result : Handled) → IsPlaced old memory → KeepsOutside old memory new changed
     → IsHandled result (machine_of old memory) (machine_of new changed) → KeepsPart old memory new changed
 part_kept old new memory changed result at within is =
-    record { only = within.only; placed = placed_by old new memory changed result at within is; fixed = within.fixed }
+    record { only = within.only; placed = placed_by old new memory changed result at within is; keeps = within.keeps }
 
 -- a wait is no plain step
 until_is_quiet : (m : Machine) (virt : Virtual) (moment : Option ℕ) → IsNotPlain (waited_until m virt moment)

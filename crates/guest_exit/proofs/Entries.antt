@@ -21,31 +21,31 @@ use Rattle.machine_defs.specs.declared.events.Event.{Event}
 use Rattle.machine_defs.specs.declared.events.Event.TheVariants as event
 use Rattle.machine_defs.specs.declared.guests.Status.TheVariants.{Running}
 use Rattle.machine_laws.specs.HostPlaces.{in_ram, memory_place}
-use Rattle.machine_defs.specs.Fills.{lacking}
-use Rattle.machine_defs.specs.Machine.{Machine, Platform, informed, ticked, timed, trapped}
+use Rattle.machine_defs.specs.Fills.{missing_entry}
+use Rattle.machine_defs.specs.Machine.{Machine, Platform, ticked, trapped, with_lines, with_pending_lines}
 use Rattle.machine_laws.specs.Reservations.{IsInRam}
 use Rattle.machine_defs.specs.Tries.{try, try_under}
 use Rattle.arch_defs.specs.Inputs.{has_input}
 use Rattle.machine_defs.specs.Runs.{event_in, events, left_after, left_by, pc_and_word, run, trace_of}
-use Rattle.machine_laws.specs.Renaming.{ReservesHeld, renamed}
+use Rattle.machine_laws.specs.Renaming.{ReservesWithin, renamed}
 use Rattle.machine_laws.proofs.Running.{events_compose, runs_compose}
 use Rattle.machine_laws.specs.Budgets.{NeedNoFill}
-use Rattle.machine_laws.proofs.Filling.{interrupted_lacks_nothing}
+use Rattle.machine_laws.proofs.Filling.{interrupted_misses_nothing}
 use Rattle.machine_laws.proofs.Orderly.{stays_orderly}
 use Rattle.machine_laws.proofs.Stepping.{step_ready, try_is_event}
 use Rattle.rv64_hart.specs.declared.harts.Why.{Why}
 use Rattle.rv64_hart.specs.declared.harts.Why.TheVariants.{Limit, Exit, VsTrap}
 use Rattle.rv64_hart.specs.Counts.{IsRaisedBy}
-use Rattle.rv64_hart.specs.Steps.{HartEnd, Goes, Exits, Progress, progress, progressed, enters_vs, hart_step, hart_steps, one_more, is_vs_trap, IsWhy}
+use Rattle.rv64_hart.specs.Steps.{HartEnd, Goes, Exits, Progress, progress, progressed, enters_vs, hart_step, hart_steps, one_more_step, is_vs_trap, IsWhy}
 use Rattle.host_tables.proofs.Held.{held_by_blocks}
 use Rattle.shadow_pool.specs.Slots.{Pooled}
-use Rattle.world_switch.specs.Hosting.{fixed_up, hosted, hosted_csrs, loaded, saved, saved_csrs, saved_mode, table_from, taken_back}
+use Rattle.world_switch.specs.Hosting.{after_hs_trap, guest_state_after, guest_state_of, hart_state_in, hart_state_of, hosted_csrs, saved_csrs, saved_mode, table_from}
 use Rattle.world_switch.specs.Laws.{KeepsHidden}
 use Rattle.world_switch.proofs.Registers.{none_waits}
 use Rattle.world_switch.proofs.Undone.{load_after_save, save_after_load, saved_v, virtual_mode}
 use Rattle.guest_exit.specs.ExitCases.{IsLeft, exit_of}
 use Rattle.guest_exit.specs.HartEntry.{Hands, IsStopped, Lasts, moved}
-use Rattle.guest_exit.specs.HartSteps.{Follows, IsAt, Keeps, event_for, host_takes, root_for, root_frame_for}
+use Rattle.guest_exit.specs.HartSteps.{Follows, IsAt, KeepsHart, event_for, host_takes, root_for, root_frame_for}
 use Rattle.guest_exit.proofs.Followed.{followed}
 use Rattle.guest_exit.proofs.Interrupts.{own_after}
 use Rattle.guest_exit.proofs.Pools.{size_of, tidy_by_blocks}
@@ -63,7 +63,7 @@ mod_mod n = omega arith
 -- the machine after one step of the hart, by whether that was a trap into VS
 abbrev after_step : Machine → Bool → Virtual → List ℕ → Machine
 after_step m trapped hart ram =
-    record m { platform = ticked (record m.platform { virt = taken_back trapped hart m.platform.virt }); ram = ram }
+    record m { platform = ticked (record m.platform { virt = guest_state_after trapped hart m.platform.virt }); ram = ram }
 
 -- and after so many, which leave it this state
 abbrev pub placed : Machine → Virtual → List ℕ → ℕ → Machine
@@ -74,9 +74,9 @@ record MadeBy (part : Layout) (root : GuestRoot) (m : Machine) (memory : List �
   own : Virtual
   state : q.state ≡ renamed (memory_place part.blocks) own
   step : left_by m (try m) ≡ after_step m q.trapped own (ram_of part.blocks q.memory)
-  ready : lacking m ≡ None
-  keeps : Keeps root m.platform.virt own
-  held : ReservesHeld (in_ram part.blocks) own.reservation
+  ready : missing_entry m ≡ None
+  keeps : KeepsHart root m.platform.virt own
+  held : ReservesWithin (in_ram part.blocks) own.reservation
   only : Only (in_blocks part.blocks) memory q.memory
   trace : IsRaisedBy (trace_of (event_in (try m))) t q.trace
 
@@ -103,10 +103,10 @@ made part root m memory (Exits trap) t q by some = cc
 pub record Ran (part : Layout) (pool : Pooled) (m : Machine) (memory : List ℕ) (t n : ℕ) (q : Progress) : Type 0 where
   pub own : Virtual
   pub state : q.state ≡ renamed (memory_place part.blocks) own
-  pub machine : run m n ≡ placed m (taken_back q.trapped own m.platform.virt) (ram_of part.blocks q.memory) n
+  pub machine : run m n ≡ placed m (guest_state_after q.trapped own m.platform.virt) (ram_of part.blocks q.memory) n
   pub need : NeedNoFill n m
-  pub keeps : Keeps (root_for part pool m.platform.virt) m.platform.virt own
-  pub held : ReservesHeld (in_ram part.blocks) own.reservation
+  pub keeps : KeepsHart (root_for part pool m.platform.virt) m.platform.virt own
+  pub held : ReservesWithin (in_ram part.blocks) own.reservation
   pub only : Only (in_blocks part.blocks) memory q.memory
   pub trace : IsRaisedBy (trace_of (events m n)) t q.trace
 
@@ -126,28 +126,28 @@ told p limit n lasts h =
 -- before a step of an entry the hart stands for the machine, and the step is not the host's
 record IsReady (part : Layout) (root : GuestRoot) (p : Platform) (hart : Virtual) : Type 0 where
   own : host_takes p.virt ≡ false
-  stands : loaded part root p.virt ≡ hart
+  stands : hart_state_in part root p.virt ≡ hart
 
 -- loading again what was saved, with the registers that the clock sets
-timed_again : (root : GuestRoot) (virtual : Bool) (csrs hart : Csrs) (timer external : Bool) (clock : ℕ) → KeepsHidden root virtual csrs hart
+with_lines_again : (root : GuestRoot) (virtual : Bool) (csrs hart : Csrs) (timer external : Bool) (clock : ℕ) → KeepsHidden root virtual csrs hart
     → timer ≡ csrs.sip.timer → external ≡ csrs.sip.external
-    → hosted_csrs root virtual (timed (saved_csrs virtual hart csrs) clock timer external) ≡ hosted_csrs root virtual (saved_csrs virtual hart csrs)
-timed_again root false csrs hart timer external clock keeps e f = rw (e, f, ← keeps.timer refl, ← keeps.external refl) refl
-timed_again root true csrs hart timer external clock keeps e f = refl
+    → hosted_csrs root virtual (with_lines (saved_csrs virtual hart csrs) clock timer external) ≡ hosted_csrs root virtual (saved_csrs virtual hart csrs)
+with_lines_again root false csrs hart timer external clock keeps e f = rw (e, f, ← keeps.timer refl, ← keeps.external refl) refl
+with_lines_again root true csrs hart timer external clock keeps e f = refl
 
 again_by : (root : GuestRoot) (virtual other : Bool) (csrs hart : Csrs) (timer external : Bool) (clock : ℕ) → other ≡ virtual → KeepsHidden root virtual csrs hart
     → timer ≡ csrs.sip.timer → external ≡ csrs.sip.external
-    → hosted_csrs root other (timed (saved_csrs virtual hart csrs) clock timer external) ≡ hosted_csrs root other (saved_csrs virtual hart csrs)
-again_by root virtual other csrs hart timer external clock is keeps e f = rw is (timed_again root virtual csrs hart timer external clock keeps e f)
+    → hosted_csrs root other (with_lines (saved_csrs virtual hart csrs) clock timer external) ≡ hosted_csrs root other (saved_csrs virtual hart csrs)
+again_by root virtual other csrs hart timer external clock is keeps e f = rw is (with_lines_again root virtual csrs hart timer external clock keeps e f)
 
-stands_again : (root : GuestRoot) (v hart : Virtual) (timer external : Bool) (clock : ℕ) → Keeps root v hart → timer ≡ v.csrs.sip.timer
-    → external ≡ v.csrs.sip.external → hosted root (record (saved hart v) { csrs = timed (saved hart v).csrs clock timer external }) ≡ hart
+stands_again : (root : GuestRoot) (v hart : Virtual) (timer external : Bool) (clock : ℕ) → KeepsHart root v hart → timer ≡ v.csrs.sip.timer
+    → external ≡ v.csrs.sip.external → hart_state_of root (record (guest_state_of hart v) { csrs = with_lines (guest_state_of hart v).csrs clock timer external }) ≡ hart
 stands_again root v hart timer external clock keeps e f =
     rw (again_by root (is_virtual v.mode) _ v.csrs hart.csrs timer external clock (saved_v (is_virtual v.mode) hart.mode) keeps.csrs e f)
     (load_after_save root v hart keeps.csrs.rest keeps.mode)
 
-own_at : (root : GuestRoot) (m : Machine) (limit n : ℕ) (hart : Virtual) (ram : List ℕ) → Lasts m.platform limit → n < limit → Keeps root m.platform.virt hart
-    → run m n ≡ placed m (saved hart m.platform.virt) ram n → host_takes (moved m.platform (saved hart m.platform.virt) n).virt ≡ false
+own_at : (root : GuestRoot) (m : Machine) (limit n : ℕ) (hart : Virtual) (ram : List ℕ) → Lasts m.platform limit → n < limit → KeepsHart root m.platform.virt hart
+    → run m n ≡ placed m (guest_state_of hart m.platform.virt) ram n → host_takes (moved m.platform (guest_state_of hart m.platform.virt) n).virt ≡ false
 unfolding run
 own_at root m limit zero hart ram lasts h keeps e = subst (λ m. host_takes m.platform.virt ≡ false) e lasts.own
 own_at root m limit (suc n) hart ram lasts h keeps e =
@@ -156,9 +156,9 @@ own_at root m limit (suc n) hart ram lasts h keeps e =
     let t = told m.platform limit (suc n) lasts h in
     own_after root (is_virtual v.mode) v.csrs hart.csrs v.mode hart.mode _ _ _ refl keeps.csrs t.timer t.external lasts.own (lasts.interrupts some)
 
-ready : (part : Layout) (root : GuestRoot) (m : Machine) (limit n : ℕ) (own state : Virtual) (ram : List ℕ) → Lasts m.platform limit → n < limit → Keeps root m.platform.virt own
-    → state ≡ renamed (memory_place part.blocks) own → run m n ≡ placed m (saved own m.platform.virt) ram n
-    → IsReady part root (moved m.platform (saved own m.platform.virt) n) state
+ready : (part : Layout) (root : GuestRoot) (m : Machine) (limit n : ℕ) (own state : Virtual) (ram : List ℕ) → Lasts m.platform limit → n < limit → KeepsHart root m.platform.virt own
+    → state ≡ renamed (memory_place part.blocks) own → run m n ≡ placed m (guest_state_of own m.platform.virt) ram n
+    → IsReady part root (moved m.platform (guest_state_of own m.platform.virt) n) state
 ready part root m limit n own state ram lasts h keeps is e =
     let t = told m.platform limit n lasts h in
     let again = stands_again root m.platform.virt own (nat_le m.platform.clock.timer (m.platform.clock.time + n)) (has_input m.platform.console.inputs (m.platform.clock.time + n)) (m.platform.clock.time + n) keeps
@@ -173,7 +173,7 @@ hgatp_kept : (virtual : Bool) (hart before : Csrs) → (saved_csrs virtual hart 
 hgatp_kept false hart before = refl
 hgatp_kept true hart before = refl
 
-same_root : (part : Layout) (pool : Pooled) (p : Platform) (hart : Virtual) (n : ℕ) → root_for part pool (moved p (saved hart p.virt) n).virt ≡ root_for part pool p.virt
+same_root : (part : Layout) (pool : Pooled) (p : Platform) (hart : Virtual) (n : ℕ) → root_for part pool (moved p (guest_state_of hart p.virt) n).virt ≡ root_for part pool p.virt
 unfolding root_for
 same_root part pool p hart n = rw (saved_v (is_virtual p.virt.mode) hart.mode, hgatp_kept (is_virtual p.virt.mode) hart.csrs p.virt.csrs) refl
 
@@ -183,7 +183,7 @@ one_more_of a n = omega arith
 
 abbrev at_clock : Machine → Virtual → List ℕ → ℕ → ℕ → Machine
 at_clock m virt memory time steps =
-    record m { platform = informed (record m.platform { virt = virt; clock = record m.platform.clock { time = time }; steps = steps }); ram = memory }
+    record m { platform = with_pending_lines (record m.platform { virt = virt; clock = record m.platform.clock { time = time }; steps = steps }); ram = memory }
 
 further_by : (m : Machine) (virt : Virtual) (memory : List ℕ) (a b c d : ℕ) → a ≡ b → c ≡ d → at_clock m virt memory a c ≡ at_clock m virt memory b d
 further_by m virt memory a b c d e f = rw (e, f) refl
@@ -192,15 +192,15 @@ further_by m virt memory a b c d e f = rw (e, f) refl
 abbrev back_by : Bool → Bool → Virtual → Csrs → Virtual
 back_by virtual trapped hart before =
     let own : Virtual = record { regs = hart.regs; csrs = saved_csrs virtual hart.csrs before; mode = saved_mode virtual hart.mode; reservation = hart.reservation } in
-    cond (trapped && not virtual) (fixed_up own) own
+    cond (trapped && not virtual) (after_hs_trap own) own
 
-abbrev timed_virt : Virtual → ℕ → Bool → Bool → Virtual
-timed_virt v clock timer external = record v { csrs = timed v.csrs clock timer external }
+abbrev with_lines_virt : Virtual → ℕ → Bool → Bool → Virtual
+with_lines_virt v clock timer external = record v { csrs = with_lines v.csrs clock timer external }
 
 -- taking back twice is taking back the last
 same_back : (virtual trapped : Bool) (hart : Csrs) (after : Virtual) (before : Csrs) (clock : ℕ) (timer external : Bool) (clock' : ℕ) (timer' external' : Bool)
-    → timed_virt (back_by virtual trapped after (timed (saved_csrs virtual hart before) clock timer external)) clock' timer' external'
-    ≡ timed_virt (back_by virtual trapped after before) clock' timer' external'
+    → with_lines_virt (back_by virtual trapped after (with_lines (saved_csrs virtual hart before) clock timer external)) clock' timer' external'
+    ≡ with_lines_virt (back_by virtual trapped after before) clock' timer' external'
 same_back false true hart after before clock timer external clock' timer' external' = refl
 same_back false false hart after before clock timer external clock' timer' external' = refl
 same_back true true hart after before clock timer external clock' timer' external' = refl
@@ -208,31 +208,31 @@ same_back true false hart after before clock timer external clock' timer' extern
 
 back_again : (virtual other trapped : Bool) (hart : Csrs) (after : Virtual) (before : Csrs) (clock : ℕ) (timer external : Bool) (clock' : ℕ) (timer' external' : Bool)
     → other ≡ virtual
-    → timed_virt (back_by other trapped after (timed (saved_csrs virtual hart before) clock timer external)) clock' timer' external'
-    ≡ timed_virt (back_by virtual trapped after before) clock' timer' external'
+    → with_lines_virt (back_by other trapped after (with_lines (saved_csrs virtual hart before) clock timer external)) clock' timer' external'
+    ≡ with_lines_virt (back_by virtual trapped after before) clock' timer' external'
 back_again virtual other trapped hart after before clock timer external clock' timer' external' is =
     rw is (same_back virtual trapped hart after before clock timer external clock' timer' external')
 
 further : (m : Machine) (hart after : Virtual) (memory changed : List ℕ) (n : ℕ) (trapped : Bool)
-    → after_step (placed m (saved hart m.platform.virt) memory n) trapped after changed
-    ≡ placed m (taken_back trapped after m.platform.virt) changed (n + 1)
+    → after_step (placed m (guest_state_of hart m.platform.virt) memory n) trapped after changed
+    ≡ placed m (guest_state_after trapped after m.platform.virt) changed (n + 1)
 further m hart after memory changed n trapped =
     let p = m.platform in
     let virtual = is_virtual p.virt.mode in
     let time = p.clock.time + n + 1 in
     let again = back_again virtual _ trapped hart.csrs after p.virt.csrs _ _ _ time (nat_le p.clock.timer time) (has_input p.console.inputs time) (saved_v virtual hart.mode) in
     ap (λ virt. record m { platform = record p { virt = virt; clock = record p.clock { time = time }; steps = p.steps + n + 1 }; ram = changed }) again
-    ∙ further_by m (taken_back trapped after p.virt) changed _ _ _ _ (one_more_of p.clock.time n) (one_more_of p.steps n)
+    ∙ further_by m (guest_state_after trapped after p.virt) changed _ _ _ _ (one_more_of p.clock.time n) (one_more_of p.steps n)
 
 -- what the hart keeps from step to step it keeps from the start on
 keeps_in : (root : GuestRoot) (virtual : Bool) (before hart after : Csrs) (clock : ℕ) (timer external : Bool)
     → KeepsHidden root virtual before hart → timer ≡ before.sip.timer → external ≡ before.sip.external
-    → KeepsHidden root virtual (timed (saved_csrs virtual hart before) clock timer external) after → KeepsHidden root virtual before after
+    → KeepsHidden root virtual (with_lines (saved_csrs virtual hart before) clock timer external) after → KeepsHidden root virtual before after
 keeps_in root false before hart after clock timer external keeps t e then = record {
   rest = then.rest;
   timer = λ own. then.timer own ∙ t;
   external = λ own. then.external own ∙ e;
-  waits = then.waits ∙ none_waits (hosted_csrs root false (timed (saved_csrs false hart before) clock timer external)) refl ∙ sym (none_waits (hosted_csrs root false before) refl);
+  waits = then.waits ∙ none_waits (hosted_csrs root false (with_lines (saved_csrs false hart before) clock timer external)) refl ∙ sym (none_waits (hosted_csrs root false before) refl);
 }
 keeps_in root true before hart after clock timer external keeps t e then =
     let hideleg : hart.hideleg ≡ before.hideleg = ap {A = Csrs} (λ c. c.hideleg) keeps.rest in
@@ -241,12 +241,12 @@ keeps_in root true before hart after clock timer external keeps t e then =
 
 keeps_by : (root : GuestRoot) (virtual other : Bool) (before hart after : Csrs) (clock : ℕ) (timer external : Bool) → other ≡ virtual
     → KeepsHidden root virtual before hart → timer ≡ before.sip.timer → external ≡ before.sip.external
-    → KeepsHidden root other (timed (saved_csrs virtual hart before) clock timer external) after → KeepsHidden root virtual before after
+    → KeepsHidden root other (with_lines (saved_csrs virtual hart before) clock timer external) after → KeepsHidden root virtual before after
 keeps_by root virtual other before hart after clock timer external is keeps t e then =
     keeps_in root virtual before hart after clock timer external keeps t e
-    (subst (λ v. KeepsHidden root v (timed (saved_csrs virtual hart before) clock timer external) after) is then)
+    (subst (λ v. KeepsHidden root v (with_lines (saved_csrs virtual hart before) clock timer external) after) is then)
 
-keeps_on : (root : GuestRoot) (p : Platform) (n : ℕ) (hart after : Virtual) → IsTold p n → Keeps root p.virt hart → Keeps root (moved p (saved hart p.virt) n).virt after → Keeps root p.virt after
+keeps_on : (root : GuestRoot) (p : Platform) (n : ℕ) (hart after : Virtual) → IsTold p n → KeepsHart root p.virt hart → KeepsHart root (moved p (guest_state_of hart p.virt) n).virt after → KeepsHart root p.virt after
 keeps_on root p n hart after t keeps then =
     record {
       csrs = keeps_by root (is_virtual p.virt.mode) _ p.virt.csrs hart.csrs after.csrs _ _ _ (saved_v (is_virtual p.virt.mode) hart.mode) keeps.csrs t.timer t.external then.csrs;
@@ -256,19 +256,19 @@ keeps_on root p n hart after t keeps then =
 raised_then : (a b t u w : ℕ) → IsRaisedBy a t u → IsRaisedBy b u w → IsRaisedBy (a + b) t w
 raised_then a b t u w e f = omega (arith, e, f)
 
-pub one_run : (m : Machine) → m.platform.status ≡ Running → lacking m ≡ None → run m 1 ≡ left_after m
+pub one_run : (m : Machine) → m.platform.status ≡ Running → missing_entry m ≡ None → run m 1 ≡ left_after m
 unfolding run
 one_run m h none = step_ready m h none
 
-pub one_event : (m : Machine) → m.platform.status ≡ Running → lacking m ≡ None → events m 1 ≡ event_in (try m)
+pub one_event : (m : Machine) → m.platform.status ≡ Running → missing_entry m ≡ None → events m 1 ≡ event_in (try m)
 unfolding events
 one_event m h none = try_is_event m 1 (omega arith) h none ∙ append-nil (event_in (try m))
 
 -- the machine of one step more
-pub run_further : (m placed : Machine) (n : ℕ) → run m n ≡ placed → placed.platform.status ≡ Running → lacking placed ≡ None → run m (n + 1) ≡ left_after placed
+pub run_further : (m placed : Machine) (n : ℕ) → run m n ≡ placed → placed.platform.status ≡ Running → missing_entry placed ≡ None → run m (n + 1) ≡ left_after placed
 run_further m placed n e h none = rw (← runs_compose m n 1, e) (one_run placed h none)
 
-pub trace_further : (m placed : Machine) (n t u w : ℕ) → run m n ≡ placed → placed.platform.status ≡ Running → lacking placed ≡ None → IsRaisedBy (trace_of (events m n)) t u
+pub trace_further : (m placed : Machine) (n t u w : ℕ) → run m n ≡ placed → placed.platform.status ≡ Running → missing_entry placed ≡ None → IsRaisedBy (trace_of (events m n)) t u
     → IsRaisedBy (trace_of (event_in (try placed))) u w → IsRaisedBy (trace_of (events m (n + 1))) t w
 trace_further m placed n t u w e h none before one =
     rw (← events_compose m n 1, e, one_event placed h none, sum_by-append pc_and_word (events m n) (event_in (try placed)))
@@ -276,7 +276,7 @@ trace_further m placed n t u w e h none before one =
 
 -- one step more that is made, and before which nothing is lacking
 abbrev Goes' : Machine → Type 0
-Goes' m = (m.platform.status ≡ Running) × (lacking m ≡ None)
+Goes' m = (m.platform.status ≡ Running) × (missing_entry m ≡ None)
 
 need_by : (m : Machine) (n i : ℕ) → NeedNoFill n m → Goes' (run m n) → i < n + 1 → (before : Bool) → nat_lt i n ≡ before → Goes' (run m i)
 need_by m n i need now within true e = need i (grind (arith, e))
@@ -287,8 +287,8 @@ need_further m n need now = λ i within. need_by m n i need now within (nat_lt i
 
 -- before a step of an entry the machine is in its part
 at_next : (part : Layout) (pool : Pooled) (m : Machine) (memory changed : List ℕ) (n : ℕ) (own : Virtual) → IsAt part pool m memory → Only (in_blocks part.blocks) memory changed
-    → ReservesHeld (in_ram part.blocks) own.reservation → run m n ≡ placed m (saved own m.platform.virt) (ram_of part.blocks changed) n
-    → IsAt part pool (placed m (saved own m.platform.virt) (ram_of part.blocks changed) n) changed
+    → ReservesWithin (in_ram part.blocks) own.reservation → run m n ≡ placed m (guest_state_of own m.platform.virt) (ram_of part.blocks changed) n
+    → IsAt part pool (placed m (guest_state_of own m.platform.virt) (ram_of part.blocks changed) n) changed
 at_next part pool m memory changed n own at only reserved there =
     let held = held_by_blocks part memory changed at.once at.held only in
     let before : length m.ram ≡ length part.blocks * block_size = rw at.ram (size_of part memory at.held) in
@@ -313,12 +313,12 @@ ran_one part pool m memory limit t n p q running lasts at h ran fresh some =
     let v = m.platform.virt in
     let root = root_for part pool v in
     let ram = ram_of part.blocks p.memory in
-    let there : run m n ≡ placed m (saved ran.own v) ram n = rw fresh at ran.machine in
-    let now = placed m (saved ran.own v) ram n in
+    let there : run m n ≡ placed m (guest_state_of ran.own v) ram n = rw fresh at ran.machine in
+    let now = placed m (guest_state_of ran.own v) ram n in
     let is = ready part root m limit n ran.own p.state ram lasts h ran.keeps ran.state there in
     let placed_at : IsAt part pool now p.memory = at_next part pool m memory p.memory n ran.own at ran.only ran.held there in
-    let by_now : Follows part root now p.memory (hart_step (loaded part root now.platform.virt) p.memory) =
-    subst (λ root. Follows part root now p.memory (hart_step (loaded part root now.platform.virt) p.memory)) (same_root part pool m.platform ran.own n)
+    let by_now : Follows part root now p.memory (hart_step (hart_state_in part root now.platform.virt) p.memory) =
+    subst (λ root. Follows part root now p.memory (hart_step (hart_state_in part root now.platform.virt) p.memory)) (same_root part pool m.platform ran.own n)
     (followed part pool now p.memory is.own placed_at) in
     let follows : Follows part root now p.memory (hart_step p.state p.memory) =
     subst (λ hart. Follows part root now p.memory (hart_step hart p.memory)) is.stands by_now in
@@ -339,8 +339,8 @@ fresh_of : (b : Bool) (o : Option Progress) (q : Progress) → cond b None o ≡
 fresh_of true o q e = cc
 fresh_of false o q e = (refl, e)
 
-one_more_is : (p q : Progress) → one_more true p ≡ Some q → (p.trapped ≡ false) × (progressed true p.trace (hart_step p.state p.memory) ≡ Some q)
-unfolding one_more
+one_more_is : (p q : Progress) → one_more_step true p ≡ Some q → (p.trapped ≡ false) × (progressed true p.trace (hart_step p.state p.memory) ≡ Some q)
+unfolding one_more_step
 one_more_is p q e = fresh_of p.trapped (progressed true p.trace (hart_step p.state p.memory)) q e
 
 -- the value before a step that gave one
@@ -349,9 +349,9 @@ before_of f None after e = cc
 before_of f (Some before) after e = (before, refl, e)
 
 ran_next : (part : Layout) (pool : Pooled) (m : Machine) (memory : List ℕ) (limit t n : ℕ) (o : Option Progress) (q : Progress) → m.platform.status ≡ Running → Lasts m.platform limit
-    → IsAt part pool m memory → n < limit → ((p : Progress) → o ≡ Some p → Ran part pool m memory t n p) → option_and_then (one_more true) o ≡ Some q → Ran part pool m memory t (n + 1) q
+    → IsAt part pool m memory → n < limit → ((p : Progress) → o ≡ Some p → Ran part pool m memory t n p) → option_and_then (one_more_step true) o ≡ Some q → Ran part pool m memory t (n + 1) q
 ran_next part pool m memory limit t n o q running lasts at h before e =
-    let there = before_of (one_more true) o q e in
+    let there = before_of (one_more_step true) o q e in
     let is = one_more_is there.0 q there.2 in
     ran_one part pool m memory limit t n there.0 q running lasts at h (before there.0 there.1) is.0 is.1
 
@@ -359,16 +359,16 @@ none_more_of : (a : ℕ) → a + 0 ≡ a
 none_more_of a = omega arith
 
 ran_none : (part : Layout) (pool : Pooled) (m : Machine) (memory : List ℕ) (limit t : ℕ) → Lasts m.platform limit → IsAt part pool m memory
-    → Ran part pool m memory t zero (progress (loaded part (root_for part pool m.platform.virt) m.platform.virt) memory t false)
+    → Ran part pool m memory t zero (progress (hart_state_in part (root_for part pool m.platform.virt) m.platform.virt) memory t false)
 unfolding run events
 ran_none part pool m memory limit t lasts at =
     let v = m.platform.virt in
-    let back : saved (hosted (root_for part pool v) v) v ≡ v = save_after_load (root_for part pool v) v in
+    let back : guest_state_of (hart_state_of (root_for part pool v) v) v ≡ v = save_after_load (root_for part pool v) v in
     let there : at_clock m v m.ram m.platform.clock.time m.platform.steps ≡ m = ap (λ p. record m { platform = p }) lasts.current in
     let none = further_by m v m.ram _ _ _ _ (none_more_of m.platform.clock.time) (none_more_of m.platform.steps) in
     let same : placed m v m.ram 0 ≡ m = rw none there in
     record {
-      own = hosted (root_for part pool v) v;
+      own = hart_state_of (root_for part pool v) v;
       state = refl;
       machine = rw (← at.ram) (sym (subst (λ virt. placed m virt m.ram 0 ≡ m) (sym back) same));
       need = λ i never. absurd (omega (arith, never));
@@ -380,23 +380,23 @@ ran_none part pool m memory limit t lasts at =
 
 -- from the state that is loaded
 pub steps_from : (part : Layout) (pool : Pooled) (v : Virtual) (memory : List ℕ) (t taken : ℕ) (q : Progress)
-    → hart_steps true taken (progress (loaded part (table_from (root_frame_for part pool v)) v) memory t false) ≡ Some q
-    → hart_steps true taken (progress (loaded part (root_for part pool v) v) memory t false) ≡ Some q
+    → hart_steps true taken (progress (hart_state_in part (table_from (root_frame_for part pool v)) v) memory t false) ≡ Some q
+    → hart_steps true taken (progress (hart_state_in part (root_for part pool v) v) memory t false) ≡ Some q
 unfolding root_for
 steps_from part pool v memory t taken q e = e
 
 -- so many steps of an entry
 pub ran : (part : Layout) (pool : Pooled) (m : Machine) (memory : List ℕ) (limit t : ℕ) → m.platform.status ≡ Running → Lasts m.platform limit → IsAt part pool m memory → (n : ℕ) → n ≤ limit
-    → (q : Progress) → hart_steps true n (progress (loaded part (root_for part pool m.platform.virt) m.platform.virt) memory t false) ≡ Some q → Ran part pool m memory t n q
+    → (q : Progress) → hart_steps true n (progress (hart_state_in part (root_for part pool m.platform.virt) m.platform.virt) memory t false) ≡ Some q → Ran part pool m memory t n q
 unfolding hart_steps
 ran part pool m memory limit t running lasts at zero h q e =
-    let is : progress (loaded part (root_for part pool m.platform.virt) m.platform.virt) memory t false ≡ q = cc in subst (Ran part pool m memory t zero) is (ran_none part pool m memory limit t lasts at)
+    let is : progress (hart_state_in part (root_for part pool m.platform.virt) m.platform.virt) memory t false ≡ q = cc in subst (Ran part pool m memory t zero) is (ran_none part pool m memory limit t lasts at)
 ran part pool m memory limit t running lasts at (suc n) h q e =
     let one : n + 1 ≡ suc n = omega arith in
     let within : n < limit = omega (arith, h) in
     let before : n ≤ limit = omega (arith, h) in
     subst (λ k. Ran part pool m memory t k q) one
-    (ran_next part pool m memory limit t n (hart_steps true n (progress (loaded part (root_for part pool m.platform.virt) m.platform.virt) memory t false)) q running lasts at within
+    (ran_next part pool m memory limit t n (hart_steps true n (progress (hart_state_in part (root_for part pool m.platform.virt) m.platform.virt) memory t false)) q running lasts at within
     (λ p some. ran part pool m memory limit t running lasts at n before p some) e)
 
 -- a trap into VS is a step
@@ -411,30 +411,30 @@ some_taken p state memory t (suc n) fresh e = omega arith
 -- why an entry ended
 pub stopped : (part : Layout) (pool : Pooled) (m : Machine) (memory : List ℕ) (limit t : ℕ) (state : Virtual) (changed : List ℕ) (t' taken : ℕ) (why : Why) → m.platform.status ≡ Running
     → Lasts m.platform limit → IsAt part pool m memory → taken ≤ limit
-    → hart_steps true taken (progress (loaded part (root_for part pool m.platform.virt) m.platform.virt) memory t false) ≡ Some (progress state changed t' (is_vs_trap why))
+    → hart_steps true taken (progress (hart_state_in part (root_for part pool m.platform.virt) m.platform.virt) memory t false) ≡ Some (progress state changed t' (is_vs_trap why))
     → IsWhy limit taken state changed why → IsStopped part pool (run m taken) changed limit taken why
 stopped part pool m memory limit t state changed t' taken Limit running lasts at within e why = why
 stopped part pool m memory limit t state changed t' taken VsTrap running lasts at within e why =
-    some_taken (progress (loaded part (root_for part pool m.platform.virt) m.platform.virt) memory t false) state changed t' taken refl e
+    some_taken (progress (hart_state_in part (root_for part pool m.platform.virt) m.platform.virt) memory t false) state changed t' taken refl e
 stopped part pool m memory limit t state changed t' taken (Exit trap) running lasts at within e (fewer, exits) =
     let is = ran part pool m memory limit t running lasts at taken within (progress state changed t' false) e in
     let r = ready part (root_for part pool m.platform.virt) m limit taken is.own state (ram_of part.blocks changed) lasts fewer is.keeps is.state is.machine in (
       fewer,
       subst (λ m. Hands part pool m changed trap) (sym is.machine) (record {
         own = r.own;
-        exits = subst (λ root. hart_step (loaded part root (moved m.platform (saved is.own m.platform.virt) taken).virt) changed ≡ Exits trap) (sym (same_root part pool m.platform is.own taken))
+        exits = subst (λ root. hart_step (hart_state_in part root (moved m.platform (guest_state_of is.own m.platform.virt) taken).virt) changed ≡ Exits trap) (sym (same_root part pool m.platform is.own taken))
             (subst (λ hart. hart_step hart changed ≡ Exits trap) (sym r.stands) exits);
       }),
     )
 
 -- a step that the hart has left to the host
 pub left : (part : Layout) (pool : Pooled) (m : Machine) (memory : List ℕ) (trap : Trap) → IsAt part pool m memory → Hands part pool m memory trap
-    → IsLeft m (try m) (lacking m) (exit_of m.platform.virt trap)
+    → IsLeft m (try m) (missing_entry m) (exit_of m.platform.virt trap)
 left part pool m memory trap at hands =
     let root = root_for part pool m.platform.virt in
     let there : Follows part root m memory (Exits trap) = subst (λ end. Follows part root m memory end) hands.exits (followed part pool m memory hands.own at) in there
 
 -- an interrupt that is due
-pub interrupted : (m : Machine) (code : ℕ) → due m.platform.virt.csrs m.platform.virt.mode ≡ Some code → (lacking m ≡ None) × (try m ≡ trapped m (interrupt_of code))
+pub interrupted : (m : Machine) (code : ℕ) → due m.platform.virt.csrs m.platform.virt.mode ≡ Some code → (missing_entry m ≡ None) × (try m ≡ trapped m (interrupt_of code))
 unfolding try_under
-interrupted m code is = (interrupted_lacks_nothing m code is, rw is refl)
+interrupted m code is = (interrupted_misses_nothing m code is, rw is refl)

@@ -9,7 +9,7 @@ use Rattle.arch_defs.specs.Traps.{is_virtual}
 use Rattle.arch_defs.specs.WalkedEntries.{folds}
 use Rattle.op_defs.specs.declared.ops.Privileged.{Privileged}
 use Rattle.machine_defs.specs.declared.guests.Status.TheVariants.{Running}
-use Rattle.machine_defs.specs.Fills.{lacking}
+use Rattle.machine_defs.specs.Fills.{missing_entry}
 use Rattle.machine_defs.specs.Machine.{Machine, Tried, WaitsForGood, trapped}
 use Rattle.machine_defs.specs.Runs.{left_by}
 use Rattle.machine_defs.specs.Tries.{try}
@@ -17,7 +17,7 @@ use Rattle.guest_exit.specs.declared.exit_cases.Exit.{Exit}
 use Rattle.guest_exit.specs.declared.exit_cases.Exit.TheVariants.{Instruction, Missing, OutsideRam, Call, Own}
 use Rattle.guest_exit.specs.declared.hart_exit.Handled.{Handled}
 use Rattle.guest_exit.specs.declared.hart_exit.Handled.TheVariants as handled
-use Rattle.guest_exit.specs.ExitCases.{IsLeft, entry_at, exit_of, instruction_exit, is_guest_page_code, missed, other_exit, privileged_at, privileged_in, try_at, unplaced_exit}
+use Rattle.guest_exit.specs.ExitCases.{IsLeft, entry_for_exit, exit_of, instruction_exit, is_guest_page_code, missing_place_exit, missing_place_of, other_exit, privileged_at, privileged_in, try_at}
 use Rattle.guest_exit.specs.HartExit.{IfMissing, IsHandled, IsMadeOf, status_after}
 use Rattle.guest_exit.proofs.ForGood.{never_waits, waits_exactly}
 
@@ -34,20 +34,20 @@ instruction_exit_is v trap effect page code small is =
     let word : nat_lt trap.tval (2 ^ 32) ≡ true = grind (arith, small) in rw (page, code, word, is) refl
 
 -- a guest-page fault
-pub page_exit_is : (v : Virtual) (trap : Trap) → is_guest_page_code trap.cause ≡ true → exit_of v trap ≡ unplaced_exit v trap (folds v)
+pub page_exit_is : (v : Virtual) (trap : Trap) → is_guest_page_code trap.cause ≡ true → exit_of v trap ≡ missing_place_exit v trap (folds v)
 unfolding exit_of
 page_exit_is v trap page = rw page refl
 
 -- where it is read so, the step that is left is so
-pub left_as : (m : Machine) (tried : Tried) (lacks : Option Entry) (trap : Trap) (left : Exit) → exit_of m.platform.virt trap ≡ left → tried ≡ try_at m left → lacks ≡ entry_at m left
+pub left_as : (m : Machine) (tried : Tried) (lacks : Option Entry) (trap : Trap) (left : Exit) → exit_of m.platform.virt trap ≡ left → tried ≡ try_at m left → lacks ≡ entry_for_exit m left
     → IsLeft m tried lacks (exit_of m.platform.virt trap)
-left_as m tried lacks trap left is step lacking = rw is (record { step = step; fills = lacking })
+left_as m tried lacks trap left is step missing_entry = rw is (record { step = step; fills = missing_entry })
 
 -- an access is missing where the guest folds
-unplaced_folds : (v : Virtual) (trap : Trap) (folding : Bool) → IfMissing (unplaced_exit v trap folding) folding
-unplaced_folds v trap true =
-    elim (nat_lt trap.tval2 (2 ^ 39)) as (λ b. IfMissing (cond b (Missing (missed v trap)) (Own trap)) true) [ true ↦ refl | false ↦ tt ]
-unplaced_folds v trap false = tt
+missing_place_folds : (v : Virtual) (trap : Trap) (folding : Bool) → IfMissing (missing_place_exit v trap folding) folding
+missing_place_folds v trap true =
+    elim (nat_lt trap.tval2 (2 ^ 39)) as (λ b. IfMissing (cond b (Missing (missing_place_of v trap)) (Own trap)) true) [ true ↦ refl | false ↦ tt ]
+missing_place_folds v trap false = tt
 
 instruction_folds : (trap : Trap) (effect : Option Privileged) (folding : Bool) → IfMissing (instruction_exit trap effect) folding
 instruction_folds trap (Some effect) folding = tt
@@ -64,26 +64,26 @@ either_folds false one other folding h i = i
 pub missing_folds : (v : Virtual) (trap : Trap) → IfMissing (exit_of v trap) (folds v)
 unfolding exit_of
 missing_folds v trap =
-    either_folds (is_guest_page_code trap.cause) _ _ (folds v) (unplaced_folds v trap (folds v))
+    either_folds (is_guest_page_code trap.cause) _ _ (folds v) (missing_place_folds v trap (folds v))
     (either_folds (trap.cause == VIRTUAL_INSTRUCTION) _ _ (folds v) (instruction_folds trap (privileged_at trap.tval v.regs) (folds v)) (other_folds trap (is_virtual v.mode) (folds v)))
 
 -- what is made of the exit is made of the machine's next step
-pub handled_by : (m after : Machine) (left : Exit) (result : Handled) → IsLeft m (try m) (lacking m) left → IsMadeOf left result m after → IsHandled result m after
+pub handled_by : (m after : Machine) (left : Exit) (result : Handled) → IsLeft m (try m) (missing_entry m) left → IsMadeOf left result m after → IsHandled result m after
 handled_by m after left result is made = record {
   step = λ went. record { ready = is.fills ∙ made.ready went; step = made.step went ∙ ap (left_by m) (sym is.step) };
   fill = λ retry. let filled = made.fill retry in (filled.0, is.fills ∙ filled.1, filled.2);
 }
 
 -- where an entry is filled, the try is a trap
-filled_traps : (m : Machine) (left : Exit) (e : Entry) → entry_at m left ≡ Some e → (trap : Trap) × (try_at m left ≡ trapped m trap)
-filled_traps m (Missing unplaced) e some = (_, refl)
+filled_traps : (m : Machine) (left : Exit) (e : Entry) → entry_for_exit m left ≡ Some e → (trap : Trap) × (try_at m left ≡ trapped m trap)
+filled_traps m (Missing missing) e some = (_, refl)
 filled_traps m (Instruction word effect) e some = absurd (cc)
 filled_traps m (OutsideRam fault) e some = absurd (cc)
 filled_traps m Call e some = absurd (cc)
 filled_traps m (Own trap) e some = absurd (cc)
 
 -- the answer tells of a wait for good
-pub handled_waits : (m after : Machine) (left : Exit) (result : Handled) → m.platform.status ≡ Running → IsLeft m (try m) (lacking m) left → IsMadeOf left result m after
+pub handled_waits : (m after : Machine) (left : Exit) (result : Handled) → m.platform.status ≡ Running → IsLeft m (try m) (missing_entry m) left → IsMadeOf left result m after
     → after.platform.status ≡ status_after result → (result ≡ handled.Waits) ↔ (try m ≡ WaitsForGood)
 handled_waits m after left handled.Retry running is made status =
     let filled = made.fill refl in

@@ -12,14 +12,14 @@ use Rattle.machine_defs.specs.Core.{Completion}
 use Rattle.machine_defs.specs.HlvAccesses.{hlv_completed, hlv_outcome, hlv_place}
 use Rattle.machine_defs.specs.Machine.{Machine, ticked, trapped}
 use Rattle.machine_defs.specs.Runs.{left_by}
-use Rattle.machine_defs.specs.Tries.{enters, hlv_made}
+use Rattle.machine_defs.specs.Tries.{enters, hlv_committed}
 use Rattle.machine_laws.specs.InstructionEnds.{HlvHas}
 use Rattle.machine_laws.proofs.Completions.{completed_same}
 use Rattle.hlv_hsv.specs.declared.accesses.Accessed.TheVariants.{Done, Raise}
 use Rattle.hlv_hsv.specs.Ends.{EndsAs}
 use Rattle.guest_exit.specs.declared.guests.Guest.{Guest}
 use Rattle.guest_exit.specs.Steps.{IsNotPlain}
-use Rattle.guest_exit.specs.View.{KeepsSpaces, machine_of, seen}
+use Rattle.guest_exit.specs.View.{KeepsSpaces, machine_of, platform_of}
 use Rattle.guest_exit.proofs.Alone.{machine_as}
 
 -- where such an instruction is made, the mode stays
@@ -31,11 +31,11 @@ completion_keeps reading s wanted (Ok place) = ap (λ (v : Virtual). v.mode) (co
 completion_keeps reading s wanted (Err trap) = tt
 
 -- it is no plain step
-quiet_by : (m : Machine) (end : Result Completion Trap) → IsNotPlain (hlv_made m end)
+quiet_by : (m : Machine) (end : Result Completion Trap) → IsNotPlain (hlv_committed m end)
 quiet_by m (Ok completion) = record { trace = refl; plain = refl }
 quiet_by m (Err trap) = record { trace = refl; plain = refl }
 
-pub access_is_quiet : (m : Machine) (wanted : DataAccess) → IsNotPlain (hlv_made m (hlv_outcome ram_base m.ram m.platform.virt wanted))
+pub access_is_quiet : (m : Machine) (wanted : DataAccess) → IsNotPlain (hlv_committed m (hlv_outcome ram_base m.ram m.platform.virt wanted))
 access_is_quiet m wanted = quiet_by m (hlv_outcome ram_base m.ram m.platform.virt wanted)
 
 -- nor does it set V
@@ -48,8 +48,8 @@ never_enters before after mode = rw mode (never_both (is_virtual before.mode) (i
 
 -- so where it is made, the machine of the guest is the one after it
 made_by : (old new : Guest) (memory changed : List ℕ) (virt : Virtual) (end : Result Completion Trap) → KeepsMode old.virt end
-    → EndsAs ram_base (ram_of old.part.blocks memory) end Done virt (ram_of old.part.blocks changed) → KeepsSpaces old new → seen new ≡ ticked (record (seen old) { virt = virt })
-    → machine_of new changed ≡ left_by (machine_of old memory) (hlv_made (machine_of old memory) end)
+    → EndsAs ram_base (ram_of old.part.blocks memory) end Done virt (ram_of old.part.blocks changed) → KeepsSpaces old new → platform_of new ≡ ticked (record (platform_of old) { virt = virt })
+    → machine_of new changed ≡ left_by (machine_of old memory) (hlv_committed (machine_of old memory) end)
 made_by old new memory changed virt (Ok completion) keeps (state, ram) fixed platform =
     rw (never_enters old.virt completion.state keeps)
     (machine_as old new memory changed _ _ _ fixed.part (rw state at platform) ram (rw fixed.pool refl) (rw fixed.pool refl) (rw fixed.pool refl))
@@ -57,8 +57,8 @@ made_by old new memory changed virt (Err trap) keeps never fixed platform = absu
 
 pub access_made : (old new : Guest) (memory changed : List ℕ) (virt : Virtual) (wanted : DataAccess)
     → EndsAs ram_base (ram_of old.part.blocks memory) (hlv_outcome ram_base (ram_of old.part.blocks memory) old.virt wanted) Done virt (ram_of old.part.blocks changed)
-    → KeepsSpaces old new → seen new ≡ ticked (record (seen old) { virt = virt })
-    → machine_of new changed ≡ left_by (machine_of old memory) (hlv_made (machine_of old memory) (hlv_outcome ram_base (ram_of old.part.blocks memory) old.virt wanted))
+    → KeepsSpaces old new → platform_of new ≡ ticked (record (platform_of old) { virt = virt })
+    → machine_of new changed ≡ left_by (machine_of old memory) (hlv_committed (machine_of old memory) (hlv_outcome ram_base (ram_of old.part.blocks memory) old.virt wanted))
 access_made old new memory changed virt wanted ends fixed platform =
     let ram = ram_of old.part.blocks memory in
     made_by old new memory changed virt (hlv_outcome ram_base ram old.virt wanted)
@@ -66,6 +66,6 @@ access_made old new memory changed virt wanted ends fixed platform =
 
 -- and where it traps, the trap is the machine's
 pub access_traps : (m : Machine) (end : Result Completion Trap) (raised : Trap) (base : ℕ) (bytes after : List ℕ) (virt : Virtual)
-    → EndsAs base bytes end (Raise raised) virt after → trapped m raised ≡ hlv_made m end
+    → EndsAs base bytes end (Raise raised) virt after → trapped m raised ≡ hlv_committed m end
 access_traps m (Ok completion) raised base bytes after virt never = absurd never
 access_traps m (Err trap) raised base bytes after virt is = ap (trapped m) is

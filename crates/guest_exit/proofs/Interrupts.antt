@@ -7,9 +7,9 @@ use Rattle.arch_defs.specs.declared.modes.Mode.TheVariants.{HS, U, VS, VU}
 use Rattle.arch_defs.specs.declared.registers.Csrs.{Csrs}
 use Rattle.arch_defs.specs.declared.registers.GuestRoot.{GuestRoot}
 use Rattle.arch_defs.specs.declared.registers.Interrupts.{Interrupts}
-use Rattle.arch_defs.specs.Interrupts.{due, due_for_hs, due_for_vs, guest_bit, hs_order, is_ready_for_hs, is_ready_for_vs, vs_order}
+use Rattle.arch_defs.specs.Interrupts.{due, due_for_hs, due_for_vs, hs_order, is_ready_for_hs, is_ready_for_vs, vs_bit, vs_order}
 use Rattle.arch_defs.specs.Traps.{is_virtual}
-use Rattle.machine_defs.specs.Machine.{timed}
+use Rattle.machine_defs.specs.Machine.{with_lines}
 use Rattle.guest_exit.specs.HartSteps.{is_hosts}
 use Rattle.world_switch.specs.Hosting.{all_interrupts, hosted_csrs, hosted_mode, saved_csrs, saved_mode}
 use Rattle.world_switch.specs.Laws.{KeepsHidden, waits_for_hs}
@@ -19,8 +19,8 @@ use Rattle.world_switch.proofs.Undone.{saved_v}
 -- with V = 1 the same, which is delegated
 abbrev pub IsDue : Option ℕ → Bool → Interrupts → Option ℕ → Type 0
 IsDue None virtual hideleg hart = hart ≡ None
-IsDue (Some code) false hideleg hart = (hart ≡ Some (code + 1)) × (guest_bit all_interrupts (code + 1) ≡ true)
-IsDue (Some code) true hideleg hart = (hart ≡ Some code) × (guest_bit hideleg code ≡ true)
+IsDue (Some code) false hideleg hart = (hart ≡ Some (code + 1)) × (vs_bit all_interrupts (code + 1) ≡ true)
+IsDue (Some code) true hideleg hart = (hart ≡ Some code) × (vs_bit hideleg code ≡ true)
 
 -- with V = 0 VS takes none on the lone machine
 or_none : (o : Option ℕ) → option_or o None ≡ o
@@ -218,7 +218,7 @@ none_of_three false false false h = record { first = refl; second = refl; third 
 -- the registers after steps of the hart, with V = 1
 nested_after : (root : GuestRoot) (before hart : Csrs) (mode : Mode) (clock : ℕ) (timer external : Bool) → is_virtual mode ≡ true → KeepsHidden root true before hart
     → timer ≡ before.sip.timer → external ≡ before.sip.external → is_hosts (due before mode) true before.hideleg ≡ false → waits_for_hs before ≡ false
-    → NoneReady (timed (saved_csrs true hart before) clock timer external)
+    → NoneReady (with_lines (saved_csrs true hart before) clock timer external)
 nested_after root before hart mode clock timer external on keeps t e own waits =
     let none = nested_ready before mode on own in
     let hideleg : hart.hideleg ≡ before.hideleg = ap {A = Csrs} (λ c. c.hideleg) keeps.rest in
@@ -237,10 +237,10 @@ nested_after root before hart mode clock timer external on keeps t e own waits =
 pub own_after : (root : GuestRoot) (virtual : Bool) (before hart : Csrs) (mode after : Mode) (clock : ℕ) (timer external : Bool) → is_virtual mode ≡ virtual
     → KeepsHidden root virtual before hart → timer ≡ before.sip.timer → external ≡ before.sip.external
     → is_hosts (due before mode) virtual before.hideleg ≡ false → waits_for_hs before ≡ false
-    → is_hosts (due (timed (saved_csrs virtual hart before) clock timer external) (saved_mode virtual after)) (is_virtual (saved_mode virtual after))
+    → is_hosts (due (with_lines (saved_csrs virtual hart before) clock timer external) (saved_mode virtual after)) (is_virtual (saved_mode virtual after))
     (saved_csrs virtual hart before).hideleg ≡ false
 own_after root false before hart mode after clock timer external is keeps t e own waits =
-    rw (saved_v false after) (never_due (timed (saved_csrs false hart before) clock timer external) (saved_mode false after) (saved_v false after) waits)
+    rw (saved_v false after) (never_due (with_lines (saved_csrs false hart before) clock timer external) (saved_mode false after) (saved_v false after) waits)
 own_after root true before hart mode after clock timer external is keeps t e own waits =
-    rw (saved_v true after) (nested_due (timed (saved_csrs true hart before) clock timer external) (saved_mode true after) (saved_v true after)
+    rw (saved_v true after) (nested_due (with_lines (saved_csrs true hart before) clock timer external) (saved_mode true after) (saved_v true after)
     (nested_after root before hart mode clock timer external is keeps t e own waits))

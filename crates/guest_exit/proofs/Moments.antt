@@ -4,7 +4,7 @@ use Rattle.std.specs.Option.{ForSome}
 use Rattle.std.proofs.Common.{cond, ◌≡◌, ℕ, ◌+◌, ◌-◌, ◌<◌, ◌≤◌, Bool, true, false, Some, None, refl, arith}
 use Rattle.arch_defs.specs.Clocks.{Times, next_event}
 use Rattle.arch_defs.specs.Inputs.{has_come}
-use Rattle.guest_exit.specs.HartEntry.{Stays}
+use Rattle.guest_exit.specs.HartEntry.{KeepsCome}
 
 -- where the timer has not come, or has, so it is with its moment, if that is ahead
 ahead_by : (timer time : ℕ) (ahead : Bool) → nat_lt time timer ≡ ahead → (n : ℕ)
@@ -13,7 +13,7 @@ ahead_by : (timer time : ℕ) (ahead : Bool) → nat_lt time timer ≡ ahead →
 ahead_by timer time true e n stays = stays
 ahead_by timer time false e n stays = refl
 
-pub stays_by_timer : (times : Times) (limit : ℕ) → Stays (nat_le times.timer) times.time limit → Stays (has_come (next_event times)) times.time limit
+pub stays_by_timer : (times : Times) (limit : ℕ) → KeepsCome (nat_le times.timer) times.time limit → KeepsCome (has_come (next_event times)) times.time limit
 stays_by_timer times limit stays n within = ahead_by times.timer times.time (nat_lt times.time times.timer) refl n (stays n within)
 
 -- steps that all begin before the timer's moment, where that is ahead, do not go past it
@@ -32,7 +32,7 @@ before_by timer time taken true e stays = λ moment is.
     let same : timer ≡ moment = cc in rw (← same) (not_past timer time taken (nat_le (time + taken) timer) refl e stays)
 before_by timer time taken false e stays = λ moment is. absurd (cc)
 
-pub before_timer : (times : Times) (limit taken : ℕ) → Stays (nat_le times.timer) times.time limit → taken ≤ limit
+pub before_timer : (times : Times) (limit taken : ℕ) → KeepsCome (nat_le times.timer) times.time limit → taken ≤ limit
     → ForSome (next_event times) (λ moment. times.time + taken ≤ moment)
 before_timer times limit taken stays within =
     before_by times.timer times.time taken (nat_lt times.time times.timer) refl

@@ -19,22 +19,22 @@ use Rattle.host_tables.specs.Walks.{IsHeld}
 use Rattle.host_tables.proofs.Held.{held_by_blocks}
 use Rattle.machine_laws.specs.HostPlaces.{in_ram}
 use Rattle.machine_defs.specs.Machine.{Machine}
-use Rattle.machine_laws.specs.Renaming.{ReservesHeld}
+use Rattle.machine_laws.specs.Renaming.{ReservesWithin}
 use Rattle.machine_laws.specs.Reservations.{IsInRam, KeepsInRam, ReservesInRam, places_from}
 use Rattle.machine_defs.specs.Runs.{left_after, run}
 use Rattle.machine_laws.proofs.InRam.{fill_stays_in_ram, stays_in_ram, try_stays_in_ram}
 use Rattle.machine_laws.specs.Keeping.{IsOrderly}
 use Rattle.machine_laws.proofs.Orderly.{fill_stays_orderly, stays_orderly, try_stays_orderly}
-use Rattle.shadow_pool.specs.Slots.{Pooled, TidyPool, frames_for, pool_frames, room_of, spaces_of}
+use Rattle.shadow_pool.specs.Slots.{Pooled, TidyPool, pool_frames, room_of, spaces_of, table_frames_for}
 use Rattle.guest_exit.specs.declared.guests.Guest.{Guest}
 use Rattle.guest_exit.specs.HartSteps.{IsAt, changing}
 use Rattle.guest_exit.specs.Steps.{Fills, MakesStep}
-use Rattle.guest_exit.specs.View.{IsPlaced, KeepsSpaces, StaysFixed, changed_by, machine_of}
+use Rattle.guest_exit.specs.View.{IsPlaced, KeepsLayout, KeepsSpaces, changed_by, machine_of}
 use Rattle.guest_exit.proofs.Pools.{held_after, size_of, tidy_by_blocks}
 
 -- what is reserved in RAM of so many bytes
 abbrev ReservesBelow : ℕ → Option (ℕ × ℕ) → Type 0
-ReservesBelow size reserved = ReservesHeld (places_from ram_base size) reserved
+ReservesBelow size reserved = ReservesWithin (places_from ram_base size) reserved
 
 whole_pages : (n : ℕ) → n * 2097152 % 4096 ≡ 0
 whole_pages n = omega arith
@@ -102,14 +102,14 @@ placed_after old new memory changed k at fixed only ran =
     (subst (IsKept (machine_of old memory)) (sym ran) (kept_by_run old.part old.pool (machine_of old memory) memory k at))
 
 -- after a step that the host makes
-pub placed_by_step : (old new : Guest) (memory changed : List ℕ) → IsPlaced old memory → StaysFixed old new → Only (changed_by old) memory changed
+pub placed_by_step : (old new : Guest) (memory changed : List ℕ) → IsPlaced old memory → KeepsLayout old new → Only (changed_by old) memory changed
     → TidyPool new.pool changed → MakesStep (machine_of old memory) (machine_of new changed) → IsPlaced new changed
 placed_by_step old new memory changed at fixed only tidy makes =
     placed_if old new memory changed at fixed.part fixed.pool only tidy
     (subst (IsKept (machine_of old memory)) (sym makes.step) (kept_by_try old.part old.pool (machine_of old memory) memory at))
 
 -- and after a fill
-pub placed_by_fill : (old new : Guest) (memory changed : List ℕ) → IsPlaced old memory → StaysFixed old new → Only (changed_by old) memory changed
+pub placed_by_fill : (old new : Guest) (memory changed : List ℕ) → IsPlaced old memory → KeepsLayout old new → Only (changed_by old) memory changed
     → TidyPool new.pool changed → Fills (machine_of old memory) (machine_of new changed) → IsPlaced new changed
 placed_by_fill old new memory changed at fixed only tidy (e, lacks, is) =
     let m = machine_of old memory in
@@ -121,9 +121,9 @@ placed_by_fill old new memory changed at fixed only tidy (e, lacks, is) =
 
 -- a guest that has entered no space is so in memory that has its host table, and zeros where its spaces' tables will be
 pub placed_new : (guest : Guest) (memory : List ℕ) → NamesEachOnce guest.part → IsHeld guest.part memory → IsNewPool guest.part guest.pool → AreZeros (pool_frames guest.pool) memory
-    → ReservesHeld (in_ram guest.part.blocks) guest.virt.reservation → folds guest.virt ≡ false → IsPlaced guest memory
+    → ReservesWithin (in_ram guest.part.blocks) guest.virt.reservation → folds guest.virt ≡ false → IsPlaced guest memory
 placed_new guest memory once held new zeros reserved flat =
-    let frames : frames_for guest.part (room_of guest.pool) ≡ pool_frames guest.pool = rw new.part refl in
+    let frames : table_frames_for guest.part (room_of guest.pool) ≡ pool_frames guest.pool = rw new.part refl in
     let within : Within (pool_frames guest.pool) (named_by guest.part) =
     subst (λ frames. Within frames (named_by guest.part)) frames (pool_within guest.part (room_of guest.pool) new.few) in
     record {
@@ -146,9 +146,9 @@ placed_new guest memory once held new zeros reserved flat =
 
 -- so it is in memory of zeros in which its host table alone has been built
 pub placed_built : (guest : Guest) (memory : List ℕ) (size : ℕ) → NamesEachOnce guest.part → IsHeld guest.part memory → IsNewPool guest.part guest.pool → Only (host_frames guest.part) (zeros size) memory
-    → ReservesHeld (in_ram guest.part.blocks) guest.virt.reservation → folds guest.virt ≡ false → IsPlaced guest memory
+    → ReservesWithin (in_ram guest.part.blocks) guest.virt.reservation → folds guest.virt ≡ false → IsPlaced guest memory
 placed_built guest memory size once held new only reserved flat =
-    let frames : frames_for guest.part (room_of guest.pool) ≡ pool_frames guest.pool = rw new.part refl in
+    let frames : table_frames_for guest.part (room_of guest.pool) ≡ pool_frames guest.pool = rw new.part refl in
     let apart : Apart (host_frames guest.part) (pool_frames guest.pool) =
     subst (Apart (host_frames guest.part)) frames (host_apart guest.part once (room_of guest.pool) new.few) in
     placed_new guest memory once held new

@@ -10,7 +10,7 @@ use Rattle.arch_defs.proofs.RamBlocks.{blocks_lie_in, ram_kept, ram_length}
 use Rattle.arch_defs.proofs.Rooms.{first_lies}
 use Rattle.host_tables.specs.Walks.{IsHeld}
 use Rattle.host_tables.proofs.Held.{held_stays, host_apart_from_blocks}
-use Rattle.shadow_pool.specs.Slots.{Pooled, TidyPool, frames_for, pool_frames, room_of}
+use Rattle.shadow_pool.specs.Slots.{Pooled, TidyPool, pool_frames, room_of, table_frames_for}
 use Rattle.shadow_pool.proofs.Apart.{host_apart, pool_within, ram_apart}
 use Rattle.shadow_pool.proofs.Front.{pool_lasts}
 
@@ -26,7 +26,7 @@ pub pool_apart : (part : Layout) (pool : Pooled) (memory : List ℕ) → NamesEa
     → Apart (in_blocks part.blocks) (pool_frames pool) × Apart (host_frames part) (pool_frames pool)
 pool_apart part pool memory once own tidy =
     let few : room_of pool ≤ part.spaces = rw (← own) tidy.slots.own in
-    let frames : frames_for part (room_of pool) ≡ pool_frames pool = rw own refl in (
+    let frames : table_frames_for part (room_of pool) ≡ pool_frames pool = rw own refl in (
       subst (Apart (in_blocks part.blocks)) frames (ram_apart part once (room_of pool) few),
       subst (Apart (host_frames part)) frames (host_apart part once (room_of pool) few),
     )
@@ -55,7 +55,7 @@ held_after part pool old new once own tidy held only =
 pub pool_in_part : (part : Layout) (pool : Pooled) (memory : List ℕ) → pool.part ≡ part → TidyPool pool memory → Within (pool_frames pool) (named_by part)
 pool_in_part part pool memory own tidy =
     let few : room_of pool ≤ part.spaces = rw (← own) tidy.slots.own in
-    let frames : frames_for part (room_of pool) ≡ pool_frames pool = rw own refl in
+    let frames : table_frames_for part (room_of pool) ≡ pool_frames pool = rw own refl in
     subst (λ frames. Within frames (named_by part)) frames (pool_within part (room_of pool) few)
 
 pub changes_within : (part : Layout) (pool : Pooled) (memory : List ℕ) → pool.part ≡ part → TidyPool pool memory → Within (joined (in_blocks part.blocks) (pool_frames pool)) (named_by part)

@@ -10,7 +10,7 @@ use Rattle.arch_defs.specs.declared.modes.Mode.TheVariants.{HS, U, VS, VU}
 use Rattle.arch_defs.specs.declared.modes.TheConstants.{ILLEGAL_INSTRUCTION, VIRTUAL_INSTRUCTION}
 use Rattle.arch_defs.specs.declared.registers.GuestRoot.{GuestRoot}
 use Rattle.arch_defs.specs.declared.registers.Virtual.{Virtual}
-use Rattle.arch_defs.specs.Access.{changed_by, named_to_write, read, shown, value_of, write, written}
+use Rattle.arch_defs.specs.CsrAccess.{named_to_write, read_csr, shown, value_of, write_csr, written, written_by}
 use Rattle.arch_defs.specs.CsrNames.{register_of}
 use Rattle.arch_defs.specs.Traps.{exception, is_virtual, returned}
 use Rattle.op_defs.specs.declared.ops.CsrOp.{CsrOp}
@@ -19,9 +19,9 @@ use Rattle.op_defs.specs.declared.ops.Privileged.{Privileged}
 use Rattle.op_defs.specs.declared.ops.Privileged.TheVariants.{Csr, Sret, Wfi, SfenceVma, HfenceVvma, HfenceGvma, HlvAccess}
 use Rattle.machine_defs.specs.declared.events.Event.TheVariants.{System}
 use Rattle.machine_defs.specs.Outcomes.{Outcome, Done, passed, sets}
-use Rattle.machine_defs.specs.Privileges.{combined, csr_accessed, csr_changed, csr_shown, decided, held, left_by_sret, privileged, refusal, refused, virtual_if}
+use Rattle.machine_defs.specs.Privileges.{combined, csr_accessed, csr_changed, csr_shown, decided, left_by_sret, privileged, refusal, refused, value_or_zero, virtual_if}
 use Rattle.guest_exit.specs.ExitCases.{privileged_in}
-use Rattle.world_switch.specs.Hosting.{hosted, hosted_csrs, hosted_mode}
+use Rattle.world_switch.specs.Hosting.{hart_state_of, hosted_csrs, hosted_mode}
 use Rattle.world_switch.proofs.Instructions.{always_virtual, supervisor_again}
 use Rattle.world_switch.proofs.Registers.{Nothing, Withheld, Both, Reaches, reached_alike}
 use Rattle.world_switch.proofs.Undone.{same_csrs}
@@ -36,7 +36,7 @@ Leaves s lone word = Traps s lone (exception (hosted_mode s.mode) VIRTUAL_INSTRU
 shown_stands : (root : GuestRoot) (s : Virtual) (word n rd : ℕ) (own hart : Result Register CsrEnd)
     → Leaves s (csr_shown s word rd (value_of s.csrs own)) word → Reaches root (is_virtual s.mode) s.csrs n own hart
     → Stands root s (csr_shown s word rd (value_of s.csrs own))
-    (csr_shown (hosted root s) word rd (value_of (hosted_csrs root (is_virtual s.mode) s.csrs) hart))
+    (csr_shown (hart_state_of root s) word rd (value_of (hosted_csrs root (is_virtual s.mode) s.csrs) hart))
 shown_stands root s word n rd own hart leaves (Nothing e f) = rw (e, f) (Own ILLEGAL_INSTRUCTION word refl refl own_2)
 shown_stands root s word n rd own hart leaves (Withheld f) = rw f leaves
 shown_stands root s word n rd own hart leaves (Both r twin e f twins row) =
@@ -46,12 +46,12 @@ shown_stands root s word n rd own hart leaves (Both r twin e f twins row) =
 -- a write of what a number reaches, by whether the number is one of those that cannot be written
 abbrev changed : Virtual → ℕ → CsrOp → ℕ → ℕ → Bool → Result Register CsrEnd → Outcome
 changed s word op operand rd late r =
-    let before = held (value_of s.csrs r) in csr_changed s word rd before (changed_by s.csrs (cond late (Err Illegal) r) (combined op before operand))
+    let before = value_or_zero (value_of s.csrs r) in csr_changed s word rd before (written_by s.csrs (cond late (Err Illegal) r) (combined op before operand))
 
 -- a write, by what the number is to both
 changed_stands : (root : GuestRoot) (s : Virtual) (word n : ℕ) (op : CsrOp) (operand rd : ℕ) (late : Bool) (own hart : Result Register CsrEnd)
     → Leaves s (changed s word op operand rd late own) word → Reaches root (is_virtual s.mode) s.csrs n own hart
-    → Stands root s (changed s word op operand rd late own) (changed (hosted root s) word op operand rd late hart)
+    → Stands root s (changed s word op operand rd late own) (changed (hart_state_of root s) word op operand rd late hart)
 changed_stands root s word n op operand rd true own hart leaves reaches = Own ILLEGAL_INSTRUCTION word refl refl own_2
 changed_stands root s word n op operand rd false own hart leaves (Nothing e f) =
     rw (e, f) (Own ILLEGAL_INSTRUCTION word refl refl own_2)
@@ -65,25 +65,25 @@ changed_stands root s word n op operand rd false own hart leaves (Both r twin e 
 -- an instruction on a control and status register
 csr_stands : (root : GuestRoot) (s : Virtual) (word : ℕ) (op : CsrOp) (n operand : ℕ) (writes : Bool) (rd : ℕ)
     → Leaves s (csr_accessed s word op n operand writes rd) word
-    → Stands root s (csr_accessed s word op n operand writes rd) (csr_accessed (hosted root s) word op n operand writes rd)
-unfolding read write named_to_write
+    → Stands root s (csr_accessed s word op n operand writes rd) (csr_accessed (hart_state_of root s) word op n operand writes rd)
+unfolding read_csr write_csr named_to_write
 csr_stands root s word op n operand true rd leaves =
     changed_stands root s word n op operand rd (nat_le 0xC00 n) _ _ leaves (reached_alike root s.csrs s.mode n (register_of n) refl)
 csr_stands root s word op n operand false rd leaves =
     shown_stands root s word n rd _ _ leaves (reached_alike root s.csrs s.mode n (register_of n) refl)
 
 -- SFENCE.VMA, which changes nothing where it is made
-passes : (root : GuestRoot) (s : Virtual) → Stands root s (Done (passed s) None System) (Done (passed (hosted root s)) None System)
+passes : (root : GuestRoot) (s : Virtual) → Stands root s (Done (passed s) None System) (Done (passed (hart_state_of root s)) None System)
 passes root s =
     ends_csrs root s (sets s 0 0).regs (hosted_csrs root (is_virtual s.mode) s.csrs) s.csrs (same_csrs root (is_virtual s.mode) s.csrs) (none_written root (is_virtual s.mode) s.csrs)
 
 fence_if : (root : GuestRoot) (s : Virtual) (word : ℕ) (kept : Bool) → Leaves s (decided s word SfenceVma (virtual_if kept)) word
-    → Stands root s (decided s word SfenceVma (virtual_if kept)) (decided (hosted root s) word SfenceVma (virtual_if kept))
+    → Stands root s (decided s word SfenceVma (virtual_if kept)) (decided (hart_state_of root s) word SfenceVma (virtual_if kept))
 fence_if root s word true leaves = leaves
 fence_if root s word false leaves = passes root s
 
 fence_stands : (root : GuestRoot) (s : Virtual) (word : ℕ) (mode : Mode) → Leaves (record s { mode = mode }) (privileged (record s { mode = mode }) word SfenceVma) word
-    → Stands root (record s { mode = mode }) (privileged (record s { mode = mode }) word SfenceVma) (privileged (hosted root (record s { mode = mode })) word SfenceVma)
+    → Stands root (record s { mode = mode }) (privileged (record s { mode = mode }) word SfenceVma) (privileged (hart_state_of root (record s { mode = mode })) word SfenceVma)
 unfolding privileged refusal
 fence_stands root s word HS leaves = passes root (record s { mode = HS })
 fence_stands root s word U leaves = leaves
@@ -91,7 +91,7 @@ fence_stands root s word VS leaves = fence_if root (record s { mode = VS }) word
 fence_stands root s word VU leaves = leaves
 
 -- an SRET of VS, where the guest lets it
-returns : (root : GuestRoot) (s : Virtual) → Stands root (record s { mode = VS }) (left_by_sret (record s { mode = VS })) (left_by_sret (hosted root (record s { mode = VS })))
+returns : (root : GuestRoot) (s : Virtual) → Stands root (record s { mode = VS }) (left_by_sret (record s { mode = VS })) (left_by_sret (hart_state_of root (record s { mode = VS })))
 unfolding returned
 returns root s = (
   rw (supervisor_again s.csrs.vs.status.spp) refl,
@@ -102,12 +102,12 @@ returns root s = (
 )
 
 return_if : (root : GuestRoot) (s : Virtual) (word : ℕ) (kept : Bool) → Leaves (record s { mode = VS }) (decided (record s { mode = VS }) word Sret (virtual_if kept)) word
-    → Stands root (record s { mode = VS }) (decided (record s { mode = VS }) word Sret (virtual_if kept)) (decided (hosted root (record s { mode = VS })) word Sret (virtual_if kept))
+    → Stands root (record s { mode = VS }) (decided (record s { mode = VS }) word Sret (virtual_if kept)) (decided (hart_state_of root (record s { mode = VS })) word Sret (virtual_if kept))
 return_if root s word true leaves = leaves
 return_if root s word false leaves = returns root s
 
 return_stands : (root : GuestRoot) (s : Virtual) (word : ℕ) (mode : Mode) → Leaves (record s { mode = mode }) (privileged (record s { mode = mode }) word Sret) word
-    → Stands root (record s { mode = mode }) (privileged (record s { mode = mode }) word Sret) (privileged (hosted root (record s { mode = mode })) word Sret)
+    → Stands root (record s { mode = mode }) (privileged (record s { mode = mode }) word Sret) (privileged (hart_state_of root (record s { mode = mode })) word Sret)
 unfolding privileged refusal
 return_stands root s word HS leaves = leaves
 return_stands root s word U leaves = leaves
@@ -121,7 +121,7 @@ record IsWithheld (s : Virtual) (word : ℕ) : Type 0 where
   gvma : (fence : Fence) → privileged s word (HfenceGvma fence) ≡ refused s word VirtualInstruction
   hlv : (wanted : DataAccess) → privileged s word (HlvAccess wanted) ≡ refused s word VirtualInstruction
 
-withheld : (root : GuestRoot) (s : Virtual) (word : ℕ) (mode : Mode) → IsWithheld (hosted root (record s { mode = mode })) word
+withheld : (root : GuestRoot) (s : Virtual) (word : ℕ) (mode : Mode) → IsWithheld (hart_state_of root (record s { mode = mode })) word
 unfolding privileged refusal
 withheld root s word HS = record { wfi = refl; vvma = refl; gvma = λ fence. refl; hlv = λ wanted. refl }
 withheld root s word U = record { wfi = refl; vvma = refl; gvma = λ fence. refl; hlv = λ wanted. refl }
@@ -129,13 +129,13 @@ withheld root s word VS = record { wfi = refl; vvma = refl; gvma = λ fence. ref
 withheld root s word VU = record { wfi = refl; vvma = refl; gvma = λ fence. refl; hlv = λ wanted. refl }
 
 csr_decided : (root : GuestRoot) (s : Virtual) (word : ℕ) (op : CsrOp) (n operand : ℕ) (writes : Bool) (rd : ℕ) → Leaves s (privileged s word (Csr op n operand writes rd)) word
-    → Stands root s (privileged s word (Csr op n operand writes rd)) (privileged (hosted root s) word (Csr op n operand writes rd))
+    → Stands root s (privileged s word (Csr op n operand writes rd)) (privileged (hart_state_of root s) word (Csr op n operand writes rd))
 unfolding privileged refusal
 csr_decided root s word op n operand writes rd leaves = csr_stands root s word op n operand writes rd leaves
 
 -- an instruction that the mode decides on, by what it is
 decided_stands : (root : GuestRoot) (s : Virtual) (word : ℕ) (p : Privileged) → Leaves s (privileged s word p) word
-    → Stands root s (privileged s word p) (privileged (hosted root s) word p)
+    → Stands root s (privileged s word p) (privileged (hart_state_of root s) word p)
 decided_stands root s word (Csr op n operand writes rd) leaves = csr_decided root s word op n operand writes rd leaves
 decided_stands root s word Sret leaves = return_stands root s word s.mode leaves
 decided_stands root s word Wfi leaves = rw (withheld root s word s.mode).wfi leaves
@@ -145,5 +145,5 @@ decided_stands root s word (HfenceGvma fence) leaves = rw ((withheld root s word
 decided_stands root s word (HlvAccess wanted) leaves = rw ((withheld root s word s.mode).hlv wanted) leaves
 
 pub privileged_stands : (root : GuestRoot) (s : Virtual) (word : ℕ) (p : Privileged) → word < 2 ^ 32 → privileged_in word s.regs ≡ Some p
-    → Stands root s (privileged s word p) (privileged (hosted root s) word p)
+    → Stands root s (privileged s word p) (privileged (hart_state_of root s) word p)
 privileged_stands root s word p small e = decided_stands root s word p (left s word p small e)

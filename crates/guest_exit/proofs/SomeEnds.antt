@@ -9,7 +9,7 @@ use Rattle.op_defs.specs.declared.ops.DataAccess.{DataAccess}
 use Rattle.machine_defs.specs.Core.{Completion, core}
 use Rattle.machine_defs.specs.HlvAccesses.{hlv_outcome}
 use Rattle.machine_defs.specs.Machine.{Machine, Tried}
-use Rattle.machine_defs.specs.Outcomes.{Outcome, Done, Trapped, Stuck, Called, Waits, Fenced, Accesses}
+use Rattle.machine_defs.specs.Outcomes.{Outcome, Done, Trapped, Missed, Called, Waits, Fenced, Accesses}
 use Rattle.machine_defs.specs.Tries.{fence_under, second_of, try}
 use Rattle.machine_laws.specs.InstructionEnds.{HlvHas, OutcomeHas}
 use Rattle.machine_laws.proofs.TryEnds.{TryEnd, try_end}
@@ -20,7 +20,7 @@ SomeEnd m tried fence = TryEnd (λ (completion : Completion). Unit {0}) (λ (vir
 any_outcome : (o : Outcome) → OutcomeHas (λ (completion : Completion). Unit {0}) (λ (virt : Virtual). Unit {0}) (λ (wanted : DataAccess). Unit {0}) o
 any_outcome (Done state stored event) = tt
 any_outcome (Trapped trap) = tt
-any_outcome (Stuck unplaced) = tt
+any_outcome (Missed missing) = tt
 any_outcome Called = tt
 any_outcome (Waits state) = tt
 any_outcome (Fenced state fence) = tt

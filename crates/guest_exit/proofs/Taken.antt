@@ -13,7 +13,7 @@ use Rattle.arch_defs.specs.declared.registers.Csrs.{Csrs}
 use Rattle.arch_defs.specs.declared.registers.GuestRoot.{GuestRoot}
 use Rattle.arch_defs.specs.declared.registers.Regs.{Regs}
 use Rattle.arch_defs.specs.declared.registers.Virtual.{Virtual}
-use Rattle.arch_defs.specs.Interrupts.{guest_bit, interrupt_of}
+use Rattle.arch_defs.specs.Interrupts.{interrupt_of, vs_bit}
 use Rattle.arch_defs.specs.Frames.{in_blocks}
 use Rattle.arch_defs.specs.Layouts.{Layout}
 use Rattle.arch_defs.specs.Traps.{access_fault, entered_at, entered_vs, exception, is_delegated, is_virtual, target}
@@ -21,20 +21,20 @@ use Rattle.arch_defs.proofs.FrameSets.{only_none}
 use Rattle.machine_defs.specs.declared.events.Event.TheVariants as event
 use Rattle.machine_laws.specs.HostPlaces.{in_ram, memory_place}
 use Rattle.machine_defs.specs.Machine.{Machine, Tried, stepped_to, trapped}
-use Rattle.machine_defs.specs.Tries.{concluded}
+use Rattle.machine_defs.specs.Tries.{apply_outcome}
 use Rattle.op_defs.specs.declared.ops.CsrOp.{CsrOp}
 use Rattle.op_defs.specs.declared.ops.Privileged.{Privileged}
 use Rattle.op_defs.specs.declared.ops.Privileged.TheVariants.{Csr, Wfi}
 use Rattle.machine_defs.specs.Outcomes.{Outcome, Trapped, Called}
 use Rattle.machine_defs.specs.Privileges.{privileged, refusal}
 use Rattle.world_switch.proofs.Instructions.{time_is_left}
-use Rattle.machine_laws.specs.Renaming.{ReservesHeld, renamed}
-use Rattle.world_switch.specs.Hosting.{all_interrupts, fixed_up, hosted, hosted_csrs, hosted_mode, loaded, saved, taken_back}
+use Rattle.machine_laws.specs.Renaming.{ReservesWithin, renamed}
+use Rattle.world_switch.specs.Hosting.{after_hs_trap, all_interrupts, guest_state_after, guest_state_of, hart_state_in, hart_state_of, hosted_csrs, hosted_mode}
 use Rattle.world_switch.specs.Laws.{KeepsHidden}
 use Rattle.world_switch.proofs.Undone.{exceptions_alike, interrupts_alike, nested_traps_alike, virtual_mode}
 use Rattle.guest_exit.specs.declared.exit_cases.Exit.TheVariants as case
 use Rattle.guest_exit.specs.ExitCases.{IsLeft, exit_of, is_guest_page_code, other_exit}
-use Rattle.guest_exit.specs.HartSteps.{ExitsAt, FollowsTry, IsAt, IsMade, Keeps, TimeExits, WaitsExit, hosted_level, step_for}
+use Rattle.guest_exit.specs.HartSteps.{ExitsAt, FollowsTry, IsAt, IsMade, KeepsHart, TimeExits, WaitsExit, hosted_level, step_for}
 use Rattle.rv64_hart.specs.Steps.{HartEnd, end_by, next_attempt, trapped_to}
 use Rattle.guest_exit.proofs.ExitCases.{instruction_exit_is, left_as, other_exit_is}
 use Rattle.guest_exit.proofs.Interrupts.{IsDue}
@@ -64,7 +64,7 @@ to_host csrs mode trap on e = rw (on, e) refl
 abbrev pub taken : Layout → GuestRoot → Machine → List ℕ → Trap → HartEnd
 taken part root m memory trap =
     let v = m.platform.virt in
-    trapped_to (loaded part root v) memory trap (target (hosted_csrs root (is_virtual v.mode) v.csrs) (hosted_mode v.mode) trap)
+    trapped_to (hart_state_in part root v) memory trap (target (hosted_csrs root (is_virtual v.mode) v.csrs) (hosted_mode v.mode) trap)
 
 -- a trap into VS changes nothing that the hart does not have for the guest
 entry_keeps : (root : GuestRoot) (virtual : Bool) (csrs : Csrs) (regs : Regs) (mode : Mode) (trap : Trap)
@@ -73,7 +73,7 @@ unfolding entered_vs
 entry_keeps root false csrs regs mode trap = record { rest = refl; timer = λ e. refl; external = λ e. refl; waits = refl }
 entry_keeps root true csrs regs mode trap = record { rest = refl; timer = λ e. cc; external = λ e. cc; waits = refl }
 
-entered_keeps : (root : GuestRoot) (v : Virtual) (trap : Trap) → Keeps root v (entered_at (hosted root v) trap level.VS)
+entered_keeps : (root : GuestRoot) (v : Virtual) (trap : Trap) → KeepsHart root v (entered_at (hart_state_of root v) trap level.VS)
 unfolding entered_vs
 entered_keeps root v trap = record { csrs = entry_keeps root (is_virtual v.mode) v.csrs v.regs (hosted_mode v.mode) trap; mode = refl }
 
@@ -82,33 +82,33 @@ entered_renamed : (h : ℕ → ℕ) (s : Virtual) (trap : Trap) → entered_at (
 unfolding entered_vs
 entered_renamed h s trap = refl
 
-entered_held : (part : Layout) (s : Virtual) (trap : Trap) → ReservesHeld (in_ram part.blocks) s.reservation
-    → ReservesHeld (in_ram part.blocks) (entered_at s trap level.VS).reservation
+entered_held : (part : Layout) (s : Virtual) (trap : Trap) → ReservesWithin (in_ram part.blocks) s.reservation
+    → ReservesWithin (in_ram part.blocks) (entered_at s trap level.VS).reservation
 unfolding entered_vs
 entered_held part s trap held = held
 
 -- an entry into VS that stands for the machine's trap
 entry_made : (part : Layout) {pool : Pooled} (root : GuestRoot) (m : Machine) (memory : List ℕ) (trap : Trap) (tried : Tried) (lacks : Option Entry) (interrupt : Bool)
     → IsAt part pool m memory → lacks ≡ None
-    → tried ≡ step_for m (entered_at (hosted root m.platform.virt) trap level.VS) true m.ram (event.Trap (hosted_level (is_virtual m.platform.virt.mode)) interrupt)
-    → IsMade part root m tried lacks memory (entered_at (loaded part root m.platform.virt) trap level.VS) memory (event.Trap level.VS interrupt)
+    → tried ≡ step_for m (entered_at (hart_state_of root m.platform.virt) trap level.VS) true m.ram (event.Trap (hosted_level (is_virtual m.platform.virt.mode)) interrupt)
+    → IsMade part root m tried lacks memory (entered_at (hart_state_in part root m.platform.virt) trap level.VS) memory (event.Trap level.VS interrupt)
 entry_made part root m memory trap tried lacks interrupt at ready step =
     let v = m.platform.virt in
     record {
-      own = entered_at (hosted root v) trap level.VS;
-      state = entered_renamed (memory_place part.blocks) (hosted root v) trap;
+      own = entered_at (hart_state_of root v) trap level.VS;
+      state = entered_renamed (memory_place part.blocks) (hart_state_of root v) trap;
       step = rw (← at.ram) step;
       ready = ready;
       keeps = entered_keeps root v trap;
-      held = entered_held part (hosted root v) trap at.reserved;
+      held = entered_held part (hart_state_of root v) trap at.reserved;
       only = only_none (in_blocks part.blocks) memory;
     }
 
 -- what is taken back after it, by the guest's V
-back_own : (hart before : Virtual) → is_virtual before.mode ≡ false → taken_back true hart before ≡ fixed_up (saved hart before)
+back_own : (hart before : Virtual) → is_virtual before.mode ≡ false → guest_state_after true hart before ≡ after_hs_trap (guest_state_of hart before)
 back_own hart before own = rw own refl
 
-back_nested : (hart before : Virtual) → is_virtual before.mode ≡ true → taken_back true hart before ≡ saved hart before
+back_nested : (hart before : Virtual) → is_virtual before.mode ≡ true → guest_state_after true hart before ≡ guest_state_of hart before
 back_nested hart before on = rw on refl
 
 -- a trap of the machine by its level, and so with V = 0 into HS, and with V = 1 into VS
@@ -118,42 +118,42 @@ trapped_at m trap into e = ap (λ l. stepped_to m (record m.platform { virt = en
 
 entry_is : (m : Machine) (trap : Trap) (own : Virtual) (virtual : Bool) → is_virtual m.platform.virt.mode ≡ virtual
     → target m.platform.virt.csrs m.platform.virt.mode trap ≡ hosted_level virtual
-    → taken_back true own m.platform.virt ≡ entered_at m.platform.virt trap (hosted_level virtual)
+    → guest_state_after true own m.platform.virt ≡ entered_at m.platform.virt trap (hosted_level virtual)
     → trapped m trap ≡ step_for m own true m.ram (event.Trap (hosted_level (is_virtual m.platform.virt.mode)) trap.interrupt)
 entry_is m trap own virtual is goes same =
     trapped_at m trap (hosted_level virtual) goes
     ∙ ap (λ virt. stepped_to m (record m.platform { virt = virt }) (event.Trap (hosted_level virtual) trap.interrupt)) (sym same)
     ∙ ap (λ v. step_for m own true m.ram (event.Trap (hosted_level v) trap.interrupt)) (sym is)
 
-hs_entry : (m : Machine) (trap : Trap) (own : Virtual) → is_virtual m.platform.virt.mode ≡ false → fixed_up (saved own m.platform.virt) ≡ entered_at m.platform.virt trap level.HS
+hs_entry : (m : Machine) (trap : Trap) (own : Virtual) → is_virtual m.platform.virt.mode ≡ false → after_hs_trap (guest_state_of own m.platform.virt) ≡ entered_at m.platform.virt trap level.HS
     → trapped m trap ≡ step_for m own true m.ram (event.Trap (hosted_level (is_virtual m.platform.virt.mode)) trap.interrupt)
 hs_entry m trap own is same = entry_is m trap own false is (to_hs m.platform.virt.csrs m.platform.virt.mode trap is) (back_own own m.platform.virt is ∙ same)
 
 vs_entry : (m : Machine) (trap : Trap) (own : Virtual) → is_virtual m.platform.virt.mode ≡ true → is_delegated m.platform.virt.csrs trap.interrupt trap.cause ≡ true
-    → saved own m.platform.virt ≡ entered_at m.platform.virt trap level.VS
+    → guest_state_of own m.platform.virt ≡ entered_at m.platform.virt trap level.VS
     → trapped m trap ≡ step_for m own true m.ram (event.Trap (hosted_level (is_virtual m.platform.virt.mode)) trap.interrupt)
 vs_entry m trap own on given same = entry_is m trap own true on (to_vs m.platform.virt.csrs m.platform.virt.mode trap on given) (back_nested own m.platform.virt on ∙ same)
 
 -- an interrupt that both take, by the guest's V
-own_interrupt : (part : Layout) {pool : Pooled} (root : GuestRoot) (m : Machine) (memory : List ℕ) (lacks : Option Entry) (code : ℕ) → is_virtual m.platform.virt.mode ≡ false → guest_bit all_interrupts (code + 1) ≡ true
+own_interrupt : (part : Layout) {pool : Pooled} (root : GuestRoot) (m : Machine) (memory : List ℕ) (lacks : Option Entry) (code : ℕ) → is_virtual m.platform.virt.mode ≡ false → vs_bit all_interrupts (code + 1) ≡ true
     → IsAt part pool m memory → lacks ≡ None → FollowsTry part root m (trapped m (interrupt_of code)) lacks memory (taken part root m memory (interrupt_of (code + 1)))
 own_interrupt part root m memory lacks code own e at ready =
     let v = m.platform.virt in
     rw (to_vs (hosted_csrs root (is_virtual v.mode) v.csrs) (hosted_mode v.mode) (interrupt_of (code + 1)) (virtual_mode v.mode) (rw own e))
     (entry_made part root m memory (interrupt_of (code + 1)) _ lacks true at ready
-    (hs_entry m (interrupt_of code) (entered_at (hosted root v) (interrupt_of (code + 1)) level.VS) own (interrupts_alike root v code own)))
+    (hs_entry m (interrupt_of code) (entered_at (hart_state_of root v) (interrupt_of (code + 1)) level.VS) own (interrupts_alike root v code own)))
 
-nested_interrupt : (part : Layout) {pool : Pooled} (root : GuestRoot) (m : Machine) (memory : List ℕ) (lacks : Option Entry) (code : ℕ) → is_virtual m.platform.virt.mode ≡ true → guest_bit m.platform.virt.csrs.hideleg code ≡ true
+nested_interrupt : (part : Layout) {pool : Pooled} (root : GuestRoot) (m : Machine) (memory : List ℕ) (lacks : Option Entry) (code : ℕ) → is_virtual m.platform.virt.mode ≡ true → vs_bit m.platform.virt.csrs.hideleg code ≡ true
     → IsAt part pool m memory → lacks ≡ None → FollowsTry part root m (trapped m (interrupt_of code)) lacks memory (taken part root m memory (interrupt_of code))
 nested_interrupt part root m memory lacks code on e at ready =
     let v = m.platform.virt in
     rw (to_vs (hosted_csrs root (is_virtual v.mode) v.csrs) (hosted_mode v.mode) (interrupt_of code) (virtual_mode v.mode) (rw on e))
     (entry_made part root m memory (interrupt_of code) _ lacks true at ready
-    (vs_entry m (interrupt_of code) (entered_at (hosted root v) (interrupt_of code) level.VS) on e (nested_traps_alike root v (interrupt_of code) on)))
+    (vs_entry m (interrupt_of code) (entered_at (hart_state_of root v) (interrupt_of code) level.VS) on e (nested_traps_alike root v (interrupt_of code) on)))
 
 pub interrupt_follows : (part : Layout) {pool : Pooled} (root : GuestRoot) (m : Machine) (memory : List ℕ) (lacks : Option Entry) (code : ℕ) (hart : Option ℕ) (virtual : Bool) → is_virtual m.platform.virt.mode ≡ virtual
     → IsDue (Some code) virtual m.platform.virt.csrs.hideleg hart → IsAt part pool m memory → lacks ≡ None
-    → FollowsTry part root m (trapped m (interrupt_of code)) lacks memory (end_by (loaded part root m.platform.virt) memory (next_attempt (loaded part root m.platform.virt) memory hart))
+    → FollowsTry part root m (trapped m (interrupt_of code)) lacks memory (end_by (hart_state_in part root m.platform.virt) memory (next_attempt (hart_state_in part root m.platform.virt) memory hart))
 interrupt_follows part root m memory lacks code hart false own (e, good) at ready = rw e (own_interrupt part root m memory lacks code own good at ready)
 interrupt_follows part root m memory lacks code hart true on (e, good) at ready = rw e (nested_interrupt part root m memory lacks code on good at ready)
 
@@ -178,7 +178,7 @@ own_exception part root m memory lacks cause tval own good at ready =
     let trap = exception (hosted_mode v.mode) cause tval in
     rw (to_vs (hosted_csrs root (is_virtual v.mode) v.csrs) (hosted_mode v.mode) trap (virtual_mode v.mode) (rw own (given_own root v.csrs cause good)))
     (entry_made part root m memory trap _ lacks false at ready
-    (hs_entry m (exception v.mode cause tval) (entered_at (hosted root v) trap level.VS) own (exceptions_alike root v cause tval own)))
+    (hs_entry m (exception v.mode cause tval) (entered_at (hart_state_of root v) trap level.VS) own (exceptions_alike root v cause tval own)))
 
 pub hosted_here : (mode : Mode) → is_virtual mode ≡ true → hosted_mode mode ≡ mode
 hosted_here HS on = cc
@@ -195,8 +195,8 @@ nested_exception part root m memory lacks cause tval on good at ready true given
     let here : trap ≡ exception v.mode cause tval = ap (λ mode. exception mode cause tval) (hosted_here v.mode on) in
     rw (to_vs (hosted_csrs root (is_virtual v.mode) v.csrs) (hosted_mode v.mode) trap (virtual_mode v.mode) (rw on (given_alike root v.csrs cause good ∙ given)))
     (entry_made part root m memory trap _ lacks false at ready
-    (subst (λ t. trapped m t ≡ step_for m (entered_at (hosted root v) trap level.VS) true m.ram (event.Trap (hosted_level (is_virtual v.mode)) false)) here
-    (vs_entry m trap (entered_at (hosted root v) trap level.VS) on given (nested_traps_alike root v trap on))))
+    (subst (λ t. trapped m t ≡ step_for m (entered_at (hart_state_of root v) trap level.VS) true m.ram (event.Trap (hosted_level (is_virtual v.mode)) false)) here
+    (vs_entry m trap (entered_at (hart_state_of root v) trap level.VS) on given (nested_traps_alike root v trap on))))
 nested_exception part root m memory lacks cause tval on good at ready false given =
     let v = m.platform.virt in
     let trap = exception (hosted_mode v.mode) cause tval in
@@ -232,13 +232,13 @@ kept_22 root true csrs = never_22 csrs.hedeleg
 
 -- a trap of an instruction on the hart
 pub trap_follows : (part : Layout) {pool : Pooled} (root : GuestRoot) (m : Machine) (memory : List ℕ) (lacks : Option Entry) (lone : Outcome) (trap : Trap)
-    → IsAt part pool m memory → lacks ≡ None → Traps m.platform.virt lone trap → FollowsTry part root m (concluded m lone) lacks memory (taken part root m memory trap)
+    → IsAt part pool m memory → lacks ≡ None → Traps m.platform.virt lone trap → FollowsTry part root m (apply_outcome m lone) lacks memory (taken part root m memory trap)
 trap_follows part root m memory lacks lone trap at ready (Own cause tval is e good) = rw (is, e) (exception_follows part root m memory lacks cause tval good at ready)
 trap_follows part root m memory lacks lone trap at ready (Call own is e) =
     let v = m.platform.virt in
     let call = exception (hosted_mode v.mode) ECALL_FROM_VS 0 in
     rw (is, to_host (hosted_csrs root (is_virtual v.mode) v.csrs) (hosted_mode v.mode) call (virtual_mode v.mode) (kept_10 root (is_virtual v.mode) v.csrs), e)
-    (left_as m (concluded m Called) lacks call case.Call (other_exit_is v call refl refl ∙ ap (other_exit call) own) refl ready)
+    (left_as m (apply_outcome m Called) lacks call case.Call (other_exit_is v call refl refl ∙ ap (other_exit call) own) refl ready)
 trap_follows part root m memory lacks lone trap at ready (Nested on is e) =
     let v = m.platform.virt in
     rw (e, is, to_host (hosted_csrs root (is_virtual v.mode) v.csrs) (hosted_mode v.mode) (exception (hosted_mode v.mode) ECALL_FROM_VS 0) (virtual_mode v.mode) (kept_10 root (is_virtual v.mode) v.csrs))
@@ -247,11 +247,11 @@ trap_follows part root m memory lacks lone trap at ready (Left tval is small p e
     let v = m.platform.virt in
     let left = exception (hosted_mode v.mode) VIRTUAL_INSTRUCTION tval in
     rw (is, to_host (hosted_csrs root (is_virtual v.mode) v.csrs) (hosted_mode v.mode) left (virtual_mode v.mode) (kept_22 root (is_virtual v.mode) v.csrs))
-    (left_as m (concluded m lone) lacks left (case.Instruction tval p) (instruction_exit_is v left p refl refl small e) (ap (concluded m) f) ready)
+    (left_as m (apply_outcome m lone) lacks left (case.Instruction tval p) (instruction_exit_is v left p refl refl small e) (ap (apply_outcome m) f) ready)
 
 -- the hart leaves a WFI and a read of time to the host
 exits_at : (part : Layout) (root : GuestRoot) (v : Virtual) (memory : List ℕ) (word : ℕ) (effect : Privileged)
-    → privileged (loaded part root v) word effect ≡ Trapped (exception (hosted_mode v.mode) VIRTUAL_INSTRUCTION word) → ExitsAt part root v memory word effect
+    → privileged (hart_state_in part root v) word effect ≡ Trapped (exception (hosted_mode v.mode) VIRTUAL_INSTRUCTION word) → ExitsAt part root v memory word effect
 exits_at part root v memory word effect is =
     rw (
       is,
@@ -260,7 +260,7 @@ exits_at part root v memory word effect is =
     ) refl
 
 wait_is_left : (part : Layout) (root : GuestRoot) (v : Virtual) (word : ℕ) (mode : Mode)
-    → privileged (loaded part root (record v { mode = mode })) word Wfi ≡ Trapped (exception (hosted_mode mode) VIRTUAL_INSTRUCTION word)
+    → privileged (hart_state_in part root (record v { mode = mode })) word Wfi ≡ Trapped (exception (hosted_mode mode) VIRTUAL_INSTRUCTION word)
 unfolding privileged refusal
 wait_is_left part root v word HS = refl
 wait_is_left part root v word U = refl
@@ -271,7 +271,7 @@ pub waits_exit : WaitsExit
 waits_exit = λ part root v memory word. exits_at part root v memory word Wfi (wait_is_left part root v word v.mode)
 
 time_is_left_to_host : (part : Layout) (root : GuestRoot) (v : Virtual) (word : ℕ) (op : CsrOp) (operand rd : ℕ)
-    → privileged (loaded part root v) word (Csr op 0xC01 operand false rd) ≡ Trapped (exception (hosted_mode v.mode) VIRTUAL_INSTRUCTION word)
+    → privileged (hart_state_in part root v) word (Csr op 0xC01 operand false rd) ≡ Trapped (exception (hosted_mode v.mode) VIRTUAL_INSTRUCTION word)
 unfolding privileged refusal
 time_is_left_to_host part root v word op operand rd = rw (time_is_left root v.csrs v.mode) refl
 

@@ -7,11 +7,11 @@ use Rattle.arch_defs.specs.declared.modes.Trap.{Trap}
 use Rattle.arch_defs.specs.declared.modes.TheConstants.{INSTRUCTION_ACCESS_FAULT, INSTRUCTION_GUEST_PAGE_FAULT, LOAD_ACCESS_FAULT, LOAD_GUEST_PAGE_FAULT, STORE_ACCESS_FAULT, STORE_GUEST_PAGE_FAULT, VIRTUAL_INSTRUCTION}
 use Rattle.arch_defs.specs.declared.registers.Regs.{Regs}
 use Rattle.arch_defs.specs.declared.registers.Virtual.{Virtual}
-use Rattle.arch_defs.specs.declared.walks.Unplaced.{Unplaced}
+use Rattle.arch_defs.specs.declared.walks.MissingPlace.{MissingPlace}
 use Rattle.arch_defs.specs.Memory.{ram_base}
-use Rattle.arch_defs.specs.SecondStage.{unplaced_trap}
+use Rattle.arch_defs.specs.SecondStage.{missing_place_trap}
 use Rattle.arch_defs.specs.Traps.{exception, is_virtual}
-use Rattle.arch_defs.specs.WalkedEntries.{entry_now, folds}
+use Rattle.arch_defs.specs.WalkedEntries.{entry_by_walk, folds}
 use Rattle.op_defs.specs.declared.ops.Effect.{Effect}
 use Rattle.op_defs.specs.declared.ops.Effect.TheVariants as effect
 use Rattle.op_defs.specs.declared.ops.Privileged.{Privileged}
@@ -20,7 +20,7 @@ use Rattle.op_defs.specs.Table.{op_of}
 use Rattle.machine_defs.specs.declared.events.Event.TheVariants.{System}
 use Rattle.machine_defs.specs.Machine.{Machine, Tried, called, stepped_to, trapped}
 use Rattle.machine_defs.specs.Privileges.{privileged}
-use Rattle.machine_defs.specs.Tries.{concluded}
+use Rattle.machine_defs.specs.Tries.{apply_outcome}
 use Rattle.guest_exit.specs.declared.exit_cases.Exit.{Exit}
 use Rattle.guest_exit.specs.declared.exit_cases.Exit.TheVariants.{Instruction, Missing, OutsideRam, Call, Own}
 
@@ -54,8 +54,8 @@ access_of code =
 
 -- what the trap tells of it, as an access of the guest: all but the low two bits of its guest physical
 -- address (8.2.8)
-abbrev pub missed : Virtual → Trap → Unplaced
-missed virt trap = record {
+abbrev pub missing_place_of : Virtual → Trap → MissingPlace
+missing_place_of virt trap = record {
   address = trap.tval2 * 4;
   kind = if trap.implicit then Implicit else access_of trap.cause;
   access = access_of trap.cause;
@@ -70,11 +70,12 @@ instruction_exit trap (Some effect) = Instruction trap.tval effect
 instruction_exit trap None = Own trap
 
 -- a guest-page fault, by whether the guest folds. If it does, the front space has no place for the access,
--- whose guest physical address has 41 bits: one of more has no walk, and its fault is the guest's own (8.5.1).
--- If not, the host table has no place outside RAM
-abbrev pub unplaced_exit : Virtual → Trap → Bool → Exit
-unplaced_exit virt trap true = if nat_lt trap.tval2 (2 ^ 39) then Missing (missed virt trap) else Own trap
-unplaced_exit virt trap false = OutsideRam (exception virt.mode (access_fault_for trap.cause) trap.tval)
+-- whose guest physical address has 41 bits: one of more has no walk, and its fault is the guest's own
+-- (8.5.1). If not, the host table has no place outside RAM
+abbrev pub missing_place_exit : Virtual → Trap → Bool → Exit
+missing_place_exit virt trap true =
+    if nat_lt trap.tval2 (2 ^ 39) then Missing (missing_place_of virt trap) else Own trap
+missing_place_exit virt trap false = OutsideRam (exception virt.mode (access_fault_for trap.cause) trap.tval)
 
 -- another trap, by the guest's V: the guest's HS calls the environment, or the guest does not delegate it
 abbrev pub other_exit : Trap → Bool → Exit
@@ -84,27 +85,27 @@ other_exit trap true = Own trap
 -- how the hart has left a step, by its trap
 unfoldable pub exit_of : Virtual → Trap → Exit
 exit_of virt trap =
-    if is_guest_page_code trap.cause then unplaced_exit virt trap (folds virt)
+    if is_guest_page_code trap.cause then missing_place_exit virt trap (folds virt)
     else if trap.cause == VIRTUAL_INSTRUCTION then instruction_exit trap (privileged_at trap.tval virt.regs)
     else other_exit trap (is_virtual virt.mode)
 
 -- the machine's try at such a step
 abbrev pub try_at : Machine → Exit → Tried
-try_at m (Instruction word effect) = concluded m (privileged m.platform.virt word effect)
-try_at m (Missing unplaced) = trapped m (unplaced_trap m.platform.virt.csrs ram_base m.ram unplaced)
+try_at m (Instruction word effect) = apply_outcome m (privileged m.platform.virt word effect)
+try_at m (Missing missing) = trapped m (missing_place_trap m.platform.virt.csrs ram_base m.ram missing)
 try_at m (OutsideRam fault) = trapped m fault
 try_at m Call = stepped_to m (called m.platform) System
 try_at m (Own trap) = trapped m trap
 
 -- the cached translation that it lacks, if any: what the walk of the guest's own table gives
-abbrev pub entry_at : Machine → Exit → Option Entry
-entry_at m (Missing unplaced) = entry_now m.platform.virt.csrs m.ram unplaced.address unplaced.kind
-entry_at m (Instruction word effect) = None
-entry_at m (OutsideRam fault) = None
-entry_at m Call = None
-entry_at m (Own trap) = None
+abbrev pub entry_for_exit : Machine → Exit → Option Entry
+entry_for_exit m (Missing missing) = entry_by_walk m.platform.virt.csrs m.ram missing.address missing.kind
+entry_for_exit m (Instruction word effect) = None
+entry_for_exit m (OutsideRam fault) = None
+entry_for_exit m Call = None
+entry_for_exit m (Own trap) = None
 
 -- a step that the hart has left to the host is so
 pub record IsLeft (m : Machine) (tried : Tried) (lacks : Option Entry) (left : Exit) : Type 0 where
   pub step : tried ≡ try_at m left
-  pub fills : lacks ≡ entry_at m left
+  pub fills : lacks ≡ entry_for_exit m left

@@ -7,44 +7,44 @@ use Rattle.arch_defs.specs.Inputs.{has_input}
 use Rattle.arch_defs.specs.Layouts.{Layout}
 use Rattle.machine_defs.specs.declared.guests.Status.TheVariants.{Running}
 use Rattle.machine_laws.specs.HostPlaces.{in_ram, memory_place}
-use Rattle.machine_defs.specs.Machine.{Machine, Platform, informed}
-use Rattle.machine_laws.specs.Renaming.{ReservesHeld, renamed}
+use Rattle.machine_defs.specs.Machine.{Machine, Platform, with_pending_lines}
+use Rattle.machine_laws.specs.Renaming.{ReservesWithin, renamed}
 use Rattle.rv64_hart.specs.declared.harts.Stop.{Stop}
 use Rattle.rv64_hart.specs.declared.harts.Why.{Why}
 use Rattle.rv64_hart.specs.declared.harts.Why.TheVariants.{Limit, Exit, VsTrap}
 use Rattle.rv64_hart.specs.Counts.{Counts, IsRaisedBy}
 use Rattle.rv64_hart.specs.Steps.{Exits, Progress, hart_step, hart_steps, progress}
 use Rattle.shadow_pool.specs.Slots.{Pooled}
-use Rattle.world_switch.specs.Hosting.{loaded, taken_back}
+use Rattle.world_switch.specs.Hosting.{guest_state_after, hart_state_in}
 use Rattle.world_switch.specs.Laws.{waits_for_hs}
 use Rattle.guest_exit.specs.declared.guests.Guest.{Guest}
 use Rattle.guest_exit.specs.HartSteps.{host_takes, root_for}
-use Rattle.guest_exit.specs.View.{IsPlaced, KeepsSpaces, loaded_for, seen}
+use Rattle.guest_exit.specs.View.{IsPlaced, KeepsSpaces, loaded_for, platform_of}
 
 -- whether something has come is the same at each step of so many as it is now
-abbrev pub Stays : (ℕ → Bool) → ℕ → ℕ → Type 0
-Stays has_come clock limit = (n : ℕ) → n < limit → has_come (clock + n) ≡ has_come clock
+abbrev pub KeepsCome : (ℕ → Bool) → ℕ → ℕ → Type 0
+KeepsCome has_come clock limit = (n : ℕ) → n < limit → has_come (clock + n) ≡ has_come clock
 
 -- nothing that the hart does not have for the guest changes before the last of so many steps begins: the step
 -- is the hart's now, no interrupt of VS waits for HS to take it, and no moment comes
 pub record Lasts (p : Platform) (limit : ℕ) : Type 0 where
-  pub current : informed p ≡ p
+  pub current : with_pending_lines p ≡ p
   pub own : host_takes p.virt ≡ false
   pub interrupts : 1 < limit → waits_for_hs p.virt.csrs ≡ false
-  pub timer : Stays (nat_le p.clock.timer) p.clock.time limit
-  pub inputs : Stays (has_input p.console.inputs) p.clock.time limit
+  pub timer : KeepsCome (nat_le p.clock.timer) p.clock.time limit
+  pub inputs : KeepsCome (has_input p.console.inputs) p.clock.time limit
 
--- a guest may enter the hart for so many steps: nothing that the hart does not have for it changes in them, and
--- its clock and its count of steps have room for them
+-- a guest may enter the hart for so many steps: nothing that the hart does not have for it changes in them,
+-- and its clock and its count of steps have room for them
 pub record CanEnter (guest : Guest) (memory : List ℕ) (limit : ℕ) : Type 0 where
   pub running : guest.status ≡ Running
   pub placed : IsPlaced guest memory
-  pub lasts : Lasts (seen guest) limit
+  pub lasts : Lasts (platform_of guest) limit
   pub clock : guest.clock.time ≤ 2 ^ 62 + guest.steps
   pub steps : guest.steps + limit ≤ 2 ^ 61
 
 -- the hart's account has room for one entry and so many steps
-pub record HasRoomFor (limit : ℕ) (account : Counts) : Type 0 where
+pub record HasRoomForEntry (limit : ℕ) (account : Counts) : Type 0 where
   pub entries : account.entries < 2 ^ 62
   pub taken : account.taken + limit ≤ 2 ^ 62
 
@@ -52,20 +52,21 @@ pub record HasRoomFor (limit : ℕ) (account : Counts) : Type 0 where
 abbrev pub moved : Platform → Virtual → ℕ → Platform
 moved p virt n =
     let clock = record p.clock { time = p.clock.time + n } in
-    informed (record p { virt = virt; clock = clock; steps = p.steps + n })
+    with_pending_lines (record p { virt = virt; clock = clock; steps = p.steps + n })
 
 -- the platform after so many steps of the hart in a part of machine memory, by the hart's state after them
 abbrev pub GivesSteps : Layout → Platform → Virtual → Bool → ℕ → Platform → Type 0
 GivesSteps part before hart trapped taken after =
-    (own : Virtual) → ReservesHeld (in_ram part.blocks) own.reservation
+    (own : Virtual) → ReservesWithin (in_ram part.blocks) own.reservation
     → hart ≡ renamed (memory_place part.blocks) own
-    → after ≡ moved before (taken_back trapped own before.virt) taken
+    → after ≡ moved before (guest_state_after trapped own before.virt) taken
 
 -- the hart, in a part of machine memory, leaves the machine's next step to the host
 pub record Hands (part : Layout) (pool : Pooled) (m : Machine) (memory : List ℕ) (trap : Trap)
     : Type 0 where
   pub own : host_takes m.platform.virt ≡ false
-  pub exits : hart_step (loaded part (root_for part pool m.platform.virt) m.platform.virt) memory ≡ Exits trap
+  pub exits : hart_step (hart_state_in part (root_for part pool m.platform.virt) m.platform.virt) memory
+      ≡ Exits trap
 
 -- why an entry ended, by the machine and the memory after it
 abbrev pub IsStopped : Layout → Pooled → Machine → List ℕ → ℕ → ℕ → Why → Type 0
@@ -84,7 +85,7 @@ pub record Stops (part : Layout) (pool : Pooled) (m : Machine) (memory : List �
 pub record HartMakes (n : ℕ) (before after : Guest) (memory : List ℕ) (trace : ℕ) (made : Progress)
     : Type 0 where
   pub steps : hart_steps true n (progress (loaded_for before) memory trace false) ≡ Some made
-  pub saves : GivesSteps before.part (seen before) made.state made.trapped n (seen after)
+  pub saves : GivesSteps before.part (platform_of before) made.state made.trapped n (platform_of after)
 
 -- the hart's account of one entry: so many steps, of so much pc and word
 pub record IsAccounted (steps sum : ℕ) (before after : Counts) : Type 0 where
@@ -98,11 +99,11 @@ pub record GoesOn (taken : ℕ) (before after : Guest) : Type 0 where
   pub status : after.status ≡ Running
   pub steps : after.steps ≡ before.steps + taken
   pub clock : after.clock.time ≡ before.clock.time + taken
-  pub current : informed (seen after) ≡ seen after
+  pub current : with_pending_lines (platform_of after) ≡ platform_of after
 
 -- of machine memory only bytes of the guest's blocks change, and it holds the guest's part as before, whose
 -- cached translations stay
 pub record KeepsTables (before : Guest) (memory : List ℕ) (after : Guest) (changed : List ℕ) : Type 0 where
   pub only : Only (in_blocks before.part.blocks) memory changed
   pub placed : IsPlaced after changed
-  pub fixed : KeepsSpaces before after
+  pub keeps : KeepsSpaces before after

@@ -8,7 +8,7 @@ use Rattle.arch_defs.specs.Registers.{a7, read}
 use Rattle.machine_defs.specs.declared.guests.Status.{Status}
 use Rattle.machine_defs.specs.declared.guests.Status.TheVariants as status
 use Rattle.machine_defs.specs.Fills.{fill}
-use Rattle.machine_defs.specs.Machine.{Machine, informed}
+use Rattle.machine_defs.specs.Machine.{Machine, with_pending_lines}
 use Rattle.machine_defs.specs.Runs.{left_by}
 use Rattle.shadow_pool.specs.Slots.{TidyPool}
 use Rattle.guest_exit.specs.declared.exit_cases.Exit.{Exit}
@@ -16,16 +16,16 @@ use Rattle.guest_exit.specs.declared.exit_cases.Exit.TheVariants.{Instruction, M
 use Rattle.guest_exit.specs.declared.guests.Guest.{Guest}
 use Rattle.guest_exit.specs.declared.hart_exit.Handled.{Handled}
 use Rattle.guest_exit.specs.declared.hart_exit.Handled.TheVariants.{Stepped, Retry, Waits, Stopped}
-use Rattle.guest_exit.specs.ExitCases.{entry_at, try_at}
+use Rattle.guest_exit.specs.ExitCases.{entry_for_exit, try_at}
 use Rattle.guest_exit.specs.HartEntry.{Hands}
 use Rattle.guest_exit.specs.Steps.{CanStep, Fills, MakesStep}
-use Rattle.guest_exit.specs.View.{IsPlaced, StaysFixed, changed_by, machine_of, seen}
+use Rattle.guest_exit.specs.View.{IsPlaced, KeepsLayout, changed_by, machine_of, platform_of}
 
--- a guest may go on by one step: the registers that the clock sets are as the clock has them, and memory holds
--- its part
+-- a guest may go on by one step: the registers that the clock sets are as the clock has them, and memory
+-- holds its part
 pub record CanGoOn (guest : Guest) (memory : List ℕ) : Type 0 where
   pub step : CanStep guest
-  pub current : informed (seen guest) ≡ seen guest
+  pub current : with_pending_lines (platform_of guest) ≡ platform_of guest
   pub placed : IsPlaced guest memory
 
 -- the hart, with what it has for a guest, has left its next step to the host, by this trap
@@ -62,20 +62,20 @@ pub record IsTold (result : Handled) (before after : Guest) : Type 0 where
   pub clock : after.clock.time ≤ 2 ^ 62 + after.steps
 
 -- what the host makes changes machine memory in the guest's own frames alone, where its pool is tidy then
-pub record StaysWithin (before : Guest) (memory : List ℕ) (after : Guest) (changed : List ℕ) : Type 0 where
+pub record KeepsOutside (before : Guest) (memory : List ℕ) (after : Guest) (changed : List ℕ) : Type 0 where
   pub only : Only (changed_by before) memory changed
   pub tidy : TidyPool after.pool changed
-  pub fixed : StaysFixed before after
+  pub keeps : KeepsLayout before after
 
 -- and which holds the guest's part as before
 pub record KeepsPart (before : Guest) (memory : List ℕ) (after : Guest) (changed : List ℕ) : Type 0 where
   pub only : Only (changed_by before) memory changed
   pub placed : IsPlaced after changed
-  pub fixed : StaysFixed before after
+  pub keeps : KeepsLayout before after
 
 -- an access that has no place by the front space is one of a guest that folds
 abbrev pub IfMissing : Exit → Bool → Type 0
-IfMissing (Missing unplaced) folding = folding ≡ true
+IfMissing (Missing missing) folding = folding ≡ true
 IfMissing (Instruction word effect) folding = Unit {0}
 IfMissing (OutsideRam fault) folding = Unit {0}
 IfMissing Call folding = Unit {0}
@@ -83,6 +83,6 @@ IfMissing (Own trap) folding = Unit {0}
 
 -- the step that the hart has left so is made of the machine, or what it lacks is filled
 pub record IsMadeOf (left : Exit) (result : Handled) (before after : Machine) : Type 0 where
-  pub ready : result ≢ Retry → entry_at before left ≡ None
+  pub ready : result ≢ Retry → entry_for_exit before left ≡ None
   pub step : result ≢ Retry → after ≡ left_by before (try_at before left)
-  pub fill : result ≡ Retry → (e : Entry) × (entry_at before left ≡ Some e) × (after ≡ fill before e)
+  pub fill : result ≡ Retry → (e : Entry) × (entry_for_exit before left ≡ Some e) × (after ≡ fill before e)

@@ -9,7 +9,7 @@ use Rattle.arch_defs.specs.declared.registers.Virtual.{Virtual}
 use Rattle.arch_defs.specs.declared.registers.GuestRoot.{GuestRoot}
 use Rattle.arch_defs.specs.Frames.{Frames, Only, in_blocks, joined}
 use Rattle.arch_defs.specs.declared.registers.Interrupts.{Interrupts}
-use Rattle.arch_defs.specs.Interrupts.{due, guest_bit}
+use Rattle.arch_defs.specs.Interrupts.{due, vs_bit}
 use Rattle.arch_defs.specs.Layouts.{Layout, NamesEachOnce}
 use Rattle.arch_defs.specs.Ram.{ram_of}
 use Rattle.arch_defs.specs.Traps.{exception, is_virtual}
@@ -19,18 +19,18 @@ use Rattle.op_defs.specs.declared.ops.Privileged.{Privileged}
 use Rattle.op_defs.specs.declared.ops.Privileged.TheVariants.{Csr, Wfi}
 use Rattle.machine_defs.specs.declared.events.Event.{Event}
 use Rattle.machine_defs.specs.declared.events.Event.TheVariants as event
-use Rattle.machine_defs.specs.Fills.{lacking}
+use Rattle.machine_defs.specs.Fills.{missing_entry}
 use Rattle.machine_laws.specs.HostPlaces.{in_ram, memory_place}
 use Rattle.machine_defs.specs.Machine.{Machine, Tried, stepped_to, trapped}
 use Rattle.machine_defs.specs.Privileges.{privileged}
-use Rattle.machine_laws.specs.Renaming.{ReservesHeld, renamed}
+use Rattle.machine_laws.specs.Renaming.{ReservesWithin, renamed}
 use Rattle.machine_laws.specs.Reservations.{CachesInRam}
 use Rattle.machine_defs.specs.Tries.{try}
 use Rattle.machine_laws.specs.Keeping.{IsOrderly}
 use Rattle.host_tables.specs.Walks.{IsHeld}
 use Rattle.shadow_pool.specs.Slots.{Pooled, TidyPool, front_root, pool_frames, room_of, spaces_of}
 use Rattle.rv64_hart.specs.Steps.{HartEnd, Goes, Exits, attempt_of, end_by, enters_vs, hart_step}
-use Rattle.world_switch.specs.Hosting.{loaded, table_from, taken_back}
+use Rattle.world_switch.specs.Hosting.{guest_state_after, hart_state_in, table_from}
 use Rattle.world_switch.specs.Laws.{KeepsHidden}
 use Rattle.guest_exit.specs.ExitCases.{IsLeft, exit_of}
 
@@ -39,7 +39,7 @@ use Rattle.guest_exit.specs.ExitCases.{IsLeft, exit_of}
 abbrev pub is_hosts : Option ℕ → Bool → Interrupts → Bool
 is_hosts None virtual hideleg = false
 is_hosts (Some code) false hideleg = code == VS_SOFTWARE || code == VS_TIMER || code == VS_EXTERNAL
-is_hosts (Some code) true hideleg = not (guest_bit hideleg code)
+is_hosts (Some code) true hideleg = not (vs_bit hideleg code)
 
 -- whether the interrupt that is due is one that the host must take
 abbrev pub host_takes : Virtual → Bool
@@ -69,14 +69,14 @@ abbrev pub changing : Layout → Pooled → Frames
 changing part pool = joined (in_blocks part.blocks) (pool_frames pool)
 
 -- the hart still stands for a guest with what it has run, but for what is saved of it
-pub record Keeps (root : GuestRoot) (before hart : Virtual) : Type 0 where
+pub record KeepsHart (root : GuestRoot) (before hart : Virtual) : Type 0 where
   pub csrs : KeepsHidden root (is_virtual before.mode) before.csrs hart.csrs
   pub mode : is_virtual hart.mode ≡ true
 
 -- the step of the machine that a step of the hart is
 abbrev pub step_for : Machine → Virtual → Bool → List ℕ → Event → Tried
 step_for m hart trapped memory event =
-    let platform = record m.platform { virt = taken_back trapped hart m.platform.virt } in
+    let platform = record m.platform { virt = guest_state_after trapped hart m.platform.virt } in
     stepped_to (record m { ram = memory }) platform event
 
 -- a step that the hart has made in a part of machine memory is the machine's, which lacks nothing: the hart's
@@ -89,8 +89,8 @@ pub record IsMade (part : Layout) (root : GuestRoot) (m : Machine) (tried : Trie
       ≡ step_for m own (enters_vs event) (ram_of part.blocks changed)
       (event_for (is_virtual m.platform.virt.mode) event)
   pub ready : lacks ≡ None
-  pub keeps : Keeps root m.platform.virt own
-  pub held : ReservesHeld (in_ram part.blocks) own.reservation
+  pub keeps : KeepsHart root m.platform.virt own
+  pub held : ReservesWithin (in_ram part.blocks) own.reservation
   pub only : Only (in_blocks part.blocks) memory changed
 
 -- what a step of the hart under a root is to a try of the machine for which it stands, and to what that lacks
@@ -101,7 +101,7 @@ FollowsTry part root m tried lacks memory (Exits trap) =
     IsLeft m tried lacks (exit_of m.platform.virt trap)
 
 abbrev pub Follows : Layout → GuestRoot → Machine → List ℕ → HartEnd → Type 0
-Follows part root m memory end = FollowsTry part root m (try m) (lacking m) memory end
+Follows part root m memory end = FollowsTry part root m (try m) (missing_entry m) memory end
 
 -- a machine in a part of machine memory: the part names no frame twice, and memory holds it with its host
 -- table; RAM is the bytes of its blocks; what is reserved, if anything, is a place of RAM; the spaces are
@@ -111,7 +111,7 @@ pub record IsAt (part : Layout) (pool : Pooled) (m : Machine) (memory : List ℕ
   pub once : NamesEachOnce part
   pub held : IsHeld part memory
   pub ram : m.ram ≡ ram_of part.blocks memory
-  pub reserved : ReservesHeld (in_ram part.blocks) m.platform.virt.reservation
+  pub reserved : ReservesWithin (in_ram part.blocks) m.platform.virt.reservation
   pub own : pool.part ≡ part
   pub tidy : TidyPool pool memory
   pub spaces : m.spaces ≡ spaces_of pool
@@ -127,12 +127,12 @@ StepsFollow =
     (part : Layout) (pool : Pooled) (m : Machine) (memory : List ℕ)
     → host_takes m.platform.virt ≡ false → IsAt part pool m memory
     → Follows part (root_for part pool m.platform.virt) m memory
-    (hart_step (loaded part (root_for part pool m.platform.virt) m.platform.virt) memory)
+    (hart_step (hart_state_in part (root_for part pool m.platform.virt) m.platform.virt) memory)
 
 -- the hart, loaded for a guest, exits at an instruction that the mode decides on, with its word
 abbrev pub ExitsAt : Layout → GuestRoot → Virtual → List ℕ → ℕ → Privileged → Type 0
 ExitsAt part root virt memory word effect =
-    let hart = loaded part root virt in
+    let hart = hart_state_in part root virt in
     end_by hart memory (attempt_of hart.csrs hart.mode memory (privileged hart word effect))
     ≡ Exits (exception hart.mode VIRTUAL_INSTRUCTION word)
 

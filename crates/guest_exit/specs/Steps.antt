@@ -2,7 +2,7 @@
 use Rattle.std.specs.Prelude.{ℕ, ◌≡◌, ◌+◌, ◌^◌, ◌<◌, ◌≤◌, List, Some, None}
 use Rattle.arch_defs.specs.declared.cached.Entry.{Entry}
 use Rattle.machine_defs.specs.declared.guests.Status.TheVariants.{Running}
-use Rattle.machine_defs.specs.Fills.{fill, lacking}
+use Rattle.machine_defs.specs.Fills.{fill, missing_entry}
 use Rattle.machine_defs.specs.Machine.{Machine, Tried}
 use Rattle.machine_defs.specs.Runs.{event_in, instruction_count, left_after, left_by, plain_count, run, trace_of}
 use Rattle.machine_defs.specs.Tries.{try}
@@ -18,7 +18,7 @@ pub record CanStep (guest : Guest) : Type 0 where
 
 -- a machine's next step is made: its try, which lacks no cached translation
 pub record MakesStep (before after : Machine) : Type 0 where
-  pub ready : lacking before ≡ None
+  pub ready : missing_entry before ≡ None
   pub step : after ≡ left_after before
 
 -- its next steps are made, which lack none either
@@ -29,11 +29,11 @@ pub record MakesSteps (n : ℕ) (before after : Machine) : Type 0 where
 -- its next try lacks a cached translation: the walk of the guest's own table, as RAM is, answers the access
 -- with a leaf that permits it and whose frame is in RAM
 abbrev pub IsMiss : Machine → Type 0
-IsMiss m = (e : Entry) × (lacking m ≡ Some e)
+IsMiss m = (e : Entry) × (missing_entry m ≡ Some e)
 
 -- which is filled, and nothing else happens
 abbrev pub Fills : Machine → Machine → Type 0
-Fills before after = (e : Entry) × (lacking before ≡ Some e) × (after ≡ fill before e)
+Fills before after = (e : Entry) × (missing_entry before ≡ Some e) × (after ≡ fill before e)
 
 -- a try that is no plain step
 pub record IsNotPlain (tried : Tried) : Type 0 where

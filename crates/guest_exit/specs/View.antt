@@ -5,13 +5,13 @@ use Rattle.arch_defs.specs.Frames.{Frames}
 use Rattle.arch_defs.specs.Ram.{ram_of}
 use Rattle.machine_defs.specs.Machine.{Machine, Platform}
 use Rattle.shadow_pool.specs.Slots.{room_of, spaces_of}
-use Rattle.world_switch.specs.Hosting.{loaded}
+use Rattle.world_switch.specs.Hosting.{hart_state_in}
 use Rattle.guest_exit.specs.declared.guests.Guest.{Guest}
 use Rattle.guest_exit.specs.HartSteps.{IsAt, changing, root_for}
 
 -- the lone machine's platform
-abbrev pub seen : Guest → Platform
-seen guest = record {
+abbrev pub platform_of : Guest → Platform
+platform_of guest = record {
   virt = guest.virt;
   clock = guest.clock;
   console = guest.console;
@@ -22,7 +22,7 @@ seen guest = record {
 -- the lone machine, whose spaces are those of the pool
 abbrev pub machine_of : Guest → List ℕ → Machine
 machine_of guest memory = record {
-  platform = seen guest;
+  platform = platform_of guest;
   ram = ram_of guest.part.blocks memory;
   spaces = spaces_of guest.pool;
   space_room = room_of guest.pool;
@@ -31,14 +31,14 @@ machine_of guest memory = record {
 
 -- what the hart has for it
 abbrev pub loaded_for : Guest → Virtual
-loaded_for guest = loaded guest.part (root_for guest.part guest.pool guest.virt) guest.virt
+loaded_for guest = hart_state_in guest.part (root_for guest.part guest.pool guest.virt) guest.virt
 
 -- the frames of machine memory that its steps may change: those of its blocks and of its spaces' tables
 abbrev pub changed_by : Guest → Frames
 changed_by guest = changing guest.part guest.pool
 
 -- what no step changes
-pub record StaysFixed (before after : Guest) : Type 0 where
+pub record KeepsLayout (before after : Guest) : Type 0 where
   pub part : after.part ≡ before.part
   pub pool : after.pool.part ≡ before.pool.part
   pub entry_room : after.pool.most ≡ before.pool.most

@@ -2,11 +2,11 @@
 
 ghost use Rattle.std.specs.Prelude.{◌≡◌, ◌≤◌, ◌&&◌, ℕ, false, true, if◌then◌else◌};
 ghost use Rattle.arch_defs.specs.Inputs.{has_come};
-ghost use Rattle.machine_defs.specs.Machine.{informed};
-ghost use Rattle.guest_exit.specs.HartEntry.{Lasts, Stays};
+ghost use Rattle.machine_defs.specs.Machine.{with_pending_lines};
+ghost use Rattle.guest_exit.specs.HartEntry.{KeepsCome, Lasts};
 ghost use Rattle.guest_exit.specs.HartSteps.{host_takes};
 ghost use Rattle.world_switch.specs.Laws.{waits_for_hs};
-ghost use Rattle.guest_exit.specs.View.{seen};
+ghost use Rattle.guest_exit.specs.View.{platform_of};
 
 use crate::guests::Guest;
 use arch_defs::Csrs;
@@ -15,13 +15,13 @@ use arch_defs::Csrs;
 /// changes before the last step begins: 1 where an interrupt of VS waits that the host has to take, and else
 /// up to the timer or the first unread input, where that is ahead of the clock.
 pub fn limit(guest: &Guest, most: u64) -> u64
-    requires current { informed (seen guest.now) ≡ seen guest.now }
+    requires current { with_pending_lines (platform_of guest.now) ≡ platform_of guest.now }
     requires own { host_takes guest.now.virt ≡ false }
     requires some { 1 ≤ most }
-    ensures lasts { Lasts (seen guest.now) result }
+    ensures lasts { Lasts (platform_of guest.now) result }
     ensures some { 1 ≤ result }
     ensures most { result ≤ most }
-    ensures largest { (n : ℕ) → n ≤ most → Lasts (seen guest.now) n → n ≤ result }
+    ensures largest { (n : ℕ) → n ≤ most → Lasts (platform_of guest.now) n → n ≤ result }
 {
     if waits_for_hs(&guest.virt.csrs) {
         return 1;
@@ -33,10 +33,10 @@ pub fn limit(guest: &Guest, most: u64) -> u64
 
 // How many of at most so many steps begin before this moment, where there is one and it is ahead.
 fn steps_before(moment: Option<u64>, time: u64, most: u64) -> u64
-    ensures stays { Stays (has_come moment) time result }
+    ensures stays { KeepsCome (has_come moment) time result }
     ensures some { 1 ≤ most → 1 ≤ result }
     ensures most { result ≤ most }
-    ensures largest { (n : ℕ) → n ≤ most → Stays (has_come moment) time n → n ≤ result }
+    ensures largest { (n : ℕ) → n ≤ most → KeepsCome (has_come moment) time n → n ≤ result }
 {
     match moment {
         Some(moment) if time < moment && moment - time < most => moment - time,

@@ -2,7 +2,7 @@
 
 ghost use Rattle.std.specs.Prelude.{◌≡◌, ◌^◌, ◌<◌};
 ghost use Rattle.arch_defs.specs.WalkedEntries.{folds};
-ghost use Rattle.guest_exit.specs.ExitCases.{access_fault_for, access_of, exit_of, instruction_exit, is_guest_page_code, missed, privileged_at, privileged_in, privileged_of, unplaced_exit};
+ghost use Rattle.guest_exit.specs.ExitCases.{access_fault_for, access_of, exit_of, instruction_exit, is_guest_page_code, missing_place_exit, missing_place_of, privileged_at, privileged_in, privileged_of};
 
 use crate::guests::folds;
 use arch_defs::{
@@ -14,7 +14,7 @@ use op_defs::{Effect, Privileged};
 use rv64_decode::decode;
 use rv64_hart::effect_of;
 use trap_delegation::{exception, is_virtual};
-use two_stage_walk::Unplaced;
+use two_stage_walk::MissingPlace;
 
 // Guest physical addresses have 41 bits, of which a trap does not tell the low two (Privileged Architecture
 // 20211203, 8.2.8 and 8.5.1).
@@ -26,7 +26,7 @@ pub enum Exit {
     /// An instruction on which the mode decides: its word and its effect.
     Instruction { word: u64, effect: Privileged },
     /// An access to which the front space gives no place.
-    Missing(Unplaced),
+    Missing(MissingPlace),
     /// An access outside RAM, with the guest's access fault.
     OutsideRam(Trap),
     /// A call of the execution environment.
@@ -41,7 +41,7 @@ pub fn exit_of(virt: &Virtual, trap: &Trap) -> Exit
     ensures { result ≡ exit_of virt.now trap.now }
 {
     if is_guest_page_code(trap.cause) {
-        return unplaced_exit(virt, trap);
+        return missing_place_exit(virt, trap);
     }
     if trap.cause == VIRTUAL_INSTRUCTION {
         return instruction_exit(virt, trap);
@@ -62,14 +62,14 @@ fn is_guest_page_code(code: u64) -> bool
 }
 
 // A guest-page fault. While the guest does not fold, the host table has no place outside RAM.
-fn unplaced_exit(virt: &Virtual, trap: &Trap) -> Exit
-    ensures { result ≡ unplaced_exit virt.now trap.now (folds virt.now) }
+fn missing_place_exit(virt: &Virtual, trap: &Trap) -> Exit
+    ensures { result ≡ missing_place_exit virt.now trap.now (folds virt.now) }
 {
     if !folds(virt) {
         return Exit::OutsideRam(exception(virt.mode, access_fault_for(trap.cause), trap.tval));
     }
     if trap.tval2 < PAST_ADDRESSES {
-        Exit::Missing(missed(virt, trap))
+        Exit::Missing(missing_place_of(virt, trap))
     } else {
         Exit::Own(*trap)
     }
@@ -87,12 +87,12 @@ fn access_fault_for(code: u64) -> u64
 }
 
 // What the hart's trap tells of the access.
-fn missed(virt: &Virtual, trap: &Trap) -> Unplaced
+fn missing_place_of(virt: &Virtual, trap: &Trap) -> MissingPlace
     requires small { trap.now.tval2 < 2 ^ 39 }
-    ensures { result ≡ missed virt.now trap.now }
+    ensures { result ≡ missing_place_of virt.now trap.now }
 {
     let access = access_of(trap.cause);
-    Unplaced {
+    MissingPlace {
         address: trap.tval2 * 4,
         kind: if trap.implicit {
             Access::Implicit

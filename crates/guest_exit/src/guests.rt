@@ -5,9 +5,9 @@ ghost use Rattle.std.specs.Option.{ForSome};
 ghost use Rattle.arch_defs.specs.Clocks.{next_event};
 ghost use Rattle.arch_defs.specs.Traps.{is_virtual};
 ghost use Rattle.arch_defs.specs.WalkedEntries.{folds};
-ghost use Rattle.machine_defs.specs.Machine.{informed, made_by, ticked};
+ghost use Rattle.machine_defs.specs.Machine.{made_by, ticked, with_pending_lines};
 ghost use Rattle.guest_exit.specs.HartEntry.{GivesSteps};
-ghost use Rattle.guest_exit.specs.View.{KeepsSpaces, seen};
+ghost use Rattle.guest_exit.specs.View.{KeepsSpaces, platform_of};
 
 use arch_defs::{Part, Virtual};
 use console_dev::Console;
@@ -33,11 +33,11 @@ pub struct Guest {
 impl Guest {
     /// Sets the registers that the clock sets: the pending timer and external interrupt of sip, and time
     /// (Privileged Architecture 20211203, 4.1.3).
-    pub fn inform(&mut self)
-        ensures platform { seen self.new ≡ informed (seen self.old) }
+    pub fn set_pending_lines(&mut self)
+        ensures platform { platform_of self.new ≡ with_pending_lines (platform_of self.old) }
         ensures stays { (self.new.status ≡ self.old.status) × (self.new.steps ≡ self.old.steps)
             × (self.new.clock ≡ self.old.clock) }
-        ensures fixed { KeepsSpaces self.old self.new }
+        ensures keeps { KeepsSpaces self.old self.new }
     {
         let time = self.clock.now();
         self.virt.csrs.sip.timer = self.clock.due();
@@ -49,11 +49,11 @@ impl Guest {
     pub(crate) fn tick(&mut self)
         requires clock { self.old.clock.time < 2 ^ 63 }
         requires steps { self.old.steps < 2 ^ 61 }
-        ensures platform { seen self.new ≡ ticked (seen self.old) }
+        ensures platform { platform_of self.new ≡ ticked (platform_of self.old) }
         ensures made { self.new.steps ≡ self.old.steps + 1 }
         ensures clock { self.new.clock.time ≡ self.old.clock.time + 1 }
         ensures status { self.new.status ≡ self.old.status }
-        ensures fixed { KeepsSpaces self.old self.new }
+        ensures keeps { KeepsSpaces self.old self.new }
     {
         self.clock.step();
         self.count();
@@ -62,14 +62,14 @@ impl Guest {
     /// A step has been made, after which the clock is where it is now.
     pub(crate) fn count(&mut self)
         requires steps { self.old.steps < 2 ^ 61 }
-        ensures platform { seen self.new ≡ made_by (seen self.old) self.old.clock.time }
+        ensures platform { platform_of self.new ≡ made_by (platform_of self.old) self.old.clock.time }
         ensures made { self.new.steps ≡ self.old.steps + 1 }
         ensures clock { self.new.clock ≡ self.old.clock }
         ensures status { self.new.status ≡ self.old.status }
-        ensures fixed { KeepsSpaces self.old self.new }
+        ensures keeps { KeepsSpaces self.old self.new }
     {
         self.steps += 1;
-        self.inform();
+        self.set_pending_lines();
     }
 
     /// The hart has made so many steps for the guest, the last of which was a trap into VS or was not.
@@ -78,17 +78,17 @@ impl Guest {
             (λ moment. self.old.clock.time + taken ≤ moment) }
         requires clock { self.old.clock.time + taken ≤ 2 ^ 63 }
         requires steps { self.old.steps + taken ≤ 2 ^ 61 }
-        ensures platform { GivesSteps self.old.part (seen self.old) hart.now trapped taken (seen self.new) }
-        ensures current { informed (seen self.new) ≡ seen self.new }
+        ensures platform { GivesSteps self.old.part (platform_of self.old) hart.now trapped taken (platform_of self.new) }
+        ensures current { with_pending_lines (platform_of self.new) ≡ platform_of self.new }
         ensures made { self.new.steps ≡ self.old.steps + taken }
         ensures clock { self.new.clock.time ≡ self.old.clock.time + taken }
         ensures status { self.new.status ≡ self.old.status }
-        ensures fixed { KeepsSpaces self.old self.new }
+        ensures keeps { KeepsSpaces self.old self.new }
     {
         take_back(hart, &self.part, trapped, &mut self.virt);
         self.clock.advance(taken);
         self.steps += taken;
-        self.inform();
+        self.set_pending_lines();
     }
 }
 

@@ -3,7 +3,7 @@
 ghost use Rattle.std.specs.Prelude.{◌≡◌};
 ghost use Rattle.machine_defs.specs.Runs.{events, trace_of};
 ghost use Rattle.rv64_hart.specs.Steps.{is_vs_trap, progress};
-ghost use Rattle.guest_exit.specs.HartEntry.{CanEnter, GoesOn, HartMakes, HasRoomFor, IsAccounted, KeepsTables, Stops};
+ghost use Rattle.guest_exit.specs.HartEntry.{CanEnter, GoesOn, HartMakes, HasRoomForEntry, IsAccounted, KeepsTables, Stops};
 ghost use Rattle.guest_exit.specs.HartSteps.{root_frame_for};
 ghost use Rattle.guest_exit.specs.Steps.{MakesSteps};
 ghost use Rattle.guest_exit.specs.View.{machine_of};
@@ -23,7 +23,7 @@ pub fn enter(
     tally: &mut Tally,
 ) -> Stop
     requires can { CanEnter guest.old memory.old limit }
-    requires room { HasRoomFor limit tally.old }
+    requires room { HasRoomForEntry limit tally.old }
 
     ensures run { MakesSteps result.taken (machine_of guest.old memory.old) (machine_of guest.new memory.new) }
     ensures why { Stops guest.old.part guest.old.pool (machine_of guest.new memory.new) memory.new limit result }

@@ -7,7 +7,7 @@ ghost use Rattle.machine_defs.specs.declared.events.Event.TheVariants.{System};
 ghost use Rattle.machine_defs.specs.Machine.{WaitsForGood, called, stepped_to, trapped};
 ghost use Rattle.machine_defs.specs.Tries.{try};
 ghost use Rattle.guest_exit.specs.ExitCases.{exit_of, try_at};
-ghost use Rattle.guest_exit.specs.HartExit.{CanGoOn, HasExited, IfMissing, IsHandled, IsMadeOf, IsStopCall, IsTold, KeepsPart, StaysWithin};
+ghost use Rattle.guest_exit.specs.HartExit.{CanGoOn, HasExited, IfMissing, IsHandled, IsMadeOf, IsStopCall, IsTold, KeepsOutside, KeepsPart};
 ghost use Rattle.guest_exit.specs.Steps.{CanStep, IsMiss, IsNotPlain, IsQuiet, Makes};
 ghost use Rattle.guest_exit.specs.View.{KeepsSpaces, machine_of};
 
@@ -61,7 +61,7 @@ fn make(guest: &mut Guest, memory: &mut PhysMem, left: Exit) -> Handled
     ensures stops { (result ≡ Handled.Stopped) ↔ IsStopCall left guest.old.virt }
     ensures quiet { IsNotPlain (try_at (machine_of guest.old memory.old) left) }
     ensures told { IsTold result guest.old guest.new }
-    ensures within { StaysWithin guest.old memory.old guest.new memory.new }
+    ensures within { KeepsOutside guest.old memory.old guest.new memory.new }
 {
     match left {
         Exit::Instruction { word, effect } => emulate(guest, memory, word, effect),
@@ -78,7 +78,7 @@ pub(crate) fn raise(guest: &mut Guest, trap: &Trap) -> Handled
     ensures step { Makes guest.old guest.new (λ m. trapped m trap.now) }
     ensures told { IsTold result guest.old guest.new }
     ensures went { result ≡ Handled.Stepped }
-    ensures fixed { KeepsSpaces guest.old guest.new }
+    ensures keeps { KeepsSpaces guest.old guest.new }
 {
     take(&mut guest.virt, trap);
     guest.tick();
@@ -91,7 +91,7 @@ fn call(guest: &mut Guest) -> Handled
     ensures step { Makes guest.old guest.new (λ m. stepped_to m (called m.platform) System) }
     ensures told { IsTold result guest.old guest.new }
     ensures went { result ≢ Handled.Retry }
-    ensures fixed { KeepsSpaces guest.old guest.new }
+    ensures keeps { KeepsSpaces guest.old guest.new }
 {
     let end = see_calls::call(&mut guest.virt.regs, &mut guest.clock, &mut guest.console);
     match end {

@@ -1,7 +1,7 @@
 // Interrupts that the host takes.
 
 ghost use Rattle.std.specs.Prelude.{◌≡◌, List, Some, ℕ, false, true};
-ghost use Rattle.arch_defs.specs.Interrupts.{guest_bit};
+ghost use Rattle.arch_defs.specs.Interrupts.{vs_bit};
 ghost use Rattle.arch_defs.specs.Traps.{is_virtual};
 ghost use Rattle.machine_defs.specs.declared.guests.Status.TheVariants.{Running};
 ghost use Rattle.guest_exit.specs.HartSteps.{host_takes, is_hosts};
@@ -23,7 +23,7 @@ pub fn interrupt(guest: &mut Guest) -> bool
     ensures stays { result ≡ false → guest.new ≡ guest.old }
     ensures placed { (memory : List ℕ) → IsPlaced guest.old memory → IsPlaced guest.new memory }
     ensures status { guest.new.status ≡ Running }
-    ensures fixed { KeepsSpaces guest.old guest.new }
+    ensures keeps { KeepsSpaces guest.old guest.new }
 {
     match pending(&guest.virt.csrs, guest.virt.mode) {
         Some(code) => {
@@ -51,7 +51,7 @@ fn is_hosts(code: u64, virt: &Virtual) -> bool
 }
 
 fn is_delegated(hideleg: &Interrupts, code: u64) -> bool
-    ensures { result ≡ guest_bit hideleg.now code }
+    ensures { result ≡ vs_bit hideleg.now code }
 {
     match code {
         VS_SOFTWARE => hideleg.software,

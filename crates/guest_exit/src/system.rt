@@ -12,8 +12,8 @@ ghost use Rattle.machine_defs.specs.HlvAccesses.{hlv_outcome};
 ghost use Rattle.machine_defs.specs.Outcomes.{Fenced};
 ghost use Rattle.machine_defs.specs.Privileges.{privileged};
 ghost use Rattle.machine_defs.specs.Runs.{left_by};
-ghost use Rattle.machine_defs.specs.Tries.{hlv_made, concluded, enters, made};
-ghost use Rattle.guest_exit.specs.HartExit.{CanGoOn, IsTold, StaysWithin};
+ghost use Rattle.machine_defs.specs.Tries.{hlv_committed, apply_outcome, enters, committed};
+ghost use Rattle.guest_exit.specs.HartExit.{CanGoOn, IsTold, KeepsOutside};
 ghost use Rattle.guest_exit.specs.Steps.{CanStep, IsNotPlain};
 ghost use Rattle.guest_exit.specs.View.{IsPlaced, KeepsSpaces, machine_of};
 
@@ -24,7 +24,7 @@ use arch_defs::{Fence, Part, Virtual};
 use hlv_hsv::{Accessed, access};
 use op_defs::{DataAccess, Privileged};
 use phys_mem::{PhysMem, Ram};
-use system_ops::{Executed, execute, refusal_code};
+use privileged_ops::{Performed, perform, refusal_code};
 use trap_delegation::{exception, is_virtual};
 use two_stage_walk::ram_is_whole;
 
@@ -34,21 +34,21 @@ use two_stage_walk::ram_is_whole;
 pub fn emulate(guest: &mut Guest, memory: &mut PhysMem, word: u64, effect: Privileged) -> Handled
     requires can { CanGoOn guest.old memory.old }
     ensures step { machine_of guest.new memory.new ≡ left_by (machine_of guest.old memory.old)
-        (concluded (machine_of guest.old memory.old) (privileged guest.old.virt word effect)) }
+        (apply_outcome (machine_of guest.old memory.old) (privileged guest.old.virt word effect)) }
     ensures quiet { IsNotPlain
-        (concluded (machine_of guest.old memory.old) (privileged guest.old.virt word effect)) }
+        (apply_outcome (machine_of guest.old memory.old) (privileged guest.old.virt word effect)) }
     ensures went { result ≢ Handled.Retry }
     ensures runs { result ≢ Handled.Stopped }
-    ensures within { StaysWithin guest.old memory.old guest.new memory.new }
+    ensures within { KeepsOutside guest.old memory.old guest.new memory.new }
     ensures told { IsTold result guest.old guest.new }
 {
     let mut virt = guest.virt;
-    match execute(&mut virt, effect) {
-        Executed::Done => finish(guest, memory, virt),
-        Executed::Waits => wait(guest, virt),
-        Executed::Accesses(wanted) => access_ram(guest, memory, wanted),
-        Executed::Fenced(named) => fence(guest, memory, virt, named),
-        Executed::Refused(end) => {
+    match perform(&mut virt, effect) {
+        Performed::Done => finish(guest, memory, virt),
+        Performed::Waits => wait(guest, virt),
+        Performed::Accesses(wanted) => access_ram(guest, memory, wanted),
+        Performed::Fenced(named) => fence(guest, memory, virt, named),
+        Performed::Refused(end) => {
             let trap = exception(guest.virt.mode, refusal_code(end), word);
             raise(guest, &trap)
         }
@@ -60,9 +60,9 @@ fn finish(guest: &mut Guest, memory: &mut PhysMem, virt: Virtual) -> Handled
     requires can { CanStep guest.old }
     requires placed { IsPlaced guest.old memory.old }
     ensures step { machine_of guest.new memory.new ≡ left_by (machine_of guest.old memory.old)
-        (made (machine_of guest.old memory.old) virt None System) }
+        (committed (machine_of guest.old memory.old) virt None System) }
     ensures went { result ≡ Handled.Stepped }
-    ensures within { StaysWithin guest.old memory.old guest.new memory.new }
+    ensures within { KeepsOutside guest.old memory.old guest.new memory.new }
     ensures told { IsTold result guest.old guest.new }
 {
     if enters(&guest.virt, &virt) {
@@ -86,9 +86,9 @@ fn enter_space(guest: &mut Guest, memory: &mut PhysMem, virt: Virtual) -> Handle
     requires placed { IsPlaced guest.old memory.old }
     requires enters { enters guest.old.virt virt ≡ true }
     ensures step { machine_of guest.new memory.new ≡ left_by (machine_of guest.old memory.old)
-        (made (machine_of guest.old memory.old) virt None System) }
+        (committed (machine_of guest.old memory.old) virt None System) }
     ensures went { result ≡ Handled.Stepped }
-    ensures within { StaysWithin guest.old memory.old guest.new memory.new }
+    ensures within { KeepsOutside guest.old memory.old guest.new memory.new }
     ensures told { IsTold result guest.old guest.new }
 {
     guest.pool.enter(memory, virt.csrs.hgatp);
@@ -102,9 +102,9 @@ fn fence(guest: &mut Guest, memory: &mut PhysMem, virt: Virtual, named: Fence) -
     requires can { CanStep guest.old }
     requires placed { IsPlaced guest.old memory.old }
     ensures step { machine_of guest.new memory.new ≡ left_by (machine_of guest.old memory.old)
-        (concluded (machine_of guest.old memory.old) (Fenced virt named)) }
+        (apply_outcome (machine_of guest.old memory.old) (Fenced virt named)) }
     ensures went { result ≡ Handled.Stepped }
-    ensures within { StaysWithin guest.old memory.old guest.new memory.new }
+    ensures within { KeepsOutside guest.old memory.old guest.new memory.new }
     ensures told { IsTold result guest.old guest.new }
 {
     guest.pool.fence(memory, named);
@@ -118,12 +118,12 @@ fn access_ram(guest: &mut Guest, memory: &mut PhysMem, wanted: DataAccess) -> Ha
     requires can { CanStep guest.old }
     requires lies { LieIn (in_blocks guest.old.part.blocks) (length memory.old) }
     ensures step { machine_of guest.new memory.new ≡ left_by (machine_of guest.old memory.old)
-        (hlv_made (machine_of guest.old memory.old)
+        (hlv_committed (machine_of guest.old memory.old)
         (hlv_outcome ram_base (ram_of guest.old.part.blocks memory.old) guest.old.virt wanted)) }
     ensures only { Only (in_blocks guest.old.part.blocks) memory.old memory.new }
     ensures went { result ≡ Handled.Stepped }
     ensures told { IsTold result guest.old guest.new }
-    ensures fixed { KeepsSpaces guest.old guest.new }
+    ensures keeps { KeepsSpaces guest.old guest.new }
 {
     let mut virt = guest.virt;
     match access_in(memory, &guest.part, &mut virt, wanted) {

@@ -3,8 +3,8 @@ ghost use Rattle.arch_defs.specs.Clocks.{times_at_start};
 ghost use Rattle.arch_defs.specs.Frames.{Only, in_blocks};
 ghost use Rattle.arch_defs.specs.Inputs.{AreInputs};
 ghost use Rattle.machine_defs.specs.declared.guests.Status.TheVariants.{Running};
-ghost use Rattle.machine_defs.specs.Machine.{informed};
-ghost use Rattle.guest_exit.specs.View.{IsPlaced, seen};
+ghost use Rattle.machine_defs.specs.Machine.{with_pending_lines};
+ghost use Rattle.guest_exit.specs.View.{IsPlaced, platform_of};
 ghost use Rattle.guest_exit.specs.Starting.{IsNewPool};
 
 use crate::guests::folds;
@@ -140,7 +140,7 @@ pub fn one_on(alloc: Global, guest: &mut Guest, image: &[u8]) -> Result<By, Allo
     requires unreserved { guest.old.virt.reservation ≡ None }
     requires pool { IsNewPool guest.old.part guest.old.pool }
 {
-    guest.inform();
+    guest.set_pending_lines();
     match placed(alloc, guest, image, FRAMES)? {
         Some(mut memory) => Ok(one_in(guest, &mut memory)),
         None => Ok(By::Nobody),
@@ -150,7 +150,7 @@ pub fn one_on(alloc: Global, guest: &mut Guest, image: &[u8]) -> Result<By, Allo
 // One try of the guest's next step in machine memory.
 pub fn one_in(guest: &mut Guest, memory: &mut PhysMem) -> By
     requires running { guest.old.status ≡ Running }
-    requires current { informed (seen guest.old) ≡ seen guest.old }
+    requires current { with_pending_lines (platform_of guest.old) ≡ platform_of guest.old }
     requires clock { guest.old.clock.time ≤ 2 ^ 62 + guest.old.steps }
     requires steps { guest.old.steps < 2 ^ 61 }
     requires placed { IsPlaced guest.old memory.old }
@@ -349,7 +349,7 @@ fn entered(
     requires entries { tally.old.entries ≡ 0 }
     requires taken { tally.old.taken ≡ 0 }
 {
-    guest.inform();
+    guest.set_pending_lines();
     let Some(mut memory) = placed(alloc, guest, image, FRAMES)? else {
         return Ok(None);
     };

@@ -89,7 +89,7 @@ fn stores(rt: HostRuntime) -> Result<(), Fail> {
     ] {
         let mut guest = accessing(rt.alloc(), Mode::HS, 0x8000_1010)?;
         let image = image(rt.alloc(), word)?;
-        guest.inform();
+        guest.set_pending_lines();
         let found = placed(rt.alloc(), &guest, image.as_slice(), FRAMES)?;
         let mut memory = found.expect(&rt, "memory");
         assert_eq!(rt; one_in(&mut guest, &mut memory), STEPPED, "{word:#x}");

@@ -242,7 +242,7 @@ fn wfi_waits_for_good(rt: HostRuntime) -> Result<(), Fail> {
             let mut guest = at(rt.alloc(), mode, 5)?;
             guest.clock.set(timer);
             guest.virt.csrs.sie.timer = enabled;
-            guest.inform();
+            guest.set_pending_lines();
             let before = guest.virt;
             let by = one(rt.alloc(), &mut guest, WFI)?;
             assert_eq!(rt; by, By::Host(Handled::Waits), "timer {timer}");

@@ -118,7 +118,7 @@ fn tries(
         if guest.status != Status::Running {
             return Ok(made);
         }
-        guest.inform();
+        guest.set_pending_lines();
         made.push(one_in(guest, &mut memory))?;
     }
     Ok(made)

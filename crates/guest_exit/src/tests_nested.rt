@@ -63,13 +63,13 @@ fn previous(guest: &Guest) -> (bool, bool, bool) {
 
 // scause, stval and sepc of HS, or of VS.
 fn taken_by_hs(guest: &Guest) -> (u64, u64, u64) {
-    let bank = guest.virt.csrs.hs;
-    (bank.cause, bank.tval, bank.epc)
+    let registers = guest.virt.csrs.hs;
+    (registers.cause, registers.tval, registers.epc)
 }
 
 fn taken_by_vs(guest: &Guest) -> (u64, u64, u64) {
-    let bank = guest.virt.csrs.vs;
-    (bank.cause, bank.tval, bank.epc)
+    let registers = guest.virt.csrs.vs;
+    (registers.cause, registers.tval, registers.epc)
 }
 
 // What the hart makes with V = 1 is done to the registers of VS; those of HS and htimedelta stay.

@@ -1,7 +1,7 @@
 // Traps that the host takes for a guest.
 
 ghost use Rattle.std.specs.Prelude.{◌≡◌};
-ghost use Rattle.arch_defs.specs.Traps.{entered};
+ghost use Rattle.arch_defs.specs.Traps.{entered_by_trap};
 
 use arch_defs::{Level, Trap, Virtual};
 use trap_delegation::{enter_hs, enter_vs, target};
@@ -10,7 +10,7 @@ use trap_delegation::{enter_hs, enter_vs, target};
 /// (Privileged Architecture 20211203, 8.2.2 and 8.6.2).
 #[tactic(auto, unfolding(arch_defs::specs::Traps::target))]
 pub fn take(virt: &mut Virtual, trap: &Trap)
-    ensures { virt.new ≡ entered virt.old trap.now }
+    ensures { virt.new ≡ entered_by_trap virt.old trap.now }
 {
     match target(&virt.csrs, virt.mode, trap) {
         Level::HS => virt.mode = enter_hs(&mut virt.csrs, &mut virt.regs, virt.mode, trap),

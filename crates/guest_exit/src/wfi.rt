@@ -1,10 +1,10 @@
 // WFI of a guest (Privileged Architecture 20211203, 3.3.3).
 
 ghost use Rattle.std.specs.Prelude.{◌≡◌, ◌≢◌, ◌&&◌, ◌||◌, false};
-ghost use Rattle.machine_defs.specs.Machine.{has_enabled_interrupt, informed, waited};
+ghost use Rattle.machine_defs.specs.Machine.{has_enabled_interrupt, waited, with_pending_lines};
 ghost use Rattle.guest_exit.specs.HartExit.{IsTold};
 ghost use Rattle.guest_exit.specs.Steps.{CanStep, Makes};
-ghost use Rattle.guest_exit.specs.View.{KeepsSpaces, seen};
+ghost use Rattle.guest_exit.specs.View.{KeepsSpaces, platform_of};
 
 use crate::guests::Guest;
 use crate::hart_exit::Handled;
@@ -16,12 +16,12 @@ use virtual_timer::{WaitEnd, wake_moment_is_least};
 /// waits for the wake moment, or for good.
 pub fn wait(guest: &mut Guest, virt: Virtual) -> Handled
     requires can { CanStep guest.old }
-    requires current { informed (seen guest.old) ≡ seen guest.old }
+    requires current { with_pending_lines (platform_of guest.old) ≡ platform_of guest.old }
     ensures step { Makes guest.old guest.new (λ m. waited m virt) }
     ensures told { IsTold result guest.old guest.new }
     ensures went { result ≢ Handled.Retry }
     ensures runs { result ≢ Handled.Stopped }
-    ensures fixed { KeepsSpaces guest.old guest.new }
+    ensures keeps { KeepsSpaces guest.old guest.new }
 {
     if has_enabled_interrupt(&guest.virt.csrs) {
         guest.virt = virt;
@@ -34,13 +34,13 @@ pub fn wait(guest: &mut Guest, virt: Virtual) -> Handled
 // A WFI at which no enabled interrupt is pending.
 fn wait_for_wake(guest: &mut Guest, virt: Virtual) -> Handled
     requires can { CanStep guest.old }
-    requires current { informed (seen guest.old) ≡ seen guest.old }
+    requires current { with_pending_lines (platform_of guest.old) ≡ platform_of guest.old }
     requires none { has_enabled_interrupt guest.old.virt.csrs ≡ false }
     ensures step { Makes guest.old guest.new (λ m. waited m virt) }
     ensures told { IsTold result guest.old guest.new }
     ensures went { result ≢ Handled.Retry }
     ensures runs { result ≢ Handled.Stopped }
-    ensures fixed { KeepsSpaces guest.old guest.new }
+    ensures keeps { KeepsSpaces guest.old guest.new }
 {
     wake_moment_is_least();
     match guest.clock.wait(guest.virt.csrs.sie, guest.console.next()) {

@@ -51,7 +51,7 @@ turned guests memory g k old new changed all g_in is ran hosted =
     count = length-set guests g new
 
     own_part : new.part ≡ (get_or guests g old).part
-    own_part = ran.fixed.part ∙ ap (λ guest. guest.part) is
+    own_part = ran.keeps.part ∙ ap (λ guest. guest.part) is
 
     parts : parts_of (set guests g new) ≡ parts_of guests
     parts = map-set_same (λ guest. guest.part) guests g new old own_part

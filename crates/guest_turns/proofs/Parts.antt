@@ -1,14 +1,14 @@
 -- What one advance of a guest is to its lone machine: what the hart makes in an entry, and what the host makes after it.
 use Rattle.std.proofs.Common.{◌≡◌, ◌≢◌, ℕ, ◌-◌, ◌<◌, ◌≤◌, List, ◌++◌, refl}
 use Rattle.machine_defs.specs.declared.guests.Status.TheVariants.{Running}
-use Rattle.machine_defs.specs.Machine.{informed}
+use Rattle.machine_defs.specs.Machine.{with_pending_lines}
 use Rattle.machine_defs.specs.Runs.{events, run}
 use Rattle.machine_laws.specs.Budgets.{NeedNoFill}
 use Rattle.guest_exit.specs.declared.guests.Guest.{Guest}
 use Rattle.guest_exit.specs.declared.hart_exit.Handled.{Handled}
 use Rattle.guest_exit.specs.declared.hart_exit.Handled.TheVariants as handled
 use Rattle.guest_exit.specs.Steps.{Fills, MakesStep}
-use Rattle.guest_exit.specs.View.{machine_of, seen}
+use Rattle.guest_exit.specs.View.{machine_of, platform_of}
 use Rattle.guest_turns.specs.Hosting.{IsHosted, used_by}
 use Rattle.guest_turns.proofs.Current.{after_fill, after_step}
 use Rattle.guest_turns.proofs.Turns.{Made, events_of, exit_made, run_made, step_made}
@@ -39,9 +39,9 @@ handed_part guest same between new memory changed last left taken result hosted 
     (rw is at need) (rw is at ran) running steps fills
 
 -- what the clock sets is as the clock sets it
-pub handed_current : (between new : Guest) (changed last : List ℕ) (result : Handled) → informed (seen between) ≡ seen between
+pub handed_current : (between new : Guest) (changed last : List ℕ) (result : Handled) → with_pending_lines (platform_of between) ≡ platform_of between
     → (result ≢ handled.Retry → MakesStep (machine_of between changed) (machine_of new last))
-    → (result ≡ handled.Retry → Fills (machine_of between changed) (machine_of new last)) → informed (seen new) ≡ seen new
+    → (result ≡ handled.Retry → Fills (machine_of between changed) (machine_of new last)) → with_pending_lines (platform_of new) ≡ platform_of new
 handed_current between new changed last handled.Stepped e steps fills = after_step (machine_of between changed) (machine_of new last) e (steps (λ e. cc))
 handed_current between new changed last handled.Retry e steps fills = after_fill (machine_of between changed) (machine_of new last) e (fills refl)
 handed_current between new changed last handled.Waits e steps fills = after_step (machine_of between changed) (machine_of new last) e (steps (λ e. cc))

@@ -9,10 +9,10 @@ use Rattle.arch_defs.proofs.RamBlocks.{ram_kept}
 use Rattle.machine_laws.specs.Keeping.{IsOrderly}
 use Rattle.host_tables.proofs.Held.{held_stays, host_in_part}
 use Rattle.machine_laws.specs.Reservations.{CachesInRam}
-use Rattle.shadow_pool.specs.Slots.{frames_for, pool_frames, room_of}
+use Rattle.shadow_pool.specs.Slots.{pool_frames, room_of, table_frames_for}
 use Rattle.shadow_pool.proofs.Front.{pool_lasts}
 use Rattle.guest_exit.specs.declared.guests.Guest.{Guest}
-use Rattle.guest_exit.specs.View.{IsPlaced, StaysFixed, changed_by, machine_of}
+use Rattle.guest_exit.specs.View.{IsPlaced, KeepsLayout, changed_by, machine_of}
 use Rattle.guest_exit.proofs.Pools.{blocks_held, changes_within, pool_in_part}
 use Rattle.guest_turns.specs.Hosting.{IsHosted}
 
@@ -55,7 +55,7 @@ only_in_part guest old new at only =
     only_more (changed_by guest) (named_by guest.part) old new (changes_within guest.part guest.pool old at.own at.tidy) only
 
 -- one change after another
-pub fixed_both : (old between new : Guest) → StaysFixed old between → StaysFixed between new → StaysFixed old new
+pub fixed_both : (old between new : Guest) → KeepsLayout old between → KeepsLayout between new → KeepsLayout old new
 fixed_both old between new first second = record {
   part = second.part ∙ first.part;
   pool = second.pool ∙ first.pool;
@@ -64,13 +64,13 @@ fixed_both old between new first second = record {
 }
 
 -- the same frames may change
-pub same_changed : (old new : Guest) → StaysFixed old new → changed_by new ≡ changed_by old
+pub same_changed : (old new : Guest) → KeepsLayout old new → changed_by new ≡ changed_by old
 same_changed old new fixed =
     ap (λ part. joined (in_blocks part.blocks) (pool_frames new.pool)) fixed.part
-    ∙ ap (λ part. joined (in_blocks old.part.blocks) (frames_for part (room_of new.pool))) fixed.pool
-    ∙ ap (λ count. joined (in_blocks old.part.blocks) (frames_for old.pool.part count)) fixed.space_room
+    ∙ ap (λ part. joined (in_blocks old.part.blocks) (table_frames_for part (room_of new.pool))) fixed.pool
+    ∙ ap (λ count. joined (in_blocks old.part.blocks) (table_frames_for old.pool.part count)) fixed.space_room
 
-pub only_then : (old between new : Guest) (memory changed last : List ℕ) → StaysFixed old between → Only (changed_by old) memory changed
+pub only_then : (old between new : Guest) (memory changed last : List ℕ) → KeepsLayout old between → Only (changed_by old) memory changed
     → Only (changed_by between) changed last → Only (changed_by old) memory last
 only_then old between new memory changed last fixed first second =
     only_both (changed_by old) memory changed last first (subst (λ frames. Only frames changed last) (same_changed old between fixed) second)

@@ -21,8 +21,8 @@ use Rattle.host_tables.specs.Walks.{IsHeld}
 use Rattle.host_tables.proofs.Held.{host_in_part, host_in_tables, table_stays}
 use Rattle.machine_defs.specs.declared.guests.GuestSpec.{GuestSpec}
 use Rattle.machine_laws.specs.HostPlaces.{in_ram}
-use Rattle.machine_defs.specs.Machine.{Machine, Platform, informed, start}
-use Rattle.machine_laws.specs.Renaming.{ReservesHeld}
+use Rattle.machine_defs.specs.Machine.{Machine, Platform, start, with_pending_lines}
+use Rattle.machine_laws.specs.Renaming.{ReservesWithin}
 use Rattle.machine_laws.specs.Reservations.{CachesInRam}
 use Rattle.machine_laws.proofs.InRam.{start_is_in_ram}
 use Rattle.shadow_pool.specs.Slots as slots
@@ -31,7 +31,7 @@ use Rattle.shadow_pool.proofs.Apart.{host_apart, pool_within, ram_apart}
 use Rattle.shadow_space.specs.Shadows.{AreZeros}
 use Rattle.shadow_space.proofs.Clearing.{zeros_at}
 use Rattle.guest_exit.specs.declared.guests.Guest.{Guest}
-use Rattle.guest_exit.specs.View.{machine_of, seen}
+use Rattle.guest_exit.specs.View.{machine_of, platform_of}
 use Rattle.guest_turns.specs.Hosted.{no_machine, no_part}
 use Rattle.guest_turns.specs.Hosting.{AreAtStart, AreHosted, AreLaidOut, IsAtStart, IsHosted, parts_of, space_tables}
 use Rattle.guest_turns.specs.Limits.{IsBootable, frames_for, need_of, needs_of}
@@ -222,7 +222,7 @@ nothing_reserved : (spec : GuestSpec) → (start spec).platform.virt.reservation
 unfolding start
 nothing_reserved spec = refl
 
-at_start_current : (spec : GuestSpec) → informed (start spec).platform ≡ (start spec).platform
+at_start_current : (spec : GuestSpec) → with_pending_lines (start spec).platform ≡ (start spec).platform
 unfolding start
 at_start_current spec = refl
 
@@ -249,7 +249,7 @@ pool_at_start spec part guest memory at spaces lies zeros =
     (subst (λ frames. AreZeros frames memory) (sym same) zeros)
   where
     same : pool_frames guest.pool ≡ space_tables part
-    same = ap (λ part. slots.frames_for part (room_of guest.pool)) at.pool.part ∙ ap (slots.frames_for part) (at.spaces ∙ sym spaces)
+    same = ap (λ part. slots.table_frames_for part (room_of guest.pool)) at.pool.part ∙ ap (slots.table_frames_for part) (at.spaces ∙ sym spaces)
 
 orderly_at_start : (spec : GuestSpec) → IsBootable spec → IsOrderly (start spec)
 orderly_at_start spec is = start_is_orderly spec (omega (arith, is.some_entries)) is.some_space
@@ -271,11 +271,11 @@ hosted_at_start spec part guest memory bootable at spaces once held zeros machin
     orderly = subst IsOrderly (sym machine) (orderly_at_start spec bootable);
   };
   clock = bounded guest.clock.time guest.steps (ap (λ p. p.clock.time) at.platform ∙ at_start_clock spec);
-  current = ap informed at.platform ∙ at_start_current spec ∙ sym at.platform;
+  current = ap with_pending_lines at.platform ∙ at_start_current spec ∙ sym at.platform;
 }
   where
-    reserved : ReservesHeld (in_ram guest.part.blocks) guest.virt.reservation
-    reserved = subst (λ r. ReservesHeld (in_ram guest.part.blocks) r) (sym (ap (λ p. p.virt.reservation) at.platform ∙ nothing_reserved spec)) tt
+    reserved : ReservesWithin (in_ram guest.part.blocks) guest.virt.reservation
+    reserved = subst (λ r. ReservesWithin (in_ram guest.part.blocks) r) (sym (ap (λ p. p.virt.reservation) at.platform ∙ nothing_reserved spec)) tt
 
 -- and is the machine at its start
 as_parts : (platform : Platform) (ram : List ℕ) (spaces : List Space) (space_room entry_room : ℕ) (spec : GuestSpec) → platform ≡ (start spec).platform
@@ -287,7 +287,7 @@ as_parts platform ram spaces space_room entry_room spec p r e s n = rw (p, r, e,
 machine_at_start : (spec : GuestSpec) (part : Layout) (guest : Guest) (memory : List ℕ) → IsAtStart spec part guest
     → ram_of part.blocks memory ≡ loaded (spec.blocks * block_size) spec.image → machine_of guest memory ≡ start spec
 machine_at_start spec part guest memory at ram =
-    as_parts (seen guest) (ram_of guest.part.blocks memory) (spaces_of guest.pool) (room_of guest.pool) guest.pool.most spec at.platform
+    as_parts (platform_of guest) (ram_of guest.part.blocks memory) (spaces_of guest.pool) (room_of guest.pool) guest.pool.most spec at.platform
     (ap (λ part. ram_of part.blocks memory) at.own_part ∙ ram) at.pool.spaces at.spaces at.entries
 
 -- what was booted

@@ -4,14 +4,14 @@ use Rattle.std.proofs.Common.{◌≡◌, ◌+◌, Option, Bool, true, false, ref
 use Rattle.arch_defs.specs.declared.cached.Fence.{Fence}
 use Rattle.arch_defs.specs.Calls.{environment, state_of}
 use Rattle.arch_defs.specs.Registers.{a7, read}
-use Rattle.machine_defs.specs.Machine.{Machine, Platform, Tried, Ended, WaitsForGood, called, informed, stopped_if, with_call}
+use Rattle.machine_defs.specs.Machine.{Machine, Platform, Tried, Ended, WaitsForGood, called, with_pending_lines, stopped_if, with_call}
 use Rattle.machine_defs.specs.Tries.{try}
 use Rattle.machine_laws.proofs.TryEnds.{Calls, Fences, Halts, Makes, Passes, Takes}
 use Rattle.guest_exit.proofs.SomeEnds.{SomeEnd, some_end}
 
 pub record IsStep (m after : Machine) : Type 0 where
   pub counted : after.platform.steps ≡ m.platform.steps + 1
-  pub current : informed after.platform ≡ after.platform
+  pub current : with_pending_lines after.platform ≡ after.platform
 
 abbrev pub LeavesStep : Machine → Tried → Type 0
 LeavesStep m (Ended after event) = IsStep m after

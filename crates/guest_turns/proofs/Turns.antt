@@ -8,7 +8,7 @@ use Rattle.machine_defs.specs.declared.guests.Status.{Status}
 use Rattle.machine_defs.specs.declared.guests.Status.TheVariants as status
 use Rattle.machine_defs.specs.Fills.{most_tries, needed, ready}
 use Rattle.machine_defs.specs.Machine.{Machine, Tried, Ended, WaitsForGood}
-use Rattle.machine_defs.specs.Runs.{event_in, events, events_by, instruction_count, is_instruction, is_plain, pc_and_word, plain_count, run, step, trace_of}
+use Rattle.machine_defs.specs.Runs.{event_in, events, events_by, instruction_count, is_instruction, is_plain_step, pc_and_word, plain_count, run, step, trace_of}
 use Rattle.machine_defs.specs.Tries.{try}
 use Rattle.machine_laws.proofs.Running.{run_none, run_idle, events_none, events_idle, events_compose}
 use Rattle.machine_laws.specs.Budgets.{Goes, NeedNoFill, budget}
@@ -27,7 +27,7 @@ pub trace_then : (xs ys : List Event) → trace_of (xs ++ ys) ≡ trace_of xs + 
 trace_then xs ys = sum_by-append pc_and_word xs ys
 
 pub plain_then : (xs ys : List Event) → plain_count (xs ++ ys) ≡ plain_count xs + plain_count ys
-plain_then xs ys = sum_by-append (λ e. cond (is_plain e) 1 0) xs ys
+plain_then xs ys = sum_by-append (λ e. cond (is_plain_step e) 1 0) xs ys
 
 pub instructions_then : (xs ys : List Event) → instruction_count (xs ++ ys) ≡ instruction_count xs + instruction_count ys
 instructions_then xs ys = sum_by-append (λ e. cond (is_instruction e) 1 0) xs ys

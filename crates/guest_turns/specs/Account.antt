@@ -6,7 +6,7 @@ use Rattle.rv64_hart.specs.Counts.{Counts, IsRaisedBy}
 use Rattle.guest_turns.specs.TurnLists.{turn_entries}
 
 -- it has room for a turn of at most k steps of a machine
-pub record HasRoomFor (m : Machine) (k : ℕ) (tally : Counts) : Type 0 where
+pub record HasRoomForTurn (m : Machine) (k : ℕ) (tally : Counts) : Type 0 where
   pub entries : tally.entries + turn_entries m.entry_room k ≤ 2 ^ 62
   pub taken : tally.taken + k ≤ 2 ^ 62
 

@@ -9,7 +9,7 @@ use Rattle.machine_laws.specs.Budgets.{Goes}
 use Rattle.frame_split.specs.Shares.{ArePairwiseApart}
 use Rattle.host_tables.specs.HostTable.{IsHostTable}
 use Rattle.machine_defs.specs.declared.guests.GuestSpec.{GuestSpec}
-use Rattle.machine_defs.specs.Machine.{informed, start}
+use Rattle.machine_defs.specs.Machine.{start, with_pending_lines}
 use Rattle.machine_defs.specs.Runs.{run}
 use Rattle.shadow_pool.specs.Slots as slots
 use Rattle.shadow_pool.specs.Slots.{room_of}
@@ -18,14 +18,14 @@ use Rattle.guest_exit.specs.declared.guests.Guest.{Guest}
 use Rattle.guest_exit.specs.declared.hart_exit.Handled.{Handled}
 use Rattle.guest_exit.specs.declared.hart_exit.Handled.TheVariants.{Stepped, Retry, Waits, Stopped}
 use Rattle.guest_exit.specs.Starting.{IsNewPool}
-use Rattle.guest_exit.specs.View.{IsPlaced, StaysFixed, changed_by, machine_of, seen}
+use Rattle.guest_exit.specs.View.{IsPlaced, KeepsLayout, changed_by, machine_of, platform_of}
 
 -- a guest is in machine memory, its clock is bounded by its steps, and the registers that the clock sets are
 -- as the clock sets them
 pub record IsHosted (guest : Guest) (memory : List ℕ) : Type 0 where
   pub placed : IsPlaced guest memory
   pub clock : guest.clock.time ≤ 2 ^ 62 + guest.steps
-  pub current : informed (seen guest) ≡ seen guest
+  pub current : with_pending_lines (platform_of guest) ≡ platform_of guest
 
 abbrev pub parts_of : List Guest → List Layout
 parts_of guests = map (λ guest. guest.part) guests
@@ -39,14 +39,14 @@ pub record AreHosted (guests : List Guest) (memory : List ℕ) : Type 0 where
 -- a guest and machine memory after so many steps of its lone machine
 pub record HasRun (old : Guest) (memory : List ℕ) (k : ℕ) (new : Guest) (changed : List ℕ) : Type 0 where
   pub machine : machine_of new changed ≡ run (machine_of old memory) k
-  pub fixed : StaysFixed old new
+  pub keeps : KeepsLayout old new
   pub only : Only (changed_by old) memory changed
 
 -- after a part of so many steps: as many steps as are left are the same run, and take fewer tries
 pub record Advances (old : Guest) (memory : List ℕ) (k : ℕ) (new : Guest) (changed : List ℕ)
     (left : ℕ) : Type 0 where
   pub goes : Goes (machine_of old memory) k (machine_of new changed) left
-  pub fixed : StaysFixed old new
+  pub keeps : KeepsLayout old new
   pub only : Only (changed_by old) memory changed
 
 -- how many of the steps that are left are used up by what the host makes: a fill uses none, and a wait for
@@ -61,7 +61,7 @@ used_by Stopped = 1
 -- at its start
 pub record IsAtStart (spec : GuestSpec) (part : Layout) (guest : Guest) : Type 0 where
   pub own_part : guest.part ≡ part
-  pub platform : seen guest ≡ (start spec).platform
+  pub platform : platform_of guest ≡ (start spec).platform
   pub pool : IsNewPool part guest.pool
   pub spaces : room_of guest.pool ≡ spec.spaces
   pub entries : guest.pool.most ≡ spec.entries
@@ -75,7 +75,7 @@ pub record AreAtStart (specs : List GuestSpec) (parts : List Layout)
 
 -- the frames of a part for the tables of its spaces
 abbrev pub space_tables : Layout → Frames
-space_tables part = slots.frames_for part part.spaces
+space_tables part = slots.table_frames_for part part.spaces
 
 -- the RAM of so many guests in machine memory is their images, and their host tables are written; the frames
 -- for the tables of all guests' spaces are zeros

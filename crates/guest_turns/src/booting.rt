@@ -103,6 +103,6 @@ fn guest_at_start(alloc: Global, spec: GuestSpec, part: Part) -> Result<Guest, A
         steps: 0,
         status: Status::Running,
     };
-    guest.inform();
+    guest.set_pending_lines();
     Ok(guest)
 }

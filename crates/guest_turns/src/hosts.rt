@@ -7,7 +7,7 @@ ghost use Rattle.frame_split.specs.Shares.{IsSplit};
 ghost use Rattle.machine_defs.specs.declared.guests.Status.TheVariants.{Running};
 ghost use Rattle.machine_defs.specs.Machine.{start};
 ghost use Rattle.machine_defs.specs.Runs.{run};
-ghost use Rattle.guest_turns.specs.Account.{Accounted, HasRoomFor};
+ghost use Rattle.guest_turns.specs.Account.{Accounted, HasRoomForTurn};
 ghost use Rattle.guest_turns.specs.Hosted.{machine_at, part_at};
 ghost use Rattle.guest_turns.specs.Limits.{AreBootable, frames_for, needs_of};
 ghost use Rattle.guest_turns.specs.TurnLists.{updated};
@@ -84,7 +84,7 @@ impl Host {
     pub fn turn(&mut self, g: u32, k: u64, tally: &mut Tally) -> u64
         requires guest { g < length self.old.machines }
         requires steps { (machine_at self.old.machines g).platform.steps + k ≤ 2 ^ 61 }
-        requires room { HasRoomFor (machine_at self.old.machines g) k tally.old }
+        requires room { HasRoomForTurn (machine_at self.old.machines g) k tally.old }
         ensures machines { self.new.machines ≡ updated g (λ m. run m k) self.old.machines }
         ensures parts { self.new.parts ≡ self.old.parts }
         ensures isolated { Only (named_by (part_at self.old.parts g)) self.old.memory self.new.memory }

@@ -4,7 +4,7 @@ ghost use Rattle.std.specs.Prelude.{◌≡◌, ◌≢◌, ◌+◌, ◌%◌, ◌^
 ghost use Rattle.machine_defs.specs.declared.guests.Status.TheVariants.{Running};
 ghost use Rattle.machine_defs.specs.Runs.{events, instruction_count, plain_count, trace_of};
 ghost use Rattle.guest_exit.specs.View.{machine_of};
-ghost use Rattle.guest_turns.specs.Account.{Accounted, HasRoomFor};
+ghost use Rattle.guest_turns.specs.Account.{Accounted, HasRoomForTurn};
 ghost use Rattle.guest_turns.specs.Hosting.{Advances, HasRun, IsHosted, used_by};
 
 use guest_exit::{Guest, Handled, enter, handle, interrupt, limit};
@@ -23,7 +23,7 @@ pub fn turn_of(
 ) -> u64
     requires hosted { IsHosted guest.old memory.old }
     requires steps { guest.old.steps + k ≤ 2 ^ 61 }
-    requires room { HasRoomFor (machine_of guest.old memory.old) k tally.old }
+    requires room { HasRoomForTurn (machine_of guest.old memory.old) k tally.old }
 
     ensures run { HasRun guest.old memory.old k guest.new memory.new }
     ensures hosted { IsHosted guest.new memory.new }

@@ -7,8 +7,8 @@ use Rattle.machine_defs.specs.Core.{Completion}
 use Rattle.hlv_hsv.specs.declared.accesses.Accessed.{Accessed}
 use Rattle.hlv_hsv.specs.declared.accesses.Accessed.TheVariants.{Done, Raise}
 
--- an instruction over memory from a base on, whose bytes were these, ended as it is to end, by the answer, and
--- the registers and bytes after it: it was made, and left this state and what it stores; or it is to trap
+-- an instruction over memory from a base on, whose bytes were these, ended as it is to end, by the answer,
+-- and the registers and bytes after it: it was made, and left this state and what it stores; or it is to trap
 abbrev pub EndsAs : ℕ → List ℕ → Result Completion Trap → Accessed → Virtual → List ℕ → Type 0
 EndsAs base bytes (Ok completion) Done state after =
     (state ≡ completion.state) × (after ≡ with_stored base completion.stored bytes)

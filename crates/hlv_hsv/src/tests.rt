@@ -13,9 +13,9 @@ use arch_defs::{
 };
 use op_defs::{Privileged, Purpose};
 use phys_mem::{Mem, PhysMem, Ram};
+use privileged_ops::{Performed, perform};
 use std::alloc::{AllocError, Global};
 use std::test::Fail;
-use system_ops::{Executed, execute};
 use two_stage_walk::{memory_is_whole, ram_is_whole};
 
 const START: u64 = 0x8000_0000;
@@ -158,8 +158,8 @@ fn hlv_execute_only(rt: HostRuntime) {
     assert_eq!(rt; ended_in_ram(&mut ram, &state, &byte), (DONE, 65));
     assert_eq!(rt; ended_in_ram(&mut ram, &state, &code), (DONE, 65));
     state.mode = Mode::U;
-    let refused = execute(&mut state, Privileged::HlvAccess(byte));
-    assert_eq!(rt; refused, Executed::Refused(CsrEnd::Illegal));
+    let refused = perform(&mut state, Privileged::HlvAccess(byte));
+    assert_eq!(rt; refused, Performed::Refused(CsrEnd::Illegal));
     state.csrs.hstatus.hu = true;
     assert_eq!(rt; ended_in_ram(&mut ram, &state, &byte), (DONE, 65));
 }

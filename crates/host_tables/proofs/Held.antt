@@ -5,18 +5,18 @@ use Rattle.std.proofs.lemmas.Bool.{cases_lt, le-leb}
 use Rattle.std.proofs.lemmas.List.{get_or_past}
 use Rattle.arch_defs.specs.declared.modes.Access.{Access}
 use Rattle.arch_defs.specs.declared.modes.Access.TheVariants.{Fetch, Load, Store, ExecLoad, Implicit}
-use Rattle.arch_defs.specs.declared.walks.LeafEntry.{LeafEntry}
+use Rattle.arch_defs.specs.declared.walks.LeafPte.{LeafPte}
 use Rattle.arch_defs.specs.declared.walks.WalkEnd.TheVariants.{Leaf, PageFault}
 use Rattle.arch_defs.specs.Frames.{Apart, LieIn, Only, Same, Within, in_blocks, within}
 use Rattle.arch_defs.specs.Layouts.{Layout, NamesEachOnce, host_frames, in_tables, named_by, root_frames, table_frames}
 use Rattle.arch_defs.specs.Memory.{load, block_size, ram_base}
 use Rattle.arch_defs.specs.Permits.{permits_second}
 use Rattle.arch_defs.specs.Ram.{SlicesLieIn, host_place}
-use Rattle.arch_defs.specs.SecondStage.{guest_end, guest_root_frame, guest_walk, has_bytes, memory_words, place_under}
+use Rattle.arch_defs.specs.SecondStage.{guest_root_frame, has_bytes, memory_words, place_under, second_end, second_walk}
 use Rattle.arch_defs.proofs.FrameSets.{apart_sym, in_range, joined_within, kept, left_within, load_kept, right_within, within_apart}
 use Rattle.arch_defs.proofs.RamBlocks.{blocks_lie_in}
 use Rattle.arch_defs.proofs.Rooms.{first_lies}
-use Rattle.host_tables.specs.HostTable.{IsHostTable, leaf_word, root_word}
+use Rattle.host_tables.specs.HostTable.{IsHostTable, block_leaf_word, root_word}
 use Rattle.host_tables.specs.Walks.{IsHeld, GivesRam, ReadsIn}
 use Rattle.host_tables.proofs.Entries.{root_in, root_room, table_in, table_room}
 use Rattle.host_tables.proofs.Walking.{block_below, walks_to_ram}
@@ -56,7 +56,7 @@ root_frame : (page : ℕ) → page % 4 ≡ 0 → page < 2 ^ 44 → guest_root_fr
 root_frame page aligned small = omega (arith, aligned, small)
 
 -- each access is permitted under a leaf with all permissions
-abbrev full : ℕ → LeafEntry
+abbrev full : ℕ → LeafPte
 full frame = record { frame = frame; level = 1; r = true; w = true; x = true; u = true }
 
 permitted : (mxr : Bool) (access : Access) (frame : ℕ) → permits_second mxr access (full frame) ≡ true
@@ -79,7 +79,7 @@ in_memory block r size lies small = omega (arith, lies, small)
 -- the walk's end in RAM and outside it
 in_ram_end : (memory : List ℕ) (mxr : Bool) (blocks : List ℕ) (address : ℕ) (access : Access) → SlicesLieIn block_size blocks (length memory)
     → 2147483648 ≤ address → address < 2147483648 + length blocks * 2097152
-    → place_under address (guest_end 0 memory mxr address access (Leaf (full (slice_index blocks ((address - ram_base) / block_size) * 512))))
+    → place_under address (second_end 0 memory mxr address access (Leaf (full (slice_index blocks ((address - ram_base) / block_size) * 512))))
     ≡ Some (host_place blocks (address - ram_base))
 in_ram_end memory mxr blocks address access lie from to =
     let block = slice_index blocks ((address - ram_base) / block_size) in
@@ -109,7 +109,7 @@ blocks_small blocks size lie small i = by (cases_lt i (length blocks))
 -- by where the address is
 end_by : (memory : List ℕ) (mxr : Bool) (blocks : List ℕ) (address : ℕ) (access : Access) → SlicesLieIn block_size blocks (length memory) → (b : Bool)
     → (nat_le ram_base address && nat_lt address (ram_base + length blocks * block_size)) ≡ b
-    → place_under address (guest_end 0 memory mxr address access (cond b (Leaf (full (slice_index blocks ((address - ram_base) / block_size) * 512))) PageFault))
+    → place_under address (second_end 0 memory mxr address access (cond b (Leaf (full (slice_index blocks ((address - ram_base) / block_size) * 512))) PageFault))
     ≡ cond b (Some (host_place blocks (address - ram_base))) None
 end_by memory mxr blocks address access lie true is =
     in_ram_end memory mxr blocks address access lie (grind (arith, is)) (grind (arith, is))
@@ -117,7 +117,7 @@ end_by memory mxr blocks address access lie false is = refl
 
 -- the law
 pub gives_ram : (part : Layout) → NamesEachOnce part → GivesRam part
-unfolding guest_walk
+unfolding second_walk
 gives_ram part once memory mxr vmid address access held =
     let lie = blocks_lie_in part.blocks (length memory) (first_lies (in_blocks part.blocks) (in_tables part) (length memory) held.lies) in
     let root = root_frame part.first_root once.aligned (root_small part.first_root (length memory) (root_room part (length memory) held.lies) held.size) in
@@ -142,7 +142,7 @@ table_stays part old new same table = record { root = record { each = root }; le
         left_within (within part.first_root 4) (within part.first_table 1) (at / 4096) (in_range part.first_root 4 (at / 4096) there.0 there.1))
         ∙ table.root.each i h
 
-    leaves : (i : ℕ) → i < 512 → load new (part.first_table * 4096 + 8 * i) 8 ≡ leaf_word part.blocks i
+    leaves : (i : ℕ) → i < 512 → load new (part.first_table * 4096 + 8 * i) 8 ≡ block_leaf_word part.blocks i
     leaves i h =
         load_kept (host_frames part) old new (part.first_table * 4096 + 8 * i) 8 same (λ at from to.
         let there = table_at part.first_table i at h from to in

@@ -4,7 +4,7 @@ use Rattle.std.proofs.lemmas.Bool.{cases_lt, eq-eqb, ne_eqb, and_from, and_left,
 use Rattle.arch_defs.specs.declared.modes.Access.{Access}
 use Rattle.arch_defs.specs.declared.walks.Shape.TheVariants.{Sv39x4}
 use Rattle.arch_defs.specs.declared.walks.WalkEnd.TheVariants.{Leaf, PageFault}
-use Rattle.arch_defs.specs.TableEntries.{table_entry, entry_next}
+use Rattle.arch_defs.specs.TableEntries.{pte_of, entry_next}
 use Rattle.arch_defs.specs.Frames.{within}
 use Rattle.arch_defs.specs.Layouts.{Layout, host_frames}
 use Rattle.arch_defs.specs.Memory.{ram_base, block_size, load}
@@ -12,7 +12,7 @@ use Rattle.arch_defs.specs.Walk.{EntryReading, place_of, met_in, next_of, read_n
 use Rattle.stage_walk.specs.ByLevels.{walk_from}
 use Rattle.arch_defs.proofs.FrameSets.{in_range, left_within, right_within}
 use Rattle.stage_walk.proofs.Levels.{walk_starts, walk_refused, from_ends, from_below}
-use Rattle.host_tables.specs.HostTable.{IsHostTable, root_word, leaf_word}
+use Rattle.host_tables.specs.HostTable.{IsHostTable, root_word, block_leaf_word}
 use Rattle.host_tables.specs.Walks.{ReadsIn, host_walk, WalksToRam}
 use Rattle.host_tables.proofs.Words.{nothing_says, pointer_says, leaf_says}
 
@@ -59,7 +59,7 @@ root_read part memory reading i table reads h =
     ∙ ap (λ n. Ok n) (ap (λ p. load memory p 8) (turned part.first_root i) ∙ table.root.each i h)
 
 leaf_read : (part : Layout) (memory : List ℕ) (reading : EntryReading) (i : ℕ) → IsHostTable part memory → ReadsIn (host_frames part) memory reading → i < 512
-    → reading (4096 * part.first_table + 8 * i) ≡ Ok (leaf_word part.blocks i)
+    → reading (4096 * part.first_table + 8 * i) ≡ Ok (block_leaf_word part.blocks i)
 leaf_read part memory reading i table reads h =
     let there = leaf_place part.first_table i h in
     let eighth : (4096 * part.first_table + 8 * i) % 8 ≡ 0 = omega arith in
@@ -69,12 +69,12 @@ leaf_read part memory reading i table reads h =
 
 -- what the entries of an address say
 root_next : (part : Layout) (memory : List ℕ) (reading : EntryReading) (va : ℕ) (access : Access) → IsHostTable part memory → ReadsIn (host_frames part) memory reading
-    → next_of access (met_in reading Sv39x4 va 2 part.first_root) ≡ entry_next 2 access (table_entry (root_word part.first_table (va / 2 ^ 30 % 2 ^ 11)))
+    → next_of access (met_in reading Sv39x4 va 2 part.first_root) ≡ entry_next 2 access (pte_of (root_word part.first_table (va / 2 ^ 30 % 2 ^ 11)))
 root_next part memory reading va access table reads =
     ap (read_next 2 (place_of Sv39x4 2 part.first_root va) access) (root_read part memory reading (va / 2 ^ 30 % 2 ^ 11) table reads (root_index va))
 
 leaf_next_of : (part : Layout) (memory : List ℕ) (reading : EntryReading) (va : ℕ) (access : Access) → IsHostTable part memory → ReadsIn (host_frames part) memory reading
-    → next_of access (met_in reading Sv39x4 va 1 part.first_table) ≡ entry_next 1 access (table_entry (leaf_word part.blocks (va / 2 ^ 21 % 2 ^ 9)))
+    → next_of access (met_in reading Sv39x4 va 1 part.first_table) ≡ entry_next 1 access (pte_of (block_leaf_word part.blocks (va / 2 ^ 21 % 2 ^ 9)))
 leaf_next_of part memory reading va access table reads =
     ap (read_next 1 (place_of Sv39x4 1 part.first_table va) access) (leaf_read part memory reading (va / 2 ^ 21 % 2 ^ 9) table reads (leaf_index va))
 

@@ -4,12 +4,12 @@ use Rattle.arch_defs.specs.declared.modes.Access.{Access}
 use Rattle.arch_defs.specs.declared.modes.Access.TheVariants.{Fetch, Load, Store, ExecLoad, Implicit}
 use Rattle.arch_defs.specs.declared.walks.WalkEnd.TheVariants.{Leaf, PageFault}
 use Rattle.arch_defs.specs.declared.walks.Next.TheVariants.{Ends, Below}
-use Rattle.arch_defs.specs.TableEntries.{table_entry, entry_next}
-use Rattle.host_tables.specs.HostTable.{pointer_to, leaf_of}
+use Rattle.arch_defs.specs.TableEntries.{pte_of, entry_next}
+use Rattle.host_tables.specs.HostTable.{pointer_to, block_leaf}
 
 -- the word 0 maps nothing
-pub nothing_says : (level : ℕ) (access : Access) → entry_next level access (table_entry 0) ≡ Ends PageFault
-unfolding entry_next table_entry
+pub nothing_says : (level : ℕ) (access : Access) → entry_next level access (pte_of 0) ≡ Ends PageFault
+unfolding entry_next pte_of
 nothing_says level access = refl
 
 -- the bits of a pointer
@@ -40,8 +40,8 @@ p54 t h = omega arith
 p10 : (t : ℕ) → t < 2 ^ 32 → (t * 1024 + 1) / 2 ^ 10 % 2 ^ 44 ≡ t
 p10 t h = omega arith
 
-pub pointer_says : (level table : ℕ) (access : Access) → table < 2 ^ 32 → entry_next 2 access (table_entry (pointer_to table)) ≡ Below table
-unfolding entry_next table_entry
+pub pointer_says : (level table : ℕ) (access : Access) → table < 2 ^ 32 → entry_next 2 access (pte_of (pointer_to table)) ≡ Below table
+unfolding entry_next pte_of
 pointer_says level table access h = rw (p0 table, p1 table, p2 table, p3 table, p4 table, p6 table, p7 table, p54 table h, p10 table h) refl
 
 -- and of a leaf
@@ -76,8 +76,8 @@ whole : (b : ℕ) → b * 512 % 512 ≡ 0
 whole b = omega arith
 
 pub leaf_says : (block : ℕ) (access : Access) → block < 2 ^ 32
-    → entry_next 1 access (table_entry (leaf_of block)) ≡ Ends (Leaf (record { frame = block * 512; level = 1; r = true; w = true; x = true; u = true }))
-unfolding entry_next table_entry
+    → entry_next 1 access (pte_of (block_leaf block)) ≡ Ends (Leaf (record { frame = block * 512; level = 1; r = true; w = true; x = true; u = true }))
+unfolding entry_next pte_of
 leaf_says block Fetch h = rw (l0 block, l1 block, l2 block, l3 block, l4 block, l6 block, l7 block, l54 block h, l10 block h, whole block) refl
 leaf_says block Load h = rw (l0 block, l1 block, l2 block, l3 block, l4 block, l6 block, l7 block, l54 block h, l10 block h, whole block) refl
 leaf_says block Store h = rw (l0 block, l1 block, l2 block, l3 block, l4 block, l6 block, l7 block, l54 block h, l10 block h, whole block) refl

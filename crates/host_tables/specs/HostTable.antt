@@ -16,19 +16,19 @@ pub record HasEntries (frame count : ℕ) (entry : ℕ → ℕ) (memory : List �
 abbrev pub pointer_to : ℕ → ℕ
 pointer_to table = table * 1024 + 0x01
 
-abbrev pub leaf_of : ℕ → ℕ
-leaf_of block = block * 524288 + 0xDF
+abbrev pub block_leaf : ℕ → ℕ
+block_leaf block = block * 524288 + 0xDF
 
 abbrev pub root_word : ℕ → ℕ → ℕ
 root_word table i = if i == 2 then pointer_to table else 0
 
-abbrev pub leaf_word : List ℕ → ℕ → ℕ
-leaf_word blocks i = if nat_lt i (length blocks) then leaf_of (slice_index blocks i) else 0
+abbrev pub block_leaf_word : List ℕ → ℕ → ℕ
+block_leaf_word blocks i = if nat_lt i (length blocks) then block_leaf (slice_index blocks i) else 0
 
 -- the root of 2,048 entries, and the table below it of 512
 pub record IsHostTable (part : Layout) (memory : List ℕ) : Type 0 where
   pub root : HasEntries part.first_root 2048 (root_word part.first_table) memory
-  pub leaves : HasEntries part.first_table 512 (leaf_word part.blocks) memory
+  pub leaves : HasEntries part.first_table 512 (block_leaf_word part.blocks) memory
 
 -- entries that are written so far, within so many frames
 pub record IsWrittenUpTo (frame frames done : ℕ) (entry : ℕ → ℕ) (old new : List ℕ) : Type 0 where

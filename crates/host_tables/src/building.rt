@@ -3,7 +3,7 @@
 ghost use Rattle.std.specs.Prelude.{◌≡◌, ◌+◌, ◌*◌, ◌<◌, ◌≤◌, ◌^◌, length};
 ghost use Rattle.arch_defs.specs.Frames.{LieIn, Only, within};
 ghost use Rattle.arch_defs.specs.Layouts.{host_frames, named_by};
-ghost use Rattle.host_tables.specs.HostTable.{HasEntries, IsHostTable, host_frame, leaf_word, root_word};
+ghost use Rattle.host_tables.specs.HostTable.{HasEntries, IsHostTable, block_leaf_word, host_frame, root_word};
 
 use arch_defs::{FRAME_SIZE, Part};
 use phys_mem::{PhysMem, RAM_BASE};
@@ -60,12 +60,16 @@ fn write_root(mem: &mut PhysMem, root: u64, table: u64)
 fn write_leaves(mem: &mut PhysMem, part: &Part, blocks: u64)
     requires blocks { blocks ≡ length part.now.blocks }
     requires inside { (part.now.first_table + 1) * 4096 ≤ length mem.old }
-    ensures entries { HasEntries part.now.first_table 512 (leaf_word part.now.blocks) mem.new }
+    ensures entries { HasEntries part.now.first_table 512 (block_leaf_word part.now.blocks) mem.new }
     ensures only { Only (within part.now.first_table 1) mem.old mem.new }
 {
     let table = part.host_table();
     for i in 0..512u64 {
-        mem.store(table * FRAME_SIZE + 8 * i, 8, leaf_word(part, blocks, i));
+        mem.store(
+            table * FRAME_SIZE + 8 * i,
+            8,
+            block_leaf_word(part, blocks, i),
+        );
     }
 }
 
@@ -80,9 +84,9 @@ fn root_word(table: u64, i: u64) -> u64
     }
 }
 
-fn leaf_word(part: &Part, blocks: u64, i: u64) -> u64
+fn block_leaf_word(part: &Part, blocks: u64, i: u64) -> u64
     requires { blocks ≡ length part.now.blocks }
-    ensures { result ≡ leaf_word part.now.blocks i }
+    ensures { result ≡ block_leaf_word part.now.blocks i }
 {
     if i < blocks {
         part.blocks()[i as usize] as u64 * 524_288 + FULL_LEAF

@@ -11,8 +11,8 @@ use Rattle.arch_defs.specs.declared.modes.TheConstants.{ILLEGAL_INSTRUCTION, ECA
 use Rattle.arch_defs.specs.declared.registers.Csrs.{Csrs}
 use Rattle.arch_defs.specs.declared.registers.Virtual.{Virtual}
 use Rattle.arch_defs.specs.declared.walks.Found.{Found}
-use Rattle.arch_defs.specs.declared.walks.Found.TheVariants.{Passes, PageFaults, Lacks}
-use Rattle.arch_defs.specs.declared.walks.Unplaced.{Unplaced}
+use Rattle.arch_defs.specs.declared.walks.Found.TheVariants.{Passes, PageFaults, MissesEntry}
+use Rattle.arch_defs.specs.declared.walks.MissingPlace.{MissingPlace}
 use Rattle.arch_defs.specs.declared.widths.Width.{Width}
 use Rattle.arch_defs.specs.declared.widths.Width.TheVariants.{Word}
 use Rattle.arch_defs.specs.Memory.{Reading, SecondStage, Stored}
@@ -31,13 +31,13 @@ use Rattle.op_defs.specs.Meaning.{meaning}
 use Rattle.op_defs.specs.Table.{op_of, is_system}
 use Rattle.machine_defs.specs.declared.events.Event.{Event}
 use Rattle.machine_defs.specs.declared.events.Event.TheVariants.{Plain, System}
-use Rattle.machine_defs.specs.Outcomes.{Outcome, Done, Trapped, Stuck, Called, passed, sets}
+use Rattle.machine_defs.specs.Outcomes.{Outcome, Done, Trapped, Missed, Called, passed, sets}
 use Rattle.machine_defs.specs.Privileges.{privileged}
 
 -- why an access is not made: it is an exception, or the second stage has no place for it
 pub data Failure : Type 0 where
   Faults : Trap → Failure
-  Misses : Unplaced → Failure
+  Misses : MissingPlace → Failure
 
 -- where in memory an access is made, or why it is not
 pub data Located : Type 0 where
@@ -55,7 +55,7 @@ located_at mode va access address None =
 abbrev pub located_by : SecondStage → Mode → ℕ → Access → Found → Located
 located_by second mode va access (Passes address) = located_at mode va access address (second address access)
 located_by second mode va access PageFaults = Fails (Faults (exception mode (page_fault access) va))
-located_by second mode va access (Lacks place) =
+located_by second mode va access (MissesEntry place) =
     Fails (Misses (record { address = place; kind = Implicit; access = access; va = va; mode = mode }))
 
 -- by both stages, as a mode
@@ -74,7 +74,7 @@ accessed second reading csrs mode va width access =
 abbrev pub at_place : Located → (ℕ → Outcome) → Outcome
 at_place (At place) rest = rest place
 at_place (Fails (Faults trap)) rest = Trapped trap
-at_place (Fails (Misses unplaced)) rest = Stuck unplaced
+at_place (Fails (Misses missing)) rest = Missed missing
 
 -- what access to data an instruction makes for this purpose. LR is a load; SC, whatever is reserved, and an
 -- atomic memory operation are stores (Unprivileged ISA 20191213, 8.2 and 8.4). HLVX needs X in place of R in
@@ -97,8 +97,8 @@ pub record Completion : Type 0 where
   pub state : Virtual
   pub stored : Option Stored
 
-abbrev pub leaves : Virtual → Option Stored → Completion
-leaves state stored = record { state = state; stored = stored }
+abbrev pub completion_of : Virtual → Option Stored → Completion
+completion_of state stored = record { state = state; stored = stored }
 
 -- a number is stored in the bytes of a width
 abbrev pub storing : ℕ → Width → ℕ → Option Stored
@@ -117,25 +117,25 @@ is_reserved None at width = false
 -- else does (own)
 abbrev pub stored_if : Bool → Virtual → Width → ℕ → ℕ → ℕ → Completion
 stored_if true state width value rd place =
-    leaves (reserving (sets state rd 0) None) (storing place width value)
-stored_if false state width value rd place = leaves (reserving (sets state rd 1) None) None
+    completion_of (reserving (sets state rd 0) None) (storing place width value)
+stored_if false state width value rd place = completion_of (reserving (sets state rd 1) None) None
 
 -- what an instruction leaves whose access to data, of this width and purpose, is made at this place. LR
 -- reserves its physical address and width (Unprivileged ISA 20191213, 8.2)
 abbrev pub completed : Reading → Virtual → Width → Purpose → ℕ → Completion
 completed reading state width (Load signed rd) place =
-    leaves (sets state rd (extended width signed (reading place (bytes_in width)))) None
+    completion_of (sets state rd (extended width signed (reading place (bytes_in width)))) None
 completed reading state width (LoadCode rd) place =
-    leaves (sets state rd (extended width false (reading place (bytes_in width)))) None
-completed reading state width (Store value) place = leaves (passed state) (storing place width value)
+    completion_of (sets state rd (extended width false (reading place (bytes_in width)))) None
+completed reading state width (Store value) place = completion_of (passed state) (storing place width value)
 completed reading state width (Reserve rd) place =
     let held = extended width true (reading place (bytes_in width)) in
-    leaves (reserving (sets state rd held) (Some (place, bytes_in width))) None
+    completion_of (reserving (sets state rd held) (Some (place, bytes_in width))) None
 completed reading state width (StoreReserved value rd) place =
     stored_if (is_reserved state.reservation place width) state width value rd place
 completed reading state width (Modify op operand rd) place =
     let held = reading place (bytes_in width) in
-    leaves (sets state rd (extended width true held)) (storing place width (amo op width held operand))
+    completion_of (sets state rd (extended width true held)) (storing place width (amo op width held operand))
 
 -- the end of an instruction that completes, where the step is this event
 abbrev pub done : Event → Completion → Outcome
@@ -186,7 +186,7 @@ abbrev pub word_at : Reading → ℕ → ℕ
 word_at reading place = reading place 4 % 2 ^ 32
 
 -- one instruction, in this order: fetch, decode, checks of privilege, alignment, translation, access. pc is a
--- multiple of 4 from the start on (the law `StaysStorable` of `machine_laws`): a jump to another target is an
+-- multiple of 4 from the start on (`RunKeepsStorable` of `machine_laws`): a jump to another target is an
 -- exception at the jump, and sepc and handlers are multiples of 4
 unfoldable pub core : SecondStage → Reading → Virtual → Outcome
 core second reading state =

@@ -8,31 +8,32 @@ use Rattle.arch_defs.specs.CachedEntries.{filled, second_by}
 use Rattle.arch_defs.specs.Interrupts.{due}
 use Rattle.arch_defs.specs.Memory.{ram_base, reading_of}
 use Rattle.arch_defs.specs.Spaces.{Space}
-use Rattle.arch_defs.specs.WalkedEntries.{entry_now, folds}
+use Rattle.arch_defs.specs.WalkedEntries.{entry_by_walk, folds}
 use Rattle.machine_defs.specs.Core.{core}
 use Rattle.machine_defs.specs.Machine.{Machine}
-use Rattle.machine_defs.specs.Outcomes.{Outcome, Stuck}
+use Rattle.machine_defs.specs.Outcomes.{Missed, Outcome}
 
 -- what an instruction lacks: where it stops at an access without a place, what is filled for that
-abbrev pub lacking_at : Csrs → List ℕ → Outcome → Option Entry
-lacking_at csrs ram (Stuck unplaced) = entry_now csrs ram unplaced.address unplaced.kind
-lacking_at csrs ram _ = None
+abbrev pub missing_entry_at : Csrs → List ℕ → Outcome → Option Entry
+missing_entry_at csrs ram (Missed missing) = entry_by_walk csrs ram missing.address missing.kind
+missing_entry_at csrs ram _ = None
 
 -- what the next instruction of a state that folds lacks under these entries
-unfoldable pub lacking_under : Virtual → List ℕ → List Entry → Option Entry
-lacking_under virt ram entries =
-    lacking_at virt.csrs ram (core (second_by entries virt.csrs.hs.status.mxr) (reading_of ram_base ram) virt)
+unfoldable pub missing_entry_under : Virtual → List ℕ → List Entry → Option Entry
+missing_entry_under virt ram entries =
+    missing_entry_at virt.csrs ram
+    (core (second_by entries virt.csrs.hs.status.mxr) (reading_of ram_base ram) virt)
 
 -- under those of the front space; where an interrupt is due, nothing
-abbrev pub lacking_with : Virtual → List ℕ → List Space → Option ℕ → Option Entry
-lacking_with virt ram [] code = None
-lacking_with virt ram (s ∷ ss) (Some code) = None
-lacking_with virt ram (s ∷ ss) None = lacking_under virt ram s.entries
+abbrev pub missing_entry_with : Virtual → List ℕ → List Space → Option ℕ → Option Entry
+missing_entry_with virt ram [] code = None
+missing_entry_with virt ram (s ∷ ss) (Some code) = None
+missing_entry_with virt ram (s ∷ ss) None = missing_entry_under virt ram s.entries
 
 -- what the next try of a machine lacks
-unfoldable pub lacking : Machine → Option Entry
-lacking m = let virt = m.platform.virt in
-    if folds virt then lacking_with virt m.ram m.spaces (due virt.csrs virt.mode) else None
+unfoldable pub missing_entry : Machine → Option Entry
+missing_entry m = let virt = m.platform.virt in
+    if folds virt then missing_entry_with virt m.ram m.spaces (due virt.csrs virt.mode) else None
 
 -- an entry is filled into the front space
 abbrev pub filled_front : ℕ → List Space → Entry → List Space
@@ -49,7 +50,7 @@ after_fill others m (Some e) = others (fill m e)
 
 unfoldable pub after_fills : ℕ → Machine → Machine
 after_fills zero m = m
-after_fills (suc n) m = after_fill (after_fills n) m (lacking m)
+after_fills (suc n) m = after_fill (after_fills n) m (missing_entry m)
 
 -- how many translations an instruction asks for at most: those of three first-stage entries and of the
 -- address itself, for pc and for the data
@@ -60,8 +61,8 @@ needed = 8
 abbrev pub most_fills : Machine → ℕ
 most_fills m = m.entry_room + needed
 
--- how many tries a step takes at most where a space has room for so many entries: one after each fill, and the
--- first
+-- how many tries a step takes at most where a space has room for so many entries: one after each fill, and
+-- the first
 abbrev pub most_tries : ℕ → ℕ
 most_tries room = room + needed + 1
 
@@ -76,4 +77,4 @@ counted others m (Some e) = others (fill m e) + 1
 
 unfoldable pub fills : ℕ → Machine → ℕ
 fills zero m = 0
-fills (suc n) m = counted (fills n) m (lacking m)
+fills (suc n) m = counted (fills n) m (missing_entry m)

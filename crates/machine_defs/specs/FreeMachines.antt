@@ -1,9 +1,9 @@
--- A machine that caches second-stage translations as freely as the architecture allows: at any time it may walk
--- the table of hgatp and cache the translation, and drop what it has cached; each access goes by what is cached
--- for hgatp's VMID or by a walk; and what an HFENCE.GVMA names is dropped (Privileged Architecture 20211203,
--- 4.3.2, 8.2.10, 8.3.2 and 8.5). It is narrower than the architecture in four points (own): a walk reads all its
--- entries at once, and none above the leaf is cached; equal accesses of one step have equal places; a fault is
--- always that of the walk as RAM is; and HLV, HLVX and HSV go by this walk alone.
+-- A machine that caches second-stage translations as freely as the architecture allows: at any time it may
+-- walk the table of hgatp and cache the translation, and drop what it has cached; each access goes by what is
+-- cached for hgatp's VMID or by a walk; and what an HFENCE.GVMA names is dropped (Privileged Architecture
+-- 20211203, 4.3.2, 8.2.10, 8.3.2 and 8.5). It is narrower than the architecture in four points (own): a walk
+-- reads all its entries at once, and none above the leaf is cached; equal accesses of one step have equal
+-- places; a fault is always that of the walk as RAM is; and HLV, HLVX and HSV go by this walk alone.
 use Rattle.std.specs.Prelude.{ℕ, zero, suc, ◌≡◌, ◌/◌, ◌⊎◌, Bool, true, false, List, [], Option, Some, None, All, Contains, flat_map, map}
 use Rattle.arch_defs.specs.declared.cached.Entry.{Entry}
 use Rattle.arch_defs.specs.declared.cached.Fence.{Fence}
@@ -15,25 +15,26 @@ use Rattle.arch_defs.specs.declared.registers.Virtual.{Virtual}
 use Rattle.arch_defs.specs.CachedEntries.{leaf_of}
 use Rattle.arch_defs.specs.Memory.{SecondStage, ram_base}
 use Rattle.arch_defs.specs.Permits.{permits_second}
-use Rattle.arch_defs.specs.SecondStage.{second_now}
+use Rattle.arch_defs.specs.SecondStage.{second_by_walk}
 use Rattle.arch_defs.specs.Roots.{vmid_of}
 use Rattle.arch_defs.specs.Spaces.{Space, names}
 use Rattle.arch_defs.specs.Traps.{is_virtual}
 use Rattle.arch_defs.specs.Walk.{leaf_address}
-use Rattle.arch_defs.specs.WalkedEntries.{entry_now}
+use Rattle.arch_defs.specs.WalkedEntries.{entry_by_walk}
 use Rattle.machine_defs.specs.declared.guests.Status.{Status}
 use Rattle.machine_defs.specs.declared.guests.Status.TheVariants.{Running, Waiting, Stopped}
 use Rattle.machine_defs.specs.Machine.{Machine, Platform}
 use Rattle.machine_defs.specs.Runs.{left_by, run}
 use Rattle.machine_defs.specs.Tries.{fence_under, try_under}
 
--- a cached translation, for the virtual machine of a VMID (8.2.10). It is of one guest physical page, whatever the
--- level of the leaf; a fence that names any page of the leaf names it
+-- a cached translation, for the virtual machine of a VMID (8.2.10). It is of one guest physical page,
+-- whatever the level of the leaf; a fence that names any page of the leaf names it
 pub record CachedTranslation : Type 0 where
   pub vmid : ℕ
   pub entry : Entry
 
--- a machine, and the translations that it has cached: any number, and any number for one page and VMID (4.3.2)
+-- a machine, and the translations that it has cached: any number, and any number for one page and VMID
+-- (4.3.2)
 pub record FreeMachine : Type 0 where
   pub platform : Platform
   pub ram : List ℕ
@@ -54,11 +55,11 @@ pub record IsWalked (virt : Virtual) (ram : List ℕ) (cached : CachedTranslatio
   pub vmid : cached.vmid ≡ vmid_of virt.csrs.hgatp
   pub address : ℕ
   pub kind : Access
-  pub walked : entry_now virt.csrs ram address kind ≡ Some cached.entry
+  pub walked : entry_by_walk virt.csrs ram address kind ≡ Some cached.entry
 
 -- a place by a cached translation: with V = 1, by one of hgatp's VMID and of the address's page that permits
--- the access. Which table it was walked from is not asked, nor whether hgatp still names one: a write of hgatp
--- is no fence (8.2.10, 8.3.2)
+-- the access. Which table it was walked from is not asked, nor whether hgatp still names one: a write of
+-- hgatp is no fence (8.2.10, 8.3.2)
 pub record IsByCache (virt : Virtual) (cache : List CachedTranslation) (address : ℕ) (kind : Access)
     (answer : Option ℕ) : Type 0 where
   pub virtual : is_virtual virt.mode ≡ true
@@ -74,7 +75,7 @@ pub record IsByCache (virt : Virtual) (cache : List CachedTranslation) (address 
 abbrev pub MayTranslate : Virtual → List ℕ → List CachedTranslation → SecondStage → Type 0
 MayTranslate virt ram cache second = (address : ℕ) (kind : Access)
     → IsByCache virt cache address kind (second address kind)
-    ⊎ (second address kind ≡ second_now virt.csrs virt.mode ram_base ram address kind)
+    ⊎ (second address kind ≡ second_by_walk virt.csrs virt.mode ram_base ram address kind)
 
 -- the machine without its cache, and what one try of its next step under a second stage leaves of it
 abbrev pub uncached : FreeMachine → Machine
@@ -88,9 +89,9 @@ abbrev pub is_named : Option Fence → ℕ → Entry → Bool
 is_named None vmid e = false
 is_named (Some fence) vmid e = names fence vmid e
 
--- one step. Before it, some translations were dropped and some were walked: what is cached then is `cache`. The
--- step is made under a second stage that a machine with this cache may have. After it nothing else is cached,
--- and nothing that the step names, if it is an HFENCE.GVMA (8.3.2)
+-- one step. Before it, some translations were dropped and some were walked: what is cached then is `cache`.
+-- The step is made under a second stage that a machine with this cache may have. After it nothing else is
+-- cached, and nothing that the step names, if it is an HFENCE.GVMA (8.3.2)
 pub record FreeStep (f g : FreeMachine) : Type 0 where
   pub cache : List CachedTranslation
   pub allowed : All (λ c. Contains f.cache c ⊎ IsWalked f.platform.virt f.ram c) cache

@@ -7,7 +7,7 @@ use Rattle.arch_defs.specs.declared.modes.Access.{Access}
 use Rattle.arch_defs.specs.declared.registers.GuestRoot.{GuestRoot}
 use Rattle.arch_defs.specs.Roots.{vmid_of}
 use Rattle.arch_defs.specs.Spaces.{front}
-use Rattle.arch_defs.specs.WalkedEntries.{entry_now, folds}
+use Rattle.arch_defs.specs.WalkedEntries.{entry_by_walk, folds}
 use Rattle.machine_defs.specs.declared.guests.Status.{Status}
 use Rattle.machine_defs.specs.declared.guests.Status.TheVariants.{Running, Waiting, Stopped}
 use Rattle.machine_defs.specs.Fills.{ready}
@@ -25,16 +25,17 @@ fence_by_status m Stopped = None
 unfoldable pub next_fence : Machine → Option Fence
 next_fence m = fence_by_status (ready m) m.platform.status
 
--- an entry for a value of hgatp is fresh after the first `steps` steps of a run: under this value a walk gave it
--- for its page, as RAM was after the first `walked_after` of them, and none of the later ones was a fence that
--- names it
+-- an entry for a value of hgatp is fresh after the first `steps` steps of a run: under this value a walk gave
+-- it for its page, as RAM was after the first `walked_after` of them, and none of the later ones was a fence
+-- that names it
 pub record IsFresh (m : Machine) (steps : ℕ) (key : GuestRoot) (e : Entry) : Type 0 where
   pub walked_after : ℕ
   pub earlier : walked_after ≤ steps
   pub root : (run m walked_after).platform.virt.csrs.hgatp ≡ key
   pub kind : Access
   pub walked :
-      entry_now (run m walked_after).platform.virt.csrs (run m walked_after).ram (4096 * e.page) kind ≡ Some e
+      entry_by_walk (run m walked_after).platform.virt.csrs (run m walked_after).ram (4096 * e.page) kind
+      ≡ Some e
   pub unfenced : (i : ℕ) → walked_after ≤ i → i < steps
       → is_named (next_fence (run m i)) (vmid_of key) e ≡ false
 

@@ -6,7 +6,7 @@ use Rattle.arch_defs.specs.declared.modes.Trap.{Trap}
 use Rattle.arch_defs.specs.declared.registers.Csrs.{Csrs}
 use Rattle.arch_defs.specs.declared.registers.Virtual.{Virtual}
 use Rattle.arch_defs.specs.Memory.{Reading, reading_of}
-use Rattle.arch_defs.specs.SecondStage.{second_now}
+use Rattle.arch_defs.specs.SecondStage.{second_by_walk}
 use Rattle.arch_defs.specs.Traps.{mode_of}
 use Rattle.op_defs.specs.declared.ops.DataAccess.{DataAccess}
 use Rattle.machine_defs.specs.Answers.{answer_of}
@@ -16,13 +16,13 @@ use Rattle.machine_defs.specs.Core.{Completion, completed, data_place}
 abbrev pub hlv_mode : Csrs → Mode
 hlv_mode csrs = mode_of true csrs.hstatus.spvp
 
--- its place or its trap, as that mode, whose tables are those of vsatp and hgatp, and whose status is vsstatus
--- (8.3.1, 8.5)
+-- its place or its trap, as that mode, whose tables are those of vsatp and hgatp, and whose status is
+-- vsstatus (8.3.1, 8.5)
 abbrev pub hlv_place : ℕ → List ℕ → Csrs → DataAccess → Result ℕ Trap
 hlv_place base bytes csrs wanted =
     let mode = hlv_mode csrs in
     answer_of csrs base bytes
-    (data_place (second_now csrs mode base bytes) (reading_of base bytes) csrs mode wanted)
+    (data_place (second_by_walk csrs mode base bytes) (reading_of base bytes) csrs mode wanted)
 
 -- how the instruction ends whose access has this place or trap
 abbrev pub hlv_completed : Reading → Virtual → DataAccess → Result ℕ Trap → Result Completion Trap

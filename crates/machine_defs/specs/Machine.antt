@@ -7,13 +7,13 @@ use Rattle.arch_defs.specs.declared.registers.Csrs.{Csrs}
 use Rattle.arch_defs.specs.declared.registers.Virtual.{Virtual}
 use Rattle.arch_defs.specs.Calls.{CallState, environment, state_of}
 use Rattle.arch_defs.specs.Clocks.{Times, is_due, times_at_start}
-use Rattle.arch_defs.specs.Consoles.{Held}
+use Rattle.arch_defs.specs.Consoles.{ConsoleState}
 use Rattle.arch_defs.specs.Inputs.{has_input, next_input}
 use Rattle.arch_defs.specs.Interrupts.{hs_order, is_enabled, is_pending}
 use Rattle.arch_defs.specs.Memory.{ram_base, block_size, loaded}
 use Rattle.arch_defs.specs.Registers.{read, a7, virtual_at}
 use Rattle.arch_defs.specs.Spaces.{Space}
-use Rattle.arch_defs.specs.Traps.{entered, target}
+use Rattle.arch_defs.specs.Traps.{entered_by_trap, target}
 use Rattle.arch_defs.specs.Waits.{wake_moment}
 use Rattle.machine_defs.specs.declared.events.Event.{Event}
 use Rattle.machine_defs.specs.declared.events.Event.TheVariants as event
@@ -26,7 +26,7 @@ use Rattle.machine_defs.specs.declared.guests.Status.TheVariants as status
 pub record Platform : Type 0 where
   pub virt : Virtual
   pub clock : Times
-  pub console : Held
+  pub console : ConsoleState
   pub steps : ℕ
   pub status : Status
 
@@ -40,20 +40,21 @@ pub record Machine : Type 0 where
   pub entry_room : ℕ
 
 -- the registers that the clock sets: the pending timer and external interrupt of sip, and time
-abbrev pub timed : Csrs → ℕ → Bool → Bool → Csrs
-timed csrs clock timer external =
+abbrev pub with_lines : Csrs → ℕ → Bool → Bool → Csrs
+with_lines csrs clock timer external =
     record csrs { sip = record csrs.sip { timer = timer; external = external }; time = clock }
 
 -- the platform with these as its clock and its console have them
-abbrev pub informed : Platform → Platform
-informed p =
-    let csrs = timed p.virt.csrs p.clock.time (is_due p.clock) (has_input p.console.inputs p.clock.time) in
+abbrev pub with_pending_lines : Platform → Platform
+with_pending_lines p =
+    let csrs =
+    with_lines p.virt.csrs p.clock.time (is_due p.clock) (has_input p.console.inputs p.clock.time) in
     record p { virt = record p.virt { csrs = csrs } }
 
 -- the machine of a guest at its start (own)
 unfoldable pub start : GuestSpec → Machine
 start guest = record {
-  platform = informed (record {
+  platform = with_pending_lines (record {
     virt = virtual_at HS ram_base;
     clock = times_at_start;
     console = record { bytes = []; room = guest.console; inputs = guest.inputs };
@@ -68,7 +69,8 @@ start guest = record {
 
 -- a step has been made, after which the clock is at a moment: the next one, where the step was no wait
 abbrev pub made_by : Platform → ℕ → Platform
-made_by p moment = informed (record p { clock = record p.clock { time = moment }; steps = p.steps + 1 })
+made_by p moment =
+    with_pending_lines (record p { clock = record p.clock { time = moment }; steps = p.steps + 1 })
 
 abbrev pub ticked : Platform → Platform
 ticked p = made_by p (p.clock.time + 1)
@@ -98,7 +100,7 @@ stepped_to m platform event = Ended (record m { platform = ticked platform }) ev
 
 -- a trap is taken, which is a step
 abbrev pub trapped : Machine → Trap → Tried
-trapped m trap = stepped_to m (record m.platform { virt = entered m.platform.virt trap })
+trapped m trap = stepped_to m (record m.platform { virt = entered_by_trap m.platform.virt trap })
     (event.Trap (target m.platform.virt.csrs m.platform.virt.mode trap) trap.interrupt)
 
 -- a wait that ends at a moment is a step, after which the clock is there

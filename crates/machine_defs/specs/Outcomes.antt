@@ -3,7 +3,7 @@ use Rattle.std.specs.Prelude.{ℕ, Option}
 use Rattle.arch_defs.specs.declared.cached.Fence.{Fence}
 use Rattle.arch_defs.specs.declared.modes.Trap.{Trap}
 use Rattle.arch_defs.specs.declared.registers.Virtual.{Virtual}
-use Rattle.arch_defs.specs.declared.walks.Unplaced.{Unplaced}
+use Rattle.arch_defs.specs.declared.walks.MissingPlace.{MissingPlace}
 use Rattle.arch_defs.specs.Memory.{Stored}
 use Rattle.arch_defs.specs.Registers.{advanced}
 use Rattle.op_defs.specs.declared.ops.DataAccess.{DataAccess}
@@ -16,7 +16,7 @@ pub data Outcome : Type 0 where
   -- a trap, which the state before it takes
   Trapped : Trap → Outcome
   -- the second stage has no place for an access, whose fault the machine around knows
-  Stuck : Unplaced → Outcome
+  Missed : MissingPlace → Outcome
   -- a call of the execution environment, from HS
   Called : Outcome
   -- a WFI that is allowed, and the state after it

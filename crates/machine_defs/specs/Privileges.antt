@@ -9,7 +9,7 @@ use Rattle.arch_defs.specs.declared.modes.TheConstants.{ILLEGAL_INSTRUCTION, VIR
 use Rattle.arch_defs.specs.declared.registers.Csrs.{Csrs}
 use Rattle.arch_defs.specs.declared.registers.HypervisorStatus.{HypervisorStatus}
 use Rattle.arch_defs.specs.declared.registers.Virtual.{Virtual}
-use Rattle.arch_defs.specs.Access.{read, write}
+use Rattle.arch_defs.specs.CsrAccess.{read_csr, write_csr}
 use Rattle.arch_defs.specs.Traps.{arrived, exception, returned}
 use Rattle.op_defs.specs.declared.ops.CsrOp.{CsrOp}
 use Rattle.op_defs.specs.declared.ops.CsrOp.TheVariants as csr
@@ -34,9 +34,9 @@ combined csr.Set before operand = bit_or before operand
 combined csr.Clear before operand = bit_and before (2 ^ 64 - 1 - operand)
 
 -- what a register shows; where it cannot be read, a write is refused too
-abbrev pub held : Result ℕ CsrEnd → ℕ
-held (Ok value) = value
-held (Err end) = 0
+abbrev pub value_or_zero : Result ℕ CsrEnd → ℕ
+value_or_zero (Ok value) = value
+value_or_zero (Err end) = 0
 
 -- rd gets what a register shows
 abbrev pub csr_shown : Virtual → ℕ → ℕ → Result ℕ CsrEnd → Outcome
@@ -51,10 +51,10 @@ csr_changed state word rd value (Err end) = refused state word end
 -- the read and, if there is one, the write (Unprivileged ISA 20191213, 9.1)
 abbrev pub csr_accessed : Virtual → ℕ → CsrOp → ℕ → ℕ → Bool → ℕ → Outcome
 csr_accessed state word op number operand true rd =
-    let before = held (read state.csrs state.mode number) in
-    csr_changed state word rd before (write state.csrs state.mode number (combined op before operand))
+    let before = value_or_zero (read_csr state.csrs state.mode number) in
+    csr_changed state word rd before (write_csr state.csrs state.mode number (combined op before operand))
 csr_accessed state word op number operand false rd =
-    csr_shown state word rd (read state.csrs state.mode number)
+    csr_shown state word rd (read_csr state.csrs state.mode number)
 
 -- the state after SRET
 abbrev pub left_by_sret : Virtual → Outcome
@@ -75,8 +75,8 @@ by_mode VS hs u vs vu = vs
 by_mode VU hs u vs vu = vu
 
 -- the refusal of an instruction by a mode that does not allow it (8.6.1; 8.2.1 for VTSR, VTW, VTVM and HU;
--- 8.3.1 and 8.3.2). A register says itself which modes may read and write it. A WFI that is refused is refused
--- at once, and in U each is (own)
+-- 8.3.1 and 8.3.2). A register says itself which modes may read and write it. A WFI that is refused is
+-- refused at once, and in U each is (own)
 unfoldable pub refusal : Privileged → HypervisorStatus → Mode → Option CsrEnd
 refusal (Csr op number operand writes rd) hstatus mode = None
 refusal Sret hstatus mode =

@@ -55,10 +55,10 @@ events m zero = []
 events m (suc k) = events_by m m.platform.status ++ events (step m) k
 
 -- whether a step was plain, and its pc and word where it was
-abbrev pub is_plain : Event → Bool
-is_plain (Plain pc word) = true
-is_plain (Trap level interrupt) = false
-is_plain System = false
+abbrev pub is_plain_step : Event → Bool
+is_plain_step (Plain pc word) = true
+is_plain_step (Trap level interrupt) = false
+is_plain_step System = false
 
 abbrev pub pc_and_word : Event → ℕ
 pc_and_word (Plain pc word) = pc + word
@@ -73,7 +73,7 @@ is_instruction System = true
 
 -- how many steps were plain
 abbrev pub plain_count : List Event → ℕ
-plain_count events = count_by is_plain events
+plain_count events = count_by is_plain_step events
 
 -- how many steps were no interrupt taken
 abbrev pub instruction_count : List Event → ℕ

@@ -1,7 +1,7 @@
 -- What one instruction asks a second stage: at most eight addresses. Under a second stage that gives fewer
 -- places than another, but no others, it ends as under the other, or stops at one of what it asks the other.
 use Rattle.std.specs.Prelude.{Result, Ok, Err, ◌==◌, ◌&&◌, ◌||◌}
-use Rattle.std.proofs.Common.{cond, ◌≡◌, ℕ, zero, suc, ◌%◌, ◌^◌, ◌≤◌, ◌⊎◌, inl, inr, Bool, true, false, List, [], ◌∷◌, ◌++◌, length, Option, Some, None, refl, arith, length-append}
+use Rattle.std.proofs.Common.{◌+◌, cond, ◌≡◌, ℕ, zero, suc, ◌%◌, ◌^◌, ◌≤◌, ◌⊎◌, inl, inr, Bool, true, false, List, [], ◌∷◌, ◌++◌, length, Option, Some, None, refl, arith, length-append}
 use Rattle.arch_defs.specs.declared.csr_names.CsrEnd.{CsrEnd}
 use Rattle.arch_defs.specs.declared.modes.Access.{Access}
 use Rattle.arch_defs.specs.declared.modes.Access.TheVariants.{Fetch, Implicit}
@@ -12,24 +12,24 @@ use Rattle.arch_defs.specs.declared.registers.SupervisorRoot.{SupervisorRoot}
 use Rattle.arch_defs.specs.declared.registers.SupervisorRoot.TheVariants as root
 use Rattle.arch_defs.specs.declared.registers.Virtual.{Virtual}
 use Rattle.arch_defs.specs.declared.walks.Found.{Found}
-use Rattle.arch_defs.specs.declared.walks.Found.TheVariants.{Passes, PageFaults, Lacks}
+use Rattle.arch_defs.specs.declared.walks.Found.TheVariants.{Passes, PageFaults, MissesEntry}
 use Rattle.arch_defs.specs.declared.walks.Next.{Next}
 use Rattle.arch_defs.specs.declared.walks.Next.TheVariants.{Ends, Below}
 use Rattle.arch_defs.specs.declared.walks.Privilege.{Privilege}
 use Rattle.arch_defs.specs.declared.walks.Shape.{Shape}
-use Rattle.arch_defs.specs.declared.walks.TableEntry.{TableEntry}
-use Rattle.arch_defs.specs.declared.walks.Unplaced.{Unplaced}
+use Rattle.arch_defs.specs.declared.walks.Pte.{Pte}
+use Rattle.arch_defs.specs.declared.walks.MissingPlace.{MissingPlace}
 use Rattle.arch_defs.specs.declared.walks.WalkEnd.{WalkEnd}
 use Rattle.arch_defs.specs.declared.walks.WalkEnd.TheVariants.{Leaf, PageFault, FetchEnd}
 use Rattle.arch_defs.specs.declared.widths.Width.{Width}
 use Rattle.arch_defs.specs.declared.widths.Width.TheVariants.{Word}
-use Rattle.arch_defs.specs.Access.{read, write}
+use Rattle.arch_defs.specs.CsrAccess.{read_csr, write_csr}
 use Rattle.arch_defs.specs.Memory.{Reading, SecondStage}
 use Rattle.arch_defs.specs.Permits.{permits_first}
 use Rattle.arch_defs.specs.Roots.{supervisor_shape}
-use Rattle.arch_defs.specs.TableEntries.{entry_next, is_aligned, is_leaf, is_marked, is_valid, leaf_entry, leaf_next, pointer_next, table_entry}
+use Rattle.arch_defs.specs.TableEntries.{entry_next, is_aligned, is_leaf, is_marked, is_valid, leaf_next, leaf_pte, pointer_next, pte_of}
 use Rattle.arch_defs.specs.Traps.{exception, misaligned_fault}
-use Rattle.arch_defs.specs.Translation.{bank_of, entry_word_at, entry_words_through, first_stage, found_by, found_under, privilege_of}
+use Rattle.arch_defs.specs.Translation.{entry_word_at, entry_words_through, first_stage, found_by, found_under, privilege_of, supervisor_of}
 use Rattle.arch_defs.specs.Walk.{EntryReading, Met, end_of, is_canonical, later, leaf_address, levels, met_in, most_levels, next_of, or_else, path, path_from, place_of, read_next, walk}
 use Rattle.arch_defs.specs.Widths.{bytes_in}
 use Rattle.arch_defs.proofs.Shapes.{few_levels}
@@ -41,9 +41,10 @@ use Rattle.op_defs.specs.declared.ops.Privileged.{Privileged}
 use Rattle.op_defs.specs.declared.ops.Privileged.TheVariants.{Csr, Sret, Wfi, SfenceVma, HfenceVvma, HfenceGvma, HlvAccess}
 use Rattle.op_defs.specs.Meaning.{meaning}
 use Rattle.op_defs.specs.Table.{op_of}
-use Rattle.machine_defs.specs.Outcomes.{Outcome, Done, Trapped, Stuck, Called, Waits, Fenced, Accesses}
+use Rattle.machine_defs.specs.Fills.{needed}
+use Rattle.machine_defs.specs.Outcomes.{Outcome, Done, Trapped, Missed, Called, Waits, Fenced, Accesses}
 use Rattle.machine_defs.specs.Core.{At, Fails, Faults, Located, Misses, accessed, at_place, called_from, core, decoded, executed, fetch_place, kind_of, located, located_at, located_by, word_at}
-use Rattle.machine_defs.specs.Privileges.{combined, csr_accessed, csr_changed, csr_shown, decided, held, performed, privileged, refusal}
+use Rattle.machine_defs.specs.Privileges.{combined, csr_accessed, csr_changed, csr_shown, decided, performed, privileged, refusal, value_or_zero}
 use Rattle.machine_laws.proofs.Cached.{either}
 
 -- a number is one of these
@@ -94,13 +95,13 @@ IsRead (Ends PageFault) = Unit {0}
 IsRead (Ends (FetchEnd place trap)) = ⊥
 IsRead (Below table) = Unit {0}
 
-leaf_is_read : (level : ℕ) (access : Access) (e : TableEntry) → IsRead (leaf_next level access e)
-leaf_is_read level access e = either IsRead (is_aligned level e.frame && is_marked access e) (Ends (Leaf (leaf_entry level e))) (Ends PageFault) tt tt
+leaf_is_read : (level : ℕ) (access : Access) (e : Pte) → IsRead (leaf_next level access e)
+leaf_is_read level access e = either IsRead (is_aligned level e.frame && is_marked access e) (Ends (Leaf (leaf_pte level e))) (Ends PageFault) tt tt
 
-pointer_is_read : (level : ℕ) (e : TableEntry) → IsRead (pointer_next level e)
+pointer_is_read : (level : ℕ) (e : Pte) → IsRead (pointer_next level e)
 pointer_is_read level e = either IsRead (e.a || e.d || e.u || level == 0) (Ends PageFault) (Below e.frame) tt tt
 
-is_read : (level : ℕ) (access : Access) (e : TableEntry) → IsRead (entry_next level access e)
+is_read : (level : ℕ) (access : Access) (e : Pte) → IsRead (entry_next level access e)
 unfolding entry_next
 is_read level access e = either IsRead (is_valid e) (cond (is_leaf e) (leaf_next level access e) (pointer_next level e)) (Ends PageFault)
     (either IsRead (is_leaf e) (leaf_next level access e) (pointer_next level e) (leaf_is_read level access e) (pointer_is_read level e)) tt
@@ -142,7 +143,7 @@ paths_alike small large w reading shape va access (suc level) table =
         (or_else (end_of access (later (path_from (entry_words_through large reading) shape va access level) (read_next level at access (entry_word_at reading at (large at Implicit)))))
         (read_next level at access (entry_word_at reading at (large at Implicit))))
     by at (Some place) e below = rw (e, w.gives at place Implicit e)
-        (next_alike small large access at _ _ below (entry_next level access (table_entry (reading place 8))) (is_read level access (table_entry (reading place 8))))
+        (next_alike small large access at _ _ below (entry_next level access (pte_of (reading place 8))) (is_read level access (pte_of (reading place 8))))
     by at None e below = rw e (inl refl, e, λ none. rw none refl)
 
 walks_alike : (small large : SecondStage) → IsWithin small large → (reading : Reading) (page : ℕ) (shape : Shape) (va : ℕ) (access : Access)
@@ -167,7 +168,7 @@ read_for second reading va access (root.Table table asid ppn) =
 abbrev FindsAlike : SecondStage → SecondStage → List ℕ → Found → Found → Type 0
 FindsAlike small large asked (Passes address) other = other ≡ Passes address
 FindsAlike small large asked PageFaults other = other ≡ PageFaults
-FindsAlike small large asked (Lacks place) other = StopsAt small large asked place Implicit (other ≡ Lacks place)
+FindsAlike small large asked (MissesEntry place) other = StopsAt small large asked place Implicit (other ≡ MissesEntry place)
 
 found_alike : (small large : SecondStage) (asked : List ℕ) (privilege : Privilege) (access : Access) (va : ℕ) (end other : WalkEnd)
     → EndsAlike small large asked end other → FindsAlike small large asked (found_by privilege access va end) (found_by privilege access va other)
@@ -178,7 +179,7 @@ found_alike small large asked privilege access va (Leaf leaf) other alike = rw a
     both false = refl
 found_alike small large asked privilege access va PageFault other alike = rw alike refl
 found_alike small large asked privilege access va (FetchEnd place trap) other alike =
-    stops_more small large asked asked place Implicit (other ≡ FetchEnd place trap) (found_by privilege access va other ≡ Lacks place) (λ h. h) (λ e. rw e refl) alike
+    stops_more small large asked asked place Implicit (other ≡ FetchEnd place trap) (found_by privilege access va other ≡ MissesEntry place) (λ h. h) (λ e. rw e refl) alike
 
 under_alike : (small large : SecondStage) → IsWithin small large → (reading : Reading) (privilege : Privilege) (va : ℕ) (access : Access) (atp : SupervisorRoot)
     → FindsAlike small large (read_for large reading va access atp) (found_under small reading privilege va access atp) (found_under large reading privilege va access atp)
@@ -188,7 +189,7 @@ under_alike small large w reading privilege va access (root.Table table asid ppn
 
 -- an outcome, and whether something is so where it stops at no access
 abbrev OutcomeAlike : SecondStage → SecondStage → List ℕ → Outcome → Type 0 → Type 0
-OutcomeAlike small large asked (Stuck unplaced) same = StopsAt small large asked unplaced.address unplaced.kind same
+OutcomeAlike small large asked (Missed missing) same = StopsAt small large asked missing.address missing.kind same
 OutcomeAlike small large asked (Done state stored event) same = same
 OutcomeAlike small large asked (Trapped trap) same = same
 OutcomeAlike small large asked Called same = same
@@ -198,8 +199,8 @@ OutcomeAlike small large asked (Accesses access) same = same
 
 outcome_more : (small large : SecondStage) (asked more : List ℕ) (o : Outcome) (same same' : Type 0)
     → ((p : ℕ) → In p asked → In p more) → (same → same') → OutcomeAlike small large asked o same → OutcomeAlike small large more o same'
-outcome_more small large asked more (Stuck unplaced) same same' wider then alike =
-    stops_more small large asked more unplaced.address unplaced.kind same same' (wider unplaced.address) then alike
+outcome_more small large asked more (Missed missing) same same' wider then alike =
+    stops_more small large asked more missing.address missing.kind same same' (wider missing.address) then alike
 outcome_more small large asked more (Done state stored event) same same' wider then alike = then alike
 outcome_more small large asked more (Trapped trap) same same' wider then alike = then alike
 outcome_more small large asked more Called same same' wider then alike = then alike
@@ -211,16 +212,16 @@ outcome_more small large asked more (Accesses access) same same' wider then alik
 abbrev pub final : Found → List ℕ
 final (Passes address) = address ∷ []
 final PageFaults = []
-final (Lacks place) = []
+final (MissesEntry place) = []
 
 abbrev pub asked_for : SecondStage → Reading → Csrs → Mode → ℕ → Access → List ℕ
 asked_for second reading csrs mode va access =
-    read_for second reading va access (bank_of csrs mode).atp ++ final (first_stage second reading csrs mode va access)
+    read_for second reading va access (supervisor_of csrs mode).atp ++ final (first_stage second reading csrs mode va access)
 
 abbrev PlacesAlike : SecondStage → SecondStage → List ℕ → Located → Located → Type 0
 PlacesAlike small large asked (At place) other = other ≡ At place
 PlacesAlike small large asked (Fails (Faults trap)) other = other ≡ Fails (Faults trap)
-PlacesAlike small large asked (Fails (Misses unplaced)) other = StopsAt small large asked unplaced.address unplaced.kind (other ≡ Fails (Misses unplaced))
+PlacesAlike small large asked (Fails (Misses missing)) other = StopsAt small large asked missing.address missing.kind (other ≡ Fails (Misses missing))
 
 by_alike : (small large : SecondStage) → IsWithin small large → (asked : List ℕ) (mode : Mode) (va : ℕ) (access : Access) (found other : Found)
     → FindsAlike small large asked found other
@@ -232,8 +233,8 @@ by_alike small large w asked mode va access (Passes address) other alike = rw al
     by (Some place) e = rw (w.gives address place access e) refl
     by None e = (in_right address asked (address ∷ []) (inl refl), e, λ none. rw none refl)
 by_alike small large w asked mode va access PageFaults other alike = rw alike refl
-by_alike small large w asked mode va access (Lacks place) other alike =
-    stops_more small large asked (asked ++ final other) place Implicit (other ≡ Lacks place)
+by_alike small large w asked mode va access (MissesEntry place) other alike =
+    stops_more small large asked (asked ++ final other) place Implicit (other ≡ MissesEntry place)
     (located_by large mode va access other ≡ Fails (Misses (record { address = place; kind = Implicit; access = access; va = va; mode = mode })))
     (in_left place asked (final other)) (λ e. rw e refl) alike
 
@@ -241,7 +242,7 @@ located_alike : (small large : SecondStage) → IsWithin small large → (readin
     → PlacesAlike small large (asked_for large reading csrs mode va access) (located small reading csrs mode va access) (located large reading csrs mode va access)
 unfolding first_stage
 located_alike small large w reading csrs mode va access = by_alike small large w _ mode va access _ _
-    (under_alike small large w reading (privilege_of csrs mode) va access (bank_of csrs mode).atp)
+    (under_alike small large w reading (privilege_of csrs mode) va access (supervisor_of csrs mode).atp)
 
 accessed_alike : (small large : SecondStage) → IsWithin small large → (reading : Reading) (csrs : Csrs) (mode : Mode) (va : ℕ) (width : Width) (access : Access)
     → PlacesAlike small large (asked_for large reading csrs mode va access) (accessed small reading csrs mode va width access) (accessed large reading csrs mode va width access)
@@ -259,13 +260,13 @@ at_alike : (small large : SecondStage) (asked : List ℕ) (more : Located → Li
     → OutcomeAlike small large (more other) (at_place own rest) (at_place other rest' ≡ at_place own rest)
 at_alike small large asked more rest rest' wider goes (At place) other alike = rw alike (goes place)
 at_alike small large asked more rest rest' wider goes (Fails (Faults trap)) other alike = rw alike refl
-at_alike small large asked more rest rest' wider goes (Fails (Misses unplaced)) other alike =
-    stops_more small large asked (more other) unplaced.address unplaced.kind (other ≡ Fails (Misses unplaced)) (at_place other rest' ≡ Stuck unplaced)
-    (wider other unplaced.address) (λ e. rw e refl) alike
+at_alike small large asked more rest rest' wider goes (Fails (Misses missing)) other alike =
+    stops_more small large asked (more other) missing.address missing.kind (other ≡ Fails (Misses missing)) (at_place other rest' ≡ Missed missing)
+    (wider other missing.address) (λ e. rw e refl) alike
 
 -- what the mode decides on stops at no access
 abbrev pub IsDecided : Outcome → Type 0
-IsDecided (Stuck unplaced) = ⊥
+IsDecided (Missed missing) = ⊥
 IsDecided (Done state stored event) = Unit {0}
 IsDecided (Trapped trap) = Unit {0}
 IsDecided Called = Unit {0}
@@ -274,7 +275,7 @@ IsDecided (Fenced state fence) = Unit {0}
 IsDecided (Accesses access) = Unit {0}
 
 decided_alike : (small large : SecondStage) (asked : List ℕ) (o : Outcome) (same : Type 0) → IsDecided o → same → OutcomeAlike small large asked o same
-decided_alike small large asked (Stuck unplaced) same is held = absurd is
+decided_alike small large asked (Missed missing) same is held = absurd is
 decided_alike small large asked (Done state stored event) same is held = held
 decided_alike small large asked (Trapped trap) same is held = held
 decided_alike small large asked Called same is held = held
@@ -291,9 +292,9 @@ changed_decided s word rd value (Ok csrs) = tt
 changed_decided s word rd value (Err end) = tt
 
 csr_decided : (s : Virtual) (word : ℕ) (o : CsrOp) (number operand : ℕ) (writes : Bool) (rd : ℕ) → IsDecided (csr_accessed s word o number operand writes rd)
-csr_decided s word o number operand true rd = let before = held (read s.csrs s.mode number) in
-    changed_decided s word rd before (write s.csrs s.mode number (combined o before operand))
-csr_decided s word o number operand false rd = shown_decided s word rd (read s.csrs s.mode number)
+csr_decided s word o number operand true rd = let before = value_or_zero (read_csr s.csrs s.mode number) in
+    changed_decided s word rd before (write_csr s.csrs s.mode number (combined o before operand))
+csr_decided s word o number operand false rd = shown_decided s word rd (read_csr s.csrs s.mode number)
 
 -- each instruction that is allowed, and one by its refusal
 performed_decided : (s : Virtual) (word : ℕ) (p : Privileged) → IsDecided (performed s word p)
@@ -391,27 +392,27 @@ few_read second reading va access (root.Table table asid ppn) = by (is_canonical
 few_final : (found : Found) → length (final found) ≤ 1
 few_final (Passes address) = omega arith
 few_final PageFaults = omega arith
-few_final (Lacks place) = omega arith
+few_final (MissesEntry place) = omega arith
 
-few_for : (second : SecondStage) (reading : Reading) (csrs : Csrs) (mode : Mode) (va : ℕ) (access : Access) → length (asked_for second reading csrs mode va access) ≤ 4
+few_for : (second : SecondStage) (reading : Reading) (csrs : Csrs) (mode : Mode) (va : ℕ) (access : Access) → length (asked_for second reading csrs mode va access) ≤ most_levels + 1
 few_for second reading csrs mode va access =
-    let entries = few_read second reading va access (bank_of csrs mode).atp in
+    let entries = few_read second reading va access (supervisor_of csrs mode).atp in
     let one = few_final (first_stage second reading csrs mode va access) in
-    let both = length-append (read_for second reading va access (bank_of csrs mode).atp) (final (first_stage second reading csrs mode va access)) in omega arith
+    let both = length-append (read_for second reading va access (supervisor_of csrs mode).atp) (final (first_stage second reading csrs mode va access)) in omega arith
 
-few_by_effect : (second : SecondStage) (reading : Reading) (s : Virtual) (effect : Effect) → length (asked_by_effect second reading s effect) ≤ 4
+few_by_effect : (second : SecondStage) (reading : Reading) (s : Virtual) (effect : Effect) → length (asked_by_effect second reading s effect) ≤ most_levels + 1
 few_by_effect second reading s (Data wanted) = few_for second reading s.csrs s.mode wanted.address (kind_of wanted.purpose)
 few_by_effect second reading s _ = omega arith
 
-few_by_op : (second : SecondStage) (reading : Reading) (s : Virtual) (o : Option Op) → length (asked_by_op second reading s o) ≤ 4
+few_by_op : (second : SecondStage) (reading : Reading) (s : Virtual) (o : Option Op) → length (asked_by_op second reading s o) ≤ most_levels + 1
 few_by_op second reading s (Some o) = few_by_effect second reading s (meaning o s.regs)
 few_by_op second reading s None = omega arith
 
-few_at : (second : SecondStage) (reading : Reading) (s : Virtual) (a : Located) → length (asked_at second reading s a) ≤ 4
+few_at : (second : SecondStage) (reading : Reading) (s : Virtual) (a : Located) → length (asked_at second reading s a) ≤ most_levels + 1
 few_at second reading s (At place) = few_by_op second reading s (op_of (word_at reading place))
 few_at second reading s (Fails failure) = omega arith
 
-pub few_asked : (second : SecondStage) (reading : Reading) (s : Virtual) → length (asked second reading s) ≤ 8
+pub few_asked : (second : SecondStage) (reading : Reading) (s : Virtual) → length (asked second reading s) ≤ needed
 unfolding asked
 few_asked second reading s =
     let fetch = few_for second reading s.csrs s.mode s.regs.pc Fetch in
@@ -419,28 +420,28 @@ few_asked second reading s =
     let both = length-append (asked_for second reading s.csrs s.mode s.regs.pc Fetch) (asked_at second reading s (fetch_place second reading s)) in omega arith
 
 -- where it stops under the smaller: at one of what it asks the larger; and if that has no place there either, it stops there too
-pub record Stops (small large : SecondStage) (reading : Reading) (s : Virtual) (unplaced : Unplaced) : Type 0 where
-  pub inside : In unplaced.address (asked large reading s)
-  pub none : small unplaced.address unplaced.kind ≡ None
-  pub also : large unplaced.address unplaced.kind ≡ None → core large reading s ≡ core small reading s
+pub record Stops (small large : SecondStage) (reading : Reading) (s : Virtual) (missing : MissingPlace) : Type 0 where
+  pub inside : In missing.address (asked large reading s)
+  pub none : small missing.address missing.kind ≡ None
+  pub also : large missing.address missing.kind ≡ None → core large reading s ≡ core small reading s
 
-pub stops : (small large : SecondStage) → IsWithin small large → (reading : Reading) (s : Virtual) (unplaced : Unplaced)
-    → core small reading s ≡ Stuck unplaced → Stops small large reading s unplaced
-stops small large w reading s unplaced e = by (core small reading s) e (core_alike small large w reading s)
+pub stops : (small large : SecondStage) → IsWithin small large → (reading : Reading) (s : Virtual) (missing : MissingPlace)
+    → core small reading s ≡ Missed missing → Stops small large reading s missing
+stops small large w reading s missing e = by (core small reading s) e (core_alike small large w reading s)
   where
-    by : (o : Outcome) → o ≡ Stuck unplaced → OutcomeAlike small large (asked large reading s) o (core large reading s ≡ core small reading s)
-        → Stops small large reading s unplaced
+    by : (o : Outcome) → o ≡ Missed missing → OutcomeAlike small large (asked large reading s) o (core large reading s ≡ core small reading s)
+        → Stops small large reading s missing
     by o is alike = let at = rw is at alike in record { inside = at.0; none = at.1; also = at.2 }
 
 -- and else it ends as under the larger
 pub else_alike : (small large : SecondStage) → IsWithin small large → (reading : Reading) (s : Virtual)
-    → ((unplaced : Unplaced) → core small reading s ≡ Stuck unplaced → large unplaced.address unplaced.kind ≡ None)
+    → ((missing : MissingPlace) → core small reading s ≡ Missed missing → large missing.address missing.kind ≡ None)
     → core large reading s ≡ core small reading s
 else_alike small large w reading s none = by (core small reading s) refl (core_alike small large w reading s)
   where
     by : (o : Outcome) → core small reading s ≡ o → OutcomeAlike small large (asked large reading s) o (core large reading s ≡ core small reading s)
         → core large reading s ≡ core small reading s
-    by (Stuck unplaced) is (inside, lacks, also) = also (none unplaced is)
+    by (Missed missing) is (inside, lacks, also) = also (none missing is)
     by (Done state stored event) is same = same
     by (Trapped trap) is same = same
     by Called is same = same

@@ -4,13 +4,13 @@ use Rattle.std.specs.List.{All}
 use Rattle.std.proofs.Common.{cond, ◌≡◌, ℕ, ◌⊎◌, inl, inr, ⊎_elim, Bool, true, false, List, [], ◌∷◌, Option, Some, None, refl}
 use Rattle.std.proofs.lemmas.List.Elements.{All-head, All-tail}
 use Rattle.arch_defs.specs.declared.cached.Entry.{Entry}
-use Rattle.arch_defs.specs.declared.guest_walks.GuestWalkEnd.TheVariants.{GuestPageFault, AccessFault}
-use Rattle.arch_defs.specs.declared.guest_walks.GuestWalkEnd.TheVariants as guest
+use Rattle.arch_defs.specs.declared.second_walks.SecondWalkEnd.TheVariants.{GuestPageFault, AccessFault}
+use Rattle.arch_defs.specs.declared.second_walks.SecondWalkEnd.TheVariants as guest
 use Rattle.arch_defs.specs.declared.modes.Access.{Access}
 use Rattle.arch_defs.specs.declared.registers.Csrs.{Csrs}
-use Rattle.arch_defs.specs.declared.walks.LeafEntry.{LeafEntry}
+use Rattle.arch_defs.specs.declared.walks.LeafPte.{LeafPte}
 use Rattle.arch_defs.specs.declared.walks.Shape.{Shape}
-use Rattle.arch_defs.specs.declared.walks.Unplaced.{Unplaced}
+use Rattle.arch_defs.specs.declared.walks.MissingPlace.{MissingPlace}
 use Rattle.arch_defs.specs.declared.walks.WalkEnd.{WalkEnd}
 use Rattle.arch_defs.specs.declared.walks.WalkEnd.TheVariants.{Leaf, PageFault, FetchEnd}
 use Rattle.arch_defs.specs.CachedEntries.{leaf_of, place_by}
@@ -18,12 +18,12 @@ use Rattle.arch_defs.specs.Interrupts.{due}
 use Rattle.arch_defs.specs.Memory.{ram_base}
 use Rattle.arch_defs.specs.Spaces.{Space}
 use Rattle.arch_defs.specs.Permits.{permits_second}
-use Rattle.arch_defs.specs.SecondStage.{guest_end, guest_root_frame, guest_walk, has_frame_of, memory_words}
+use Rattle.arch_defs.specs.SecondStage.{guest_root_frame, has_frame_of, memory_words, second_end, second_walk}
 use Rattle.arch_defs.specs.Walk.{leaf_address, walk}
-use Rattle.arch_defs.specs.WalkedEntries.{entry_by_end, entry_now, entry_under, folds}
-use Rattle.machine_defs.specs.Fills.{lacking, lacking_at, lacking_under, lacking_with}
+use Rattle.arch_defs.specs.WalkedEntries.{entry_by_end, entry_by_walk, entry_under, folds}
+use Rattle.machine_defs.specs.Fills.{missing_entry, missing_entry_at, missing_entry_under, missing_entry_with}
 use Rattle.machine_defs.specs.Machine.{Machine}
-use Rattle.machine_defs.specs.Outcomes.{Outcome, Done, Trapped, Stuck, Called, Waits, Fenced, Accesses}
+use Rattle.machine_defs.specs.Outcomes.{Outcome, Done, Trapped, Missed, Called, Waits, Fenced, Accesses}
 
 -- what holds of both holds of either
 pub either : {A : Type 0} (P : A → Type 0) (b : Bool) (x y : A) → P x → P y → P (cond b x y)
@@ -55,9 +55,9 @@ placed mxr address place kind (Some e) is = by (permits_second mxr kind (leaf_of
     by false permits is = absurd cc
 
 -- what a state lacks, it stops at
-pub stopped : (csrs : Csrs) (ram : List ℕ) (o : Outcome) (e : Entry) → lacking_at csrs ram o ≡ Some e
-    → (u : Unplaced) × (o ≡ Stuck u) × (entry_now csrs ram u.address u.kind ≡ Some e)
-stopped csrs ram (Stuck u) e is = (u, refl, is)
+pub stopped : (csrs : Csrs) (ram : List ℕ) (o : Outcome) (e : Entry) → missing_entry_at csrs ram o ≡ Some e
+    → (u : MissingPlace) × (o ≡ Missed u) × (entry_by_walk csrs ram u.address u.kind ≡ Some e)
+stopped csrs ram (Missed u) e is = (u, refl, is)
 stopped csrs ram (Done state stored event) e is = absurd cc
 stopped csrs ram (Trapped trap) e is = absurd cc
 stopped csrs ram Called e is = absurd cc
@@ -66,41 +66,41 @@ stopped csrs ram (Fenced state fence) e is = absurd cc
 stopped csrs ram (Accesses wanted) e is = absurd cc
 
 -- what a machine lacks is what a walk gives, and it folds
-pub lacked : (m : Machine) (e : Entry) → lacking m ≡ Some e
-    → (folds m.platform.virt ≡ true) × ((u : Unplaced) × (entry_now m.platform.virt.csrs m.ram u.address u.kind ≡ Some e))
-unfolding lacking lacking_under
+pub lacked : (m : Machine) (e : Entry) → missing_entry m ≡ Some e
+    → (folds m.platform.virt ≡ true) × ((u : MissingPlace) × (entry_by_walk m.platform.virt.csrs m.ram u.address u.kind ≡ Some e))
+unfolding missing_entry missing_entry_under
 lacked m e is = by (folds m.platform.virt) refl m.spaces (due m.platform.virt.csrs m.platform.virt.mode) is
   where
-    by : (b : Bool) → folds m.platform.virt ≡ b → (spaces : List Space) (code : Option ℕ) → cond b (lacking_with m.platform.virt m.ram spaces code) None ≡ Some e
-        → (folds m.platform.virt ≡ true) × ((u : Unplaced) × (entry_now m.platform.virt.csrs m.ram u.address u.kind ≡ Some e))
+    by : (b : Bool) → folds m.platform.virt ≡ b → (spaces : List Space) (code : Option ℕ) → cond b (missing_entry_with m.platform.virt m.ram spaces code) None ≡ Some e
+        → (folds m.platform.virt ≡ true) × ((u : MissingPlace) × (entry_by_walk m.platform.virt.csrs m.ram u.address u.kind ≡ Some e))
     by true folding (s ∷ ss) None is = let at = stopped m.platform.virt.csrs m.ram _ e is in (folding, (at.0, at.2))
     by true folding (s ∷ ss) (Some code) is = absurd cc
     by true folding [] code is = absurd cc
     by false flat spaces code is = absurd cc
 
 -- what an entry of now comes from
-pub record IsGiven (mxr : Bool) (ram : List ℕ) (shape : Shape) (ppn address : ℕ) (kind : Access) (e : Entry) (leaf : LeafEntry) : Type 0 where
+pub record IsGiven (mxr : Bool) (ram : List ℕ) (shape : Shape) (ppn address : ℕ) (kind : Access) (e : Entry) (leaf : LeafPte) : Type 0 where
   pub walked : walk (memory_words ram_base ram) (guest_root_frame ppn) shape address kind ≡ Leaf leaf
   pub permits : permits_second mxr kind leaf ≡ true
   pub inside : has_frame_of ram_base ram (leaf_address leaf address) ≡ true
   pub is : e ≡ entry_under leaf address
 
-pub given : (mxr : Bool) (ram : List ℕ) (shape : Shape) (ppn address : ℕ) (kind : Access) (e : Entry) → entry_by_end address (guest_walk ram_base ram mxr shape ppn address kind) ≡ Some e
-    → (leaf : LeafEntry) × IsGiven mxr ram shape ppn address kind e leaf
-unfolding guest_walk
+pub given : (mxr : Bool) (ram : List ℕ) (shape : Shape) (ppn address : ℕ) (kind : Access) (e : Entry) → entry_by_end address (second_walk ram_base ram mxr shape ppn address kind) ≡ Some e
+    → (leaf : LeafPte) × IsGiven mxr ram shape ppn address kind e leaf
+unfolding second_walk
 given mxr ram shape ppn address kind e is = by (walk (memory_words ram_base ram) (guest_root_frame ppn) shape address kind) refl is
   where
-    at : (leaf : LeafEntry) (permits inside : Bool) → permits_second mxr kind leaf ≡ permits → has_frame_of ram_base ram (leaf_address leaf address) ≡ inside
+    at : (leaf : LeafPte) (permits inside : Bool) → permits_second mxr kind leaf ≡ permits → has_frame_of ram_base ram (leaf_address leaf address) ≡ inside
         → walk (memory_words ram_base ram) (guest_root_frame ppn) shape address kind ≡ Leaf leaf
         → entry_by_end address (cond (not permits) GuestPageFault (cond inside (guest.Leaf leaf) AccessFault)) ≡ Some e
-        → (leaf : LeafEntry) × IsGiven mxr ram shape ppn address kind e leaf
+        → (leaf : LeafPte) × IsGiven mxr ram shape ppn address kind e leaf
     at leaf true true permitted in_ram ends found = let same : e ≡ entry_under leaf address = cc in
         (leaf, record { walked = ends; permits = permitted; inside = in_ram; is = same })
     at leaf true false permitted in_ram ends found = absurd cc
     at leaf false inside permitted in_ram ends found = absurd cc
 
     by : (end : WalkEnd) → walk (memory_words ram_base ram) (guest_root_frame ppn) shape address kind ≡ end
-        → entry_by_end address (guest_end ram_base ram mxr address kind end) ≡ Some e → (leaf : LeafEntry) × IsGiven mxr ram shape ppn address kind e leaf
+        → entry_by_end address (second_end ram_base ram mxr address kind end) ≡ Some e → (leaf : LeafPte) × IsGiven mxr ram shape ppn address kind e leaf
     by (Leaf leaf) ends found = at leaf (permits_second mxr kind leaf) (has_frame_of ram_base ram (leaf_address leaf address)) refl refl ends found
     by PageFault ends found = absurd cc
     by (FetchEnd place trap) ends found = absurd cc

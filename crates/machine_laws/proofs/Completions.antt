@@ -2,32 +2,32 @@
 use Rattle.std.proofs.Common.{◌≡◌, ℕ, Bool, true, false, refl}
 use Rattle.arch_defs.specs.declared.modes.Trap.{Trap}
 use Rattle.arch_defs.specs.declared.registers.Virtual.{Virtual}
-use Rattle.arch_defs.specs.declared.walks.Unplaced.{Unplaced}
+use Rattle.arch_defs.specs.declared.walks.MissingPlace.{MissingPlace}
 use Rattle.arch_defs.specs.declared.widths.Width.{Width}
 use Rattle.arch_defs.specs.Memory.{Reading}
 use Rattle.op_defs.specs.declared.ops.Purpose.{Purpose}
 use Rattle.op_defs.specs.declared.ops.Purpose.TheVariants.{Load, LoadCode, Store, Reserve, StoreReserved, Modify}
 use Rattle.machine_defs.specs.Core.{At, Completion, Fails, Faults, Located, Misses, at_place, completed, is_reserved, stored_if}
-use Rattle.machine_defs.specs.Outcomes.{Outcome, Stuck, Trapped}
+use Rattle.machine_defs.specs.Outcomes.{Missed, Outcome, Trapped}
 
 -- what holds of each trap, of each stop and of what follows at each place holds of an instruction with an
 -- access
-pub at_each : (P : Outcome → Type 0) (rest : ℕ → Outcome) → ((trap : Trap) → P (Trapped trap)) → ((unplaced : Unplaced) → P (Stuck unplaced))
+pub at_each : (P : Outcome → Type 0) (rest : ℕ → Outcome) → ((trap : Trap) → P (Trapped trap)) → ((missing : MissingPlace) → P (Missed missing))
     → ((place : ℕ) → P (rest place)) → (a : Located) → P (at_place a rest)
 at_each P rest traps stops goes (At place) = goes place
 at_each P rest traps stops goes (Fails (Faults trap)) = traps trap
-at_each P rest traps stops goes (Fails (Misses unplaced)) = stops unplaced
+at_each P rest traps stops goes (Fails (Misses missing)) = stops missing
 
 -- the same where it follows at a place of which Q holds
 abbrev pub LocatedHas : (ℕ → Type 0) → Located → Type 0
 LocatedHas Q (At place) = Q place
 LocatedHas Q (Fails failure) = Unit {0}
 
-pub at_each_with : (P : Outcome → Type 0) (Q : ℕ → Type 0) (rest : ℕ → Outcome) → ((trap : Trap) → P (Trapped trap)) → ((unplaced : Unplaced) → P (Stuck unplaced))
+pub at_each_with : (P : Outcome → Type 0) (Q : ℕ → Type 0) (rest : ℕ → Outcome) → ((trap : Trap) → P (Trapped trap)) → ((missing : MissingPlace) → P (Missed missing))
     → ((place : ℕ) → Q place → P (rest place)) → (a : Located) → LocatedHas Q a → P (at_place a rest)
 at_each_with P Q rest traps stops goes (At place) has = goes place has
 at_each_with P Q rest traps stops goes (Fails (Faults trap)) has = traps trap
-at_each_with P Q rest traps stops goes (Fails (Misses unplaced)) has = stops unplaced
+at_each_with P Q rest traps stops goes (Fails (Misses missing)) has = stops missing
 
 -- an access to data leaves all of a state but its x registers, pc and what is reserved
 abbrev pub OnlyRegs : Virtual → Completion → Type 0

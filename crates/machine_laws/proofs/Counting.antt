@@ -117,11 +117,11 @@ pub record Counts (IsFresh : Entry → Type 0) (lacks : List Entry → Option En
 -- what is lacking has not been filled since
 not_since : {IsFresh : Entry → Type 0} {lacks : List Entry → Option Entry} {pages : List ℕ} → Counts IsFresh lacks pages
     → (entries before since : List Entry) (e : Entry) → IsSplit IsFresh entries before since → lacks entries ≡ Some e → entry_at e.page since ≡ None
-not_since {IsFresh = IsFresh} c entries before since e split lacking = by (entry_at e.page since) refl
+not_since {IsFresh = IsFresh} c entries before since e split missing_entry = by (entry_at e.page since) refl
   where
     by : (there : Option Entry) → entry_at e.page since ≡ there → there ≡ None
     by None is = refl
-    by (Some held) is = absurd (c.missing entries e held lacking
+    by (Some held) is = absurd (c.missing entries e held missing_entry
         (rw split.is (absent_before e.page before since (split.apart e.page held is) ∙ is))
         (all_found IsFresh (λ x. x.page == e.page) since held split.fresh is))
 

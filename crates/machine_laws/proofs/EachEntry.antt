@@ -10,7 +10,7 @@ use Rattle.arch_defs.specs.declared.registers.Virtual.{Virtual}
 use Rattle.arch_defs.specs.CachedEntries.{filled, without}
 use Rattle.arch_defs.specs.Memory.{SecondStage}
 use Rattle.arch_defs.specs.Spaces.{Space, entered, fenced, fenced_space, found_or_empty, is_for}
-use Rattle.machine_defs.specs.Fills.{fill, filled_front, lacking}
+use Rattle.machine_defs.specs.Fills.{fill, filled_front, missing_entry}
 use Rattle.machine_defs.specs.Machine.{Machine, Tried, Ended, WaitsForGood}
 use Rattle.machine_defs.specs.Runs.{left_after, left_by, run}
 use Rattle.machine_defs.specs.Tries.{enters, fence_under, second_of, try_under}
@@ -70,8 +70,8 @@ tried_each P m second all = by (try_under second m) (try_spaces second m)
 -- if each fill has P, with what else fills and tries keep, so do all entries of all spaces after each fill
 -- and each try, and so after each run
 pub each_kept : (P : GuestRoot → Entry → Type 0) (Also : Machine → Type 0)
-    → ((m : Machine) (e : Entry) → Also m → EachEntry P m.spaces → lacking m ≡ Some e → FrontHas (λ key. P key e) m.spaces)
-    → ((m : Machine) (e : Entry) → Also m → EachEntry P m.spaces → lacking m ≡ Some e → Also (fill m e))
+    → ((m : Machine) (e : Entry) → Also m → EachEntry P m.spaces → missing_entry m ≡ Some e → FrontHas (λ key. P key e) m.spaces)
+    → ((m : Machine) (e : Entry) → Also m → EachEntry P m.spaces → missing_entry m ≡ Some e → Also (fill m e))
     → ((m : Machine) → Also m → EachEntry P m.spaces → Also (left_after m))
     → IsKept (λ m. EachEntry P m.spaces × Also m)
 each_kept P Also has filled tried = record {
@@ -85,10 +85,10 @@ front_has Q key [] front has = tt
 front_has Q key (s ∷ ss) front has = subst Q (sym front) has
 
 -- so if each fill of an orderly machine has P with hgatp, all entries of all spaces have it after each run
-pub each_after_runs : (P : GuestRoot → Entry → Type 0) → ((m : Machine) (e : Entry) → IsOrderly m → lacking m ≡ Some e → P m.platform.virt.csrs.hgatp e)
+pub each_after_runs : (P : GuestRoot → Entry → Type 0) → ((m : Machine) (e : Entry) → IsOrderly m → missing_entry m ≡ Some e → P m.platform.virt.csrs.hgatp e)
     → (m : Machine) (n : ℕ) → IsOrderly m → EachEntry P m.spaces → EachEntry P (run m n).spaces
 each_after_runs P has m n is all = (kept_by_runs (λ (t : Machine). EachEntry P t.spaces × IsOrderly t)
     (each_kept P IsOrderly fills (λ t e orderly each lacks. fill_stays_orderly t e orderly lacks) (λ t orderly each. try_stays_orderly t orderly)) m n (all, is)).0
   where
-    fills : (t : Machine) (e : Entry) → IsOrderly t → EachEntry P t.spaces → lacking t ≡ Some e → FrontHas (λ key. P key e) t.spaces
+    fills : (t : Machine) (e : Entry) → IsOrderly t → EachEntry P t.spaces → missing_entry t ≡ Some e → FrontHas (λ key. P key e) t.spaces
     fills t e orderly each lacks = front_has (λ key. P key e) t.platform.virt.csrs.hgatp t.spaces (orderly.front (lacked t e lacks).0) (has t e orderly lacks)

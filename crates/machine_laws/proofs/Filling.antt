@@ -5,20 +5,20 @@ use Rattle.arch_defs.specs.Interrupts.{due}
 use Rattle.arch_defs.specs.Spaces.{Space}
 use Rattle.arch_defs.specs.CachedEntries.{filled}
 use Rattle.arch_defs.specs.WalkedEntries.{folds}
-use Rattle.machine_defs.specs.Fills.{after_fill, after_fills, counted, fill, filled_front, fills, lacking, lacking_under, lacking_with, most_fills}
+use Rattle.machine_defs.specs.Fills.{after_fill, after_fills, counted, fill, filled_front, fills, missing_entry, missing_entry_under, missing_entry_with, most_fills}
 use Rattle.machine_defs.specs.Machine.{Machine, Platform}
-use Rattle.machine_laws.specs.Laws.{FewFills, FillsGoOn, FillsSuffice, FlatLacksNothing, InterruptedLacksNothing, MoreChangeNothing, OnlySpaces}
+use Rattle.machine_laws.specs.Laws.{FewFills, FillsGoOn, FillsSuffice, FlatMissesNothing, InterruptedMissesNothing, MoreChangeNothing, OnlySpaces}
 use Rattle.machine_laws.proofs.Counting.{filling, next_filled}
 use Rattle.machine_laws.proofs.Fresh.{list_suffices}
 
 -- a machine that lacks nothing stays as it is
-pub no_fills : (n : ℕ) (m : Machine) → lacking m ≡ None → after_fills n m ≡ m
+pub no_fills : (n : ℕ) (m : Machine) → missing_entry m ≡ None → after_fills n m ≡ m
 unfolding after_fills
 no_fills zero m e = refl
 no_fills (suc n) m e = rw e refl
 
 -- a machine that lacks an entry
-pub one_fill : (n : ℕ) (m : Machine) (e : Entry) → lacking m ≡ Some e → after_fills (suc n) m ≡ after_fills n (fill m e)
+pub one_fill : (n : ℕ) (m : Machine) (e : Entry) → missing_entry m ≡ Some e → after_fills (suc n) m ≡ after_fills n (fill m e)
 unfolding after_fills
 one_fill n m e is = rw is refl
 
@@ -27,25 +27,25 @@ abbrev pub machine : Platform → List ℕ → List Space → ℕ → ℕ → Ma
 machine p ram spaces space_room entry_room = record { platform = p; ram = ram; spaces = spaces; space_room = space_room; entry_room = entry_room }
 
 -- what it lacks is what its front space's list does, if it folds and no interrupt is due
-pub lacking_front : (p : Platform) (ram : List ℕ) (s : Space) (ss : List Space) (space_room entry_room : ℕ) → folds p.virt ≡ true → due p.virt.csrs p.virt.mode ≡ None
-    → lacking (machine p ram (s ∷ ss) space_room entry_room) ≡ lacking_under p.virt ram s.entries
-unfolding lacking
-lacking_front p ram s ss space_room entry_room folding none = by (folds p.virt) (due p.virt.csrs p.virt.mode) folding none
+pub missing_entry_front : (p : Platform) (ram : List ℕ) (s : Space) (ss : List Space) (space_room entry_room : ℕ) → folds p.virt ≡ true → due p.virt.csrs p.virt.mode ≡ None
+    → missing_entry (machine p ram (s ∷ ss) space_room entry_room) ≡ missing_entry_under p.virt ram s.entries
+unfolding missing_entry
+missing_entry_front p ram s ss space_room entry_room folding none = by (folds p.virt) (due p.virt.csrs p.virt.mode) folding none
   where
-    by : (b : Bool) (code : Option ℕ) → b ≡ true → code ≡ None → cond b (lacking_with p.virt ram (s ∷ ss) code) None ≡ lacking_under p.virt ram s.entries
+    by : (b : Bool) (code : Option ℕ) → b ≡ true → code ≡ None → cond b (missing_entry_with p.virt ram (s ∷ ss) code) None ≡ missing_entry_under p.virt ram s.entries
     by true None folding none = refl
     by true (Some code) folding none = absurd cc
     by false code folding none = absurd cc
 
-pub flat_lacks_nothing : FlatLacksNothing
-unfolding lacking
-flat_lacks_nothing m flat = rw flat refl
+pub flat_misses_nothing : FlatMissesNothing
+unfolding missing_entry
+flat_misses_nothing m flat = rw flat refl
 
-pub interrupted_lacks_nothing : InterruptedLacksNothing
-unfolding lacking
-interrupted_lacks_nothing m code is = by (folds m.platform.virt) m.spaces (due m.platform.virt.csrs m.platform.virt.mode) is
+pub interrupted_misses_nothing : InterruptedMissesNothing
+unfolding missing_entry
+interrupted_misses_nothing m code is = by (folds m.platform.virt) m.spaces (due m.platform.virt.csrs m.platform.virt.mode) is
   where
-    by : (b : Bool) (spaces : List Space) (there : Option ℕ) → there ≡ Some code → cond b (lacking_with m.platform.virt m.ram spaces there) None ≡ None
+    by : (b : Bool) (spaces : List Space) (there : Option ℕ) → there ≡ Some code → cond b (missing_entry_with m.platform.virt m.ram spaces there) None ≡ None
     by true (s ∷ ss) None is = absurd cc
     by true (s ∷ ss) (Some other) is = refl
     by true [] there is = refl
@@ -54,33 +54,33 @@ interrupted_lacks_nothing m code is = by (folds m.platform.virt) m.spaces (due m
 -- and so are its fills
 fills_front : (p : Platform) (ram : List ℕ) (ss : List Space) (space_room entry_room : ℕ) → folds p.virt ≡ true → due p.virt.csrs p.virt.mode ≡ None → (n : ℕ) (s : Space)
     → after_fills n (machine p ram (s ∷ ss) space_room entry_room)
-    ≡ machine p ram (record s { entries = filling (lacking_under p.virt ram) entry_room n s.entries } ∷ ss) space_room entry_room
+    ≡ machine p ram (record s { entries = filling (missing_entry_under p.virt ram) entry_room n s.entries } ∷ ss) space_room entry_room
 unfolding after_fills filling
 fills_front p ram ss space_room entry_room folding none zero s = refl
-fills_front p ram ss space_room entry_room folding none (suc n) s = rw (lacking_front p ram s ss space_room entry_room folding none)
-    (by (lacking_under p.virt ram s.entries) (λ t. fills_front p ram ss space_room entry_room folding none n t))
+fills_front p ram ss space_room entry_room folding none (suc n) s = rw (missing_entry_front p ram s ss space_room entry_room folding none)
+    (by (missing_entry_under p.virt ram s.entries) (λ t. fills_front p ram ss space_room entry_room folding none n t))
   where
     by : (there : Option Entry)
         → ((t : Space) → after_fills n (machine p ram (t ∷ ss) space_room entry_room)
-        ≡ machine p ram (record t { entries = filling (lacking_under p.virt ram) entry_room n t.entries } ∷ ss) space_room entry_room)
+        ≡ machine p ram (record t { entries = filling (missing_entry_under p.virt ram) entry_room n t.entries } ∷ ss) space_room entry_room)
         → after_fill (after_fills n) (machine p ram (s ∷ ss) space_room entry_room) there
-        ≡ machine p ram (record s { entries = next_filled (filling (lacking_under p.virt ram) entry_room n) entry_room s.entries there } ∷ ss) space_room entry_room
+        ≡ machine p ram (record s { entries = next_filled (filling (missing_entry_under p.virt ram) entry_room n) entry_room s.entries there } ∷ ss) space_room entry_room
     by None deeper = refl
     by (Some e) deeper = deeper (record s { entries = filled entry_room s.entries e })
 
 -- so many suffice
-nothing_to_fill : (n : ℕ) (m : Machine) → lacking m ≡ None → lacking (after_fills n m) ≡ None
+nothing_to_fill : (n : ℕ) (m : Machine) → missing_entry m ≡ None → missing_entry (after_fills n m) ≡ None
 nothing_to_fill n m e = rw (no_fills n m e) e
 
 suffices_by : (p : Platform) (ram : List ℕ) (spaces : List Space) (space_room entry_room : ℕ) → 8 ≤ entry_room
-    → lacking (after_fills (entry_room + 8) (machine p ram spaces space_room entry_room)) ≡ None
-unfolding lacking
+    → missing_entry (after_fills (entry_room + 8) (machine p ram spaces space_room entry_room)) ≡ None
+unfolding missing_entry
 suffices_by p ram spaces space_room entry_room room = by spaces (folds p.virt) (due p.virt.csrs p.virt.mode) refl refl
   where
     by : (spaces : List Space) (b : Bool) (code : Option ℕ) → folds p.virt ≡ b → due p.virt.csrs p.virt.mode ≡ code
-        → lacking (after_fills (entry_room + 8) (machine p ram spaces space_room entry_room)) ≡ None
+        → missing_entry (after_fills (entry_room + 8) (machine p ram spaces space_room entry_room)) ≡ None
     by (s ∷ ss) true None folding none = rw (fills_front p ram ss space_room entry_room folding none (entry_room + 8) s)
-        (lacking_front p ram (record s { entries = filling (lacking_under p.virt ram) entry_room (entry_room + 8) s.entries }) ss space_room entry_room folding none
+        (missing_entry_front p ram (record s { entries = filling (missing_entry_under p.virt ram) entry_room (entry_room + 8) s.entries }) ss space_room entry_room folding none
         ∙ list_suffices p.virt ram entry_room s.entries room)
     by (s ∷ ss) true (Some code) folding is = nothing_to_fill (entry_room + 8) (machine p ram (s ∷ ss) space_room entry_room) (rw (folding, is) refl)
     by [] true code folding is = nothing_to_fill (entry_room + 8) (machine p ram [] space_room entry_room) (rw folding refl)
@@ -90,13 +90,13 @@ pub suffices : FillsSuffice
 suffices m room = suffices_by m.platform m.ram m.spaces m.space_room m.entry_room room
 
 -- more change nothing
-fills_add : (a b : ℕ) (m : Machine) → lacking (after_fills a m) ≡ None → after_fills (a + b) m ≡ after_fills a m
+fills_add : (a b : ℕ) (m : Machine) → missing_entry (after_fills a m) ≡ None → after_fills (a + b) m ≡ after_fills a m
 unfolding after_fills
 fills_add zero b m e = rw (zero-add b) (no_fills b m e)
-fills_add (suc a) b m e = rw (suc-add a b) (by (lacking m) (λ t. fills_add a b t) e)
+fills_add (suc a) b m e = rw (suc-add a b) (by (missing_entry m) (λ t. fills_add a b t) e)
   where
-    by : (there : Option Entry) → ((t : Machine) → lacking (after_fills a t) ≡ None → after_fills (a + b) t ≡ after_fills a t)
-        → lacking (after_fill (after_fills a) m there) ≡ None → after_fill (after_fills (a + b)) m there ≡ after_fill (after_fills a) m there
+    by : (there : Option Entry) → ((t : Machine) → missing_entry (after_fills a t) ≡ None → after_fills (a + b) t ≡ after_fills a t)
+        → missing_entry (after_fill (after_fills a) m there) ≡ None → after_fill (after_fills (a + b)) m there ≡ after_fill (after_fills a) m there
     by None deeper e = refl
     by (Some x) deeper e = deeper (fill m x) e
 
@@ -109,7 +109,7 @@ only_by : (p : Platform) (ram : List ℕ) (space_room entry_room n : ℕ) (space
     → after_fills n (machine p ram spaces space_room entry_room) ≡ machine p ram (after_fills n (machine p ram spaces space_room entry_room)).spaces space_room entry_room
 unfolding after_fills
 only_by p ram space_room entry_room zero spaces = refl
-only_by p ram space_room entry_room (suc n) spaces = by (lacking (machine p ram spaces space_room entry_room)) (λ t. only_by p ram space_room entry_room n t)
+only_by p ram space_room entry_room (suc n) spaces = by (missing_entry (machine p ram spaces space_room entry_room)) (λ t. only_by p ram space_room entry_room n t)
   where
     by : (there : Option Entry)
         → ((t : List Space) → after_fills n (machine p ram t space_room entry_room) ≡ machine p ram (after_fills n (machine p ram t space_room entry_room)).spaces space_room entry_room)
@@ -125,38 +125,38 @@ only_spaces m n = only_by m.platform m.ram m.space_room m.entry_room n m.spaces
 pub few_fills : FewFills
 unfolding fills
 few_fills m zero = omega arith
-few_fills m (suc n) = by (lacking m) (λ t. few_fills t n)
+few_fills m (suc n) = by (missing_entry m) (λ t. few_fills t n)
   where
     by : (there : Option Entry) → ((t : Machine) → fills n t ≤ n) → counted (fills n) m there ≤ suc n
     by None deeper = omega arith
     by (Some e) deeper = let few = deeper (fill m e) in omega arith
 
-pub none_left : (n : ℕ) (m : Machine) → lacking m ≡ None → fills n m ≡ 0
+pub none_left : (n : ℕ) (m : Machine) → missing_entry m ≡ None → fills n m ≡ 0
 unfolding fills
 none_left zero m e = refl
 none_left (suc n) m e = rw e refl
 
-one_left : (n : ℕ) (m : Machine) (e : Entry) → lacking m ≡ Some e → fills (suc n) m ≡ fills n (fill m e) + 1
+one_left : (n : ℕ) (m : Machine) (e : Entry) → missing_entry m ≡ Some e → fills (suc n) m ≡ fills n (fill m e) + 1
 unfolding fills
 one_left n m e is = rw is refl
 
-counts_add : (a b : ℕ) (m : Machine) → lacking (after_fills a m) ≡ None → fills (a + b) m ≡ fills a m
+counts_add : (a b : ℕ) (m : Machine) → missing_entry (after_fills a m) ≡ None → fills (a + b) m ≡ fills a m
 unfolding after_fills fills
 counts_add zero b m e = rw (zero-add b) (none_left b m e)
-counts_add (suc a) b m e = rw (suc-add a b) (by (lacking m) (λ t. counts_add a b t) e)
+counts_add (suc a) b m e = rw (suc-add a b) (by (missing_entry m) (λ t. counts_add a b t) e)
   where
-    by : (there : Option Entry) → ((t : Machine) → lacking (after_fills a t) ≡ None → fills (a + b) t ≡ fills a t)
-        → lacking (after_fill (after_fills a) m there) ≡ None → counted (fills (a + b)) m there ≡ counted (fills a) m there
+    by : (there : Option Entry) → ((t : Machine) → missing_entry (after_fills a t) ≡ None → fills (a + b) t ≡ fills a t)
+        → missing_entry (after_fill (after_fills a) m there) ≡ None → counted (fills (a + b)) m there ≡ counted (fills a) m there
     by None deeper e = refl
     by (Some x) deeper e = ap (λ n. n + 1) (deeper (fill m x) e)
 
 -- after a fill the same is left, and one fill less
-goes_on : (most : ℕ) → 0 < most → (m : Machine) (e : Entry) → lacking m ≡ Some e → lacking (after_fills most m) ≡ None
+goes_on : (most : ℕ) → 0 < most → (m : Machine) (e : Entry) → missing_entry m ≡ Some e → missing_entry (after_fills most m) ≡ None
     → (after_fills most (fill m e) ≡ after_fills most m) × (fills most m ≡ fills most (fill m e) + 1)
 goes_on zero some m e is enough = absurd (omega arith)
 goes_on (suc n) some m e is enough =
     let first = one_fill n m e is in
-    let rest : lacking (after_fills n (fill m e)) ≡ None = rw first at enough in
+    let rest : missing_entry (after_fills n (fill m e)) ≡ None = rw first at enough in
     let more : n + 1 ≡ suc n = omega arith in
     let same : after_fills (suc n) (fill m e) ≡ after_fills n (fill m e) = rw (← more) (fills_add n 1 (fill m e) rest) in
     let count : fills (suc n) (fill m e) ≡ fills n (fill m e) = rw (← more) (counts_add n 1 (fill m e) rest) in

@@ -18,7 +18,7 @@ use Rattle.arch_defs.specs.Inputs.{next_input}
 use Rattle.arch_defs.specs.Interrupts.{due}
 use Rattle.arch_defs.specs.Memory.{SecondStage, ram_base, reading_of}
 use Rattle.arch_defs.specs.Permits.{permits_second}
-use Rattle.arch_defs.specs.SecondStage.{second_now}
+use Rattle.arch_defs.specs.SecondStage.{second_by_walk}
 use Rattle.arch_defs.specs.Roots.{is_table, vmid_of}
 use Rattle.arch_defs.specs.Spaces.{Space, front}
 use Rattle.arch_defs.specs.Traps.{is_virtual}
@@ -32,9 +32,9 @@ use Rattle.machine_defs.specs.Fills.{most_fills, ready}
 use Rattle.machine_defs.specs.FreeMachines.{CachedTranslation, FreeMove, FreeStep, IsByCache, IsWalked, MayTranslate, cached_in, free_of, is_active, is_named, uncached}
 use Rattle.machine_defs.specs.HlvAccesses.{hlv_outcome}
 use Rattle.machine_defs.specs.Machine.{Machine, has_enabled_interrupt, start, stepped_to, waited_until}
-use Rattle.machine_defs.specs.Outcomes.{Outcome, Done, Trapped, Stuck, Called, Waits, Fenced, Accesses}
+use Rattle.machine_defs.specs.Outcomes.{Outcome, Done, Trapped, Missed, Called, Waits, Fenced, Accesses}
 use Rattle.machine_defs.specs.Runs.{left_by, run, step}
-use Rattle.machine_defs.specs.Tries.{concluded, fence_under, fence_with, hlv_made, second_of, tried_with, try_under}
+use Rattle.machine_defs.specs.Tries.{apply_outcome, fence_under, fence_with, hlv_committed, second_of, tried_with, try_under}
 use Rattle.machine_laws.specs.Caching.{GuestsAreArchitectural, RunsAreArchitectural}
 use Rattle.machine_laws.specs.EachEntry.{EachEntry}
 use Rattle.machine_laws.specs.FrontSpaces.{FrontIs}
@@ -92,14 +92,14 @@ waits_beside : (m : Machine) (virt : Virtual) (b : Bool) (moment : Option ℕ)
 waits_beside m virt true moment = (refl, refl)
 waits_beside m virt false moment = waited_beside m virt moment
 
-hlv_beside : (m : Machine) (end : Result Completion Trap) → SameBeside (left_by m (hlv_made m end)) (left_by (stripped m) (hlv_made (stripped m) end))
+hlv_beside : (m : Machine) (end : Result Completion Trap) → SameBeside (left_by m (hlv_committed m end)) (left_by (stripped m) (hlv_committed (stripped m) end))
 hlv_beside m (Ok completion) = (refl, refl)
 hlv_beside m (Err trap) = (refl, refl)
 
-concluded_beside : (m : Machine) (o : Outcome) → SameBeside (left_by m (concluded m o)) (left_by (stripped m) (concluded (stripped m) o))
+concluded_beside : (m : Machine) (o : Outcome) → SameBeside (left_by m (apply_outcome m o)) (left_by (stripped m) (apply_outcome (stripped m) o))
 concluded_beside m (Done virt stored event) = (refl, refl)
 concluded_beside m (Trapped trap) = (refl, refl)
-concluded_beside m (Stuck unplaced) = (refl, refl)
+concluded_beside m (Missed missing) = (refl, refl)
 concluded_beside m Called = (refl, refl)
 concluded_beside m (Waits virt) = waits_beside m virt (has_enabled_interrupt m.platform.virt.csrs)
     (wake_moment m.platform.virt.csrs.sie m.platform.clock.timer (next_input m.platform.console.inputs))
@@ -176,7 +176,7 @@ ruled_by_cache m is address kind = by (folds m.platform.virt) refl
     virt = m.platform.virt
 
     now : Option ℕ
-    now = second_now virt.csrs virt.mode ram_base m.ram address kind
+    now = second_by_walk virt.csrs virt.mode ram_base m.ram address kind
 
     at : folds virt ≡ true → (answer : Option ℕ) → second_of m address kind ≡ answer
         → IsByCache virt (flat_map cached_in m.spaces) address kind (option_or answer now) ⊎ (option_or answer now ≡ now)

@@ -14,21 +14,21 @@ use Rattle.arch_defs.specs.declared.registers.GuestRoot.TheVariants as root
 use Rattle.arch_defs.specs.declared.registers.Virtual.{Virtual}
 use Rattle.arch_defs.specs.CachedEntries.{leaf_of}
 use Rattle.arch_defs.specs.Memory.{SecondStage, ram_base}
-use Rattle.arch_defs.specs.SecondStage.{second_now}
+use Rattle.arch_defs.specs.SecondStage.{second_by_walk}
 use Rattle.arch_defs.specs.Spaces.{names, names_page, names_vmid}
 use Rattle.arch_defs.specs.TableEntries.{span}
 use Rattle.arch_defs.specs.Traps.{is_virtual}
 use Rattle.arch_defs.specs.Walk.{leaf_address}
 use Rattle.arch_defs.specs.Roots.{is_table}
-use Rattle.arch_defs.specs.WalkedEntries.{entry_by_table, entry_now, folds}
+use Rattle.arch_defs.specs.WalkedEntries.{entry_by_table, entry_by_walk, folds}
 use Rattle.machine_defs.specs.FreeMachines.{CachedTranslation, FreeMachine, FreeStep, IsByCache, IsWalked, is_named, left_under, uncached}
 use Rattle.machine_defs.specs.Tries.{fence_under}
 use Rattle.machine_laws.specs.Caching.{FencedByWalks, IsStepUnder, UncachedByWalks, names_address}
 use Rattle.machine_laws.proofs.Walks.{fills_serve_the_page, now_page}
 
 -- a walk that gives an entry is one of a table
-walks_table : (csrs : Csrs) (ram : List ℕ) (address : ℕ) (kind : Access) (e : Entry) → entry_now csrs ram address kind ≡ Some e → is_table csrs.hgatp ≡ true
-unfolding entry_now
+walks_table : (csrs : Csrs) (ram : List ℕ) (address : ℕ) (kind : Access) (e : Entry) → entry_by_walk csrs ram address kind ≡ Some e → is_table csrs.hgatp ≡ true
+unfolding entry_by_walk
 walks_table csrs ram address kind e is = by csrs.hgatp is
   where
     by : (hgatp : GuestRoot) → entry_by_table csrs.hs.status.mxr ram address kind hgatp ≡ Some e → is_table hgatp ≡ true
@@ -36,9 +36,9 @@ walks_table csrs ram address kind e is = by csrs.hgatp is
     by other is = refl
 
 -- a place by what is walked now is the walk's
-walked_is_now : (virt : Virtual) (ram : List ℕ) (cache : List CachedTranslation) (address : ℕ) (kind : Access) (answer : Option ℕ)
-    → (by : IsByCache virt cache address kind answer) → IsWalked virt ram by.cached → answer ≡ second_now virt.csrs virt.mode ram_base ram address kind
-walked_is_now virt ram cache address kind answer by walk = let e = by.cached.entry in let mxr = virt.csrs.hs.status.mxr in
+walked_is_by_walk : (virt : Virtual) (ram : List ℕ) (cache : List CachedTranslation) (address : ℕ) (kind : Access) (answer : Option ℕ)
+    → (by : IsByCache virt cache address kind answer) → IsWalked virt ram by.cached → answer ≡ second_by_walk virt.csrs virt.mode ram_base ram address kind
+walked_is_by_walk virt ram cache address kind answer by walk = let e = by.cached.entry in let mxr = virt.csrs.hs.status.mxr in
     let folding : folds virt ≡ true = and_from (is_virtual virt.mode) (is_table virt.csrs.hgatp) by.virtual
     (walks_table virt.csrs ram walk.address walk.kind e walk.walked) in
     let same : address / 4096 ≡ walk.address / 4096 = sym by.page ∙ now_page virt.csrs ram walk.address walk.kind e walk.walked in
@@ -47,7 +47,7 @@ walked_is_now virt ram cache address kind answer by walk = let e = by.cached.ent
 
 -- where all that is cached is what walks of RAM as it is give, each access goes by these
 pub walked_steps : (f g : FreeMachine) (s : FreeStep f g) → All (IsWalked f.platform.virt f.ram) f.cache
-    → s.second ≡ second_now f.platform.virt.csrs f.platform.virt.mode ram_base f.ram
+    → s.second ≡ second_by_walk f.platform.virt.csrs f.platform.virt.mode ram_base f.ram
 walked_steps f g s all = fun_ext (λ address. fun_ext (λ kind. at address kind (s.translates address kind)))
   where
     virt : Virtual
@@ -58,23 +58,23 @@ walked_steps f g s all = fun_ext (λ address. fun_ext (λ kind. at address kind 
     walked c (inr is) = is
 
     at : (address : ℕ) (kind : Access)
-        → IsByCache virt s.cache address kind (s.second address kind) ⊎ (s.second address kind ≡ second_now virt.csrs virt.mode ram_base f.ram address kind)
-        → s.second address kind ≡ second_now virt.csrs virt.mode ram_base f.ram address kind
-    at address kind (inl by) = walked_is_now virt f.ram s.cache address kind (s.second address kind) by
+        → IsByCache virt s.cache address kind (s.second address kind) ⊎ (s.second address kind ≡ second_by_walk virt.csrs virt.mode ram_base f.ram address kind)
+        → s.second address kind ≡ second_by_walk virt.csrs virt.mode ram_base f.ram address kind
+    at address kind (inl by) = walked_is_by_walk virt f.ram s.cache address kind (s.second address kind) by
         (walked by.cached (All-contains (λ c. Contains f.cache c ⊎ IsWalked virt f.ram c) s.cache by.cached s.allowed by.held))
     at address kind (inr now) = now
 
 -- and so where V = 0, whatever is cached
 pub flat_steps : (f g : FreeMachine) (s : FreeStep f g) → is_virtual f.platform.virt.mode ≡ false
-    → s.second ≡ second_now f.platform.virt.csrs f.platform.virt.mode ram_base f.ram
+    → s.second ≡ second_by_walk f.platform.virt.csrs f.platform.virt.mode ram_base f.ram
 flat_steps f g s flat = fun_ext (λ address. fun_ext (λ kind. at address kind (s.translates address kind)))
   where
     virt : Virtual
     virt = f.platform.virt
 
     at : (address : ℕ) (kind : Access)
-        → IsByCache virt s.cache address kind (s.second address kind) ⊎ (s.second address kind ≡ second_now virt.csrs virt.mode ram_base f.ram address kind)
-        → s.second address kind ≡ second_now virt.csrs virt.mode ram_base f.ram address kind
+        → IsByCache virt s.cache address kind (s.second address kind) ⊎ (s.second address kind ≡ second_by_walk virt.csrs virt.mode ram_base f.ram address kind)
+        → s.second address kind ≡ second_by_walk virt.csrs virt.mode ram_base f.ram address kind
     at address kind (inl by) = absurd (both_ways (is_virtual virt.mode) flat by.virtual)
     at address kind (inr now) = now
 
@@ -86,7 +86,7 @@ steps_by f g s now same = record {
 }
 
 pub uncached_by_walks : UncachedByWalks
-uncached_by_walks f g s none = steps_by f g s (second_now f.platform.virt.csrs f.platform.virt.mode ram_base f.ram)
+uncached_by_walks f g s none = steps_by f g s (second_by_walk f.platform.virt.csrs f.platform.virt.mode ram_base f.ram)
     (walked_steps f g s (subst (All (IsWalked f.platform.virt f.ram)) (sym none) (All-nil (IsWalked f.platform.virt f.ram))))
 
 -- a fence names each cached translation of its VMID for an address of its page
@@ -114,8 +114,8 @@ fenced_by_walks f g h before after fence address kind fences of_vmid of_page = a
         (ap (names_vmid fence.vmid) by.vmid ∙ of_vmid) of_page in
         absurd (both_ways (names fence by.cached.vmid by.cached.entry) (sym (ap (λ o. is_named o by.cached.vmid by.cached.entry) fences) ∙ unnamed) named)
 
-    at : IsByCache virt after.cache address kind (after.second address kind) ⊎ (after.second address kind ≡ second_now virt.csrs virt.mode ram_base g.ram address kind)
-        → after.second address kind ≡ second_now virt.csrs virt.mode ram_base g.ram address kind
-    at (inl by) = walked_is_now virt g.ram after.cache address kind (after.second address kind) by
+    at : IsByCache virt after.cache address kind (after.second address kind) ⊎ (after.second address kind ≡ second_by_walk virt.csrs virt.mode ram_base g.ram address kind)
+        → after.second address kind ≡ second_by_walk virt.csrs virt.mode ram_base g.ram address kind
+    at (inl by) = walked_is_by_walk virt g.ram after.cache address kind (after.second address kind) by
         (walked by (All-contains (λ c. Contains g.cache c ⊎ IsWalked virt g.ram c) after.cache by.cached after.allowed by.held))
     at (inr now) = now

@@ -10,8 +10,8 @@ use Rattle.arch_defs.specs.Memory.{SecondStage, ram_base, reading_of}
 use Rattle.arch_defs.specs.Permits.{permits_second}
 use Rattle.arch_defs.specs.Walk.{leaf_address}
 use Rattle.arch_defs.specs.CachedEntries.{entry_at, leaf_of, place_by, second_by}
-use Rattle.arch_defs.specs.WalkedEntries.{entry_now}
-use Rattle.machine_defs.specs.Fills.{lacking_under}
+use Rattle.arch_defs.specs.WalkedEntries.{entry_by_walk}
+use Rattle.machine_defs.specs.Fills.{missing_entry_under}
 use Rattle.machine_laws.proofs.Asking.{In, IsWithin, asked, few_asked, stops}
 use Rattle.machine_laws.proofs.Cached.{all_found, placed, stopped}
 use Rattle.machine_laws.proofs.Counting.{Counts, enough, filling, found_page}
@@ -21,27 +21,27 @@ use Rattle.machine_laws.proofs.Walks.{now_for, now_one, now_page, now_permits, n
 pub record IsFresh (csrs : Csrs) (ram : List ℕ) (e : Entry) : Type 0 where
   pub address : ℕ
   pub kind : Access
-  pub found : entry_now csrs ram address kind ≡ Some e
+  pub found : entry_by_walk csrs ram address kind ≡ Some e
 
 -- it is that of each access to its page that it permits
 fresh_for : (csrs : Csrs) (ram : List ℕ) (e : Entry) → IsFresh csrs ram e → (address : ℕ) (kind : Access) → e.page ≡ address / 4096
-    → permits_second csrs.hs.status.mxr kind (leaf_of e) ≡ true → entry_now csrs ram address kind ≡ Some e
+    → permits_second csrs.hs.status.mxr kind (leaf_of e) ≡ true → entry_by_walk csrs ram address kind ≡ Some e
 fresh_for csrs ram e fresh address kind page permits =
     let same : address / 4096 ≡ fresh.address / 4096 = sym page ∙ now_page csrs ram fresh.address fresh.kind e fresh.found in
     now_same csrs ram address fresh.address kind same ∙ now_for csrs ram fresh.address fresh.kind kind e fresh.found permits
 
 -- the second stage by the entries of now
-pub second_now : Csrs → List ℕ → SecondStage
-second_now csrs ram address kind = place_by csrs.hs.status.mxr address kind (entry_now csrs ram address kind)
+pub second_by_walk : Csrs → List ℕ → SecondStage
+second_by_walk csrs ram address kind = place_by csrs.hs.status.mxr address kind (entry_by_walk csrs ram address kind)
 
 -- a second stage by fresh entries alone lies within it
-fresh_within : (csrs : Csrs) (ram : List ℕ) (entries : List Entry) → All (IsFresh csrs ram) entries → IsWithin (second_by entries csrs.hs.status.mxr) (second_now csrs ram)
-unfolding second_by second_now
+fresh_within : (csrs : Csrs) (ram : List ℕ) (entries : List Entry) → All (IsFresh csrs ram) entries → IsWithin (second_by entries csrs.hs.status.mxr) (second_by_walk csrs ram)
+unfolding second_by second_by_walk
 fresh_within csrs ram entries fresh = record {
   gives = λ address place kind is.
       let held = placed csrs.hs.status.mxr address place kind (entry_at (address / 4096) entries) is in
       let one = all_found (IsFresh csrs ram) (λ x. x.page == address / 4096) entries held.0 fresh held.1 in
-      let now : entry_now csrs ram address kind ≡ Some held.0 = fresh_for csrs ram held.0 one address kind (found_page (address / 4096) entries held.0 held.1) held.2 in
+      let now : entry_by_walk csrs ram address kind ≡ Some held.0 = fresh_for csrs ram held.0 one address kind (found_page (address / 4096) entries held.0 held.1) held.2 in
       ap (place_by csrs.hs.status.mxr address kind) (now ∙ sym held.1) ∙ is;
 }
 
@@ -65,21 +65,21 @@ within_itself : (second : SecondStage) → IsWithin second second
 within_itself second = record { gives = λ address place kind is. is }
 
 -- an access to a page that has a fresh entry has a place, if an entry of now permits it
-has_place : (csrs : Csrs) (ram : List ℕ) (entries : List Entry) (address : ℕ) (kind : Access) (e held : Entry) → entry_now csrs ram address kind ≡ Some e
+has_place : (csrs : Csrs) (ram : List ℕ) (entries : List Entry) (address : ℕ) (kind : Access) (e held : Entry) → entry_by_walk csrs ram address kind ≡ Some e
     → entry_at (address / 4096) entries ≡ Some held → IsFresh csrs ram held → second_by entries csrs.hs.status.mxr address kind ≡ None → ⊥
 unfolding second_by
 has_place csrs ram entries address kind e held now there fresh none =
     let page : held.page ≡ address / 4096 = found_page (address / 4096) entries held there in
     let same : address / 4096 ≡ fresh.address / 4096 = sym page ∙ now_page csrs ram fresh.address fresh.kind held fresh.found in
-    let here : entry_now csrs ram address fresh.kind ≡ Some held = now_same csrs ram address fresh.address fresh.kind same ∙ fresh.found in
+    let here : entry_by_walk csrs ram address fresh.kind ≡ Some held = now_same csrs ram address fresh.address fresh.kind same ∙ fresh.found in
     let one : e ≡ held = now_one csrs ram address kind fresh.kind e held now here in
     let permits : permits_second csrs.hs.status.mxr kind (leaf_of held) ≡ true = rw (← one) (now_permits csrs ram address kind e now) in
     let never : Some (leaf_address (leaf_of held) address) ≡ None = sym (ap (place_by csrs.hs.status.mxr address kind) there ∙ ap (λ b. cond b (Some (leaf_address (leaf_of held) address)) None) permits) ∙ none in
     absurd cc
 
 pub counts : (virt : Virtual) (ram : List ℕ)
-    → Counts (IsFresh virt.csrs ram) (lacking_under virt ram) (pages_of (asked (second_now virt.csrs ram) (reading_of ram_base ram) virt))
-unfolding lacking_under
+    → Counts (IsFresh virt.csrs ram) (missing_entry_under virt ram) (pages_of (asked (second_by_walk virt.csrs ram) (reading_of ram_base ram) virt))
+unfolding missing_entry_under
 counts virt ram = record {
   missing = λ entries e held is there fresh.
       let by = second_by entries virt.csrs.hs.status.mxr in
@@ -92,14 +92,14 @@ counts virt ram = record {
   few = λ entries e fresh is.
       let at = stopped virt.csrs ram _ e is in
       let page : e.page ≡ at.0.address / 4096 = now_page virt.csrs ram at.0.address at.0.kind e at.2 in
-      let among = (stops (second_by entries virt.csrs.hs.status.mxr) (second_now virt.csrs ram) (fresh_within virt.csrs ram entries fresh) (reading_of ram_base ram) virt at.0 at.1).inside in
+      let among = (stops (second_by entries virt.csrs.hs.status.mxr) (second_by_walk virt.csrs ram) (fresh_within virt.csrs ram entries fresh) (reading_of ram_base ram) virt at.0 at.1).inside in
       rw page (in_pages at.0.address _ among);
 }
 
 -- so many fills suffice for the list of a state
 pub list_suffices : (virt : Virtual) (ram : List ℕ) (most : ℕ) (entries : List Entry) → 8 ≤ most
-    → lacking_under virt ram (filling (lacking_under virt ram) most (most + 8) entries) ≡ None
+    → missing_entry_under virt ram (filling (missing_entry_under virt ram) most (most + 8) entries) ≡ None
 list_suffices virt ram most entries room =
-    let addresses = asked (second_now virt.csrs ram) (reading_of ram_base ram) virt in
-    let few : length (pages_of addresses) ≤ 8 = omega (arith, pages_few addresses, few_asked (second_now virt.csrs ram) (reading_of ram_base ram) virt) in
+    let addresses = asked (second_by_walk virt.csrs ram) (reading_of ram_base ram) virt in
+    let few : length (pages_of addresses) ≤ 8 = omega (arith, pages_few addresses, few_asked (second_by_walk virt.csrs ram) (reading_of ram_base ram) virt) in
     enough (counts virt ram) most 8 few room (omega arith) entries

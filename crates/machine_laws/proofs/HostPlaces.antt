@@ -12,7 +12,7 @@ use Rattle.arch_defs.proofs.FrameSets.{only_none, only_pasted}
 use Rattle.arch_defs.proofs.RamBlocks.{host_places_apart, place_named, ram_load, ram_pasted}
 use Rattle.arch_defs.proofs.SlicesOf.{slot}
 use Rattle.machine_laws.specs.HostPlaces.{OnlyRamChanges, PlacesAreRenamed, RamIsRenamed, RamIsStored, memory_place, host_second, in_ram, ram_size}
-use Rattle.machine_laws.specs.Renaming.{GivesHeld}
+use Rattle.machine_laws.specs.Renaming.{GivesWithin}
 
 -- a place of RAM is at or above its base and below its end
 from_test : (base size place : ℕ) → (nat_le base place && nat_lt place (base + size)) ≡ true → (base ≤ place) × (place < base + size)
@@ -42,7 +42,7 @@ places blocks address access = elim (in_ram blocks address)
     as (λ b. cond b (Some (memory_place blocks address)) None ≡ option_map (memory_place blocks) (cond b (Some address) None)) [ true ↦ refl | false ↦ refl ]
 
 -- which is of RAM
-inside : (blocks : List ℕ) → GivesHeld (in_ram blocks) (bare ram_base (ram_size blocks))
+inside : (blocks : List ℕ) → GivesWithin (in_ram blocks) (bare ram_base (ram_size blocks))
 inside blocks address place access is = by (in_ram blocks address) refl is
   where
     by : (b : Bool) → in_ram blocks address ≡ b → cond b (Some address) None ≡ Some place → (in_ram blocks place ≡ true) × (place % 4096 ≡ address % 4096)

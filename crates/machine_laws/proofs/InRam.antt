@@ -23,13 +23,13 @@ use Rattle.arch_defs.specs.Roots.{guest_shape}
 use Rattle.arch_defs.specs.Spaces.{Space, front}
 use Rattle.arch_defs.specs.Traps.{entered_at, target}
 use Rattle.arch_defs.specs.Walk.{leaf_address}
-use Rattle.arch_defs.specs.WalkedEntries.{entry_by_table, entry_now, folds}
+use Rattle.arch_defs.specs.WalkedEntries.{entry_by_table, entry_by_walk, folds}
 use Rattle.arch_defs.proofs.Pastes.{length_pasted}
-use Rattle.machine_defs.specs.Fills.{lacking}
+use Rattle.machine_defs.specs.Fills.{missing_entry}
 use Rattle.machine_defs.specs.Machine.{Machine, Platform, Tried, start}
 use Rattle.machine_laws.specs.EachEntry.{EachEntry, FrontHas}
-use Rattle.machine_laws.specs.Renaming.{CompletionHeld, GivesHeld, Places, ReservesHeld, StoresHeld}
-use Rattle.machine_laws.specs.Reservations.{CachesInRam, FillStaysInRam, GivesRam, IsInRam, KeepsInRam, ReservesInRam, StartIsInRam, StaysInRam, TryStaysInRam, places_from, ram_places}
+use Rattle.machine_laws.specs.Renaming.{CompletionWithin, GivesWithin, Places, ReservesWithin, StoresWithin}
+use Rattle.machine_laws.specs.Reservations.{CachesInRam, FillKeepsInRam, GivesRamAlone, IsInRam, KeepsInRam, ReservesInRam, RunKeepsInRam, StartIsInRam, TryKeepsInRam, places_from, ram_places}
 use Rattle.machine_defs.specs.Runs.{left_after, left_by, run}
 use Rattle.machine_defs.specs.Tries.{fence_under, second_of, try}
 use Rattle.machine_laws.proofs.Cached.{all_found, either, given, lacked, placed}
@@ -45,7 +45,7 @@ in_frame : (frame address size : ℕ) → 2147483648 ≤ 4096 * frame → 4096 *
     × ((4096 * frame + address % 4096) % 4096 ≡ address % 4096)
 in_frame frame address size low high = (grind arith, omega arith)
 
-by_entries : (size : ℕ) (mxr : Bool) (entries : List Entry) → All (IsInRam size) entries → GivesHeld (places_from ram_base size) (second_by entries mxr)
+by_entries : (size : ℕ) (mxr : Bool) (entries : List Entry) → All (IsInRam size) entries → GivesWithin (places_from ram_base size) (second_by entries mxr)
 unfolding second_by
 by_entries size mxr entries all address place access is =
     let held = placed mxr address place access (entry_at (address / 4096) entries) is in
@@ -59,14 +59,14 @@ front_in : (size : ℕ) (spaces : List Space) → EachEntry (λ key. IsInRam siz
 front_in size [] all = All-nil (IsInRam size)
 front_in size (s ∷ ss) all = All-head (λ (s : Space). All (IsInRam size) s.entries) s ss all
 
-pub gives_ram : GivesRam
-gives_ram = λ m caches. either (GivesHeld (ram_places m)) (folds m.platform.virt)
+pub gives_ram : GivesRamAlone
+gives_ram = λ m caches. either (GivesWithin (ram_places m)) (folds m.platform.virt)
     (second_by (front m.spaces) m.platform.virt.csrs.hs.status.mxr) (bare ram_base (length m.ram))
     (by_entries (length m.ram) m.platform.virt.csrs.hs.status.mxr (front m.spaces) (front_in (length m.ram) m.spaces caches)) (bare_held ram_base (length m.ram))
 
 -- what is filled is in RAM
-now_in : (csrs : Csrs) (ram : List ℕ) (address : ℕ) (kind : Access) (e : Entry) → entry_now csrs ram address kind ≡ Some e → IsInRam (length ram) e
-unfolding entry_now
+now_in : (csrs : Csrs) (ram : List ℕ) (address : ℕ) (kind : Access) (e : Entry) → entry_by_walk csrs ram address kind ≡ Some e → IsInRam (length ram) e
+unfolding entry_by_walk
 now_in csrs ram address kind e found = by csrs.hgatp found
   where
     has : (place size : ℕ) → (nat_le 2147483648 (place / 4096 * 4096) && nat_le (place / 4096 * 4096 + 4096) (2147483648 + size)) ≡ true
@@ -79,12 +79,12 @@ now_in csrs ram address kind e found = by csrs.hgatp found
     by (root.Table mode vmid ppn) is = let g = given csrs.hs.status.mxr ram (guest_shape mode) ppn address kind e is in
         rw g.1.is (has (leaf_address g.0 address) (length ram) g.1.inside)
 
-lacking_in : (m : Machine) (e : Entry) → lacking m ≡ Some e → IsInRam (length m.ram) e
-lacking_in m e is = let at = (lacked m e is).1 in now_in m.platform.virt.csrs m.ram at.0.address at.0.kind e at.1
+missing_entry_in : (m : Machine) (e : Entry) → missing_entry m ≡ Some e → IsInRam (length m.ram) e
+missing_entry_in m e is = let at = (lacked m e is).1 in now_in m.platform.virt.csrs m.ram at.0.address at.0.kind e at.1
 
 -- the entries are in RAM of this size, what is reserved is a place of it, and RAM has this size
 abbrev InRam : ℕ → Machine → Type 0
-InRam size m = ReservesHeld (places_from ram_base size) m.platform.virt.reservation × (length m.ram ≡ size)
+InRam size m = ReservesWithin (places_from ram_base size) m.platform.virt.reservation × (length m.ram ≡ size)
 
 abbrev CachesIn : ℕ → Machine → Type 0
 CachesIn size m = EachEntry (λ key. IsInRam size) m.spaces
@@ -92,7 +92,7 @@ CachesIn size m = EachEntry (λ key. IsInRam size) m.spaces
 keeps_in_ram : (before m : Machine) → CachesIn (length before.ram) m → InRam (length before.ram) m → KeepsInRam before m
 keeps_in_ram before m caches (reserves, same) = (
   subst (λ size. CachesIn size m) (sym same) caches,
-  subst (λ size. ReservesHeld (places_from ram_base size) m.platform.virt.reservation) (sym same) reserves,
+  subst (λ size. ReservesWithin (places_from ram_base size) m.platform.virt.reservation) (sym same) reserves,
   same,
 )
 
@@ -101,10 +101,10 @@ each_space : (Q : Type 0) → Q → (spaces : List Space) → FrontHas (λ key. 
 each_space Q holds [] = tt
 each_space Q holds (s ∷ ss) = holds
 
-fill_in_ram : (size : ℕ) (m : Machine) (e : Entry) → InRam size m → lacking m ≡ Some e → FrontHas (λ key. IsInRam size e) m.spaces
-fill_in_ram size m e (reserves, same) is = each_space (IsInRam size e) (subst (λ size. IsInRam size e) same (lacking_in m e is)) m.spaces
+fill_in_ram : (size : ℕ) (m : Machine) (e : Entry) → InRam size m → missing_entry m ≡ Some e → FrontHas (λ key. IsInRam size e) m.spaces
+fill_in_ram size m e (reserves, same) is = each_space (IsInRam size e) (subst (λ size. IsInRam size e) same (missing_entry_in m e is)) m.spaces
 
-pub fill_stays_in_ram : FillStaysInRam
+pub fill_stays_in_ram : FillKeepsInRam
 fill_stays_in_ram m e caches kept is = (front_each (λ key. IsInRam (length m.ram)) m.entry_room m.spaces e caches (fill_in_ram (length m.ram) m e (kept, refl) is), kept, refl)
 
 -- a store inside one page of RAM ends in RAM
@@ -113,29 +113,29 @@ ends_inside : (place n size : ℕ) → (nat_le 2147483648 place && nat_lt place 
 ends_inside place n size in_it whole one = let above : 2147483648 ≤ place = grind arith in let below : place < 2147483648 + size = grind arith in omega arith
 
 -- and keeps its size
-size_kept : (m : Machine) (stored : Option Stored) → length m.ram % 4096 ≡ 0 → StoresHeld (ram_places m) stored → length (with_stored ram_base stored m.ram) ≡ length m.ram
+size_kept : (m : Machine) (stored : Option Stored) → length m.ram % 4096 ≡ 0 → StoresWithin (ram_places m) stored → length (with_stored ram_base stored m.ram) ≡ length m.ram
 size_kept m (Some s) whole (in_it, one) = length_pasted m.ram (s.place - ram_base) (little_bytes s.width s.value)
     (rw (length-bytes_low_first 0 s.width s.value) (ends_inside s.place s.width (length m.ram) in_it whole one))
 size_kept m None whole in_it = refl
 
 -- a trap leaves the reservation as it is
-entered_keeps : (held : Places) (s : Virtual) → ReservesHeld held s.reservation → (trap : Trap) (level : Level) → ReservesHeld held (entered_at s trap level).reservation
+entered_keeps : (held : Places) (s : Virtual) → ReservesWithin held s.reservation → (trap : Trap) (level : Level) → ReservesWithin held (entered_at s trap level).reservation
 entered_keeps held s kept trap HS = kept
 entered_keeps held s kept trap VS = kept
 
 -- what a try leaves, by how it ends: an instruction reserves and stores in RAM
 abbrev HeldEnd : Machine → Tried → Option Fence → Type 0
-HeldEnd m t fence = TryEnd (CompletionHeld (ram_places m)) (λ state. ReservesHeld (ram_places m) state.reservation) m t fence
+HeldEnd m t fence = TryEnd (CompletionWithin (ram_places m)) (λ state. ReservesWithin (ram_places m) state.reservation) m t fence
 
 held_end : (m : Machine) → CachesInRam m → ReservesInRam m → HeldEnd m (try m) (fence_under (second_of m) m)
-held_end m caches kept = try_end (CompletionHeld (ram_places m)) (λ state. ReservesHeld (ram_places m) state.reservation) (λ wanted. Unit {0})
+held_end m caches kept = try_end (CompletionWithin (ram_places m)) (λ state. ReservesWithin (ram_places m) state.reservation) (λ wanted. Unit {0})
     m (second_of m) (λ wanted any. hlv_held ram_base m.ram m.platform.virt kept wanted)
     (stays_held (ram_places m) (second_of m) (reading_of ram_base m.ram) m.platform.virt (gives_ram m caches) kept)
 
 ended_in : (m : Machine) → length m.ram % 4096 ≡ 0 → ReservesInRam m → {t : Tried} {fence : Option Fence} → HeldEnd m t fence → InRam (length m.ram) (left_by m t)
 ended_in m whole kept (Takes trap) = let s = m.platform.virt in (entered_keeps (ram_places m) s kept trap (target s.csrs s.mode trap), refl)
 ended_in m whole kept (Makes completion event (stores, reserves)) = (reserves, size_kept m completion.stored whole stores)
-ended_in m whole kept Calls = (either (λ (p : Platform). ReservesHeld (ram_places m) p.virt.reservation) (read m.platform.virt.regs a7 == 8) _ _ kept kept, refl)
+ended_in m whole kept Calls = (either (λ (p : Platform). ReservesWithin (ram_places m) p.virt.reservation) (read m.platform.virt.regs a7 == 8) _ _ kept kept, refl)
 ended_in m whole kept (Passes virt moment reserves) = (reserves, refl)
 ended_in m whole kept Halts = (kept, refl)
 ended_in m whole kept (Fences virt fence reserves) = (reserves, refl)
@@ -143,7 +143,7 @@ ended_in m whole kept (Fences virt fence reserves) = (reserves, refl)
 try_in_ram : (m : Machine) → length m.ram % 4096 ≡ 0 → CachesInRam m → ReservesInRam m → InRam (length m.ram) (left_after m)
 try_in_ram m whole caches kept = ended_in m whole kept (held_end m caches kept)
 
-pub try_stays_in_ram : TryStaysInRam
+pub try_stays_in_ram : TryKeepsInRam
 try_stays_in_ram m whole caches kept = keeps_in_ram m (left_after m) (tried_each (λ key. IsInRam (length m.ram)) m (second_of m) caches) (try_in_ram m whole caches kept)
 
 -- so does a run, as each fill is in RAM
@@ -152,9 +152,9 @@ in_ram_kept size whole = each_kept (λ key. IsInRam size) (InRam size) (λ m e a
   where
     tried : (m : Machine) → InRam size m → CachesIn size m → InRam size (left_after m)
     tried m (reserves, same) caches = subst (λ size. InRam size (left_after m)) same (try_in_ram m (rw same whole)
-        (subst (λ size. CachesIn size m) (sym same) caches) (subst (λ size. ReservesHeld (places_from ram_base size) m.platform.virt.reservation) (sym same) reserves))
+        (subst (λ size. CachesIn size m) (sym same) caches) (subst (λ size. ReservesWithin (places_from ram_base size) m.platform.virt.reservation) (sym same) reserves))
 
-pub stays_in_ram : StaysInRam
+pub stays_in_ram : RunKeepsInRam
 stays_in_ram m n whole caches kept = let size = length m.ram in
     let after = kept_by_runs (λ (t : Machine). CachesIn size t × InRam size t) (in_ram_kept size whole) m n (caches, (kept, refl)) in
     keeps_in_ram m (run m n) after.0 after.1

@@ -3,21 +3,21 @@ use Rattle.std.proofs.Common.{◌≡◌, ℕ, zero, suc, Option, Some, None, ref
 use Rattle.arch_defs.specs.declared.cached.Entry.{Entry}
 use Rattle.machine_defs.specs.declared.guests.Status.{Status}
 use Rattle.machine_defs.specs.declared.guests.Status.TheVariants.{Running, Waiting, Stopped}
-use Rattle.machine_defs.specs.Fills.{after_fill, after_fills, fill, lacking, most_fills}
+use Rattle.machine_defs.specs.Fills.{after_fill, after_fills, fill, missing_entry, most_fills}
 use Rattle.machine_defs.specs.Machine.{Machine}
 use Rattle.machine_defs.specs.Runs.{left_after, run, step, stepped}
 
 -- a fill of what is lacking keeps it, and so does a try
 pub record IsKept (P : Machine → Type 0) : Type 0 where
-  pub filled : (m : Machine) (e : Entry) → P m → lacking m ≡ Some e → P (fill m e)
+  pub filled : (m : Machine) (e : Entry) → P m → missing_entry m ≡ Some e → P (fill m e)
   pub tried : (m : Machine) → P m → P (left_after m)
 
 pub kept_by_fills : (P : Machine → Type 0) → IsKept P → (n : ℕ) (m : Machine) → P m → P (after_fills n m)
 unfolding after_fills
 kept_by_fills P kept zero m holds = holds
-kept_by_fills P kept (suc n) m holds = by (lacking m) refl (λ next. kept_by_fills P kept n next)
+kept_by_fills P kept (suc n) m holds = by (missing_entry m) refl (λ next. kept_by_fills P kept n next)
   where
-    by : (there : Option Entry) → lacking m ≡ there → ((next : Machine) → P next → P (after_fills n next)) → P (after_fill (after_fills n) m there)
+    by : (there : Option Entry) → missing_entry m ≡ there → ((next : Machine) → P next → P (after_fills n next)) → P (after_fill (after_fills n) m there)
     by None is deeper = holds
     by (Some e) is deeper = deeper (fill m e) (kept.filled m e holds is)
 

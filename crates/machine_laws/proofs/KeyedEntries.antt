@@ -12,8 +12,8 @@ use Rattle.arch_defs.specs.declared.registers.Virtual.{Virtual}
 use Rattle.arch_defs.specs.Memory.{SecondStage}
 use Rattle.arch_defs.specs.Roots.{vmid_of}
 use Rattle.arch_defs.specs.Spaces.{Space, fenced, fenced_space, names}
-use Rattle.arch_defs.specs.WalkedEntries.{entry_now, folds}
-use Rattle.machine_defs.specs.Fills.{after_fill, after_fills, fill, lacking}
+use Rattle.arch_defs.specs.WalkedEntries.{entry_by_walk, folds}
+use Rattle.machine_defs.specs.Fills.{after_fill, after_fills, fill, missing_entry}
 use Rattle.machine_defs.specs.FreeMachines.{is_named}
 use Rattle.machine_defs.specs.Machine.{Machine, Tried}
 use Rattle.machine_defs.specs.Runs.{left_by}
@@ -34,14 +34,14 @@ each_both P Q R both spaces all_p all_q i s inside k e within =
 
 -- it holds, for hgatp, of what a walk gives as registers and RAM are
 abbrev pub HoldsOfWalks : (GuestRoot → Entry → Type 0) → Virtual → List ℕ → Type 0
-HoldsOfWalks P virt ram = folds virt ≡ true → (address : ℕ) (kind : Access) (e : Entry) → entry_now virt.csrs ram address kind ≡ Some e → P virt.csrs.hgatp e
+HoldsOfWalks P virt ram = folds virt ≡ true → (address : ℕ) (kind : Access) (e : Entry) → entry_by_walk virt.csrs ram address kind ≡ Some e → P virt.csrs.hgatp e
 
 pub fills_each : (P : GuestRoot → Entry → Type 0) (n : ℕ) (m : Machine) → IsOrderly m → HoldsOfWalks P m.platform.virt m.ram → EachEntry P m.spaces → EachEntry P (after_fills n m).spaces
 unfolding after_fills
 fills_each P zero m is now all = all
-fills_each P (suc n) m is now all = by (lacking m) refl (λ t. fills_each P n t)
+fills_each P (suc n) m is now all = by (missing_entry m) refl (λ t. fills_each P n t)
   where
-    by : (there : Option Entry) → lacking m ≡ there
+    by : (there : Option Entry) → missing_entry m ≡ there
         → ((t : Machine) → IsOrderly t → HoldsOfWalks P t.platform.virt t.ram → EachEntry P t.spaces → EachEntry P (after_fills n t).spaces)
         → EachEntry P (after_fill (after_fills n) m there).spaces
     by None none deeper = all

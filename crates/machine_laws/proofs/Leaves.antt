@@ -9,30 +9,30 @@ use Rattle.arch_defs.specs.declared.registers.GuestMode.{GuestMode}
 use Rattle.arch_defs.specs.declared.registers.GuestMode.TheVariants.{Sv39x4}
 use Rattle.arch_defs.specs.declared.registers.GuestRoot.{GuestRoot}
 use Rattle.arch_defs.specs.declared.registers.GuestRoot.TheVariants as root
-use Rattle.arch_defs.specs.declared.walks.LeafEntry.{LeafEntry}
+use Rattle.arch_defs.specs.declared.walks.LeafPte.{LeafPte}
 use Rattle.arch_defs.specs.declared.walks.Next.{Next}
 use Rattle.arch_defs.specs.declared.walks.Next.TheVariants.{Ends, Below}
 use Rattle.arch_defs.specs.declared.walks.Shape.{Shape}
-use Rattle.arch_defs.specs.declared.walks.TableEntry.{TableEntry}
+use Rattle.arch_defs.specs.declared.walks.Pte.{Pte}
 use Rattle.arch_defs.specs.declared.walks.WalkEnd.TheVariants.{Leaf, PageFault}
 use Rattle.arch_defs.specs.Memory.{block_size, ram_base}
 use Rattle.arch_defs.specs.Roots.{guest_shape}
 use Rattle.arch_defs.specs.SecondStage.{guest_root_frame, memory_words}
-use Rattle.arch_defs.specs.TableEntries.{entry_next, is_aligned, is_leaf, is_marked, is_valid, leaf_entry, table_entry}
+use Rattle.arch_defs.specs.TableEntries.{entry_next, is_aligned, is_leaf, is_marked, is_valid, leaf_pte, pte_of}
 use Rattle.arch_defs.specs.Walk.{EntryReading, end_of, is_canonical, later, leaf_address, levels, most_level, most_levels, or_else, path, path_from, place_of, read_next, walk}
 use Rattle.arch_defs.specs.CachedEntries.{CanFill, guest_page_bits}
-use Rattle.arch_defs.specs.WalkedEntries.{entry_by_table, entry_now, entry_under}
+use Rattle.arch_defs.specs.WalkedEntries.{entry_by_table, entry_by_walk, entry_under}
 use Rattle.machine_laws.specs.Laws.{FillsCanBeMade}
 use Rattle.arch_defs.proofs.Shapes.{few_levels}
 use Rattle.machine_laws.proofs.Cached.{IsGiven, given}
 
 -- what holds of each leaf that a walk ends at
-record IsSound (leaf : LeafEntry) : Type 0 where
+record IsSound (leaf : LeafPte) : Type 0 where
   pub level : leaf.level ≤ most_level
   pub right : (leaf.r || leaf.x) ≡ true
   pub write : leaf.w ≡ true → leaf.r ≡ true
 
-ends_at : (valid is_one fit ends : Bool) (one leaf : LeafEntry) (table : ℕ)
+ends_at : (valid is_one fit ends : Bool) (one leaf : LeafPte) (table : ℕ)
     → cond valid (cond is_one (cond fit (Ends (Leaf one)) (Ends PageFault)) (cond ends (Ends PageFault) (Below table))) (Ends PageFault) ≡ Ends (Leaf leaf)
     → (valid ≡ true) × (is_one ≡ true) × (one ≡ leaf)
 ends_at true true true ends one leaf table is = let same : one ≡ leaf = cc in (refl, refl, same)
@@ -47,13 +47,13 @@ writes true true false z valid is = absurd cc
 writes true false r z valid is = absurd cc
 writes false w r z valid is = absurd cc
 
-sound_entry : (level : ℕ) (kind : Access) (e : TableEntry) (leaf : LeafEntry) → level ≤ most_level → entry_next level kind e ≡ Ends (Leaf leaf) → IsSound leaf
+sound_entry : (level : ℕ) (kind : Access) (e : Pte) (leaf : LeafPte) → level ≤ most_level → entry_next level kind e ≡ Ends (Leaf leaf) → IsSound leaf
 unfolding entry_next
 sound_entry level kind e leaf low is =
-    let at = ends_at (is_valid e) (is_leaf e) (is_aligned level e.frame && is_marked kind e) (e.a || e.d || e.u || level == 0) (leaf_entry level e) leaf e.frame is in
+    let at = ends_at (is_valid e) (is_leaf e) (is_aligned level e.frame && is_marked kind e) (e.a || e.d || e.u || level == 0) (leaf_pte level e) leaf e.frame is in
     rw (← at.2) (record { level = low; right = at.1; write = λ written. writes e.v e.w e.r (e.reserved == 0) at.0 (and_parts e.w e.d written).0 })
 
-sound_path : (reading : EntryReading) (shape : Shape) (va : ℕ) (kind : Access) (leaf : LeafEntry) (level table : ℕ) → level ≤ most_levels
+sound_path : (reading : EntryReading) (shape : Shape) (va : ℕ) (kind : Access) (leaf : LeafPte) (level table : ℕ) → level ≤ most_levels
     → end_of kind (path_from reading shape va kind level table) ≡ Leaf leaf → IsSound leaf
 unfolding path_from end_of
 sound_path reading shape va kind leaf zero table low is = absurd cc
@@ -67,14 +67,14 @@ sound_path reading shape va kind leaf (suc level) table low is =
 
     by : (at : ℕ) (read : Result ℕ Trap) → ((t : ℕ) → end_of kind (path_from reading shape va kind level t) ≡ Leaf leaf → IsSound leaf)
         → or_else (end_of kind (later (path_from reading shape va kind level) (read_next level at kind read))) (read_next level at kind read) ≡ Leaf leaf → IsSound leaf
-    by at (Ok word) deeper is = next (entry_next level kind (table_entry word)) (sound_entry level kind (table_entry word) leaf (omega arith)) deeper is
+    by at (Ok word) deeper is = next (entry_next level kind (pte_of word)) (sound_entry level kind (pte_of word) leaf (omega arith)) deeper is
     by at (Err trap) deeper is = absurd cc
 
 -- the pages that a mode's tables translate
 small_page : (mode : GuestMode) (va : ℕ) → is_canonical (guest_shape mode) va ≡ true → va / 4096 < 2 ^ guest_page_bits
 small_page Sv39x4 va is = let small = ltb-true va (2 ^ 41) is in omega (arith, small)
 
-sound_walk : (reading : EntryReading) (mode : GuestMode) (ppn va : ℕ) (kind : Access) (leaf : LeafEntry) → walk reading ppn (guest_shape mode) va kind ≡ Leaf leaf
+sound_walk : (reading : EntryReading) (mode : GuestMode) (ppn va : ℕ) (kind : Access) (leaf : LeafPte) → walk reading ppn (guest_shape mode) va kind ≡ Leaf leaf
     → (va / 4096 < 2 ^ guest_page_bits) × IsSound leaf
 unfolding walk path end_of
 sound_walk reading mode ppn va kind leaf is = by (is_canonical (guest_shape mode) va) refl is
@@ -84,7 +84,7 @@ sound_walk reading mode ppn va kind leaf is = by (is_canonical (guest_shape mode
     by true right is = (small_page mode va right, sound_path reading (guest_shape mode) va kind leaf (levels (guest_shape mode)) ppn (few_levels (guest_shape mode)) is)
     by false right is = absurd cc
 
-can_fill : (mxr : Bool) (ram blocks : List ℕ) (mode : GuestMode) (ppn address : ℕ) (kind : Access) (e : Entry) (leaf : LeafEntry) → length ram ≡ length blocks * block_size
+can_fill : (mxr : Bool) (ram blocks : List ℕ) (mode : GuestMode) (ppn address : ℕ) (kind : Access) (e : Entry) (leaf : LeafPte) → length ram ≡ length blocks * block_size
     → IsGiven mxr ram (guest_shape mode) ppn address kind e leaf → CanFill blocks e
 can_fill mxr ram blocks mode ppn address kind e leaf size g =
     let sound = sound_walk (memory_words ram_base ram) mode (guest_root_frame ppn) address kind leaf g.walked in
@@ -105,7 +105,7 @@ can_fill mxr ram blocks mode ppn address kind e leaf size g =
     below place size other same h = omega arith
 
 pub fills_can_be_made : FillsCanBeMade
-unfolding entry_now
+unfolding entry_by_walk
 fills_can_be_made csrs ram blocks address kind e size found = by csrs.hgatp found
   where
     by : (hgatp : GuestRoot) → entry_by_table csrs.hs.status.mxr ram address kind hgatp ≡ Some e → CanFill blocks e

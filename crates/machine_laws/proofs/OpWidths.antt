@@ -8,7 +8,7 @@ use Rattle.arch_defs.specs.Widths.{bytes_in}
 use Rattle.op_defs.specs.declared.ops.Op.{Op}
 use Rattle.op_defs.specs.declared.ops.Op.TheVariants as op
 use Rattle.op_defs.specs.Fields.{funct3, funct7, opcode, rd, rs2}
-use Rattle.op_defs.specs.Table.{alu_op_of, amo_op_of, atomic_by, atomic_of, branch_of, csr_of, fence_of, fence_op_of, guest_access_of, guest_load_by, guest_load_of, guest_store_of, immediate_arithmetic_of, load_of, op_of, privileged_of, register_arithmetic_of, shift_of, store_of, system_of, test_of, word_arithmetic_of, word_immediate_arithmetic_of, word_op_of, word_shift_of}
+use Rattle.op_defs.specs.Table.{alu_op_of, amo_op_of, atomic_by, atomic_of, branch_of, csr_of, fence_of, fence_op_of, guest_access_of, guest_load_by, guest_load_of, guest_store_of, immediate_arithmetic_of, load_of, op_of, register_arithmetic_of, shift_of, store_of, system_of, system_op_of, test_of, word_arithmetic_of, word_immediate_arithmetic_of, word_op_of, word_shift_of}
 use Rattle.machine_laws.proofs.Cached.{either}
 
 -- the width that a reservation can have
@@ -79,8 +79,8 @@ unfolding fence_op_of
 fence_op_widths word = either HaveWidth (funct7 word == 0b0001001) _ _ tt (either HaveWidth (funct7 word == 0b0010001) _ _ tt
     (either HaveWidth (funct7 word == 0b0110001) _ _ tt tt))
 
-privileged_widths : (word : ℕ) → HaveWidth (privileged_of word)
-unfolding privileged_of
+privileged_widths : (word : ℕ) → HaveWidth (system_op_of word)
+unfolding system_op_of
 privileged_widths word = either HaveWidth (word == 0x00000073) _ _ tt (either HaveWidth (word == 0x00100073) _ _ tt
     (either HaveWidth (word == 0x10200073) _ _ tt (either HaveWidth (word == 0x10500073) _ _ tt
     (either HaveWidth (rd word == 0) _ _ (fence_op_widths word) tt))))

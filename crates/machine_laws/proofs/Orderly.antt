@@ -19,7 +19,7 @@ use Rattle.machine_defs.specs.Fills.{after_fills, filled_front}
 use Rattle.machine_defs.specs.Machine.{Machine, Platform, Tried, called, start}
 use Rattle.machine_defs.specs.Runs.{left_by, run}
 use Rattle.machine_defs.specs.Tries.{second_of, spaces_after}
-use Rattle.machine_laws.specs.Keeping.{FillStaysOrderly, IsOrderly, StartIsOrderly, StaysOrderly, TryStaysOrderly}
+use Rattle.machine_laws.specs.Keeping.{FillKeepsOrderly, IsOrderly, RunKeepsOrderly, StartIsOrderly, TryKeepsOrderly}
 use Rattle.machine_laws.specs.Laws.{FillsSufficeForGuests}
 use Rattle.machine_laws.proofs.FrontSpaces.{in_front}
 use Rattle.machine_laws.proofs.Cached.{either}
@@ -94,10 +94,10 @@ ended_orderly m is Halts = with_front m _ is refl refl is.front
 ended_orderly m is (Fences virt fence (mode, root)) = with_front m _ is refl refl (stays_front m.platform.virt virt (fenced fence m.spaces) mode root
     (λ folding. fenced_same m.platform.virt.csrs.hgatp fence m.spaces (is.front folding)))
 
-pub try_stays_orderly : TryStaysOrderly
+pub try_stays_orderly : TryKeepsOrderly
 try_stays_orderly m is = ended_orderly m is (root_end m (second_of m))
 
-pub fill_stays_orderly : FillStaysOrderly
+pub fill_stays_orderly : FillKeepsOrderly
 fill_stays_orderly m e is lacks =
     with_front m _ is refl refl (λ folding. front_same m.platform.virt.csrs.hgatp m.entry_room m.spaces e (is.front folding))
 
@@ -108,7 +108,7 @@ orderly_kept = record { filled = fill_stays_orderly; tried = try_stays_orderly }
 pub filled_orderly : (n : ℕ) (m : Machine) → IsOrderly m → IsOrderly (after_fills n m)
 filled_orderly = kept_by_fills IsOrderly orderly_kept
 
-pub stays_orderly : StaysOrderly
+pub stays_orderly : RunKeepsOrderly
 stays_orderly = kept_by_runs IsOrderly orderly_kept
 
 pub start_is_orderly : StartIsOrderly

@@ -11,7 +11,7 @@ use Rattle.arch_defs.specs.declared.registers.Csrs.{Csrs}
 use Rattle.arch_defs.specs.declared.registers.SupervisorRoot.{SupervisorRoot}
 use Rattle.arch_defs.specs.declared.registers.SupervisorRoot.TheVariants as root
 use Rattle.arch_defs.specs.declared.walks.Found.{Found}
-use Rattle.arch_defs.specs.declared.walks.Found.TheVariants.{Passes, PageFaults, Lacks}
+use Rattle.arch_defs.specs.declared.walks.Found.TheVariants.{Passes, PageFaults, MissesEntry}
 use Rattle.arch_defs.specs.declared.walks.Privilege.{Privilege}
 use Rattle.arch_defs.specs.declared.walks.WalkEnd.{WalkEnd}
 use Rattle.arch_defs.specs.declared.walks.WalkEnd.TheVariants.{Leaf, PageFault, FetchEnd}
@@ -20,18 +20,18 @@ use Rattle.arch_defs.specs.declared.widths.Width.TheVariants.{Byte, Half, Word, 
 use Rattle.arch_defs.specs.Memory.{Reading, SecondStage}
 use Rattle.arch_defs.specs.Roots.{supervisor_shape}
 use Rattle.arch_defs.specs.Permits.{permits_first}
-use Rattle.arch_defs.specs.Translation.{bank_of, entry_word_at, entry_words_through, first_stage, found_by, found_under, privilege_of}
+use Rattle.arch_defs.specs.Translation.{entry_word_at, entry_words_through, first_stage, found_by, found_under, privilege_of, supervisor_of}
 use Rattle.arch_defs.specs.Traps.{exception, misaligned_fault}
 use Rattle.arch_defs.specs.Walk.{leaf_address, walk}
 use Rattle.arch_defs.specs.Widths.{bytes_in}
 use Rattle.machine_defs.specs.Core.{Faults, Misses, Located, At, Fails, accessed, at_place, located, located_at, located_by}
 use Rattle.machine_defs.specs.Outcomes.{Outcome}
-use Rattle.machine_laws.specs.Renaming.{IsRenamed, LeavesHeld, Places, outcome_renamed}
+use Rattle.machine_laws.specs.Renaming.{IsRenamed, LeavesWithin, Places, outcome_renamed}
 use Rattle.machine_laws.proofs.AlikeWalks.{walks_alike}
 
 -- an outcome is the renamed one of another, which keeps to the places of the set
 abbrev pub EndsAlike : (ℕ → ℕ) → Places → Outcome → Outcome → Type 0
-EndsAlike h held own host = (host ≡ outcome_renamed h own) × LeavesHeld held own
+EndsAlike h held own host = (host ≡ outcome_renamed h own) × LeavesWithin held own
 
 -- an access of n bytes is made at a place of the set, up to the end of its page, and at that place's new name;
 -- or both fail alike
@@ -45,7 +45,7 @@ pub at_alike : (h : ℕ → ℕ) (held : Places) (n : ℕ) (rest rest' : ℕ →
     → (own host : Located) → LocatedAlike h held n own host → EndsAlike h held (at_place own rest) (at_place host rest')
 at_alike h held n rest rest' goes (At place) host (e, in_set, fits) = rw e (goes place in_set fits)
 at_alike h held n rest rest' goes (Fails (Faults trap)) host e = rw e (refl, tt)
-at_alike h held n rest rest' goes (Fails (Misses unplaced)) host e = rw e (refl, tt)
+at_alike h held n rest rest' goes (Fails (Misses missing)) host e = rw e (refl, tt)
 
 -- the bytes of an entry end in its page
 entry_fits : (place at : ℕ) → place % 4096 ≡ at % 4096 → at % 8 ≡ 0 → place % 4096 + 8 ≤ 4096
@@ -72,13 +72,13 @@ first_alike : {h : ℕ → ℕ} {held : Places} {own : SecondStage} {reading : R
     → IsRenamed h held own reading host other → (csrs : Csrs) (mode : Mode) (va : ℕ) (access : Access)
     → first_stage host other csrs mode va access ≡ first_stage own reading csrs mode va access
 unfolding first_stage
-first_alike r csrs mode va access = under_alike r (privilege_of csrs mode) va access (bank_of csrs mode).atp
+first_alike r csrs mode va access = under_alike r (privilege_of csrs mode) va access (supervisor_of csrs mode).atp
 
 -- and keeps the offset in the page
 abbrev pub KeepsOffset : ℕ → Found → Type 0
 KeepsOffset va (Passes address) = address % 4096 ≡ va % 4096
 KeepsOffset va PageFaults = Unit {0}
-KeepsOffset va (Lacks place) = Unit {0}
+KeepsOffset va (MissesEntry place) = Unit {0}
 
 added : (frame part va : ℕ) → part % 4096 ≡ va % 4096 → (4096 * frame + part) % 4096 ≡ va % 4096
 added frame part va same = omega arith
@@ -102,7 +102,7 @@ under_keeps second reading privilege va access (root.Table table asid ppn) =
 pub first_keeps : (second : SecondStage) (reading : Reading) (csrs : Csrs) (mode : Mode) (va : ℕ) (access : Access)
     → KeepsOffset va (first_stage second reading csrs mode va access)
 unfolding first_stage
-first_keeps second reading csrs mode va access = under_keeps second reading (privilege_of csrs mode) va access (bank_of csrs mode).atp
+first_keeps second reading csrs mode va access = under_keeps second reading (privilege_of csrs mode) va access (supervisor_of csrs mode).atp
 
 -- the bytes at a multiple of their width end in its page
 width_fits : (width : Width) (place address va : ℕ) → place % 4096 ≡ address % 4096 → address % 4096 ≡ va % 4096 → va % bytes_in width ≡ 0
@@ -123,7 +123,7 @@ by_alike {h = h} {held = held} {own = own} r mode va width access (Passes addres
     by (Some place) e = let is = r.inside address place access e in (refl, is.0, width_fits width place address va is.1 keeps whole)
     by None e = refl
 by_alike r mode va width access PageFaults keeps whole = refl
-by_alike r mode va width access (Lacks place) keeps whole = refl
+by_alike r mode va width access (MissesEntry place) keeps whole = refl
 
 located_alike : {h : ℕ → ℕ} {held : Places} {own : SecondStage} {reading : Reading} {host : SecondStage} {other : Reading}
     → IsRenamed h held own reading host other → (csrs : Csrs) (mode : Mode) (va : ℕ) (width : Width) (access : Access) → va % bytes_in width ≡ 0

@@ -11,7 +11,7 @@ use Rattle.arch_defs.specs.declared.registers.Csrs.{Csrs}
 use Rattle.arch_defs.specs.declared.registers.Virtual.{Virtual}
 use Rattle.arch_defs.specs.declared.widths.Width.{Width}
 use Rattle.arch_defs.specs.declared.widths.Width.TheVariants.{Word}
-use Rattle.arch_defs.specs.Access.{read, write}
+use Rattle.arch_defs.specs.CsrAccess.{read_csr, write_csr}
 use Rattle.arch_defs.specs.Memory.{Reading, SecondStage}
 use Rattle.arch_defs.specs.Widths.{bytes_in}
 use Rattle.op_defs.specs.declared.ops.CsrOp.{CsrOp}
@@ -27,8 +27,8 @@ use Rattle.op_defs.specs.Meaning.{meaning}
 use Rattle.op_defs.specs.Table.{op_of}
 use Rattle.machine_defs.specs.declared.events.Event.{Event}
 use Rattle.machine_defs.specs.Core.{Completion, accessed_data, called_from, completed, core, decoded, done, event_of, executed, is_reserved, kind_of, stored_if, word_at}
-use Rattle.machine_defs.specs.Privileges.{combined, csr_accessed, csr_changed, csr_shown, decided, held as shown, performed, privileged, refusal}
-use Rattle.machine_laws.specs.Renaming.{GivesHeld, IsRenamed, Places, RenamedCore, ReservesHeld, StaysHeld, StoresHeld, renamed, reservation_renamed, stored_renamed}
+use Rattle.machine_defs.specs.Privileges.{combined, csr_accessed, csr_changed, csr_shown, decided, performed, privileged, refusal, value_or_zero as shown}
+use Rattle.machine_laws.specs.Renaming.{CoreKeepsWithin, GivesWithin, IsRenamed, Places, RenamedCore, ReservesWithin, StoresWithin, renamed, reservation_renamed, stored_renamed}
 use Rattle.machine_laws.proofs.Placed.{EndsAlike, accessed_alike, at_alike}
 
 -- SC finds the same reserved, since no two places get one name
@@ -41,7 +41,7 @@ same_test {h = h} r a b a_in b_in = by (a == b) refl
     by false e = ne_eqb (h a) (h b) (λ same. eqb-false a b e (r.apart a b a_in b_in same))
 
 is_reserved_alike : {h : ℕ → ℕ} {held : Places} {own : SecondStage} {reading : Reading} {host : SecondStage} {other : Reading}
-    → IsRenamed h held own reading host other → (reservation : Option (ℕ × ℕ)) → ReservesHeld held reservation → (at : ℕ) (width : Width) → held at ≡ true
+    → IsRenamed h held own reading host other → (reservation : Option (ℕ × ℕ)) → ReservesWithin held reservation → (at : ℕ) (width : Width) → held at ≡ true
     → is_reserved (reservation_renamed h reservation) (h at) width ≡ is_reserved reservation at width
 is_reserved_alike r (Some (place, bytes)) kept at width in_set = ap (λ same. same && (bytes == bytes_in width)) (same_test r place at kept in_set)
 is_reserved_alike r None kept at width in_set = refl
@@ -50,18 +50,18 @@ is_reserved_alike r None kept at width in_set = refl
 pub record CompletedAlike (h : ℕ → ℕ) (held : Places) (own host : Completion) : Type 0 where
   pub state : host.state ≡ renamed h own.state
   pub stored : host.stored ≡ stored_renamed h own.stored
-  pub stores : StoresHeld held own.stored
-  pub reserves : ReservesHeld held own.state.reservation
+  pub stores : StoresWithin held own.stored
+  pub reserves : ReservesWithin held own.state.reservation
 
-stored_if_alike : (h : ℕ → ℕ) (held : Places) (s : Virtual) → ReservesHeld held s.reservation → (reserved : Bool) (width : Width) (value rd a : ℕ)
-    → StoresHeld held (Some (record { place = a; width = bytes_in width; value = value }))
+stored_if_alike : (h : ℕ → ℕ) (held : Places) (s : Virtual) → ReservesWithin held s.reservation → (reserved : Bool) (width : Width) (value rd a : ℕ)
+    → StoresWithin held (Some (record { place = a; width = bytes_in width; value = value }))
     → CompletedAlike h held (stored_if reserved s width value rd a) (stored_if reserved (renamed h s) width value rd (h a))
 stored_if_alike h held s kept true width value rd a in_set = record { state = refl; stored = refl; stores = in_set; reserves = tt }
 stored_if_alike h held s kept false width value rd a in_set = record { state = refl; stored = refl; stores = tt; reserves = tt }
 
 -- by the purpose of the access
 pub completed_alike : {h : ℕ → ℕ} {held : Places} {own : SecondStage} {reading : Reading} {host : SecondStage} {other : Reading}
-    → IsRenamed h held own reading host other → (s : Virtual) → ReservesHeld held s.reservation → (width : Width) (purpose : Purpose) (place : ℕ)
+    → IsRenamed h held own reading host other → (s : Virtual) → ReservesWithin held s.reservation → (width : Width) (purpose : Purpose) (place : ℕ)
     → held place ≡ true → place % 4096 + bytes_in width ≤ 4096
     → CompletedAlike h held (completed reading s width purpose place) (completed other (renamed h s) width purpose (h place))
 completed_alike r s kept width (Load signed rd) place in_set fits =
@@ -80,7 +80,7 @@ done_alike : (h : ℕ → ℕ) (held : Places) (event : Event) (own host : Compl
 done_alike h held event own host alike = rw (alike.state, alike.stored) (refl, (alike.stores, alike.reserves))
 
 accessed_data_alike : {h : ℕ → ℕ} {held : Places} {own : SecondStage} {reading : Reading} {host : SecondStage} {other : Reading}
-    → IsRenamed h held own reading host other → (s : Virtual) → ReservesHeld held s.reservation → (event : Event) (wanted : DataAccess)
+    → IsRenamed h held own reading host other → (s : Virtual) → ReservesWithin held s.reservation → (event : Event) (wanted : DataAccess)
     → EndsAlike h held (accessed_data own reading s event wanted) (accessed_data host other (renamed h s) event wanted)
 accessed_data_alike {h = h} {held = held} r s kept event wanted = at_alike h held (bytes_in wanted.width) _ _
     (λ place in_set fits. done_alike h held event _ _ (completed_alike r s kept wanted.width wanted.purpose place in_set fits)) _ _
@@ -94,24 +94,24 @@ called_alike h held VS = (refl, tt)
 called_alike h held VU = (refl, tt)
 
 -- what the mode decides on stores nothing and leaves the reservation: a register is shown, and changed
-shown_alike : (h : ℕ → ℕ) (held : Places) (s : Virtual) → ReservesHeld held s.reservation → (word rd : ℕ) (value : Result ℕ CsrEnd)
+shown_alike : (h : ℕ → ℕ) (held : Places) (s : Virtual) → ReservesWithin held s.reservation → (word rd : ℕ) (value : Result ℕ CsrEnd)
     → EndsAlike h held (csr_shown s word rd value) (csr_shown (renamed h s) word rd value)
 shown_alike h held s kept word rd (Ok value) = (refl, (tt, kept))
 shown_alike h held s kept word rd (Err end) = (refl, tt)
 
-changed_alike : (h : ℕ → ℕ) (held : Places) (s : Virtual) → ReservesHeld held s.reservation → (word rd value : ℕ) (csrs : Result Csrs CsrEnd)
+changed_alike : (h : ℕ → ℕ) (held : Places) (s : Virtual) → ReservesWithin held s.reservation → (word rd value : ℕ) (csrs : Result Csrs CsrEnd)
     → EndsAlike h held (csr_changed s word rd value csrs) (csr_changed (renamed h s) word rd value csrs)
 changed_alike h held s kept word rd value (Ok csrs) = (refl, (tt, kept))
 changed_alike h held s kept word rd value (Err end) = (refl, tt)
 
-csr_alike : (h : ℕ → ℕ) (held : Places) (s : Virtual) → ReservesHeld held s.reservation → (word : ℕ) (o : CsrOp) (number operand : ℕ) (writes : Bool) (rd : ℕ)
+csr_alike : (h : ℕ → ℕ) (held : Places) (s : Virtual) → ReservesWithin held s.reservation → (word : ℕ) (o : CsrOp) (number operand : ℕ) (writes : Bool) (rd : ℕ)
     → EndsAlike h held (csr_accessed s word o number operand writes rd) (csr_accessed (renamed h s) word o number operand writes rd)
-csr_alike h held s kept word o number operand true rd = let before = shown (read s.csrs s.mode number) in
-    changed_alike h held s kept word rd before (write s.csrs s.mode number (combined o before operand))
-csr_alike h held s kept word o number operand false rd = shown_alike h held s kept word rd (read s.csrs s.mode number)
+csr_alike h held s kept word o number operand true rd = let before = shown (read_csr s.csrs s.mode number) in
+    changed_alike h held s kept word rd before (write_csr s.csrs s.mode number (combined o before operand))
+csr_alike h held s kept word o number operand false rd = shown_alike h held s kept word rd (read_csr s.csrs s.mode number)
 
 -- each instruction that is allowed, and one by its refusal
-performed_alike : (h : ℕ → ℕ) (held : Places) (s : Virtual) → ReservesHeld held s.reservation → (word : ℕ) (p : Privileged)
+performed_alike : (h : ℕ → ℕ) (held : Places) (s : Virtual) → ReservesWithin held s.reservation → (word : ℕ) (p : Privileged)
     → EndsAlike h held (performed s word p) (performed (renamed h s) word p)
 performed_alike h held s kept word (Csr o number operand writes rd) = csr_alike h held s kept word o number operand writes rd
 performed_alike h held s kept word Sret = (refl, (tt, kept))
@@ -121,7 +121,7 @@ performed_alike h held s kept word HfenceVvma = (refl, (tt, kept))
 performed_alike h held s kept word (HfenceGvma fence) = (refl, kept)
 performed_alike h held s kept word (HlvAccess wanted) = (refl, tt)
 
-privileged_alike : (h : ℕ → ℕ) (held : Places) (s : Virtual) → ReservesHeld held s.reservation → (word : ℕ) (p : Privileged)
+privileged_alike : (h : ℕ → ℕ) (held : Places) (s : Virtual) → ReservesWithin held s.reservation → (word : ℕ) (p : Privileged)
     → EndsAlike h held (privileged s word p) (privileged (renamed h s) word p)
 unfolding privileged
 privileged_alike h held s kept word p = by (refusal p s.csrs.hstatus s.mode)
@@ -132,7 +132,7 @@ privileged_alike h held s kept word p = by (refusal p s.csrs.hstatus s.mode)
 
 -- by the effect
 executed_alike : {h : ℕ → ℕ} {held : Places} {own : SecondStage} {reading : Reading} {host : SecondStage} {other : Reading}
-    → IsRenamed h held own reading host other → (s : Virtual) → ReservesHeld held s.reservation → (word : ℕ) (effect : Effect)
+    → IsRenamed h held own reading host other → (s : Virtual) → ReservesWithin held s.reservation → (word : ℕ) (effect : Effect)
     → EndsAlike h held (executed own reading s word effect) (executed host other (renamed h s) word effect)
 executed_alike r s kept word (Sets rd value next) = (refl, (tt, kept))
 executed_alike r s kept word (Raises cause tval) = (refl, tt)
@@ -141,13 +141,13 @@ executed_alike {h = h} {held = held} r s kept word Calls = called_alike h held s
 executed_alike {h = h} {held = held} r s kept word (Decides p) = privileged_alike h held s kept word p
 
 decoded_alike : {h : ℕ → ℕ} {held : Places} {own : SecondStage} {reading : Reading} {host : SecondStage} {other : Reading}
-    → IsRenamed h held own reading host other → (s : Virtual) → ReservesHeld held s.reservation → (word : ℕ) (o : Option Op)
+    → IsRenamed h held own reading host other → (s : Virtual) → ReservesWithin held s.reservation → (word : ℕ) (o : Option Op)
     → EndsAlike h held (decoded own reading s word o) (decoded host other (renamed h s) word o)
 decoded_alike r s kept word (Some o) = executed_alike r s kept word (meaning o s.regs)
 decoded_alike r s kept word None = (refl, tt)
 
 core_alike : {h : ℕ → ℕ} {held : Places} {own : SecondStage} {reading : Reading} {host : SecondStage} {other : Reading}
-    → IsRenamed h held own reading host other → (s : Virtual) → ReservesHeld held s.reservation → EndsAlike h held (core own reading s) (core host other (renamed h s))
+    → IsRenamed h held own reading host other → (s : Virtual) → ReservesWithin held s.reservation → EndsAlike h held (core own reading s) (core host other (renamed h s))
 unfolding core
 core_alike {h = h} {held = held} {reading = reading} r s kept = at_alike h held 4 _ _
     (λ place in_set fits. rw (r.same place 4 in_set fits) (decoded_alike r s kept (word_at reading place) (op_of (word_at reading place)))) _ _
@@ -161,7 +161,7 @@ same_place : (place : Option ℕ) → place ≡ option_map (λ p. p) place
 same_place (Some place) = refl
 same_place None = refl
 
-pub unchanged : {held : Places} {second : SecondStage} (reading : Reading) → GivesHeld held second → IsRenamed (λ p. p) held second reading second reading
+pub unchanged : {held : Places} {second : SecondStage} (reading : Reading) → GivesWithin held second → IsRenamed (λ p. p) held second reading second reading
 unchanged {second = second} reading gives = record {
   places = λ address access. same_place (second address access);
   inside = gives;
@@ -169,5 +169,5 @@ unchanged {second = second} reading gives = record {
   apart = λ a b a_in b_in e. e;
 }
 
-pub stays_held : StaysHeld
+pub stays_held : CoreKeepsWithin
 stays_held = λ held second reading s gives kept. (core_alike (unchanged reading gives) s kept).1

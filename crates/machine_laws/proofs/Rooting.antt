@@ -1,13 +1,13 @@
 -- hgatp under one instruction: with V = 1 none changes it, and a fence changes neither it nor the mode.
 use Rattle.std.specs.Prelude.{Result, Ok, Err, nat_le}
 use Rattle.std.proofs.Common.{cond, ◌≡◌, ℕ, Bool, true, false, List, Option, Some, None, refl, ap}
-use Rattle.arch_defs.specs.declared.csr_names.BankRegister.TheVariants.{Status, Tvec, Scratch, Epc, Cause, Tval, Atp}
-use Rattle.arch_defs.specs.declared.csr_names.BitRegister.TheVariants.{Scounteren, Senvcfg, Hcounteren, Henvcfg}
+use Rattle.arch_defs.specs.declared.csr_names.SupervisorCsr.TheVariants.{Status, Tvec, Scratch, Epc, Cause, Tval, Atp}
+use Rattle.arch_defs.specs.declared.csr_names.EnableCsr.TheVariants.{Scounteren, Senvcfg, Hcounteren, Henvcfg}
 use Rattle.arch_defs.specs.declared.csr_names.CsrEnd.{CsrEnd}
 use Rattle.arch_defs.specs.declared.csr_names.CsrEnd.TheVariants.{Illegal, Virtual as VirtualInstruction}
-use Rattle.arch_defs.specs.declared.csr_names.InterruptRegister.TheVariants.{Sie, Sip, Vsie, Vsip, Hideleg, Hie, Hip, Hvip}
+use Rattle.arch_defs.specs.declared.csr_names.InterruptCsr.TheVariants.{Sie, Sip, Vsie, Vsip, Hideleg, Hie, Hip, Hvip}
 use Rattle.arch_defs.specs.declared.csr_names.Register.{Register}
-use Rattle.arch_defs.specs.declared.csr_names.Register.TheVariants.{Supervisor, VirtualSupervisor, Interrupt, Bit, Hypervisor, Time, GuestTime}
+use Rattle.arch_defs.specs.declared.csr_names.Register.TheVariants.{Supervisor, VirtualSupervisor, Interrupt, Enable, Hypervisor, Time, GuestTime}
 use Rattle.arch_defs.specs.declared.cached.Fence.{Fence}
 use Rattle.arch_defs.specs.declared.modes.Mode.{Mode}
 use Rattle.arch_defs.specs.declared.modes.Trap.{Trap}
@@ -15,7 +15,7 @@ use Rattle.arch_defs.specs.declared.modes.Mode.TheVariants.{HS, U, VS, VU}
 use Rattle.arch_defs.specs.declared.registers.Csrs.{Csrs}
 use Rattle.arch_defs.specs.declared.registers.Regs.{Regs}
 use Rattle.arch_defs.specs.declared.registers.Virtual.{Virtual}
-use Rattle.arch_defs.specs.Access.{bit_written, changed_by, interrupts_written, named_to_write, reached, reached_by, reached_in_vs, reached_in_vu, read, write, written}
+use Rattle.arch_defs.specs.CsrAccess.{enable_written, interrupts_written, named_to_write, reached, reached_by, reached_in_vs, reached_in_vu, read_csr, write_csr, written, written_by}
 use Rattle.arch_defs.specs.CsrNames.{register_of}
 use Rattle.arch_defs.specs.Memory.{Reading, SecondStage, ram_base, reading_of}
 use Rattle.arch_defs.specs.Traps.{is_virtual, returned}
@@ -33,7 +33,7 @@ use Rattle.machine_defs.specs.Outcomes.{Outcome}
 use Rattle.machine_defs.specs.Core.{Completion, accessed_data, called_from, completed, core, data_place, decoded, done, event_of, executed, fetch_place, instruction, word_at}
 use Rattle.machine_defs.specs.HlvAccesses.{hlv_completed, hlv_outcome, hlv_place}
 use Rattle.machine_defs.specs.Machine.{Machine, Tried}
-use Rattle.machine_defs.specs.Privileges.{combined, csr_accessed, csr_changed, csr_shown, decided, held, performed, privileged, refusal}
+use Rattle.machine_defs.specs.Privileges.{combined, csr_accessed, csr_changed, csr_shown, decided, performed, privileged, refusal, value_or_zero}
 use Rattle.machine_defs.specs.Tries.{fence_under, try_under}
 use Rattle.machine_laws.specs.InstructionEnds.{HlvHas, OutcomeHas}
 use Rattle.machine_laws.proofs.Cached.{either}
@@ -57,7 +57,7 @@ IsOther (Ok (Hypervisor r)) = ⊥
 IsOther (Ok (Supervisor r)) = Unit {0}
 IsOther (Ok (VirtualSupervisor r)) = Unit {0}
 IsOther (Ok (Interrupt r)) = Unit {0}
-IsOther (Ok (Bit r)) = Unit {0}
+IsOther (Ok (Enable r)) = Unit {0}
 IsOther (Ok Time) = Unit {0}
 IsOther (Ok GuestTime) = Unit {0}
 IsOther (Err end) = Unit {0}
@@ -80,10 +80,10 @@ vs_other csrs (Interrupt Hideleg) = tt
 vs_other csrs (Interrupt Hie) = tt
 vs_other csrs (Interrupt Hip) = tt
 vs_other csrs (Interrupt Hvip) = tt
-vs_other csrs (Bit Scounteren) = tt
-vs_other csrs (Bit Senvcfg) = tt
-vs_other csrs (Bit Hcounteren) = tt
-vs_other csrs (Bit Henvcfg) = tt
+vs_other csrs (Enable Scounteren) = tt
+vs_other csrs (Enable Senvcfg) = tt
+vs_other csrs (Enable Hcounteren) = tt
+vs_other csrs (Enable Henvcfg) = tt
 vs_other csrs (Hypervisor r) = tt
 vs_other csrs Time = either IsOther csrs.hcounteren_tm (Ok GuestTime) (Err VirtualInstruction) tt tt
 vs_other csrs GuestTime = tt
@@ -93,7 +93,7 @@ unfolding reached_in_vu
 vu_other csrs (Supervisor r) = tt
 vu_other csrs (VirtualSupervisor r) = tt
 vu_other csrs (Interrupt r) = tt
-vu_other csrs (Bit r) = tt
+vu_other csrs (Enable r) = tt
 vu_other csrs (Hypervisor r) = tt
 vu_other csrs Time = either IsOther _ (Ok GuestTime) (Err VirtualInstruction) tt tt
 vu_other csrs GuestTime = tt
@@ -112,8 +112,8 @@ abbrev WriteKeeps : Csrs → Result Csrs CsrEnd → Type 0
 WriteKeeps csrs (Ok after) = after.hgatp ≡ csrs.hgatp
 WriteKeeps csrs (Err end) = Unit {0}
 
-written_keeps : (csrs : Csrs) (r : Result Register CsrEnd) (v : ℕ) → IsOther r → WriteKeeps csrs (changed_by csrs r v)
-unfolding written interrupts_written bit_written
+written_keeps : (csrs : Csrs) (r : Result Register CsrEnd) (v : ℕ) → IsOther r → WriteKeeps csrs (written_by csrs r v)
+unfolding written interrupts_written enable_written
 written_keeps csrs (Ok (Supervisor r)) v other = refl
 written_keeps csrs (Ok (VirtualSupervisor r)) v other = refl
 written_keeps csrs (Ok (Interrupt Sie)) v other = refl
@@ -124,17 +124,17 @@ written_keeps csrs (Ok (Interrupt Hideleg)) v other = refl
 written_keeps csrs (Ok (Interrupt Hie)) v other = refl
 written_keeps csrs (Ok (Interrupt Hip)) v other = refl
 written_keeps csrs (Ok (Interrupt Hvip)) v other = refl
-written_keeps csrs (Ok (Bit Scounteren)) v other = refl
-written_keeps csrs (Ok (Bit Senvcfg)) v other = refl
-written_keeps csrs (Ok (Bit Hcounteren)) v other = refl
-written_keeps csrs (Ok (Bit Henvcfg)) v other = refl
+written_keeps csrs (Ok (Enable Scounteren)) v other = refl
+written_keeps csrs (Ok (Enable Senvcfg)) v other = refl
+written_keeps csrs (Ok (Enable Hcounteren)) v other = refl
+written_keeps csrs (Ok (Enable Henvcfg)) v other = refl
 written_keeps csrs (Ok (Hypervisor r)) v other = absurd other
 written_keeps csrs (Ok Time) v other = refl
 written_keeps csrs (Ok GuestTime) v other = refl
 written_keeps csrs (Err end) v other = tt
 
-write_keeps : (csrs : Csrs) (mode : Mode) (number v : ℕ) → is_virtual mode ≡ true → WriteKeeps csrs (write csrs mode number v)
-unfolding write named_to_write
+write_keeps : (csrs : Csrs) (mode : Mode) (number v : ℕ) → is_virtual mode ≡ true → WriteKeeps csrs (write_csr csrs mode number v)
+unfolding write_csr named_to_write
 write_keeps csrs mode number v virtual = written_keeps csrs (cond (nat_le 0xC00 number) (Err Illegal) (reached_by csrs mode (register_of number))) v
     (either IsOther (nat_le 0xC00 number) (Err Illegal) (reached_by csrs mode (register_of number)) tt (named_other csrs mode (register_of number) virtual))
 
@@ -148,9 +148,9 @@ changed_root s word rd value (Ok csrs) keeps = keeps
 changed_root s word rd value (Err end) keeps = tt
 
 csr_root : (s : Virtual) (word : ℕ) (o : CsrOp) (number operand : ℕ) (writes : Bool) (rd : ℕ) → KeepsRoot s (csr_accessed s word o number operand writes rd)
-csr_root s word o number operand true rd = let before = held (read s.csrs s.mode number) in
-    changed_root s word rd before (write s.csrs s.mode number (combined o before operand)) (λ virtual. write_keeps s.csrs s.mode number (combined o before operand) virtual)
-csr_root s word o number operand false rd = shown_root s word rd (read s.csrs s.mode number)
+csr_root s word o number operand true rd = let before = value_or_zero (read_csr s.csrs s.mode number) in
+    changed_root s word rd before (write_csr s.csrs s.mode number (combined o before operand)) (λ virtual. write_keeps s.csrs s.mode number (combined o before operand) virtual)
+csr_root s word o number operand false rd = shown_root s word rd (read_csr s.csrs s.mode number)
 
 returned_root : (csrs : Csrs) (regs : Regs) (mode : Mode) → (returned csrs regs mode).csrs.hgatp ≡ csrs.hgatp
 unfolding returned
@@ -186,7 +186,7 @@ called_root s VU = tt
 -- an instruction
 accessed_data_root : (s : Virtual) (second : SecondStage) (reading : Reading) (event : Event) (wanted : DataAccess) → KeepsRoot s (accessed_data second reading s event wanted)
 accessed_data_root s second reading event wanted =
-    at_each (KeepsRoot s) (λ place. done event (completed reading s wanted.width wanted.purpose place)) (λ trap. tt) (λ unplaced. tt) same
+    at_each (KeepsRoot s) (λ place. done event (completed reading s wanted.width wanted.purpose place)) (λ trap. tt) (λ missing. tt) same
     (data_place second reading s.csrs s.mode wanted)
   where
     same : (place : ℕ) → KeepsRoot s (done event (completed reading s wanted.width wanted.purpose place))
@@ -205,7 +205,7 @@ decoded_root s second reading word None = tt
 
 pub core_root : (s : Virtual) (second : SecondStage) (reading : Reading) → KeepsRoot s (core second reading s)
 unfolding core
-core_root s second reading = at_each (KeepsRoot s) (λ place. instruction second reading s (word_at reading place)) (λ trap. tt) (λ unplaced. tt) same (fetch_place second reading s)
+core_root s second reading = at_each (KeepsRoot s) (λ place. instruction second reading s (word_at reading place)) (λ trap. tt) (λ missing. tt) same (fetch_place second reading s)
   where
     same : (place : ℕ) → KeepsRoot s (instruction second reading s (word_at reading place))
     same place = decoded_root s second reading (word_at reading place) (op_of (word_at reading place))

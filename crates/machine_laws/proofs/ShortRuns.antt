@@ -4,7 +4,7 @@ use Rattle.std.proofs.Common.{◌≡◌, ◌∙◌, ◌⊎◌, inl, inr, true, f
 use Rattle.std.proofs.lemmas.List.Elements.{All-contains, All-head, All-nil, All-weaker}
 use Rattle.arch_defs.specs.declared.cached.Fence.{Fence}
 use Rattle.arch_defs.specs.Memory.{SecondStage, ram_base}
-use Rattle.arch_defs.specs.SecondStage.{second_now}
+use Rattle.arch_defs.specs.SecondStage.{second_by_walk}
 use Rattle.machine_defs.specs.FreeMachines.{CachedTranslation, FreeMachine, FreeMove, FreeStep, IsWalked, free_of, is_named, left_under, uncached}
 use Rattle.machine_laws.specs.Keeping.{IsOrderly}
 use Rattle.machine_laws.proofs.FreeRuns.{runs_are_architectural}
@@ -12,29 +12,29 @@ use Rattle.machine_laws.proofs.FreeSteps.{flat_steps, steps_by, walked_steps}
 use Rattle.arch_defs.specs.CachedEntries.{second_by}
 use Rattle.arch_defs.specs.CsrBits.{guest_root_of}
 use Rattle.arch_defs.specs.Interrupts.{due, due_for_hs, due_for_vs}
-use Rattle.arch_defs.specs.SecondStage.{guest_walk}
+use Rattle.arch_defs.specs.SecondStage.{second_walk}
 use Rattle.arch_defs.specs.Spaces.{entered, fenced}
 use Rattle.arch_defs.specs.Translation.{first_stage}
 use Rattle.arch_defs.specs.Traps.{entered_hs, returned, target}
 use Rattle.arch_defs.specs.Permits.{permits_second}
 use Rattle.arch_defs.specs.Walk.{end_of, path, path_from, walk}
-use Rattle.arch_defs.specs.WalkedEntries.{entry_now}
+use Rattle.arch_defs.specs.WalkedEntries.{entry_by_walk}
 use Rattle.op_defs.specs.Arithmetic.{alu}
 use Rattle.op_defs.specs.Meaning.{meaning}
-use Rattle.op_defs.specs.Table.{fence_op_of, immediate_arithmetic_of, immediate_op_of, is_system, op_of, privileged_of, system_of}
+use Rattle.op_defs.specs.Table.{fence_op_of, immediate_arithmetic_of, immediate_op_of, is_system, op_of, system_of, system_op_of}
 use Rattle.machine_defs.specs.Core.{core}
-use Rattle.machine_defs.specs.Fills.{after_fills, lacking, lacking_under}
+use Rattle.machine_defs.specs.Fills.{after_fills, missing_entry, missing_entry_under}
 use Rattle.machine_defs.specs.Privileges.{privileged, refusal}
 use Rattle.machine_defs.specs.Runs.{run, step}
 use Rattle.machine_defs.specs.Tries.{fence_under, try_under}
 use Rattle.machine_laws.specs.ShortRuns.{FencedFaults, FencedFaultsFreely, HasFaulted, MayDropStale, MayUseStale, StaleIsUsed, csrs_before, hfence_gvma, nop, stale_entry, stale_machine, stale_root}
 
 pub stale_is_used : StaleIsUsed
-unfolding run step try_under after_fills lacking lacking_under core due due_for_hs due_for_vs first_stage op_of system_of privileged_of fence_op_of immediate_arithmetic_of immediate_op_of alu meaning privileged refusal fenced entered returned second_by guest_root_of csrs_before stale_machine stale_root stale_entry entry_now guest_walk walk path path_from end_of target entered_hs is_system permits_second
+unfolding run step try_under after_fills missing_entry missing_entry_under core due due_for_hs due_for_vs first_stage op_of system_of system_op_of fence_op_of immediate_arithmetic_of immediate_op_of alu meaning privileged refusal fenced entered returned second_by guest_root_of csrs_before stale_machine stale_root stale_entry entry_by_walk second_walk walk path path_from end_of target entered_hs is_system permits_second
 stale_is_used = record { mode = refl; value = refl }
 
 pub fenced_faults : FencedFaults
-unfolding run step try_under after_fills lacking lacking_under core due due_for_hs due_for_vs first_stage op_of system_of privileged_of fence_op_of immediate_arithmetic_of immediate_op_of alu meaning privileged refusal fenced entered returned second_by guest_root_of csrs_before stale_machine stale_root stale_entry entry_now guest_walk walk path path_from end_of target entered_hs is_system permits_second
+unfolding run step try_under after_fills missing_entry missing_entry_under core due due_for_hs due_for_vs first_stage op_of system_of system_op_of fence_op_of immediate_arithmetic_of immediate_op_of alu meaning privileged refusal fenced entered returned second_by guest_root_of csrs_before stale_machine stale_root stale_entry entry_by_walk second_walk walk path path_from end_of target entered_hs is_system permits_second
 fenced_faults = record { mode = refl; cause = refl }
 
 -- the lone machine's run is free
@@ -47,7 +47,7 @@ may_use_stale = (free_of (run (stale_machine nop) 3), runs_are_architectural (st
 
 -- so is one that drops each translation at once
 abbrev now : FreeMachine → SecondStage
-now f = second_now f.platform.virt.csrs f.platform.virt.mode ram_base f.ram
+now f = second_by_walk f.platform.virt.csrs f.platform.virt.mode ram_base f.ram
 
 abbrev dropped : FreeMachine → FreeMachine
 dropped f = record { platform = (left_under (now f) f).platform; ram = (left_under (now f) f).ram; cache = [] }
@@ -65,7 +65,7 @@ drops f = record {
 }
 
 pub may_drop_stale : MayDropStale
-unfolding run step try_under after_fills lacking lacking_under core due due_for_hs due_for_vs first_stage op_of system_of privileged_of fence_op_of immediate_arithmetic_of immediate_op_of alu meaning privileged refusal fenced entered returned second_by guest_root_of csrs_before stale_machine stale_root stale_entry entry_now guest_walk walk path path_from end_of target entered_hs is_system permits_second
+unfolding run step try_under after_fills missing_entry missing_entry_under core due due_for_hs due_for_vs first_stage op_of system_of system_op_of fence_op_of immediate_arithmetic_of immediate_op_of alu meaning privileged refusal fenced entered returned second_by guest_root_of csrs_before stale_machine stale_root stale_entry entry_by_walk second_walk walk path path_from end_of target entered_hs is_system permits_second
 may_drop_stale = let f = free_of (stale_machine nop) in let g = dropped f in let h = dropped g in
     (dropped h, (g, drops f, (h, drops g, (dropped h, drops h, refl))), record { mode = refl; cause = refl })
 
@@ -80,7 +80,7 @@ emptied fence is (c ∷ cs) unnamed =
     let never : true ≡ false = sym (ap (λ o. is_named o c.vmid c.entry) is) ∙ one in absurd cc
 
 after_fence : (g : FreeMachine) → FreeStep (free_of (stale_machine hfence_gvma)) g → g ≡ dropped (free_of (stale_machine hfence_gvma))
-unfolding run step try_under after_fills lacking lacking_under core due due_for_hs due_for_vs first_stage op_of system_of privileged_of fence_op_of immediate_arithmetic_of immediate_op_of alu meaning privileged refusal fenced entered returned second_by guest_root_of csrs_before stale_machine stale_root stale_entry entry_now guest_walk walk path path_from end_of target entered_hs is_system permits_second fence_under
+unfolding run step try_under after_fills missing_entry missing_entry_under core due due_for_hs due_for_vs first_stage op_of system_of system_op_of fence_op_of immediate_arithmetic_of immediate_op_of alu meaning privileged refusal fenced entered returned second_by guest_root_of csrs_before stale_machine stale_root stale_entry entry_by_walk second_walk walk path path_from end_of target entered_hs is_system permits_second fence_under
 after_fence g s = let f = free_of (stale_machine hfence_gvma) in
     let same : s.second ≡ now f = flat_steps f g s refl in
     let by = steps_by f g s (now f) same in
@@ -99,11 +99,11 @@ abbrev IsEntered : FreeMachine → Type 0
 IsEntered g = (g.platform ≡ entered_end.platform) × (g.ram ≡ entered_end.ram) × All (IsWalked entered_end.platform.virt entered_end.ram) g.cache
 
 same_walk : (c : CachedTranslation) → IsWalked fenced_end.platform.virt fenced_end.ram c → IsWalked entered_end.platform.virt entered_end.ram c
-unfolding run step try_under after_fills lacking lacking_under core due due_for_hs due_for_vs first_stage op_of system_of privileged_of fence_op_of immediate_arithmetic_of immediate_op_of alu meaning privileged refusal fenced entered returned second_by guest_root_of csrs_before stale_machine stale_root stale_entry entry_now guest_walk walk path path_from end_of target entered_hs is_system permits_second
+unfolding run step try_under after_fills missing_entry missing_entry_under core due due_for_hs due_for_vs first_stage op_of system_of system_op_of fence_op_of immediate_arithmetic_of immediate_op_of alu meaning privileged refusal fenced entered returned second_by guest_root_of csrs_before stale_machine stale_root stale_entry entry_by_walk second_walk walk path path_from end_of target entered_hs is_system permits_second
 same_walk c walk = record { active = refl; vmid = walk.vmid; address = walk.address; kind = walk.kind; walked = walk.walked }
 
 after_sret : (g : FreeMachine) → FreeStep fenced_end g → IsEntered g
-unfolding run step try_under after_fills lacking lacking_under core due due_for_hs due_for_vs first_stage op_of system_of privileged_of fence_op_of immediate_arithmetic_of immediate_op_of alu meaning privileged refusal fenced entered returned second_by guest_root_of csrs_before stale_machine stale_root stale_entry entry_now guest_walk walk path path_from end_of target entered_hs is_system permits_second
+unfolding run step try_under after_fills missing_entry missing_entry_under core due due_for_hs due_for_vs first_stage op_of system_of system_op_of fence_op_of immediate_arithmetic_of immediate_op_of alu meaning privileged refusal fenced entered returned second_by guest_root_of csrs_before stale_machine stale_root stale_entry entry_by_walk second_walk walk path path_from end_of target entered_hs is_system permits_second
 after_sret g s =
     let by = steps_by fenced_end g s (now fenced_end) (flat_steps fenced_end g s refl) in
     (by.platform, by.ram, All-weaker (Contains s.cache) (IsWalked entered_end.platform.virt entered_end.ram) walked g.cache s.kept)
@@ -117,7 +117,7 @@ after_sret g s =
 
 -- and the third step is by the walk of now, which has no translation
 after_fault : (g h : FreeMachine) → IsEntered g → FreeMove g.platform.status g h → HasFaulted h.platform
-unfolding run step try_under after_fills lacking lacking_under core due due_for_hs due_for_vs first_stage op_of system_of privileged_of fence_op_of immediate_arithmetic_of immediate_op_of alu meaning privileged refusal fenced entered returned second_by guest_root_of csrs_before stale_machine stale_root stale_entry entry_now guest_walk walk path path_from end_of target entered_hs is_system permits_second
+unfolding run step try_under after_fills missing_entry missing_entry_under core due due_for_hs due_for_vs first_stage op_of system_of system_op_of fence_op_of immediate_arithmetic_of immediate_op_of alu meaning privileged refusal fenced entered returned second_by guest_root_of csrs_before stale_machine stale_root stale_entry entry_by_walk second_walk walk path path_from end_of target entered_hs is_system permits_second
 after_fault g h (platform, ram, walked) move =
     subst (λ p. HasFaulted p) (sym (steps_by last h step (now last) (walked_steps last h step walked)).platform) (record { mode = refl; cause = refl })
   where
@@ -131,7 +131,7 @@ after_fault g h (platform, ram, walked) move =
     step = subst (λ f. FreeMove f.platform.status f h) same move
 
 pub fenced_faults_freely : FencedFaultsFreely
-unfolding run step try_under after_fills lacking lacking_under core due due_for_hs due_for_vs first_stage op_of system_of privileged_of fence_op_of immediate_arithmetic_of immediate_op_of alu meaning privileged refusal fenced entered returned second_by guest_root_of csrs_before stale_machine stale_root stale_entry entry_now guest_walk walk path path_from end_of target entered_hs is_system permits_second
+unfolding run step try_under after_fills missing_entry missing_entry_under core due due_for_hs due_for_vs first_stage op_of system_of system_op_of fence_op_of immediate_arithmetic_of immediate_op_of alu meaning privileged refusal fenced entered returned second_by guest_root_of csrs_before stale_machine stale_root stale_entry entry_by_walk second_walk walk path path_from end_of target entered_hs is_system permits_second
 fenced_faults_freely end (g, first, (h, second, (last, third, is))) =
     let entered : IsEntered h = after_sret h (subst (λ f. FreeMove f.platform.status f h) (after_fence g first) second) in
     subst (λ (f : FreeMachine). HasFaulted f.platform) (sym is) (after_fault h last entered third)

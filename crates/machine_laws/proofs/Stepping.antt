@@ -4,7 +4,7 @@ use Rattle.std.proofs.Math.Nat.{suc-mul}
 use Rattle.arch_defs.specs.declared.cached.Entry.{Entry}
 use Rattle.arch_defs.specs.declared.cached.Fence.{Fence}
 use Rattle.machine_defs.specs.declared.guests.Status.TheVariants as status
-use Rattle.machine_defs.specs.Fills.{fill, fills, most_fills, ready}
+use Rattle.machine_defs.specs.Fills.{fill, fills, most_fills, needed, ready}
 use Rattle.machine_defs.specs.Machine.{Ended, Machine, Tried, WaitsForGood}
 use Rattle.machine_defs.specs.Runs.{event_in, events, left_after, left_by, run, step}
 use Rattle.machine_defs.specs.Tries.{second_of, try}
@@ -74,7 +74,7 @@ try_budget : (m next : Machine) (k : ℕ) → 0 < k → fills (most_fills m) m �
 try_budget m next zero some none room = absurd (omega arith)
 try_budget m next (suc k) some none room =
     let e : suc k - 1 ≡ k = omega arith in
-    let same : k * (most_fills next + 1) ≡ k * (most_fills m + 1) = ap (λ n. k * (n + 8 + 1)) room in
+    let same : k * (most_fills next + 1) ≡ k * (most_fills m + 1) = ap (λ n. k * (n + needed + 1)) room in
     let below = budget_below next k in
     let less : budget next k + 1 ≤ k * (most_fills m + 1) + (fills (most_fills m) m + 1) = omega arith in
     rw e less
@@ -102,7 +102,7 @@ ready_steps_go m (suc zero) k room some few ready = let at = ready 0 (omega arit
 ready_steps_go m (suc (suc n)) k room some few ready =
     let at = ready 0 (omega arith) in
     let one : Goes m k (step m) (k - 1) = subst (λ next. Goes m k next (k - 1)) (sym (step_ready m at.0 at.1)) (try_goes m k room (omega arith) at.0 at.1) in
-    let room_after : 8 ≤ (step m).entry_room = subst (λ n. 8 ≤ n) (sym one.room) room in
+    let room_after : needed ≤ (step m).entry_room = subst (λ n. needed ≤ n) (sym one.room) room in
     let rest = ready_steps_go (step m) (suc n) (k - 1) room_after (omega arith) (omega arith) (λ i below. ready (suc i) (omega arith)) in
     let left : k - 1 - suc n ≡ k - suc (suc n) = omega arith in
     subst (λ left. Goes m k (run (step m) (suc n)) left) left (then_goes m (step m) (run (step m) (suc n)) k (k - 1) (k - 1 - suc n) one rest)

@@ -13,12 +13,12 @@ use Rattle.arch_defs.specs.declared.registers.Csrs.{Csrs}
 use Rattle.arch_defs.specs.declared.registers.Regs.{Regs}
 use Rattle.arch_defs.specs.declared.registers.Virtual.{Virtual}
 use Rattle.arch_defs.specs.declared.walks.Found.{Found}
-use Rattle.arch_defs.specs.declared.walks.Found.TheVariants.{Passes, PageFaults, Lacks}
+use Rattle.arch_defs.specs.declared.walks.Found.TheVariants.{Passes, PageFaults, MissesEntry}
 use Rattle.arch_defs.specs.declared.widths.Width.{Width}
 use Rattle.arch_defs.specs.declared.widths.Width.TheVariants.{Byte, Half, Word, Double}
-use Rattle.arch_defs.specs.Access.{read, write}
+use Rattle.arch_defs.specs.CsrAccess.{read_csr, write_csr}
 use Rattle.arch_defs.specs.Bits.{add64}
-use Rattle.arch_defs.specs.CsrBits.{epc_bits, guest_root_number, guest_root_of, hedeleg_bits, supervisor_root_number, supervisor_root_of, tvec_bits}
+use Rattle.arch_defs.specs.CsrBits.{epc_bits, guest_root_of, hedeleg_bits, hgatp_bits, satp_bits, supervisor_root_of, tvec_bits}
 use Rattle.arch_defs.specs.CachedEntries.{entry_at, leaf_of, place_by, second_by}
 use Rattle.arch_defs.specs.Memory.{Reading, SecondStage, bare, ram_base, reading_of}
 use Rattle.arch_defs.specs.Spaces.{front}
@@ -37,24 +37,24 @@ use Rattle.op_defs.specs.declared.ops.Privileged.{Privileged}
 use Rattle.op_defs.specs.declared.ops.Privileged.TheVariants.{Csr, Sret, Wfi, SfenceVma, HfenceVvma, HfenceGvma, HlvAccess}
 use Rattle.op_defs.specs.declared.ops.Purpose.{Purpose}
 use Rattle.op_defs.specs.declared.ops.Purpose.TheVariants.{Load, LoadCode, Store, Reserve, StoreReserved, Modify}
-use Rattle.op_defs.specs.Meaning.{address_at, branch, even, holds, jump, meaning, next}
+use Rattle.op_defs.specs.Meaning.{address_at, branch, even, is_branch_taken, jump, meaning, next}
 use Rattle.op_defs.specs.Table.{op_of}
 use Rattle.machine_defs.specs.declared.events.Event.{Event}
 use Rattle.machine_defs.specs.Core.{Completion, Fails, Faults, accessed, accessed_data, called_from, completed, core, data_place, decoded, done, event_of, executed, fetch_place, instruction, is_reserved, kind_of, located, located_at, located_by, stored_if, word_at}
 use Rattle.machine_defs.specs.HlvAccesses.{hlv_completed, hlv_outcome, hlv_place}
 use Rattle.machine_defs.specs.Machine.{Machine, Platform, Tried, called, made_by, start}
 use Rattle.machine_defs.specs.Outcomes.{Outcome, sets}
-use Rattle.machine_defs.specs.Privileges.{combined, csr_accessed, csr_changed, csr_shown, decided, held, performed, privileged, refusal}
+use Rattle.machine_defs.specs.Privileges.{combined, csr_accessed, csr_changed, csr_shown, decided, performed, privileged, refusal, value_or_zero}
 use Rattle.machine_defs.specs.Runs.{left_by}
 use Rattle.machine_defs.specs.Tries.{second_of}
 use Rattle.machine_laws.specs.InstructionEnds.{HlvHas, OutcomeHas}
-use Rattle.machine_laws.specs.StorableStates.{FillStaysStorable, IsCodeAddress, IsStorable, ReservesAligned, StartIsStorable, StaysStorable, TryStaysStorable}
+use Rattle.machine_laws.specs.StorableStates.{FillStaysStorable, IsCodeAddress, IsStorable, ReservesAligned, RunKeepsStorable, StartIsStorable, TryKeepsStorable}
 use Rattle.machine_laws.proofs.Cached.{either, placed}
 use Rattle.machine_laws.proofs.Completions.{LocatedHas, at_each, at_each_with}
 use Rattle.machine_laws.proofs.KeptByRuns.{IsKept, kept_by_runs}
 use Rattle.machine_laws.proofs.OpWidths.{HasWidth, HaveWidth, IsReservable, op_widths}
 use Rattle.machine_laws.proofs.Placed.{KeepsOffset, first_keeps, leaf_keeps}
-use Rattle.machine_laws.proofs.StorableStates.{advanced_storable, called_storable, entered_storable, informed_storable, next_code, returned_storable, with_regs}
+use Rattle.machine_laws.proofs.StorableStates.{advanced_storable, called_storable, entered_storable, next_code, returned_storable, with_pending_lines_storable, with_regs}
 use Rattle.machine_laws.proofs.StoredForms.{WriteStored, write_stored}
 use Rattle.machine_laws.proofs.TryEnds.{Calls as Called, Fences, Halts, Makes, Passes as Waited, Takes, TryEnd, try_end}
 
@@ -102,7 +102,7 @@ by_whole second offsets mode va width access (Passes address) keeps whole = by (
     by (Some place) is = whole_at width place address va (offsets address place access is) keeps whole
     by None is = tt
 by_whole second offsets mode va width access PageFaults keeps whole = tt
-by_whole second offsets mode va width access (Lacks place) keeps whole = tt
+by_whole second offsets mode va width access (MissesEntry place) keeps whole = tt
 
 accessed_whole : (second : SecondStage) → KeepsOffsets second → (reading : Reading) (csrs : Csrs) (mode : Mode) (va : ℕ) (width : Width) (access : Access)
     → LocatedHas (IsWhole width) (accessed second reading csrs mode va width access)
@@ -193,7 +193,7 @@ meaning_sound (op.Lui rd immediate) regs width code = next_code regs.pc code
 meaning_sound (op.Auipc rd immediate) regs width code = next_code regs.pc code
 meaning_sound (op.Jal rd offset) regs width code = jump_sound rd (next regs) (add64 regs.pc offset) (sum_fits regs.pc offset)
 meaning_sound (op.Jalr rd rs1 offset) regs width code = jump_sound rd (next regs) (even (address_at regs rs1 offset)) (even_fits _ offset)
-meaning_sound (op.Branch test rs1 rs2 offset) regs width code = branch_sound (holds test _ _) (next regs) (add64 regs.pc offset) (next_code regs.pc code) (sum_fits regs.pc offset)
+meaning_sound (op.Branch test rs1 rs2 offset) regs width code = branch_sound (is_branch_taken test _ _) (next regs) (add64 regs.pc offset) (next_code regs.pc code) (sum_fits regs.pc offset)
 meaning_sound (op.Load w signed rd rs1 offset) regs width code = tt
 meaning_sound (op.Store w rs1 rs2 offset) regs width code = tt
 meaning_sound (op.AluImmediate o rd rs1 immediate) regs width code = next_code regs.pc code
@@ -234,9 +234,9 @@ changed_fine s is word rd value (Ok csrs) stored =
 changed_fine s is word rd value (Err end) stored = tt
 
 csr_fine : (s : Virtual) → IsStorable s → (word : ℕ) (o : CsrOp) (number operand : ℕ) (writes : Bool) (rd : ℕ) → IsFine (csr_accessed s word o number operand writes rd)
-csr_fine s is word o number operand true rd = let before = held (read s.csrs s.mode number) in
-    changed_fine s is word rd before (write s.csrs s.mode number (combined o before operand)) (write_stored s.csrs s.mode number (combined o before operand) is.csrs)
-csr_fine s is word o number operand false rd = shown_fine s is word rd (read s.csrs s.mode number)
+csr_fine s is word o number operand true rd = let before = value_or_zero (read_csr s.csrs s.mode number) in
+    changed_fine s is word rd before (write_csr s.csrs s.mode number (combined o before operand)) (write_stored s.csrs s.mode number (combined o before operand) is.csrs)
+csr_fine s is word o number operand false rd = shown_fine s is word rd (read_csr s.csrs s.mode number)
 
 performed_fine : (s : Virtual) → IsStorable s → (word : ℕ) (p : Privileged) → IsSound (Decides p) → IsFine (performed s word p)
 performed_fine s is word (Csr o number operand writes rd) sound = csr_fine s is word o number operand writes rd
@@ -264,7 +264,7 @@ called_fine VU = tt
 accessed_fine : (second : SecondStage) → KeepsOffsets second → (reading : Reading) (s : Virtual) → IsStorable s → (event : Event) (wanted : DataAccess)
     → ReservesWidth wanted.width wanted.purpose → IsFine (accessed_data second reading s event wanted)
 accessed_fine second offsets reading s is event wanted width =
-    at_each_with IsFine (IsWhole wanted.width) (λ place. done event (completed reading s wanted.width wanted.purpose place)) (λ trap. tt) (λ unplaced. tt) goes
+    at_each_with IsFine (IsWhole wanted.width) (λ place. done event (completed reading s wanted.width wanted.purpose place)) (λ trap. tt) (λ missing. tt) goes
     (data_place second reading s.csrs s.mode wanted) (accessed_whole second offsets reading s.csrs s.mode wanted.address wanted.width (kind_of wanted.purpose))
   where
     goes : (place : ℕ) → IsWhole wanted.width place → IsFine (done event (completed reading s wanted.width wanted.purpose place))
@@ -285,7 +285,7 @@ decoded_fine second offsets reading s is word None width = tt
 
 core_fine : (second : SecondStage) → KeepsOffsets second → (reading : Reading) (s : Virtual) → IsStorable s → IsFine (core second reading s)
 unfolding core
-core_fine second offsets reading s is = at_each IsFine (λ place. instruction second reading s (word_at reading place)) (λ trap. tt) (λ unplaced. tt) goes (fetch_place second reading s)
+core_fine second offsets reading s is = at_each IsFine (λ place. instruction second reading s (word_at reading place)) (λ trap. tt) (λ missing. tt) goes (fetch_place second reading s)
   where
     goes : (place : ℕ) → IsFine (instruction second reading s (word_at reading place))
     goes place = decoded_fine second offsets reading s is (word_at reading place) (op_of (word_at reading place)) (op_widths (word_at reading place))
@@ -299,7 +299,7 @@ hlv_fine base bytes s is wanted none = by (hlv_place base bytes s.csrs wanted)
 
 -- a try
 made_storable : (p : Platform) (moment : ℕ) → IsStorable p.virt → IsStorable (made_by p moment).virt
-made_storable p moment is = informed_storable (record p { clock = record p.clock { time = moment }; steps = p.steps + 1 }) is
+made_storable p moment is = with_pending_lines_storable (record p { clock = record p.clock { time = moment }; steps = p.steps + 1 }) is
 
 ended_storable : (m : Machine) → IsStorable m.platform.virt → {t : Tried} {fence : Option Fence} → TryEnd LeavesStorable IsStorable m t fence → IsStorable (left_by m t).platform.virt
 ended_storable m is (Takes trap) = made_storable (record m.platform { virt = _ }) (m.platform.clock.time + 1) (entered_storable m.platform.virt trap is)
@@ -309,7 +309,7 @@ ended_storable m is (Waited virt moment has) = made_storable (record m.platform 
 ended_storable m is Halts = is
 ended_storable m is (Fences virt fence has) = made_storable (record m.platform { virt = virt }) (m.platform.clock.time + 1) has
 
-pub try_stays_storable : TryStaysStorable
+pub try_stays_storable : TryKeepsStorable
 try_stays_storable m is = ended_storable m is (try_end LeavesStorable IsStorable (λ wanted. ReservesNothing wanted.purpose) m (second_of m)
     (hlv_fine ram_base m.ram m.platform.virt is) (core_fine (second_of m) (own_offsets m) (reading_of ram_base m.ram) m.platform.virt is))
 
@@ -323,10 +323,10 @@ OfMachine m = IsStorable m.platform.virt
 pub storable_kept : IsKept OfMachine
 storable_kept = record { filled = λ m e is lacks. fill_stays_storable m e is; tried = try_stays_storable }
 
-pub stays_storable : StaysStorable
+pub stays_storable : RunKeepsStorable
 stays_storable = kept_by_runs OfMachine storable_kept
 
 -- at its start all registers are zero but for pc
 pub start_is_storable : StartIsStorable
-unfolding start tvec_bits epc_bits hedeleg_bits supervisor_root_of supervisor_root_number guest_root_of guest_root_number
+unfolding start tvec_bits epc_bits hedeleg_bits supervisor_root_of satp_bits guest_root_of hgatp_bits
 start_is_storable guest = record { x0 = refl; pc = (refl, omega arith); csrs = refl; reservation = tt }

@@ -8,7 +8,7 @@ use Rattle.arch_defs.specs.declared.levels.Level.TheVariants as level
 use Rattle.arch_defs.specs.declared.modes.Mode.{Mode}
 use Rattle.arch_defs.specs.declared.modes.Mode.TheVariants.{HS, U, VS, VU}
 use Rattle.arch_defs.specs.declared.modes.Trap.{Trap}
-use Rattle.arch_defs.specs.declared.registers.Bank.{Bank}
+use Rattle.arch_defs.specs.declared.registers.SupervisorCsrs.{SupervisorCsrs}
 use Rattle.arch_defs.specs.declared.registers.Regs.{Regs}
 use Rattle.arch_defs.specs.declared.registers.Virtual.{Virtual}
 use Rattle.arch_defs.specs.Bits.{add64}
@@ -16,11 +16,11 @@ use Rattle.arch_defs.specs.Calls.{CallState, answering, state_of, environment, g
 use Rattle.arch_defs.specs.Consoles.{has_room}
 use Rattle.arch_defs.specs.Registers.{a0, a1, a7, advanced, read}
 use Rattle.arch_defs.specs.CsrBits.{tvec_bits}
-use Rattle.arch_defs.specs.Traps.{arrived, cause_of, entered, entered_at, entered_bank, entered_hs, entered_vs, handler_of, is_supervisor, returned, returned_bank, returned_from_hs, returned_from_vs, target, vs_code_of}
-use Rattle.machine_defs.specs.Machine.{Platform, called, informed}
+use Rattle.arch_defs.specs.Traps.{arrived, cause_of, entered_at, entered_by_trap, entered_hs, entered_supervisor, entered_vs, handler_of, is_supervisor, returned, returned_from_hs, returned_from_vs, returned_supervisor, target, vs_code_of}
+use Rattle.machine_defs.specs.Machine.{Platform, called, with_pending_lines}
 use Rattle.machine_laws.proofs.Cached.{either}
 use Rattle.machine_laws.specs.StorableStates.{IsCodeAddress, IsStorable}
-use Rattle.machine_laws.proofs.StoredForms.{BankStored, code_stored, epc_code}
+use Rattle.machine_laws.proofs.StoredForms.{SupervisorStored, code_stored, epc_code}
 
 -- the x registers and pc of such a state
 abbrev pub RegsStorable : Regs → Type 0
@@ -43,9 +43,9 @@ handler_code tvec interrupt code is = either IsCodeAddress (interrupt && (tvec %
     (vector_code (tvec / 4 * 4) code (base_code tvec is)) (base_code tvec is)
 
 -- a trap: epc gets pc, and pc the handler
-bank_entered : (bank : Bank) (supervisor : Bool) (pc cause tval : ℕ) → BankStored bank → IsCodeAddress pc → BankStored (entered_bank bank supervisor pc cause tval)
-bank_entered bank supervisor pc cause tval is code = λ i. record (is i) {
-  status = (entered_bank bank supervisor pc cause tval).status;
+supervisor_entered : (registers : SupervisorCsrs) (supervisor : Bool) (pc cause tval : ℕ) → SupervisorStored registers → IsCodeAddress pc → SupervisorStored (entered_supervisor registers supervisor pc cause tval)
+supervisor_entered registers supervisor pc cause tval is code = λ i. record (is i) {
+  status = (entered_supervisor registers supervisor pc cause tval).status;
   epc = code_stored pc code i;
   cause = cause;
   tval = tval;
@@ -57,7 +57,7 @@ at_storable s trap level.HS is = let after = entered_hs s.csrs s.regs s.mode tra
   x0 = is.x0;
   pc = handler_code s.csrs.hs.tvec trap.interrupt trap.cause (ap (λ c. c.hs.tvec) is.csrs);
   csrs = λ i. record (is.csrs i) {
-    hs = bank_entered s.csrs.hs (is_supervisor s.mode) s.regs.pc (cause_of trap.interrupt trap.cause) trap.tval (ap (λ c. c.hs) is.csrs) is.pc i;
+    hs = supervisor_entered s.csrs.hs (is_supervisor s.mode) s.regs.pc (cause_of trap.interrupt trap.cause) trap.tval (ap (λ c. c.hs) is.csrs) is.pc i;
     hstatus = after.csrs.hstatus;
     htval = after.csrs.htval;
     htinst = after.csrs.htinst;
@@ -68,24 +68,24 @@ at_storable s trap level.VS is = record {
   x0 = is.x0;
   pc = handler_code s.csrs.vs.tvec trap.interrupt (vs_code_of trap) (ap (λ c. c.vs.tvec) is.csrs);
   csrs = λ i. record (is.csrs i) {
-    vs = bank_entered s.csrs.vs (is_supervisor s.mode) s.regs.pc (cause_of trap.interrupt (vs_code_of trap)) trap.tval (ap (λ c. c.vs) is.csrs) is.pc i;
+    vs = supervisor_entered s.csrs.vs (is_supervisor s.mode) s.regs.pc (cause_of trap.interrupt (vs_code_of trap)) trap.tval (ap (λ c. c.vs) is.csrs) is.pc i;
   };
   reservation = is.reservation;
 }
 
-pub entered_storable : (s : Virtual) (trap : Trap) → IsStorable s → IsStorable (entered s trap)
+pub entered_storable : (s : Virtual) (trap : Trap) → IsStorable s → IsStorable (entered_by_trap s trap)
 entered_storable s trap is = at_storable s trap (target s.csrs s.mode trap) is
 
 -- an SRET: pc gets epc
-bank_returned : (bank : Bank) → BankStored bank → BankStored (returned_bank bank)
-bank_returned bank is = λ i. record (is i) { status = (returned_bank bank).status }
+supervisor_returned : (registers : SupervisorCsrs) → SupervisorStored registers → SupervisorStored (returned_supervisor registers)
+supervisor_returned registers is = λ i. record (is i) { status = (returned_supervisor registers).status }
 
 from_hs : (s : Virtual) → IsStorable s → IsStorable (arrived s (returned_from_hs s.csrs s.regs))
 from_hs s is = record {
   x0 = is.x0;
   pc = epc_code s.csrs.hs.epc (ap (λ c. c.hs.epc) is.csrs);
   csrs = λ i. record (is.csrs i) {
-    hs = bank_returned s.csrs.hs (ap (λ c. c.hs) is.csrs) i;
+    hs = supervisor_returned s.csrs.hs (ap (λ c. c.hs) is.csrs) i;
     hstatus = (returned_from_hs s.csrs s.regs).csrs.hstatus;
   };
   reservation = is.reservation;
@@ -95,7 +95,7 @@ from_vs : (s : Virtual) → IsStorable s → IsStorable (arrived s (returned_fro
 from_vs s is = record {
   x0 = is.x0;
   pc = epc_code s.csrs.vs.epc (ap (λ c. c.vs.epc) is.csrs);
-  csrs = λ i. record (is.csrs i) { vs = bank_returned s.csrs.vs (ap (λ c. c.vs) is.csrs) i };
+  csrs = λ i. record (is.csrs i) { vs = supervisor_returned s.csrs.vs (ap (λ c. c.vs) is.csrs) i };
   reservation = is.reservation;
 }
 
@@ -143,10 +143,10 @@ called_storable p is = let s = state_of p.virt.regs p.clock p.console in
     either VirtStorable (read p.virt.regs a7 == 8) _ _ after after
 
 -- the clock sets bits that have names, and time
-pub informed_storable : (p : Platform) → IsStorable p.virt → IsStorable (informed p).virt
-informed_storable p is = record {
+pub with_pending_lines_storable : (p : Platform) → IsStorable p.virt → IsStorable (with_pending_lines p).virt
+with_pending_lines_storable p is = record {
   x0 = is.x0;
   pc = is.pc;
-  csrs = λ i. record (is.csrs i) { sip = (informed p).virt.csrs.sip; time = p.clock.time };
+  csrs = λ i. record (is.csrs i) { sip = (with_pending_lines p).virt.csrs.sip; time = p.clock.time };
   reservation = is.reservation;
 }

@@ -1,19 +1,19 @@
 -- What a write, a trap and an SRET leave in registers can be stored.
 use Rattle.std.specs.Prelude.{◌==◌, Result, Ok, Err}
 use Rattle.std.proofs.Common.{◌≡◌, ℕ, ◌+◌, ◌*◌, ◌%◌, ◌^◌, ◌<◌, refl, ap, arith}
-use Rattle.arch_defs.specs.declared.csr_names.BankRegister.{BankRegister}
-use Rattle.arch_defs.specs.declared.csr_names.BankRegister.TheVariants.{Status, Tvec, Scratch, Epc, Cause, Tval, Atp}
-use Rattle.arch_defs.specs.declared.csr_names.BitRegister.{BitRegister}
-use Rattle.arch_defs.specs.declared.csr_names.BitRegister.TheVariants.{Scounteren, Senvcfg, Hcounteren, Henvcfg}
+use Rattle.arch_defs.specs.declared.csr_names.SupervisorCsr.{SupervisorCsr}
+use Rattle.arch_defs.specs.declared.csr_names.SupervisorCsr.TheVariants.{Status, Tvec, Scratch, Epc, Cause, Tval, Atp}
+use Rattle.arch_defs.specs.declared.csr_names.EnableCsr.{EnableCsr}
+use Rattle.arch_defs.specs.declared.csr_names.EnableCsr.TheVariants.{Scounteren, Senvcfg, Hcounteren, Henvcfg}
 use Rattle.arch_defs.specs.declared.csr_names.CsrEnd.{CsrEnd}
-use Rattle.arch_defs.specs.declared.csr_names.HypervisorRegister.{HypervisorRegister}
-use Rattle.arch_defs.specs.declared.csr_names.HypervisorRegister.TheVariants.{Hstatus, Hedeleg, Htimedelta, Hgeie, Hgeip, Htval, Htinst, Hgatp}
-use Rattle.arch_defs.specs.declared.csr_names.InterruptRegister.{InterruptRegister}
-use Rattle.arch_defs.specs.declared.csr_names.InterruptRegister.TheVariants.{Sie, Sip, Vsie, Vsip, Hideleg, Hie, Hip, Hvip}
+use Rattle.arch_defs.specs.declared.csr_names.HypervisorCsr.{HypervisorCsr}
+use Rattle.arch_defs.specs.declared.csr_names.HypervisorCsr.TheVariants.{Hstatus, Hedeleg, Htimedelta, Hgeie, Hgeip, Htval, Htinst, Hgatp}
+use Rattle.arch_defs.specs.declared.csr_names.InterruptCsr.{InterruptCsr}
+use Rattle.arch_defs.specs.declared.csr_names.InterruptCsr.TheVariants.{Sie, Sip, Vsie, Vsip, Hideleg, Hie, Hip, Hvip}
 use Rattle.arch_defs.specs.declared.csr_names.Register.{Register}
-use Rattle.arch_defs.specs.declared.csr_names.Register.TheVariants.{Supervisor, VirtualSupervisor, Interrupt, Bit, Hypervisor, Time, GuestTime}
+use Rattle.arch_defs.specs.declared.csr_names.Register.TheVariants.{Supervisor, VirtualSupervisor, Interrupt, Enable, Hypervisor, Time, GuestTime}
 use Rattle.arch_defs.specs.declared.modes.Mode.{Mode}
-use Rattle.arch_defs.specs.declared.registers.Bank.{Bank}
+use Rattle.arch_defs.specs.declared.registers.SupervisorCsrs.{SupervisorCsrs}
 use Rattle.arch_defs.specs.declared.registers.Csrs.{Csrs}
 use Rattle.arch_defs.specs.declared.registers.GuestMode.{GuestMode}
 use Rattle.arch_defs.specs.declared.registers.GuestMode.TheVariants as guest_mode
@@ -23,11 +23,11 @@ use Rattle.arch_defs.specs.declared.registers.SupervisorMode.{SupervisorMode}
 use Rattle.arch_defs.specs.declared.registers.SupervisorMode.TheVariants as supervisor_mode
 use Rattle.arch_defs.specs.declared.registers.SupervisorRoot.{SupervisorRoot}
 use Rattle.arch_defs.specs.declared.registers.SupervisorRoot.TheVariants as supervisor
-use Rattle.arch_defs.specs.Access.{bank_written, bit_written, changed_by, hypervisor_written, interrupts_written, named_to_write, write, written}
+use Rattle.arch_defs.specs.CsrAccess.{enable_written, hypervisor_written, interrupts_written, named_to_write, supervisor_written, write_csr, written, written_by}
 use Rattle.arch_defs.specs.Bits.{field}
-use Rattle.arch_defs.specs.CsrBits.{epc_bits, guest_root_number, guest_root_of, hedeleg_bits, supervisor_root_number, supervisor_root_of, tvec_bits}
+use Rattle.arch_defs.specs.CsrBits.{epc_bits, guest_root_of, hedeleg_bits, hgatp_bits, satp_bits, supervisor_root_of, tvec_bits}
 use Rattle.machine_laws.proofs.Cached.{either}
-use Rattle.machine_laws.specs.StorableStates.{IsCodeAddress, bank_form, stored_form}
+use Rattle.machine_laws.specs.StorableStates.{IsCodeAddress, stored_form, supervisor_form}
 
 -- the bits that a register stores are stored as they are
 tvec_stored : (v : ℕ) → tvec_bits (tvec_bits v) ≡ tvec_bits v
@@ -53,14 +53,14 @@ epc_code address is = (omega arith, omega arith)
 
 -- a root as it is stored
 abbrev AtpStored : SupervisorRoot → Type 0
-AtpStored root = supervisor_root_of root (supervisor_root_number root) ≡ root
+AtpStored root = supervisor_root_of root (satp_bits root) ≡ root
 
 atp_bare : AtpStored supervisor.Bare
-unfolding supervisor_root_of supervisor_root_number
+unfolding supervisor_root_of satp_bits
 atp_bare = refl
 
 atp_table : (mode : SupervisorMode) (asid ppn : ℕ) → asid < 2 ^ 16 → ppn < 2 ^ 44 → AtpStored (supervisor.Table mode asid ppn)
-unfolding supervisor_root_of supervisor_root_number
+unfolding supervisor_root_of satp_bits
 atp_table supervisor_mode.Sv39 asid ppn of_16 of_44 =
     let mode : field 60 4 (8 * 2 ^ 60 + asid % 2 ^ 16 * 2 ^ 44 + ppn % 2 ^ 44) ≡ 8 = omega arith in
     let first : field 44 16 (8 * 2 ^ 60 + asid % 2 ^ 16 * 2 ^ 44 + ppn % 2 ^ 44) ≡ asid = omega arith in
@@ -74,14 +74,14 @@ atp_stored kept v is = either AtpStored (field 60 4 v == 8) (supervisor.Table su
     (either AtpStored (field 60 4 v == 0) supervisor.Bare kept atp_bare is)
 
 abbrev HgatpStored : GuestRoot → Type 0
-HgatpStored root = guest_root_of (guest_root_number root) ≡ root
+HgatpStored root = guest_root_of (hgatp_bits root) ≡ root
 
 hgatp_bare : HgatpStored guest.Bare
-unfolding guest_root_of guest_root_number
+unfolding guest_root_of hgatp_bits
 hgatp_bare = refl
 
 hgatp_table : (mode : GuestMode) (vmid ppn : ℕ) → vmid < 2 ^ 7 → ppn % 4 ≡ 0 → ppn < 2 ^ 44 → HgatpStored (guest.Table mode vmid ppn)
-unfolding guest_root_of guest_root_number
+unfolding guest_root_of hgatp_bits
 hgatp_table guest_mode.Sv39x4 vmid ppn of_7 whole of_44 =
     let mode : field 60 4 (8 * 2 ^ 60 + vmid % 2 ^ 7 * 2 ^ 44 + field 2 42 ppn * 2 ^ 2) ≡ 8 = omega arith in
     let first : field 44 7 (8 * 2 ^ 60 + vmid % 2 ^ 7 * 2 ^ 44 + field 2 42 ppn * 2 ^ 2) ≡ vmid = omega arith in
@@ -93,25 +93,25 @@ unfolding guest_root_of
 hgatp_stored v = either HgatpStored (field 60 4 v == 8) (guest.Table guest_mode.Sv39x4 (field 44 7 v) (field 2 42 v * 2 ^ 2)) guest.Bare
     (hgatp_table guest_mode.Sv39x4 (field 44 7 v) (field 2 42 v * 2 ^ 2) (omega arith) (omega arith) (omega arith)) hgatp_bare
 
--- a bank after a write
-abbrev pub BankStored : Bank → Type 0
-BankStored bank = bank_form bank ≡ bank
+-- the registers after a write
+abbrev pub SupervisorStored : SupervisorCsrs → Type 0
+SupervisorStored registers = supervisor_form registers ≡ registers
 
-bank_stored : (bank : Bank) (r : BankRegister) (v : ℕ) → BankStored bank → BankStored (bank_written bank r v)
-unfolding bank_written
-bank_stored bank Status v is = λ i. record (is i) { status = (bank_written bank Status v).status }
-bank_stored bank Tvec v is = λ i. record (is i) { tvec = tvec_stored v i }
-bank_stored bank Scratch v is = λ i. record (is i) { scratch = v }
-bank_stored bank Epc v is = λ i. record (is i) { epc = epc_stored v i }
-bank_stored bank Cause v is = λ i. record (is i) { cause = v }
-bank_stored bank Tval v is = λ i. record (is i) { tval = v }
-bank_stored bank Atp v is = λ i. record (is i) { atp = atp_stored bank.atp v (ap (λ b. b.atp) is) i }
+supervisor_stored : (registers : SupervisorCsrs) (r : SupervisorCsr) (v : ℕ) → SupervisorStored registers → SupervisorStored (supervisor_written registers r v)
+unfolding supervisor_written
+supervisor_stored registers Status v is = λ i. record (is i) { status = (supervisor_written registers Status v).status }
+supervisor_stored registers Tvec v is = λ i. record (is i) { tvec = tvec_stored v i }
+supervisor_stored registers Scratch v is = λ i. record (is i) { scratch = v }
+supervisor_stored registers Epc v is = λ i. record (is i) { epc = epc_stored v i }
+supervisor_stored registers Cause v is = λ i. record (is i) { cause = v }
+supervisor_stored registers Tval v is = λ i. record (is i) { tval = v }
+supervisor_stored registers Atp v is = λ i. record (is i) { atp = atp_stored registers.atp v (ap (λ b. b.atp) is) i }
 
 -- the registers after a write
 abbrev pub CsrsStored : Csrs → Type 0
 CsrsStored csrs = stored_form csrs ≡ csrs
 
-interrupts_stored : (csrs : Csrs) (r : InterruptRegister) (v : ℕ) → CsrsStored csrs → CsrsStored (interrupts_written csrs r v)
+interrupts_stored : (csrs : Csrs) (r : InterruptCsr) (v : ℕ) → CsrsStored csrs → CsrsStored (interrupts_written csrs r v)
 unfolding interrupts_written
 interrupts_stored csrs Sie v is = λ i. record (is i) { sie = (interrupts_written csrs Sie v).sie }
 interrupts_stored csrs Sip v is = λ i. record (is i) { sip = (interrupts_written csrs Sip v).sip }
@@ -122,14 +122,14 @@ interrupts_stored csrs Hie v is = λ i. record (is i) { hie = (interrupts_writte
 interrupts_stored csrs Hip v is = λ i. record (is i) { hvip = (interrupts_written csrs Hip v).hvip }
 interrupts_stored csrs Hvip v is = λ i. record (is i) { hvip = (interrupts_written csrs Hvip v).hvip }
 
-bit_stored : (csrs : Csrs) (r : BitRegister) (v : ℕ) → CsrsStored csrs → CsrsStored (bit_written csrs r v)
-unfolding bit_written
-bit_stored csrs Scounteren v is = λ i. record (is i) { scounteren_tm = (bit_written csrs Scounteren v).scounteren_tm }
-bit_stored csrs Senvcfg v is = λ i. record (is i) { senvcfg_fiom = (bit_written csrs Senvcfg v).senvcfg_fiom }
-bit_stored csrs Hcounteren v is = λ i. record (is i) { hcounteren_tm = (bit_written csrs Hcounteren v).hcounteren_tm }
-bit_stored csrs Henvcfg v is = λ i. record (is i) { henvcfg_fiom = (bit_written csrs Henvcfg v).henvcfg_fiom }
+bit_stored : (csrs : Csrs) (r : EnableCsr) (v : ℕ) → CsrsStored csrs → CsrsStored (enable_written csrs r v)
+unfolding enable_written
+bit_stored csrs Scounteren v is = λ i. record (is i) { scounteren_tm = (enable_written csrs Scounteren v).scounteren_tm }
+bit_stored csrs Senvcfg v is = λ i. record (is i) { senvcfg_fiom = (enable_written csrs Senvcfg v).senvcfg_fiom }
+bit_stored csrs Hcounteren v is = λ i. record (is i) { hcounteren_tm = (enable_written csrs Hcounteren v).hcounteren_tm }
+bit_stored csrs Henvcfg v is = λ i. record (is i) { henvcfg_fiom = (enable_written csrs Henvcfg v).henvcfg_fiom }
 
-hypervisor_stored : (csrs : Csrs) (r : HypervisorRegister) (v : ℕ) → CsrsStored csrs → CsrsStored (hypervisor_written csrs r v)
+hypervisor_stored : (csrs : Csrs) (r : HypervisorCsr) (v : ℕ) → CsrsStored csrs → CsrsStored (hypervisor_written csrs r v)
 unfolding hypervisor_written
 hypervisor_stored csrs Hstatus v is = λ i. record (is i) { hstatus = (hypervisor_written csrs Hstatus v).hstatus }
 hypervisor_stored csrs Hedeleg v is = λ i. record (is i) { hedeleg = hedeleg_stored v i }
@@ -142,10 +142,10 @@ hypervisor_stored csrs Hgatp v is = λ i. record (is i) { hgatp = hgatp_stored v
 
 written_stored : (csrs : Csrs) (r : Register) (v : ℕ) → CsrsStored csrs → CsrsStored (written csrs r v)
 unfolding written
-written_stored csrs (Supervisor r) v is = λ i. record (is i) { hs = bank_stored csrs.hs r v (ap (λ c. c.hs) is) i }
-written_stored csrs (VirtualSupervisor r) v is = λ i. record (is i) { vs = bank_stored csrs.vs r v (ap (λ c. c.vs) is) i }
+written_stored csrs (Supervisor r) v is = λ i. record (is i) { hs = supervisor_stored csrs.hs r v (ap (λ c. c.hs) is) i }
+written_stored csrs (VirtualSupervisor r) v is = λ i. record (is i) { vs = supervisor_stored csrs.vs r v (ap (λ c. c.vs) is) i }
 written_stored csrs (Interrupt r) v is = interrupts_stored csrs r v is
-written_stored csrs (Bit r) v is = bit_stored csrs r v is
+written_stored csrs (Enable r) v is = bit_stored csrs r v is
 written_stored csrs (Hypervisor r) v is = hypervisor_stored csrs r v is
 written_stored csrs Time v is = is
 written_stored csrs GuestTime v is = is
@@ -155,10 +155,10 @@ abbrev pub WriteStored : Result Csrs CsrEnd → Type 0
 WriteStored (Ok csrs) = CsrsStored csrs
 WriteStored (Err end) = Unit {0}
 
-changed_stored : (csrs : Csrs) (r : Result Register CsrEnd) (v : ℕ) → CsrsStored csrs → WriteStored (changed_by csrs r v)
+changed_stored : (csrs : Csrs) (r : Result Register CsrEnd) (v : ℕ) → CsrsStored csrs → WriteStored (written_by csrs r v)
 changed_stored csrs (Ok r) v is = written_stored csrs r v is
 changed_stored csrs (Err end) v is = tt
 
-pub write_stored : (csrs : Csrs) (mode : Mode) (number v : ℕ) → CsrsStored csrs → WriteStored (write csrs mode number v)
-unfolding write
+pub write_stored : (csrs : Csrs) (mode : Mode) (number v : ℕ) → CsrsStored csrs → WriteStored (write_csr csrs mode number v)
+unfolding write_csr
 write_stored csrs mode number v is = changed_stored csrs (named_to_write csrs mode number) v is

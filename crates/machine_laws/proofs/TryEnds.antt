@@ -8,17 +8,17 @@ use Rattle.arch_defs.specs.declared.registers.Virtual.{Virtual}
 use Rattle.arch_defs.specs.Inputs.{next_input}
 use Rattle.arch_defs.specs.Interrupts.{due, interrupt_of}
 use Rattle.arch_defs.specs.Memory.{SecondStage, ram_base, reading_of}
-use Rattle.arch_defs.specs.SecondStage.{unplaced_trap}
+use Rattle.arch_defs.specs.SecondStage.{missing_place_trap}
 use Rattle.arch_defs.specs.Spaces.{fenced}
 use Rattle.arch_defs.specs.Waits.{wake_moment}
 use Rattle.op_defs.specs.declared.ops.DataAccess.{DataAccess}
 use Rattle.machine_defs.specs.declared.events.Event.{Event}
 use Rattle.machine_defs.specs.declared.events.Event.TheVariants.{System}
-use Rattle.machine_defs.specs.Core.{Completion, core, leaves}
+use Rattle.machine_defs.specs.Core.{Completion, completion_of, core}
 use Rattle.machine_defs.specs.HlvAccesses.{hlv_outcome}
 use Rattle.machine_defs.specs.Machine.{Ended, Machine, Tried, WaitsForGood, called, has_enabled_interrupt, made_by, stepped_to, trapped, waited, waited_until}
-use Rattle.machine_defs.specs.Outcomes.{Outcome, Done, Trapped, Stuck, Called, Waits, Fenced, Accesses}
-use Rattle.machine_defs.specs.Tries.{concluded, fence_of, fence_under, fence_with, hlv_made, made, tried_with, try_under}
+use Rattle.machine_defs.specs.Outcomes.{Outcome, Done, Trapped, Missed, Called, Waits, Fenced, Accesses}
+use Rattle.machine_defs.specs.Tries.{apply_outcome, committed, fence_under, fence_with, hlv_committed, outcome_fence, tried_with, try_under}
 use Rattle.machine_laws.specs.InstructionEnds.{HlvHas, OutcomeHas}
 
 -- a machine after a step that leaves this state and ends at this moment
@@ -30,7 +30,7 @@ pub data TryEnd (L : Completion → Type 0) (P : Virtual → Type 0) (m : Machin
   -- a trap is taken
   Takes : (trap : Trap) → TryEnd L P m (trapped m trap) None
   -- an instruction completes
-  Makes : (completion : Completion) (event : Event) → L completion → TryEnd L P m (made m completion.state completion.stored event) None
+  Makes : (completion : Completion) (event : Event) → L completion → TryEnd L P m (committed m completion.state completion.stored event) None
   -- a call of the environment
   Calls : TryEnd L P m (stepped_to m (called m.platform) System) None
   -- a wait ends at a moment, or never
@@ -52,16 +52,16 @@ waited_end L P m virt has = by (has_enabled_interrupt m.platform.virt.csrs)
     by true = Passes virt (m.platform.clock.time + 1) has
     by false = until_end L P m virt has _
 
-hlv_end : (L : Completion → Type 0) (P : Virtual → Type 0) (m : Machine) (end : Result Completion Trap) → HlvHas L end → TryEnd L P m (hlv_made m end) None
+hlv_end : (L : Completion → Type 0) (P : Virtual → Type 0) (m : Machine) (end : Result Completion Trap) → HlvHas L end → TryEnd L P m (hlv_committed m end) None
 hlv_end L P m (Ok completion) has = Makes completion System has
 hlv_end L P m (Err trap) has = Takes trap
 
 concluded_end : (L : Completion → Type 0) (P : Virtual → Type 0) (A : DataAccess → Type 0) (m : Machine)
     → ((wanted : DataAccess) → A wanted → HlvHas L (hlv_outcome ram_base m.ram m.platform.virt wanted))
-    → (o : Outcome) → OutcomeHas L P A o → TryEnd L P m (concluded m o) (fence_of o)
-concluded_end L P A m hlv (Done virt stored event) has = Makes (leaves virt stored) event has
+    → (o : Outcome) → OutcomeHas L P A o → TryEnd L P m (apply_outcome m o) (outcome_fence o)
+concluded_end L P A m hlv (Done virt stored event) has = Makes (completion_of virt stored) event has
 concluded_end L P A m hlv (Trapped trap) has = Takes trap
-concluded_end L P A m hlv (Stuck unplaced) has = Takes (unplaced_trap m.platform.virt.csrs ram_base m.ram unplaced)
+concluded_end L P A m hlv (Missed missing) has = Takes (missing_place_trap m.platform.virt.csrs ram_base m.ram missing)
 concluded_end L P A m hlv Called has = Calls
 concluded_end L P A m hlv (Waits virt) has = waited_end L P m virt has
 concluded_end L P A m hlv (Fenced virt fence) has = Fences virt fence has

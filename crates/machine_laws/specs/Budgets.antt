@@ -2,7 +2,7 @@
 use Rattle.std.specs.Prelude.{ℕ, zero, suc, ◌≡◌, ◌+◌, ◌-◌, ◌*◌, ◌<◌, ◌≤◌, ◌++◌, Some, None}
 use Rattle.arch_defs.specs.declared.cached.Entry.{Entry}
 use Rattle.machine_defs.specs.declared.guests.Status.TheVariants.{Running}
-use Rattle.machine_defs.specs.Fills.{fill, fills, lacking, most_fills, most_tries, needed}
+use Rattle.machine_defs.specs.Fills.{fill, fills, missing_entry, most_fills, most_tries, needed}
 use Rattle.machine_defs.specs.Machine.{Machine}
 use Rattle.machine_defs.specs.Runs.{event_in, events, left_after, run, step}
 use Rattle.machine_defs.specs.Tries.{try}
@@ -23,20 +23,20 @@ pub record Goes (m : Machine) (k : ℕ) (next : Machine) (left : ℕ) : Type 0 w
 -- a try that lacks an entry leaves all steps, after the fill
 abbrev pub FillGoes : Type 0
 FillGoes = (m : Machine) (e : Entry) (k : ℕ) → needed ≤ m.entry_room → 0 < k → m.platform.status ≡ Running
-    → lacking m ≡ Some e → Goes m k (fill m e) k
+    → missing_entry m ≡ Some e → Goes m k (fill m e) k
 
 -- a try that lacks none ends a step
 abbrev pub TryGoes : Type 0
 TryGoes = (m : Machine) (k : ℕ) → needed ≤ m.entry_room → 0 < k → m.platform.status ≡ Running
-    → lacking m ≡ None → Goes m k (left_after m) (k - 1)
+    → missing_entry m ≡ None → Goes m k (left_after m) (k - 1)
 
 -- the step of a machine that lacks none is its try
 abbrev pub ReadyStepIsTry : Type 0
-ReadyStepIsTry = (m : Machine) → m.platform.status ≡ Running → lacking m ≡ None → step m ≡ left_after m
+ReadyStepIsTry = (m : Machine) → m.platform.status ≡ Running → missing_entry m ≡ None → step m ≡ left_after m
 
 -- so many steps that are made, and before which none is lacking, leave as many steps less
 abbrev pub NeedNoFill : ℕ → Machine → Type 0
-NeedNoFill n m = (i : ℕ) → i < n → ((run m i).platform.status ≡ Running) × (lacking (run m i) ≡ None)
+NeedNoFill n m = (i : ℕ) → i < n → ((run m i).platform.status ≡ Running) × (missing_entry (run m i) ≡ None)
 
 abbrev pub ReadyStepsGo : Type 0
 ReadyStepsGo = (m : Machine) (n k : ℕ) → needed ≤ m.entry_room → 0 < n → n ≤ k → NeedNoFill n m
@@ -49,8 +49,8 @@ BudgetIsSmall = (m : Machine) (k : ℕ) → budget m k ≤ k * most_tries m.entr
 -- a fill is no event, and a try that lacks nothing is one, if it is a step
 abbrev pub FillIsNoEvent : Type 0
 FillIsNoEvent = (m : Machine) (e : Entry) (k : ℕ) → needed ≤ m.entry_room → m.platform.status ≡ Running
-    → lacking m ≡ Some e → events (fill m e) k ≡ events m k
+    → missing_entry m ≡ Some e → events (fill m e) k ≡ events m k
 
 abbrev pub TryIsEvent : Type 0
-TryIsEvent = (m : Machine) (k : ℕ) → 0 < k → m.platform.status ≡ Running → lacking m ≡ None
+TryIsEvent = (m : Machine) (k : ℕ) → 0 < k → m.platform.status ≡ Running → missing_entry m ≡ None
     → events m k ≡ event_in (try m) ++ events (left_after m) (k - 1)

@@ -3,7 +3,7 @@ use Rattle.std.specs.Prelude.{ℕ, ◌≡◌, ◌/◌, ◌≤◌, ◌==◌, Bool
 use Rattle.arch_defs.specs.declared.cached.Fence.{Fence}
 use Rattle.arch_defs.specs.declared.modes.Access.{Access}
 use Rattle.arch_defs.specs.Memory.{SecondStage, ram_base}
-use Rattle.arch_defs.specs.SecondStage.{second_now}
+use Rattle.arch_defs.specs.SecondStage.{second_by_walk}
 use Rattle.arch_defs.specs.Roots.{vmid_of}
 use Rattle.arch_defs.specs.Spaces.{names_vmid}
 use Rattle.machine_defs.specs.declared.guests.GuestSpec.{GuestSpec}
@@ -31,22 +31,22 @@ pub record IsStepUnder (second : SecondStage) (f g : FreeMachine) : Type 0 where
 -- where nothing is cached, that is the walk of hgatp's table as RAM is
 abbrev pub UncachedByWalks : Type 0
 UncachedByWalks = (f g : FreeMachine) → FreeStep f g → f.cache ≡ []
-    → IsStepUnder (second_now f.platform.virt.csrs f.platform.virt.mode ram_base f.ram) f g
+    → IsStepUnder (second_by_walk f.platform.virt.csrs f.platform.virt.mode ram_base f.ram) f g
 
 -- whether what a fence names is the page of an address, or every page
 abbrev pub names_address : Option ℕ → ℕ → Bool
 names_address None address = true
 names_address (Some page) address = page == address / 4096
 
--- in the step after a fence, each access of a VMID and a page that the fence names is made by that walk too: its
--- translation sees what was stored before the fence (8.3.2)
+-- in the step after a fence, each access of a VMID and a page that the fence names is made by that walk too:
+-- its translation sees what was stored before the fence (8.3.2)
 abbrev pub FencedByWalks : Type 0
 FencedByWalks = (f g h : FreeMachine) (before : FreeStep f g) (after : FreeStep g h) (fence : Fence)
     (address : ℕ) (kind : Access) → fence_under before.second (uncached f) ≡ Some fence
     → names_vmid fence.vmid (vmid_of g.platform.virt.csrs.hgatp) ≡ true
     → names_address fence.page address ≡ true
     → after.second address kind
-    ≡ second_now g.platform.virt.csrs g.platform.virt.mode ram_base g.ram address kind
+    ≡ second_by_walk g.platform.virt.csrs g.platform.virt.mode ram_base g.ram address kind
 
 -- in every run of an orderly machine that begins without spaces, all cached translations are fresh
 abbrev pub RunsCacheFresh : Type 0

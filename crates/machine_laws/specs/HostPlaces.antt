@@ -6,7 +6,7 @@ use Rattle.arch_defs.specs.declared.modes.Access.{Access}
 use Rattle.arch_defs.specs.Frames.{Only, in_blocks}
 use Rattle.arch_defs.specs.Memory.{SecondStage, Stored, bare, block_size, ram_base, reading_of, with_stored}
 use Rattle.arch_defs.specs.Ram.{IsDistinct, SlicesLieIn, host_answer, host_place, ram_of}
-use Rattle.machine_laws.specs.Renaming.{GivesHeld, IsRenamed, Places, StoresHeld, stored_renamed}
+use Rattle.machine_laws.specs.Renaming.{GivesWithin, IsRenamed, Places, StoresWithin, stored_renamed}
 
 -- the bytes of RAM of so many blocks
 abbrev pub ram_size : List ℕ → ℕ
@@ -28,7 +28,7 @@ host_second blocks address access = host_answer blocks address
 -- memory, whose base is 0, where another second stage gives each place at its place there
 abbrev pub PlacesAreRenamed : Type 0
 PlacesAreRenamed = (blocks memory : List ℕ) (own host : SecondStage)
-    → SlicesLieIn block_size blocks (length memory) → IsDistinct blocks → GivesHeld (in_ram blocks) own
+    → SlicesLieIn block_size blocks (length memory) → IsDistinct blocks → GivesWithin (in_ram blocks) own
     → ((address : ℕ) (access : Access)
     → host address access ≡ option_map (memory_place blocks) (own address access))
     → IsRenamed (memory_place blocks) (in_ram blocks) own (reading_of ram_base (ram_of blocks memory))
@@ -48,11 +48,11 @@ memory_with blocks memory stored = with_stored 0 (stored_renamed (memory_place b
 -- its RAM is the lone machine's after that store
 abbrev pub RamIsStored : Type 0
 RamIsStored = (blocks memory : List ℕ) (stored : Option Stored)
-    → SlicesLieIn block_size blocks (length memory) → IsDistinct blocks → StoresHeld (in_ram blocks) stored
+    → SlicesLieIn block_size blocks (length memory) → IsDistinct blocks → StoresWithin (in_ram blocks) stored
     → ram_of blocks (memory_with blocks memory stored) ≡ with_stored ram_base stored (ram_of blocks memory)
 
 -- and no byte outside RAM's frames changed
 abbrev pub OnlyRamChanges : Type 0
 OnlyRamChanges = (blocks memory : List ℕ) (stored : Option Stored)
-    → SlicesLieIn block_size blocks (length memory) → StoresHeld (in_ram blocks) stored
+    → SlicesLieIn block_size blocks (length memory) → StoresWithin (in_ram blocks) stored
     → Only (in_blocks blocks) memory (memory_with blocks memory stored)

@@ -4,7 +4,7 @@ use Rattle.arch_defs.specs.declared.cached.Entry.{Entry}
 use Rattle.machine_laws.specs.FrontSpaces.{FrontIs}
 use Rattle.arch_defs.specs.WalkedEntries.{folds}
 use Rattle.machine_defs.specs.declared.guests.GuestSpec.{GuestSpec}
-use Rattle.machine_defs.specs.Fills.{fill, lacking, needed}
+use Rattle.machine_defs.specs.Fills.{fill, missing_entry, needed}
 use Rattle.machine_defs.specs.Machine.{Machine, start}
 use Rattle.machine_defs.specs.Runs.{left_after, run}
 
@@ -19,11 +19,11 @@ pub record IsOrderly (m : Machine) : Type 0 where
 abbrev pub StartIsOrderly : Type 0
 StartIsOrderly = (guest : GuestSpec) → needed ≤ guest.entries → 1 ≤ guest.spaces → IsOrderly (start guest)
 
-abbrev pub FillStaysOrderly : Type 0
-FillStaysOrderly = (m : Machine) (e : Entry) → IsOrderly m → lacking m ≡ Some e → IsOrderly (fill m e)
+abbrev pub FillKeepsOrderly : Type 0
+FillKeepsOrderly = (m : Machine) (e : Entry) → IsOrderly m → missing_entry m ≡ Some e → IsOrderly (fill m e)
 
-abbrev pub TryStaysOrderly : Type 0
-TryStaysOrderly = (m : Machine) → IsOrderly m → IsOrderly (left_after m)
+abbrev pub TryKeepsOrderly : Type 0
+TryKeepsOrderly = (m : Machine) → IsOrderly m → IsOrderly (left_after m)
 
-abbrev pub StaysOrderly : Type 0
-StaysOrderly = (m : Machine) (n : ℕ) → IsOrderly m → IsOrderly (run m n)
+abbrev pub RunKeepsOrderly : Type 0
+RunKeepsOrderly = (m : Machine) (n : ℕ) → IsOrderly m → IsOrderly (run m n)

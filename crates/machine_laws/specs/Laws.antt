@@ -6,22 +6,22 @@ use Rattle.arch_defs.specs.declared.cached.Fence.{Fence}
 use Rattle.arch_defs.specs.declared.modes.Access.{Access}
 use Rattle.arch_defs.specs.declared.registers.Csrs.{Csrs}
 use Rattle.arch_defs.specs.declared.registers.Virtual.{Virtual}
-use Rattle.arch_defs.specs.declared.walks.Unplaced.{Unplaced}
+use Rattle.arch_defs.specs.declared.walks.MissingPlace.{MissingPlace}
 use Rattle.arch_defs.specs.CachedEntries.{CanFill, entry_at, leaf_of, place_by, second_by}
 use Rattle.arch_defs.specs.Interrupts.{due}
 use Rattle.arch_defs.specs.Memory.{SecondStage, bare, block_size, ram_base, reading_of}
 use Rattle.arch_defs.specs.Permits.{permits_second}
-use Rattle.arch_defs.specs.SecondStage.{second_now}
+use Rattle.arch_defs.specs.SecondStage.{second_by_walk}
 use Rattle.arch_defs.specs.Spaces.{Space, fenced, front}
 use Rattle.arch_defs.specs.Walk.{leaf_address}
-use Rattle.arch_defs.specs.WalkedEntries.{entry_now, folds}
+use Rattle.arch_defs.specs.WalkedEntries.{entry_by_walk, folds}
 use Rattle.machine_defs.specs.declared.events.Event.{Event}
 use Rattle.machine_defs.specs.declared.guests.GuestSpec.{GuestSpec}
 use Rattle.machine_defs.specs.declared.guests.Status.TheVariants.{Running}
 use Rattle.machine_defs.specs.Core.{core}
-use Rattle.machine_defs.specs.Fills.{after_fills, fill, fills, lacking, lacking_at, most_fills, needed, ready}
+use Rattle.machine_defs.specs.Fills.{after_fills, fill, fills, missing_entry, missing_entry_at, most_fills, needed, ready}
 use Rattle.machine_defs.specs.Machine.{Machine, Ended, start}
-use Rattle.machine_defs.specs.Outcomes.{Stuck}
+use Rattle.machine_defs.specs.Outcomes.{Missed}
 use Rattle.machine_defs.specs.Runs.{events, left_by, run, step, step_within}
 use Rattle.machine_defs.specs.Tries.{fence_under, second_of, spaces_after, try, try_under}
 use Rattle.machine_laws.specs.Keeping.{IsOrderly}
@@ -43,37 +43,37 @@ abbrev pub FlatIsRam : Type 0
 FlatIsRam = (m : Machine) → folds m.platform.virt ≡ false → second_of m ≡ bare ram_base (length m.ram)
 
 -- what an orderly machine lacks is read off how its instruction ends under its own second stage
-abbrev pub LacksAreRead : Type 0
-LacksAreRead = (m : Machine) → IsOrderly m → folds m.platform.virt ≡ true
+abbrev pub MissingEntriesAreRead : Type 0
+MissingEntriesAreRead = (m : Machine) → IsOrderly m → folds m.platform.virt ≡ true
     → due m.platform.virt.csrs m.platform.virt.mode ≡ None
-    → lacking m ≡ lacking_at m.platform.virt.csrs m.ram
+    → missing_entry m ≡ missing_entry_at m.platform.virt.csrs m.ram
     (core (second_of m) (reading_of ram_base m.ram) m.platform.virt)
 
 -- and a machine that does not fold lacks nothing, nor one that takes an interrupt
-abbrev pub FlatLacksNothing : Type 0
-FlatLacksNothing = (m : Machine) → folds m.platform.virt ≡ false → lacking m ≡ None
+abbrev pub FlatMissesNothing : Type 0
+FlatMissesNothing = (m : Machine) → folds m.platform.virt ≡ false → missing_entry m ≡ None
 
-abbrev pub InterruptedLacksNothing : Type 0
-InterruptedLacksNothing = (m : Machine) (code : ℕ)
-    → due m.platform.virt.csrs m.platform.virt.mode ≡ Some code → lacking m ≡ None
+abbrev pub InterruptedMissesNothing : Type 0
+InterruptedMissesNothing = (m : Machine) (code : ℕ)
+    → due m.platform.virt.csrs m.platform.virt.mode ≡ Some code → missing_entry m ≡ None
 
 -- where an orderly machine lacks nothing and yet its instruction stops, the walk of hgatp's table has no
 -- place either: the fault that is taken is that of this walk
 abbrev pub StopsAreFaults : Type 0
-StopsAreFaults = (m : Machine) (unplaced : Unplaced) → IsOrderly m → folds m.platform.virt ≡ true
-    → due m.platform.virt.csrs m.platform.virt.mode ≡ None → lacking m ≡ None
-    → core (second_of m) (reading_of ram_base m.ram) m.platform.virt ≡ Stuck unplaced
-    → second_now m.platform.virt.csrs m.platform.virt.mode ram_base m.ram unplaced.address unplaced.kind
+StopsAreFaults = (m : Machine) (missing : MissingPlace) → IsOrderly m → folds m.platform.virt ≡ true
+    → due m.platform.virt.csrs m.platform.virt.mode ≡ None → missing_entry m ≡ None
+    → core (second_of m) (reading_of ram_base m.ram) m.platform.virt ≡ Missed missing
+    → second_by_walk m.platform.virt.csrs m.platform.virt.mode ram_base m.ram missing.address missing.kind
     ≡ None
 
 -- so many fills suffice, as many as a space has room for and `needed`: the next try lacks nothing
 abbrev pub FillsSuffice : Type 0
-FillsSuffice = (m : Machine) → needed ≤ m.entry_room → lacking (ready m) ≡ None
+FillsSuffice = (m : Machine) → needed ≤ m.entry_room → missing_entry (ready m) ≡ None
 
 -- so of each guest's machine after each run, if its spaces have the room
 abbrev pub FillsSufficeForGuests : Type 0
 FillsSufficeForGuests = (guest : GuestSpec) (k : ℕ) → needed ≤ guest.entries → 1 ≤ guest.spaces
-    → lacking (ready (run (start guest) k)) ≡ None
+    → missing_entry (ready (run (start guest) k)) ≡ None
 
 -- and more of them would change nothing
 abbrev pub MoreChangeNothing : Type 0
@@ -99,11 +99,11 @@ pub record Refilled (m : Machine) (e : Entry) : Type 0 where
   pub fewer : fills (most_fills m) m ≡ fills (most_fills m) (fill m e) + 1
 
 abbrev pub FillsGoOn : Type 0
-FillsGoOn = (m : Machine) (e : Entry) → needed ≤ m.entry_room → lacking m ≡ Some e → Refilled m e
+FillsGoOn = (m : Machine) (e : Entry) → needed ≤ m.entry_room → missing_entry m ≡ Some e → Refilled m e
 
 abbrev pub StepsGoOn : Type 0
 StepsGoOn = (m : Machine) (e : Entry) → needed ≤ m.entry_room → m.platform.status ≡ Running
-    → lacking m ≡ Some e → step (fill m e) ≡ step m
+    → missing_entry m ≡ Some e → step (fill m e) ≡ step m
 
 -- the spaces that a try leaves: without what it names as a fence, or else after the entering of a space if it
 -- sets V and then folds, and in no other way changed
@@ -119,34 +119,35 @@ TriesChangeSpaces = (m after : Machine) (second : SecondStage) (event : Event)
 -- what is filled for an access gives it the place that the walk of hgatp's table gives it, as RAM is
 abbrev pub FillsAreWalks : Type 0
 FillsAreWalks = (virt : Virtual) (ram : List ℕ) (address : ℕ) (kind : Access) → folds virt ≡ true
-    → place_by virt.csrs.hs.status.mxr address kind (entry_now virt.csrs ram address kind)
-    ≡ second_now virt.csrs virt.mode ram_base ram address kind
+    → place_by virt.csrs.hs.status.mxr address kind (entry_by_walk virt.csrs ram address kind)
+    ≡ second_by_walk virt.csrs virt.mode ram_base ram address kind
 
 -- and is the same for each address of its page
 abbrev pub PageHasOneEntry : Type 0
 PageHasOneEntry = (csrs : Csrs) (ram : List ℕ) (address other : ℕ) (kind : Access)
-    → other / 4096 ≡ address / 4096 → entry_now csrs ram other kind ≡ entry_now csrs ram address kind
+    → other / 4096 ≡ address / 4096 → entry_by_walk csrs ram other kind ≡ entry_by_walk csrs ram address kind
 
 -- what is filled for one access serves each other to the page, of whatever kind, as that walk does
 abbrev pub FillsServeThePage : Type 0
 FillsServeThePage = (virt : Virtual) (ram : List ℕ) (address other : ℕ) (kind other_kind : Access) (e : Entry)
-    → folds virt ≡ true → entry_now virt.csrs ram address kind ≡ Some e → other / 4096 ≡ address / 4096
+    → folds virt ≡ true → entry_by_walk virt.csrs ram address kind ≡ Some e → other / 4096 ≡ address / 4096
     → place_by virt.csrs.hs.status.mxr other other_kind (Some e)
-    ≡ second_now virt.csrs virt.mode ram_base ram other other_kind
+    ≡ second_by_walk virt.csrs virt.mode ram_base ram other other_kind
 
 -- and it can be filled into the folded table of a guest whose RAM is of as many blocks
 abbrev pub FillsCanBeMade : Type 0
 FillsCanBeMade = (csrs : Csrs) (ram blocks : List ℕ) (address : ℕ) (kind : Access) (e : Entry)
-    → length ram ≡ length blocks * block_size → entry_now csrs ram address kind ≡ Some e → CanFill blocks e
+    → length ram ≡ length blocks * block_size → entry_by_walk csrs ram address kind ≡ Some e
+    → CanFill blocks e
 
 -- the second stage as a rule without fills: by an entry that permits the access, else by that walk
 abbrev pub own_or_walked : Machine → SecondStage
 own_or_walked m address kind = let virt = m.platform.virt in
-    option_or (second_of m address kind) (second_now virt.csrs virt.mode ram_base m.ram address kind)
+    option_or (second_of m address kind) (second_by_walk virt.csrs virt.mode ram_base m.ram address kind)
 
 -- where an orderly machine lacks nothing, its try is one under this rule
 abbrev pub TriesEndByRule : Type 0
-TriesEndByRule = (m : Machine) → IsOrderly m → lacking m ≡ None → try m ≡ try_under (own_or_walked m) m
+TriesEndByRule = (m : Machine) → IsOrderly m → missing_entry m ≡ None → try m ≡ try_under (own_or_walked m) m
 
 -- and so its step, which is its fills and then that try
 abbrev pub StepsEndByRule : Type 0

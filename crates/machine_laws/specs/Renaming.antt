@@ -5,7 +5,7 @@ use Rattle.arch_defs.specs.declared.modes.Access.{Access}
 use Rattle.arch_defs.specs.declared.registers.Virtual.{Virtual}
 use Rattle.arch_defs.specs.Memory.{Reading, SecondStage, Stored}
 use Rattle.machine_defs.specs.Core.{Completion, core}
-use Rattle.machine_defs.specs.Outcomes.{Outcome, Done, Trapped, Stuck, Called, Waits, Fenced, Accesses}
+use Rattle.machine_defs.specs.Outcomes.{Outcome, Done, Trapped, Missed, Called, Waits, Fenced, Accesses}
 use Rattle.machine_laws.specs.InstructionEnds.{OutcomeHas}
 
 -- a reservation at its place's new name
@@ -26,7 +26,7 @@ stored_renamed h None = None
 abbrev pub outcome_renamed : (ℕ → ℕ) → Outcome → Outcome
 outcome_renamed h (Done state stored event) = Done (renamed h state) (stored_renamed h stored) event
 outcome_renamed h (Trapped trap) = Trapped trap
-outcome_renamed h (Stuck unplaced) = Stuck unplaced
+outcome_renamed h (Missed missing) = Missed missing
 outcome_renamed h Called = Called
 outcome_renamed h (Waits state) = Waits (renamed h state)
 outcome_renamed h (Fenced state fence) = Fenced (renamed h state) fence
@@ -37,8 +37,8 @@ abbrev pub Places : Type 0
 Places = ℕ → Bool
 
 -- a second stage gives places of this set alone, and keeps the offset in a page of 4,096 bytes
-abbrev pub GivesHeld : Places → SecondStage → Type 0
-GivesHeld held second = (address place : ℕ) (access : Access) → second address access ≡ Some place
+abbrev pub GivesWithin : Places → SecondStage → Type 0
+GivesWithin held second = (address place : ℕ) (access : Access) → second address access ≡ Some place
     → (held place ≡ true) × (place % 4096 ≡ address % 4096)
 
 -- a second stage and a reading, own and reading, and a pair that has its places of a set at new names, host
@@ -48,41 +48,41 @@ pub record IsRenamed (h : ℕ → ℕ) (held : Places) (own : SecondStage) (read
   -- an address has a place under the other where it has one, and that is the place's new name
   pub places : (address : ℕ) (access : Access) → host address access ≡ option_map h (own address access)
   -- each place is of the set, and keeps its address's offset
-  pub inside : GivesHeld held own
+  pub inside : GivesWithin held own
   -- the bytes at a place, up to the end of its page, are those at its new name
   pub same : (place n : ℕ) → held place ≡ true → place % 4096 + n ≤ 4096 → other (h place) n ≡ reading place n
   -- no two places of the set get one name
   pub apart : (a b : ℕ) → held a ≡ true → held b ≡ true → h a ≡ h b → a ≡ b
 
 -- what is reserved, if anything is, is a place of the set
-abbrev pub ReservesHeld : Places → Option (ℕ × ℕ) → Type 0
-ReservesHeld held (Some (place, bytes)) = held place ≡ true
-ReservesHeld held None = Unit {0}
+abbrev pub ReservesWithin : Places → Option (ℕ × ℕ) → Type 0
+ReservesWithin held (Some (place, bytes)) = held place ≡ true
+ReservesWithin held None = Unit {0}
 
 -- what is stored, if anything is, begins at a place of the set and ends in the same page
-abbrev pub StoresHeld : Places → Option Stored → Type 0
-StoresHeld held (Some s) = (held s.place ≡ true) × (s.place % 4096 + s.width ≤ 4096)
-StoresHeld held None = Unit {0}
+abbrev pub StoresWithin : Places → Option Stored → Type 0
+StoresWithin held (Some s) = (held s.place ≡ true) × (s.place % 4096 + s.width ≤ 4096)
+StoresWithin held None = Unit {0}
 
 -- so it is of what an instruction leaves that completes
-abbrev pub CompletionHeld : Places → Completion → Type 0
-CompletionHeld held completion =
-    StoresHeld held completion.stored × ReservesHeld held completion.state.reservation
+abbrev pub CompletionWithin : Places → Completion → Type 0
+CompletionWithin held completion =
+    StoresWithin held completion.stored × ReservesWithin held completion.state.reservation
 
 -- an outcome stores and reserves in the set alone
-abbrev pub LeavesHeld : Places → Outcome → Type 0
-LeavesHeld held o =
-    OutcomeHas (CompletionHeld held) (λ state. ReservesHeld held state.reservation) (λ wanted. Unit {0}) o
+abbrev pub LeavesWithin : Places → Outcome → Type 0
+LeavesWithin held o =
+    OutcomeHas (CompletionWithin held) (λ state. ReservesWithin held state.reservation) (λ wanted. Unit {0}) o
 
 -- one instruction of the renamed state, under the renamed second stage and reading, is the renamed one
 abbrev pub RenamedCore : Type 0
 RenamedCore = (h : ℕ → ℕ) (held : Places) (own : SecondStage) (reading : Reading)
     (host : SecondStage) (other : Reading) (state : Virtual)
-    → IsRenamed h held own reading host other → ReservesHeld held state.reservation
+    → IsRenamed h held own reading host other → ReservesWithin held state.reservation
     → core host other (renamed h state) ≡ outcome_renamed h (core own reading state)
 
 -- under a second stage that gives places of a set alone, one instruction stores and reserves in it alone
-abbrev pub StaysHeld : Type 0
-StaysHeld = (held : Places) (second : SecondStage) (reading : Reading) (state : Virtual)
-    → GivesHeld held second → ReservesHeld held state.reservation
-    → LeavesHeld held (core second reading state)
+abbrev pub CoreKeepsWithin : Type 0
+CoreKeepsWithin = (held : Places) (second : SecondStage) (reading : Reading) (state : Virtual)
+    → GivesWithin held second → ReservesWithin held state.reservation
+    → LeavesWithin held (core second reading state)

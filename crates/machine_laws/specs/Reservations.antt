@@ -4,9 +4,9 @@ use Rattle.std.specs.List.{All}
 use Rattle.arch_defs.specs.declared.cached.Entry.{Entry}
 use Rattle.arch_defs.specs.Memory.{ram_base}
 use Rattle.machine_defs.specs.declared.guests.GuestSpec.{GuestSpec}
-use Rattle.machine_defs.specs.Fills.{fill, lacking}
+use Rattle.machine_defs.specs.Fills.{fill, missing_entry}
 use Rattle.machine_defs.specs.Machine.{Machine, start}
-use Rattle.machine_laws.specs.Renaming.{GivesHeld, Places, ReservesHeld}
+use Rattle.machine_laws.specs.Renaming.{GivesWithin, Places, ReservesWithin}
 use Rattle.machine_defs.specs.Runs.{left_after, run}
 use Rattle.machine_defs.specs.Tries.{second_of}
 
@@ -20,7 +20,7 @@ ram_places m = places_from ram_base (length m.ram)
 
 -- a machine has reserved, if anything, a place of its RAM
 abbrev pub ReservesInRam : Machine → Type 0
-ReservesInRam m = ReservesHeld (ram_places m) m.platform.virt.reservation
+ReservesInRam m = ReservesWithin (ram_places m) m.platform.virt.reservation
 
 -- an entry's frame is in RAM of so many bytes
 abbrev pub IsInRam : ℕ → Entry → Type 0
@@ -35,22 +35,22 @@ abbrev pub StartIsInRam : Type 0
 StartIsInRam = (guest : GuestSpec) → CachesInRam (start guest) × ReservesInRam (start guest)
 
 -- where it caches in RAM alone, its second stage gives places of RAM alone
-abbrev pub GivesRam : Type 0
-GivesRam = (m : Machine) → CachesInRam m → GivesHeld (ram_places m) (second_of m)
+abbrev pub GivesRamAlone : Type 0
+GivesRamAlone = (m : Machine) → CachesInRam m → GivesWithin (ram_places m) (second_of m)
 
 -- a machine caches and reserves in its RAM alone, which has the size that it had
 abbrev pub KeepsInRam : Machine → Machine → Type 0
 KeepsInRam before m = CachesInRam m × ReservesInRam m × (length m.ram ≡ length before.ram)
 
 -- so it is after a fill, after a try, and after a run, where RAM is of whole pages
-abbrev pub FillStaysInRam : Type 0
-FillStaysInRam = (m : Machine) (e : Entry) → CachesInRam m → ReservesInRam m → lacking m ≡ Some e
+abbrev pub FillKeepsInRam : Type 0
+FillKeepsInRam = (m : Machine) (e : Entry) → CachesInRam m → ReservesInRam m → missing_entry m ≡ Some e
     → KeepsInRam m (fill m e)
 
-abbrev pub TryStaysInRam : Type 0
-TryStaysInRam = (m : Machine) → length m.ram % 4096 ≡ 0 → CachesInRam m → ReservesInRam m
+abbrev pub TryKeepsInRam : Type 0
+TryKeepsInRam = (m : Machine) → length m.ram % 4096 ≡ 0 → CachesInRam m → ReservesInRam m
     → KeepsInRam m (left_after m)
 
-abbrev pub StaysInRam : Type 0
-StaysInRam = (m : Machine) (n : ℕ) → length m.ram % 4096 ≡ 0 → CachesInRam m → ReservesInRam m
+abbrev pub RunKeepsInRam : Type 0
+RunKeepsInRam = (m : Machine) (n : ℕ) → length m.ram % 4096 ≡ 0 → CachesInRam m → ReservesInRam m
     → KeepsInRam m (run m n)

@@ -2,32 +2,32 @@
 -- named).
 use Rattle.std.specs.Prelude.{ℕ, ◌≡◌, ◌%◌, ◌^◌, ◌<◌, ◌⊎◌, Option, Some, None, slice_index}
 use Rattle.arch_defs.specs.declared.cached.Entry.{Entry}
-use Rattle.arch_defs.specs.declared.registers.Bank.{Bank}
+use Rattle.arch_defs.specs.declared.registers.SupervisorCsrs.{SupervisorCsrs}
 use Rattle.arch_defs.specs.declared.registers.Csrs.{Csrs}
 use Rattle.arch_defs.specs.declared.registers.Virtual.{Virtual}
-use Rattle.arch_defs.specs.CsrBits.{epc_bits, guest_root_number, guest_root_of, hedeleg_bits, supervisor_root_number, supervisor_root_of, tvec_bits}
+use Rattle.arch_defs.specs.CsrBits.{epc_bits, guest_root_of, hedeleg_bits, hgatp_bits, satp_bits, supervisor_root_of, tvec_bits}
 use Rattle.machine_defs.specs.declared.guests.GuestSpec.{GuestSpec}
 use Rattle.machine_defs.specs.Fills.{fill}
 use Rattle.machine_defs.specs.Machine.{Machine, start}
 use Rattle.machine_defs.specs.Runs.{left_after, run}
 
--- a bank, each register as a write of what it shows leaves it. The status is its named bits, and scratch,
--- cause and tval hold all values (own)
-abbrev pub bank_form : Bank → Bank
-bank_form bank = record bank {
-  tvec = tvec_bits bank.tvec;
-  epc = epc_bits bank.epc;
-  atp = supervisor_root_of bank.atp (supervisor_root_number bank.atp);
+-- supervisor registers, each as a write of what it shows leaves it. The status is its named bits, and
+-- scratch, cause and tval hold all values (own)
+abbrev pub supervisor_form : SupervisorCsrs → SupervisorCsrs
+supervisor_form registers = record registers {
+  tvec = tvec_bits registers.tvec;
+  epc = epc_bits registers.epc;
+  atp = supervisor_root_of registers.atp (satp_bits registers.atp);
 }
 
 -- all registers, each as a write of what it shows leaves it. The others are their named bits, or hold all
 -- values (own): htimedelta, htval, htinst and time
 abbrev pub stored_form : Csrs → Csrs
 stored_form csrs = record csrs {
-  hs = bank_form csrs.hs;
-  vs = bank_form csrs.vs;
+  hs = supervisor_form csrs.hs;
+  vs = supervisor_form csrs.vs;
   hedeleg = hedeleg_bits csrs.hedeleg;
-  hgatp = guest_root_of (guest_root_number csrs.hgatp);
+  hgatp = guest_root_of (hgatp_bits csrs.hgatp);
 }
 
 -- an address that pc can have: of 64 bits, and a multiple of 4 (Unprivileged ISA 20191213, 2.2)
@@ -55,8 +55,8 @@ abbrev pub FillStaysStorable : Type 0
 FillStaysStorable = (m : Machine) (e : Entry) → IsStorable m.platform.virt
     → IsStorable (fill m e).platform.virt
 
-abbrev pub TryStaysStorable : Type 0
-TryStaysStorable = (m : Machine) → IsStorable m.platform.virt → IsStorable (left_after m).platform.virt
+abbrev pub TryKeepsStorable : Type 0
+TryKeepsStorable = (m : Machine) → IsStorable m.platform.virt → IsStorable (left_after m).platform.virt
 
-abbrev pub StaysStorable : Type 0
-StaysStorable = (m : Machine) (n : ℕ) → IsStorable m.platform.virt → IsStorable (run m n).platform.virt
+abbrev pub RunKeepsStorable : Type 0
+RunKeepsStorable = (m : Machine) (n : ℕ) → IsStorable m.platform.virt → IsStorable (run m n).platform.virt

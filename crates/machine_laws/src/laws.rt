@@ -3,12 +3,12 @@
 ghost use Rattle.machine_laws.specs.Budgets.{BudgetIsSmall, FillGoes, FillIsNoEvent, ReadyStepIsTry, ReadyStepsGo, TryGoes, TryIsEvent};
 ghost use Rattle.machine_laws.specs.Caching.{FencedByWalks, GuestsAreArchitectural, GuestsCacheFresh, GuestsUseFresh, RunsAreArchitectural, RunsCacheFresh, RunsUseFresh, UncachedByWalks};
 ghost use Rattle.machine_laws.specs.HostPlaces.{OnlyRamChanges, PlacesAreRenamed, RamIsRenamed, RamIsStored};
-ghost use Rattle.machine_laws.specs.Keeping.{FillStaysOrderly, StartIsOrderly, StaysOrderly, TryStaysOrderly};
-ghost use Rattle.machine_laws.specs.Laws.{EventsCompose, FewFills, FillsAreWalks, FillsCanBeMade, FillsGoOn, FillsServeThePage, FillsSuffice, FillsSufficeForGuests, FlatIsRam, FlatLacksNothing, FoldsByFront, FrontGivesPlaces, InterruptedLacksNothing, LacksAreRead, MoreChangeNothing, OnlySpaces, PageHasOneEntry, RunsCompose, StepsEndByRule, StepsGoOn, StepsSettle, StopsAreFaults, TriesChangeSpaces, TriesEndByRule};
-ghost use Rattle.machine_laws.specs.Renaming.{RenamedCore, StaysHeld};
-ghost use Rattle.machine_laws.specs.Reservations.{FillStaysInRam, GivesRam, StartIsInRam, StaysInRam, TryStaysInRam};
+ghost use Rattle.machine_laws.specs.Keeping.{FillKeepsOrderly, RunKeepsOrderly, StartIsOrderly, TryKeepsOrderly};
+ghost use Rattle.machine_laws.specs.Laws.{EventsCompose, FewFills, FillsAreWalks, FillsCanBeMade, FillsGoOn, FillsServeThePage, FillsSuffice, FillsSufficeForGuests, FlatIsRam, FlatMissesNothing, FoldsByFront, FrontGivesPlaces, InterruptedMissesNothing, MissingEntriesAreRead, MoreChangeNothing, OnlySpaces, PageHasOneEntry, RunsCompose, StepsEndByRule, StepsGoOn, StepsSettle, StopsAreFaults, TriesChangeSpaces, TriesEndByRule};
+ghost use Rattle.machine_laws.specs.Renaming.{CoreKeepsWithin, RenamedCore};
+ghost use Rattle.machine_laws.specs.Reservations.{FillKeepsInRam, GivesRamAlone, RunKeepsInRam, StartIsInRam, TryKeepsInRam};
 ghost use Rattle.machine_laws.specs.ShortRuns.{FencedFaults, FencedFaultsFreely, MayDropStale, MayUseStale, StaleIsUsed};
-ghost use Rattle.machine_laws.specs.StorableStates.{FillStaysStorable, StartIsStorable, StaysStorable, TryStaysStorable};
+ghost use Rattle.machine_laws.specs.StorableStates.{FillStaysStorable, RunKeepsStorable, StartIsStorable, TryKeepsStorable};
 
 /// Runs compose: a run of `a` steps and then of `b` is a run of `a + b`, and so are its events.
 pub fn runs_compose()
@@ -22,7 +22,7 @@ pub fn runs_compose()
 /// stores and reserves nowhere else.
 pub fn renamed_places()
     ensures renames { RenamedCore }
-    ensures stays { StaysHeld }
+    ensures stays { CoreKeepsWithin }
 {}
 
 /// A guest's RAM in its blocks of machine memory is the lone machine's, at other places: a second stage
@@ -43,10 +43,10 @@ pub fn ram_is_renamed()
 /// before. Then its second stage gives places of RAM alone.
 pub fn machines_stay_in_ram()
     ensures start { StartIsInRam }
-    ensures gives { GivesRam }
-    ensures filled { FillStaysInRam }
-    ensures tried { TryStaysInRam }
-    ensures runs { StaysInRam }
+    ensures gives { GivesRamAlone }
+    ensures filled { FillKeepsInRam }
+    ensures tried { TryKeepsInRam }
+    ensures runs { RunKeepsInRam }
 {}
 
 /// A machine folds while V is 1 and hgatp names a table. Then its accesses have their places by the entries
@@ -60,10 +60,10 @@ pub fn folds_by_the_front_space()
 /// What a machine lacks, where it folds and no interrupt is due: what the walk of the guest's own table gives
 /// for the access at which its next instruction stops under the entries of the front space. Else nothing.
 /// Where the instruction stops and nothing is lacking, this walk has a fault.
-pub fn lacks_are_read()
-    ensures read { LacksAreRead }
-    ensures flat { FlatLacksNothing }
-    ensures interrupted { InterruptedLacksNothing }
+pub fn missing_entries_are_read()
+    ensures read { MissingEntriesAreRead }
+    ensures flat { FlatMissesNothing }
+    ensures interrupted { InterruptedMissesNothing }
     ensures faults { StopsAreFaults }
 {}
 
@@ -119,9 +119,9 @@ pub fn tries_change_spaces()
 /// a run of any number of steps.
 pub fn machines_stay_orderly()
     ensures start { StartIsOrderly }
-    ensures filled { FillStaysOrderly }
-    ensures tried { TryStaysOrderly }
-    ensures stays { StaysOrderly }
+    ensures filled { FillKeepsOrderly }
+    ensures tried { TryKeepsOrderly }
+    ensures stays { RunKeepsOrderly }
 {}
 
 /// A machine's registers hold what they can store: x0 is 0, pc a multiple of 4, each control and status
@@ -131,14 +131,14 @@ pub fn machines_stay_orderly()
 pub fn machines_stay_storable()
     ensures start { StartIsStorable }
     ensures filled { FillStaysStorable }
-    ensures tried { TryStaysStorable }
-    ensures runs { StaysStorable }
+    ensures tried { TryKeepsStorable }
+    ensures runs { RunKeepsStorable }
 {}
 
 /// Every run of a lone machine is architectural: it is one that a machine may make which caches second-stage
 /// translations as freely as the architecture allows (Privileged Architecture 20211203, 4.3.2, 8.2.10 and
-/// 8.3.2). A machine that caches so makes a step as the walk of hgatp's table gives, on RAM as it is, where it has
-/// cached nothing, and so it does each access that a fence before the step names.
+/// 8.3.2). A machine that caches so makes a step as the walk of hgatp's table gives, on RAM as it is, where
+/// it has cached nothing, and so it does each access that a fence before the step names.
 pub fn runs_are_architectural()
     ensures machines { RunsAreArchitectural }
     ensures guests { GuestsAreArchitectural }

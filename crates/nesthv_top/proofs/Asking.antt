@@ -10,7 +10,7 @@ use Rattle.machine_defs.specs.declared.guests.GuestSpec.{GuestSpec}
 use Rattle.run_config.specs.declared.faults.ConfigFault.{ConfigFault}
 use Rattle.run_config.specs.declared.faults.ConfigFault.TheVariants as fault
 use Rattle.run_config.specs.Accept as config
-use Rattle.run_config.specs.Accept.{accept, fault_of}
+use Rattle.run_config.specs.Accept.{accept, configuration_fault}
 use Rattle.run_config.specs.Configurations.{Configuration}
 use Rattle.run_config.specs.Tests.{first_fault, unless}
 use Rattle.nesthv_top.specs.declared.ends.Ended.TheVariants as ended
@@ -19,8 +19,8 @@ use Rattle.nesthv_top.specs.declared.ends.LoadEnd.TheVariants.{Refused, ReadFaul
 use Rattle.nesthv_top.specs.Commands.{Run}
 use Rattle.nesthv_top.specs.Endings.{IsFirstRead, SaysOfReads}
 use Rattle.nesthv_top.specs.Ends.{ended_by, IfFailed, IfWanting, RefusesOnly}
-use Rattle.nesthv_top.specs.Loads.{AreRead, IsStopped}
-use Rattle.nesthv_top.specs.Plans.{Plan, config_most, content, fault_in, frames_fault, guest_of, guests_of, image_of, images_fault, planned, planned_by, planned_if, unless_fault}
+use Rattle.nesthv_top.specs.Loads.{AreRead, ReadsStopped}
+use Rattle.nesthv_top.specs.Plans.{Plan, config_most, content, fault_in, frames_fault, guest_of, guests_of, image_of, images_fault, plan_unless_fault, planned, planned_by, planned_if}
 use Rattle.nesthv_top.specs.Reads.{accepted_asks, ask, config_asks, failed_at, frames_after, image_ask, image_asks, AskedMore, AskedSome, BeginsWithConfig, IsFailedRead}
 use Rattle.nesthv_top.proofs.Imaging.{asked_then, asks_all, first_of, one_is, rest_is}
 
@@ -34,7 +34,7 @@ at_most : (n : ℕ) → nat_le n 65536 ≡ true → n ≤ 65536
 at_most n e = grind (arith, e)
 
 pub accepted_short : (bytes : List ℕ) (c : Configuration) → accept bytes ≡ Ok c → length bytes ≤ 65536
-unfolding accept fault_of
+unfolding accept configuration_fault
 accepted_short bytes c e = at_most (length bytes) (short_if (nat_le (length bytes) 65536) _ _ _ c e)
 
 -- the plan of a configuration that was accepted, and its reads
@@ -49,12 +49,12 @@ asks_are f name c accepted = rw accepted refl
 refused_by : (f : Files) (c : Configuration) (found : ConfigFault) → first_fault (images_fault f 0 c.guests ∷ frames_fault (guests_of f c.guests) ∷ []) ≡ Some found
     → planned_by f c ≡ Err found
 unfolding planned_by
-refused_by f c found e = ap (λ fault. unless_fault fault (record { guests = guests_of f c.guests; turns = c.turns })) e
+refused_by f c found e = ap (λ fault. plan_unless_fault fault (record { guests = guests_of f c.guests; turns = c.turns })) e
 
 faultless : (f : Files) (c : Configuration) → first_fault (images_fault f 0 c.guests ∷ frames_fault (guests_of f c.guests) ∷ []) ≡ None
     → planned_by f c ≡ Ok (record { guests = guests_of f c.guests; turns = c.turns })
 unfolding planned_by
-faultless f c e = ap (λ fault. unless_fault fault (record { guests = guests_of f c.guests; turns = c.turns })) e
+faultless f c e = ap (λ fault. plan_unless_fault fault (record { guests = guests_of f c.guests; turns = c.turns })) e
 
 -- a count of faults that rose in the second step rose
 rose_since : (before between after : ℕ) → before ≤ between → Rose between after → Rose before after
@@ -103,7 +103,7 @@ pub images_stop : {X : Type 0} (S : stores.Ghosts X)
     (name : List ℕ) (c : Configuration) (end : LoadEnd) (old mid new : X)
     → ((f : Files) → S.files old ≡ Some f → accept (content f name config_most) ≡ Ok c)
     → AskedMore (ask name config_most ∷ []) (S.asked old) (S.asked mid)
-    → ((f : Files) → S.files mid ≡ Some f → IsStopped f c.guests end (S.asked mid) (S.asked new)) → AskedSome (S.asked mid) (S.asked new)
+    → ((f : Files) → S.files mid ≡ Some f → ReadsStopped f c.guests end (S.asked mid) (S.asked new)) → AskedSome (S.asked mid) (S.asked new)
     → S.files mid ≡ S.files old → S.files new ≡ S.files mid → S.faults old ≤ S.faults mid → S.faults mid ≤ S.faults new
     → IfFailed end (λ n. (2 ≤ n) × (n ≤ 17) × Rose (S.faults mid) (S.faults new)) → IfWanting end (λ n. 1 ≤ n)
     → SaysOfReads S (Some (Run name)) (ended_by end) old new
@@ -199,7 +199,7 @@ refused_as f name c guests found accepted fit are many =
 
 -- a refusal by an image says which fault
 pub stopped_plan : (f : Files) (name : List ℕ) (c : Configuration) (end : LoadEnd) (before after : Option (List Ask)) → accept (content f name config_most) ≡ Ok c
-    → IsStopped f c.guests end before after → RefusesOnly end (planned f name)
+    → ReadsStopped f c.guests end before after → RefusesOnly end (planned f name)
 stopped_plan f name c (Refused found) before after accepted stopped =
     planned_is f name c accepted ∙ refused_by f c found (one_is (images_fault f 0 c.guests) (frames_fault (guests_of f c.guests)) found stopped.0)
 stopped_plan f name c (ReadFault n) before after accepted stopped = tt
@@ -246,7 +246,7 @@ frames_stop S name c guests found old mid new accepted first read some stays sta
 no_more : (asks : List Ask) (n : ℕ) → length asks ≤ n → take n asks ≡ asks
 no_more asks n less = take_all n asks less
 
-plan_parts : (f : Files) (c : Configuration) (plan : Plan) (fault : Option ConfigFault) → unless_fault fault (record { guests = guests_of f c.guests; turns = c.turns }) ≡ Ok plan
+plan_parts : (f : Files) (c : Configuration) (plan : Plan) (fault : Option ConfigFault) → plan_unless_fault fault (record { guests = guests_of f c.guests; turns = c.turns }) ≡ Ok plan
     → (fault ≡ None) × (guests_of f c.guests ≡ plan.guests)
 plan_parts f c plan None e =
     let whole : Plan = record { guests = guests_of f c.guests; turns = c.turns } in

@@ -13,8 +13,8 @@ use Rattle.run_config.specs.Tests.{first_fault, unless}
 use Rattle.nesthv_top.specs.declared.ends.LoadEnd.{LoadEnd}
 use Rattle.nesthv_top.specs.declared.ends.LoadEnd.TheVariants.{Refused, ReadFault, NoMemory}
 use Rattle.nesthv_top.specs.Ends.{added_by, IfFailed, IfRefusal, IfWanting}
-use Rattle.nesthv_top.specs.Loads.{AreLoaded, AreRead, IsLoaded, IsShortOf, IsStopped}
-use Rattle.nesthv_top.specs.Plans.{fits, guest_of, guests_of, image_fault, image_of, images_fault}
+use Rattle.nesthv_top.specs.Loads.{AreLoaded, AreRead, IsLoaded, IsShortOf, ReadsStopped}
+use Rattle.nesthv_top.specs.Plans.{guest_of, guests_of, image_fault, image_fits, image_of, images_fault}
 use Rattle.nesthv_top.specs.Reads.{AskedMore, AskedSome, failed_at, image_ask, image_asks, IsFailedRead}
 use Rattle.nesthv_top.specs.Seen.{names_in, names_of_guests}
 
@@ -84,7 +84,7 @@ fault_found files before (suc i) (guest ∷ rest) d found inside none here =
 
 -- the reads of the first i images, and what follows them
 abbrev after_image : Files → GuestSettings → List GuestSettings → List Ask
-after_image files guest rest = cond (fits guest (image_of files guest)) (image_asks files rest) []
+after_image files guest rest = cond (image_fits guest (image_of files guest)) (image_asks files rest) []
 
 asks_split : (files : Files) (before i : ℕ) (guests : List GuestSettings) (d : GuestSettings) → i < length guests → images_fault files before (take i guests) ≡ None
     → image_asks files guests ≡ map image_ask (take i guests) ++ (image_ask (get_or guests i d) ∷ after_image files (get_or guests i d) (drop (suc i) guests))
@@ -93,7 +93,7 @@ asks_split files before i [] d inside none = absurd (omega (arith, inside))
 asks_split files before zero (guest ∷ rest) d inside none = refl
 asks_split files before (suc i) (guest ∷ rest) d inside none =
     let parts = first_of (image_fault before guest (image_of files guest)) (images_fault files (before + 1) (take i rest)) none in
-    let fit = fits_is (fits guest (image_of files guest)) _ parts.0 in
+    let fit = fits_is (image_fits guest (image_of files guest)) _ parts.0 in
     rw fit (ap (λ asks. image_ask guest ∷ asks) (asks_split files (before + 1) i rest d (omega (arith, inside)) parts.1))
 
 pub asks_all : (files : Files) (before : ℕ) (guests : List GuestSettings) → images_fault files before guests ≡ None → image_asks files guests ≡ map image_ask guests
@@ -101,7 +101,7 @@ unfolding images_fault image_asks
 asks_all files before [] none = refl
 asks_all files before (guest ∷ rest) none =
     let parts = first_of (image_fault before guest (image_of files guest)) (images_fault files (before + 1) rest) none in
-    let fit = fits_is (fits guest (image_of files guest)) _ parts.0 in
+    let fit = fits_is (image_fits guest (image_of files guest)) _ parts.0 in
     rw fit (ap (λ asks. image_ask guest ∷ asks) (asks_all files (before + 1) rest parts.1))
 
 -- what was read so far: the guests with their images, and the reads
@@ -151,8 +151,8 @@ asked_then xs ys (Some asks) between after first second = rw (second, first) (ap
 asked_then xs ys None between after first second = rw (second, first) refl
 
 fits_none : (files : Files) (number : ℕ) (guest : GuestSettings) (found : ConfigFault) → image_fault number guest (image_of files guest) ≡ Some found
-    → fits guest (image_of files guest) ≡ false
-fits_none files number guest found e = fits_not (fits guest (image_of files guest)) _ found e
+    → image_fits guest (image_of files guest) ≡ false
+fits_none files number guest found e = fits_not (image_fits guest (image_of files guest)) _ found e
 
 pub stopped_long : (files : Files) (settings : List GuestSettings) (i : ℕ) (d : GuestSettings) (found : ConfigFault) (before between after : Option (List Ask))
     → i < length settings → images_fault files 0 (take i settings) ≡ None → image_fault i (get_or settings i d) (image_of files (get_or settings i d)) ≡ Some found
@@ -294,7 +294,7 @@ stop_after : (files : Files) (settings : List GuestSettings) (i : ℕ) (d : Gues
     (before between after : Option (List Ask)) → i < length settings → ReadSoFar files settings i guests
     → AskedMore (map image_ask (take i settings)) before between → AskedMore (added_by (image_ask (get_or settings i d)) end) between after
     → IfRefusal end (λ found. image_fault i (get_or settings i d) (image_of files (get_or settings i d)) ≡ Some found)
-    → IfFailed end (λ n. (n ≡ i + 2) × rose) → IfWanting end (λ n. n ≡ i + 1) → IsStopped files settings end before after
+    → IfFailed end (λ n. (n ≡ i + 2) × rose) → IfWanting end (λ n. n ≡ i + 1) → ReadsStopped files settings end before after
 stop_after files settings i d guests (Refused found) rose before between after inside so_far first second refused cause memory =
     stopped_long files settings i d found before between after inside so_far.fault refused first second
 stop_after files settings i d guests (ReadFault n) rose before between after inside so_far first second refused cause memory =
@@ -332,7 +332,7 @@ pub after_stop : (files : Files) (settings : List GuestSettings) (i : ℕ) (s : 
     (before between after : Option (List Ask)) → i < length settings → s ≡ get_or settings i s → ReadSoFar files settings i guests
     → AskedMore (map image_ask (take i settings)) before between → AskedMore (added_by (image_ask s) end) between after
     → IfRefusal end (λ found. image_fault i s (image_of files s) ≡ Some found)
-    → IfFailed end (λ n. (n ≡ i + 2) × rose) → IfWanting end (λ n. n ≡ i + 1) → IsStopped files settings end before after
+    → IfFailed end (λ n. (n ≡ i + 2) × rose) → IfWanting end (λ n. n ≡ i + 1) → ReadsStopped files settings end before after
 after_stop files settings i s guests end rose before between after inside here so_far first second refused cause memory =
     stop_after files settings i s guests end rose before between after inside so_far first
     (subst (λ s. AskedMore (added_by (image_ask s) end) between after) here second)

@@ -2,7 +2,7 @@
 use Rattle.std.proofs.Common.{cond, ◌≡◌, ℕ, zero, suc, ◌+◌, ◌<◌, List, [], ◌∷◌, ◌++◌, length, refl, ap, sym, ◌∙◌, arith}
 use Rattle.std.proofs.lemmas.List.{ext_get_or}
 use Rattle.machine_defs.specs.Machine.{Machine}
-use Rattle.machine_defs.specs.Runs.{is_plain, pc_and_word, plain_count, run, trace_of}
+use Rattle.machine_defs.specs.Runs.{is_plain_step, pc_and_word, plain_count, run, trace_of}
 use Rattle.guest_turns.specs.Hosted.{machine_at, no_machine}
 use Rattle.guest_turns.specs.TurnLists.{own_events, own_steps, turn_events, with_turns}
 use Rattle.guest_turns.proofs.Accounts.{turns_count_alike}
@@ -56,7 +56,7 @@ sections_are names ms turns = ap (sections_of names) (with_turns_are turns ms) �
 
 -- the plain steps of turns and their trace are those of the machines' own runs
 pub plain_are : (turns : List (ℕ × ℕ)) (ms : List Machine) → plain_count (turn_events turns ms) ≡ plain_count (own_events turns ms)
-plain_are turns ms = turns_count_alike (λ e. cond (is_plain e) 1 0) turns ms
+plain_are turns ms = turns_count_alike (λ e. cond (is_plain_step e) 1 0) turns ms
 
 pub trace_is : (turns : List (ℕ × ℕ)) (ms : List Machine) → trace_of (turn_events turns ms) ≡ trace_of (own_events turns ms)
 trace_is turns ms = turns_count_alike pc_and_word turns ms

@@ -16,7 +16,7 @@ use Rattle.nesthv_top.specs.Lines.{usage_line, configuration_line, read_line, wr
 use Rattle.run_config.specs.declared.faults.ConfigFault.{ConfigFault}
 use Rattle.nesthv_top.specs.Plans.{AllRunAsWritten, Plan, fault_of, plan_of, report_of, entries_of, steps_of, events_of}
 use Rattle.nesthv_top.specs.Reads.{asks_of, most_reads, AskedMore, BeginsWithConfig, IsFailedRead, IsWanting}
-use Rattle.nesthv_top.specs.Written.{IsTold}
+use Rattle.nesthv_top.specs.Written.{IsLinePut}
 
 -- a fact of the files, where the store tells them
 abbrev pub IfTold : Option Files → (Files → Type 0) → Type 0
@@ -111,11 +111,11 @@ pub record SaysOfOut {Y : Type 0} (O : sinks.Ghosts Y) (told : Option Files) (co
 -- the line on `err` that tells of an end
 abbrev pub IsLineOf : {Z : Type 0} → sinks.Ghosts Z → Ended → Z → Z → Type 0
 IsLineOf E Done old new = new ≡ old
-IsLineOf E NoCommand old new = IsTold E old new usage_line
-IsLineOf E (Refused found) old new = IsTold E old new (configuration_line found)
-IsLineOf E (ReadFault n) old new = IsTold E old new (read_line n)
-IsLineOf E WriteFault old new = IsTold E old new write_line
-IsLineOf E (NoMemory n) old new = IsTold E old new memory_line
+IsLineOf E NoCommand old new = IsLinePut E old new usage_line
+IsLineOf E (Refused found) old new = IsLinePut E old new (configuration_line found)
+IsLineOf E (ReadFault n) old new = IsLinePut E old new (read_line n)
+IsLineOf E WriteFault old new = IsLinePut E old new write_line
+IsLineOf E (NoMemory n) old new = IsLinePut E old new memory_line
 
 -- what an end says of `err`
 pub record SaysOfErr {Z : Type 0} (E : sinks.Ghosts Z) (ended : Ended) (old new : Z) : Type 0 where

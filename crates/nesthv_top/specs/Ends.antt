@@ -15,9 +15,9 @@ RefusesOnly (ReadFault n) defined = ⊤
 RefusesOnly (NoMemory n) defined = ⊤
 
 -- what a step answers is what is defined
-abbrev pub Answers : {A B : Type 0} → (A → B) → Result A LoadEnd → Result B ConfigFault → Type 0
-Answers seen (Ok a) defined = defined ≡ Ok (seen a)
-Answers seen (Err end) defined = RefusesOnly end defined
+abbrev pub AnswersAs : {A B : Type 0} → (A → B) → Result A LoadEnd → Result B ConfigFault → Type 0
+AnswersAs seen (Ok a) defined = defined ≡ Ok (seen a)
+AnswersAs seen (Err end) defined = RefusesOnly end defined
 
 -- the end of the command whose step ended so
 abbrev pub ended_by : LoadEnd → Ended
@@ -46,9 +46,9 @@ IfRefusal (Refused found) P = P found
 IfRefusal (ReadFault n) P = ⊤
 IfRefusal (NoMemory n) P = ⊤
 
-abbrev pub IfRefused : {A : Type 0} → Result A LoadEnd → (ConfigFault → Type 0) → Type 0
-IfRefused (Ok a) P = ⊤
-IfRefused (Err end) P = IfRefusal end P
+abbrev pub IfLoadRefused : {A : Type 0} → Result A LoadEnd → (ConfigFault → Type 0) → Type 0
+IfLoadRefused (Ok a) P = ⊤
+IfLoadRefused (Err end) P = IfRefusal end P
 
 -- a fact for a failed read, by its number
 abbrev pub IfFailed : LoadEnd → (ℕ → Type 0) → Type 0
@@ -56,9 +56,9 @@ IfFailed (Refused found) P = ⊤
 IfFailed (ReadFault n) P = P n
 IfFailed (NoMemory n) P = ⊤
 
-abbrev pub IfReadFault : {A : Type 0} → Result A LoadEnd → (ℕ → Type 0) → Type 0
-IfReadFault (Ok a) P = ⊤
-IfReadFault (Err end) P = IfFailed end P
+abbrev pub IfReadFailed : {A : Type 0} → Result A LoadEnd → (ℕ → Type 0) → Type 0
+IfReadFailed (Ok a) P = ⊤
+IfReadFailed (Err end) P = IfFailed end P
 
 -- a fact for want of memory, by how many reads were made
 abbrev pub IfWanting : LoadEnd → (ℕ → Type 0) → Type 0

@@ -38,10 +38,11 @@ pub record IsShortOf (n : ℕ) (files : Files) (settings : List GuestSettings)
   pub asked : AskedMore (take n (image_asks files settings)) before after
 
 -- how the reads of images stopped; the configuration's read was the first of all reads
-abbrev pub IsStopped : Files → List GuestSettings → LoadEnd → Option (List Ask) → Option (List Ask) → Type 0
-IsStopped files settings (Refused found) before after =
+abbrev pub ReadsStopped :
+    Files → List GuestSettings → LoadEnd → Option (List Ask) → Option (List Ask) → Type 0
+ReadsStopped files settings (Refused found) before after =
     (images_fault files 0 settings ≡ Some found) × AskedMore (image_asks files settings) before after
-IsStopped files settings (ReadFault n) before after =
+ReadsStopped files settings (ReadFault n) before after =
     IsFailedRead (n - 1) (image_asks files settings) before after
-IsStopped files settings (NoMemory n) before after =
+ReadsStopped files settings (NoMemory n) before after =
     (1 ≤ n) × IsShortOf (n - 1) files settings before after

@@ -5,7 +5,7 @@ use Rattle.guest_turns.specs.Hosted.{machine_at}
 use Rattle.guest_turns.specs.Limits.{frames_for}
 use Rattle.machine_defs.specs.declared.events.Event.{Event}
 use Rattle.machine_defs.specs.declared.guests.GuestSpec.{GuestSpec}
-use Rattle.machine_defs.specs.Fills.{lacking, ready}
+use Rattle.machine_defs.specs.Fills.{missing_entry, ready}
 use Rattle.machine_defs.specs.FreeMachines.{IsArchitectural}
 use Rattle.machine_defs.specs.Freshness.{UsesFresh}
 use Rattle.machine_defs.specs.Machine.{Machine, start}
@@ -29,23 +29,23 @@ content files name most = unwrap_or (read_of (files.bytes_of name) files.absent_
 abbrev pub config_most : ℕ
 config_most = 65537
 
-abbrev pub ram_size : GuestSettings → ℕ
-ram_size guest = guest.blocks * block_size
+abbrev pub guest_ram_size : GuestSettings → ℕ
+guest_ram_size guest = guest.blocks * block_size
 
 abbrev pub image_most : GuestSettings → ℕ
-image_most guest = ram_size guest + 1
+image_most guest = guest_ram_size guest + 1
 
 -- what is read of a guest's image
 abbrev pub image_of : Files → GuestSettings → List ℕ
 image_of files guest = content files guest.image (image_most guest)
 
 -- whether an image is not longer than its guest's RAM
-abbrev pub fits : GuestSettings → List ℕ → Bool
-fits guest image = nat_le (length image) (ram_size guest)
+abbrev pub image_fits : GuestSettings → List ℕ → Bool
+image_fits guest image = nat_le (length image) (guest_ram_size guest)
 
 -- the fault of an image that is longer: the guest's number, and how many bytes were read (own)
 abbrev pub image_fault : ℕ → GuestSettings → List ℕ → Option ConfigFault
-image_fault number guest image = unless (fits guest image) (fault.ImageLong number (length image))
+image_fault number guest image = unless (image_fits guest image) (fault.ImageLong number (length image))
 
 -- the first fault of the images of guests, in their order, after so many other guests
 unfoldable pub images_fault : Files → ℕ → List GuestSettings → Option ConfigFault
@@ -80,15 +80,15 @@ pub record Plan : Type 0 where
   pub turns : List (ℕ × ℕ)
 
 -- the plan, unless there is a fault
-abbrev pub unless_fault : Option ConfigFault → Plan → Result Plan ConfigFault
-unless_fault None plan = Ok plan
-unless_fault (Some found) plan = Err found
+abbrev pub plan_unless_fault : Option ConfigFault → Plan → Result Plan ConfigFault
+plan_unless_fault None plan = Ok plan
+plan_unless_fault (Some found) plan = Err found
 
 -- the plan of a configuration, or the first fault of its images, and then of its frames (own)
 unfoldable pub planned_by : Files → Configuration → Result Plan ConfigFault
 planned_by files c =
     let guests = guests_of files c.guests in
-    unless_fault (first_fault (images_fault files 0 c.guests ∷ frames_fault guests ∷ []))
+    plan_unless_fault (first_fault (images_fault files 0 c.guests ∷ frames_fault guests ∷ []))
     (record { guests = guests; turns = c.turns })
 
 abbrev pub planned_if : Files → Result Configuration ConfigFault → Result Plan ConfigFault
@@ -118,8 +118,8 @@ fault_of files (Some (Run name)) = fault_in (planned files name)
 fault_of files None = None
 
 -- the names of a plan's guests, and their lone machines at their start
-abbrev pub names_of : Plan → List (List ℕ)
-names_of plan = map (λ guest. guest.name) plan.guests
+abbrev pub plan_names : Plan → List (List ℕ)
+plan_names plan = map (λ guest. guest.name) plan.guests
 
 abbrev pub machines_of : Plan → List Machine
 machines_of plan = map start plan.guests
@@ -138,7 +138,7 @@ sections first (name ∷ names) (m ∷ machines) turns =
 
 -- the report of a plan
 unfoldable pub report_of : Plan → List ℕ
-report_of plan = sections 0 (names_of plan) (machines_of plan) plan.turns
+report_of plan = sections 0 (plan_names plan) (machines_of plan) plan.turns
 
 -- the events of the runs of the guests' lone machines, one guest after another
 unfoldable pub events_of : Plan → List Event
@@ -161,11 +161,11 @@ entries_of (Some plan) = plan_entries plan
 entries_of None = 0
 
 -- after n steps of its run a machine lacks no cached translation for its next step, once this has made its
--- fills, however small and however stale its spaces are: no step is put off for good. The run so far is one of
--- the written architecture. And each cached translation that the next step may use is fresh: it is stale at
--- most until the fence that names it
+-- fills, however small and however stale its spaces are: no step is put off for good. The run so far is one
+-- of the written architecture. And each cached translation that the next step may use is fresh: it is stale
+-- at most until the fence that names it
 pub record RunsAsWritten (m : Machine) (n : ℕ) : Type 0 where
-  pub fills : lacking (ready (run m n)) ≡ None
+  pub fills : missing_entry (ready (run m n)) ≡ None
   pub architectural : IsArchitectural m n
   pub fresh : UsesFresh m n
 

@@ -8,7 +8,7 @@ use Rattle.run_config.specs.Accept.{accept}
 use Rattle.run_config.specs.Configurations.{Configuration}
 use Rattle.run_config.specs.Tests.{first_fault}
 use Rattle.nesthv_top.specs.Commands.{Command, Run}
-use Rattle.nesthv_top.specs.Plans.{content, config_most, fits, frames_fault, guests_of, image_most, image_of, images_fault}
+use Rattle.nesthv_top.specs.Plans.{content, config_most, image_fits, frames_fault, guests_of, image_most, image_of, images_fault}
 
 -- a read of a file, at most so many bytes of it
 abbrev pub ask : List ℕ → ℕ → Ask
@@ -22,7 +22,7 @@ image_ask guest = ask guest.image (image_most guest)
 unfoldable pub image_asks : Files → List GuestSettings → List Ask
 image_asks files [] = []
 image_asks files (guest ∷ rest) =
-    image_ask guest ∷ (if fits guest (image_of files guest) then image_asks files rest else [])
+    image_ask guest ∷ (if image_fits guest (image_of files guest) then image_asks files rest else [])
 
 -- the most reads of a command: a configuration and 16 images
 abbrev pub most_reads : ℕ

@@ -13,6 +13,6 @@ IsWritten stands_for old new (Err WriteFault) text = Puts stands_for old new fal
 IsWritten stands_for old new (Err NoMemory) text = new ≡ old
 
 -- a line was put: whole, or a front of it where the count of faults rose
-abbrev pub IsTold : {Z : Type 0} → sinks.Ghosts Z → Z → Z → List ℕ → Type 0
-IsTold E old new line = (whole : Bool) × Puts E.stands_for old new whole line
+abbrev pub IsLinePut : {Z : Type 0} → sinks.Ghosts Z → Z → Z → List ℕ → Type 0
+IsLinePut E old new line = (whole : Bool) × Puts E.stands_for old new whole line
     × (whole ≡ false → Rose (E.faults old) (E.faults new))

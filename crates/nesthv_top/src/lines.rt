@@ -3,7 +3,7 @@
 ghost use Rattle.std.specs.Prelude.{◌≡◌, ◌≤◌, ◌++◌, codes, decimal, length};
 ghost use Rattle.nesthv_top.specs.Endings.{SaysOfErr};
 ghost use Rattle.nesthv_top.specs.Lines.{configuration_line, guest_text, key_text, read_line, value_text};
-ghost use Rattle.nesthv_top.specs.Written.{IsTold};
+ghost use Rattle.nesthv_top.specs.Written.{IsLinePut};
 
 use crate::ends::Ended;
 use arrayvec::ArrayVec;
@@ -30,7 +30,7 @@ pub fn tell<E: Sink>(ended: Ended, err: &mut E)
 
 // Puts a line; a fault of this sink changes nothing.
 fn put_line<E: Sink>(line: &[u8], err: &mut E)
-    ensures line { IsTold E.Sink err.old err.new line.now }
+    ensures line { IsLinePut E.Sink err.old err.new line.now }
     ensures count { E.faults err.old ≤ E.faults err.new }
     ensures stays { E.made_with err.new ≡ E.made_with err.old }
 {

@@ -9,9 +9,9 @@ ghost use Rattle.run_config.specs.Accept.{accept};
 ghost use Rattle.run_config.specs.Configurations.{Configuration, IsGuestWithin, IsWithinLimits};
 ghost use Rattle.nesthv_top.specs.Commands.{Run};
 ghost use Rattle.nesthv_top.specs.Endings.{SaysOfReads};
-ghost use Rattle.nesthv_top.specs.Ends.{Answers, added_of, ended_by, ended_of, IfNoMemory, IfReadFault, IfRefused};
-ghost use Rattle.nesthv_top.specs.Loads.{AreLoaded, AreRead, IsLoaded, IsStopped};
-ghost use Rattle.nesthv_top.specs.Plans.{config_most, content, frames_fault, guest_of, image_fault, image_of, planned, ram_size};
+ghost use Rattle.nesthv_top.specs.Ends.{AnswersAs, added_of, ended_by, ended_of, IfNoMemory, IfReadFailed, IfLoadRefused};
+ghost use Rattle.nesthv_top.specs.Loads.{AreLoaded, AreRead, IsLoaded, ReadsStopped};
+ghost use Rattle.nesthv_top.specs.Plans.{config_most, content, frames_fault, guest_of, guest_ram_size, image_fault, image_of, planned};
 ghost use Rattle.nesthv_top.specs.Reads.{ask, image_ask, AskedMore, AskedSome};
 ghost use Rattle.nesthv_top.specs.Seen.{plan_seen, IsJob};
 
@@ -31,9 +31,9 @@ const MOST_FRAMES: u64 = 131_072;
 /// Reads a configuration and its images.
 pub fn load<S: Store>(alloc: Global, name: &str, store: &mut S) -> Result<Job, LoadEnd>
     ensures reads { SaysOfReads S.Store (Some (Run name.now)) (ended_of result) store.old store.new }
-    ensures cause { IfReadFault result (λ n. Rose (S.faults store.old) (S.faults store.new)) }
+    ensures cause { IfReadFailed result (λ n. Rose (S.faults store.old) (S.faults store.new)) }
     ensures planned { (files : Files) → S.files store.old ≡ Some files
-        → Answers plan_seen result (planned files name.now) }
+        → AnswersAs plan_seen result (planned files name.now) }
     ensures job { IfOk result IsJob }
 {
     let config = match read_config(alloc, name, store) {
@@ -53,13 +53,13 @@ pub fn load<S: Store>(alloc: Global, name: &str, store: &mut S) -> Result<Job, L
 // Reads a configuration.
 fn read_config<S: Store>(alloc: Global, name: &str, store: &mut S) -> Result<Config, LoadEnd>
     ensures accepted { (files : Files) → S.files store.old ≡ Some files
-        → Answers (λ (c : Configuration). c) result (accept (content files name.now config_most)) }
+        → AnswersAs (λ (c : Configuration). c) result (accept (content files name.now config_most)) }
     ensures limits { IfOk result IsWithinLimits }
     ensures asked { OnOk result
         (AskedMore (ask name.now config_most ∷ []) (S.asked store.old) (S.asked store.new)) }
     ensures ended { IfErr result (λ end.
         SaysOfReads S.Store (Some (Run name.now)) (ended_by end) store.old store.new) }
-    ensures cause { IfReadFault result (λ n. Rose (S.faults store.old) (S.faults store.new)) }
+    ensures cause { IfReadFailed result (λ n. Rose (S.faults store.old) (S.faults store.new)) }
     ensures stays { S.files store.new ≡ S.files store.old }
     ensures count { S.faults store.old ≤ S.faults store.new }
 {
@@ -87,10 +87,10 @@ fn read_guests<S: Store>(
     ensures read { (files : Files) → S.files store.old ≡ Some files → IfOk result (λ guests.
         AreRead files settings.now guests.items (S.asked store.old) (S.asked store.new)) }
     ensures stopped { (files : Files) → S.files store.old ≡ Some files → IfErr result (λ end.
-        IsStopped files settings.now end (S.asked store.old) (S.asked store.new)) }
+        ReadsStopped files settings.now end (S.asked store.old) (S.asked store.new)) }
     ensures asked { AskedSome (S.asked store.old) (S.asked store.new) }
     ensures loaded { IfOk result (λ guests. AreLoaded settings.now guests.items) }
-    ensures cause { IfReadFault result (λ n. (2 ≤ n) × (n ≤ 17)
+    ensures cause { IfReadFailed result (λ n. (2 ≤ n) × (n ≤ 17)
         × Rose (S.faults store.old) (S.faults store.new)) }
     ensures memory { IfNoMemory result (λ n. 1 ≤ n) }
     ensures stays { S.files store.new ≡ S.files store.old }
@@ -120,12 +120,12 @@ fn read_guest<S: Store>(
     ensures guest { (files : Files) → S.files store.old ≡ Some files → IfOk result (λ guest.
         (guest ≡ guest_of settings.now (image_of files settings.now))
         × (image_fault before settings.now (image_of files settings.now) ≡ None)) }
-    ensures refused { (files : Files) → S.files store.old ≡ Some files → IfRefused result (λ found.
+    ensures refused { (files : Files) → S.files store.old ≡ Some files → IfLoadRefused result (λ found.
         image_fault before settings.now (image_of files settings.now) ≡ Some found) }
     ensures loaded { IfOk result (λ guest. IsLoaded settings.now guest) }
     ensures asked { AskedMore (added_of (image_ask settings.now) result)
         (S.asked store.old) (S.asked store.new) }
-    ensures cause { IfReadFault result (λ n. (n ≡ before + 2)
+    ensures cause { IfReadFailed result (λ n. (n ≡ before + 2)
         × Rose (S.faults store.old) (S.faults store.new)) }
     ensures memory { IfNoMemory result (λ n. n ≡ before + 1) }
     ensures stays { S.files store.new ≡ S.files store.old }
@@ -170,12 +170,12 @@ fn read_image<S: Store>(
     requires few { before < 16 }
     ensures image { (files : Files) → S.files store.old ≡ Some files
         → IfOk result (λ image. image ≡ image_of files settings.now) }
-    ensures refused { (files : Files) → S.files store.old ≡ Some files → IfRefused result (λ found.
+    ensures refused { (files : Files) → S.files store.old ≡ Some files → IfLoadRefused result (λ found.
         image_fault before settings.now (image_of files settings.now) ≡ Some found) }
-    ensures fits { IfOk result (λ image. length image ≤ ram_size settings.now) }
+    ensures fits { IfOk result (λ image. length image ≤ guest_ram_size settings.now) }
     ensures asked { AskedMore (added_of (image_ask settings.now) result)
         (S.asked store.old) (S.asked store.new) }
-    ensures cause { IfReadFault result (λ n. (n ≡ before + 2)
+    ensures cause { IfReadFailed result (λ n. (n ≡ before + 2)
         × Rose (S.faults store.old) (S.faults store.new)) }
     ensures memory { IfNoMemory result (λ n. n ≡ before + 1) }
     ensures stays { S.files store.new ≡ S.files store.old }

@@ -5,7 +5,7 @@ ghost use Rattle.nesthv_top.specs.Commands.{command_of};
 ghost use Rattle.nesthv_top.specs.Endings.{SaysOfAccount, SaysOfCause, SaysOfErr, SaysOfOut, SaysOfReads};
 ghost use Rattle.nesthv_top.specs.Lines.{memory_line};
 ghost use Rattle.nesthv_top.specs.Statuses.{IsStatusOf};
-ghost use Rattle.nesthv_top.specs.Written.{IsTold};
+ghost use Rattle.nesthv_top.specs.Written.{IsLinePut};
 
 use crate::ends::Ended;
 use crate::lines::tell;
@@ -37,7 +37,7 @@ pub fn program<S: Store, O: Sink, E: Sink>(
 
     // Without words.
     ensures status { OnErr words (result ≡ 5) }
-    ensures line { OnErr words (IsTold E.Sink err.old err.new memory_line) }
+    ensures line { OnErr words (IsLinePut E.Sink err.old err.new memory_line) }
     ensures store { OnErr words (store.new ≡ store.old) }
     ensures out { OnErr words (out.new ≡ out.old) }
     ensures account { OnErr words (tally.new ≡ tally.old) }

@@ -13,7 +13,8 @@ pub const PUTS_A: [u32; 5] = [
     0x0000_0073, // ecall
 ];
 
-/// Reserves the place of the first instruction, stores there, and puts 0 where the store was made, 1 where not.
+/// Reserves the place of the first instruction, stores there, and puts 0 where the store was made, 1 where
+/// not.
 pub const RESERVES: [u32; 8] = [
     0x0000_0297, // auipc t0, 0
     0x1002_A32F, // lr.w t1, (t0)
@@ -329,7 +330,8 @@ pub fn is_reported(alloc: Global, case: Case<'_>, report: &str) -> Result<bool, 
     Ok(left.is(0, report.as_bytes(), b""))
 }
 
-/// Images, each with its length if zeros come after the instructions, and the report of one turn of 10,000 steps.
+/// Images, each with its length if zeros come after the instructions, and the report of one turn of 10,000
+/// steps.
 const IMAGES: [(&[u32], usize, &str); 7] = [
     // jal zero, 0
     (&[0x0000_006F], 0, "guest a running steps 10000 bytes 0\n\n"),
@@ -377,8 +379,8 @@ fn reports_of_images(rt: HostRuntime) -> Result<(), Fail> {
     Ok(())
 }
 
-/// Instructions that trap behind `SETS_HANDLER`, each with its report: the three steps before them, those that
-/// they make, the trap, and the 186 steps of the handler, which puts code and value.
+/// Instructions that trap behind `SETS_HANDLER`, each with its report: the three steps before them, those
+/// that they make, the trap, and the 186 steps of the handler, which puts code and value.
 const TRAPS: [(&[u32], &str); 12] = [
     // lui t0, 1; the word 0 is illegal
     (
@@ -634,7 +636,8 @@ pub fn supervisor_image(alloc: Global) -> Result<Vec<u8>, AllocError> {
     Ok(bytes)
 }
 
-/// Whether the run of an image ends with this report, in one turn of 10,000 steps and in 2,000 turns of one step.
+/// Whether the run of an image ends with this report, in one turn of 10,000 steps and in 2,000 turns of one
+/// step.
 pub fn is_reported_of_bytes(alloc: Global, image: &[u8], report: &str) -> Result<bool, AllocError> {
     is_reported_with(alloc, image, "", 100, report)
 }

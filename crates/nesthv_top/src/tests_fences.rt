@@ -1,5 +1,5 @@
-// Fences, rights and evictions of cached translations. A hypervisor runs a nested guest for each of its commands. Each
-// test runs in one turn and in turns of one step, with equal reports.
+// Fences, rights and evictions of cached translations. A hypervisor runs a nested guest for each of its
+// commands. Each test runs in one turn and in turns of one step, with equal reports.
 
 ghost use Rattle.std.specs.Prelude.{◌≤◌};
 
@@ -8,9 +8,9 @@ use crate::tests_rooms::{Room, SMALL, traced};
 use std::alloc::{AllocError, Global};
 use std::test::Fail;
 
-/// For each command it sets hgatp, vsatp and sstatus, stores a doubleword, makes a fence, and runs the nested guest from a
-/// routine on with a pointer in a1. Of a call of the nested guest it puts a0, and of another trap the code plus 64, the
-/// page of htval, and htinst without its last twelve bits.
+/// For each command it sets hgatp, vsatp and sstatus, stores a doubleword, makes a fence, and runs the nested
+/// guest from a routine on with a pointer in a1. Of a call of the nested guest it puts a0, and of another
+/// trap the code plus 64, the page of htval, and htinst without its last twelve bits.
 const HYPERVISOR: [u32; 48] = [
     0x0000_0417, // _start: auipc s0, 0
     0x0704_0313, // addi t1, s0, 112
@@ -110,10 +110,11 @@ const RESERVED: u64 = 0x40;
 
 const UNRESERVED: u64 = 0x50;
 
-/// The tables. That of VMID 1 has its root at 4000: page 0 is the nested guest, pages 1 and 2 have the letters A and B,
-/// page 3 the code with X alone, page 4 the code with R alone, page 5 the letter E without D, and page 10 has the frame of
-/// page 16 with X alone. Pages 16 to 20 are tables of the nested guest, with R alone, and pages 32 to 43 have the letters
-/// A to L. That of VMID 2 has its root at C000: pages 1 and 2 have the letters C and D.
+/// The tables. That of VMID 1 has its root at 4000: page 0 is the nested guest, pages 1 and 2 have the
+/// letters A and B, page 3 the code with X alone, page 4 the code with R alone, page 5 the letter E without
+/// D, and page 10 has the frame of page 16 with X alone. Pages 16 to 20 are tables of the nested guest, with
+/// R alone, and pages 32 to 43 have the letters A to L. That of VMID 2 has its root at C000: pages 1 and 2
+/// have the letters C and D.
 const TABLES: [(usize, u64); 31] = [
     (0x4000, 0x2000_2001),
     (0x8000, 0x2000_2401),
@@ -153,8 +154,8 @@ const ONE: u64 = 0x8000_1000_0008_0004;
 
 const TWO: u64 = 0x8000_2000_0008_000C;
 
-// Values of vsatp: with the root in page 16, whose table maps its pages 0 and 1 by pages 17 and 18 and its addresses from
-// 40000000 on by pages 19 and 20; in page 9, which is mapped nowhere; and in page 10.
+// Values of vsatp: with the root in page 16, whose table maps its pages 0 and 1 by pages 17 and 18 and its
+// addresses from 40000000 on by pages 19 and 20; in page 9, which is mapped nowhere; and in page 10.
 const OWN: u64 = 0x8000_0000_0000_0010;
 
 const OWN_NOWHERE: u64 = 0x8000_0000_0000_0009;
@@ -169,8 +170,8 @@ const MXR: u64 = 0x8_0000;
 /// A store that nobody sees.
 const KEEP: [u64; 2] = [0x8003_F800, 0];
 
-// Fences, each with rs1 and rs2: none, of all entries, of those of VMID 1, of the guest physical page 1, and of VMID 2
-// and page 2.
+// Fences, each with rs1 and rs2: none, of all entries, of those of VMID 1, of the guest physical page 1, and
+// of VMID 2 and page 2.
 const NONE: [u64; 3] = [0x13, 0, 0];
 
 const ALL: [u64; 3] = [0x6200_0073, 0, 0];
@@ -181,7 +182,8 @@ const BY_ADDRESS: [u64; 3] = [0x6203_0073, 0x400, 0];
 
 const BY_BOTH: [u64; 3] = [0x6273_0073, 0x800, 2];
 
-/// hgatp, vsatp and sstatus; what is stored at an address; the fence; the routine and its pointer; and what is put.
+/// hgatp, vsatp and sstatus; what is stored at an address; the fence; the routine and its pointer; and what
+/// is put.
 type Command = ([u64; 3], [u64; 2], [u64; 3], [u64; 2], &'static str);
 
 const V: [u64; 3] = [ONE, 0, SPP];
@@ -221,8 +223,9 @@ fn append_letters(bytes: &mut Vec<u8>, at: usize, first: u64) -> Result<(), Allo
     Ok(())
 }
 
-/// The image of the hypervisor with these commands. The capital letters stand in the pages from 80030000 on, and the small
-/// ones in those from 80040000 on. The tables of the nested guest are there twice, from 80010000 and from 80018000 on.
+/// The image of the hypervisor with these commands. The capital letters stand in the pages from 80030000 on,
+/// and the small ones in those from 80040000 on. The tables of the nested guest are there twice, from
+/// 80010000 and from 80018000 on.
 fn commanded(alloc: Global, commands: &[Command]) -> Result<Vec<u8>, AllocError> {
     let mut bytes = Vec::new(alloc);
     append(&mut bytes, &HYPERVISOR)?;
@@ -253,9 +256,9 @@ fn commanded(alloc: Global, commands: &[Command]) -> Result<Vec<u8>, AllocError>
     Ok(bytes)
 }
 
-/// Whether a guest in this room with these commands puts what they say, in so many steps. These are 9 before and after
-/// the commands; for each command 23 of the hypervisor before the nested guest, those of the nested guest with its trap,
-/// and 8 of the hypervisor for a call, 18 for another trap.
+/// Whether a guest in this room with these commands puts what they say, in so many steps. These are 9 before
+/// and after the commands; for each command 23 of the hypervisor before the nested guest, those of the nested
+/// guest with its trap, and 8 of the hypervisor for a call, 18 for another trap.
 fn are_reported(
     alloc: Global,
     room: Room,
@@ -293,8 +296,8 @@ fn two_vmids(rt: HostRuntime) -> Result<(), Fail> {
     Ok(())
 }
 
-/// Loads from both pages under both values of hgatp; the hypervisor's stores to their leaves, which stay unseen; a fence
-/// after the last of them; and loads from the pages again, the last one first.
+/// Loads from both pages under both values of hgatp; the hypervisor's stores to their leaves, which stay
+/// unseen; a fence after the last of them; and loads from the pages again, the last one first.
 fn moved(fence: [u64; 3], letters: [&'static str; 4]) -> [Command; 11] {
     [
         (V, KEEP, NONE, [LOAD, 0x1000], "A"),
@@ -331,8 +334,8 @@ fn fences(rt: HostRuntime) -> Result<(), Fail> {
     Ok(())
 }
 
-// The page with X alone is executed, and loaded from by MXR of sstatus alone. The page with R alone is loaded from, and
-// nothing else. Page 6 is mapped nowhere.
+// The page with X alone is executed, and loaded from by MXR of sstatus alone. The page with R alone is loaded
+// from, and nothing else. Page 6 is mapped nowhere.
 #[test]
 fn rights_of_leaves(rt: HostRuntime) -> Result<(), Fail> {
     let commands = [
@@ -353,8 +356,9 @@ fn rights_of_leaves(rt: HostRuntime) -> Result<(), Fail> {
 
 const OWN_TABLES: [u64; 3] = [ONE, OWN, SPP];
 
-// Tables of the nested guest need R and nothing else, whatever MXR is. The implicit read of a table that is mapped nowhere
-// or with X alone is a guest-page fault of the access that it serves, with the table's page in htval and 3000 in htinst.
+// Tables of the nested guest need R and nothing else, whatever MXR is. The implicit read of a table that is
+// mapped nowhere or with X alone is a guest-page fault of the access that it serves, with the table's page in
+// htval and 3000 in htinst.
 #[test]
 fn own_tables(rt: HostRuntime) -> Result<(), Fail> {
     let by_last_table = [0x6203_0073, 0x5000, 0];
@@ -403,8 +407,8 @@ fn own_tables(rt: HostRuntime) -> Result<(), Fail> {
     Ok(())
 }
 
-// A page without D is loaded from. AMO and SC to it are faults of a store, whether a reservation stands or not. With D
-// set they are made with no fence, and SC tells whether it had a reservation.
+// A page without D is loaded from. AMO and SC to it are faults of a store, whether a reservation stands or
+// not. With D set they are made with no fence, and SC tells whether it had a reservation.
 #[test]
 fn clean_page(rt: HostRuntime) -> Result<(), Fail> {
     let commands = [
@@ -420,8 +424,8 @@ fn clean_page(rt: HostRuntime) -> Result<(), Fail> {
     Ok(())
 }
 
-// Two nested guests in turn. Where there is one space, each evicts the other's, and sees what was stored to its leaf; where
-// there are two, each is served the old frame.
+// Two nested guests in turn. Where there is one space, each evicts the other's, and sees what was stored to
+// its leaf; where there are two, each is served the old frame.
 #[test]
 fn spaces_are_evicted(rt: HostRuntime) -> Result<(), Fail> {
     for (room, first, second) in [(SMALL, "a", "c"), (TWO_SPACES, "A", "C")] {
@@ -439,10 +443,10 @@ fn spaces_are_evicted(rt: HostRuntime) -> Result<(), Fail> {
 /// The letters of the pages from 32 on.
 const CAPITALS: [&str; 10] = ["A", "B", "C", "D", "E", "F", "G", "H", "I", "J"];
 
-// Six pages of tables and code, and ten of letters, fill the sixteen entries. All leaves of tables and letters are moved,
-// and all entries are stale. The load from an eleventh page needs seven pages: it evicts the oldest entry, and then each
-// table that it fills again evicts the next one, up to the first letter's. The other letters are still served stale, the
-// first one is filled again, which evicts the second's.
+// Six pages of tables and code, and ten of letters, fill the sixteen entries. All leaves of tables and
+// letters are moved, and all entries are stale. The load from an eleventh page needs seven pages: it evicts
+// the oldest entry, and then each table that it fills again evicts the next one, up to the first letter's.
+// The other letters are still served stale, the first one is filled again, which evicts the second's.
 #[test]
 fn all_entries_stale(rt: HostRuntime) -> Result<(), Fail> {
     let mut commands: Vec<Command> = Vec::new(rt.alloc());

@@ -1,5 +1,5 @@
-// Guests that are hypervisors with a second-stage table, under which they run a nested guest for each of their
-// commands. Each test runs in one turn and in turns of one step, with equal reports.
+// Guests that are hypervisors with a second-stage table, under which they run a nested guest for each of
+// their commands. Each test runs in one turn and in turns of one step, with equal reports.
 
 use crate::tests::{append_at, image};
 use crate::tests_nested::{COMMANDED, HGATP};
@@ -7,8 +7,9 @@ use crate::tests_rooms::{Account, Room, SMALL, traced};
 use std::alloc::{AllocError, Global};
 use std::test::Fail;
 
-/// What a hypervisor does for its nested guest before it runs it: it stores a value at an address, makes a fence for the
-/// guest physical address that is four times the third number, if that is not 0, and hands over a pointer.
+/// What a hypervisor does for its nested guest before it runs it: it stores a value at an address, makes a
+/// fence for the guest physical address that is four times the third number, if that is not 0, and hands over
+/// a pointer.
 type Command = [u64; 4];
 
 // The entries of the table's level 0 for pages 0 and 1.
@@ -26,8 +27,8 @@ const LEAF_B: u64 = 0x2000_2CD7;
 
 const LEAF_C: u64 = 0x2000_30D7;
 
-/// What stands behind the hypervisor, each doubleword at its offset: hgatp's and vsatp's values, the nested guest, and a
-/// table that maps page 0 to it.
+/// What stands behind the hypervisor, each doubleword at its offset: hgatp's and vsatp's values, the nested
+/// guest, and a table that maps page 0 to it.
 const TABLE: [(usize, u64); 6] = [
     (0x400, HGATP),
     (0x408, 0),
@@ -79,8 +80,8 @@ fn stale_until_fence(rt: HostRuntime) -> Result<(), Fail> {
     Ok(())
 }
 
-// A leaf of 2 MiB is moved to the second block of RAM. The fence names another page of the leaf, and drops what is
-// cached under it all the same.
+// A leaf of 2 MiB is moved to the second block of RAM. The fence names another page of the leaf, and drops
+// what is cached under it all the same.
 #[test]
 fn superpage_fence(rt: HostRuntime) -> Result<(), Fail> {
     let commands = [
@@ -102,8 +103,8 @@ fn superpage_fence(rt: HostRuntime) -> Result<(), Fail> {
     Ok(())
 }
 
-// No entry is a guest-page fault of the load, code 21, put as `5`, and a leaf that points outside RAM an access fault,
-// code 5, put as `%`. What was faulty needs no fence when it is good.
+// No entry is a guest-page fault of the load, code 21, put as `5`, and a leaf that points outside RAM an
+// access fault, code 5, put as `%`. What was faulty needs no fence when it is good.
 #[test]
 fn nested_faults(rt: HostRuntime) -> Result<(), Fail> {
     let commands = [
@@ -123,8 +124,8 @@ fn nested_faults(rt: HostRuntime) -> Result<(), Fail> {
     Ok(())
 }
 
-// The nested guest loads and stores. The load caches the leaf without D, so the store is a guest-page fault, code 23,
-// put as `7`, with the page in htval. With D set it is made, and needs no fence.
+// The nested guest loads and stores. The load caches the leaf without D, so the store is a guest-page fault,
+// code 23, put as `7`, with the page in htval. With D set it is made, and needs no fence.
 #[test]
 fn clean_leaf(rt: HostRuntime) -> Result<(), Fail> {
     let nested: [(usize, u64); 2] = [
@@ -153,8 +154,8 @@ fn clean_leaf(rt: HostRuntime) -> Result<(), Fail> {
     Ok(())
 }
 
-/// Loads from page 1, whose leaf is A's, then B's for good; from fifteen other pages, whose leaves are C's; and from page
-/// 1 again.
+/// Loads from page 1, whose leaf is A's, then B's for good; from fifteen other pages, whose leaves are C's;
+/// and from page 1 again.
 fn seventeen_loads(alloc: Global) -> Result<Vec<u8>, AllocError> {
     let mut slots = Vec::new(alloc);
     for slot in 2..17 {
@@ -172,8 +173,8 @@ fn seventeen_loads(alloc: Global) -> Result<Vec<u8>, AllocError> {
     )
 }
 
-// With the page of the code they are seventeen. Where a space holds sixteen, the entry of page 1, which is the oldest
-// but for the code's, has fallen out when it is asked for again.
+// With the page of the code they are seventeen. Where a space holds sixteen, the entry of page 1, which is
+// the oldest but for the code's, has fallen out when it is asked for again.
 #[test]
 fn oldest_first(rt: HostRuntime) -> Result<(), Fail> {
     let image = seventeen_loads(rt.alloc())?;
@@ -200,8 +201,8 @@ fn oldest_first(rt: HostRuntime) -> Result<(), Fail> {
     Ok(())
 }
 
-/// The nested guest has tables of its own. The tables, the code and each letter lie in another GiB of its physical
-/// addresses, each of which the hypervisor maps by a leaf of 1 GiB at the start of RAM.
+/// The nested guest has tables of its own. The tables, the code and each letter lie in another GiB of its
+/// physical addresses, each of which the hypervisor maps by a leaf of 1 GiB at the start of RAM.
 const REGIONS: [(usize, u64); 15] = [
     (0x400, HGATP),
     (0x408, 0x8000_0000_0004_0008),
@@ -220,8 +221,8 @@ const REGIONS: [(usize, u64); 15] = [
     (0xB000, 0x44B),
 ];
 
-// One load needs seven pages: three tables and the page for the code, and as many for the data, with the root in common.
-// Sixteen of them go through sixteen entries.
+// One load needs seven pages: three tables and the page for the code, and as many for the data, with the root
+// in common. Sixteen of them go through sixteen entries.
 #[test]
 fn seven_regions(rt: HostRuntime) -> Result<(), Fail> {
     let mut leaves = Vec::new(rt.alloc());

@@ -4,10 +4,10 @@ use crate::tests::{append_at, image, is_reported_with};
 use std::alloc::{AllocError, Global};
 use std::test::Fail;
 
-/// Makes the instruction of each of its commands in the mode that the command says, by SRET, and puts what that has
-/// left as seven bytes: scause plus 48, a0, the bits GVA and SPV of hstatus, the page of htval, the last digit of the
-/// page of stval, the page of htinst, and the byte of RAM at 8000D000. Before it a0 is `.`, a2 is `S`, and that byte is
-/// `A`. EBREAK, code 3, stands behind it.
+/// Makes the instruction of each of its commands in the mode that the command says, by SRET, and puts what
+/// that has left as seven bytes: scause plus 48, a0, the bits GVA and SPV of hstatus, the page of htval, the
+/// last digit of the page of stval, the page of htinst, and the byte of RAM at 8000D000. Before it a0 is `.`,
+/// a2 is `S`, and that byte is `A`. EBREAK, code 3, stands behind it.
 const ACCESSES: [u32; 62] = [
     0x0000_0417, // auipc s0, 0
     0x0804_0313, // addi t1, s0, 128
@@ -73,7 +73,8 @@ const ACCESSES: [u32; 62] = [
     0x0000_0073, // ecall
 ];
 
-/// The tables behind it. Those of hgatp are at 4000, 8000 and 9000, and those of vsatp at A000, B000 and C000.
+/// The tables behind it. Those of hgatp are at 4000, 8000 and 9000, and those of vsatp at A000, B000 and
+/// C000.
 const TABLES: [(usize, u64); 23] = [
     (0x4000, 0x2000_2001),
     // A leaf of 1 GiB at its own address.
@@ -81,7 +82,8 @@ const TABLES: [(usize, u64); 23] = [
     (0x8000, 0x2000_2401),
     // A leaf of 2 MiB at 80000000.
     (0x8008, 0x2000_00DF),
-    // Pages 1 to 6 at 8000D000: all rights, without U, X alone, without X, without W, without D. Page 7 is outside RAM.
+    // Pages 1 to 6 at 8000D000: all rights, without U, X alone, without X, without W, without D. Page 7 is
+    // outside RAM.
     (0x9008, 0x2000_34DF),
     (0x9010, 0x2000_34CF),
     (0x9018, 0x2000_3459),
@@ -95,8 +97,8 @@ const TABLES: [(usize, u64); 23] = [
     (0xB000, 0x2000_3001),
     // A leaf of 2 MiB at 80000000.
     (0xB008, 0x2000_00C7),
-    // Pages 1 to 6 at 8000D000: R and W without U, with U, X alone without U, with U, without W, without D. Page 7 is
-    // outside RAM, and page 8 at 5000.
+    // Pages 1 to 6 at 8000D000: R and W without U, with U, X alone without U, with U, without W, without D.
+    // Page 7 is outside RAM, and page 8 at 5000.
     (0xC008, 0x2000_34C7),
     (0xC010, 0x2000_34D7),
     (0xC018, 0x2000_3449),
@@ -165,8 +167,8 @@ fn accesses(alloc: Global, commands: &[Command]) -> Result<Vec<u8>, AllocError> 
     Ok(bytes)
 }
 
-/// Whether a guest with these commands puts what they say, under this header. Its steps are 7 before the commands, 52
-/// for each that traps, 53 for each that is made, and 15 after them.
+/// Whether a guest with these commands puts what they say, under this header. Its steps are 7 before the
+/// commands, 52 for each that traps, 53 for each that is made, and 15 after them.
 fn are_reported(alloc: Global, commands: &[Command], header: &str) -> Result<bool, AllocError> {
     let mut report = String::from_str(alloc, header)?;
     for &(_, _, _, _, text) in commands {
@@ -265,8 +267,8 @@ fn accesses_by_the_second_stage(rt: HostRuntime) -> Result<(), Fail> {
     Ok(())
 }
 
-// hgatp's table, and vsatp's root at the guest page 8, which has no entry, at page 3, which has X alone, and at
-// page 7, which is outside RAM.
+// hgatp's table, and vsatp's root at the guest page 8, which has no entry, at page 3, which has X alone, and
+// at page 7, which is outside RAM.
 const NO_ROOT: [u64; 2] = [0x8000_1000_0008_0004, 0x8000_0000_0000_0008];
 
 const ROOT_WITHOUT_R: [u64; 2] = [0x8000_1000_0008_0004, 0x8000_0000_0000_0003];

@@ -9,7 +9,8 @@ use rv64_hart::Tally;
 use std::alloc::{AllocError, Global};
 use std::test::Fail;
 
-/// The turns of a configuration, and its guests: `a` and `b`, each with one block and the image `a.bin` or `b.bin`.
+/// The turns of a configuration, and its guests: `a` and `b`, each with one block and the image `a.bin` or
+/// `b.bin`.
 fn config(alloc: Global, turns: &str) -> Result<String, AllocError> {
     format!(in alloc;
         "format = 1\n{turns}\n[[guest]]\nname = \"a\"\nimage = \"a.bin\"\nblocks = 1\nspaces = 1\nentries = 16\nconsole = 100\n[[guest]]\nname = \"b\"\nimage = \"b.bin\"\nblocks = 1\nspaces = 1\nentries = 16\nconsole = 100\n"

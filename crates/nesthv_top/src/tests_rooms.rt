@@ -25,16 +25,16 @@ fn config(alloc: Global, room: Room, quantum: u64, rounds: u64) -> Result<String
     )
 }
 
-/// What the hart's account tells of a run: its trace, and its entries in turns of one step, which are one for each step
-/// and one for each fill.
+/// What the hart's account tells of a run: its trace, and its entries in turns of one step, which are one for
+/// each step and one for each fill.
 #[derive(Clone, Copy, Debug, PartialEq, Eq)]
 pub struct Account {
     pub trace: u64,
     pub entries: u64,
 }
 
-/// The account of a guest's run, if the run ends with this report, and in turns of one step too, with the same trace,
-/// and the hart has made so many steps at least, which are the plain ones.
+/// The account of a guest's run, if the run ends with this report, and in turns of one step too, with the
+/// same trace, and the hart has made so many steps at least, which are the plain ones.
 pub fn traced(
     alloc: Global,
     room: Room,

@@ -145,7 +145,8 @@ fn inputs_come_at_their_moments(rt: HostRuntime) -> Result<(), Fail> {
     Ok(())
 }
 
-/// Puts `x` and a byte for which the console has no room, and makes the call whose number is its input plus 3.
+/// Puts `x` and a byte for which the console has no room, and makes the call whose number is its input plus
+/// 3.
 const GETS_AT_A_FULL_CONSOLE: [u32; 8] = [
     0x0780_0513, // li a0, 120
     0x0010_0893, // li a7, 1
@@ -369,8 +370,8 @@ const WAITS_FOR_BOTH: [u32; 12] = [
 ];
 
 // The wait begins at clock 5. It ends at the earlier moment: 500 gives 100, which is `d`, and 700 gives 300,
-// whose low byte is 44, `,`. Where the input is there at 5, or comes at 6, it ends at 6: the low byte of -394 is
-// 118, `v`.
+// whose low byte is 44, `,`. Where the input is there at 5, or comes at 6, it ends at 6: the low byte of -394
+// is 118, `v`.
 #[test]
 fn waits_for_the_earlier_moment(rt: HostRuntime) -> Result<(), Fail> {
     let image = image(rt.alloc(), &WAITS_FOR_BOTH, 0)?;
@@ -405,8 +406,8 @@ fn waits_for_the_earlier_moment(rt: HostRuntime) -> Result<(), Fail> {
     Ok(())
 }
 
-/// Sets registers to the words at 160, the timer to 1000, and goes by SRET to what is tried, which stands behind
-/// this at clock 21.
+/// Sets registers to the words at 160, the timer to 1000, and goes by SRET to what is tried, which stands
+/// behind this at clock 21.
 const GOES_TO_TRIED: [u32; 21] = [
     0x0000_0297, // auipc t0, 0
     0x05C2_8313, // addi t1, t0, 92
@@ -431,8 +432,8 @@ const GOES_TO_TRIED: [u32; 21] = [
     0x1020_0073, // sret
 ];
 
-/// Traps, and puts scause plus 48, stval with the bit of 64 set, and, as letters from `A` on, the time of its ninth
-/// step and a0 before the trap, each modulo 16.
+/// Traps, and puts scause plus 48, stval with the bit of 64 set, and, as letters from `A` on, the time of its
+/// ninth step and a0 before the trap, each modulo 16.
 const TELLS: [u32; 18] = [
     0x0010_0073, // ebreak
     0x0005_0413, // mv s0, a0
@@ -487,7 +488,8 @@ fn is_tried(alloc: Global, tried: Tried) -> Result<bool, AllocError> {
     is_reported_of_bytes(alloc, image.as_slice(), report)
 }
 
-// A wait up to clock 1000 is followed by EBREAK at that clock, or, where the timer's interrupt is taken, by that.
+// A wait up to clock 1000 is followed by EBREAK at that clock, or, where the timer's interrupt is taken, by
+// that.
 const SLEEPS: [Tried; 8] = [
     // In HS, with SIE clear and set.
     (
@@ -625,9 +627,9 @@ const ECHO: [u32; 39] = [
     0x1020_0073, // back: sret
 ];
 
-// The report that docs/guide.md explains: 11 steps before the first wait. The wait and its interrupt are two steps,
-// five times; the ticks' handler has 10 steps, three times, and that of an input 4 and 6 for each byte, for two bytes
-// and then for one; the loop's branch comes five times, and two steps stop the guest.
+// The report that docs/guide.md explains: 11 steps before the first wait. The wait and its interrupt are two
+// steps, five times; the ticks' handler has 10 steps, three times, and that of an input 4 and 6 for each
+// byte, for two bytes and then for one; the loop's branch comes five times, and two steps stop the guest.
 #[test]
 fn a_kernel_echoes(rt: HostRuntime) -> Result<(), Fail> {
     let image = image(rt.alloc(), &ECHO, 0)?;

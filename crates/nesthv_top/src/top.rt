@@ -29,8 +29,8 @@ pub fn nesthv<S: Store, O: Sink, E: Sink>(
     requires entries { tally.old.entries ≤ 2 ^ 61 }
     requires taken { tally.old.taken ≤ 2 ^ 61 }
 
-    // The headline: on status 0 the report of the guests' lone machines has been written, whose runs are of the
-    // written architecture, their second-stage translations stale only until the matching fence.
+    // The headline: on status 0 the report of the guests' lone machines has been written, whose runs are of
+    // the written architecture, their second-stage translations stale only until the matching fence.
     ensures report { result ≡ 0 → HasPlan (S.files store.old) (command_of words.now)
         (λ plan. Appends O.stands_for out.old out.new (report_of plan)) }
     ensures machines { result ≡ 0

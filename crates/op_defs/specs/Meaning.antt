@@ -35,13 +35,13 @@ abbrev pub even : ℕ → ℕ
 even address = address - address % 2
 
 -- whether a branch is taken
-abbrev pub holds : Test → ℕ → ℕ → Bool
-holds Eq a b = a == b
-holds Ne a b = not (a == b)
-holds Lt a b = int_lt (signed a) (signed b)
-holds Ge a b = not (int_lt (signed a) (signed b))
-holds Ltu a b = nat_lt a b
-holds Geu a b = not (nat_lt a b)
+abbrev pub is_branch_taken : Test → ℕ → ℕ → Bool
+is_branch_taken Eq a b = a == b
+is_branch_taken Ne a b = not (a == b)
+is_branch_taken Lt a b = int_lt (signed a) (signed b)
+is_branch_taken Ge a b = not (int_lt (signed a) (signed b))
+is_branch_taken Ltu a b = nat_lt a b
+is_branch_taken Geu a b = not (nat_lt a b)
 
 -- a jump, which leaves the next pc in rd; a target that is no multiple of 4 is an exception at the jump (2.5)
 abbrev pub jump : ℕ → ℕ → ℕ → Effect
@@ -69,14 +69,17 @@ writes csr.Set operand = not (is_none operand)
 writes csr.Clear operand = not (is_none operand)
 
 -- the operand of a fence: what a register has, if it is not x0 (Privileged Architecture 20211203, 8.3.2)
-abbrev pub named_by : ℕ → ℕ → Option ℕ
-named_by register value = if register == 0 then None else Some value
+abbrev pub fence_operand : ℕ → ℕ → Option ℕ
+fence_operand register value = if register == 0 then None else Some value
 
 -- what HFENCE.GVMA names: a VMID by the low 7 bits of rs2, and a guest physical page by rs1, which has the
 -- address shifted right by 2 (8.3.2)
 abbrev pub fence_named : ℕ → ℕ → Regs → Fence
 fence_named rs1 rs2 regs =
-    record { vmid = named_by rs2 (read regs rs2 % 2 ^ 7); page = named_by rs1 (read regs rs1 / 2 ^ 10) }
+    record {
+      vmid = fence_operand rs2 (read regs rs2 % 2 ^ 7);
+      page = fence_operand rs1 (read regs rs1 / 2 ^ 10);
+    }
 
 -- an access to data as the instruction's own mode, and one as VS or VU
 abbrev pub accesses : ℕ → Width → Purpose → Effect
@@ -93,7 +96,7 @@ meaning (op.Auipc rd immediate) regs = Sets rd (add64 regs.pc immediate) (next r
 meaning (op.Jal rd offset) regs = jump rd (next regs) (add64 regs.pc offset)
 meaning (op.Jalr rd rs1 offset) regs = jump rd (next regs) (even (address_at regs rs1 offset))
 meaning (op.Branch test rs1 rs2 offset) regs =
-    branch (holds test (read regs rs1) (read regs rs2)) (next regs) (add64 regs.pc offset)
+    branch (is_branch_taken test (read regs rs1) (read regs rs2)) (next regs) (add64 regs.pc offset)
 meaning (op.Load width signed rd rs1 offset) regs = accesses (address_at regs rs1 offset) width (Load signed rd)
 meaning (op.Store width rs1 rs2 offset) regs = accesses (address_at regs rs1 offset) width (Store (read regs rs2))
 meaning (op.AluImmediate o rd rs1 immediate) regs = Sets rd (alu o (read regs rs1) immediate) (next regs)

@@ -153,8 +153,8 @@ fence_op_of word = if funct7 word == 0b0001001 then Some (op.SfenceVma (rs1 word
     else if funct7 word == 0b0010001 then Some (op.HfenceVvma (rs1 word) (rs2 word))
     else if funct7 word == 0b0110001 then Some (op.HfenceGvma (rs1 word) (rs2 word)) else None
 
-unfoldable pub privileged_of : ℕ → Option Op
-privileged_of word = if word == 0x00000073 then Some op.Ecall else if word == 0x00100073 then Some op.Ebreak
+unfoldable pub system_op_of : ℕ → Option Op
+system_op_of word = if word == 0x00000073 then Some op.Ecall else if word == 0x00100073 then Some op.Ebreak
     else if word == 0x10200073 then Some op.Sret else if word == 0x10500073 then Some op.Wfi
     else if rd word == 0 then fence_op_of word else None
 
@@ -195,7 +195,7 @@ csr_of word = if field 14 1 word == 0
 
 unfoldable pub system_of : ℕ → Option Op
 system_of word =
-    if funct3 word == 0 then privileged_of word else if funct3 word == 4 then guest_access_of word
+    if funct3 word == 0 then system_op_of word else if funct3 word == 4 then guest_access_of word
     else Some (csr_of word)
 
 -- the table, by opcode

@@ -3,7 +3,7 @@ use Rattle.std.proofs.lemmas.Grind.{common_steps, flat_map-append}
 use Rattle.std.proofs.lemmas.List.{append_assoc, take-append-le}
 use Rattle.std.proofs.Math.Seq.{take-append-add}
 use Rattle.outside.specs.Faults.{one_more}
-use Rattle.outside.specs.ListSinks.{SinkState, IsMadeOf}
+use Rattle.outside.specs.ListSinks.{SinkState, IsWrittenBy}
 use Rattle.outside.specs.Pieces.{Appends, Puts}
 
 -- two lists one after the other are their concatenation
@@ -30,7 +30,7 @@ pub ruleset pieces = (appends_then, puts_then, puts_stopped)
 
 -- one more piece was taken
 pub made_of_more : (old new : SinkState) (pieces : List (List ℕ)) (piece : List ℕ) → new.bytes ≡ old.bytes ++ piece → new.puts ≡ one_more old.puts
-    → IsMadeOf old pieces → IsMadeOf new (pieces ++ piece ∷ [])
+    → IsWrittenBy old pieces → IsWrittenBy new (pieces ++ piece ∷ [])
 made_of_more old new pieces piece bytes puts made = record {
   bytes = grind (arith, common_steps, flat_map-append, bytes, made.bytes);
   puts = grind (arith, common_steps, puts, made.puts);

@@ -29,8 +29,8 @@ taken_of held piece =
     min (min (unwrap_or (failure_of held) (length piece)) (length piece)) (held.room - length held.bytes)
 
 -- what the next put leaves
-abbrev pub after : SinkState → List ℕ → SinkState
-after held piece = record held {
+abbrev pub after_put : SinkState → List ℕ → SinkState
+after_put held piece = record held {
   bytes = held.bytes ++ take (taken_of held piece) piece;
   puts = one_more held.puts;
   faults = if is_taken held piece then held.faults else one_more held.faults;
@@ -38,6 +38,6 @@ after held piece = record held {
 
 -- the sink's puts took these pieces: they make up its bytes, and are as many as its puts, whose count stands
 -- still at its last value
-pub record IsMadeOf (held : SinkState) (pieces : List (List ℕ)) : Type 0 where
+pub record IsWrittenBy (held : SinkState) (pieces : List (List ℕ)) : Type 0 where
   pub bytes : held.bytes ≡ flat_map (λ piece. piece) pieces
   pub puts : held.puts ≡ min (length pieces) (2 ^ 64 - 1)

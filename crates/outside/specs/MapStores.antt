@@ -29,8 +29,8 @@ abbrev pub fails_next : StoreState → Bool
 fails_next held = list_any (nat_eq (length held.asked + 1)) held.failing
 
 -- what the next read gives, and nothing where it fails: where its number is to fail, or no file has the name
-abbrev pub answer_of : StoreState → List ℕ → ℕ → Option (List ℕ)
-answer_of held name most =
+abbrev pub read_answer : StoreState → List ℕ → ℕ → Option (List ℕ)
+read_answer held name most =
     if fails_next held then None else option_map (take most) (content_of held.files name)
 
 -- the faults after a read with this result; the count stands still at its last value

@@ -1,5 +1,5 @@
 ghost use Rattle.std.specs.Prelude.{◌≡◌, [], ◌∷◌, take, Some, None, unwrap_or, OnOk, OnErr, IfOk, IfErr};
-ghost use Rattle.outside.specs.CleanStores.{files_of};
+ghost use Rattle.outside.specs.CleanStores.{clean_files_of};
 ghost use Rattle.outside.specs.Named.{content_of};
 
 use crate::named::{NamedFiles, front};
@@ -40,7 +40,7 @@ impl CleanStore {
 }
 
 impl Store for CleanStore {
-    ghost files = { λ s. Some (files_of s) };
+    ghost files = { λ s. Some (clean_files_of s) };
 
     ghost asked = { λ _. None };
 

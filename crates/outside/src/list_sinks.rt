@@ -99,21 +99,21 @@ impl ListSink {
 }
 
 impl Sink for ListSink {
-    ghost use Rattle.outside.specs.ListSinks.{after, is_taken, IsMadeOf};
+    ghost use Rattle.outside.specs.ListSinks.{after_put, is_taken, IsWrittenBy};
 
     ghost stands_for = { λ s bytes. s.bytes ≡ bytes };
 
-    ghost took = { IsMadeOf };
+    ghost took = { IsWrittenBy };
 
     ghost faults = { λ s. s.faults };
 
     #[tactic(auto, using(crate::proofs::Pieces::made_of_more))]
     fn put(&mut self, piece: &[u8]) -> Result<(), SinkFault>
         ensures bytes { Puts (λ s bytes. s.bytes ≡ bytes) self.old self.new (is_ok result) piece.now }
-        ensures piece { OnOk result (Appends IsMadeOf self.old self.new (piece.now ∷ [])) }
+        ensures piece { OnOk result (Appends IsWrittenBy self.old self.new (piece.now ∷ [])) }
         ensures count { self.old.faults ≤ self.new.faults }
         ensures answer { is_ok result ≡ is_taken self.old piece.now }
-        ensures leaves { self.new ≡ after self.old piece.now }
+        ensures leaves { self.new ≡ after_put self.old piece.now }
     {
         let left = self.room - self.bytes.len();
         let failure = self.failure();

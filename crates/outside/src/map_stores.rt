@@ -115,7 +115,7 @@ impl MapStore {
 }
 
 impl MapStore {
-    ghost use Rattle.outside.specs.MapStores.{answer_of, fails_next, Answers};
+    ghost use Rattle.outside.specs.MapStores.{read_answer, fails_next, Answers};
 
     fn fails_next(&self) -> bool
         ensures { result ≡ fails_next self.now }
@@ -125,7 +125,7 @@ impl MapStore {
     }
 
     fn answer(&self, alloc: Global, name: &str, most: u64) -> Result<Vec<u8>, StoreFault>
-        ensures { Answers result (answer_of self.now name.now most) }
+        ensures { Answers result (read_answer self.now name.now most) }
     {
         if self.fails_next() {
             return Err(StoreFault::Failed);
@@ -141,7 +141,7 @@ impl MapStore {
 }
 
 impl Store for MapStore {
-    ghost use Rattle.outside.specs.MapStores.{files_of, answer_of, faults_after, Answers};
+    ghost use Rattle.outside.specs.MapStores.{files_of, read_answer, faults_after, Answers};
 
     ghost files = { λ s. Some (files_of s.files) };
 
@@ -151,7 +151,7 @@ impl Store for MapStore {
 
     fn read(&mut self, alloc: Global, name: &str, most: u64) -> Result<Vec<u8>, StoreFault>
         ensures count { self.old.faults ≤ self.new.faults }
-        ensures answer { Answers result (answer_of self.old name.now most) }
+        ensures answer { Answers result (read_answer self.old name.now most) }
         ensures leaves { self.new ≡ record self.old {
           asked = self.old.asked ++ told name.now most result;
           faults = faults_after self.old.faults result;

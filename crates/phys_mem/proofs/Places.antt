@@ -1,6 +1,6 @@
 -- Places of memory that an access fits in, and the bytes of a value.
 use Rattle.std.proofs.Common.{◌≡◌, ℕ, zero, suc, ◌+◌, ◌-◌, ◌%◌, ◌<◌, ◌≤◌, ◌⊎◌, inl, inr, List, ◌*◌, take, drop, refl, arith}
-use Rattle.phys_mem.specs.Accesses.{frame_of}
+use Rattle.phys_mem.specs.MemoryBytes.{frame_of}
 use Rattle.std.specs.Int.{bytes_low_first}
 
 -- an access at a place that is a multiple of its width lies in memory of whole frames

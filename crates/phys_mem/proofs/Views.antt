@@ -9,7 +9,7 @@ use Rattle.arch_defs.specs.Frames.{in_blocks, LieIn, Only}
 use Rattle.arch_defs.specs.Ram.{ram_of, host_place, IsDistinct}
 use Rattle.arch_defs.proofs.FrameSets.{only_pasted}
 use Rattle.arch_defs.proofs.RamBlocks.{blocks_lie_in, ram_length, place_named, place_held, host_place_along, ram_load, ram_pasted}
-use Rattle.phys_mem.specs.Accesses.{IsWidth, is_inside, number_at, bytes_with}
+use Rattle.phys_mem.specs.MemoryBytes.{IsWidth, is_inside, number_at, bytes_with}
 use Rattle.phys_mem.proofs.Places.{fits}
 
 -- a number that lies at a multiple of its width lies in one block, and its place is such a multiple

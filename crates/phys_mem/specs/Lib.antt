@@ -1,1 +1,1 @@
-pub mod Accesses
+pub mod MemoryBytes

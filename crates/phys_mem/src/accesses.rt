@@ -1,7 +1,7 @@
 // What is read and written as memory is.
 
 ghost use Rattle.std.specs.Prelude.{◌≡◌, ℕ, ◌%◌, List};
-ghost use Rattle.phys_mem.specs.Accesses.{IsWidth, is_inside, number_at, bytes_with};
+ghost use Rattle.phys_mem.specs.MemoryBytes.{IsWidth, is_inside, number_at, bytes_with};
 
 /// Memory: bytes from a base on, read and written little endian.
 pub trait Mem {

@@ -3,7 +3,7 @@
 ghost use Rattle.std.specs.Prelude.{◌≡◌, ℕ, ◌+◌, ◌*◌, ◌%◌, ◌<◌, ◌≤◌, ⊤, length, IfOk};
 ghost use Rattle.byteorder.specs.Endian.{little_bytes};
 ghost use Rattle.arch_defs.specs.Memory.{load, pasted, zeros};
-ghost use Rattle.phys_mem.specs.Accesses.{IsWidth, is_inside, number_at, bytes_with, frame_of};
+ghost use Rattle.phys_mem.specs.MemoryBytes.{IsWidth, is_inside, number_at, bytes_with, frame_of};
 
 use crate::accesses::Mem;
 use crate::slices::{bytes_of, clear, copy, number, paste};

@@ -5,7 +5,7 @@ ghost use Rattle.byteorder.specs.Endian.{little_bytes};
 ghost use Rattle.arch_defs.specs.Frames.{LieIn, Only, in_blocks};
 ghost use Rattle.arch_defs.specs.Memory.{ram_base, block_size, load, pasted};
 ghost use Rattle.arch_defs.specs.Ram.{ram_of};
-ghost use Rattle.phys_mem.specs.Accesses.{IsWidth};
+ghost use Rattle.phys_mem.specs.MemoryBytes.{IsWidth};
 
 use crate::accesses::Mem;
 use crate::memory::PhysMem;

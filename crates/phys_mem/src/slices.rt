@@ -3,7 +3,7 @@
 ghost use Rattle.std.specs.Prelude.{◌≡◌, ℕ, ◌+◌, ◌≤◌, length, take, drop};
 ghost use Rattle.byteorder.specs.Endian.{little_bytes};
 ghost use Rattle.arch_defs.specs.Memory.{load, pasted, zeros};
-ghost use Rattle.phys_mem.specs.Accesses.{IsWidth};
+ghost use Rattle.phys_mem.specs.MemoryBytes.{IsWidth};
 
 use byteorder::{ByteOrder, LittleEndian};
 

@@ -3,8 +3,8 @@ use Rattle.std.specs.Prelude.{◌≡◌, ℕ, suc, Bool, List, ◌∷◌, length
 use Rattle.replay.specs.declared.comparisons.Verdict.{Verdict}
 use Rattle.replay.specs.declared.comparisons.Verdict.TheVariants.{Same, Differs}
 
--- what a `Compare` holds: the bytes that are expected, how many of them agree with those that were put, from the
--- first on, and whether more were put
+-- what a `Compare` holds: the bytes that are expected, how many of them agree with those that were put, from
+-- the first on, and whether more were put
 pub record Comparison : Type 0 where
   pub expected : List ℕ
   pub place : ℕ
@@ -20,7 +20,7 @@ pub record Saw (held : Comparison) (bytes : List ℕ) : Type 0 where
   pub place : held.place ≡ agreeing held.expected bytes
   pub differs : held.differs ≡ nat_lt held.place (length bytes)
 
--- what is said of bytes: the same, or the first place where they differ, which is the shorter length where one
--- of the lists is the beginning of the other
+-- what is said of bytes: the same, or the first place where they differ, which is the shorter length where
+-- one of the lists is the beginning of the other
 abbrev pub verdict_of : List ℕ → List ℕ → Verdict
 verdict_of expected bytes = if bytes_eq expected bytes then Same else Differs (agreeing expected bytes)

@@ -9,13 +9,13 @@ use std::marker::Model;
 pub enum Verdict {
     /// All bytes are the same, and there are equally many.
     Same,
-    /// The first place, counted from 0, where the bytes differ; the shorter length where the shorter of the two
-    /// is the beginning of the longer.
+    /// The first place, counted from 0, where the bytes differ; the shorter length where the shorter of the
+    /// two is the beginning of the longer.
     Differs(u64),
 }
 
-/// A sink that compares its pieces with expected bytes. It keeps none of the pieces, takes no memory, and never
-/// fails.
+/// A sink that compares its pieces with expected bytes. It keeps none of the pieces, takes no memory, and
+/// never fails.
 #[derive(Debug, Drop)]
 pub struct Compare<'a> {
     expected: &'a [u8],

@@ -12,12 +12,12 @@ use Rattle.turn_plan.proofs.Facts.{each_turn, length-rounds_of}
 use Rattle.run_config.specs.declared.keys.ConfigKey.TheVariants as key
 use Rattle.run_config.specs.declared.faults.ConfigFault.{ConfigFault}
 use Rattle.run_config.specs.declared.guests.GuestSettings.{GuestSettings}
-use Rattle.run_config.specs.Accept.{accept, configuration_of, document_fault, document_of, fault_of, guests_at, guests_in, has_format, tree_of, unless_fault}
+use Rattle.run_config.specs.Accept.{accept, configuration_fault, configuration_of, document_fault, document_of, guests_at, guests_in, has_format, tree_of, unless_fault}
 use Rattle.run_config.specs.Configurations.{Configuration, IsTurnWithin, IsWithinLimits}
 use Rattle.run_config.specs.Guests.{guests_fault, settings_of}
 use Rattle.run_config.specs.Tests.{missing, unless}
 use Rattle.run_config.specs.Turns.{listed_turns, quantum_and_rounds, turns_at, turns_by_rounds}
-use Rattle.run_config.specs.Values.{holds, natural, number_within, pairs_within, tables_of, value_at}
+use Rattle.run_config.specs.Values.{natural, number_within, pairs_within, passes_if, tables_of, value_at}
 use Rattle.run_config.proofs.Within.{IsAtMost, first_none, guests_within, holds-some, is_some_value, number_within-some, pairs_at_most, unless_none}
 
 record AreTurns (guests : ℕ) (turns : List (ℕ × ℕ)) : Type 0 where
@@ -27,11 +27,11 @@ record AreTurns (guests : ℕ) (turns : List (ℕ × ℕ)) : Type 0 where
 listed_within : (n : ℕ) (t : Members) (turns : List (ℕ × ℕ)) → 1 ≤ n → listed_turns n t ≡ Some turns → AreTurns n turns
 unfolding listed_turns
 listed_within n t turns some e =
-    option_and_then_some _ (holds (is_none (value_at key.Quantum t) && is_none (value_at key.Rounds t))) turns e (λ _ _ e.
+    option_and_then_some _ (passes_if (is_none (value_at key.Quantum t) && is_none (value_at key.Rounds t))) turns e (λ _ _ e.
     option_and_then_some _ (value_at key.Turns t) turns e (λ value _ e.
     option_and_then_some _ (as_array value) turns e (λ items _ e.
     option_and_then_some _ (pairs_within (n - 1) (2 ^ 32) items) turns e (λ pairs is_pairs e.
-    option_and_then_some _ (holds (nat_le (length pairs) (2 ^ 20))) turns e (λ u held e.
+    option_and_then_some _ (passes_if (nat_le (length pairs) (2 ^ 20))) turns e (λ u held e.
     let test = holds-some _ u held in
     let few : length pairs ≤ 2 ^ 20 = grind (arith, nat_tests, test) in
     let weaker : (p : ℕ × ℕ) → IsAtMost (n - 1) (2 ^ 32) p → IsTurnWithin n p = λ p most. record { guest = omega (arith, some, most.0); steps = most.1 } in
@@ -51,7 +51,7 @@ rounds_within : (n : ℕ) (t : Members) (turns : List (ℕ × ℕ)) → turns_by
 unfolding turns_by_rounds
 rounds_within n t turns e =
     option_and_then_some _ (quantum_and_rounds t) turns e (λ pair is_pair e.
-    option_and_then_some _ (holds (nat_le (n * pair.1) (2 ^ 20))) turns e (λ u held e.
+    option_and_then_some _ (passes_if (nat_le (n * pair.1) (2 ^ 20))) turns e (λ u held e.
     let test = holds-some _ u held in
     let few : n * pair.1 ≤ 2 ^ 20 = grind (arith, nat_tests, test) in
     let quantum = quantum_within t pair is_pair in
@@ -74,7 +74,7 @@ guests_few t gs e =
     option_and_then_some _ (value_at key.Guest t) gs e (λ value _ e.
     option_and_then_some _ (as_array value) gs e (λ items _ e.
     option_and_then_some _ (tables_of items) gs e (λ guests _ e.
-    option_and_then_some _ (holds (nat_le 1 (length guests) && nat_le (length guests) 16)) gs e (λ u held e.
+    option_and_then_some _ (passes_if (nat_le 1 (length guests) && nat_le (length guests) 16)) gs e (λ u held e.
     let parts = and_parts (nat_le 1 (length guests)) (nat_le (length guests) 16) (holds-some _ u held) in
     let least : 1 ≤ length guests = grind (arith, nat_tests, parts.0) in
     let most : length guests ≤ 16 = grind (arith, nat_tests, parts.1) in
@@ -127,9 +127,9 @@ unless_fault-ok None c d e = (refl, cc)
 unless_fault-ok (Some f) c d e = cc
 
 pub accepted_within : (bytes : List ℕ) (c : Configuration) → accept bytes ≡ Ok c → IsWithinLimits c
-unfolding accept fault_of
+unfolding accept configuration_fault
 accepted_within bytes c e =
-    let (none, is) = unless_fault-ok (fault_of bytes) (configuration_of (document_of bytes)) c e in
+    let (none, is) = unless_fault-ok (configuration_fault bytes) (configuration_of (document_of bytes)) c e in
     let (_, r) = first_none (unless (nat_le (length bytes) 65536) _) _ none in
     let (_, r) = first_none (unless (is_some (tree_of bytes)) _) _ r in
     let (fits, _) = first_none (document_fault (document_of bytes)) _ r in

@@ -17,7 +17,7 @@ use Rattle.run_config.specs.Guests.{absent_key, wrong_value, guest_fault, guests
 use Rattle.run_config.specs.Configurations.{IsGuestWithin}
 use Rattle.run_config.specs.Tables.{Kind, any_text, text_of, integer_of}
 use Rattle.run_config.specs.Tests.{unless, first_fault, missing, out_of_range, wrong_kind}
-use Rattle.run_config.specs.Values.{holds, has_length, is_name, is_of, natural, number_at, number_within, pair_within, pairs_within, text_at, two_items, value_at}
+use Rattle.run_config.specs.Values.{passes_if, has_length, is_name, is_of, natural, natural_at, number_within, pair_within, pairs_within, text_at, two_items, value_at}
 use Rattle.run_config.proofs.Found.{number_found, text_found}
 
 -- of tests without a fault the first has none, and the others have none
@@ -33,7 +33,7 @@ pub is_some_value : {A : Type 0} (o : Option A) → is_some o ≡ true → (x : 
 is_some_value None e = cc
 is_some_value (Some x) e = (x, refl)
 
-pub holds-some : (b : Bool) (u : Unit {0}) → holds b ≡ Some u → b ≡ true
+pub holds-some : (b : Bool) (u : Unit {0}) → passes_if b ≡ Some u → b ≡ true
 holds-some true u e = refl
 holds-some false u e = cc
 
@@ -42,7 +42,7 @@ unfolding number_within
 number_within-some low high value n e =
     option_and_then_some _ (as_integer value) n e (λ z is e.
     option_and_then_some _ (natural z) n e (λ m is_m e.
-    option_and_then_some _ (holds (nat_le low m && nat_le m high)) n e (λ u held e.
+    option_and_then_some _ (passes_if (nat_le low m && nat_le m high)) n e (λ u held e.
     let parts = and_parts (nat_le low m) (nat_le m high) (holds-some _ u held) in
     let same : m ≡ n = same_Some m n e in
     let least : low ≤ m = grind (arith, nat_tests, parts.0) in
@@ -56,7 +56,7 @@ found_of_kind g i t k kind there fits =
     let (value, is) = is_some_value (value_at k t) (unless_none _ _ there) in
     (value, is, unless_none _ _ (rw is at fits))
 
-number_row : (g : Option ℕ) (i : ℕ) (t : Members) (k : ConfigKey) (low high : ℕ) → missing g t k ≡ None → out_of_range i t (k, integer_of low high) ≡ None → (low ≤ number_at k t) × (number_at k t ≤ high)
+number_row : (g : Option ℕ) (i : ℕ) (t : Members) (k : ConfigKey) (low high : ℕ) → missing g t k ≡ None → out_of_range i t (k, integer_of low high) ≡ None → (low ≤ natural_at k t) × (natural_at k t ≤ high)
 unfolding is_of
 number_row g i t k low high there fits =
     let (value, is, of) = found_of_kind g i t k (integer_of low high) there fits in
@@ -138,7 +138,7 @@ inputs_fit None ps e = subst HasInputs (same_Some [] ps e) (record { few = omega
 inputs_fit (Some value) ps e =
     option_and_then_some _ (as_array value) ps e (λ items _ e.
     option_and_then_some _ (pairs_within (2 ^ 62 - 1) 255 items) ps e (λ inputs is_inputs e.
-    option_and_then_some _ (holds (nat_le (length inputs) 65536 && rise_from 0 inputs)) ps e (λ u held e.
+    option_and_then_some _ (passes_if (nat_le (length inputs) 65536 && rise_from 0 inputs)) ps e (λ u held e.
     let parts = and_parts (nat_le (length inputs) 65536) (rise_from 0 inputs) (holds-some _ u held) in
     let few : length inputs ≤ 65536 = grind (arith, nat_tests, parts.0) in
     subst HasInputs (same_Some inputs ps e) (record { few = few; rise = parts.1; within = pairs_at_most _ _ items inputs is_inputs }))))

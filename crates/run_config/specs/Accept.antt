@@ -12,12 +12,12 @@ use Rattle.run_config.specs.Guests.{guests_fault, settings_of}
 use Rattle.run_config.specs.Tables.{document_keys}
 use Rattle.run_config.specs.Tests.{unless, first_fault, missing}
 use Rattle.run_config.specs.Turns.{turns_at}
-use Rattle.run_config.specs.Values.{◌>>=◌, holds, value_at, number_within, has_only, tables_of}
+use Rattle.run_config.specs.Values.{◌>>=◌, passes_if, value_at, number_within, has_only, tables_of}
 
 -- the document that the bytes spell: none where they are no UTF-8, or not TOML
 unfoldable pub tree_of : List ℕ → Option Members
 tree_of bytes = do
-  _ ← holds (is_utf8 bytes)
+  _ ← passes_if (is_utf8 bytes)
   parse_document bytes
 
 -- how many items an array has
@@ -35,7 +35,7 @@ guests_at document = do
   value ← value_at key.Guest document
   items ← as_array value
   guests ← tables_of items
-  _ ← holds (nat_le 1 (length guests) && nat_le (length guests) 16)
+  _ ← passes_if (nat_le 1 (length guests) && nat_le (length guests) 16)
   Some guests
 
 -- the same, and no table where it is something else
@@ -46,7 +46,8 @@ guests_in document = unwrap_or (guests_at document) []
 unfoldable pub has_format : Members → Bool
 has_format document = is_some (value_at key.Format document >>= number_within 1 1)
 
--- the first fault of a document that is found with no memory: by `format`, and where there is no `guest` (own)
+-- the first fault of a document that is found with no memory: by `format`, and where there is no `guest`
+-- (own)
 unfoldable pub head_fault : Members → Option ConfigFault
 head_fault document =
     first_fault (unless (has_format document) fault.Format ∷ missing None document key.Guest ∷ [])
@@ -74,8 +75,8 @@ unfoldable pub document_of : List ℕ → Members
 document_of bytes = unwrap_or (tree_of bytes) no_members
 
 -- the first fault of the bytes (own)
-unfoldable pub fault_of : List ℕ → Option ConfigFault
-fault_of bytes = first_fault (
+unfoldable pub configuration_fault : List ℕ → Option ConfigFault
+configuration_fault bytes = first_fault (
     unless (nat_le (length bytes) 65536) fault.TooLong
     ∷ unless (is_some (tree_of bytes)) fault.NotToml
     ∷ document_fault (document_of bytes)
@@ -88,7 +89,7 @@ unless_fault (Some found) configuration = Err found
 
 -- what the bytes are: a configuration, or the first fault
 unfoldable pub accept : List ℕ → Result Configuration ConfigFault
-accept bytes = unless_fault (fault_of bytes) (configuration_of (document_of bytes))
+accept bytes = unless_fault (configuration_fault bytes) (configuration_of (document_of bytes))
 
 -- each accepted configuration is within its limits
 abbrev pub AcceptedIsWithinLimits : Type 0

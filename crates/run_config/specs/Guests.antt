@@ -8,7 +8,7 @@ use Rattle.run_config.specs.declared.faults.ConfigFault.TheVariants as fault
 use Rattle.run_config.specs.declared.guests.GuestSettings.{GuestSettings}
 use Rattle.run_config.specs.Tables.{guest_table, guest_keys}
 use Rattle.run_config.specs.Tests.{unless, first_fault, missing, out_of_range}
-use Rattle.run_config.specs.Values.{◌>>=◌, holds, value_at, text_at, number_at, is_name, has_only, pairs_within}
+use Rattle.run_config.specs.Values.{◌>>=◌, passes_if, value_at, text_at, natural_at, is_name, has_only, pairs_within}
 
 -- the first number of each pair is at least that of the pair before, and that of the first pair at least this
 unfoldable pub rise_from : ℕ → List (ℕ × ℕ) → Bool
@@ -20,7 +20,7 @@ unfoldable pub inputs_in : Data → Option (List (ℕ × ℕ))
 inputs_in value = do
   items ← as_array value
   inputs ← pairs_within (2 ^ 62 - 1) 255 items
-  _ ← holds (nat_le (length inputs) 65536 && rise_from 0 inputs)
+  _ ← passes_if (nat_le (length inputs) 65536 && rise_from 0 inputs)
   Some inputs
 
 -- the inputs of a guest, which may be absent
@@ -64,9 +64,9 @@ unfoldable pub settings_of : Members → GuestSettings
 settings_of guest = record {
   name = text_at key.Name guest;
   image = text_at key.Image guest;
-  blocks = number_at key.Blocks guest;
-  spaces = number_at key.Spaces guest;
-  entries = number_at key.Entries guest;
-  console = number_at key.Console guest;
+  blocks = natural_at key.Blocks guest;
+  spaces = natural_at key.Spaces guest;
+  entries = natural_at key.Entries guest;
+  console = natural_at key.Console guest;
   inputs = unwrap_or (inputs_at guest) [];
 }

@@ -9,7 +9,7 @@ use Rattle.toml.specs.Data.{Members}
 use Rattle.run_config.specs.declared.guests.GuestSettings.{GuestSettings}
 use Rattle.run_config.specs.declared.keys.ConfigKey.TheVariants as key
 use Rattle.run_config.specs.declared.settings.GuestRef.{GuestRef}
-use Rattle.run_config.specs.Values.{text_at, number_at}
+use Rattle.run_config.specs.Values.{text_at, natural_at}
 
 -- the names of guests
 abbrev pub names_of : List GuestSettings → List (List ℕ)
@@ -19,10 +19,10 @@ names_of guests = map (λ g. g.name) guests
 pub record HasValues (r : GuestRef) (table : Members) : Type 0 where
   pub name : r.name.now ≡ text_at key.Name table
   pub image : r.image.now ≡ text_at key.Image table
-  pub blocks : r.blocks ≡ number_at key.Blocks table
-  pub spaces : r.spaces ≡ number_at key.Spaces table
-  pub entries : r.entries ≡ number_at key.Entries table
-  pub console : r.console ≡ number_at key.Console table
+  pub blocks : r.blocks ≡ natural_at key.Blocks table
+  pub spaces : r.spaces ≡ natural_at key.Spaces table
+  pub entries : r.entries ≡ natural_at key.Entries table
+  pub console : r.console ≡ natural_at key.Console table
 
 -- the settings of these values, with these inputs
 abbrev pub settings_seen : GuestRef → List (ℕ × ℕ) → GuestSettings

@@ -3,16 +3,16 @@ use Rattle.std.specs.Prelude.{ℕ, ◌*◌, ◌-◌, ◌^◌, nat_le, ◌&&◌, 
 use Rattle.toml.specs.Data.{Members, as_array, as_integer}
 use Rattle.turn_plan.specs.Turns.{rounds_of}
 use Rattle.run_config.specs.declared.keys.ConfigKey.TheVariants as key
-use Rattle.run_config.specs.Values.{◌>>=◌, holds, value_at, natural, number_within, pairs_within}
+use Rattle.run_config.specs.Values.{◌>>=◌, passes_if, value_at, natural, number_within, pairs_within}
 
 -- a list of at most 2^20 pairs of a guest's number and at most 2^32 steps (own)
 unfoldable pub listed_turns : ℕ → Members → Option (List (ℕ × ℕ))
 listed_turns guests document = do
-  _ ← holds (is_none (value_at key.Quantum document) && is_none (value_at key.Rounds document))
+  _ ← passes_if (is_none (value_at key.Quantum document) && is_none (value_at key.Rounds document))
   value ← value_at key.Turns document
   items ← as_array value
   turns ← pairs_within (guests - 1) (2 ^ 32) items
-  _ ← holds (nat_le (length turns) (2 ^ 20))
+  _ ← passes_if (nat_le (length turns) (2 ^ 20))
   Some turns
 
 -- the steps of each turn, at most 2^32, and how many rounds there are (own)
@@ -29,7 +29,7 @@ quantum_and_rounds document = do
 unfoldable pub turns_by_rounds : ℕ → Members → Option (List (ℕ × ℕ))
 turns_by_rounds guests document = do
   pair ← quantum_and_rounds document
-  _ ← holds (nat_le (guests * pair.1) (2 ^ 20))
+  _ ← passes_if (nat_le (guests * pair.1) (2 ^ 20))
   Some (rounds_of guests pair.0 pair.1)
 
 -- the turns of so many guests: in exactly one of the two forms

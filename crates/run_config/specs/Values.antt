@@ -16,9 +16,9 @@ abbrev pub ◌>>=◌ : {A B : Type 0} → Option A → (A → Option B) → Opti
 found >>= next = option_and_then next found
 
 -- a test as a step: it goes on exactly where the test holds
-abbrev pub holds : Bool → Option (Unit {0})
-holds true = Some tt
-holds false = None
+abbrev pub passes_if : Bool → Option (Unit {0})
+passes_if true = Some tt
+passes_if false = None
 
 -- the value at a key
 unfoldable pub value_at : ConfigKey → Members → Option Data
@@ -34,7 +34,7 @@ unfoldable pub number_within : ℕ → ℕ → Data → Option ℕ
 number_within low high value = do
   integer ← as_integer value
   number ← natural integer
-  _ ← holds (nat_le low number && nat_le number high)
+  _ ← passes_if (nat_le low number && nat_le number high)
   Some number
 
 -- a text of at least and at most so many bytes
@@ -51,8 +51,8 @@ is_of (integer_of low high) value = is_some (number_within low high value)
 unfoldable pub text_at : ConfigKey → Members → List ℕ
 text_at key table = unwrap_or (value_at key table >>= as_str) []
 
-unfoldable pub number_at : ConfigKey → Members → ℕ
-number_at key table = unwrap_or (value_at key table >>= as_integer >>= natural) 0
+unfoldable pub natural_at : ConfigKey → Members → ℕ
+natural_at key table = unwrap_or (value_at key table >>= as_integer >>= natural) 0
 
 -- a name: 1 to 32 ASCII letters and digits (own)
 unfoldable pub is_name : List ℕ → Bool

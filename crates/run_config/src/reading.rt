@@ -177,7 +177,7 @@ fn configuration_of(alloc: Global, document: &Table) -> Result<Config, ReadEnd>
 /// More than 65,536 bytes, and bytes that are no UTF-8, are refused before any memory is taken, so that want
 /// of memory never stands in the place of these two refusals. The document takes memory from its first value
 /// on, so want of memory may stand in the place of each other answer.
-#[tactic(auto, unfolding(crate::specs::Accept::accept, crate::specs::Accept::fault_of, crate::specs::Accept::document_of))]
+#[tactic(auto, unfolding(crate::specs::Accept::accept, crate::specs::Accept::configuration_fault, crate::specs::Accept::document_of))]
 pub fn read(alloc: Global, bytes: &[u8]) -> Result<Config, ReadEnd>
     ensures accepted { IfOk result (λ c. accept bytes.now ≡ Ok c) }
     ensures refused { IfRefused result (λ f. accept bytes.now ≡ Err f) }

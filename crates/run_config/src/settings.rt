@@ -10,7 +10,7 @@ ghost use Rattle.run_config.specs.Guests.{absent_key, wrong_value, guest_fault, 
 ghost use Rattle.run_config.specs.Seen.{HasValues, names_of, settings_seen};
 ghost use Rattle.run_config.specs.Tables.{any_text, text_of, integer_of};
 ghost use Rattle.run_config.specs.Tests.{first_fault, missing, wrong_kind};
-ghost use Rattle.run_config.specs.Values.{number_at, number_within, text_at, value_at};
+ghost use Rattle.run_config.specs.Values.{natural_at, number_within, text_at, value_at};
 
 use crate::ends::ReadEnd;
 use crate::faults::ConfigFault;

@@ -21,7 +21,7 @@ use Rattle.op_defs.specs.declared.ops.Op.TheVariants as op
 use Rattle.op_defs.specs.Table.{op_of}
 use Rattle.rv64_asm.specs.Words.{encoded, r_word, i_word, s_word, b_word, u_word, j_word, immediate_word, csr_word, test_funct3, width_code, load_funct3, alu_funct3, alu_funct7, counterpart, register_word, is_shift, amo_funct7, csr_code, guest_load_rs2}
 use Rattle.rv64_asm.specs.Fitting.{fits, in_range, in_steps, has_load, has_guest_fetch, is_atomic_width, alu_immediate_fits, word_immediate_fits, source_fits}
-use Rattle.rv64_asm.specs.Laws.{all_named, named, source_named}
+use Rattle.rv64_asm.specs.Laws.{all_named, is_register, source_named}
 use Rattle.rv64_asm.proofs.WordFields.{RWord, ShiftWord, IWord, SWord, BWord, UWord, JWord, r_fields, shift_fields, i_fields, s_fields, b_fields, u_fields, j_fields}
 use Rattle.rv64_asm.proofs.Immediates.{i_back, i_number, s_back, b_back, u_back, j_back}
 use Rattle.rv64_asm.proofs.Shifts.{shift_fits, word_shift_fits}
@@ -29,14 +29,14 @@ use Rattle.rv64_asm.proofs.TableBack as group
 
 -- registers' numbers
 
-is_named : (a : ℕ) → named a ≡ true → a < 2 ^ 5
+is_named : (a : ℕ) → is_register a ≡ true → a < 2 ^ 5
 is_named a h = ltb-true a 32 h
 
-first : (a b : ℕ) → (named a && named b) ≡ true → a < 2 ^ 5
-first a b h = is_named a (and_parts (named a) (named b) h).0
+first : (a b : ℕ) → (is_register a && is_register b) ≡ true → a < 2 ^ 5
+first a b h = is_named a (and_parts (is_register a) (is_register b) h).0
 
-second : (a b : ℕ) → (named a && named b) ≡ true → b < 2 ^ 5
-second a b h = is_named b (and_parts (named a) (named b) h).1
+second : (a b : ℕ) → (is_register a && is_register b) ≡ true → b < 2 ^ 5
+second a b h = is_named b (and_parts (is_register a) (is_register b) h).1
 
 -- funct3 and funct7 are small
 
@@ -143,23 +143,23 @@ plain_word_fits o x s h = absurd (false≢true h)
 
 -- words of the other formats
 
-s_parts : (o c a b x : ℕ) → o < 2 ^ 7 → c < 2 ^ 3 → (named a && named b) ≡ true → SWord (s_word o c a b x) o c a b x
+s_parts : (o c a b x : ℕ) → o < 2 ^ 7 → c < 2 ^ 3 → (is_register a && is_register b) ≡ true → SWord (s_word o c a b x) o c a b x
 s_parts o c a b x k l h = s_fields o c a b x k l (first a b h) (second a b h)
 
-b_parts : (o c a b x : ℕ) → o < 2 ^ 7 → c < 2 ^ 3 → (named a && named b) ≡ true → BWord (b_word o c a b x) o c a b x
+b_parts : (o c a b x : ℕ) → o < 2 ^ 7 → c < 2 ^ 3 → (is_register a && is_register b) ≡ true → BWord (b_word o c a b x) o c a b x
 b_parts o c a b x k l h = b_fields o c a b x k l (first a b h) (second a b h)
 
 -- R, with rs2 a register, or a number of five bits, or one of six bits
-amount_parts : (o a c b e f : ℕ) → o < 2 ^ 7 → c < 2 ^ 3 → f < 2 ^ 7 → (named a && named b) ≡ true → e < 2 ^ 5
+amount_parts : (o a c b e f : ℕ) → o < 2 ^ 7 → c < 2 ^ 3 → f < 2 ^ 7 → (is_register a && is_register b) ≡ true → e < 2 ^ 5
     → RWord (r_word o a c b e f) o a c b e f
 amount_parts o a c b e f k l m h n = r_fields o a c b e f k (first a b h) l (second a b h) n m
 
-r_parts : (o a c b e f : ℕ) → o < 2 ^ 7 → c < 2 ^ 3 → f < 2 ^ 7 → (named a && named b && named e) ≡ true
+r_parts : (o a c b e f : ℕ) → o < 2 ^ 7 → c < 2 ^ 3 → f < 2 ^ 7 → (is_register a && is_register b && is_register e) ≡ true
     → RWord (r_word o a c b e f) o a c b e f
-r_parts o a c b e f k l m h = let i = and_parts (named a && named b) (named e) h in
+r_parts o a c b e f k l m h = let i = and_parts (is_register a && is_register b) (is_register e) h in
     amount_parts o a c b e f k l m i.0 (is_named e i.1)
 
-shift_parts : (o a c b e f : ℕ) → o < 2 ^ 7 → c < 2 ^ 3 → f < 2 ^ 7 → (named a && named b) ≡ true → e < 2 ^ 6 → f % 2 ≡ 0
+shift_parts : (o a c b e f : ℕ) → o < 2 ^ 7 → c < 2 ^ 3 → f < 2 ^ 7 → (is_register a && is_register b) ≡ true → e < 2 ^ 6 → f % 2 ≡ 0
     → ShiftWord (r_word o a c b e f) o a c b e f
 shift_parts o a c b e f k l m h n i = shift_fields o a c b e f k (first a b h) l (second a b h) n m i
 
@@ -174,15 +174,15 @@ auipc w a x p h = group.at_auipc w p.opcode ∙ simp (p.rd, u_back w x p.immedia
 jal : (w a x : ℕ) → JWord w 0b1101111 a x → in_steps 21 2 x ≡ true → op_of w ≡ Some (op.Jal a x)
 jal w a x p h = group.at_jal w p.opcode ∙ simp (p.rd, j_back w x p.immediate h)
 
-u_parts : (o a x : ℕ) → o < 2 ^ 7 → named a ≡ true → UWord (u_word o a x) o a x
+u_parts : (o a x : ℕ) → o < 2 ^ 7 → is_register a ≡ true → UWord (u_word o a x) o a x
 u_parts o a x k h = u_fields o a x k (is_named a h)
 
-j_parts : (o a x : ℕ) → o < 2 ^ 7 → named a ≡ true → JWord (j_word o a x) o a x
+j_parts : (o a x : ℕ) → o < 2 ^ 7 → is_register a ≡ true → JWord (j_word o a x) o a x
 j_parts o a x k h = j_fields o a x k (is_named a h)
 
 -- I
 
-i_parts : (o a c b x : ℕ) → o < 2 ^ 7 → c < 2 ^ 3 → (named a && named b) ≡ true → IWord (i_word o a c b x) o a c b x
+i_parts : (o a c b x : ℕ) → o < 2 ^ 7 → c < 2 ^ 3 → (is_register a && is_register b) ≡ true → IWord (i_word o a c b x) o a c b x
 i_parts o a c b x k l h = i_fields o a c b x k (first a b h) l (second a b h)
 
 jalr : (w a b x : ℕ) → IWord w 0b1100111 a 0 b x → in_range 12 x ≡ true → op_of w ≡ Some (op.Jalr a b x)
@@ -197,32 +197,32 @@ load w a b x s signed p h = let k = and_parts (has_load s signed) (in_range 12 x
 
 -- an op on a control and status register
 
-csr_register : (a b n : ℕ) (o : CsrOp) → named a ≡ true → named b ≡ true → n < 2 ^ 12
+csr_register : (a b n : ℕ) (o : CsrOp) → is_register a ≡ true → is_register b ≡ true → n < 2 ^ 12
     → op_of (i_word 0b1110011 a (csr_code o) b n) ≡ Some (op.Csr o (source.Register b) a n)
-csr_register a b n o k l h = let p = i_parts 0b1110011 a (csr_code o) b n (omega arith) (small_csr o) (and_from (named a) (named b) k l) in
+csr_register a b n o k l h = let p = i_parts 0b1110011 a (csr_code o) b n (omega arith) (small_csr o) (and_from (is_register a) (is_register b) k l) in
     let w = i_word 0b1110011 a (csr_code o) b n in
     group.at_system w p.low.opcode
     ∙ group.csr_register_back w a b n o p.low.funct3 p.low.rd p.low.rs1
     (i_number w n p.immediate h)
 
-csr_immediate : (a b n : ℕ) (o : CsrOp) → named a ≡ true → named b ≡ true → n < 2 ^ 12
+csr_immediate : (a b n : ℕ) (o : CsrOp) → is_register a ≡ true → is_register b ≡ true → n < 2 ^ 12
     → op_of (i_word 0b1110011 a (csr_code o + 0b100) b n) ≡ Some (op.Csr o (source.Immediate b) a n)
-csr_immediate a b n o k l h = let p = i_parts 0b1110011 a (csr_code o + 0b100) b n (omega arith) (small_csr_immediate o) (and_from (named a) (named b) k l) in
+csr_immediate a b n o k l h = let p = i_parts 0b1110011 a (csr_code o + 0b100) b n (omega arith) (small_csr_immediate o) (and_from (is_register a) (is_register b) k l) in
     let w = i_word 0b1110011 a (csr_code o + 0b100) b n in
     group.at_system w p.low.opcode
     ∙ group.csr_immediate_back w a b n o p.low.funct3 p.low.rd p.low.rs1
     (i_number w n p.immediate h)
 
-csr_back : (a n : ℕ) (o : CsrOp) (from : CsrSource) → (named a && source_named from) ≡ true → (source_fits from && nat_lt n 4096) ≡ true
+csr_back : (a n : ℕ) (o : CsrOp) (from : CsrSource) → (is_register a && source_named from) ≡ true → (source_fits from && nat_lt n 4096) ≡ true
     → op_of (csr_word o from a n) ≡ Some (op.Csr o from a n)
 unfolding csr_word source_named source_fits
-csr_back a n o (source.Register b) h k = let l = and_parts (named a) (named b) h in csr_register a b n o l.0 l.1 (ltb-true n 4096 k)
-csr_back a n o (source.Immediate b) h k = let l = and_parts (named a) true h in let m = and_parts (nat_lt b 32) (nat_lt n 4096) k in
+csr_back a n o (source.Register b) h k = let l = and_parts (is_register a) (is_register b) h in csr_register a b n o l.0 l.1 (ltb-true n 4096 k)
+csr_back a n o (source.Immediate b) h k = let l = and_parts (is_register a) true h in let m = and_parts (nat_lt b 32) (nat_lt n 4096) k in
     csr_immediate a b n o l.0 m.0 (ltb-true n 4096 m.1)
 
 -- S and B
 
-store : (a b x : ℕ) (s : Width) → (named a && named b) ≡ true → in_range 12 x ≡ true
+store : (a b x : ℕ) (s : Width) → (is_register a && is_register b) ≡ true → in_range 12 x ≡ true
     → op_of (s_word 0b0100011 (width_code s) a b x) ≡ Some (op.Store s a b x)
 store a b x s h k = let p = s_parts 0b0100011 (width_code s) a b x (omega arith) (omega (arith, small_width s)) h in
     let w = s_word 0b0100011 (width_code s) a b x in
@@ -230,7 +230,7 @@ store a b x s h k = let p = s_parts 0b0100011 (width_code s) a b x (omega arith)
     ∙ group.store_back w a b x s p.low.funct3 p.low.rs1 p.rs2
     (s_back w x p.immediate k)
 
-branch : (a b x : ℕ) (t : Test) → (named a && named b) ≡ true → in_steps 13 2 x ≡ true
+branch : (a b x : ℕ) (t : Test) → (is_register a && is_register b) ≡ true → in_steps 13 2 x ≡ true
     → op_of (b_word 0b1100011 (test_funct3 t) a b x) ≡ Some (op.Branch t a b x)
 branch a b x t h k = let p = b_parts 0b1100011 (test_funct3 t) a b x (omega arith) (small_test t) h in
     let w = b_word 0b1100011 (test_funct3 t) a b x in
@@ -240,7 +240,7 @@ branch a b x t h k = let p = b_parts 0b1100011 (test_funct3 t) a b x (omega arit
 
 -- R
 
-register : (a b c : ℕ) (o : AluOp) → (named a && named b && named c) ≡ true
+register : (a b c : ℕ) (o : AluOp) → (is_register a && is_register b && is_register c) ≡ true
     → op_of (register_word 0b0110011 o a b c) ≡ Some (op.Alu o a b c)
 unfolding register_word
 register a b c o h = let p = r_parts 0b0110011 a (alu_funct3 o) b c (alu_funct7 o) (omega arith) (small_alu o).0 (small_alu o).1 h in
@@ -249,7 +249,7 @@ register a b c o h = let p = r_parts 0b0110011 a (alu_funct3 o) b c (alu_funct7 
     ∙ group.register_back w a b c o p.low.funct3 p.funct7 p.low.rd
     p.low.rs1 p.rs2
 
-word : (a b c : ℕ) (o : WordOp) → (named a && named b && named c) ≡ true
+word : (a b c : ℕ) (o : WordOp) → (is_register a && is_register b && is_register c) ≡ true
     → op_of (register_word 0b0111011 (counterpart o) a b c) ≡ Some (op.Word o a b c)
 unfolding register_word
 word a b c o h = let p = r_parts 0b0111011 a (alu_funct3 (counterpart o)) b c (alu_funct7 (counterpart o)) (omega arith) (small_alu (counterpart o)).0 (small_alu (counterpart o)).1 h in
@@ -260,7 +260,7 @@ word a b c o h = let p = r_parts 0b0111011 a (alu_funct3 (counterpart o)) b c (a
 
 -- OP-IMM and OP-IMM-32
 
-alu_immediate : (a b x : ℕ) (o : AluOp) (shift : Bool) → is_shift o ≡ shift → (named a && named b) ≡ true → alu_immediate_fits o x ≡ true
+alu_immediate : (a b x : ℕ) (o : AluOp) (shift : Bool) → is_shift o ≡ shift → (is_register a && is_register b) ≡ true → alu_immediate_fits o x ≡ true
     → op_of (if shift then register_word 0b0010011 o a b x else i_word 0b0010011 a (alu_funct3 o) b x) ≡ Some (op.AluImmediate o a b x)
 unfolding register_word
 alu_immediate a b x o true s h k =
@@ -284,7 +284,7 @@ alu_immediate a b x o false s h k =
       immediate = λ _. i_back w x p.immediate (plain_fits o x s k);
     })
 
-word_immediate : (a b x : ℕ) (o : WordOp) (shift : Bool) → is_shift (counterpart o) ≡ shift → (named a && named b) ≡ true → word_immediate_fits o x ≡ true
+word_immediate : (a b x : ℕ) (o : WordOp) (shift : Bool) → is_shift (counterpart o) ≡ shift → (is_register a && is_register b) ≡ true → word_immediate_fits o x ≡ true
     → op_of (if shift then register_word 0b0011011 (counterpart o) a b x else i_word 0b0011011 a (alu_funct3 (counterpart o)) b x) ≡ Some (op.WordImmediate o a b x)
 unfolding register_word
 word_immediate a b x o true s h k =
@@ -310,7 +310,7 @@ word_immediate a b x o false s h k =
 
 -- AMO
 
-reserved : (a b : ℕ) (s : Width) → (named a && named b) ≡ true → is_atomic_width s ≡ true
+reserved : (a b : ℕ) (s : Width) → (is_register a && is_register b) ≡ true → is_atomic_width s ≡ true
     → op_of (r_word 0b0101111 a (width_code s) b 0 0b0001000) ≡ Some (op.LoadReserved s a b)
 reserved a b s h k = let p = amount_parts 0b0101111 a (width_code s) b 0 0b0001000 (omega arith) (omega (arith, small_width s)) (omega arith) h (omega arith) in
     let w = r_word 0b0101111 a (width_code s) b 0 0b0001000 in
@@ -318,7 +318,7 @@ reserved a b s h k = let p = amount_parts 0b0101111 a (width_code s) b 0 0b00010
     ∙ group.reserved_back w a b s k p.low.funct3 p.funct7
     p.low.rd p.low.rs1 p.rs2
 
-conditional : (a b c : ℕ) (s : Width) → (named a && named b && named c) ≡ true → is_atomic_width s ≡ true
+conditional : (a b c : ℕ) (s : Width) → (is_register a && is_register b && is_register c) ≡ true → is_atomic_width s ≡ true
     → op_of (r_word 0b0101111 a (width_code s) b c 0b0001100) ≡ Some (op.StoreConditional s a b c)
 conditional a b c s h k = let p = r_parts 0b0101111 a (width_code s) b c 0b0001100 (omega arith) (omega (arith, small_width s)) (omega arith) h in
     let w = r_word 0b0101111 a (width_code s) b c 0b0001100 in
@@ -326,7 +326,7 @@ conditional a b c s h k = let p = r_parts 0b0101111 a (width_code s) b c 0b00011
     ∙ group.conditional_back w a b c s k p.low.funct3 p.funct7
     p.low.rd p.low.rs1 p.rs2
 
-modify : (a b c : ℕ) (s : Width) (o : AmoOp) → (named a && named b && named c) ≡ true → is_atomic_width s ≡ true
+modify : (a b c : ℕ) (s : Width) (o : AmoOp) → (is_register a && is_register b && is_register c) ≡ true → is_atomic_width s ≡ true
     → op_of (r_word 0b0101111 a (width_code s) b c (amo_funct7 o)) ≡ Some (op.Amo o s a b c)
 modify a b c s o h k = let p = r_parts 0b0101111 a (width_code s) b c (amo_funct7 o) (omega arith) (omega (arith, small_width s)) (small_amo o) h in
     let w = r_word 0b0101111 a (width_code s) b c (amo_funct7 o) in
@@ -336,28 +336,28 @@ modify a b c s o h k = let p = r_parts 0b0101111 a (width_code s) b c (amo_funct
 
 -- SYSTEM
 
-sfence : (a b : ℕ) → (named a && named b) ≡ true → op_of (r_word 0b1110011 0 0b000 a b 0b0001001) ≡ Some (op.SfenceVma a b)
+sfence : (a b : ℕ) → (is_register a && is_register b) ≡ true → op_of (r_word 0b1110011 0 0b000 a b 0b0001001) ≡ Some (op.SfenceVma a b)
 sfence a b h = let p = r_parts 0b1110011 0 0 a b 0b0001001 (omega arith) (omega arith) (omega arith) h in
     let w = r_word 0b1110011 0 0 a b 0b0001001 in
     group.at_system w p.low.opcode
     ∙ group.sfence_back w a b p.low.funct3 p.low.rd
     p.funct7 p.low.rs1 p.rs2
 
-hfence_vvma : (a b : ℕ) → (named a && named b) ≡ true → op_of (r_word 0b1110011 0 0b000 a b 0b0010001) ≡ Some (op.HfenceVvma a b)
+hfence_vvma : (a b : ℕ) → (is_register a && is_register b) ≡ true → op_of (r_word 0b1110011 0 0b000 a b 0b0010001) ≡ Some (op.HfenceVvma a b)
 hfence_vvma a b h = let p = r_parts 0b1110011 0 0 a b 0b0010001 (omega arith) (omega arith) (omega arith) h in
     let w = r_word 0b1110011 0 0 a b 0b0010001 in
     group.at_system w p.low.opcode
     ∙ group.hfence_vvma_back w a b p.low.funct3 p.low.rd
     p.funct7 p.low.rs1 p.rs2
 
-hfence_gvma : (a b : ℕ) → (named a && named b) ≡ true → op_of (r_word 0b1110011 0 0b000 a b 0b0110001) ≡ Some (op.HfenceGvma a b)
+hfence_gvma : (a b : ℕ) → (is_register a && is_register b) ≡ true → op_of (r_word 0b1110011 0 0b000 a b 0b0110001) ≡ Some (op.HfenceGvma a b)
 hfence_gvma a b h = let p = r_parts 0b1110011 0 0 a b 0b0110001 (omega arith) (omega arith) (omega arith) h in
     let w = r_word 0b1110011 0 0 a b 0b0110001 in
     group.at_system w p.low.opcode
     ∙ group.hfence_gvma_back w a b p.low.funct3 p.low.rd
     p.funct7 p.low.rs1 p.rs2
 
-guest_load : (a b : ℕ) (s : Width) (signed : Bool) → (named a && named b) ≡ true → has_load s signed ≡ true
+guest_load : (a b : ℕ) (s : Width) (signed : Bool) → (is_register a && is_register b) ≡ true → has_load s signed ≡ true
     → op_of (r_word 0b1110011 a 0b100 b (guest_load_rs2 signed) (0b0110000 + width_code s * 2)) ≡ Some (op.GuestLoad s signed a b)
 guest_load a b s signed h k =
     let p = amount_parts 0b1110011 a 4 b (guest_load_rs2 signed) (48 + width_code s * 2) (omega arith) (omega arith) (omega (arith, small_width s)) h (small_rs2 signed) in
@@ -366,7 +366,7 @@ guest_load a b s signed h k =
     ∙ group.guest_load_back w a b s signed k p.low.funct3 p.funct7
     p.low.rd p.low.rs1 p.rs2
 
-guest_fetch : (a b : ℕ) (s : Width) → (named a && named b) ≡ true → has_guest_fetch s ≡ true
+guest_fetch : (a b : ℕ) (s : Width) → (is_register a && is_register b) ≡ true → has_guest_fetch s ≡ true
     → op_of (r_word 0b1110011 a 0b100 b 3 (0b0110000 + width_code s * 2)) ≡ Some (op.GuestFetch s a b)
 guest_fetch a b s h k =
     let p = amount_parts 0b1110011 a 4 b 3 (48 + width_code s * 2) (omega arith) (omega arith) (omega (arith, small_width s)) h (omega arith) in
@@ -375,7 +375,7 @@ guest_fetch a b s h k =
     ∙ group.guest_fetch_back w a b s k p.low.funct3 p.funct7
     p.low.rd p.low.rs1 p.rs2
 
-guest_store : (a b : ℕ) (s : Width) → (named a && named b) ≡ true
+guest_store : (a b : ℕ) (s : Width) → (is_register a && is_register b) ≡ true
     → op_of (r_word 0b1110011 0 0b100 a b (0b0110001 + width_code s * 2)) ≡ Some (op.GuestStore s a b)
 guest_store a b s h =
     let p = r_parts 0b1110011 0 4 a b (49 + width_code s * 2) (omega arith) (omega arith) (omega (arith, small_width s)) h in

@@ -14,10 +14,10 @@ use Rattle.op_defs.specs.declared.ops.WordOp.TheVariants as word_op
 use Rattle.op_defs.specs.declared.ops.Op.{Op}
 use Rattle.op_defs.specs.declared.ops.Op.TheVariants as op
 use Rattle.op_defs.specs.Fields.{opcode, rd, rs1, rs2, funct3, funct7, i_immediate, s_immediate, b_immediate, u_immediate, j_immediate}
-use Rattle.op_defs.specs.Table.{op_of, branch_of, test_of, load_of, store_of, width_of, immediate_arithmetic_of, immediate_op_of, shift_of, register_arithmetic_of, alu_op_of, word_immediate_arithmetic_of, word_shift_of, word_op_of, fence_of, atomic_of, atomic_by, amo_op_of, system_of, privileged_of, fence_op_of, guest_access_of, guest_load_of, guest_load_by, guest_store_of, csr_of, csr_op_of}
+use Rattle.op_defs.specs.Table.{op_of, branch_of, test_of, load_of, store_of, width_of, immediate_arithmetic_of, immediate_op_of, shift_of, register_arithmetic_of, alu_op_of, word_immediate_arithmetic_of, word_shift_of, word_op_of, fence_of, atomic_of, atomic_by, amo_op_of, system_of, system_op_of, fence_op_of, guest_access_of, guest_load_of, guest_load_by, guest_store_of, csr_of, csr_op_of}
 use Rattle.op_defs.specs.Table as table
 use Rattle.rv64_asm.specs.Fitting.{fits, in_range, in_steps, has_load, has_guest_fetch, is_atomic_width, alu_immediate_fits, word_immediate_fits, source_fits}
-use Rattle.rv64_asm.specs.Laws.{all_named, named, source_named}
+use Rattle.rv64_asm.specs.Laws.{all_named, is_register, source_named}
 
 -- an op whose fields fit, and whose registers are x0 to x31
 pub record IsCoded (o : Op) : Type 0 where
@@ -58,26 +58,26 @@ mapped_any Q f (Some x) k = some Q (f x) (k x)
 
 -- registers
 
-remainder_named : (x : ℕ) → named (x % 32) ≡ true
+remainder_named : (x : ℕ) → is_register (x % 32) ≡ true
 remainder_named x = lt-ltb (x % 32) 32 (omega arith)
 
-rd_named : (w : ℕ) → named (rd w) ≡ true
+rd_named : (w : ℕ) → is_register (rd w) ≡ true
 rd_named w = remainder_named (w / 2 ^ 7)
 
-rs1_named : (w : ℕ) → named (rs1 w) ≡ true
+rs1_named : (w : ℕ) → is_register (rs1 w) ≡ true
 rs1_named w = remainder_named (w / 2 ^ 15)
 
-rs2_named : (w : ℕ) → named (rs2 w) ≡ true
+rs2_named : (w : ℕ) → is_register (rs2 w) ≡ true
 rs2_named w = remainder_named (w / 2 ^ 20)
 
-rd_rs1 : (w : ℕ) → (named (rd w) && named (rs1 w)) ≡ true
-rd_rs1 w = and_from (named (rd w)) (named (rs1 w)) (rd_named w) (rs1_named w)
+rd_rs1 : (w : ℕ) → (is_register (rd w) && is_register (rs1 w)) ≡ true
+rd_rs1 w = and_from (is_register (rd w)) (is_register (rs1 w)) (rd_named w) (rs1_named w)
 
-rs1_rs2 : (w : ℕ) → (named (rs1 w) && named (rs2 w)) ≡ true
-rs1_rs2 w = and_from (named (rs1 w)) (named (rs2 w)) (rs1_named w) (rs2_named w)
+rs1_rs2 : (w : ℕ) → (is_register (rs1 w) && is_register (rs2 w)) ≡ true
+rs1_rs2 w = and_from (is_register (rs1 w)) (is_register (rs2 w)) (rs1_named w) (rs2_named w)
 
-all_three : (w : ℕ) → (named (rd w) && named (rs1 w) && named (rs2 w)) ≡ true
-all_three w = and_from (named (rd w) && named (rs1 w)) (named (rs2 w)) (rd_rs1 w) (rs2_named w)
+all_three : (w : ℕ) → (is_register (rd w) && is_register (rs1 w) && is_register (rs2 w)) ≡ true
+all_three w = and_from (is_register (rd w) && is_register (rs1 w)) (is_register (rs2 w)) (rd_rs1 w) (rs2_named w)
 
 -- immediates
 
@@ -244,8 +244,8 @@ of_fence_op w = chosen IsCoded _ _ _ (some IsCoded (op.SfenceVma (rs1 w) (rs2 w)
     (chosen IsCoded _ _ _ (some IsCoded (op.HfenceVvma (rs1 w) (rs2 w)) (record { named = rs1_rs2 w; fits = refl }))
     (chosen IsCoded _ _ _ (some IsCoded (op.HfenceGvma (rs1 w) (rs2 w)) (record { named = rs1_rs2 w; fits = refl })) (none IsCoded)))
 
-of_privileged : (w : ℕ) → Each IsCoded (privileged_of w)
-unfolding privileged_of all_named fits
+of_privileged : (w : ℕ) → Each IsCoded (system_op_of w)
+unfolding system_op_of all_named fits
 of_privileged w = chosen IsCoded _ _ _ (some IsCoded op.Ecall (record { named = refl; fits = refl }))
     (chosen IsCoded _ _ _ (some IsCoded op.Ebreak (record { named = refl; fits = refl }))
     (chosen IsCoded _ _ _ (some IsCoded op.Sret (record { named = refl; fits = refl }))
@@ -293,7 +293,7 @@ of_csr : (w : ℕ) → IsCoded (csr_of w)
 unfolding csr_of all_named source_named fits source_fits
 of_csr w = picked IsCoded (field 14 1 w == 0) _ _
     (record { named = rd_rs1 w; fits = number_fits w })
-    (record { named = and_from (named (rd w)) true (rd_named w) refl; fits = and_from _ _ (rs1_named w) (number_fits w) })
+    (record { named = and_from (is_register (rd w)) true (rd_named w) refl; fits = and_from _ _ (rs1_named w) (number_fits w) })
 
 of_system : (w : ℕ) → Each IsCoded (system_of w)
 unfolding system_of

@@ -5,7 +5,7 @@ use Rattle.op_defs.specs.declared.ops.Op.{Op}
 use Rattle.rv64_asm.specs.declared.faults.AsmFault.{AsmFault}
 use Rattle.rv64_asm.specs.declared.faults.AsmFault.TheVariants.{NoMemory}
 use Rattle.rv64_asm.specs.Fitting.{fits}
-use Rattle.rv64_asm.specs.Plans.{Item, Label, distance, fault_at, fault_of, fault_of_target, first_fault, index_of, reaching, with_offset}
+use Rattle.rv64_asm.specs.Plans.{Item, Label, distance, fault_at, fault_of_target, first_item_fault, index_of, item_fault, reaching, with_offset}
 
 -- where a test is what keeps a fault away, it holds
 holds_unless : (test : Bool) (fault : AsmFault) → (if test then None else Some fault) ≡ None → test ≡ true
@@ -35,9 +35,9 @@ either_wants_none : (here rest : Option AsmFault) → (here ≡ Some NoMemory �
 either_wants_none None rest h k e = k e
 either_wants_none (Some fault) rest h k e = h e
 
-pub wants_none : (labels : List Label) (index : ℕ) (items : List Item) → first_fault labels index items ≡ Some NoMemory → ⊥
-unfolding first_fault fault_of
+pub wants_none : (labels : List Label) (index : ℕ) (items : List Item) → first_item_fault labels index items ≡ Some NoMemory → ⊥
+unfolding first_item_fault item_fault
 wants_none labels index [] e = cc
 wants_none labels index (item ∷ items) e =
-    either_wants_none (fault_of labels index item) (first_fault labels (index + 1) items)
+    either_wants_none (item_fault labels index item) (first_item_fault labels (index + 1) items)
     (target_wants_none labels index item.op item.target) (wants_none labels (index + 1) items) e

@@ -7,7 +7,7 @@ use Rattle.std.specs.Option.{option_or}
 use Rattle.byteorder.specs.Endian.{little_bytes}
 use Rattle.rv64_asm.specs.declared.faults.AsmFault.{AsmFault}
 use Rattle.rv64_asm.specs.Words.{encoded}
-use Rattle.rv64_asm.specs.Plans.{Item, Label, Piece, index_of, last_end, piece_end, covering, own, first_fault, fault_of, code, filled, IsImage}
+use Rattle.rv64_asm.specs.Plans.{Item, Label, Piece, index_of, last_end, piece_end, covering, own, first_item_fault, item_fault, code, op_filled, IsImage}
 
 -- an element, and what is left after it
 left : {A : Type 0} (xs : List A) (i : ℕ) (x : A) → x ≡ get_or xs i x → i < length xs → drop i xs ≡ x ∷ drop (i + 1) xs
@@ -70,12 +70,12 @@ one_more pieces i place x before after whole e h k l =
 -- ops
 
 pub first_fault_left : (labels : List Label) (index : ℕ) (items : List Item) (i : ℕ) (x : Item) → x ≡ get_or items i x → i < length items
-    → first_fault labels index (drop i items) ≡ option_or (fault_of labels index x) (first_fault labels (index + 1) (drop (i + 1) items))
-unfolding first_fault
+    → first_item_fault labels index (drop i items) ≡ option_or (item_fault labels index x) (first_item_fault labels (index + 1) (drop (i + 1) items))
+unfolding first_item_fault
 first_fault_left labels index items i x e h = rw (left items i x e h) refl
 
-pub first_fault_none_left : (labels : List Label) (index : ℕ) (items : List Item) (i : ℕ) → length items ≤ i → first_fault labels index (drop i items) ≡ None
-unfolding first_fault
+pub first_fault_none_left : (labels : List Label) (index : ℕ) (items : List Item) (i : ℕ) → length items ≤ i → first_item_fault labels index (drop i items) ≡ None
+unfolding first_item_fault
 first_fault_none_left labels index items i h = rw (none_left items i h) refl
 
 pub ruleset faults = (first_fault_left, first_fault_none_left)
@@ -85,7 +85,7 @@ neither None b e = (refl, e)
 neither (Some x) b e = cc
 
 pub code_left : (labels : List Label) (index : ℕ) (items : List Item) (i : ℕ) (x : Item) → x ≡ get_or items i x → i < length items
-    → code labels index (drop i items) ≡ little_bytes 4 (encoded (filled labels index x)) ++ code labels (index + 1) (drop (i + 1) items)
+    → code labels index (drop i items) ≡ little_bytes 4 (encoded (op_filled labels index x)) ++ code labels (index + 1) (drop (i + 1) items)
 unfolding code
 code_left labels index items i x e h = rw (left items i x e h) refl
 
@@ -97,7 +97,7 @@ pub length_code : (labels : List Label) (index : ℕ) (items : List Item) → le
 unfolding code
 length_code labels index [] = refl
 length_code labels index (x ∷ items) =
-    length-append (little_bytes 4 (encoded (filled labels index x))) (code labels (index + 1) items) ∙ omega (arith, length_code labels (index + 1) items)
+    length-append (little_bytes 4 (encoded (op_filled labels index x))) (code labels (index + 1) items) ∙ omega (arith, length_code labels (index + 1) items)
 
 -- the steps of the loops
 
@@ -115,29 +115,29 @@ pub covered : (pieces : List Piece) (i place before whole : ℕ) → length piec
 covered pieces i place before whole h k = ap (λ o. unwrap_or o before) (sym (covering_none_left pieces i place h)) ∙ k
 
 pub faulty : (labels : List Label) (items : List Item) (i : ℕ) (x : Item) (fault : Option AsmFault)
-    → x ≡ get_or items i x → i < length items → fault ≡ fault_of labels i x → is_some fault ≡ true
-    → first_fault labels i (drop i items) ≡ first_fault labels 0 items → fault ≡ first_fault labels 0 items
+    → x ≡ get_or items i x → i < length items → fault ≡ item_fault labels i x → is_some fault ≡ true
+    → first_item_fault labels i (drop i items) ≡ first_item_fault labels 0 items → fault ≡ first_item_fault labels 0 items
 faulty labels items i x None e h k m l = cc
 faulty labels items i x (Some fault) e h k m l =
-    ap (λ o. option_or o (first_fault labels (i + 1) (drop (i + 1) items))) k
+    ap (λ o. option_or o (first_item_fault labels (i + 1) (drop (i + 1) items))) k
     ∙ sym (first_fault_left labels i items i x e h) ∙ l
 
 pub goes_on : (labels : List Label) (items : List Item) (i : ℕ) (x : Item) (fault : Option AsmFault)
-    → x ≡ get_or items i x → i < length items → fault ≡ fault_of labels i x → is_some fault ≡ false
-    → first_fault labels i (drop i items) ≡ first_fault labels 0 items
-    → first_fault labels (i + 1) (drop (i + 1) items) ≡ first_fault labels 0 items
+    → x ≡ get_or items i x → i < length items → fault ≡ item_fault labels i x → is_some fault ≡ false
+    → first_item_fault labels i (drop i items) ≡ first_item_fault labels 0 items
+    → first_item_fault labels (i + 1) (drop (i + 1) items) ≡ first_item_fault labels 0 items
 goes_on labels items i x None e h k m l =
-    ap (λ o. option_or o (first_fault labels (i + 1) (drop (i + 1) items))) k
+    ap (λ o. option_or o (first_item_fault labels (i + 1) (drop (i + 1) items))) k
     ∙ sym (first_fault_left labels i items i x e h) ∙ l
 goes_on labels items i x (Some fault) e h k m l = cc
 
 -- an item of items that have no fault from its index on
 pub faultless : (labels : List Label) (items : List Item) (i : ℕ) (x : Item) → x ≡ get_or items i x → i < length items
-    → first_fault labels i (drop i items) ≡ None → (fault_of labels i x ≡ None) × (first_fault labels (i + 1) (drop (i + 1) items) ≡ None)
+    → first_item_fault labels i (drop i items) ≡ None → (item_fault labels i x ≡ None) × (first_item_fault labels (i + 1) (drop (i + 1) items) ≡ None)
 faultless labels items i x e h l = neither _ _ (sym (first_fault_left labels i items i x e h) ∙ l)
 
 pub coded : (labels : List Label) (items : List Item) (i : ℕ) (x : Item) (word : ℕ) (before after : List ℕ) → x ≡ get_or items i x → i < length items
-    → word ≡ encoded (filled labels i x) → after ≡ before ++ little_bytes 4 word
+    → word ≡ encoded (op_filled labels i x) → after ≡ before ++ little_bytes 4 word
     → before ++ code labels i (drop i items) ≡ code labels 0 items → after ++ code labels (i + 1) (drop (i + 1) items) ≡ code labels 0 items
 coded labels items i x word before after e h k m l =
     ap (λ b. b ++ code labels (i + 1) (drop (i + 1) items)) m

@@ -9,7 +9,7 @@ use Rattle.op_defs.specs.declared.ops.CsrOp.TheVariants as csr
 use Rattle.op_defs.specs.declared.ops.Op.{Op}
 use Rattle.op_defs.specs.declared.ops.Op.TheVariants as op
 use Rattle.op_defs.specs.Fields.{opcode, rd, rs1, rs2, funct3, funct7}
-use Rattle.op_defs.specs.Table.{op_of, is_system, system_of, privileged_of, fence_op_of, guest_access_of, guest_load_of, guest_load_by, guest_store_of, csr_of, csr_op_of}
+use Rattle.op_defs.specs.Table.{op_of, is_system, system_of, system_op_of, fence_op_of, guest_access_of, guest_load_of, guest_load_by, guest_store_of, csr_of, csr_op_of}
 use Rattle.rv64_asm.specs.Laws.{SystemHasOneWord}
 use Rattle.rv64_asm.specs.Words.{encoded, r_word, i_word, csr_word, csr_code, width_code, guest_load_rs2}
 use Rattle.rv64_asm.proofs.Decoded.{Each, none, some, tested}
@@ -51,8 +51,8 @@ of_fence_op w s z c =
     is : (f : ℕ) → (funct7 w == f) ≡ true → r_word 0b1110011 0 0 (rs1 w) (rs2 w) f ≡ w
     is f e = r_word_is w 0 0 (rs2 w) f s z c refl (eqb-true (funct7 w) f e)
 
-of_privileged : (w : ℕ) → System w → funct3 w ≡ 0 → Each (IsWordOf w) (privileged_of w)
-unfolding privileged_of encoded
+of_privileged : (w : ℕ) → System w → funct3 w ≡ 0 → Each (IsWordOf w) (system_op_of w)
+unfolding system_op_of encoded
 of_privileged w s c =
     tested (IsWordOf w) (w == 0x00000073) _ _ (λ e. some (IsWordOf w) op.Ecall (sym (eqb-true w 0x00000073 e)))
     (λ _. tested (IsWordOf w) (w == 0x00100073) _ _ (λ e. some (IsWordOf w) op.Ebreak (sym (eqb-true w 0x00100073 e)))

@@ -16,7 +16,7 @@ use Rattle.op_defs.specs.declared.ops.CsrOp.TheVariants as csr
 use Rattle.op_defs.specs.declared.ops.CsrSource.TheVariants as source
 use Rattle.op_defs.specs.declared.ops.Op.TheVariants as op
 use Rattle.op_defs.specs.Fields.{opcode, rd, rs1, rs2, funct3, funct7, i_immediate, s_immediate, b_immediate, u_immediate, j_immediate}
-use Rattle.op_defs.specs.Table.{op_of, branch_of, test_of, load_of, store_of, width_of, immediate_arithmetic_of, immediate_op_of, shift_of, register_arithmetic_of, alu_op_of, base_op_of, multiply_op_of, word_immediate_arithmetic_of, word_shift_of, word_op_of, base_word_op_of, multiply_word_op_of, fence_of, atomic_of, atomic_by, amo_op_of, system_of, privileged_of, fence_op_of, guest_access_of, guest_load_of, guest_load_by, guest_store_of, csr_of, csr_op_of}
+use Rattle.op_defs.specs.Table.{op_of, branch_of, test_of, load_of, store_of, width_of, immediate_arithmetic_of, immediate_op_of, shift_of, register_arithmetic_of, alu_op_of, base_op_of, multiply_op_of, word_immediate_arithmetic_of, word_shift_of, word_op_of, base_word_op_of, multiply_word_op_of, fence_of, atomic_of, atomic_by, amo_op_of, system_of, system_op_of, fence_op_of, guest_access_of, guest_load_of, guest_load_by, guest_store_of, csr_of, csr_op_of}
 use Rattle.op_defs.specs.Table as table
 use Rattle.rv64_asm.specs.Words.{test_funct3, width_code, load_funct3, alu_funct3, alu_funct7, counterpart, is_shift, amo_funct7, csr_code, guest_load_rs2}
 use Rattle.rv64_asm.specs.Fitting.{has_load, has_guest_fetch, is_atomic_width, alu_immediate_fits, word_immediate_fits}
@@ -258,7 +258,7 @@ amo_back w a b x s o h e i f g k = atomic_width w s h e ∙ simp (high_five w (f
 -- SYSTEM
 
 fence_words : (w f : ℕ) → funct3 w ≡ 0 → rd w ≡ 0 → funct7 w ≡ f → 8 < f → f % 2 ≡ 1 → system_of w ≡ fence_op_of w
-unfolding system_of privileged_of
+unfolding system_of system_op_of
 fence_words w f e g i h k = simp (
   e,
   g,
@@ -337,17 +337,17 @@ unfolding op_of fence_of
 fence_i_at = refl
 
 pub ecall_at : op_of 0x00000073 ≡ Some op.Ecall
-unfolding op_of system_of privileged_of
+unfolding op_of system_of system_op_of
 ecall_at = refl
 
 pub ebreak_at : op_of 0x00100073 ≡ Some op.Ebreak
-unfolding op_of system_of privileged_of
+unfolding op_of system_of system_op_of
 ebreak_at = refl
 
 pub sret_at : op_of 0x10200073 ≡ Some op.Sret
-unfolding op_of system_of privileged_of
+unfolding op_of system_of system_op_of
 sret_at = refl
 
 pub wfi_at : op_of 0x10500073 ≡ Some op.Wfi
-unfolding op_of system_of privileged_of
+unfolding op_of system_of system_op_of
 wfi_at = refl

@@ -9,36 +9,36 @@ use Rattle.rv64_asm.specs.Words.{encoded}
 use Rattle.rv64_asm.specs.Fitting.{fits}
 
 -- a register's number, as each value of type Reg is
-abbrev pub named : ℕ → Bool
-named register = nat_lt register 32
+abbrev pub is_register : ℕ → Bool
+is_register register = nat_lt register 32
 
 unfoldable pub source_named : CsrSource → Bool
-source_named (source.Register rs1) = named rs1
+source_named (source.Register rs1) = is_register rs1
 source_named (source.Immediate x) = true
 
 -- whether each register of an op is one of x0 to x31
 unfoldable pub all_named : Op → Bool
-all_named (op.Lui rd immediate) = named rd
-all_named (op.Auipc rd immediate) = named rd
-all_named (op.Jal rd offset) = named rd
-all_named (op.Jalr rd rs1 offset) = named rd && named rs1
-all_named (op.Branch t rs1 rs2 offset) = named rs1 && named rs2
-all_named (op.Load w signed rd rs1 offset) = named rd && named rs1
-all_named (op.Store w rs1 rs2 offset) = named rs1 && named rs2
-all_named (op.AluImmediate o rd rs1 immediate) = named rd && named rs1
-all_named (op.Alu o rd rs1 rs2) = named rd && named rs1 && named rs2
-all_named (op.WordImmediate o rd rs1 immediate) = named rd && named rs1
-all_named (op.Word o rd rs1 rs2) = named rd && named rs1 && named rs2
-all_named (op.LoadReserved w rd rs1) = named rd && named rs1
-all_named (op.StoreConditional w rd rs1 rs2) = named rd && named rs1 && named rs2
-all_named (op.Amo o w rd rs1 rs2) = named rd && named rs1 && named rs2
-all_named (op.Csr o from rd number) = named rd && source_named from
-all_named (op.SfenceVma rs1 rs2) = named rs1 && named rs2
-all_named (op.HfenceVvma rs1 rs2) = named rs1 && named rs2
-all_named (op.HfenceGvma rs1 rs2) = named rs1 && named rs2
-all_named (op.GuestLoad w signed rd rs1) = named rd && named rs1
-all_named (op.GuestFetch w rd rs1) = named rd && named rs1
-all_named (op.GuestStore w rs1 rs2) = named rs1 && named rs2
+all_named (op.Lui rd immediate) = is_register rd
+all_named (op.Auipc rd immediate) = is_register rd
+all_named (op.Jal rd offset) = is_register rd
+all_named (op.Jalr rd rs1 offset) = is_register rd && is_register rs1
+all_named (op.Branch t rs1 rs2 offset) = is_register rs1 && is_register rs2
+all_named (op.Load w signed rd rs1 offset) = is_register rd && is_register rs1
+all_named (op.Store w rs1 rs2 offset) = is_register rs1 && is_register rs2
+all_named (op.AluImmediate o rd rs1 immediate) = is_register rd && is_register rs1
+all_named (op.Alu o rd rs1 rs2) = is_register rd && is_register rs1 && is_register rs2
+all_named (op.WordImmediate o rd rs1 immediate) = is_register rd && is_register rs1
+all_named (op.Word o rd rs1 rs2) = is_register rd && is_register rs1 && is_register rs2
+all_named (op.LoadReserved w rd rs1) = is_register rd && is_register rs1
+all_named (op.StoreConditional w rd rs1 rs2) = is_register rd && is_register rs1 && is_register rs2
+all_named (op.Amo o w rd rs1 rs2) = is_register rd && is_register rs1 && is_register rs2
+all_named (op.Csr o from rd number) = is_register rd && source_named from
+all_named (op.SfenceVma rs1 rs2) = is_register rs1 && is_register rs2
+all_named (op.HfenceVvma rs1 rs2) = is_register rs1 && is_register rs2
+all_named (op.HfenceGvma rs1 rs2) = is_register rs1 && is_register rs2
+all_named (op.GuestLoad w signed rd rs1) = is_register rd && is_register rs1
+all_named (op.GuestFetch w rd rs1) = is_register rd && is_register rs1
+all_named (op.GuestStore w rs1 rs2) = is_register rs1 && is_register rs2
 all_named other = true
 
 abbrev pub DecodesBack : Type 0

@@ -28,26 +28,26 @@ pub record Piece : Type 0 where
   pub bytes : List ℕ
 
 -- all that was pushed, set and placed, the oldest first
-pub record Plan : Type 0 where
+pub record ImagePlan : Type 0 where
   pub items : List Item
   pub labels : List Label
   pub pieces : List Piece
 
-abbrev pub plan_of : List Item → List Label → List Piece → Plan
-plan_of items labels pieces = record { items = items; labels = labels; pieces = pieces }
+abbrev pub image_plan_of : List Item → List Label → List Piece → ImagePlan
+image_plan_of items labels pieces = record { items = items; labels = labels; pieces = pieces }
 
-abbrev pub empty_plan : Plan
-empty_plan = plan_of [] [] []
+abbrev pub empty_plan : ImagePlan
+empty_plan = image_plan_of [] [] []
 
 -- a plan with one more item, with a label at the next op, or with one more piece
-abbrev pub with_item : Plan → Item → Plan
+abbrev pub with_item : ImagePlan → Item → ImagePlan
 with_item plan item = record plan { items = plan.items ++ item ∷ [] }
 
-abbrev pub with_label : Plan → ℕ → Plan
+abbrev pub with_label : ImagePlan → ℕ → ImagePlan
 with_label plan id =
     record plan { labels = plan.labels ++ record { id = id; index = length plan.items } ∷ [] }
 
-abbrev pub with_piece : Plan → Piece → Plan
+abbrev pub with_piece : ImagePlan → Piece → ImagePlan
 with_piece plan piece = record plan { pieces = plan.pieces ++ piece ∷ [] }
 
 -- the ops that can be aimed at a label: JAL and the branches
@@ -81,8 +81,8 @@ op_of_target labels index o None = o
 op_of_target labels index o (Some id) = reaching index o (index_of labels id)
 
 -- the op of an item at an index, its offset filled in
-unfoldable pub filled : List Label → ℕ → Item → Op
-filled labels index item = op_of_target labels index item.op item.target
+unfoldable pub op_filled : List Label → ℕ → Item → Op
+op_filled labels index item = op_of_target labels index item.op item.target
 
 -- why there is no word for an op with an offset: its label is too far away
 abbrev pub fault_of_offset : ℕ → Op → Option AsmFault
@@ -98,24 +98,24 @@ abbrev pub fault_of_target : List Label → ℕ → Op → Option ℕ → Option
 fault_of_target labels index o None = None
 fault_of_target labels index o (Some id) = fault_at index o id (index_of labels id)
 
-unfoldable pub fault_of : List Label → ℕ → Item → Option AsmFault
-fault_of labels index item = fault_of_target labels index item.op item.target
+unfoldable pub item_fault : List Label → ℕ → Item → Option AsmFault
+item_fault labels index item = fault_of_target labels index item.op item.target
 
 -- the first such fault of the items from an index on
-unfoldable pub first_fault : List Label → ℕ → List Item → Option AsmFault
-first_fault labels index [] = None
-first_fault labels index (item ∷ rest) =
-    option_or (fault_of labels index item) (first_fault labels (index + 1) rest)
+unfoldable pub first_item_fault : List Label → ℕ → List Item → Option AsmFault
+first_item_fault labels index [] = None
+first_item_fault labels index (item ∷ rest) =
+    option_or (item_fault labels index item) (first_item_fault labels (index + 1) rest)
 
 -- the fault of a whole plan
-abbrev pub plan_fault : Plan → Option AsmFault
-plan_fault plan = first_fault plan.labels 0 plan.items
+abbrev pub plan_fault : ImagePlan → Option AsmFault
+plan_fault plan = first_item_fault plan.labels 0 plan.items
 
 -- the words of the items from an index on, one after the other, as bytes
 unfoldable pub code : List Label → ℕ → List Item → List ℕ
 code labels index [] = []
 code labels index (item ∷ rest) =
-    little_bytes 4 (encoded (filled labels index item)) ++ code labels (index + 1) rest
+    little_bytes 4 (encoded (op_filled labels index item)) ++ code labels (index + 1) rest
 
 abbrev pub covers : Piece → ℕ → Bool
 covers piece place = nat_le piece.at place && nat_lt place (piece.at + length piece.bytes)
@@ -143,15 +143,15 @@ last_end [] = 0
 last_end (piece ∷ rest) = max (piece_end piece) (last_end rest)
 
 -- the end of the last op or byte
-abbrev pub size : Plan → ℕ
+abbrev pub size : ImagePlan → ℕ
 size plan = max (4 * length plan.items) (last_end plan.pieces)
 
 -- the byte at a place: that of the last piece that covers it, else that of the op there, else zero
-abbrev pub byte_at : Plan → ℕ → ℕ
+abbrev pub byte_at : ImagePlan → ℕ → ℕ
 byte_at plan place =
     unwrap_or (covering plan.pieces place) (slice_index (code plan.labels 0 plan.items) place)
 
 -- the bytes of a whole image
-pub record IsImage (plan : Plan) (image : List ℕ) : Type 0 where
+pub record IsImage (plan : ImagePlan) (image : List ℕ) : Type 0 where
   pub ends : length image ≡ size plan
   pub bytes : (place : ℕ) → place < size plan → slice_index image place ≡ byte_at plan place

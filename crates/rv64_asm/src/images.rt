@@ -4,7 +4,7 @@ ghost use Rattle.std.specs.Prelude.{◌≡◌, ◌≢◌, ◌+◌, ◌^◌, ◌�
 ghost use Rattle.std.specs.Prelude.{IfOk, IfErr, OnOk, OnErr, IsErrOf};
 ghost use Rattle.rv64_asm.specs.Fitting.{fits};
 ghost use Rattle.rv64_asm.specs.Plans.{empty_plan, index_of, is_aimed, with_item, with_label, with_piece};
-ghost use Rattle.rv64_asm.specs.Plans.{code, first_fault, plan_fault, plan_of, IsImage};
+ghost use Rattle.rv64_asm.specs.Plans.{code, first_item_fault, plan_fault, image_plan_of, IsImage};
 ghost use Rattle.rv64_asm.specs.declared.faults.AsmFault.{AsmFault};
 ghost use Rattle.rv64_asm.specs.declared.faults.AsmFault.TheVariants.{NoMemory};
 
@@ -24,9 +24,9 @@ pub struct Image {
 }
 
 impl Model for Image {
-    ghost use Rattle.rv64_asm.specs.Plans.{Plan};
+    ghost use Rattle.rv64_asm.specs.Plans.{ImagePlan};
 
-    ghost Value = { Plan };
+    ghost Value = { ImagePlan };
 
     ghost view = { λ i. record { items = i.lines.items; labels = i.labels.items; pieces = i.pieces.items } };
 }
@@ -105,7 +105,7 @@ impl Image {
         ensures err { IfErr result (λ e. e ≢ NoMemory → plan_fault self ≡ Some e) }
         ensures memory { IsErrOf result NoMemory → plan_fault self ≡ None }
     {
-        if let Some(fault) = first_fault(self.lines.as_slice(), self.labels.as_slice()) {
+        if let Some(fault) = first_item_fault(self.lines.as_slice(), self.labels.as_slice()) {
             return Err(fault);
         }
         let bytes = bytes_of(
@@ -123,8 +123,8 @@ impl Image {
 
 // The first fault of ops.
 #[tactic(auto, using(crate::proofs::Loops::faults))]
-fn first_fault(lines: &[Line], labels: &[Label]) -> Option<AsmFault>
-    ensures { result ≡ first_fault labels.now 0 lines.now }
+fn first_item_fault(lines: &[Line], labels: &[Label]) -> Option<AsmFault>
+    ensures { result ≡ first_item_fault labels.now 0 lines.now }
 {
     let mut index = 0;
     while index < lines.len() {
@@ -144,8 +144,8 @@ fn bytes_of(
     pieces: &[Piece],
     alloc: Global,
 ) -> Result<Vec<u8>, AllocError>
-    requires { first_fault labels.now 0 lines.now ≡ None }
-    ensures { IfOk result (λ v. IsImage (plan_of lines.now labels.now pieces.now) v.items) }
+    requires { first_item_fault labels.now 0 lines.now ≡ None }
+    ensures { IfOk result (λ v. IsImage (image_plan_of lines.now labels.now pieces.now) v.items) }
 {
     let mut bytes = assemble(lines, labels, alloc)?;
     let size = (bytes.len() as u64).max(last_end(pieces));
@@ -156,7 +156,7 @@ fn bytes_of(
 
 // The words of ops without a fault, one after the other.
 fn assemble(lines: &[Line], labels: &[Label], alloc: Global) -> Result<Vec<u8>, AllocError>
-    requires { first_fault labels.now 0 lines.now ≡ None }
+    requires { first_item_fault labels.now 0 lines.now ≡ None }
     ensures { IfOk result (λ v. v.items ≡ code labels.now 0 lines.now) }
 {
     let mut bytes = Vec::new(alloc);

@@ -3,8 +3,8 @@
 ghost use Rattle.std.specs.Prelude.{◌≡◌, true, Some, None};
 ghost use Rattle.rv64_asm.specs.Fitting.{fits};
 ghost use Rattle.rv64_asm.specs.Words.{encoded};
-ghost use Rattle.rv64_asm.specs.Plans.{with_offset, distance, index_of, filled, reaching};
-ghost use Rattle.rv64_asm.specs.Plans.{fault_of, fault_at, fault_of_offset};
+ghost use Rattle.rv64_asm.specs.Plans.{with_offset, distance, index_of, op_filled, reaching};
+ghost use Rattle.rv64_asm.specs.Plans.{item_fault, fault_at, fault_of_offset};
 
 use crate::encoding::encode;
 use crate::faults::AsmFault;
@@ -99,9 +99,9 @@ impl Line {
     }
 
     /// Why there is no word for the op, if there is none.
-    #[tactic(auto, unfolding(crate::specs::Plans::fault_of))]
+    #[tactic(auto, unfolding(crate::specs::Plans::item_fault))]
     pub fn fault(&self, labels: &[Label], index: u64) -> Option<AsmFault>
-        ensures { result ≡ fault_of labels.now index self.now }
+        ensures { result ≡ item_fault labels.now index self.now }
     {
         match self.target {
             None => None,
@@ -110,10 +110,10 @@ impl Line {
     }
 
     /// The word of an op that has one, its offset filled in.
-    #[tactic(auto, unfolding(crate::specs::Plans::filled))]
+    #[tactic(auto, unfolding(crate::specs::Plans::op_filled))]
     pub fn word(&self, labels: &[Label], index: u64) -> u32
-        requires { fault_of labels.now index self.now ≡ None }
-        ensures { result ≡ encoded (filled labels.now index self.now) }
+        requires { item_fault labels.now index self.now ≡ None }
+        ensures { result ≡ encoded (op_filled labels.now index self.now) }
     {
         match self.target {
             None => encode(&self.op),

@@ -2,7 +2,7 @@
 
 ghost use Rattle.std.specs.Prelude.{◌≡◌};
 ghost use Rattle.arch_defs.specs.Bits.{field};
-ghost use Rattle.op_defs.specs.Table.{csr_of, csr_op_of, fence_op_of, guest_access_of, guest_load_by, guest_load_of, guest_store_of, privileged_of, system_of};
+ghost use Rattle.op_defs.specs.Table.{csr_of, csr_op_of, fence_op_of, guest_access_of, guest_load_by, guest_load_of, guest_store_of, system_of, system_op_of};
 
 use crate::fields::{funct3, funct7, rd, rs1, rs2};
 use arch_defs::Width;
@@ -20,9 +20,9 @@ pub fn system(bits: u32) -> Option<Op>
     }
 }
 
-#[tactic(auto, unfolding(op_defs::specs::Table::privileged_of))]
+#[tactic(auto, unfolding(op_defs::specs::Table::system_op_of))]
 fn privileged(bits: u32) -> Option<Op>
-    ensures { result ≡ privileged_of bits }
+    ensures { result ≡ system_op_of bits }
 {
     match bits {
         0x0000_0073 => Some(Op::Ecall),

@@ -12,6 +12,6 @@ pub answered : (csrs : Csrs) (memory : List ℕ) (located : Located) (answer : R
 answered csrs memory (At place) (Ok other) e = cc
 answered csrs memory (At place) (Err trap) e = absurd (cc)
 answered csrs memory (Fails (Faults own)) (Err trap) e = λ mode rest. cc
-answered csrs memory (Fails (Misses unplaced)) (Err trap) e = λ mode rest. cc
+answered csrs memory (Fails (Misses missing)) (Err trap) e = λ mode rest. cc
 answered csrs memory (Fails (Faults own)) (Ok place) e = absurd (cc)
-answered csrs memory (Fails (Misses unplaced)) (Ok place) e = absurd (cc)
+answered csrs memory (Fails (Misses missing)) (Ok place) e = absurd (cc)

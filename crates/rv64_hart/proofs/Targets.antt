@@ -8,7 +8,7 @@ use Rattle.arch_defs.specs.declared.modes.Mode.TheVariants.{HS, U, VS, VU}
 use Rattle.arch_defs.specs.declared.modes.Trap.{Trap}
 use Rattle.arch_defs.specs.declared.registers.Csrs.{Csrs}
 use Rattle.arch_defs.specs.declared.registers.Virtual.{Virtual}
-use Rattle.arch_defs.specs.declared.walks.Unplaced.{Unplaced}
+use Rattle.arch_defs.specs.declared.walks.MissingPlace.{MissingPlace}
 use Rattle.arch_defs.specs.Bits.{bit}
 use Rattle.arch_defs.specs.SecondStage.{guest_page_fault, guest_page_trap}
 use Rattle.arch_defs.specs.Traps.{is_delegated, is_virtual, target}
@@ -47,7 +47,7 @@ kept_by_hs csrs ExecLoad h = bit_21 csrs.hedeleg h
 kept_by_hs csrs Implicit h = bit_21 csrs.hedeleg h
 kept_by_hs csrs Store h = bit_23 csrs.hedeleg h
 
-pub guest_page_fault_exits : (state : Virtual) (memory : List ℕ) (unplaced : Unplaced) → state.csrs.hedeleg < 2 ^ 16
-    → end_by state memory (Raises (guest_page_trap unplaced)) ≡ Exits (guest_page_trap unplaced)
-guest_page_fault_exits state memory unplaced h =
-    rw (left state.csrs state.mode (guest_page_trap unplaced) (kept_by_hs state.csrs unplaced.access h)) refl
+pub guest_page_fault_exits : (state : Virtual) (memory : List ℕ) (missing : MissingPlace) → state.csrs.hedeleg < 2 ^ 16
+    → end_by state memory (Raises (guest_page_trap missing)) ≡ Exits (guest_page_trap missing)
+guest_page_fault_exits state memory missing h =
+    rw (left state.csrs state.mode (guest_page_trap missing) (kept_by_hs state.csrs missing.access h)) refl

@@ -9,8 +9,8 @@ use Rattle.machine_defs.specs.Core.{Located, At, at_place}
 use Rattle.machine_defs.specs.Outcomes.{Outcome}
 use Rattle.rv64_hart.specs.Steps.{Attempt, Makes, Raises, attempt_of, HartEnd, Goes, Exits, Progress}
 
--- where an access is made, by the answer; where it is not, whatever is to follow there, the trap that it is to
--- the hart
+-- where an access is made, by the answer; where it is not, whatever is to follow there, the trap that it is
+-- to the hart
 abbrev pub IsAnswered : Csrs → List ℕ → Located → Result ℕ Trap → Type 0
 IsAnswered csrs memory located (Ok place) = located ≡ At place
 IsAnswered csrs memory located (Err trap) =
@@ -22,9 +22,9 @@ attempt_by (Ok event) state memory = Makes state memory event
 attempt_by (Err trap) state memory = Raises trap
 
 -- the end of a step, by the answer and the state and memory after it
-abbrev pub end_of : Result Event Trap → Virtual → List ℕ → HartEnd
-end_of (Ok event) state memory = Goes state memory event
-end_of (Err trap) state memory = Exits trap
+abbrev pub hart_end_of : Result Event Trap → Virtual → List ℕ → HartEnd
+hart_end_of (Ok event) state memory = Goes state memory event
+hart_end_of (Err trap) state memory = Exits trap
 
 -- how far the run has come after a step, by the answer, which says whether the run ends after it
 abbrev pub counted_of : Result Bool Trap → (Bool → Progress) → Option Progress

@@ -4,7 +4,7 @@ use Rattle.arch_defs.specs.declared.modes.Access.{Access}
 use Rattle.arch_defs.specs.declared.registers.Virtual.{Virtual}
 use Rattle.arch_defs.specs.declared.widths.Width.{Width}
 use Rattle.arch_defs.specs.Memory.{Reading, SecondStage, reading_of}
-use Rattle.arch_defs.specs.SecondStage.{second_now}
+use Rattle.arch_defs.specs.SecondStage.{second_by_walk}
 use Rattle.machine_defs.specs.Core.{Located, accessed}
 
 -- what it gives at a physical address
@@ -13,7 +13,7 @@ reading_of_memory memory = reading_of 0 memory
 
 -- the hart's second stage: with V = 1 the walk of its own hgatp's table in machine memory as it is
 abbrev pub second_of_memory : Virtual → List ℕ → SecondStage
-second_of_memory state memory = second_now state.csrs state.mode 0 memory
+second_of_memory state memory = second_by_walk state.csrs state.mode 0 memory
 
 -- where in it an instruction makes an access of its own
 abbrev pub access_over : List ℕ → Virtual → ℕ → Width → Access → Located

@@ -10,12 +10,12 @@ use Rattle.arch_defs.specs.declared.registers.Csrs.{Csrs}
 use Rattle.arch_defs.specs.declared.registers.Virtual.{Virtual}
 use Rattle.arch_defs.specs.Interrupts.{due, interrupt_of}
 use Rattle.arch_defs.specs.Memory.{with_stored}
-use Rattle.arch_defs.specs.SecondStage.{unplaced_trap}
+use Rattle.arch_defs.specs.SecondStage.{missing_place_trap}
 use Rattle.arch_defs.specs.Traps.{entered_at, exception, target}
 use Rattle.machine_defs.specs.declared.events.Event.{Event}
 use Rattle.machine_defs.specs.declared.events.Event.TheVariants as event
 use Rattle.machine_defs.specs.Core.{core}
-use Rattle.machine_defs.specs.Outcomes.{Outcome, Done, Trapped, Stuck, Called, Waits, Fenced, Accesses}
+use Rattle.machine_defs.specs.Outcomes.{Outcome, Done, Trapped, Missed, Called, Waits, Fenced, Accesses}
 use Rattle.machine_defs.specs.Runs.{pc_and_word}
 use Rattle.rv64_hart.specs.declared.harts.Why.{Why}
 use Rattle.rv64_hart.specs.declared.harts.Why.TheVariants.{Limit, Exit, VsTrap}
@@ -33,7 +33,7 @@ pub data Attempt : Type 0 where
 abbrev pub attempt_of : Csrs → Mode → List ℕ → Outcome → Attempt
 attempt_of csrs mode memory (Done state stored event) = Makes state (with_stored 0 stored memory) event
 attempt_of csrs mode memory (Trapped trap) = Raises trap
-attempt_of csrs mode memory (Stuck unplaced) = Raises (unplaced_trap csrs 0 memory unplaced)
+attempt_of csrs mode memory (Missed missing) = Raises (missing_place_trap csrs 0 memory missing)
 attempt_of csrs mode memory Called = Raises (exception mode ECALL_FROM_HS 0)
 attempt_of csrs mode memory (Waits state) = Makes state memory event.System
 attempt_of csrs mode memory (Fenced state fence) = Makes state memory event.System
@@ -90,13 +90,13 @@ progressed watch trace (Goes state memory event) =
 progressed watch trace (Exits trap) = None
 
 -- one more step, if the run does not end here and the step does not trap to HS
-unfoldable pub one_more : Bool → Progress → Option Progress
-one_more watch p = if p.trapped then None else progressed watch p.trace (hart_step p.state p.memory)
+unfoldable pub one_more_step : Bool → Progress → Option Progress
+one_more_step watch p = if p.trapped then None else progressed watch p.trace (hart_step p.state p.memory)
 
 -- so many steps, none of which traps to HS and, while watched, none but the last into VS
 unfoldable pub hart_steps : Bool → ℕ → Progress → Option Progress
 hart_steps watch zero p = Some p
-hart_steps watch (suc n) p = option_and_then (one_more watch) (hart_steps watch n p)
+hart_steps watch (suc n) p = option_and_then (one_more_step watch) (hart_steps watch n p)
 
 abbrev pub is_vs_trap : Why → Bool
 is_vs_trap Limit = false

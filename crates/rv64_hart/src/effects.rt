@@ -2,7 +2,7 @@
 
 ghost use Rattle.std.specs.Prelude.{◌≡◌};
 ghost use Rattle.op_defs.specs.declared.ops.Effect.TheVariants.{Sets, Raises};
-ghost use Rattle.op_defs.specs.Meaning.{accesses, accesses_by_hlv, address_at, branch, even, holds, is_none, jump, meaning, operand_of, writes};
+ghost use Rattle.op_defs.specs.Meaning.{accesses, accesses_by_hlv, address_at, branch, even, is_branch_taken, is_none, jump, meaning, operand_of, writes};
 ghost use Rattle.machine_defs.specs.Core.{event_of};
 
 use arch_defs::{BREAKPOINT, INSTRUCTION_MISALIGNED, Reg, Regs, Width};
@@ -29,7 +29,7 @@ pub fn effect_of(op: &Op, regs: &Regs) -> Effect
             offset,
         } => {
             branch(
-                holds(test, regs.read(rs1), regs.read(rs2)),
+                is_branch_taken(test, regs.read(rs1), regs.read(rs2)),
                 next,
                 regs.pc.wrapping_add(offset),
             )
@@ -188,8 +188,8 @@ fn even(address: u64) -> u64
     address - address % 2
 }
 
-fn holds(test: Test, a: u64, b: u64) -> bool
-    ensures { result ≡ holds test a b }
+fn is_branch_taken(test: Test, a: u64, b: u64) -> bool
+    ensures { result ≡ is_branch_taken test a b }
 {
     match test {
         Test::Eq => a == b,

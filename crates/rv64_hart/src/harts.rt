@@ -5,7 +5,7 @@ ghost use Rattle.std.specs.Borrow.{sem};
 ghost use Rattle.arch_defs.specs.Registers.{virtual_at};
 ghost use Rattle.rv64_hart.specs.Endings.{counted_of, made_in};
 ghost use Rattle.rv64_hart.specs.Loans.{LendsState};
-ghost use Rattle.rv64_hart.specs.Steps.{Exits, enters_vs, hart_step, hart_steps, one_more, progress, is_vs_trap, IsWhy};
+ghost use Rattle.rv64_hart.specs.Steps.{Exits, enters_vs, hart_step, hart_steps, one_more_step, progress, is_vs_trap, IsWhy};
 
 use crate::steps::step;
 use crate::tallies::Tally;
@@ -110,7 +110,7 @@ impl Hart {
 
 // One step, told to the tally where it is made: whether the run ends after it, or the trap that ends the run
 // before it.
-#[tactic(auto, unfolding(crate::specs::Steps::one_more))]
+#[tactic(auto, unfolding(crate::specs::Steps::one_more_step))]
 fn counted_step(
     state: &mut HartState,
     memory: &mut PhysMem,
@@ -118,7 +118,7 @@ fn counted_step(
     tally: &mut Tally,
 ) -> Result<bool, Trap>
     requires { tally.old.taken < 2 ^ 62 }
-    ensures steps { one_more watch (progress state.old memory.old tally.old.trace false)
+    ensures steps { one_more_step watch (progress state.old memory.old tally.old.trace false)
         ≡ counted_of result (progress state.new memory.new tally.new.trace) }
     ensures stops { IfErr result (λ trap. hart_step state.new memory.new ≡ Exits trap) }
     ensures stays { OnErr result

@@ -6,7 +6,7 @@ ghost use Rattle.arch_defs.specs.Interrupts.{due};
 ghost use Rattle.arch_defs.specs.Traps.{entered_at, is_virtual, target};
 ghost use Rattle.machine_defs.specs.Core.{called_from, core, executed, instruction};
 ghost use Rattle.machine_defs.specs.Privileges.{privileged};
-ghost use Rattle.rv64_hart.specs.Endings.{attempt_by, end_of};
+ghost use Rattle.rv64_hart.specs.Endings.{attempt_by, hart_end_of};
 ghost use Rattle.rv64_hart.specs.MachineMemory.{reading_of_memory, second_of_memory};
 ghost use Rattle.rv64_hart.specs.Steps.{Raises, attempt_of, hart_step, next_attempt, trapped_to};
 
@@ -19,14 +19,14 @@ use arch_defs::{
 use machine_defs::Event;
 use op_defs::{Effect, Privileged};
 use phys_mem::PhysMem;
+use privileged_ops::{Performed, perform, refusal_code};
 use rv64_decode::decode;
-use system_ops::{Executed, execute, refusal_code};
 use trap_delegation::{enter_vs, exception, interrupt_trap, pending, target};
 
 /// Makes one step, which may be a trap into VS, unless it traps to HS.
 #[tactic(auto, unfolding(crate::specs::Steps::hart_step))]
 pub fn step(state: &mut Virtual, memory: &mut PhysMem) -> Result<Event, Trap>
-    ensures ends { hart_step state.old memory.old ≡ end_of result state.new memory.new }
+    ensures ends { hart_step state.old memory.old ≡ hart_end_of result state.new memory.new }
     ensures stays { OnErr result ((state.new ≡ state.old) × (memory.new ≡ memory.old)) }
 {
     match attempt(state, memory) {
@@ -40,7 +40,7 @@ pub fn step(state: &mut Virtual, memory: &mut PhysMem) -> Result<Event, Trap>
 fn trap_to_target(state: &mut Virtual, trap: Trap) -> Result<Event, Trap>
     ensures ends { (memory : List ℕ) →
         trapped_to state.old memory trap (target state.old.csrs state.old.mode trap)
-        ≡ end_of result state.new memory }
+        ≡ hart_end_of result state.new memory }
     ensures stays { OnErr result (state.new ≡ state.old) }
 {
     match target(&state.csrs, state.mode, &trap) {
@@ -155,9 +155,9 @@ fn privileged(state: &mut Virtual, word: u32, effect: Privileged) -> Result<Even
         ≡ attempt_by result state.new memory }
     ensures stays { OnErr result (state.new ≡ state.old) }
 {
-    match execute(state, effect) {
-        Executed::Done | Executed::Waits | Executed::Fenced(_) => Ok(Event::System),
-        Executed::Accesses(_) => Err(exception(state.mode, ILLEGAL_INSTRUCTION, 0)),
-        Executed::Refused(end) => Err(exception(state.mode, refusal_code(end), word as u64)),
+    match perform(state, effect) {
+        Performed::Done | Performed::Waits | Performed::Fenced(_) => Ok(Event::System),
+        Performed::Accesses(_) => Err(exception(state.mode, ILLEGAL_INSTRUCTION, 0)),
+        Performed::Refused(end) => Err(exception(state.mode, refusal_code(end), word as u64)),
     }
 }

@@ -201,7 +201,7 @@ fn interrupts_to_hs(rt: HostRuntime) -> Result<(), Fail> {
     Ok(())
 }
 
-// In VS the names of the supervisor's registers are those of VS; what is in the bank of HS stays.
+// In VS the names of the supervisor's registers are those of VS; those of HS stay.
 #[test]
 fn registers_in_vs(rt: HostRuntime) -> Result<(), Fail> {
     let mut memory = loaded(

@@ -13,7 +13,7 @@ use Rattle.arch_defs.specs.Spaces.{Space, entered, fenced, filled_in}
 use Rattle.arch_defs.specs.CachedEntries.{CanFill, filled}
 use Rattle.shadow_space.specs.Shadows.{Shadow, Tidy, own_frames, root_of}
 use Rattle.shadow_pool.specs.declared.slots.Slot.{Slot}
-use Rattle.shadow_pool.specs.Slots.{ArePooled, AreTidy, fenced_slot, frames_for, front_root, has_key, most_of, part_of, spaces_in}
+use Rattle.shadow_pool.specs.Slots.{ArePooled, AreTidy, fenced_slot, front_root, has_key, most_of, part_of, spaces_in, table_frames_for}
 use Rattle.shadow_pool.proofs.Entering.{entered_found, entered_new}
 use Rattle.shadow_pool.proofs.Filling.{fenced_spaces, filled_spaces, no_position}
 use Rattle.shadow_pool.proofs.Fronting.{IsKept, kept_pooled, last_moved, moved_count, moved_slots, new_slots}
@@ -24,7 +24,7 @@ pub record IsChanged (slots : List Slot) (old : List ℕ) (spaces : List Space) 
   pub has : spaces_in after ≡ spaces
   pub kept : IsKept slots after
   pub tidy : AreTidy after new
-  pub only : Only (frames_for (part_of slots) (length slots)) old new
+  pub only : Only (table_frames_for (part_of slots) (length slots)) old new
 
 like_with : (was after : Shadow) (entries : List Entry) → after ≡ record was { entries = entries } → IsLike was after
 like_with was after entries is = record { part = ap (λ s. s.part) is; index = ap (λ s. s.index) is; most = ap (λ s. s.most) is }
@@ -43,7 +43,7 @@ found_entered (slot ∷ others) after old key i are tidy at moved =
           (kept_pooled slots (get_or slots i slot ∷ remove slots i) (moved_slots (part_of slots) (most_of slots) slots are key i slot inside there.1)
           (moved_count (part_of slots) (most_of slots) slots are i slot inside));
       tidy = subst (λ slots. AreTidy slots old) (sym (moved slot)) (all_moved (λ slot. Tidy slot.space old) slots i slot inside tidy);
-      only = only_none (frames_for (part_of slots) (length slots)) old;
+      only = only_none (table_frames_for (part_of slots) (length slots)) old;
     }
 
 -- and one whose space is new
@@ -125,11 +125,11 @@ pub record IsFencing (fence : Fence) (slots : List Slot) (old : List ℕ) (i : �
   pub root : front_root after ≡ front_root slots
   pub kept : IsKept slots after
   pub tidy : AreTidy after new
-  pub only : Only (frames_for (part_of slots) (length slots)) old new
+  pub only : Only (table_frames_for (part_of slots) (length slots)) old new
 
 pub none_fenced : (fence : Fence) (slots : List Slot) (memory : List ℕ) → ArePooled slots → AreTidy slots memory → IsFencing fence slots memory 0 slots memory
 none_fenced fence slots memory are tidy =
-    record { has = refl; root = refl; kept = kept_pooled slots slots are refl; tidy = tidy; only = only_none (frames_for (part_of slots) (length slots)) memory }
+    record { has = refl; root = refl; kept = kept_pooled slots slots are refl; tidy = tidy; only = only_none (table_frames_for (part_of slots) (length slots)) memory }
 
 pub one_fenced : (fence : Fence) (slots between : List Slot) (old memory new : List ℕ) (i : ℕ) (was after : Slot) → IsFencing fence slots old i between memory → i < length slots
     → was ≡ get_or between i was → after ≡ fenced_slot fence (get_or between i was) → Tidy after.space new → Only (own_frames (get_or between i was).space) memory new → IsFencing fence slots old (i + 1) (set between i after) new
@@ -147,8 +147,8 @@ one_fenced fence slots between old memory new i was after f inside read made is_
       has = ap (set between i) is ∙ map_over_more (fenced_slot fence) slots between i was inside f.has read;
       kept = record { pooled = next.pooled; part = next.part ∙ kept.part; most = next.most ∙ kept.most; count = next.count ∙ count };
       tidy = one_tidy (part_of between) (most_of between) between kept.pooled memory new i was after inside' read f.tidy is_tidy only;
-      only = only_both (frames_for (part_of slots) (length slots)) old memory new f.only
-          (subst (λ part. Only (frames_for part (length slots)) memory new) kept.part (subst (λ n. Only (frames_for (part_of between) n) memory new) count less));
+      only = only_both (table_frames_for (part_of slots) (length slots)) old memory new f.only
+          (subst (λ part. Only (table_frames_for part (length slots)) memory new) kept.part (subst (λ n. Only (table_frames_for (part_of between) n) memory new) count less));
     }
 
 pub all_fenced : (fence : Fence) (slots after : List Slot) (old new : List ℕ) (i : ℕ) → length slots ≤ i → IsFencing fence slots old i after new → IsChanged slots old (fenced fence (spaces_in slots)) after new

@@ -9,7 +9,7 @@ use Rattle.shadow_space.specs.Shadows.{Shadow}
 use Rattle.shadow_pool.specs.declared.slots.Slot.{Slot}
 use Rattle.shadow_pool.specs.Slots.{fenced_slot, left_for}
 use Rattle.arch_defs.specs.Roots.{vmid_of}
-use Rattle.arch_defs.specs.Spaces.{left_by, names, names_page, names_vmid}
+use Rattle.arch_defs.specs.Spaces.{names, names_page, names_vmid, unnamed_by}
 
 -- a filter by what is the same for all entries
 none_named : (page : Option ℕ) (es : List Entry) → filter (λ e. not (false && names_page page e)) es ≡ es
@@ -24,18 +24,18 @@ all_named (e ∷ es) = all_named es
 abbrev left_if : Bool → Option ℕ → List Entry → List Entry
 left_if named page es = filter (λ e. not (named && names_page page e)) es
 
-other_vmid : (fence : Fence) (key : GuestRoot) (es : List Entry) → names_vmid fence.vmid (vmid_of key) ≡ false → left_by fence (vmid_of key) es ≡ es
+other_vmid : (fence : Fence) (key : GuestRoot) (es : List Entry) → names_vmid fence.vmid (vmid_of key) ≡ false → unnamed_by fence (vmid_of key) es ≡ es
 other_vmid fence key es is = ap (λ named. left_if named fence.page es) is ∙ none_named fence.page es
 
-every_page : (fence : Fence) (key : GuestRoot) (es : List Entry) → names_vmid fence.vmid (vmid_of key) ≡ true → fence.page ≡ None → left_by fence (vmid_of key) es ≡ []
+every_page : (fence : Fence) (key : GuestRoot) (es : List Entry) → names_vmid fence.vmid (vmid_of key) ≡ true → fence.page ≡ None → unnamed_by fence (vmid_of key) es ≡ []
 every_page fence key es is page = ap (λ named. left_if named fence.page es) is ∙ ap (λ page. left_if true page es) page ∙ all_named es
 
-one_page : (fence : Fence) (key : GuestRoot) (es : List Entry) (page : ℕ) → names_vmid fence.vmid (vmid_of key) ≡ true → fence.page ≡ Some page → left_by fence (vmid_of key) es ≡ cut_by page es
+one_page : (fence : Fence) (key : GuestRoot) (es : List Entry) (page : ℕ) → names_vmid fence.vmid (vmid_of key) ≡ true → fence.page ≡ Some page → unnamed_by fence (vmid_of key) es ≡ cut_by page es
 unfolding cut_by
 one_page fence key es page is named = ap (λ named. left_if named fence.page es) is ∙ ap (λ page. left_if true page es) named
 
 -- a slot with these entries
-with_entries : (fence : Fence) (slot : Slot) (key : GuestRoot) (es : List Entry) → slot.key ≡ Some key → left_by fence (vmid_of key) slot.space.entries ≡ es
+with_entries : (fence : Fence) (slot : Slot) (key : GuestRoot) (es : List Entry) → slot.key ≡ Some key → unnamed_by fence (vmid_of key) slot.space.entries ≡ es
     → record slot { space = record slot.space { entries = es } } ≡ fenced_slot fence slot
 with_entries fence slot key es is left = sym (ap (λ es. record slot { space = record slot.space { entries = es } }) (ap (λ key. left_for fence key slot.space.entries) is ∙ left))
 
@@ -47,7 +47,7 @@ unnamed fence slot key vmid named is same has not_named =
 same_shadow : (a b : Shadow) → a.part ≡ b.part → a.index ≡ b.index → a.most ≡ b.most → a.entries ≡ b.entries → a ≡ b
 same_shadow a b part index most entries = λ i. record { part = part i; index = index i; most = most i; entries = entries i }
 
-by_fields : (fence : Fence) (slot : Slot) (key : GuestRoot) (after : Shadow) (es : List Entry) → slot.key ≡ Some key → left_by fence (vmid_of key) slot.space.entries ≡ es
+by_fields : (fence : Fence) (slot : Slot) (key : GuestRoot) (after : Shadow) (es : List Entry) → slot.key ≡ Some key → unnamed_by fence (vmid_of key) slot.space.entries ≡ es
     → after.part ≡ slot.space.part → after.index ≡ slot.space.index → after.most ≡ slot.space.most → after.entries ≡ es → record { key = slot.key; space = after } ≡ fenced_slot fence slot
 by_fields fence slot key after es is left part index most entries =
     ap (λ space. record slot { space = space }) (same_shadow after (record slot.space { entries = es }) part index most entries) ∙ with_entries fence slot key es is left

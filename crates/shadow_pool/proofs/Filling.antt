@@ -7,7 +7,7 @@ use Rattle.arch_defs.specs.declared.cached.Entry.{Entry}
 use Rattle.arch_defs.specs.declared.cached.Fence.{Fence}
 use Rattle.arch_defs.specs.declared.registers.GuestRoot.{GuestRoot}
 use Rattle.arch_defs.specs.Roots.{vmid_of}
-use Rattle.arch_defs.specs.Spaces.{Space, fenced, fenced_space, filled_if, filled_in, is_for, is_held, left_by}
+use Rattle.arch_defs.specs.Spaces.{Space, fenced, fenced_space, filled_if, filled_in, has_space, is_for, unnamed_by}
 use Rattle.arch_defs.specs.CachedEntries.{filled}
 use Rattle.shadow_pool.specs.declared.slots.Slot.{Slot}
 use Rattle.shadow_pool.specs.Slots.{ComesBefore, fenced_slot, has_key, key_is, left_for, space_if, spaces_in}
@@ -40,13 +40,13 @@ held_if : (key : GuestRoot) (o : Option GuestRoot) (es : List Entry) (spaces : L
 held_if key None es spaces is none = none
 held_if key (Some other) es spaces is none = rw is none
 
-none_held : (key : GuestRoot) (slots : List Slot) → All (λ slot. has_key key slot ≡ false) slots → is_held key (spaces_in slots) ≡ false
+none_held : (key : GuestRoot) (slots : List Slot) → All (λ slot. has_key key slot ≡ false) slots → has_space key (spaces_in slots) ≡ false
 none_held key [] none = refl
 none_held key (slot ∷ slots) none =
     held_if key slot.key slot.space.entries (spaces_in slots) (All-head (λ slot. has_key key slot ≡ false) slot slots none) (none_held key slots (All-tail (λ slot. has_key key slot ≡ false) slot slots none))
 
-pub is_there : (key : GuestRoot) (slots : List Slot) → is_held key (spaces_in slots) ≡ true → position (has_key key) slots ≡ None → ⊥
-is_there key slots held none = both_ways (is_held key (spaces_in slots)) (none_held key slots (no_position (has_key key) slots none)) held
+pub is_there : (key : GuestRoot) (slots : List Slot) → has_space key (spaces_in slots) ≡ true → position (has_key key) slots ≡ None → ⊥
+is_there key slots held none = both_ways (has_space key (spaces_in slots)) (none_held key slots (no_position (has_key key) slots none)) held
 
 -- the space of one table is filled
 module _ (most : ℕ) (key : GuestRoot) (entry : Entry) where
@@ -98,7 +98,7 @@ module _ (most : ℕ) (key : GuestRoot) (entry : Entry) where
 fenced_if : (fence : Fence) (o : Option GuestRoot) (es : List Entry) (spaces after : List Space) → map (fenced_space fence) spaces ≡ after
     → map (fenced_space fence) (cons_option (space_if o es) spaces) ≡ cons_option (space_if o (left_for fence o es)) after
 fenced_if fence None es spaces after is = is
-fenced_if fence (Some key) es spaces after is = ap (λ xs. record { key = key; entries = left_by fence (vmid_of key) es } ∷ xs) is
+fenced_if fence (Some key) es spaces after is = ap (λ xs. record { key = key; entries = unnamed_by fence (vmid_of key) es } ∷ xs) is
 
 all_fenced : (fence : Fence) (slots : List Slot) → map (fenced_space fence) (spaces_in slots) ≡ spaces_in (map (fenced_slot fence) slots)
 all_fenced fence [] = refl

@@ -12,18 +12,18 @@ use Rattle.arch_defs.specs.Layouts.{Layout}
 use Rattle.arch_defs.specs.Memory.{ram_base, block_size}
 use Rattle.arch_defs.specs.Ram.{host_place}
 use Rattle.arch_defs.specs.Roots.{is_root}
-use Rattle.arch_defs.specs.SecondStage.{guest_walk, second_under}
+use Rattle.arch_defs.specs.SecondStage.{second_under, second_walk}
 use Rattle.arch_defs.proofs.FrameSets.{same_fewer}
 use Rattle.machine_laws.proofs.FrontSpaces.{in_front, root_is}
-use Rattle.arch_defs.specs.Spaces.{Space, entered, filled_in, is_for, is_held}
+use Rattle.arch_defs.specs.Spaces.{Space, entered, filled_in, has_space, is_for}
 use Rattle.machine_laws.specs.FrontSpaces.{FrontIs}
 use Rattle.arch_defs.specs.CachedEntries.{filled, second_by}
 use Rattle.shadow_space.specs.Shadows.{Shadow, Tidy, own_frames, root_of}
 use Rattle.shadow_space.proofs.Giving.{gives, in_ram, lacks}
 use Rattle.shadow_space.proofs.Tidying.{lasts}
 use Rattle.shadow_pool.specs.declared.slots.Slot.{Slot}
-use Rattle.shadow_pool.specs.Laws.{EnteredIsHeld, FrontGivesEntries, FrontGivesRam, FrontIsEnteredAgain, FrontIsFilled, FrontLacksAreGuestPageFaults, TidyPoolLasts}
-use Rattle.shadow_pool.specs.Slots.{AreSlots, AreTidy, ComesBefore, frames_for, front_root, space_if, spaces_in}
+use Rattle.shadow_pool.specs.Laws.{EnteredIsHeld, FrontGivesEntries, FrontGivesRam, FrontIsEnteredAgain, FrontIsFilled, FrontMissesAreGuestPageFaults, TidyPoolLasts}
+use Rattle.shadow_pool.specs.Slots.{AreSlots, AreTidy, ComesBefore, front_root, space_if, spaces_in, table_frames_for}
 use Rattle.shadow_pool.proofs.Entering.{all_spare, entered_found}
 use Rattle.shadow_pool.proofs.Filling.{first_filled}
 use Rattle.shadow_pool.proofs.Keys.{has_of}
@@ -35,7 +35,7 @@ pub pool_lasts : TidyPoolLasts
 pool_lasts pool old new same tidy = record {
   slots = tidy.slots;
   tables = λ k d h. lasts (get_or pool.slots k d).space old new
-      (same_fewer (own_frames (get_or pool.slots k d).space) (frames_for pool.part (length pool.slots)) old new (frames_within pool.part pool.most pool.slots tidy.slots k d h) same) (tidy.tables k d h);
+      (same_fewer (own_frames (get_or pool.slots k d).space) (table_frames_for pool.part (length pool.slots)) old new (frames_within pool.part pool.most pool.slots tidy.slots k d h) same) (tidy.tables k d h);
 }
 
 -- the first table is that of the first space
@@ -79,10 +79,10 @@ front_gives pool memory front others mxr vmid address access tidy lies is =
     ∙ ap (λ part. option_map (λ place. host_place part.blocks (place - ram_base)) (second_by space.entries mxr address access)) f.part_is
     ∙ ap (λ entries. option_map (λ place. host_place pool.part.blocks (place - ram_base)) (second_by entries mxr address access)) f.entries_are
 
-pub front_lacks : FrontLacksAreGuestPageFaults
-front_lacks pool memory front others mxr address access tidy lies is none =
+pub front_misses : FrontMissesAreGuestPageFaults
+front_misses pool memory front others mxr address access tidy lies is none =
     let f = front_is pool.part pool.most pool.slots memory front others tidy.slots tidy.tables is in
-    ap (λ frame. guest_walk 0 memory mxr Sv39x4 frame address access) (sym f.root_is)
+    ap (λ frame. second_walk 0 memory mxr Sv39x4 frame address access) (sym f.root_is)
     ∙ lacks f.space memory mxr address access f.tidy (subst (λ part. LieIn (in_blocks part.blocks) (length memory)) (sym f.part_is) lies)
     (ap (λ entries. second_by entries mxr address access) f.entries_are ∙ none)
 
@@ -93,7 +93,7 @@ front_in_ram pool memory front others mxr address place access tidy is some =
     (in_ram f.space memory mxr address place access f.tidy (ap (λ entries. second_by entries mxr address access) f.entries_are ∙ some))
 
 -- the space that was entered is held
-pub first_held : (key : GuestRoot) (spaces : List Space) → FrontIs key spaces → is_held key spaces ≡ true
+pub first_held : (key : GuestRoot) (spaces : List Space) → FrontIs key spaces → has_space key spaces ≡ true
 first_held key [] is = absurd is
 first_held key (space ∷ spaces) is = ap (λ own. is_root own key || list_any (is_for key) spaces) is ∙ ap (λ same. same || list_any (is_for key) spaces) (root_is key)
 

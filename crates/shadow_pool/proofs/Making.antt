@@ -6,7 +6,7 @@ use Rattle.arch_defs.specs.Frames.{LieIn}
 use Rattle.arch_defs.specs.Layouts.{Layout, NamesEachOnce}
 use Rattle.shadow_space.specs.Shadows.{AreZeros}
 use Rattle.shadow_pool.specs.declared.slots.Slot.{Slot}
-use Rattle.shadow_pool.specs.Slots.{ArePooled, AreSlots, AreSpare, AreTidy, ComesBefore, IsSpare, TidyPool, frames_for, has_key, key_is, most_of, part_of, spaces_in}
+use Rattle.shadow_pool.specs.Slots.{ArePooled, AreSlots, AreSpare, AreTidy, ComesBefore, IsSpare, TidyPool, has_key, key_is, most_of, part_of, spaces_in, table_frames_for}
 use Rattle.shadow_pool.proofs.Entering.{all_spare}
 use Rattle.shadow_pool.proofs.Fronting.{as_first}
 use Rattle.shadow_pool.proofs.Tidying.{space_within}
@@ -61,17 +61,17 @@ module _ (part : Layout) (most count : ℕ) (slots : List Slot) (are : AreSpare 
   no_spaces = all_spare slots (λ k d h. (are.each k d h).key)
 
   -- and tidy in zeros
-  pub spare_tidy : (memory : List ℕ) → LieIn (frames_for part count) (length memory) → AreZeros (frames_for part count) memory → AreTidy slots memory
+  pub spare_tidy : (memory : List ℕ) → LieIn (table_frames_for part count) (length memory) → AreZeros (table_frames_for part count) memory → AreTidy slots memory
   spare_tidy memory lies zeros k d h =
       let one = are.each k d h in
       let number = are.number in
       let within = space_within part k count (omega (arith, h, number)) in
       one.tidy memory (λ frame is. lies frame (within frame is)) (record { each = λ at is. zeros.each at (within (at / 4096) is) })
 
-  pub spare_tidy_pool : 1 ≤ count → count ≤ part.spaces → NamesEachOnce part → (memory : List ℕ) → LieIn (frames_for (part_of slots) (length slots)) (length memory)
-      → AreZeros (frames_for (part_of slots) (length slots)) memory → TidyPool (record { part = part_of slots; most = most_of slots; slots = slots }) memory
+  pub spare_tidy_pool : 1 ≤ count → count ≤ part.spaces → NamesEachOnce part → (memory : List ℕ) → LieIn (table_frames_for (part_of slots) (length slots)) (length memory)
+      → AreZeros (table_frames_for (part_of slots) (length slots)) memory → TidyPool (record { part = part_of slots; most = most_of slots; slots = slots }) memory
   spare_tidy_pool some own once memory lies zeros =
-      let same : frames_for (part_of slots) (length slots) ≡ frames_for part count = ap (λ p. frames_for p (length slots)) (spare_first some own once).0 ∙ ap (frames_for part) are.number in
+      let same : table_frames_for (part_of slots) (length slots) ≡ table_frames_for part count = ap (λ p. table_frames_for p (length slots)) (spare_first some own once).0 ∙ ap (table_frames_for part) are.number in
       record {
         slots = spare_pooled some own once;
         tables = spare_tidy memory (subst (λ frames. LieIn frames (length memory)) same lies) (subst (λ frames. AreZeros frames memory) same zeros);

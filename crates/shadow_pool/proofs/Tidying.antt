@@ -12,13 +12,13 @@ use Rattle.shadow_space.proofs.Partings.{spaces_apart}
 use Rattle.shadow_space.proofs.Tidying.{folded, lasts, tables_end}
 use Rattle.shadow_pool.specs.declared.slots.Slot.{Slot}
 use Rattle.arch_defs.specs.declared.registers.GuestRoot.{GuestRoot}
-use Rattle.shadow_pool.specs.Slots.{AreFolded, AreSlots, AreTidy, ComesBefore, IsSlot, frames_for, has_key, key_is}
+use Rattle.shadow_pool.specs.Slots.{AreFolded, AreSlots, AreTidy, ComesBefore, IsSlot, has_key, key_is, table_frames_for}
 use Rattle.shadow_pool.proofs.Ordering.{pairs_set}
 
 -- a space's frames are among those of so many spaces
-pub space_within : (part : Layout) (i count : ℕ) → i < count → Within (space_frames part i) (frames_for part count)
+pub space_within : (part : Layout) (i count : ℕ) → i < count → Within (space_frames part i) (table_frames_for part count)
 space_within part i count own =
-    joined_within (within (part.first_root + 4 * (1 + i)) 4) (within (part.first_table + 1 + i * tables_for part.entries) (tables_for part.entries)) (frames_for part count)
+    joined_within (within (part.first_root + 4 * (1 + i)) 4) (within (part.first_table + 1 + i * tables_for part.entries) (tables_for part.entries)) (table_frames_for part count)
     (λ f is. left_within (within (part.first_root + 4) (4 * count)) (within (part.first_table + 1) (count * tables_for part.entries)) f
     (range_within (part.first_root + 4 * (1 + i)) 4 (part.first_root + 4) (4 * count) (omega arith) (omega (arith, own)) f is))
     (λ f is. right_within (within (part.first_root + 4) (4 * count)) (within (part.first_table + 1) (count * tables_for part.entries)) f
@@ -36,8 +36,8 @@ module _ (part : Layout) (most : ℕ) (slots : List Slot) (are : AreSlots part m
   frames_are : (k : ℕ) (d : Slot) → k < length slots → own_frames (get_or slots k d).space ≡ space_frames part (get_or slots k d).space.index
   frames_are k d h = ap (λ layout. space_frames layout (get_or slots k d).space.index) (are.each k d h).part
 
-  pub frames_within : (k : ℕ) (d : Slot) → k < length slots → Within (own_frames (get_or slots k d).space) (frames_for part (length slots))
-  frames_within k d h = subst (λ frames. Within frames (frames_for part (length slots))) (sym (frames_are k d h)) (space_within part (get_or slots k d).space.index (length slots) (are.each k d h).index)
+  pub frames_within : (k : ℕ) (d : Slot) → k < length slots → Within (own_frames (get_or slots k d).space) (table_frames_for part (length slots))
+  frames_within k d h = subst (λ frames. Within frames (table_frames_for part (length slots))) (sym (frames_are k d h)) (space_within part (get_or slots k d).space.index (length slots) (are.each k d h).index)
 
   differ : (j k : ℕ) (d : Slot) → j < length slots → k < length slots → j ≢ k → (get_or slots j d).space.index ≢ (get_or slots k d).space.index
   differ j k d h h' other = by (cases_lt j k)
@@ -70,9 +70,9 @@ module _ (part : Layout) (most : ℕ) (slots : List Slot) (are : AreSlots part m
           subst (λ slot. Tidy slot.space new) (sym (get_or-set_other slots i k after d other ∙ get_or_default slots k d was few))
           (lasts (get_or slots k was).space old new (kept (own_frames (get_or slots k was).space) (own_frames was.space) old new apart only) (tidy k was few))
 
-  pub one_only : (old new : List ℕ) (i : ℕ) (was : Slot) → i < length slots → was ≡ get_or slots i was → Only (own_frames was.space) old new → Only (frames_for part (length slots)) old new
+  pub one_only : (old new : List ℕ) (i : ℕ) (was : Slot) → i < length slots → was ≡ get_or slots i was → Only (own_frames was.space) old new → Only (table_frames_for part (length slots)) old new
   one_only old new i was inside read only =
-      only_more (own_frames was.space) (frames_for part (length slots)) old new (subst (λ slot. Within (own_frames slot.space) (frames_for part (length slots))) (sym read) (frames_within i was inside)) only
+      only_more (own_frames was.space) (table_frames_for part (length slots)) old new (subst (λ slot. Within (own_frames slot.space) (table_frames_for part (length slots))) (sym read) (frames_within i was inside)) only
 
   -- and they are still the tables of a pool, if it is for the same value of hgatp
   pub one_written : (i : ℕ) (was after : Slot) → i < length slots → was ≡ get_or slots i was → after.key ≡ was.key → IsLike was.space after.space → AreSlots part most (set slots i after)

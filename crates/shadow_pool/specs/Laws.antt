@@ -1,7 +1,7 @@
 -- Laws of pools.
 use Rattle.std.specs.Prelude.{ℕ, ◌≡◌, ◌≢◌, ◌+◌, ◌-◌, ◌*◌, ◌/◌, ◌%◌, ◌≤◌, ◌^◌, ◌&&◌, Bool, true, List, ◌∷◌, Some, None, length, nat_le, nat_lt, option_map}
 use Rattle.arch_defs.specs.declared.cached.Entry.{Entry}
-use Rattle.arch_defs.specs.declared.guest_walks.GuestWalkEnd.TheVariants.{GuestPageFault}
+use Rattle.arch_defs.specs.declared.second_walks.SecondWalkEnd.TheVariants.{GuestPageFault}
 use Rattle.arch_defs.specs.declared.modes.Access.{Access}
 use Rattle.arch_defs.specs.declared.registers.GuestMode.TheVariants as mode
 use Rattle.arch_defs.specs.declared.registers.GuestRoot.{GuestRoot}
@@ -11,11 +11,11 @@ use Rattle.arch_defs.specs.Frames.{Apart, LieIn, Same, Within, in_blocks}
 use Rattle.arch_defs.specs.Layouts.{Layout, host_frames, named_by}
 use Rattle.arch_defs.specs.Memory.{ram_base, block_size}
 use Rattle.arch_defs.specs.Ram.{host_place}
-use Rattle.arch_defs.specs.SecondStage.{guest_walk, second_under}
-use Rattle.arch_defs.specs.Spaces.{Space, entered, filled_in, is_held}
+use Rattle.arch_defs.specs.SecondStage.{second_under, second_walk}
+use Rattle.arch_defs.specs.Spaces.{Space, entered, filled_in, has_space}
 use Rattle.machine_laws.specs.FrontSpaces.{FrontIs}
 use Rattle.arch_defs.specs.CachedEntries.{filled, second_by}
-use Rattle.shadow_pool.specs.Slots.{Pooled, TidyPool, frames_for, front_root, pool_frames, room_of, spaces_of}
+use Rattle.shadow_pool.specs.Slots.{Pooled, TidyPool, front_root, pool_frames, room_of, spaces_of, table_frames_for}
 
 -- a pool stays tidy where the bytes of its own frames stay
 abbrev pub TidyPoolLasts : Type 0
@@ -34,13 +34,13 @@ FrontGivesEntries = (pool : Pooled) (memory : List ℕ) (front : Space) (others 
     (second_by front.entries mxr address access)
 
 -- and an access that these entries give no place is a guest-page fault, never an access fault
-abbrev pub FrontLacksAreGuestPageFaults : Type 0
-FrontLacksAreGuestPageFaults = (pool : Pooled) (memory : List ℕ) (front : Space) (others : List Space)
+abbrev pub FrontMissesAreGuestPageFaults : Type 0
+FrontMissesAreGuestPageFaults = (pool : Pooled) (memory : List ℕ) (front : Space) (others : List Space)
     (mxr : Bool) (address : ℕ) (access : Access)
     → TidyPool pool memory → LieIn (in_blocks pool.part.blocks) (length memory)
     → spaces_of pool ≡ front ∷ others
     → second_by front.entries mxr address access ≡ None
-    → guest_walk 0 memory mxr Sv39x4 (front_root pool.slots) address access ≡ GuestPageFault
+    → second_walk 0 memory mxr Sv39x4 (front_root pool.slots) address access ≡ GuestPageFault
 
 -- the places that they give are of the guest's RAM, with the offsets that the addresses have in pages
 abbrev pub FrontGivesRam : Type 0
@@ -53,13 +53,15 @@ FrontGivesRam = (pool : Pooled) (memory : List ℕ) (front : Space) (others : Li
 
 -- the frames of so many spaces are of the part, apart from its RAM and from its host table
 abbrev pub PoolLiesWithin : Layout → Type 0
-PoolLiesWithin part = (count : ℕ) → count ≤ part.spaces → Within (frames_for part count) (named_by part)
+PoolLiesWithin part = (count : ℕ) → count ≤ part.spaces → Within (table_frames_for part count) (named_by part)
 
-abbrev pub RamIsApart : Layout → Type 0
-RamIsApart part = (count : ℕ) → count ≤ part.spaces → Apart (in_blocks part.blocks) (frames_for part count)
+abbrev pub RamIsApartFromSpaces : Layout → Type 0
+RamIsApartFromSpaces part =
+    (count : ℕ) → count ≤ part.spaces → Apart (in_blocks part.blocks) (table_frames_for part count)
 
-abbrev pub HostFramesAreApart : Layout → Type 0
-HostFramesAreApart part = (count : ℕ) → count ≤ part.spaces → Apart (host_frames part) (frames_for part count)
+abbrev pub HostIsApartFromSpaces : Layout → Type 0
+HostIsApartFromSpaces part =
+    (count : ℕ) → count ≤ part.spaces → Apart (host_frames part) (table_frames_for part count)
 
 -- the space that was entered is in front
 abbrev pub EnteredIsInFront : Type 0
@@ -82,4 +84,4 @@ FrontIsFilled = (pool : Pooled) (memory : List ℕ) (front : Space) (others : Li
 -- it is held
 abbrev pub EnteredIsHeld : Type 0
 EnteredIsHeld = (most : ℕ) (key : GuestRoot) (spaces : List Space) → 1 ≤ most
-    → is_held key (entered most key spaces) ≡ true
+    → has_space key (entered most key spaces) ≡ true

@@ -6,7 +6,7 @@ use Rattle.arch_defs.specs.declared.registers.GuestRoot.{GuestRoot}
 use Rattle.arch_defs.specs.Frames.{Frames, LieIn, joined, within}
 use Rattle.arch_defs.specs.Layouts.{Layout, NamesEachOnce, space_frames, tables_for}
 use Rattle.arch_defs.specs.Roots.{is_root, vmid_of}
-use Rattle.arch_defs.specs.Spaces.{Space, left_by}
+use Rattle.arch_defs.specs.Spaces.{Space, unnamed_by}
 use Rattle.shadow_space.specs.Folding.{Folded}
 use Rattle.shadow_space.specs.Shadows.{AreZeros, Tidy, root_of}
 use Rattle.shadow_pool.specs.declared.slots.Slot.{Slot}
@@ -35,8 +35,8 @@ front_root [] = 0
 front_root (slot ∷ slots) = root_of slot.space
 
 -- the frames that a part has for the tables of so many spaces
-abbrev pub frames_for : Layout → ℕ → Frames
-frames_for part count =
+abbrev pub table_frames_for : Layout → ℕ → Frames
+table_frames_for part count =
     joined (within (part.first_root + 4) (4 * count))
     (within (part.first_table + 1) (count * tables_for part.entries))
 
@@ -100,7 +100,7 @@ room_of pool = length pool.slots
 
 -- its frames
 abbrev pub pool_frames : Pooled → Frames
-pool_frames pool = frames_for pool.part (room_of pool)
+pool_frames pool = table_frames_for pool.part (room_of pool)
 
 -- each of its tables is tidy
 pub record TidyPool (pool : Pooled) (memory : List ℕ) : Type 0 where
@@ -124,7 +124,7 @@ pub record AreSpare (part : Layout) (most count : ℕ) (slots : List Slot) : Typ
 -- a table after a fence
 abbrev pub left_for : Fence → Option GuestRoot → List Entry → List Entry
 left_for fence None entries = entries
-left_for fence (Some key) entries = left_by fence (vmid_of key) entries
+left_for fence (Some key) entries = unnamed_by fence (vmid_of key) entries
 
 abbrev pub fenced_slot : Fence → Slot → Slot
 fenced_slot fence slot =

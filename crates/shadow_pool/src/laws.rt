@@ -1,6 +1,6 @@
 // Laws of pools.
 
-ghost use Rattle.shadow_pool.specs.Laws.{EnteredIsHeld, EnteredIsInFront, FrontGivesEntries, FrontGivesRam, FrontIsEnteredAgain, FrontIsFilled, FrontLacksAreGuestPageFaults, HostFramesAreApart, PoolLiesWithin, RamIsApart, TidyPoolLasts};
+ghost use Rattle.shadow_pool.specs.Laws.{EnteredIsHeld, EnteredIsInFront, FrontGivesEntries, FrontGivesRam, FrontIsEnteredAgain, FrontIsFilled, FrontMissesAreGuestPageFaults, HostIsApartFromSpaces, PoolLiesWithin, RamIsApartFromSpaces, TidyPoolLasts};
 
 use arch_defs::Part;
 
@@ -14,7 +14,7 @@ pub fn tidy_pool_lasts()
 /// access is a guest-page fault. What the entries give is in the guest's RAM.
 pub fn front_gives_entries()
     ensures places { FrontGivesEntries }
-    ensures faults { FrontLacksAreGuestPageFaults }
+    ensures faults { FrontMissesAreGuestPageFaults }
     ensures ram { FrontGivesRam }
 {}
 
@@ -31,8 +31,8 @@ pub fn entered_is_in_front()
 /// table.
 pub fn pool_is_apart(part: &Part)
     ensures within { PoolLiesWithin part.now }
-    ensures ram { RamIsApart part.now }
-    ensures host { HostFramesAreApart part.now }
+    ensures ram { RamIsApartFromSpaces part.now }
+    ensures host { HostIsApartFromSpaces part.now }
 {
     part.names_each_once();
 }

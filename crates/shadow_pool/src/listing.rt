@@ -5,8 +5,8 @@ ghost use Rattle.std.specs.List.{position};
 ghost use Rattle.arch_defs.specs.Frames.{Only};
 ghost use Rattle.arch_defs.specs.CachedEntries.{CanFill};
 ghost use Rattle.shadow_pool.specs.declared.slots.Slot.{Slot};
-ghost use Rattle.shadow_pool.specs.Slots.{AreFolded, ArePooled, AreTidy, frames_for, front_root, has_key, most_of, part_of, spaces_in};
-ghost use Rattle.arch_defs.specs.Spaces.{entered, fenced, filled_in, is_held};
+ghost use Rattle.shadow_pool.specs.Slots.{AreFolded, ArePooled, AreTidy, front_root, has_key, most_of, part_of, spaces_in, table_frames_for};
+ghost use Rattle.arch_defs.specs.Spaces.{entered, fenced, filled_in, has_space};
 
 use crate::slots::Slot;
 use arch_defs::{Entry, Fence, GuestRoot};
@@ -39,7 +39,7 @@ pub fn enter(slots: &mut [Slot], mem: &mut PhysMem, key: GuestRoot)
     ensures count { length slots.new ≡ length slots.old }
     ensures tidy { AreTidy slots.new mem.new }
     ensures folded { AreFolded slots.new mem.new }
-    ensures only { Only (frames_for (part_of slots.old) (length slots.old)) mem.old mem.new }
+    ensures only { Only (table_frames_for (part_of slots.old) (length slots.old)) mem.old mem.new }
 {
     match place_of(slots, key) {
         Some(i) => to_front(slots, i),
@@ -55,7 +55,7 @@ pub fn enter(slots: &mut [Slot], mem: &mut PhysMem, key: GuestRoot)
 pub fn fill(slots: &mut [Slot], mem: &mut PhysMem, key: GuestRoot, entry: Entry)
     requires pooled { ArePooled slots.old }
     requires tidy { AreTidy slots.old mem.old }
-    requires held { is_held key (spaces_in slots.old) ≡ true }
+    requires held { has_space key (spaces_in slots.old) ≡ true }
     requires entry { CanFill (part_of slots.old).blocks entry }
     ensures spaces { spaces_in slots.new ≡ filled_in (most_of slots.old) key entry (spaces_in slots.old) }
     ensures root { front_root slots.new ≡ front_root slots.old }
@@ -65,7 +65,7 @@ pub fn fill(slots: &mut [Slot], mem: &mut PhysMem, key: GuestRoot, entry: Entry)
     ensures count { length slots.new ≡ length slots.old }
     ensures tidy { AreTidy slots.new mem.new }
     ensures folded { AreFolded slots.new mem.new }
-    ensures only { Only (frames_for (part_of slots.old) (length slots.old)) mem.old mem.new }
+    ensures only { Only (table_frames_for (part_of slots.old) (length slots.old)) mem.old mem.new }
 {
     match place_of(slots, key) {
         Some(i) => slots[i].fill(mem, entry),
@@ -85,7 +85,7 @@ pub fn fence(slots: &mut [Slot], mem: &mut PhysMem, fence: &Fence)
     ensures count { length slots.new ≡ length slots.old }
     ensures tidy { AreTidy slots.new mem.new }
     ensures folded { AreFolded slots.new mem.new }
-    ensures only { Only (frames_for (part_of slots.old) (length slots.old)) mem.old mem.new }
+    ensures only { Only (table_frames_for (part_of slots.old) (length slots.old)) mem.old mem.new }
 {
     for i in 0..slots.len() {
         slots[i].fence(mem, fence);

@@ -4,8 +4,8 @@ ghost use Rattle.std.specs.Prelude.{◌≡◌, ◌<◌, ◌≤◌, ◌%◌, ◌^
 ghost use Rattle.arch_defs.specs.Frames.{LieIn, Only};
 ghost use Rattle.arch_defs.specs.CachedEntries.{CanFill};
 ghost use Rattle.shadow_space.specs.Shadows.{AreZeros};
-ghost use Rattle.shadow_pool.specs.Slots.{AreFolded, AreSpare, TidyPool, frames_for, front_root, pool_frames, room_of, spaces_of};
-ghost use Rattle.arch_defs.specs.Spaces.{entered, fenced, filled_in, is_held};
+ghost use Rattle.shadow_pool.specs.Slots.{AreFolded, AreSpare, TidyPool, front_root, pool_frames, room_of, spaces_of, table_frames_for};
+ghost use Rattle.arch_defs.specs.Spaces.{entered, fenced, filled_in, has_space};
 
 use crate::listing::{enter, fence, fill};
 use crate::slots::Slot;
@@ -93,7 +93,7 @@ impl Pool {
     /// where there are as many as there may be, the oldest one.
     pub fn fill(&mut self, mem: &mut PhysMem, key: GuestRoot, entry: Entry)
         requires tidy { TidyPool self.old mem.old }
-        requires held { is_held key (spaces_of self.old) ≡ true }
+        requires held { has_space key (spaces_of self.old) ≡ true }
         requires entry { CanFill self.old.part.blocks entry }
         ensures spaces { spaces_of self.new ≡ filled_in self.old.most key entry (spaces_of self.old) }
         ensures root { front_root self.new.slots ≡ front_root self.old.slots }

@@ -8,20 +8,20 @@ use Rattle.arch_defs.proofs.FrameSets.{in_range, left_within, only_both, only_mo
 use Rattle.arch_defs.proofs.Pastes.{pasted_inside}
 use Rattle.arch_defs.proofs.Rooms.{first_lies, range_room, second_lies}
 use Rattle.shadow_space.specs.declared.writing.Tables.{Tables}
-use Rattle.shadow_space.specs.Shadows.{AreZeros, IsPlaced, Stands, leaves}
+use Rattle.shadow_space.specs.Shadows.{AreZeros, HasTables, Stands, leaves}
 use Rattle.shadow_space.specs.Trees.{RootIsApart, built, frames_of}
-use Rattle.shadow_space.specs.Words.{word}
+use Rattle.shadow_space.specs.Words.{doubleword_at}
 use Rattle.shadow_space.proofs.Building.{alone_says, alone_sound, built_nothing}
 use Rattle.shadow_space.proofs.Doublewords.{word_zero}
 use Rattle.shadow_space.proofs.Finding.{no_leaf}
 use Rattle.shadow_space.proofs.Slots.{other_than_root, own_frame}
 
 -- the room of both ranges
-pub root_lies : (tables : Tables) (size : ℕ) → IsPlaced tables size → tables.root * 4096 + 4 * 4096 ≤ size
+pub root_lies : (tables : Tables) (size : ℕ) → HasTables tables size → tables.root * 4096 + 4 * 4096 ≤ size
 root_lies tables size placed =
     omega (arith, range_room tables.root 4 size (omega arith) (first_lies (within tables.root 4) (within tables.first tables.count) size placed.lies))
 
-pub others_lie : (tables : Tables) (size : ℕ) → IsPlaced tables size → 0 < tables.count → tables.first * 4096 + tables.count * 4096 ≤ size
+pub others_lie : (tables : Tables) (size : ℕ) → HasTables tables size → 0 < tables.count → tables.first * 4096 + tables.count * 4096 ≤ size
 others_lie tables size placed some =
     omega (arith, range_room tables.first tables.count size some (second_lies (within tables.root 4) (within tables.first tables.count) size placed.lies))
 
@@ -101,7 +101,7 @@ pub record IsCleared (frames : Frames) (old new : List ℕ) : Type 0 where
   pub zeros : AreZeros frames new
   pub only : Only frames old new
 
-pub cleared_root : (tables : Tables) (old between : List ℕ) → IsPlaced tables (length old) → between ≡ pasted old (tables.root * 4096) (zeros 16384)
+pub cleared_root : (tables : Tables) (old between : List ℕ) → HasTables tables (length old) → between ≡ pasted old (tables.root * 4096) (zeros 16384)
     → IsCleared (within tables.root 4) old between
 cleared_root tables old between placed is =
     let fits = root_lies tables (length old) placed in
@@ -110,7 +110,7 @@ cleared_root tables old between placed is =
       only = range_only old tables.root 4 16384 refl fits;
     })
 
-pub cleared_too : (tables : Tables) (old between new : List ℕ) → IsPlaced tables (length old) → 0 < tables.count → IsCleared (within tables.root 4) old between
+pub cleared_too : (tables : Tables) (old between new : List ℕ) → HasTables tables (length old) → 0 < tables.count → IsCleared (within tables.root 4) old between
     → new ≡ pasted between (tables.first * 4096) (zeros (tables.count * 4096)) → IsCleared (frames_of tables) old new
 cleared_too tables old between new placed some first is =
     subst (IsCleared (frames_of tables) old) (sym is) (record {
@@ -132,7 +132,7 @@ pub zeros_stand : (tables : Tables) (blocks memory : List ℕ) → RootIsApart t
 zeros_stand tables blocks memory apart zeros =
     subst (λ b. Stands tables b (leaves blocks []) memory) (sym (built_nothing tables)) (record {
       sound = alone_sound tables apart;
-      says = alone_says tables (word memory) (leaves blocks []) (no_leaf blocks)
+      says = alone_says tables (doubleword_at memory) (leaves blocks []) (no_leaf blocks)
           (λ f s own small. word_zero (frames_of tables) memory (512 * f + s) zeros (own_frame tables f s own small));
       unused = λ f from to. rw (ne_eqb f tables.root (other_than_root tables.root f tables.first tables.count apart (omega (arith, from)) to)) refl;
     })

@@ -2,18 +2,18 @@
 use Rattle.std.proofs.Common.{◌≡◌, ℕ, ◌+◌, ◌*◌, ◌/◌, ◌%◌, ◌<◌, ◌^◌, Bool, true, false, not, ◌&&◌, ◌||◌, ◌==◌, if◌then◌else◌, refl, ap, ◌∙◌, arith}
 use Rattle.arch_defs.specs.declared.modes.Access.{Access}
 use Rattle.arch_defs.specs.declared.modes.Access.TheVariants.{Fetch, Load, Store, ExecLoad, Implicit}
-use Rattle.arch_defs.specs.declared.walks.TableEntry.{TableEntry}
+use Rattle.arch_defs.specs.declared.walks.Pte.{Pte}
 use Rattle.arch_defs.specs.declared.walks.WalkEnd.{WalkEnd}
 use Rattle.arch_defs.specs.declared.walks.WalkEnd.TheVariants.{Leaf, PageFault}
 use Rattle.arch_defs.specs.declared.walks.Next.TheVariants.{Ends, Below}
 use Rattle.arch_defs.specs.Bits.{bit}
-use Rattle.arch_defs.specs.TableEntries.{table_entry, entry_next, needs_dirty}
+use Rattle.arch_defs.specs.TableEntries.{pte_of, entry_next, needs_dirty}
 use Rattle.shadow_space.specs.Shadows.{flag}
 use Rattle.shadow_space.specs.Trees.{pointer_to}
 
 -- the word 0 maps nothing
-pub nothing_says : (level : ℕ) (access : Access) → entry_next level access (table_entry 0) ≡ Ends PageFault
-unfolding entry_next table_entry
+pub nothing_says : (level : ℕ) (access : Access) → entry_next level access (pte_of 0) ≡ Ends PageFault
+unfolding entry_next pte_of
 nothing_says level access = refl
 
 -- the bits of a word that ends in ten bits b
@@ -45,12 +45,12 @@ b10 : (f b : ℕ) → f < 2 ^ 44 → b < 1024 → (f * 1024 + b) / 2 ^ 10 % 2 ^ 
 b10 f b h small = omega arith
 
 entry_is : (f b : ℕ) → f < 2 ^ 44 → b < 1024
-    → table_entry (f * 1024 + b) ≡ record { v = bit 0 b; r = bit 1 b; w = bit 2 b; x = bit 3 b; u = bit 4 b; a = bit 6 b; d = bit 7 b; reserved = 0; frame = f }
-unfolding table_entry
+    → pte_of (f * 1024 + b) ≡ record { v = bit 0 b; r = bit 1 b; w = bit 2 b; x = bit 3 b; u = bit 4 b; a = bit 6 b; d = bit 7 b; reserved = 0; frame = f }
+unfolding pte_of
 entry_is f b h small = rw (b0 f b, b1 f b, b2 f b, b3 f b, b4 f b, b6 f b, b7 f b, b54 f b h small, b10 f b h small) refl
 
 -- a pointer at a level above the last
-pub pointer_says : (level frame : ℕ) (access : Access) → frame < 2 ^ 44 → entry_next (level + 1) access (table_entry (pointer_to frame)) ≡ Below frame
+pub pointer_says : (level frame : ℕ) (access : Access) → frame < 2 ^ 44 → entry_next (level + 1) access (pte_of (pointer_to frame)) ≡ Below frame
 unfolding entry_next
 pointer_says level frame access h = ap (entry_next (level + 1) access) (entry_is frame 1 h (omega arith)) ∙ last
   where
@@ -61,10 +61,10 @@ pointer_says level frame access h = ap (entry_next (level + 1) access) (entry_is
     last = rw positive refl
 
 -- a leaf in named parts
-abbrev pub parts_with : ℕ → Bool → Bool → Bool → TableEntry
+abbrev pub parts_with : ℕ → Bool → Bool → Bool → Pte
 parts_with f r w x = record { v = true; r = r; w = w; x = x; u = true; a = true; d = w; reserved = 0; frame = f }
 
-pub parts_of : (f : ℕ) (r w x : Bool) → f < 2 ^ 44 → table_entry (f * 1024 + (0x51 + flag r 0x02 + flag w 0x84 + flag x 0x08)) ≡ parts_with f r w x
+pub parts_of : (f : ℕ) (r w x : Bool) → f < 2 ^ 44 → pte_of (f * 1024 + (0x51 + flag r 0x02 + flag w 0x84 + flag x 0x08)) ≡ parts_with f r w x
 parts_of f true true true h = entry_is f 0xDF h (omega arith)
 parts_of f true true false h = entry_is f 0xD7 h (omega arith)
 parts_of f true false true h = entry_is f 0x5B h (omega arith)
@@ -115,5 +115,5 @@ ends f false true x access right write = let no_read : false ≡ true = write re
 ends f false false false access right write = absurd cc
 
 pub leaf_ends : (f : ℕ) (r w x : Bool) (access : Access) → f < 2 ^ 44 → (r || x) ≡ true → (w ≡ true → r ≡ true)
-    → entry_next 0 access (table_entry (f * 1024 + (0x51 + flag r 0x02 + flag w 0x84 + flag x 0x08))) ≡ Ends (end_for f r w x access)
+    → entry_next 0 access (pte_of (f * 1024 + (0x51 + flag r 0x02 + flag w 0x84 + flag x 0x08))) ≡ Ends (end_for f r w x access)
 leaf_ends f r w x access h right write = ap (entry_next 0 access) (parts_of f r w x h) ∙ ends f r w x access right write

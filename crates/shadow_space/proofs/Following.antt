@@ -2,12 +2,12 @@
 use Rattle.std.proofs.Common.{◌≡◌, ◌≢◌, ℕ, ◌+◌, ◌*◌, ◌/◌, ◌%◌, ◌<◌, ◌^◌, inl, true, List, [], ◌∷◌, Option, Some, None, Ok, refl, sym, ap, subst, ◌∙◌, arith}
 use Rattle.arch_defs.specs.declared.modes.Access.{Access}
 use Rattle.arch_defs.specs.declared.walks.Shape.TheVariants.{Sv39x4}
-use Rattle.arch_defs.specs.declared.walks.TableEntry.{TableEntry}
+use Rattle.arch_defs.specs.declared.walks.Pte.{Pte}
 use Rattle.arch_defs.specs.declared.walks.WalkEnd.{WalkEnd}
 use Rattle.arch_defs.specs.declared.walks.WalkEnd.TheVariants.{PageFault}
 use Rattle.arch_defs.specs.declared.walks.Next.{Next}
 use Rattle.arch_defs.specs.declared.walks.Next.TheVariants.{Ends, Below}
-use Rattle.arch_defs.specs.TableEntries.{table_entry, entry_next}
+use Rattle.arch_defs.specs.TableEntries.{pte_of, entry_next}
 use Rattle.arch_defs.specs.Walk.{EntryReading, Met, later, met_in, next_of, path_from, read_next}
 use Rattle.stage_walk.specs.ByLevels.{walk_from}
 use Rattle.stage_walk.proofs.Levels.{from_below, from_ends}
@@ -61,25 +61,25 @@ module _ (tables : Tables) (tree : Tree) (word leaf : ℕ → ℕ) (sound : IsTr
   root_slot = omega (arith, root_slots tables tables.root refl)
 
   -- what the entry of each level says
-  root_next : va < 2 ^ 41 → (o : Option ℕ) → tree.place 1 (va / 2 ^ 30) ≡ o → next_of access (met_in reading Sv39x4 va 2 tables.root) ≡ entry_next 2 access (table_entry (pointer_of o))
+  root_next : va < 2 ^ 41 → (o : Option ℕ) → tree.place 1 (va / 2 ^ 30) ≡ o → next_of access (met_in reading Sv39x4 va 2 tables.root) ≡ entry_next 2 access (pte_of (pointer_of o))
   root_next low o place =
       ap (read_next 2 (4096 * tables.root + 8 * (va / 2 ^ 30 % 2 ^ 11)) access)
       (read_as tables.root (va / 2 ^ 30 % 2 ^ 11) (Table 2 0) root_own root_slot sound.root ∙ ap (λ n. Ok (pointer_of (tree.place 1 n))) (top_whole va low) ∙ ap (λ o. Ok (pointer_of o)) place)
 
   middle_next : (f : ℕ) → tree.place 1 (va / 2 ^ 30) ≡ Some f → (o : Option ℕ) → tree.place 0 (va / 2 ^ 21) ≡ o
-      → next_of access (met_in reading Sv39x4 va 1 f) ≡ entry_next 1 access (table_entry (pointer_of o))
+      → next_of access (met_in reading Sv39x4 va 1 f) ≡ entry_next 1 access (pte_of (pointer_of o))
   middle_next f here o place =
       ap (read_next 1 (4096 * f + 8 * (va / 2 ^ 21 % 2 ^ 9)) access)
       (read_as f (va / 2 ^ 21 % 2 ^ 9) (Table 1 (va / 2 ^ 30)) (low_own f 1 (va / 2 ^ 30) here) (low_slot f 1 (va / 2 ^ 30) (va / 2 ^ 21 % 2 ^ 9) here (omega arith) (omega arith)) (sound.forth f 1 (va / 2 ^ 30) here)
       ∙ ap (λ n. Ok (pointer_of (tree.place 0 n))) (middle_whole va) ∙ ap (λ o. Ok (pointer_of o)) place)
 
-  last_next : (f : ℕ) → tree.place 0 (va / 2 ^ 21) ≡ Some f → next_of access (met_in reading Sv39x4 va 0 f) ≡ entry_next 0 access (table_entry (leaf (va / 4096)))
+  last_next : (f : ℕ) → tree.place 0 (va / 2 ^ 21) ≡ Some f → next_of access (met_in reading Sv39x4 va 0 f) ≡ entry_next 0 access (pte_of (leaf (va / 4096)))
   last_next f here =
       ap (read_next 0 (4096 * f + 8 * (va / 2 ^ 12 % 2 ^ 9)) access)
       (read_as f (va / 2 ^ 12 % 2 ^ 9) (Table 0 (va / 2 ^ 21)) (low_own f 0 (va / 2 ^ 21) here) (low_slot f 0 (va / 2 ^ 21) (va / 2 ^ 12 % 2 ^ 9) here (omega arith) (omega arith)) (sound.forth f 0 (va / 2 ^ 21) here)
       ∙ ap (λ n. Ok (leaf n)) (last_whole va))
 
-  below : (level f h k : ℕ) → tree.place h k ≡ Some f → entry_next (level + 1) access (table_entry (pointer_to f)) ≡ Below f
+  below : (level f h k : ℕ) → tree.place h k ≡ Some f → entry_next (level + 1) access (pte_of (pointer_to f)) ≡ Below f
   below level f h k here = pointer_says level f access (small f (low_own f h k here))
 
   -- without a table there is no leaf
@@ -96,10 +96,10 @@ module _ (tables : Tables) (tree : Tree) (word leaf : ℕ → ℕ) (sound : IsTr
       by None is = is
       by (Some f) is = absurd (no_pointer f (ap pointer_of (sym is) ∙ zeros))
 
-  module _ (end : WalkEnd) (ends : entry_next 0 access (table_entry (leaf (va / 4096))) ≡ Ends end) where
+  module _ (end : WalkEnd) (ends : entry_next 0 access (pte_of (leaf (va / 4096))) ≡ Ends end) where
     nothing_ends : leaf (va / 4096) ≡ 0 → PageFault ≡ end
     nothing_ends none =
-        let zero_ends : Ends PageFault ≡ Ends end = sym (nothing_says 0 access) ∙ ap (λ n. entry_next 0 access (table_entry n)) (sym none) ∙ ends in cc
+        let zero_ends : Ends PageFault ≡ Ends end = sym (nothing_says 0 access) ∙ ap (λ n. entry_next 0 access (pte_of n)) (sym none) ∙ ends in cc
 
     from_last : (f : ℕ) → tree.place 0 (va / 2 ^ 21) ≡ Some f → walk_from reading Sv39x4 va access 1 f ≡ end
     from_last f here = from_ends reading Sv39x4 va access 1 0 f end refl (last_next f here ∙ ends)
@@ -153,7 +153,7 @@ module _ (tables : Tables) (tree : Tree) (word leaf : ℕ → ℕ) (sound : IsTr
           (inside_middle f place (tree.place 0 (va / 2 ^ 21)) refl)
 
   -- the last of them is the page's leaf
-  last_later : (parts : TableEntry) (m : Met) (ms : List Met) → LastIs parts ms → LastIs parts (m ∷ ms)
+  last_later : (parts : Pte) (m : Met) (ms : List Met) → LastIs parts ms → LastIs parts (m ∷ ms)
   last_later parts m [] last = absurd last
   last_later parts m (n ∷ ms) last = last
 
@@ -162,7 +162,7 @@ module _ (tables : Tables) (tree : Tree) (word leaf : ℕ → ℕ) (sound : IsTr
   nothing_later (Ends end) = refl
   nothing_later (Below table) = refl
 
-  module _ (parts : TableEntry) (reads_so : table_entry (leaf (va / 4096)) ≡ parts) (some : leaf (va / 4096) ≢ 0) where
+  module _ (parts : Pte) (reads_so : pte_of (leaf (va / 4096)) ≡ parts) (some : leaf (va / 4096) ≢ 0) where
     leaf_read : (f : ℕ) → tree.place 0 (va / 2 ^ 21) ≡ Some f → reading (4096 * f + 8 * (va / 2 ^ 12 % 2 ^ 9)) ≡ Ok (leaf (va / 4096))
     leaf_read f here =
         read_as f (va / 2 ^ 12 % 2 ^ 9) (Table 0 (va / 2 ^ 21)) (low_own f 0 (va / 2 ^ 21) here) (low_slot f 0 (va / 2 ^ 21) (va / 2 ^ 12 % 2 ^ 9) here (omega arith) (omega arith)) (sound.forth f 0 (va / 2 ^ 21) here)

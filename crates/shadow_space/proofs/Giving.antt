@@ -3,24 +3,24 @@ use Rattle.std.specs.Prelude.{◌&&◌, nat_le, nat_lt, option_map}
 use Rattle.std.proofs.Common.{◌≡◌, ℕ, ◌+◌, ◌-◌, ◌*◌, ◌/◌, ◌%◌, ◌<◌, ◌≤◌, ◌^◌, ◌⊎◌, inl, inr, Bool, true, false, not, List, Option, Some, None, length, slice_index, if◌then◌else◌, refl, sym, ap, ◌∙◌, arith}
 use Rattle.std.proofs.lemmas.Bool.{and_from, cases_Bool, le-leb, lt-ltb}
 use Rattle.arch_defs.specs.declared.cached.Entry.{Entry}
-use Rattle.arch_defs.specs.declared.guest_walks.GuestWalkEnd.TheVariants.{GuestPageFault}
-use Rattle.arch_defs.specs.declared.guest_walks.GuestWalkEnd.TheVariants as guest
+use Rattle.arch_defs.specs.declared.second_walks.SecondWalkEnd.TheVariants.{GuestPageFault}
+use Rattle.arch_defs.specs.declared.second_walks.SecondWalkEnd.TheVariants as guest
 use Rattle.arch_defs.specs.declared.modes.Access.{Access}
 use Rattle.arch_defs.specs.declared.modes.Access.TheVariants.{Fetch, Load, Store, ExecLoad, Implicit}
-use Rattle.arch_defs.specs.declared.walks.LeafEntry.{LeafEntry}
+use Rattle.arch_defs.specs.declared.walks.LeafPte.{LeafPte}
 use Rattle.arch_defs.specs.declared.walks.Shape.TheVariants.{Sv39x4}
 use Rattle.arch_defs.specs.declared.walks.WalkEnd.TheVariants.{Leaf, PageFault}
 use Rattle.arch_defs.specs.Frames.{Frames, LieIn, in_blocks}
 use Rattle.arch_defs.specs.Memory.{block_size, ram_base}
 use Rattle.arch_defs.specs.Permits.{permits_second}
 use Rattle.arch_defs.specs.Ram.{host_place}
-use Rattle.arch_defs.specs.SecondStage.{guest_end, guest_root_frame, guest_walk, has_bytes, memory_words, place_under}
+use Rattle.arch_defs.specs.SecondStage.{guest_root_frame, has_bytes, memory_words, place_under, second_end, second_walk}
 use Rattle.arch_defs.specs.Walk.{leaf_address}
 use Rattle.arch_defs.proofs.RamBlocks.{host_place_along, place_named}
 use Rattle.arch_defs.specs.CachedEntries.{CanFill, entry_at, leaf_of, place_by, second_by}
 use Rattle.shadow_space.specs.Folding.{ReadsIn, leaf_end}
-use Rattle.shadow_space.specs.Laws.{EntriesGiveRam, GivesEntries, LacksAreGuestPageFaults}
-use Rattle.shadow_space.specs.Shadows.{Shadow, Tidy, host_frame, own_frames, root_of}
+use Rattle.shadow_space.specs.Laws.{EntriesGiveRam, GivesEntries, MissesAreGuestPageFaults}
+use Rattle.shadow_space.specs.Shadows.{Shadow, Tidy, frame_of_ram, own_frames, root_of}
 use Rattle.shadow_space.proofs.Finding.{found_has}
 use Rattle.shadow_space.proofs.Tidying.{folded, root_aligned, tables_placed, tidy_parts}
 
@@ -47,8 +47,8 @@ root_frame page aligned small = omega (arith, aligned, small)
 
 -- the walk's end for an entry
 pub walk_is : (space : Shadow) (memory : List ℕ) (mxr : Bool) (address : ℕ) (access : Access) → Tidy space memory
-    → guest_walk 0 memory mxr Sv39x4 (root_of space) address access ≡ guest_end 0 memory mxr address access (leaf_end space.part.blocks access (entry_at (address / 4096) space.entries))
-unfolding guest_walk
+    → second_walk 0 memory mxr Sv39x4 (root_of space) address access ≡ second_end 0 memory mxr address access (leaf_end space.part.blocks access (entry_at (address / 4096) space.entries))
+unfolding second_walk
 walk_is space memory mxr address access tidy =
     let parts = tidy_parts space memory tidy in
     let placed = tables_placed space (length memory) parts.is parts.lies in
@@ -59,7 +59,7 @@ walk_is space memory mxr address access tidy =
 
 -- the place of a page's byte under its leaf
 place_in_page : (blocks : List ℕ) (frame r : ℕ) → r < 4096 → ram_base ≤ frame * 4096
-    → host_place blocks (4096 * frame + r - ram_base) ≡ 4096 * host_frame blocks frame + r
+    → host_place blocks (4096 * frame + r - ram_base) ≡ 4096 * frame_of_ram blocks frame + r
 place_in_page blocks frame r small from =
     ap (host_place blocks) (along frame r from)
     ∙ host_place_along blocks (frame * 4096 - ram_base) r (fits frame r small from)
@@ -75,8 +75,8 @@ place_in_page blocks frame r small from =
     whole n frame from = omega (arith, from)
 
 -- an entry's leaf in machine memory; permission does not depend on its frame
-abbrev host_leaf : List ℕ → Entry → LeafEntry
-host_leaf blocks e = record { frame = host_frame blocks e.frame; level = 0; r = e.r; w = e.w; x = e.x; u = true }
+abbrev host_leaf : List ℕ → Entry → LeafPte
+host_leaf blocks e = record { frame = frame_of_ram blocks e.frame; level = 0; r = e.r; w = e.w; x = e.x; u = true }
 
 permits_same : (mxr : Bool) (access : Access) (blocks : List ℕ) (e : Entry) → permits_second mxr access (host_leaf blocks e) ≡ permits_second mxr access (leaf_of e)
 unfolding permits_second
@@ -90,43 +90,43 @@ never_written : (mxr : Bool) (e : Entry) → e.w ≡ false → permits_second mx
 unfolding permits_second
 never_written mxr e clean = clean
 
-dirty_end : (clean : Bool) (leaf : LeafEntry) → clean ≡ false → (if clean then PageFault else Leaf leaf) ≡ Leaf leaf
+dirty_end : (clean : Bool) (leaf : LeafPte) → clean ≡ false → (if clean then PageFault else Leaf leaf) ≡ Leaf leaf
 dirty_end clean leaf is = rw is refl
 
-clean_end : (clean : Bool) (leaf : LeafEntry) → clean ≡ true → (if clean then PageFault else Leaf leaf) ≡ PageFault
+clean_end : (clean : Bool) (leaf : LeafPte) → clean ≡ true → (if clean then PageFault else Leaf leaf) ≡ PageFault
 clean_end clean leaf is = rw is refl
 
 -- its frame is in memory
 in_memory : (frame r size : ℕ) → frame * 4096 + 4096 ≤ size → r < 4096 → (4096 * frame + r) / 4096 * 4096 + 4096 ≤ size
 in_memory frame r size lies small = omega (arith, lies, small)
 
-frame_lies : (blocks : List ℕ) (size : ℕ) (e : Entry) → LieIn (in_blocks blocks) size → CanFill blocks e → host_frame blocks e.frame * 4096 + 4096 ≤ size
+frame_lies : (blocks : List ℕ) (size : ℕ) (e : Entry) → LieIn (in_blocks blocks) size → CanFill blocks e → frame_of_ram blocks e.frame * 4096 + 4096 ≤ size
 frame_lies blocks size e lie can =
     let from = can.from in
     let to = can.to in
-    lie (host_frame blocks e.frame) (place_named blocks (e.frame * 4096 - ram_base) (omega (arith, from, to)))
+    lie (frame_of_ram blocks e.frame) (place_named blocks (e.frame * 4096 - ram_base) (omega (arith, from, to)))
 
 module _ (blocks memory : List ℕ) (mxr : Bool) (address : ℕ) (lie : LieIn (in_blocks blocks) (length memory)) (e : Entry) (can : CanFill blocks e) where
   -- the end under the leaf, by permission
   by_permission : (access : Access) (p : Bool) → permits_second mxr access (leaf_of e) ≡ p
-      → guest_end 0 memory mxr address access (Leaf (host_leaf blocks e)) ≡ (if p then guest.Leaf (host_leaf blocks e) else GuestPageFault)
+      → second_end 0 memory mxr address access (Leaf (host_leaf blocks e)) ≡ (if p then guest.Leaf (host_leaf blocks e) else GuestPageFault)
   by_permission access true is =
       let permits : permits_second mxr access (host_leaf blocks e) ≡ true = permits_same mxr access blocks e ∙ is in
-      let fits = in_memory (host_frame blocks e.frame) (address % 2 ^ 12) (length memory) (frame_lies blocks (length memory) e lie can) (omega arith) in
-      rw (permits, has memory ((4096 * host_frame blocks e.frame + address % 2 ^ 12) / 4096 * 4096) 4096 fits) refl
+      let fits = in_memory (frame_of_ram blocks e.frame) (address % 2 ^ 12) (length memory) (frame_lies blocks (length memory) e lie can) (omega arith) in
+      rw (permits, has memory ((4096 * frame_of_ram blocks e.frame + address % 2 ^ 12) / 4096 * 4096) 4096 fits) refl
   by_permission access false is =
       let refuses : permits_second mxr access (host_leaf blocks e) ≡ false = permits_same mxr access blocks e ∙ is in rw refuses refl
 
-  end_is : (access : Access) → guest_end 0 memory mxr address access (leaf_end blocks access (Some e)) ≡ (if permits_second mxr access (leaf_of e) then guest.Leaf (host_leaf blocks e) else GuestPageFault)
+  end_is : (access : Access) → second_end 0 memory mxr address access (leaf_end blocks access (Some e)) ≡ (if permits_second mxr access (leaf_of e) then guest.Leaf (host_leaf blocks e) else GuestPageFault)
   end_is Fetch = by_permission Fetch (permits_second mxr Fetch (leaf_of e)) refl
   end_is Load = by_permission Load (permits_second mxr Load (leaf_of e)) refl
   end_is ExecLoad = by_permission ExecLoad (permits_second mxr ExecLoad (leaf_of e)) refl
   end_is Implicit = by_permission Implicit (permits_second mxr Implicit (leaf_of e)) refl
   end_is Store = by (cases_Bool e.w)
     where
-      by : (e.w ≡ true) ⊎ (e.w ≡ false) → guest_end 0 memory mxr address Store (leaf_end blocks Store (Some e)) ≡ (if permits_second mxr Store (leaf_of e) then guest.Leaf (host_leaf blocks e) else GuestPageFault)
-      by (inl dirty) = ap (guest_end 0 memory mxr address Store) (dirty_end (not e.w) (host_leaf blocks e) (ap not dirty)) ∙ by_permission Store (permits_second mxr Store (leaf_of e)) refl
-      by (inr clean) = ap (guest_end 0 memory mxr address Store) (clean_end (not e.w) (host_leaf blocks e) (ap not clean)) ∙ sym (rw (never_written mxr e clean) refl)
+      by : (e.w ≡ true) ⊎ (e.w ≡ false) → second_end 0 memory mxr address Store (leaf_end blocks Store (Some e)) ≡ (if permits_second mxr Store (leaf_of e) then guest.Leaf (host_leaf blocks e) else GuestPageFault)
+      by (inl dirty) = ap (second_end 0 memory mxr address Store) (dirty_end (not e.w) (host_leaf blocks e) (ap not dirty)) ∙ by_permission Store (permits_second mxr Store (leaf_of e)) refl
+      by (inr clean) = ap (second_end 0 memory mxr address Store) (clean_end (not e.w) (host_leaf blocks e) (ap not clean)) ∙ sym (rw (never_written mxr e clean) refl)
 
 -- so the place is the entry's, in machine memory
 placed_by : (blocks : List ℕ) (mxr : Bool) (address : ℕ) (access : Access) (e : Entry) → CanFill blocks e → (p : Bool)
@@ -136,13 +136,13 @@ placed_by blocks mxr address access e can true = ap Some (sym (place_in_page blo
 placed_by blocks mxr address access e can false = refl
 
 given : (blocks memory : List ℕ) (mxr : Bool) (address : ℕ) (access : Access) (o : Option Entry) → LieIn (in_blocks blocks) (length memory) → ((e : Entry) → o ≡ Some e → CanFill blocks e)
-    → place_under address (guest_end 0 memory mxr address access (leaf_end blocks access o)) ≡ option_map (λ place. host_place blocks (place - ram_base)) (place_by mxr address access o)
+    → place_under address (second_end 0 memory mxr address access (leaf_end blocks access o)) ≡ option_map (λ place. host_place blocks (place - ram_base)) (place_by mxr address access o)
 given blocks memory mxr address access None lie can = refl
 given blocks memory mxr address access (Some e) lie can =
     ap (place_under address) (end_is blocks memory mxr address lie e (can e refl) access) ∙ placed_by blocks mxr address access e (can e refl) (permits_second mxr access (leaf_of e))
 
 refused : (blocks memory : List ℕ) (mxr : Bool) (address : ℕ) (access : Access) (o : Option Entry) → LieIn (in_blocks blocks) (length memory) → ((e : Entry) → o ≡ Some e → CanFill blocks e)
-    → place_by mxr address access o ≡ None → guest_end 0 memory mxr address access (leaf_end blocks access o) ≡ GuestPageFault
+    → place_by mxr address access o ≡ None → second_end 0 memory mxr address access (leaf_end blocks access o) ≡ GuestPageFault
 refused blocks memory mxr address access None lie can none = refl
 refused blocks memory mxr address access (Some e) lie can none =
     end_is blocks memory mxr address lie e (can e refl) access ∙ by (permits_second mxr access (leaf_of e)) none
@@ -160,7 +160,7 @@ gives space memory mxr vmid address access tidy lie =
     ap (place_under address) (walk_is space memory mxr address access tidy)
     ∙ given space.part.blocks memory mxr address access (entry_at (address / 4096) space.entries) lie (can_of space memory (address / 4096) tidy)
 
-pub lacks : LacksAreGuestPageFaults
+pub lacks : MissesAreGuestPageFaults
 unfolding second_by
 lacks space memory mxr address access tidy lie none =
     walk_is space memory mxr address access tidy

@@ -7,7 +7,7 @@ use Rattle.arch_defs.specs.Frames.{Only}
 use Rattle.arch_defs.proofs.FrameSets.{only_both}
 use Rattle.shadow_space.specs.declared.writing.Tables.{Tables}
 use Rattle.arch_defs.specs.CachedEntries.{CanFill, HasOtherPage}
-use Rattle.shadow_space.specs.Shadows.{IsPlaced, Stands, leaf_word, leaves}
+use Rattle.shadow_space.specs.Shadows.{HasTables, Stands, leaf_word, leaves}
 use Rattle.shadow_space.specs.Trees.{Build, IsOwn, built, frames_of, slots, with_page, with_table}
 use Rattle.shadow_space.specs.Words.{below, linked, used_with, with_word}
 use Rattle.shadow_space.proofs.Adding.{low_slots}
@@ -19,7 +19,7 @@ use Rattle.shadow_space.proofs.Slots.{own_frame, own_room, root_slots}
 
 -- what holds before an entry is inserted
 pub record Begins (tables : Tables) (blocks : List ℕ) (entries : List Entry) (i : ℕ) (memory : List ℕ) : Type 0 where
-  pub placed : IsPlaced tables (length memory)
+  pub placed : HasTables tables (length memory)
   pub room : 2 * length entries ≤ tables.count
   pub fill : All (CanFill blocks) entries
   pub pages : AllPairs HasOtherPage entries
@@ -53,10 +53,10 @@ module _ (tables : Tables) (blocks : List ℕ) (entries : List Entry) (i : ℕ) 
       begins.placed begins.stands begins.stands.sound.root root_slot (omega arith) (omega arith) (omega (arith, used_room)) next
 
 -- the second table, in memory with the first
-module _ (tables : Tables) (b : Build) (leaf : ℕ → ℕ) (old memory : List ℕ) (page f used : ℕ) (placed : IsPlaced tables (length old))
+module _ (tables : Tables) (b : Build) (leaf : ℕ → ℕ) (old memory : List ℕ) (page f used : ℕ) (placed : HasTables tables (length old))
     (first : IsLinked tables b leaf 1 (page / 262144) old memory f used) where
-  placed_too : IsPlaced tables (length memory)
-  placed_too = subst (λ n. IsPlaced tables n) (sym first.only.size) placed
+  placed_too : HasTables tables (length memory)
+  placed_too = subst (λ n. HasTables tables n) (sym first.only.size) placed
 
   f_own : IsOwn tables f
   f_own = first.stands.sound.own f 1 (page / 262144) first.place
@@ -80,10 +80,10 @@ module _ (tables : Tables) (b : Build) (leaf : ℕ → ℕ) (old memory : List �
       whole page = omega arith
 
 -- and the leaf
-module _ (tables : Tables) (b : Build) (leaf leaf' : ℕ → ℕ) (old memory : List ℕ) (page f used : ℕ) (placed : IsPlaced tables (length old))
+module _ (tables : Tables) (b : Build) (leaf leaf' : ℕ → ℕ) (old memory : List ℕ) (page f used : ℕ) (placed : HasTables tables (length old))
     (second : IsLinked tables b leaf 0 (page / 512) old memory f used) where
-  leaf_placed : IsPlaced tables (length memory)
-  leaf_placed = subst (λ n. IsPlaced tables n) (sym second.only.size) placed
+  leaf_placed : HasTables tables (length memory)
+  leaf_placed = subst (λ n. HasTables tables n) (sym second.only.size) placed
 
   leaf_own : IsOwn tables f
   leaf_own = second.stands.sound.own f 0 (page / 512) second.place
@@ -101,7 +101,7 @@ module _ (tables : Tables) (b : Build) (leaf leaf' : ℕ → ℕ) (old memory : 
   leaf_only value = only_word (frames_of tables) memory (512 * f + page % 512) value leaf_room (own_frame tables f (page % 512) leaf_own leaf_slot)
 
 -- a frame of the tables has a small number
-pub own_small : (tables : Tables) (f size : ℕ) → IsPlaced tables size → IsOwn tables f → f < 2 ^ 44
+pub own_small : (tables : Tables) (f size : ℕ) → HasTables tables size → IsOwn tables f → f < 2 ^ 44
 own_small tables f size placed (inl is) = omega (arith, is, placed.root)
 own_small tables f size placed (inr range) = omega (arith, range.1, placed.others)
 
@@ -151,10 +151,10 @@ module _ (tables : Tables) (blocks : List ℕ) (entries : List Entry) (i : ℕ) 
           (used_with memory (512 * tables.root + (get_or entries i d).page / 262144) n)) (sym used_is)
           (middle tables blocks entries i d memory begins (tables.first + used) (ap (λ n. tables.first + n) used_is)))
 
-module _ (tables : Tables) (blocks : List ℕ) (entries : List Entry) (i page : ℕ) (old m1 : List ℕ) (f1 u1 : ℕ) (placed : IsPlaced tables (length old))
+module _ (tables : Tables) (blocks : List ℕ) (entries : List Entry) (i page : ℕ) (old m1 : List ℕ) (f1 u1 : ℕ) (placed : HasTables tables (length old))
     (first : HasMiddle tables blocks entries i page old m1 f1 u1) where
-  placed_here : IsPlaced tables (length m1)
-  placed_here = subst (λ n. IsPlaced tables n) (sym first.linked.only.size) placed
+  placed_here : HasTables tables (length m1)
+  placed_here = subst (λ n. HasTables tables n) (sym first.linked.only.size) placed
 
   pub has_low : (m2 : List ℕ) (f2 u2 : ℕ) → m2 ≡ linked m1 (512 * f1 + page / 512 % 512) (tables.first + u1) → f2 ≡ below m1 (512 * f1 + page / 512 % 512) (tables.first + u1)
       → u2 ≡ used_with m1 (512 * f1 + page / 512 % 512) u1 → HasLow tables blocks entries i page m1 m2 f2 u2
@@ -203,5 +203,5 @@ has_inserted tables blocks entries i d old m1 m2 m3 f1 u1 f2 u2 leaf begins firs
     more : take (i + 1) entries ≡ take i entries ++ get_or entries i d ∷ []
     more = taken_more entries i (get_or entries i d) begins.index same
 
-    placed1 : IsPlaced tables (length m1)
-    placed1 = subst (λ n. IsPlaced tables n) (sym first.linked.only.size) begins.placed
+    placed1 : HasTables tables (length m1)
+    placed1 = subst (λ n. HasTables tables n) (sym first.linked.only.size) begins.placed

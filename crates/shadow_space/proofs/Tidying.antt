@@ -11,7 +11,7 @@ use Rattle.arch_defs.specs.declared.walks.Next.TheVariants.{Ends}
 use Rattle.arch_defs.specs.Frames.{Apart, LieIn, Only, Same, within}
 use Rattle.arch_defs.specs.Layouts.{Layout, NamesEachOnce}
 use Rattle.arch_defs.specs.Memory.{block_size, load, ram_base}
-use Rattle.arch_defs.specs.TableEntries.{table_entry, entry_next}
+use Rattle.arch_defs.specs.TableEntries.{pte_of, entry_next}
 use Rattle.arch_defs.specs.Walk.{EntryReading, path, walk}
 use Rattle.arch_defs.proofs.FrameSets.{in_range}
 use Rattle.stage_walk.proofs.Levels.{walk_refused, walk_starts}
@@ -19,9 +19,9 @@ use Rattle.shadow_space.specs.declared.writing.Tables.{Tables}
 use Rattle.arch_defs.specs.CachedEntries.{CanFill, HasOtherPage, cut_by, entry_at, filled}
 use Rattle.shadow_space.specs.Folding.{LastIs, LieWithin, ReadsIn, leaf_end, leaf_parts}
 use Rattle.shadow_space.specs.Laws.{TidyIsFolded, TidyLasts}
-use Rattle.shadow_space.specs.Shadows.{AreZeros, HasSmallNumbers, IsPlaced, IsShadow, IsTidy, Shadow, Stands, Tidy, host_frame, leaf_if, leaf_word, leaves, own_frames, root_of, tables_in}
+use Rattle.shadow_space.specs.Shadows.{AreZeros, HasSmallNumbers, HasTables, IsShadow, IsTidy, Shadow, Stands, Tidy, frame_of_ram, leaf_if, leaf_word, leaves, own_frames, root_of, tables_in}
 use Rattle.shadow_space.specs.Trees.{Build, IsOwn, RootIsApart, built, frames_of}
-use Rattle.shadow_space.specs.Words.{word}
+use Rattle.shadow_space.specs.Words.{doubleword_at}
 use Rattle.shadow_space.proofs.Clearing.{zeros_stand}
 use Rattle.shadow_space.proofs.Doublewords.{word_kept}
 use Rattle.shadow_space.proofs.Entries.{leaf_ends, nothing_says, parts_of}
@@ -72,7 +72,7 @@ few_tables : (index spaces entries : ℕ) → index < spaces → spaces < 2 ^ 16
 few_tables index spaces entries h small small' =
     omega (arith, tables_end index spaces (2 * entries) h, mul-le spaces (2 * entries) 65536 131072 (omega arith) (omega arith))
 
-pub tables_placed : (space : Shadow) (size : ℕ) → IsShadow space → LieIn (own_frames space) size → IsPlaced (tables_in space.part space.index) size
+pub tables_placed : (space : Shadow) (size : ℕ) → IsShadow space → LieIn (own_frames space) size → HasTables (tables_in space.part space.index) size
 tables_placed space size is lies =
     let small = is.small in
     let index = is.index in
@@ -136,7 +136,7 @@ frame_turned f s = omega arith
 eighth : (f s : ℕ) → (4096 * f + 8 * s) % 8 ≡ 0
 eighth f s = omega arith
 
-reads_words : (tables : Tables) (memory : List ℕ) (reading : EntryReading) → ReadsIn (frames_of tables) memory reading → Reads tables (word memory) reading
+reads_words : (tables : Tables) (memory : List ℕ) (reading : EntryReading) → ReadsIn (frames_of tables) memory reading → Reads tables (doubleword_at memory) reading
 reads_words tables memory reading reads = record {
   each = λ f s own slot.
       reads (4096 * f + 8 * s) (subst (λ n. frames_of tables n ≡ true) (frame_turned f s) (own_frame tables f s own slot)) (eighth f s)
@@ -149,11 +149,11 @@ small_place n off h = omega arith
 
 -- the leaf of a page ends the walk as its entry does
 leaf_is_end : (blocks : List ℕ) (access : Access) (o : Option Entry) → ((i : ℕ) → slice_index blocks i < 2 ^ 32) → ((e : Entry) → o ≡ Some e → CanFill blocks e)
-    → entry_next 0 access (table_entry (leaf_if blocks o)) ≡ Ends (leaf_end blocks access o)
+    → entry_next 0 access (pte_of (leaf_if blocks o)) ≡ Ends (leaf_end blocks access o)
 leaf_is_end blocks access None small can = nothing_says 0 access
 leaf_is_end blocks access (Some e) small can =
     let filled = can e refl in
-    leaf_ends (host_frame blocks e.frame) e.r e.w e.x access
+    leaf_ends (frame_of_ram blocks e.frame) e.r e.w e.x access
     (small_place (slice_index blocks ((e.frame * 4096 - ram_base) / block_size)) (e.frame * 4096 - ram_base) (small ((e.frame * 4096 - ram_base) / block_size)))
     filled.right filled.write
 
@@ -167,7 +167,7 @@ module _ (space : Shadow) (memory : List ℕ) (tidy : IsTidy space memory) where
   can : (page : ℕ) (e : Entry) → entry_at page space.entries ≡ Some e → CanFill space.part.blocks e × (e.page ≡ page)
   can page e found = found_has (CanFill space.part.blocks) page space.entries e tidy.is.fill found
 
-  leaf_end_of : (page : ℕ) (access : Access) → entry_next 0 access (table_entry (leaves space.part.blocks space.entries page)) ≡ Ends (leaf_end space.part.blocks access (entry_at page space.entries))
+  leaf_end_of : (page : ℕ) (access : Access) → entry_next 0 access (pte_of (leaves space.part.blocks space.entries page)) ≡ Ends (leaf_end space.part.blocks access (entry_at page space.entries))
   unfolding leaves
   leaf_end_of page access = leaf_is_end space.part.blocks access (entry_at page space.entries) tidy.is.small.blocks (λ e found. (can page e found).0)
 
@@ -192,7 +192,7 @@ module _ (space : Shadow) (memory : List ℕ) (tidy : IsTidy space memory) where
       by : (va < 2 ^ 41) ⊎ (2 ^ 41 ≤ va) → walk reading (root_of space) Sv39x4 va access ≡ leaf_end space.part.blocks access (entry_at (va / 4096) space.entries)
       by (inl low) =
           walk_starts reading (root_of space) Sv39x4 va access (lt-ltb va (2 ^ 41) low)
-          ∙ folds (tables_in space.part space.index) (built (tables_in space.part space.index) space.entries).tree (word memory) (leaves space.part.blocks space.entries)
+          ∙ folds (tables_in space.part space.index) (built (tables_in space.part space.index) space.entries).tree (doubleword_at memory) (leaves space.part.blocks space.entries)
           tidy.stands.sound tidy.stands.says small_frames reading (reads_words (tables_in space.part space.index) memory reading reads) va access
           (leaf_end space.part.blocks access (entry_at (va / 4096) space.entries)) (leaf_end_of (va / 4096) access) low
       by (inr high) =
@@ -200,11 +200,11 @@ module _ (space : Shadow) (memory : List ℕ) (tidy : IsTidy space memory) where
           ∙ sym (ap (leaf_end space.part.blocks access) (no_entry va high))
 
   -- the leaf of an entry
-  leaf_has : (page : ℕ) (e : Entry) → entry_at page space.entries ≡ Some e → (table_entry (leaves space.part.blocks space.entries page) ≡ leaf_parts space.part.blocks e) × (leaves space.part.blocks space.entries page ≢ 0)
+  leaf_has : (page : ℕ) (e : Entry) → entry_at page space.entries ≡ Some e → (pte_of (leaves space.part.blocks space.entries page) ≡ leaf_parts space.part.blocks e) × (leaves space.part.blocks space.entries page ≢ 0)
   unfolding leaves
   leaf_has page e found = (
-    ap (λ o. table_entry (leaf_if space.part.blocks o)) found
-        ∙ parts_of (host_frame space.part.blocks e.frame) e.r e.w e.x (small_place (slice_index space.part.blocks ((e.frame * 4096 - ram_base) / block_size)) (e.frame * 4096 - ram_base) (tidy.is.small.blocks ((e.frame * 4096 - ram_base) / block_size))),
+    ap (λ o. pte_of (leaf_if space.part.blocks o)) found
+        ∙ parts_of (frame_of_ram space.part.blocks e.frame) e.r e.w e.x (small_place (slice_index space.part.blocks ((e.frame * 4096 - ram_base) / block_size)) (e.frame * 4096 - ram_base) (tidy.is.small.blocks ((e.frame * 4096 - ram_base) / block_size))),
     λ zero. leaf_some space.part.blocks e (ap (leaf_if space.part.blocks) (sym found) ∙ zero),
   )
 
@@ -217,7 +217,7 @@ module _ (space : Shadow) (memory : List ℕ) (tidy : IsTidy space memory) where
       let low : va < 2 ^ 41 = low_page va (omega (arith, page, filled.1)) in
       let has = leaf_has (va / 4096) e found in
       rw (lt-ltb va (2 ^ 41) low)
-      (last_is (tables_in space.part space.index) (built (tables_in space.part space.index) space.entries).tree (word memory) (leaves space.part.blocks space.entries)
+      (last_is (tables_in space.part space.index) (built (tables_in space.part space.index) space.entries).tree (doubleword_at memory) (leaves space.part.blocks space.entries)
       tidy.stands.sound tidy.stands.says small_frames reading (reads_words (tables_in space.part space.index) memory reading reads) va access
       (leaf_parts space.part.blocks e) has.0 has.1 low)
 
@@ -229,7 +229,7 @@ module _ (space : Shadow) (memory : List ℕ) (tidy : IsTidy space memory) where
       by : (va < 2 ^ 41) ⊎ (2 ^ 41 ≤ va) → LieWithin (own_frames space) (path reading (root_of space) Sv39x4 va access)
       by (inl low) =
           rw (lt-ltb va (2 ^ 41) low)
-          (inside_root (tables_in space.part space.index) (built (tables_in space.part space.index) space.entries).tree (word memory) (leaves space.part.blocks space.entries)
+          (inside_root (tables_in space.part space.index) (built (tables_in space.part space.index) space.entries).tree (doubleword_at memory) (leaves space.part.blocks space.entries)
           tidy.stands.sound tidy.stands.says small_frames reading (reads_words (tables_in space.part space.index) memory reading reads) va access low)
       by (inr high) = rw (le-ltb va (2 ^ 41) high) tt
 
@@ -253,9 +253,9 @@ new_shadow part index most entries once small own few room none =
     })
 
 -- the tables that were written are those of the space, by its fields or as it is seen
-pub placed_by_fields : (space shown : Shadow) (tables : Tables) (size : ℕ) → space ≡ shown → IsShadow space → LieIn (own_frames shown) size → tables ≡ tables_in space.part space.index → IsPlaced tables size
+pub placed_by_fields : (space shown : Shadow) (tables : Tables) (size : ℕ) → space ≡ shown → IsShadow space → LieIn (own_frames shown) size → tables ≡ tables_in space.part space.index → HasTables tables size
 placed_by_fields space shown tables size seen is lies same =
-    subst (λ t. IsPlaced t size) (sym same) (tables_placed space size is (subst (λ s. LieIn (own_frames s) size) (sym seen) lies))
+    subst (λ t. HasTables t size) (sym same) (tables_placed space size is (subst (λ s. LieIn (own_frames s) size) (sym seen) lies))
 
 pub apart_by_fields : (space : Shadow) (tables : Tables) → IsShadow space → tables ≡ tables_in space.part space.index → RootIsApart tables
 apart_by_fields space tables is same = subst RootIsApart (sym same) (tables_apart space is)

@@ -3,15 +3,15 @@ use Rattle.std.specs.Prelude.{ℕ, ◌≡◌, ◌/◌, ◌%◌, true, not, ◌&&
 use Rattle.arch_defs.specs.declared.cached.Entry.{Entry}
 use Rattle.arch_defs.specs.declared.modes.Access.{Access}
 use Rattle.arch_defs.specs.declared.walks.Shape.TheVariants.{Sv39x4}
-use Rattle.arch_defs.specs.declared.walks.TableEntry.{TableEntry}
+use Rattle.arch_defs.specs.declared.walks.Pte.{Pte}
 use Rattle.arch_defs.specs.declared.walks.WalkEnd.{WalkEnd}
 use Rattle.arch_defs.specs.declared.walks.WalkEnd.TheVariants.{Leaf, PageFault}
 use Rattle.arch_defs.specs.Frames.{Frames}
 use Rattle.arch_defs.specs.Memory.{load}
-use Rattle.arch_defs.specs.TableEntries.{needs_dirty, table_entry}
+use Rattle.arch_defs.specs.TableEntries.{needs_dirty, pte_of}
 use Rattle.arch_defs.specs.Walk.{EntryReading, Met, path, walk}
 use Rattle.arch_defs.specs.CachedEntries.{entry_at}
-use Rattle.shadow_space.specs.Shadows.{Shadow, host_frame, own_frames, root_of}
+use Rattle.shadow_space.specs.Shadows.{Shadow, frame_of_ram, own_frames, root_of}
 
 -- a reading of places gives the aligned doublewords of memory in these frames
 abbrev pub ReadsIn : Frames → List ℕ → EntryReading → Type 0
@@ -30,7 +30,7 @@ leaf_end blocks access None = PageFault
 leaf_end blocks access (Some e) =
     if needs_dirty access && not e.w then PageFault
     else Leaf (record {
-      frame = host_frame blocks e.frame;
+      frame = frame_of_ram blocks e.frame;
       level = 0;
       r = e.r;
       w = e.w;
@@ -40,7 +40,7 @@ leaf_end blocks access (Some e) =
 
 -- an entry's leaf in named parts: the frame is the host's, R and X are as the entry has them, W and D both as
 -- its w, and V, U and A are set
-abbrev pub leaf_parts : List ℕ → Entry → TableEntry
+abbrev pub leaf_parts : List ℕ → Entry → Pte
 leaf_parts blocks e = record {
   v = true;
   r = e.r;
@@ -50,13 +50,13 @@ leaf_parts blocks e = record {
   a = true;
   d = e.w;
   reserved = 0;
-  frame = host_frame blocks e.frame;
+  frame = frame_of_ram blocks e.frame;
 }
 
 -- the last of these entries is one of the last level, and reads so
-abbrev pub LastIs : TableEntry → List Met → Type 0
+abbrev pub LastIs : Pte → List Met → Type 0
 LastIs e [] = ⊥
-LastIs e (m ∷ []) = (m.level ≡ 0) × ((word : ℕ) × (m.read ≡ Ok word) × (table_entry word ≡ e))
+LastIs e (m ∷ []) = (m.level ≡ 0) × ((word : ℕ) × (m.read ≡ Ok word) × (pte_of word ≡ e))
 LastIs e (m ∷ (n ∷ ms)) = LastIs e (n ∷ ms)
 
 -- whatever reads the space's own frames as memory has them, the walk gives each address the leaf of its

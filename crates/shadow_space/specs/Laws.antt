@@ -1,6 +1,6 @@
 -- Laws of folded tables.
 use Rattle.std.specs.Prelude.{ℕ, ◌≡◌, ◌≢◌, ◌+◌, ◌-◌, ◌*◌, ◌%◌, ◌<◌, ◌&&◌, Bool, true, List, Some, None, length, nat_le, nat_lt, option_map}
-use Rattle.arch_defs.specs.declared.guest_walks.GuestWalkEnd.TheVariants.{GuestPageFault}
+use Rattle.arch_defs.specs.declared.second_walks.SecondWalkEnd.TheVariants.{GuestPageFault}
 use Rattle.arch_defs.specs.declared.modes.Access.{Access}
 use Rattle.arch_defs.specs.declared.registers.GuestMode.TheVariants as mode
 use Rattle.arch_defs.specs.declared.registers.GuestRoot.TheVariants as root
@@ -9,7 +9,7 @@ use Rattle.arch_defs.specs.Frames.{Apart, Frames, LieIn, Same, Within, in_blocks
 use Rattle.arch_defs.specs.Layouts.{Layout, host_frames, named_by, space_frames}
 use Rattle.arch_defs.specs.Memory.{ram_base, block_size, zeros}
 use Rattle.arch_defs.specs.Ram.{host_place}
-use Rattle.arch_defs.specs.SecondStage.{guest_walk, second_under}
+use Rattle.arch_defs.specs.SecondStage.{second_under, second_walk}
 use Rattle.arch_defs.specs.CachedEntries.{second_by}
 use Rattle.shadow_space.specs.Folding.{Folded}
 use Rattle.shadow_space.specs.Shadows.{AreZeros, Shadow, Tidy, own_frames, root_of}
@@ -33,11 +33,11 @@ GivesEntries = (space : Shadow) (memory : List ℕ) (mxr : Bool) (vmid address :
     (second_by space.entries mxr address access)
 
 -- and an access that the entries give no place is a guest-page fault, never an access fault
-abbrev pub LacksAreGuestPageFaults : Type 0
-LacksAreGuestPageFaults = (space : Shadow) (memory : List ℕ) (mxr : Bool) (address : ℕ) (access : Access)
+abbrev pub MissesAreGuestPageFaults : Type 0
+MissesAreGuestPageFaults = (space : Shadow) (memory : List ℕ) (mxr : Bool) (address : ℕ) (access : Access)
     → Tidy space memory → LieIn (in_blocks space.part.blocks) (length memory)
     → second_by space.entries mxr address access ≡ None
-    → guest_walk 0 memory mxr Sv39x4 (root_of space) address access ≡ GuestPageFault
+    → second_walk 0 memory mxr Sv39x4 (root_of space) address access ≡ GuestPageFault
 
 -- the places that the entries give are of the guest's RAM, with the offsets that the addresses have in pages
 abbrev pub EntriesGiveRam : Type 0

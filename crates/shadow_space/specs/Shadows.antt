@@ -9,7 +9,7 @@ use Rattle.arch_defs.specs.Ram.{host_place}
 use Rattle.shadow_space.specs.declared.writing.Tables.{Tables}
 use Rattle.arch_defs.specs.CachedEntries.{CanFill, HasOtherPage, entry_at}
 use Rattle.shadow_space.specs.Trees.{Build, Free, IsTree, Says, built, frames_of}
-use Rattle.shadow_space.specs.Words.{word}
+use Rattle.shadow_space.specs.Words.{doubleword_at}
 
 -- a space: the part of its guest, its number in it, at most how many entries it has, and these, oldest first
 pub record Shadow : Type 0 where
@@ -35,8 +35,8 @@ tables_in part index = record {
 }
 
 -- the frame of machine memory that a frame of RAM is
-abbrev pub host_frame : List ℕ → ℕ → ℕ
-host_frame blocks frame = host_place blocks (frame * 4096 - ram_base) / 4096
+abbrev pub frame_of_ram : List ℕ → ℕ → ℕ
+frame_of_ram blocks frame = host_place blocks (frame * 4096 - ram_base) / 4096
 
 -- bits where they are wanted
 abbrev pub flag : Bool → ℕ → ℕ
@@ -45,7 +45,8 @@ flag false bits = 0
 
 -- an entry's leaf: V, U and A are set, R, W and X as it permits, and D with W (4.4.1)
 abbrev pub leaf_word : List ℕ → Entry → ℕ
-leaf_word blocks e = host_frame blocks e.frame * 1024 + (0x51 + flag e.r 0x02 + flag e.w 0x84 + flag e.x 0x08)
+leaf_word blocks e =
+    frame_of_ram blocks e.frame * 1024 + (0x51 + flag e.r 0x02 + flag e.w 0x84 + flag e.x 0x08)
 
 abbrev pub leaf_if : List ℕ → Option Entry → ℕ
 leaf_if blocks None = 0
@@ -76,7 +77,7 @@ pub record IsShadow (space : Shadow) : Type 0 where
   pub pages : AllPairs HasOtherPage space.entries
 
 -- the tables lie in memory of so many bytes, and a pointer has room for the number of each frame
-pub record IsPlaced (tables : Tables) (size : ℕ) : Type 0 where
+pub record HasTables (tables : Tables) (size : ℕ) : Type 0 where
   pub lies : LieIn (frames_of tables) size
   pub root : tables.root + 4 < 2 ^ 44
   pub others : tables.first + tables.count < 2 ^ 44
@@ -84,7 +85,7 @@ pub record IsPlaced (tables : Tables) (size : ℕ) : Type 0 where
 -- memory has a tree with these leaves; the frames that are not used yet are free
 pub record Stands (tables : Tables) (b : Build) (leaf : ℕ → ℕ) (memory : List ℕ) : Type 0 where
   pub sound : IsTree tables b.tree
-  pub says : Says (word memory) tables b.tree leaf
+  pub says : Says (doubleword_at memory) tables b.tree leaf
   pub unused : (f : ℕ) → tables.first + b.used ≤ f → f < tables.first + tables.count → b.tree.content f ≡ Free
 
 -- the frames lie in memory, and have the tree of the space's entries

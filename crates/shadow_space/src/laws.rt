@@ -1,6 +1,6 @@
 // Laws of folded tables.
 
-ghost use Rattle.shadow_space.specs.Laws.{EntriesGiveRam, GivesEntries, HostFramesAreApart, LacksAreGuestPageFaults, RamIsApart, SpacesAreApart, SpacesLieWithin, TidyIsFolded, TidyLasts, UntouchedAreZeros};
+ghost use Rattle.shadow_space.specs.Laws.{EntriesGiveRam, GivesEntries, HostFramesAreApart, MissesAreGuestPageFaults, RamIsApart, SpacesAreApart, SpacesLieWithin, TidyIsFolded, TidyLasts, UntouchedAreZeros};
 
 use arch_defs::Part;
 
@@ -19,7 +19,7 @@ pub fn tidy_is_folded()
 /// a guest-page fault. What the entries give is in the guest's RAM.
 pub fn gives_entries()
     ensures places { GivesEntries }
-    ensures faults { LacksAreGuestPageFaults }
+    ensures faults { MissesAreGuestPageFaults }
     ensures ram { EntriesGiveRam }
 {}
 

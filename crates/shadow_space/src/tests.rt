@@ -5,7 +5,7 @@ ghost use Rattle.arch_defs.specs.SecondStage.{memory_words};
 ghost use Rattle.shadow_space.specs.Shadows.{Tidy};
 
 use crate::{Entry, MOST_ENTRIES, Part, PhysMem, Space};
-use arch_defs::{Access, LOAD_ACCESS_FAULT, LeafEntry, Shape, TABLES_PER_ENTRY, Trap, WalkEnd};
+use arch_defs::{Access, LOAD_ACCESS_FAULT, LeafPte, Shape, TABLES_PER_ENTRY, Trap, WalkEnd};
 use phys_mem::Mem;
 use stage_walk::{Fetch, walk};
 use std::alloc::{AllocError, Global};
@@ -146,8 +146,8 @@ fn frame_of(mem: &PhysMem, page: u64) -> Option<u64>
 }
 
 // Page 80005 is in the table of level 0 of the pages from 80000 on, in that of level 1 at entry 0, and in
-// the root at entry 2. Frame 80003 is the fourth of block 5, which is frame 5 * 512 + 3 of machine memory. The
-// leaf has V, R, X, U and A.
+// the root at entry 2. Frame 80003 is the fourth of block 5, which is frame 5 * 512 + 3 of machine memory.
+// The leaf has V, R, X, U and A.
 #[test]
 fn a_filled_page(rt: HostRuntime) {
     let part = part(16);
@@ -173,7 +173,7 @@ fn a_filled_page(rt: HostRuntime) {
             assert_eq!(rt; mem.get(at, 8), Some(word), "{at:X}");
         }
     }
-    let leaf = LeafEntry {
+    let leaf = LeafPte {
         frame: 2563,
         level: 0,
         r: true,
@@ -271,7 +271,7 @@ fn a_clean_page(rt: HostRuntime) {
         0x7008,
         Access::Store,
     );
-    let leaf = LeafEntry {
+    let leaf = LeafPte {
         frame: 2560,
         level: 0,
         r: true,

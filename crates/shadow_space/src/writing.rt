@@ -6,8 +6,8 @@ ghost use Rattle.arch_defs.specs.Frames.{Only};
 ghost use Rattle.arch_defs.specs.CachedEntries.{CanFill, HasOtherPage};
 ghost use Rattle.arch_defs.specs.Memory.{pasted, zeros};
 ghost use Rattle.shadow_space.specs.Trees.{RootIsApart, built, frames_of};
-ghost use Rattle.shadow_space.specs.Shadows.{AreZeros, IsPlaced, Stands, flag, leaf_word, leaves};
-ghost use Rattle.shadow_space.specs.Words.{below, linked, used_with, with_word, word};
+ghost use Rattle.shadow_space.specs.Shadows.{AreZeros, HasTables, Stands, flag, leaf_word, leaves};
+ghost use Rattle.shadow_space.specs.Words.{below, doubleword_at, linked, used_with, with_word};
 
 use arch_defs::{Entry, FRAME_SIZE, Part};
 use phys_mem::{PhysMem, RAM_BASE};
@@ -54,10 +54,10 @@ fn leaf_word(part: &Part, entry: &Entry) -> u64
 }
 
 // The doubleword with this number.
-fn word(mem: &PhysMem, i: u64) -> u64
+fn doubleword_at(mem: &PhysMem, i: u64) -> u64
     requires inside { 8 * i + 8 ≤ length mem.now }
     requires small { i < 2 ^ 60 }
-    ensures { result ≡ word mem.now i }
+    ensures { result ≡ doubleword_at mem.now i }
 {
     mem.load(8 * i, 8)
 }
@@ -88,7 +88,7 @@ fn table_at(mem: &mut PhysMem, i: u64, fresh: u64, used: u64) -> Found
     ensures frame { result.frame ≡ below mem.old i fresh }
     ensures used { result.used ≡ used_with mem.old i used }
 {
-    let pointer = word(mem, i);
+    let pointer = doubleword_at(mem, i);
     if pointer != 0 {
         return Found {
             frame: pointer / 1024,
@@ -104,7 +104,7 @@ fn table_at(mem: &mut PhysMem, i: u64, fresh: u64, used: u64) -> Found
 
 // Fills the tables with zeros.
 fn clear(mem: &mut PhysMem, tables: &Tables)
-    requires { IsPlaced tables.now (length mem.old) }
+    requires { HasTables tables.now (length mem.old) }
     ensures zeros { AreZeros (frames_of tables.now) mem.new }
     ensures only { Only (frames_of tables.now) mem.old mem.new }
 {
@@ -132,7 +132,7 @@ fn insert(
     i: usize,
     used: u64,
 ) -> u64
-    requires placed { IsPlaced tables.now (length mem.old) }
+    requires placed { HasTables tables.now (length mem.old) }
     requires room { 2 * length entries.now ≤ tables.now.count }
     requires fill { All (CanFill part.now.blocks) entries.now }
     requires pages { AllPairs HasOtherPage entries.now }
@@ -158,7 +158,7 @@ fn insert(
 
 /// Writes the tables of these entries over what was in their frames.
 pub fn rebuild(mem: &mut PhysMem, part: &Part, tables: &Tables, entries: &[Entry])
-    requires placed { IsPlaced tables.now (length mem.old) }
+    requires placed { HasTables tables.now (length mem.old) }
     requires apart { RootIsApart tables.now }
     requires room { 2 * length entries.now ≤ tables.now.count }
     requires fill { All (CanFill part.now.blocks) entries.now }

@@ -5,14 +5,14 @@ use Rattle.arch_defs.specs.declared.modes.Access.{Access}
 use Rattle.arch_defs.specs.declared.modes.Trap.{Trap}
 use Rattle.arch_defs.specs.declared.walks.Shape.{Shape}
 use Rattle.arch_defs.specs.declared.walks.Shape.TheVariants.{Sv39, Sv39x4}
-use Rattle.arch_defs.specs.declared.walks.TableEntry.{TableEntry}
+use Rattle.arch_defs.specs.declared.walks.Pte.{Pte}
 use Rattle.arch_defs.specs.declared.walks.WalkEnd.TheVariants.{Leaf, PageFault}
 use Rattle.arch_defs.specs.declared.walks.Next.{Next}
 use Rattle.arch_defs.specs.declared.walks.Next.TheVariants.{Ends, Below}
-use Rattle.arch_defs.specs.TableEntries.{table_entry, is_valid, is_leaf, is_aligned, is_marked, leaf_entry, pointer_next, entry_next}
+use Rattle.arch_defs.specs.TableEntries.{pte_of, is_valid, is_leaf, is_aligned, is_marked, leaf_pte, pointer_next, entry_next}
 use Rattle.arch_defs.specs.Walk.{EntryReading, levels, is_canonical, place_of, index, index_bits, Met, met_in, read_next, next_of, later, path_from, path, end_of, walk}
 use Rattle.stage_walk.specs.ByLevels.{walk_from}
-use Rattle.stage_walk.specs.Laws.{SameOn, PathsAlike, WalksAlike, GoesOn, IsLinked, PathIsLinked, LinkedIsPath, EndsByLevels, LiesInTable, AllAligned, PlacesAligned}
+use Rattle.stage_walk.specs.Laws.{SameOn, PathsAlike, WalksAlike, GoesToNext, IsLinked, PathIsLinked, LinkedIsPath, EndsByLevels, LiesInTable, AllAligned, PlacesAligned}
 use Rattle.stage_walk.proofs.Levels.{walk_starts, walk_refused}
 
 -- readings that agree on the entries met from a table on meet the same
@@ -43,7 +43,7 @@ unfolding walk
 walks_alike reading other root shape va access same = ap (end_of access) (paths_alike reading other root shape va access same)
 
 -- an entry at the last level ends the walk
-pointer_ends : (e : TableEntry) (below : ℕ) → pointer_next 0 e ≢ Below below
+pointer_ends : (e : Pte) (below : ℕ) → pointer_next 0 e ≢ Below below
 pointer_ends e below says = by (e.a) (e.d) (e.u) says
   where
     by : (a d u : Bool) → (if a || d || u || true then Ends PageFault else Below e.frame) ≢ Below below
@@ -58,11 +58,11 @@ last_ends place access (Err trap) below = λ says. cc
 last_ends place access (Ok word) below =
     by (is_valid e) (is_leaf e) (is_aligned 0 e.frame && is_marked access e)
   where
-    e : TableEntry
-    e = table_entry word
+    e : Pte
+    e = pte_of word
 
     by : (valid leaf fine : Bool)
-        → (if valid then (if leaf then (if fine then Ends (Leaf (leaf_entry 0 e)) else Ends PageFault) else pointer_next 0 e) else Ends PageFault) ≢ Below below
+        → (if valid then (if leaf then (if fine then Ends (Leaf (leaf_pte 0 e)) else Ends PageFault) else pointer_next 0 e) else Ends PageFault) ≢ Below below
     by true true true = λ says. cc
     by true true false = λ says. cc
     by true false fine = pointer_ends e below
@@ -76,14 +76,14 @@ linked_from reading shape va access zero table =
     (refl, by (next_of access (met_in reading shape va 0 table)) (last_ends (place_of shape 0 table va) access (reading (place_of shape 0 table va))))
   where
     by : (next : Next) → ((below : ℕ) → next ≢ Below below)
-        → GoesOn (IsLinked reading shape va access (0 - 1) (later (path_from reading shape va access 0) next)) next (later (path_from reading shape va access 0) next)
+        → GoesToNext (IsLinked reading shape va access (0 - 1) (later (path_from reading shape va access 0) next)) next (later (path_from reading shape va access 0) next)
     by (Ends end) none = refl
     by (Below below) none = absurd (none below refl)
 linked_from reading shape va access (suc level) table =
     (refl, by (linked_from reading shape va access level) (next_of access (met_in reading shape va (suc level) table)))
   where
     by : ((below : ℕ) → IsLinked reading shape va access level (path_from reading shape va access (suc level) below) below) → (next : Next)
-        → GoesOn (IsLinked reading shape va access (suc level - 1) (later (path_from reading shape va access (suc level)) next)) next
+        → GoesToNext (IsLinked reading shape va access (suc level - 1) (later (path_from reading shape va access (suc level)) next)) next
         (later (path_from reading shape va access (suc level)) next)
     by below_too (Ends end) = refl
     by below_too (Below below) = let same : suc level - 1 ≡ level = omega arith in rw same (below_too below)
@@ -104,19 +104,19 @@ only_linked reading shape va access [] level table linked = absurd linked
 only_linked reading shape va access (m ∷ ms) zero table (is, goes) =
     rw is (ap (λ ms. met_in reading shape va 0 table ∷ ms)
     (by (next_of access (met_in reading shape va 0 table)) (last_ends (place_of shape 0 table va) access (reading (place_of shape 0 table va)))
-    (subst (λ m. GoesOn (IsLinked reading shape va access (0 - 1) ms) (next_of access m) ms) is goes)))
+    (subst (λ m. GoesToNext (IsLinked reading shape va access (0 - 1) ms) (next_of access m) ms) is goes)))
   where
-    by : (next : Next) → ((below : ℕ) → next ≢ Below below) → GoesOn (IsLinked reading shape va access (0 - 1) ms) next ms
+    by : (next : Next) → ((below : ℕ) → next ≢ Below below) → GoesToNext (IsLinked reading shape va access (0 - 1) ms) next ms
         → ms ≡ later (path_from reading shape va access 0) next
     by (Ends end) none goes = goes
     by (Below below) none goes = absurd (none below refl)
 only_linked reading shape va access (m ∷ ms) (suc level) table (is, goes) =
     rw is (ap (λ ms. met_in reading shape va (suc level) table ∷ ms)
     (by (only_linked reading shape va access ms level) (next_of access (met_in reading shape va (suc level) table))
-    (subst (λ m. GoesOn (IsLinked reading shape va access (suc level - 1) ms) (next_of access m) ms) is goes)))
+    (subst (λ m. GoesToNext (IsLinked reading shape va access (suc level - 1) ms) (next_of access m) ms) is goes)))
   where
     by : ((below : ℕ) → IsLinked reading shape va access level ms below → ms ≡ path_from reading shape va access (suc level) below) → (next : Next)
-        → GoesOn (IsLinked reading shape va access (suc level - 1) ms) next ms → ms ≡ later (path_from reading shape va access (suc level)) next
+        → GoesToNext (IsLinked reading shape va access (suc level - 1) ms) next ms → ms ≡ later (path_from reading shape va access (suc level)) next
     by below_too (Ends end) goes = goes
     by below_too (Below below) goes = let same : suc level - 1 ≡ level = omega arith in below_too below (rw same at goes)
 

@@ -3,13 +3,13 @@ use Rattle.std.proofs.Common.{◌≡◌, ◌≢◌, ℕ, zero, suc, ◌+◌, ◌
 use Rattle.arch_defs.specs.declared.modes.Access.{Access}
 use Rattle.arch_defs.specs.declared.modes.Trap.{Trap}
 use Rattle.arch_defs.specs.declared.walks.Shape.{Shape}
-use Rattle.arch_defs.specs.declared.walks.TableEntry.{TableEntry}
-use Rattle.arch_defs.specs.declared.walks.LeafEntry.{LeafEntry}
+use Rattle.arch_defs.specs.declared.walks.Pte.{Pte}
+use Rattle.arch_defs.specs.declared.walks.LeafPte.{LeafPte}
 use Rattle.arch_defs.specs.declared.walks.WalkEnd.TheVariants.{Leaf, PageFault}
 use Rattle.arch_defs.specs.declared.walks.Next.{Next}
 use Rattle.arch_defs.specs.declared.walks.Next.TheVariants.{Ends, Below}
 use Rattle.arch_defs.specs.Bits.{field}
-use Rattle.arch_defs.specs.TableEntries.{table_entry, is_valid, is_leaf, is_aligned, is_marked, span, leaf_entry, pointer_next, entry_next}
+use Rattle.arch_defs.specs.TableEntries.{pte_of, is_valid, is_leaf, is_aligned, is_marked, span, leaf_pte, pointer_next, entry_next}
 use Rattle.arch_defs.specs.Walk.{EntryReading, levels, most_levels, is_canonical, place_of, Met, met_in, read_next, next_of, later, path_from, path, or_else, end_of, walk}
 use Rattle.arch_defs.proofs.Shapes.{few_levels}
 use Rattle.stage_walk.specs.Laws.{HasValid, AllValid, EntriesValid, IsTranslated, IsLeafOf, LastIsLeaf, LeafAddress}
@@ -36,7 +36,7 @@ valid_from reading shape va access (suc level) table fine =
         → or_else (end_of access (later from (read_next level (place_of shape level table va) access read))) (read_next level (place_of shape level table va) access read) ≢ PageFault
         → HasValid read × AllValid (later from (read_next level (place_of shape level table va) access read))
     by below_too (Err trap) fine = (tt, tt)
-    by below_too (Ok word) fine = by_word below_too (is_valid (table_entry word)) _ fine
+    by below_too (Ok word) fine = by_word below_too (is_valid (pte_of word)) _ fine
 
 pub entries_valid : EntriesValid
 unfolding walk path end_of
@@ -76,7 +76,7 @@ translated (suc (suc zero)) frame va small aligned = record {
 translated (suc (suc (suc level))) frame va small aligned = absurd (omega arith)
 
 -- a pointer is no leaf
-pointer_leafless : (level : ℕ) (e : TableEntry) (leaf : LeafEntry) → pointer_next level e ≢ Ends (Leaf leaf)
+pointer_leafless : (level : ℕ) (e : Pte) (leaf : LeafPte) → pointer_next level e ≢ Ends (Leaf leaf)
 pointer_leafless level e leaf = by (e.a || e.d || e.u || level == 0)
   where
     by : (wrong : Bool) → (if wrong then Ends PageFault else Below e.frame) ≢ Ends (Leaf leaf)
@@ -84,39 +84,39 @@ pointer_leafless level e leaf = by (e.a || e.d || e.u || level == 0)
     by false = λ says. cc
 
 -- a leaf comes from the entry that says so
-leaf_read : (level place va : ℕ) (access : Access) (read : Result ℕ Trap) (leaf : LeafEntry) → level < most_levels → read_next level place access read ≡ Ends (Leaf leaf)
+leaf_read : (level place va : ℕ) (access : Access) (read : Result ℕ Trap) (leaf : LeafPte) → level < most_levels → read_next level place access read ≡ Ends (Leaf leaf)
     → IsLeafOf leaf va (record { level = level; place = place; read = read })
 unfolding entry_next
 leaf_read level place va access (Err trap) leaf small says = absurd cc
 leaf_read level place va access (Ok word) leaf small says =
     by (is_valid e) (is_leaf e) (is_aligned level e.frame) (is_marked access e) refl says
   where
-    e : TableEntry
-    e = table_entry word
+    e : Pte
+    e = pte_of word
 
     m : Met
     m = record { level = level; place = place; read = Ok word }
 
-    from : leaf_entry level e ≡ leaf → e.frame % span level ≡ 0
+    from : leaf_pte level e ≡ leaf → e.frame % span level ≡ 0
         → IsLeafOf leaf va m
     from same aligned =
         subst (λ leaf. IsLeafOf leaf va m) same
         (word, refl, refl, translated level e.frame va small aligned)
 
     by : (valid leafy aligned marked : Bool) → is_aligned level e.frame ≡ aligned
-        → (if valid then (if leafy then (if aligned && marked then Ends (Leaf (leaf_entry level e)) else Ends PageFault) else pointer_next level e) else Ends PageFault) ≡ Ends (Leaf leaf)
+        → (if valid then (if leafy then (if aligned && marked then Ends (Leaf (leaf_pte level e)) else Ends PageFault) else pointer_next level e) else Ends PageFault) ≡ Ends (Leaf leaf)
         → IsLeafOf leaf va m
-    by true true true true is says = let same : leaf_entry level e ≡ leaf = cc in from same (grind (arith, is))
+    by true true true true is says = let same : leaf_pte level e ≡ leaf = cc in from same (grind (arith, is))
     by true true true false is says = absurd cc
     by true true false marked is says = absurd cc
     by true false aligned marked is says = absurd (pointer_leafless level e leaf says)
     by false leafy aligned marked is says = absurd cc
 
-last_later : (leaf : LeafEntry) (va : ℕ) (m : Met) (ms : List Met) → LastIsLeaf leaf va ms → LastIsLeaf leaf va (m ∷ ms)
+last_later : (leaf : LeafPte) (va : ℕ) (m : Met) (ms : List Met) → LastIsLeaf leaf va ms → LastIsLeaf leaf va (m ∷ ms)
 last_later leaf va m [] last = absurd last
 last_later leaf va m (n ∷ ms) last = last
 
-leaf_from : (reading : EntryReading) (shape : Shape) (va : ℕ) (access : Access) (leaf : LeafEntry) (level table : ℕ) → level ≤ most_levels
+leaf_from : (reading : EntryReading) (shape : Shape) (va : ℕ) (access : Access) (leaf : LeafPte) (level table : ℕ) → level ≤ most_levels
     → end_of access (path_from reading shape va access level table) ≡ Leaf leaf → LastIsLeaf leaf va (path_from reading shape va access level table)
 unfolding path_from end_of
 leaf_from reading shape va access leaf zero table few ends = absurd cc

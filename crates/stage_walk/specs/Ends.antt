@@ -1,6 +1,6 @@
 -- The numbers in a walk's end.
 use Rattle.std.specs.Prelude.{ℕ, ◌≡◌, ◌%◌, ◌^◌, ◌<◌}
-use Rattle.arch_defs.specs.declared.walks.LeafEntry.{LeafEntry}
+use Rattle.arch_defs.specs.declared.walks.LeafPte.{LeafPte}
 use Rattle.arch_defs.specs.declared.walks.WalkEnd.{WalkEnd}
 use Rattle.arch_defs.specs.declared.walks.WalkEnd.TheVariants.{Leaf, PageFault, FetchEnd}
 use Rattle.arch_defs.specs.declared.walks.Next.{Next}
@@ -8,7 +8,7 @@ use Rattle.arch_defs.specs.declared.walks.Next.TheVariants.{Ends, Below}
 use Rattle.arch_defs.specs.TableEntries.{span}
 
 -- a leaf's frame is a physical page number and the first of its page, and its level is one of so many
-pub record LeafFits (levels : ℕ) (leaf : LeafEntry) : Type 0 where
+pub record LeafFits (levels : ℕ) (leaf : LeafPte) : Type 0 where
   pub frame : leaf.frame < 2 ^ 44
   pub level : leaf.level < levels
   pub aligned : leaf.frame % span leaf.level ≡ 0

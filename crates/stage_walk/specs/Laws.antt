@@ -3,12 +3,12 @@ use Rattle.std.specs.Prelude.{ℕ, ◌≡◌, ◌≢◌, ◌+◌, ◌-◌, ◌*�
 use Rattle.arch_defs.specs.declared.modes.Access.{Access}
 use Rattle.arch_defs.specs.declared.modes.Trap.{Trap}
 use Rattle.arch_defs.specs.declared.walks.Shape.{Shape}
-use Rattle.arch_defs.specs.declared.walks.LeafEntry.{LeafEntry}
+use Rattle.arch_defs.specs.declared.walks.LeafPte.{LeafPte}
 use Rattle.arch_defs.specs.declared.walks.WalkEnd.TheVariants.{Leaf, PageFault}
 use Rattle.arch_defs.specs.declared.walks.Next.{Next}
 use Rattle.arch_defs.specs.declared.walks.Next.TheVariants.{Ends, Below}
 use Rattle.arch_defs.specs.Bits.{field}
-use Rattle.arch_defs.specs.TableEntries.{table_entry, is_valid}
+use Rattle.arch_defs.specs.TableEntries.{pte_of, is_valid}
 use Rattle.arch_defs.specs.Walk.{EntryReading, levels, table_size, is_canonical, place_of, Met, met_in, next_of, path, walk, leaf_address}
 use Rattle.stage_walk.specs.ByLevels.{walk_from}
 
@@ -29,16 +29,16 @@ WalksAlike = (reading other : EntryReading) (root : ℕ) (shape : Shape) (va : �
     → walk other root shape va access ≡ walk reading root shape va access
 
 -- after an entry that ends the walk there is none, and else the table that it names is next
-abbrev pub GoesOn : (ℕ → Type 0) → Next → List Met → Type 0
-GoesOn from (Ends end) ms = ms ≡ []
-GoesOn from (Below table) ms = from table
+abbrev pub GoesToNext : (ℕ → Type 0) → Next → List Met → Type 0
+GoesToNext from (Ends end) ms = ms ≡ []
+GoesToNext from (Below table) ms = from table
 
 -- a list of entries, each at the place that the one before names, up to the first that ends the walk
 abbrev pub IsLinked : EntryReading → Shape → ℕ → Access → ℕ → List Met → ℕ → Type 0
 IsLinked reading shape va access level [] table = ⊥
 IsLinked reading shape va access level (m ∷ ms) table =
     (m ≡ met_in reading shape va level table)
-    × GoesOn (IsLinked reading shape va access (level - 1) ms) (next_of access m) ms
+    × GoesToNext (IsLinked reading shape va access (level - 1) ms) (next_of access m) ms
 
 -- the entries met are such a list from the root on, and the only one
 abbrev pub PathIsLinked : Type 0
@@ -74,7 +74,7 @@ PlacesAligned = (reading : EntryReading) (root : ℕ) (shape : Shape) (va : ℕ)
 
 -- an entry that was read is valid
 abbrev pub HasValid : Result ℕ Trap → Type 0
-HasValid (Ok word) = is_valid (table_entry word) ≡ true
+HasValid (Ok word) = is_valid (pte_of word) ≡ true
 HasValid (Err trap) = Unit {0}
 
 abbrev pub AllValid : List Met → Type 0
@@ -95,11 +95,11 @@ pub record IsTranslated (level frame va pa : ℕ) : Type 0 where
   pub high : pa / 2 ^ (12 + 9 * level) ≡ frame / 2 ^ (9 * level)
 
 -- a leaf comes from an entry that was read at its level
-abbrev pub IsLeafOf : LeafEntry → ℕ → Met → Type 0
+abbrev pub IsLeafOf : LeafPte → ℕ → Met → Type 0
 IsLeafOf leaf va m = (word : ℕ) × (m.read ≡ Ok word) × (m.level ≡ leaf.level)
-    × IsTranslated leaf.level (table_entry word).frame va (leaf_address leaf va)
+    × IsTranslated leaf.level (pte_of word).frame va (leaf_address leaf va)
 
-abbrev pub LastIsLeaf : LeafEntry → ℕ → List Met → Type 0
+abbrev pub LastIsLeaf : LeafPte → ℕ → List Met → Type 0
 LastIsLeaf leaf va [] = ⊥
 LastIsLeaf leaf va (m ∷ []) = IsLeafOf leaf va m
 LastIsLeaf leaf va (m ∷ (n ∷ ms)) = LastIsLeaf leaf va (n ∷ ms)
@@ -107,5 +107,5 @@ LastIsLeaf leaf va (m ∷ (n ∷ ms)) = LastIsLeaf leaf va (n ∷ ms)
 -- the address under a walk's leaf is the one that the standard's formula makes of the last entry met
 abbrev pub LeafAddress : Type 0
 LeafAddress = (reading : EntryReading) (root : ℕ) (shape : Shape) (va : ℕ) (access : Access)
-    (leaf : LeafEntry)
+    (leaf : LeafPte)
     → walk reading root shape va access ≡ Leaf leaf → LastIsLeaf leaf va (path reading root shape va access)

@@ -2,11 +2,11 @@
 
 ghost use Rattle.std.specs.Prelude.{⊤, ◌≡◌, ◌+◌, ◌<◌, ◌^◌, ◌==◌, [], ◌∷◌, codes};
 ghost use Rattle.std.specs.Int.RustNames.{bit_and};
-ghost use Rattle.arch_defs.specs.TableEntries.{table_entry, is_valid, is_leaf, is_aligned, is_marked, needs_dirty, leaf_next, pointer_next, entry_next};
+ghost use Rattle.arch_defs.specs.TableEntries.{pte_of, is_valid, is_leaf, is_aligned, is_marked, needs_dirty, leaf_next, pointer_next, entry_next};
 ghost use Rattle.arch_defs.specs.Walk.{most_levels};
 ghost use Rattle.stage_walk.specs.Ends.{NextFits};
 
-use arch_defs::{Access, LeafEntry, Next, TableEntry, WalkEnd};
+use arch_defs::{Access, LeafPte, Next, Pte, WalkEnd};
 use bitflags::{Flag, Flags, bitflag_items};
 
 /// The bits of an entry that have names (Privileged Architecture 20211203, 4.3.1).
@@ -50,13 +50,13 @@ impl Flags for EntryBits {
 }
 
 /// An entry in named parts.
-#[tactic(auto, using(crate::proofs::Flag::flags), unfolding(arch_defs::specs::TableEntries::table_entry))]
-pub fn table_entry(word: u64) -> TableEntry
-    ensures value { result ≡ table_entry word }
+#[tactic(auto, using(crate::proofs::Flag::flags), unfolding(arch_defs::specs::TableEntries::pte_of))]
+pub fn pte_of(word: u64) -> Pte
+    ensures value { result ≡ pte_of word }
     ensures frame { result.frame < 2 ^ 44 }
 {
     let bits = EntryBits::from_bits_retain(word);
-    TableEntry {
+    Pte {
         v: bits.contains(EntryBits::V),
         r: bits.contains(EntryBits::R),
         w: bits.contains(EntryBits::W),
@@ -70,7 +70,7 @@ pub fn table_entry(word: u64) -> TableEntry
 }
 
 /// Whether the entry is one at all: V, no W without R, and no reserved bit.
-fn is_valid(entry: &TableEntry) -> bool
+fn is_valid(entry: &Pte) -> bool
     ensures { result ≡ is_valid entry.now }
 {
     entry.v && !(entry.w && !entry.r) && entry.reserved == 0
@@ -89,7 +89,7 @@ fn is_aligned(level: u8, frame: u64) -> bool
 }
 
 /// Whether a leaf has A, and D for a store. The walker never writes them.
-fn is_marked(access: Access, entry: &TableEntry) -> bool
+fn is_marked(access: Access, entry: &Pte) -> bool
     ensures { result ≡ is_marked access entry.now }
 {
     match access {
@@ -99,7 +99,7 @@ fn is_marked(access: Access, entry: &TableEntry) -> bool
 }
 
 /// What a leaf says.
-fn leaf_next(level: u8, access: Access, entry: &TableEntry) -> Next
+fn leaf_next(level: u8, access: Access, entry: &Pte) -> Next
     requires level { level < most_levels }
     requires frame { entry.now.frame < 2 ^ 44 }
     ensures value { result ≡ leaf_next level access entry.now }
@@ -108,7 +108,7 @@ fn leaf_next(level: u8, access: Access, entry: &TableEntry) -> Next
     if !is_aligned(level, entry.frame) || !is_marked(access, entry) {
         return Next::Ends(WalkEnd::PageFault);
     }
-    Next::Ends(WalkEnd::Leaf(LeafEntry {
+    Next::Ends(WalkEnd::Leaf(LeafPte {
         frame: entry.frame,
         level,
         r: entry.r,
@@ -119,7 +119,7 @@ fn leaf_next(level: u8, access: Access, entry: &TableEntry) -> Next
 }
 
 /// What a pointer says.
-fn pointer_next(level: u8, entry: &TableEntry) -> Next
+fn pointer_next(level: u8, entry: &Pte) -> Next
     requires { entry.now.frame < 2 ^ 44 }
     ensures value { result ≡ pointer_next level entry.now }
     ensures fits { NextFits (level + 1) result }
@@ -133,7 +133,7 @@ fn pointer_next(level: u8, entry: &TableEntry) -> Next
 
 /// What an entry that is met at a level says to the walk.
 #[tactic(auto, unfolding(arch_defs::specs::TableEntries::entry_next))]
-pub fn entry_next(level: u8, access: Access, entry: &TableEntry) -> Next
+pub fn entry_next(level: u8, access: Access, entry: &Pte) -> Next
     requires level { level < most_levels }
     requires frame { entry.now.frame < 2 ^ 44 }
     ensures value { result ≡ entry_next level access entry.now }

@@ -10,7 +10,7 @@ mod places;
 mod tests;
 mod walking;
 
-pub use arch_defs::{LeafEntry, Privilege, Shape, WalkEnd};
+pub use arch_defs::{LeafPte, Privilege, Shape, WalkEnd};
 pub use fetching::Fetch;
 pub use laws::{
     entries_are_valid, entries_met_are_linked, leaf_has_the_standard_address,

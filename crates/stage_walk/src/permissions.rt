@@ -3,10 +3,10 @@
 ghost use Rattle.std.specs.Prelude.{◌≡◌};
 ghost use Rattle.arch_defs.specs.Permits.{has_right, may_touch_user_page, permits_first, permits_second};
 
-use arch_defs::{Access, LeafEntry, Privilege};
+use arch_defs::{Access, LeafPte, Privilege};
 
 /// Whether a leaf has the right that an access needs.
-fn has_right(mxr: bool, access: Access, leaf: &LeafEntry) -> bool
+fn has_right(mxr: bool, access: Access, leaf: &LeafPte) -> bool
     ensures { result ≡ has_right mxr access leaf.now }
 {
     match access {
@@ -29,7 +29,7 @@ fn may_touch_user_page(sum: bool, access: Access) -> bool
 
 /// Whether a leaf of the first stage permits an access.
 #[tactic(auto, unfolding(arch_defs::specs::Permits::permits_first))]
-pub fn permits_first(privilege: Privilege, access: Access, leaf: &LeafEntry) -> bool
+pub fn permits_first(privilege: Privilege, access: Access, leaf: &LeafPte) -> bool
     ensures { result ≡ permits_first privilege access leaf.now }
 {
     if leaf.u {
@@ -42,7 +42,7 @@ pub fn permits_first(privilege: Privilege, access: Access, leaf: &LeafEntry) -> 
 
 /// Whether a leaf of the second stage permits an access.
 #[tactic(auto, unfolding(arch_defs::specs::Permits::permits_second))]
-pub fn permits_second(mxr: bool, access: Access, leaf: &LeafEntry) -> bool
+pub fn permits_second(mxr: bool, access: Access, leaf: &LeafPte) -> bool
     ensures { result ≡ permits_second mxr access leaf.now }
 {
     leaf.u && has_right(mxr, access, leaf)

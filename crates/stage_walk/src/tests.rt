@@ -1,6 +1,6 @@
 ghost use Rattle.std.specs.Prelude.{◌==◌, Ok, Err, if◌then◌else◌};
 
-use crate::{Fetch, LeafEntry, Privilege, Shape, WalkEnd, permits_first, permits_second, walk};
+use crate::{Fetch, LeafPte, Privilege, Shape, WalkEnd, permits_first, permits_second, walk};
 use arch_defs::{Access, Trap};
 
 /// A leaf with frame 40000 (hexadecimal), the first of a page of each level, and V, R, W, X, A and D.
@@ -90,7 +90,7 @@ fn end_at(shape: Shape, level: u8, word: u64, access: Access) -> WalkEnd {
 
 fn leaf(level: u8, rights: (bool, bool, bool, bool)) -> WalkEnd {
     let (r, w, x, u) = rights;
-    WalkEnd::Leaf(LeafEntry {
+    WalkEnd::Leaf(LeafPte {
         frame: 0x4_0000,
         level,
         r,
@@ -293,8 +293,8 @@ fn places(rt: HostRuntime) {
 }
 
 /// A leaf with these rights.
-fn page(r: bool, w: bool, x: bool, u: bool) -> LeafEntry {
-    LeafEntry {
+fn page(r: bool, w: bool, x: bool, u: bool) -> LeafPte {
+    LeafPte {
         frame: 0x4_0000,
         level: 0,
         r,

@@ -4,7 +4,7 @@ ghost use Rattle.std.specs.Prelude.{◌≡◌, ◌^◌, ◌<◌};
 ghost use Rattle.arch_defs.specs.Walk.{levels, met_in, next_of, walk};
 ghost use Rattle.stage_walk.specs.Ends.{EndFits, NextFits};
 
-use crate::entries::{entry_next, table_entry};
+use crate::entries::{entry_next, pte_of};
 use crate::fetching::Fetch;
 use crate::places::{is_canonical, levels, place_of};
 use arch_defs::{Access, Next, Shape, WalkEnd};
@@ -21,7 +21,7 @@ fn visit<F: Fetch>(fetch: &F, shape: Shape, va: u64, access: Access, level: u8, 
 {
     let place = place_of(shape, level, table, va);
     match fetch.pte_at(place) {
-        Ok(word) => entry_next(level, access, &table_entry(word)),
+        Ok(word) => entry_next(level, access, &pte_of(word)),
         Err(trap) => Next::Ends(WalkEnd::FetchEnd { place, trap }),
     }
 }

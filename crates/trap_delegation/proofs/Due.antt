@@ -8,7 +8,7 @@ use Rattle.arch_defs.specs.declared.modes.Mode.{Mode}
 use Rattle.arch_defs.specs.declared.modes.Mode.TheVariants.{HS, U, VS, VU}
 use Rattle.arch_defs.specs.declared.registers.Csrs.{Csrs}
 use Rattle.arch_defs.specs.declared.registers.Interrupts.{Interrupts}
-use Rattle.arch_defs.specs.Interrupts.{due, due_for_hs, due_for_vs, guest_bit, supervisor_bit, is_enabled, is_pending, is_ready_for_hs, is_ready_for_vs, hs_order, vs_order, takes}
+use Rattle.arch_defs.specs.Interrupts.{due, due_for_hs, due_for_vs, vs_bit, supervisor_bit, is_enabled, is_pending, is_ready_for_hs, is_ready_for_vs, hs_order, vs_order, takes}
 use Rattle.arch_defs.specs.Registers.{clear_interrupts}
 use Rattle.arch_defs.specs.Traps.{is_virtual, target}
 use Rattle.trap_delegation.specs.Laws.{DueIsPending, DueIsEnabled, DueIsTaken, DueGoesToItsLevel, NothingDue, NoneIsMissed}
@@ -52,21 +52,21 @@ negated false h = refl
 record IsReady (csrs : Csrs) (mode : Mode) (code : ℕ) (delegated : Bool) : Type 0 where
   pending : is_pending csrs code ≡ true
   enabled : is_enabled csrs code ≡ true
-  owned : guest_bit csrs.hideleg code ≡ delegated
+  owned : vs_bit csrs.hideleg code ≡ delegated
   taken : takes csrs mode (if delegated then level.VS else level.HS) ≡ true
 
 ready_for_hs : (csrs : Csrs) (mode : Mode) (code : ℕ) → due_for_hs csrs mode ≡ Some code → IsReady csrs mode code false
 unfolding due_for_hs
 ready_for_hs csrs mode code h =
     let gate = open_gate (takes csrs mode level.HS) (find (is_ready_for_hs csrs) hs_order) code h in
-    let parts = all_three (is_pending csrs code) (is_enabled csrs code) (if guest_bit csrs.hideleg code then false else true) (find_passes (is_ready_for_hs csrs) hs_order code gate.1) in
-    record { pending = parts.0; enabled = parts.1; owned = negated (guest_bit csrs.hideleg code) parts.2; taken = gate.0 }
+    let parts = all_three (is_pending csrs code) (is_enabled csrs code) (if vs_bit csrs.hideleg code then false else true) (find_passes (is_ready_for_hs csrs) hs_order code gate.1) in
+    record { pending = parts.0; enabled = parts.1; owned = negated (vs_bit csrs.hideleg code) parts.2; taken = gate.0 }
 
 ready_for_vs : (csrs : Csrs) (mode : Mode) (code : ℕ) → due_for_vs csrs mode ≡ Some code → IsReady csrs mode code true
 unfolding due_for_vs
 ready_for_vs csrs mode code h =
     let gate = open_gate (takes csrs mode level.VS) (find (is_ready_for_vs csrs) vs_order) code h in
-    let parts = all_three (is_pending csrs code) (is_enabled csrs code) (guest_bit csrs.hideleg code) (find_passes (is_ready_for_vs csrs) vs_order code gate.1) in
+    let parts = all_three (is_pending csrs code) (is_enabled csrs code) (vs_bit csrs.hideleg code) (find_passes (is_ready_for_vs csrs) vs_order code gate.1) in
     record { pending = parts.0; enabled = parts.1; owned = parts.2; taken = gate.0 }
 
 due_is_ready : (csrs : Csrs) (mode : Mode) (code : ℕ) → due csrs mode ≡ Some code → (delegated : Bool) × IsReady csrs mode code delegated
@@ -90,7 +90,7 @@ taken_at csrs mode false true e h = absurd cc
 pub due_is_taken : DueIsTaken
 due_is_taken csrs mode code h =
     let ready = due_is_ready csrs mode code h in
-    taken_at csrs mode (guest_bit csrs.hideleg code) ready.0 ready.1.owned ready.1.taken
+    taken_at csrs mode (vs_bit csrs.hideleg code) ready.0 ready.1.owned ready.1.taken
 
 -- with V = 0 VS takes nothing
 goes_at : (csrs : Csrs) (mode : Mode) (b : Bool) → takes csrs mode (if b then level.VS else level.HS) ≡ true → (if is_virtual mode && b then level.VS else level.HS) ≡ (if b then level.VS else level.HS)
@@ -105,7 +105,7 @@ goes_at csrs VU false h = refl
 
 pub due_goes_to_its_level : DueGoesToItsLevel
 unfolding target
-due_goes_to_its_level csrs mode code h = goes_at csrs mode (guest_bit csrs.hideleg code) (due_is_taken csrs mode code h)
+due_goes_to_its_level csrs mode code h = goes_at csrs mode (vs_bit csrs.hideleg code) (due_is_taken csrs mode code h)
 
 -- a search that finds nothing
 none_at : (b : Bool) (y : ℕ) (o : Option ℕ) → cond b (Some y) o ≡ None → (b ≡ false) × (o ≡ None)
@@ -116,7 +116,7 @@ none_here : (p : ℕ → Bool) (y : ℕ) (ys : List ℕ) → find p (y ∷ ys) �
 none_here p y ys h = none_at (p y) y (find p ys) h
 
 -- the codes that have a bit
-guest_codes : (bits : Interrupts) (code : ℕ) → guest_bit bits code ≡ true → (code ≡ 2) ⊎ (code ≡ 6) ⊎ (code ≡ 10)
+guest_codes : (bits : Interrupts) (code : ℕ) → vs_bit bits code ≡ true → (code ≡ 2) ⊎ (code ≡ 6) ⊎ (code ≡ 10)
 guest_codes bits code h = grind (arith, nat_tests)
 
 supervisor_codes : (bits : Interrupts) (code : ℕ) → supervisor_bit bits code ≡ true → (code ≡ 1) ⊎ (code ≡ 5) ⊎ (code ≡ 9)
@@ -130,7 +130,7 @@ supervisor_clear bits code e h =
     let c : bits.external ≡ false = ap (λ (b : Interrupts). b.external) e in
     grind (arith, nat_tests)
 
-guest_clear : (bits : Interrupts) (code : ℕ) → bits ≡ clear_interrupts → guest_bit bits code ≡ true → ⊥
+guest_clear : (bits : Interrupts) (code : ℕ) → bits ≡ clear_interrupts → vs_bit bits code ≡ true → ⊥
 guest_clear bits code e h =
     let a : bits.software ≡ false = ap (λ (b : Interrupts). b.software) e in
     let b : bits.timer ≡ false = ap (λ (b : Interrupts). b.timer) e in
@@ -147,13 +147,13 @@ none_of None never = refl
 
 pub nothing_due : NothingDue
 nothing_due csrs mode e f = none_of (due csrs mode) (λ code h.
-    elim (one_of (supervisor_bit csrs.sie code) (guest_bit csrs.hie code) (due_is_enabled csrs mode code h))
+    elim (one_of (supervisor_bit csrs.sie code) (vs_bit csrs.hie code) (due_is_enabled csrs mode code h))
     [ inl p ↦ supervisor_clear csrs.sie code e p | inr p ↦ guest_clear csrs.hie code f p ])
 
 -- and nothing where nothing is pending
 pub nothing_pending : (csrs : Csrs) (mode : Mode) → csrs.sip ≡ clear_interrupts → csrs.hvip ≡ clear_interrupts → due csrs mode ≡ None
 nothing_pending csrs mode e f = none_of (due csrs mode) (λ code h.
-    elim (one_of (supervisor_bit csrs.sip code) (guest_bit csrs.hvip code) (due_is_pending csrs mode code h))
+    elim (one_of (supervisor_bit csrs.sip code) (vs_bit csrs.hvip code) (due_is_pending csrs mode code h))
     [ inl p ↦ supervisor_clear csrs.sip code e p | inr p ↦ guest_clear csrs.hvip code f p ])
 
 -- an interrupt that the orders hold and that is ready is found
@@ -186,7 +186,7 @@ not_found_for_hs p code h e =
 
 pending_codes : (csrs : Csrs) (code : ℕ) → is_pending csrs code ≡ true → ((code ≡ 1) ⊎ (code ≡ 5) ⊎ (code ≡ 9)) ⊎ ((code ≡ 2) ⊎ (code ≡ 6) ⊎ (code ≡ 10))
 pending_codes csrs code h =
-    elim (one_of (supervisor_bit csrs.sip code) (guest_bit csrs.hvip code) h)
+    elim (one_of (supervisor_bit csrs.sip code) (vs_bit csrs.hvip code) h)
     [ inl p ↦ inl (supervisor_codes csrs.sip code p) | inr p ↦ inr (guest_codes csrs.hvip code p) ]
 
 unready : (a b c : Bool) → a ≡ true → b ≡ true → (a && b && c) ≡ false → c ≡ false
@@ -194,26 +194,26 @@ unready true true c p q h = h
 unready true false c p q h = absurd cc
 unready false b c p q h = absurd cc
 
-untaken_by_vs : (csrs : Csrs) (mode : Mode) (code : ℕ) → due_for_vs csrs mode ≡ None → is_pending csrs code ≡ true → is_enabled csrs code ≡ true → guest_bit csrs.hideleg code ≡ true → takes csrs mode level.VS ≡ false
+untaken_by_vs : (csrs : Csrs) (mode : Mode) (code : ℕ) → due_for_vs csrs mode ≡ None → is_pending csrs code ≡ true → is_enabled csrs code ≡ true → vs_bit csrs.hideleg code ≡ true → takes csrs mode level.VS ≡ false
 unfolding due_for_vs
 untaken_by_vs csrs mode code h p q r =
     elim (shut_gate (takes csrs mode level.VS) (find (is_ready_for_vs csrs) vs_order) h) [
       | inl shut ↦ shut
       | inr none ↦
           let missed = not_found_for_vs (is_ready_for_vs csrs) code none (guest_codes csrs.hideleg code r) in
-          let owned = unready (is_pending csrs code) (is_enabled csrs code) (guest_bit csrs.hideleg code) p q missed in
-          absurd (clash (guest_bit csrs.hideleg code) r owned)
+          let owned = unready (is_pending csrs code) (is_enabled csrs code) (vs_bit csrs.hideleg code) p q missed in
+          absurd (clash (vs_bit csrs.hideleg code) r owned)
     ]
 
-untaken_by_hs : (csrs : Csrs) (mode : Mode) (code : ℕ) → due_for_hs csrs mode ≡ None → is_pending csrs code ≡ true → is_enabled csrs code ≡ true → guest_bit csrs.hideleg code ≡ false → takes csrs mode level.HS ≡ false
+untaken_by_hs : (csrs : Csrs) (mode : Mode) (code : ℕ) → due_for_hs csrs mode ≡ None → is_pending csrs code ≡ true → is_enabled csrs code ≡ true → vs_bit csrs.hideleg code ≡ false → takes csrs mode level.HS ≡ false
 unfolding due_for_hs
 untaken_by_hs csrs mode code h p q r =
     elim (shut_gate (takes csrs mode level.HS) (find (is_ready_for_hs csrs) hs_order) h) [
       | inl shut ↦ shut
       | inr none ↦
           let missed = not_found_for_hs (is_ready_for_hs csrs) code none (pending_codes csrs code p) in
-          let owned = unready (is_pending csrs code) (is_enabled csrs code) (if guest_bit csrs.hideleg code then false else true) p q missed in
-          absurd (clash (guest_bit csrs.hideleg code) (affirmed (guest_bit csrs.hideleg code) owned) r)
+          let owned = unready (is_pending csrs code) (is_enabled csrs code) (if vs_bit csrs.hideleg code then false else true) p q missed in
+          absurd (clash (vs_bit csrs.hideleg code) (affirmed (vs_bit csrs.hideleg code) owned) r)
     ]
 
 untaken_at : (csrs : Csrs) (mode : Mode) (b : Bool) → (b ≡ true → takes csrs mode level.VS ≡ false) → (b ≡ false → takes csrs mode level.HS ≡ false) → takes csrs mode (if b then level.VS else level.HS) ≡ false
@@ -224,4 +224,4 @@ pub none_is_missed : NoneIsMissed
 unfolding due
 none_is_missed csrs mode code h p q =
     let parts = neither (due_for_hs csrs mode) (due_for_vs csrs mode) h in
-    untaken_at csrs mode (guest_bit csrs.hideleg code) (untaken_by_vs csrs mode code parts.1 p q) (untaken_by_hs csrs mode code parts.0 p q)
+    untaken_at csrs mode (vs_bit csrs.hideleg code) (untaken_by_vs csrs mode code parts.1 p q) (untaken_by_hs csrs mode code parts.0 p q)

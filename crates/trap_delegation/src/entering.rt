@@ -1,10 +1,10 @@
 // The target of a trap, and its entry (Privileged Architecture 20211203, 8.2.1, 8.2.2, 8.6.2 and 8.6.3).
 
 ghost use Rattle.std.specs.Prelude.{◌≡◌, IsTrue};
-ghost use Rattle.arch_defs.specs.Traps.{cause_of, entered_bank, entered_hs, entered_vs, handler_of, htinst_of, htval_of, is_delegated, is_guest_page_fault, is_supervisor, is_virtual, target, vs_code_of};
+ghost use Rattle.arch_defs.specs.Traps.{cause_of, entered_hs, entered_supervisor, entered_vs, handler_of, htinst_of, htval_of, is_delegated, is_guest_page_fault, is_supervisor, is_virtual, target, vs_code_of};
 
-use crate::interrupts::guest_bit;
-use arch_defs::{Bank, Csrs, Level, Mode, Regs, Trap};
+use crate::interrupts::vs_bit;
+use arch_defs::{Csrs, Level, Mode, Regs, SupervisorCsrs, Trap};
 
 /// What htinst shows of a fault of the implicit read of a first-stage entry (RV64).
 const IMPLICIT_READ: u64 = 0x3000;
@@ -34,7 +34,7 @@ pub fn enter_hs(csrs: &mut Csrs, regs: &mut Regs, mode: Mode, trap: &Trap) -> Mo
 {
     let cause = cause_of(trap.interrupt, trap.cause);
     let handler = handler_of(csrs.hs.tvec, trap.interrupt, trap.cause);
-    csrs.hs = entered(csrs.hs, is_supervisor(mode), regs.pc, cause, trap.tval);
+    csrs.hs = entered_supervisor(csrs.hs, is_supervisor(mode), regs.pc, cause, trap.tval);
     csrs.hstatus.gva = trap.gva;
     csrs.hstatus.spv = is_virtual(mode);
     if is_virtual(mode) {
@@ -57,23 +57,29 @@ pub fn enter_vs(csrs: &mut Csrs, regs: &mut Regs, mode: Mode, trap: &Trap) -> Mo
     let code = vs_code_of(trap);
     let cause = cause_of(trap.interrupt, code);
     let handler = handler_of(csrs.vs.tvec, trap.interrupt, code);
-    csrs.vs = entered(csrs.vs, is_supervisor(mode), regs.pc, cause, trap.tval);
+    csrs.vs = entered_supervisor(csrs.vs, is_supervisor(mode), regs.pc, cause, trap.tval);
     regs.pc = handler;
     Mode::VS
 }
 
 /// The registers of the level that a trap goes to.
-fn entered(bank: Bank, supervisor: bool, pc: u64, cause: u64, tval: u64) -> Bank
-    ensures { result ≡ entered_bank bank supervisor pc cause tval }
+fn entered_supervisor(
+    registers: SupervisorCsrs,
+    supervisor: bool,
+    pc: u64,
+    cause: u64,
+    tval: u64,
+) -> SupervisorCsrs
+    ensures { result ≡ entered_supervisor registers supervisor pc cause tval }
 {
-    let mut bank = bank;
-    bank.status.spp = supervisor;
-    bank.status.spie = bank.status.sie;
-    bank.status.sie = false;
-    bank.epc = pc;
-    bank.cause = cause;
-    bank.tval = tval;
-    bank
+    let mut registers = registers;
+    registers.status.spp = supervisor;
+    registers.status.spie = registers.status.sie;
+    registers.status.sie = false;
+    registers.epc = pc;
+    registers.cause = cause;
+    registers.tval = tval;
+    registers
 }
 
 fn cause_of(interrupt: bool, code: u64) -> u64
@@ -140,7 +146,7 @@ fn is_delegated(csrs: &Csrs, interrupt: bool, code: u64) -> bool
     ensures { result ≡ is_delegated csrs.now interrupt code }
 {
     if interrupt {
-        guest_bit(csrs.hideleg, code)
+        vs_bit(csrs.hideleg, code)
     } else {
         code < 64 && (csrs.hedeleg >> code) & 1 == 1
     }

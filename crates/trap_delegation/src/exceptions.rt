@@ -3,13 +3,13 @@
 
 ghost use Rattle.std.specs.Prelude.{◌≡◌};
 ghost use Rattle.arch_defs.specs.Interrupts.{interrupt_of};
-ghost use Rattle.arch_defs.specs.Traps.{access_fault, exception, has_guest_address, is_address_code, misaligned_fault, page_fault, unplaced_fault};
+ghost use Rattle.arch_defs.specs.Traps.{access_fault, exception, has_guest_address, is_address_code, misaligned_fault, missing_place_fault, page_fault};
 
 use crate::entering::is_virtual;
 use arch_defs::{
     Access, INSTRUCTION_ACCESS_FAULT, INSTRUCTION_MISALIGNED, INSTRUCTION_PAGE_FAULT,
-    LOAD_ACCESS_FAULT, LOAD_MISALIGNED, LOAD_PAGE_FAULT, Mode, STORE_ACCESS_FAULT,
-    STORE_MISALIGNED, STORE_PAGE_FAULT, Trap, Unplaced,
+    LOAD_ACCESS_FAULT, LOAD_MISALIGNED, LOAD_PAGE_FAULT, MissingPlace, Mode, STORE_ACCESS_FAULT,
+    STORE_MISALIGNED, STORE_PAGE_FAULT, Trap,
 };
 
 /// Whether an exception writes a guest virtual address to stval, which is a trap's `gva`. The mode is the one
@@ -88,8 +88,8 @@ pub fn page_fault(access: Access) -> u64
 }
 
 /// The access fault of an access for which the second stage has no place.
-pub fn unplaced_fault(unplaced: &Unplaced) -> Trap
-    ensures { result ≡ unplaced_fault unplaced.now }
+pub fn missing_place_fault(missing: &MissingPlace) -> Trap
+    ensures { result ≡ missing_place_fault missing.now }
 {
-    exception(unplaced.mode, access_fault(unplaced.access), unplaced.va)
+    exception(missing.mode, access_fault(missing.access), missing.va)
 }

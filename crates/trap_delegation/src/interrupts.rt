@@ -1,7 +1,7 @@
 // Pending, enabled and due interrupts (Privileged Architecture 20211203, 3.1.9, 4.1.3, 8.2.2 and 8.2.3).
 
 ghost use Rattle.std.specs.Prelude.{◌≡◌, find};
-ghost use Rattle.arch_defs.specs.Interrupts.{due, due_for_hs, due_for_vs, guest_bit, hs_order, is_enabled, is_pending, is_ready_for_hs, is_ready_for_vs, supervisor_bit, takes, vs_order};
+ghost use Rattle.arch_defs.specs.Interrupts.{due, due_for_hs, due_for_vs, hs_order, is_enabled, is_pending, is_ready_for_hs, is_ready_for_vs, supervisor_bit, takes, vs_bit, vs_order};
 
 use arch_defs::{
     Csrs, Interrupts, Level, Mode, SUPERVISOR_EXTERNAL, SUPERVISOR_SOFTWARE, SUPERVISOR_TIMER,
@@ -104,25 +104,25 @@ fn first_for_vs(csrs: &Csrs) -> Option<u64>
 fn is_ready_for_hs(csrs: &Csrs, code: u64) -> bool
     ensures { result ≡ is_ready_for_hs csrs.now code }
 {
-    is_pending(csrs, code) && is_enabled(csrs, code) && !guest_bit(csrs.hideleg, code)
+    is_pending(csrs, code) && is_enabled(csrs, code) && !vs_bit(csrs.hideleg, code)
 }
 
 fn is_ready_for_vs(csrs: &Csrs, code: u64) -> bool
     ensures { result ≡ is_ready_for_vs csrs.now code }
 {
-    is_pending(csrs, code) && is_enabled(csrs, code) && guest_bit(csrs.hideleg, code)
+    is_pending(csrs, code) && is_enabled(csrs, code) && vs_bit(csrs.hideleg, code)
 }
 
 fn is_pending(csrs: &Csrs, code: u64) -> bool
     ensures { result ≡ is_pending csrs.now code }
 {
-    supervisor_bit(csrs.sip, code) || guest_bit(csrs.hvip, code)
+    supervisor_bit(csrs.sip, code) || vs_bit(csrs.hvip, code)
 }
 
 fn is_enabled(csrs: &Csrs, code: u64) -> bool
     ensures { result ≡ is_enabled csrs.now code }
 {
-    supervisor_bit(csrs.sie, code) || guest_bit(csrs.hie, code)
+    supervisor_bit(csrs.sie, code) || vs_bit(csrs.hie, code)
 }
 
 /// The bit of a code in sip or sie.
@@ -138,8 +138,8 @@ fn supervisor_bit(bits: Interrupts, code: u64) -> bool
 }
 
 /// The bit of a code in hip, hie or hideleg.
-pub(crate) fn guest_bit(bits: Interrupts, code: u64) -> bool
-    ensures { result ≡ guest_bit bits code }
+pub(crate) fn vs_bit(bits: Interrupts, code: u64) -> bool
+    ensures { result ≡ vs_bit bits code }
 {
     match code {
         VS_SOFTWARE => bits.software,

@@ -11,8 +11,8 @@ mod tests;
 
 pub use entering::{enter_hs, enter_vs, is_virtual, target};
 pub use exceptions::{
-    access_fault, exception, has_guest_address, interrupt_trap, misaligned_fault, page_fault,
-    unplaced_fault,
+    access_fault, exception, has_guest_address, interrupt_trap, misaligned_fault,
+    missing_place_fault, page_fault,
 };
 pub use interrupts::pending;
 pub use laws::{due_is_taken, entries_leave, returns_restore, trap_targets};

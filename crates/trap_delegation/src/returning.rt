@@ -1,10 +1,10 @@
 // SRET (Privileged Architecture 20211203, 4.1.1 and 8.6.4).
 
 ghost use Rattle.std.specs.Prelude.{◌≡◌, IsTrue};
-ghost use Rattle.arch_defs.specs.Traps.{is_supervisor, mode_of, returned, returned_bank, returned_from_hs, returned_from_vs};
+ghost use Rattle.arch_defs.specs.Traps.{is_supervisor, mode_of, returned, returned_from_hs, returned_from_vs, returned_supervisor};
 
 use crate::entering::is_virtual;
-use arch_defs::{Bank, Csrs, Mode, Regs};
+use arch_defs::{Csrs, Mode, Regs, SupervisorCsrs};
 
 /// Does SRET in HS or VS. Gives the mode that it returns to.
 #[tactic(auto, unfolding(arch_defs::specs::Traps::returned))]
@@ -45,14 +45,14 @@ fn return_from_vs(csrs: &mut Csrs, regs: &mut Regs) -> Mode
 }
 
 /// The registers of the level that SRET leaves.
-fn left(bank: Bank) -> Bank
-    ensures { result ≡ returned_bank bank }
+fn left(registers: SupervisorCsrs) -> SupervisorCsrs
+    ensures { result ≡ returned_supervisor registers }
 {
-    let mut bank = bank;
-    bank.status.sie = bank.status.spie;
-    bank.status.spie = true;
-    bank.status.spp = false;
-    bank
+    let mut registers = registers;
+    registers.status.sie = registers.status.spie;
+    registers.status.spie = true;
+    registers.status.spp = false;
+    registers
 }
 
 fn mode_of(virtual_mode: bool, supervisor: bool) -> Mode

@@ -3,11 +3,12 @@
 
 use crate::{
     access_fault, due_is_taken, enter_hs, enter_vs, entries_leave, has_guest_address,
-    interrupt_trap, misaligned_fault, page_fault, pending, returns_restore, sret, target,
-    trap_targets, unplaced_fault,
+    interrupt_trap, misaligned_fault, missing_place_fault, page_fault, pending, returns_restore,
+    sret, target, trap_targets,
 };
 use arch_defs::{
-    Access, Bank, Csrs, Interrupts, Level, Mode, Regs, SupervisorStatus, Trap, Unplaced,
+    Access, Csrs, Interrupts, Level, MissingPlace, Mode, Regs, SupervisorCsrs, SupervisorStatus,
+    Trap,
 };
 
 const START: u64 = 0x8000_0000;
@@ -36,12 +37,12 @@ fn exception(cause: u64) -> Trap {
     }
 }
 
-fn with_bits(sie: bool, spie: bool, spp: bool) -> Bank {
-    let mut bank = Bank::at_reset();
-    bank.status.sie = sie;
-    bank.status.spie = spie;
-    bank.status.spp = spp;
-    bank
+fn with_bits(sie: bool, spie: bool, spp: bool) -> SupervisorCsrs {
+    let mut registers = SupervisorCsrs::at_reset();
+    registers.status.sie = sie;
+    registers.status.spie = spie;
+    registers.status.spp = spp;
+    registers
 }
 
 /// All interrupts pending and enabled, those of the VS level delegated as said.
@@ -367,9 +368,9 @@ fn faults(rt: HostRuntime) {
 // An access that has no place gets the fault of its own kind, also where the read of an entry for it has
 // none; GVA as the mode of the access says.
 #[test]
-fn unplaced(rt: HostRuntime) {
+fn missing_place(rt: HostRuntime) {
     for (mode, gva) in [(Mode::HS, false), (Mode::VU, true)] {
-        let unplaced = Unplaced {
+        let missing_place = MissingPlace {
             address: 0x6000,
             kind: Access::Implicit,
             access: Access::Store,
@@ -379,7 +380,7 @@ fn unplaced(rt: HostRuntime) {
         let mut want = exception(7);
         want.tval = 0x1238;
         want.gva = gva;
-        assert_eq!(rt; unplaced_fault(&unplaced), want);
+        assert_eq!(rt; missing_place_fault(&missing_place), want);
     }
 }
 

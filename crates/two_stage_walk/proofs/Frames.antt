@@ -7,7 +7,7 @@ use Rattle.arch_defs.specs.Memory.{load, ram_base, block_size}
 use Rattle.arch_defs.specs.Ram.{ram_of}
 use Rattle.arch_defs.proofs.RamBlocks.{blocks_lie_in, ram_length}
 use Rattle.arch_defs.specs.SecondStage.{has_frame_of}
-use Rattle.phys_mem.specs.Accesses.{number_at}
+use Rattle.phys_mem.specs.MemoryBytes.{number_at}
 use Rattle.two_stage_walk.specs.Places.{IsWhole, IsPlaceOf}
 
 -- two tests that follow from each other are one

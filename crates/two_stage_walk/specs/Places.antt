@@ -1,10 +1,10 @@
 -- Memory of whole frames, and where in its page an address and its place are.
 use Rattle.std.specs.Prelude.{ℕ, ◌≡◌, ◌+◌, ◌%◌, ◌≤◌, ◌<◌, ⊤, List, length}
-use Rattle.arch_defs.specs.declared.guest_walks.GuestWalkEnd.{GuestWalkEnd}
-use Rattle.arch_defs.specs.declared.guest_walks.GuestWalkEnd.TheVariants.{Leaf, GuestPageFault, AccessFault}
+use Rattle.arch_defs.specs.declared.second_walks.SecondWalkEnd.{SecondWalkEnd}
+use Rattle.arch_defs.specs.declared.second_walks.SecondWalkEnd.TheVariants.{Leaf, GuestPageFault, AccessFault}
 use Rattle.arch_defs.specs.declared.walks.Found.{Found}
-use Rattle.arch_defs.specs.declared.walks.Found.TheVariants.{Passes, PageFaults, Lacks}
-use Rattle.arch_defs.specs.declared.walks.LeafEntry.{LeafEntry}
+use Rattle.arch_defs.specs.declared.walks.Found.TheVariants.{Passes, PageFaults, MissesEntry}
+use Rattle.arch_defs.specs.declared.walks.LeafPte.{LeafPte}
 use Rattle.arch_defs.specs.Walk.{leaf_address, most_levels}
 use Rattle.stage_walk.specs.Ends.{LeafFits}
 
@@ -24,15 +24,15 @@ pub record IsPlaceOf (base : ℕ) (bytes : List ℕ) (address place : ℕ) : Typ
 abbrev pub KeepsOffset : ℕ → Found → Type 0
 KeepsOffset va (Passes address) = address % 4096 ≡ va % 4096
 KeepsOffset va PageFaults = ⊤
-KeepsOffset va (Lacks place) = place % 8 ≡ 0
+KeepsOffset va (MissesEntry place) = place % 8 ≡ 0
 
 -- a walk's leaf has fields of their widths, and memory has the frame of the address under it
-pub record IsLeafIn (base : ℕ) (bytes : List ℕ) (address : ℕ) (leaf : LeafEntry) : Type 0 where
+pub record IsLeafIn (base : ℕ) (bytes : List ℕ) (address : ℕ) (leaf : LeafPte) : Type 0 where
   pub fits : LeafFits most_levels leaf
   pub from : base ≤ leaf_address leaf address
   pub to : leaf_address leaf address < base + length bytes
 
-abbrev pub LeafIn : ℕ → List ℕ → ℕ → GuestWalkEnd → Type 0
+abbrev pub LeafIn : ℕ → List ℕ → ℕ → SecondWalkEnd → Type 0
 LeafIn base bytes address (Leaf leaf) = IsLeafIn base bytes address leaf
 LeafIn base bytes address GuestPageFault = ⊤
 LeafIn base bytes address AccessFault = ⊤

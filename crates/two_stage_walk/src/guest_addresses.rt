@@ -1,7 +1,7 @@
 // The second stage, whose table lies in memory itself.
 
 ghost use Rattle.std.specs.Prelude.{◌≡◌, ◌^◌, ◌%◌, ◌<◌, IfSome, length};
-ghost use Rattle.arch_defs.specs.SecondStage.{guest_end, guest_root_frame, second_root_of, guest_walk, has_frame_of, memory_words, second_now, walked};
+ghost use Rattle.arch_defs.specs.SecondStage.{second_end, guest_root_frame, second_root_of, second_walk, has_frame_of, memory_words, second_by_walk, walked};
 ghost use Rattle.arch_defs.specs.Memory.{bare};
 ghost use Rattle.arch_defs.specs.Translation.{unread};
 ghost use Rattle.arch_defs.specs.Walk.{most_levels};
@@ -9,7 +9,7 @@ ghost use Rattle.stage_walk.specs.Ends.{EndFits};
 ghost use Rattle.two_stage_walk.specs.Places.{IsPlaceOf, IsWhole, LeafIn};
 
 use crate::virtual_addresses::{leaf_address, unread};
-use arch_defs::{Access, Csrs, GuestRoot, GuestWalkEnd, Mode, Shape, Trap, WalkEnd};
+use arch_defs::{Access, Csrs, GuestRoot, Mode, SecondWalkEnd, Shape, Trap, WalkEnd};
 use phys_mem::Mem;
 use stage_walk::{Fetch, permits_second, walk};
 use trap_delegation::is_virtual;
@@ -44,48 +44,48 @@ fn has_frame_of<M: Mem>(mem: &M, place: u64) -> bool
 }
 
 // What the end of a walk is to an access.
-fn guest_end<M: Mem>(mem: &M, mxr: bool, address: u64, kind: Access, end: WalkEnd) -> GuestWalkEnd
+fn second_end<M: Mem>(mem: &M, mxr: bool, address: u64, kind: Access, end: WalkEnd) -> SecondWalkEnd
     requires backed { M.is_backed mem.now }
     requires whole { IsWhole (M.base mem.now) (M.bytes mem.now) }
     requires fits { EndFits most_levels end }
-    ensures value { result ≡ guest_end (M.base mem.now) (M.bytes mem.now) mxr address kind end }
+    ensures value { result ≡ second_end (M.base mem.now) (M.bytes mem.now) mxr address kind end }
     ensures leaf { LeafIn (M.base mem.now) (M.bytes mem.now) address result }
 {
     match end {
         WalkEnd::Leaf(leaf) => {
             if !permits_second(mxr, kind, &leaf) {
-                GuestWalkEnd::GuestPageFault
+                SecondWalkEnd::GuestPageFault
             } else if has_frame_of(mem, leaf_address(&leaf, address)) {
-                GuestWalkEnd::Leaf(leaf)
+                SecondWalkEnd::Leaf(leaf)
             } else {
-                GuestWalkEnd::AccessFault
+                SecondWalkEnd::AccessFault
             }
         }
-        WalkEnd::PageFault => GuestWalkEnd::GuestPageFault,
-        WalkEnd::FetchEnd { .. } => GuestWalkEnd::AccessFault,
+        WalkEnd::PageFault => SecondWalkEnd::GuestPageFault,
+        WalkEnd::FetchEnd { .. } => SecondWalkEnd::AccessFault,
     }
 }
 
 /// The walk of the second-stage table of a shape at hgatp's PPN, for an access of a kind at a guest physical
 /// address. `mxr` is sstatus.MXR.
 #[inline(always)]
-#[tactic(auto, unfolding(arch_defs::specs::SecondStage::guest_walk))]
-pub fn guest_walk<M: Mem>(
+#[tactic(auto, unfolding(arch_defs::specs::SecondStage::second_walk))]
+pub fn second_walk<M: Mem>(
     mem: &M,
     mxr: bool,
     shape: Shape,
     ppn: u64,
     address: u64,
     kind: Access,
-) -> GuestWalkEnd
+) -> SecondWalkEnd
     requires backed { M.is_backed mem.now }
     requires whole { IsWhole (M.base mem.now) (M.bytes mem.now) }
-    ensures value { result ≡ guest_walk (M.base mem.now) (M.bytes mem.now) mxr shape ppn address kind }
+    ensures value { result ≡ second_walk (M.base mem.now) (M.bytes mem.now) mxr shape ppn address kind }
     ensures leaf { LeafIn (M.base mem.now) (M.bytes mem.now) address result }
 {
     let root = ppn / 4 % 0x400_0000_0000 * 4;
     let end = walk(&Words { mem }, root, shape, address, kind);
-    guest_end(mem, mxr, address, kind, end)
+    second_end(mem, mxr, address, kind, end)
 }
 
 // The place that the walk of a table gives.
@@ -103,9 +103,9 @@ fn walked<M: Mem>(
     ensures place { result ≡ walked (M.base mem.now) (M.bytes mem.now) mxr shape ppn address kind }
     ensures inside { IfSome result (λ place. IsPlaceOf (M.base mem.now) (M.bytes mem.now) address place) }
 {
-    match guest_walk(mem, mxr, shape, ppn, address, kind) {
-        GuestWalkEnd::Leaf(leaf) => Some(leaf_address(&leaf, address)),
-        GuestWalkEnd::GuestPageFault | GuestWalkEnd::AccessFault => None,
+    match second_walk(mem, mxr, shape, ppn, address, kind) {
+        SecondWalkEnd::Leaf(leaf) => Some(leaf_address(&leaf, address)),
+        SecondWalkEnd::GuestPageFault | SecondWalkEnd::AccessFault => None,
     }
 }
 
@@ -144,7 +144,7 @@ pub fn second_place<M: Mem>(
 ) -> Option<u64>
     requires backed { M.is_backed mem.now }
     requires whole { IsWhole (M.base mem.now) (M.bytes mem.now) }
-    ensures place { result ≡ second_now csrs.now mode (M.base mem.now) (M.bytes mem.now) address kind }
+    ensures place { result ≡ second_by_walk csrs.now mode (M.base mem.now) (M.bytes mem.now) address kind }
     ensures inside { IfSome result (λ place. IsPlaceOf (M.base mem.now) (M.bytes mem.now) address place) }
 {
     match second_root_of(csrs, mode) {

@@ -290,8 +290,8 @@ fn mxr_of_each_stage(rt: HostRuntime) -> Result<(), Fail> {
 }
 
 // vsatp's root at guest pages 2, 4, 5, 6 and 7: none, past memory, without U, only to be executed, with D
-// clear. The fault is the access's, its tval the virtual address, and tval2 the entry's guest physical address
-// divided by 4. MXR has no part in it (own).
+// clear. The fault is the access's, its tval the virtual address, and tval2 the entry's guest physical
+// address divided by 4. MXR has no part in it (own).
 #[test]
 fn implicit_reads(rt: HostRuntime) -> Result<(), Fail> {
     let memory = tables(rt.alloc())?;

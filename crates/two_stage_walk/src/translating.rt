@@ -1,15 +1,15 @@
 // Translation by both stages.
 
 ghost use Rattle.std.specs.Prelude.{◌≡◌, IfOk};
-ghost use Rattle.arch_defs.specs.SecondStage.{second_now};
-ghost use Rattle.machine_defs.specs.Answers.{answer_of, located_now};
+ghost use Rattle.arch_defs.specs.SecondStage.{second_by_walk};
+ghost use Rattle.machine_defs.specs.Answers.{answer_of, located_by_walk};
 ghost use Rattle.machine_defs.specs.Core.{located_by};
 ghost use Rattle.two_stage_walk.specs.Places.{IsPlaceOf, IsWhole, KeepsOffset};
 
 use crate::guest_addresses::second_place;
-use crate::traps::unplaced_trap;
+use crate::traps::missing_place_trap;
 use crate::virtual_addresses::first_stage;
-use arch_defs::{Access, Csrs, Found, Mode, Trap, Unplaced};
+use arch_defs::{Access, Csrs, Found, MissingPlace, Mode, Trap};
 use phys_mem::Mem;
 use trap_delegation::{exception, page_fault};
 
@@ -26,16 +26,16 @@ fn placed_by<M: Mem>(
     requires whole { IsWhole (M.base mem.now) (M.bytes mem.now) }
     requires offset { KeepsOffset va found }
     ensures answer { result ≡ answer_of csrs.now (M.base mem.now) (M.bytes mem.now)
-        (located_by (second_now csrs.now mode (M.base mem.now) (M.bytes mem.now)) mode va access found) }
+        (located_by (second_by_walk csrs.now mode (M.base mem.now) (M.bytes mem.now)) mode va access found) }
     ensures inside { IfOk result (λ place. IsPlaceOf (M.base mem.now) (M.bytes mem.now) va place) }
 {
     match found {
         Found::Passes(address) => match second_place(mem, csrs, mode, address, access) {
             Some(place) => Ok(place),
-            None => Err(unplaced_trap(
+            None => Err(missing_place_trap(
                 mem,
                 csrs,
-                &Unplaced {
+                &MissingPlace {
                     address,
                     kind: access,
                     access,
@@ -45,10 +45,10 @@ fn placed_by<M: Mem>(
             )),
         },
         Found::PageFaults => Err(exception(mode, page_fault(access), va)),
-        Found::Lacks(place) => Err(unplaced_trap(
+        Found::MissesEntry(place) => Err(missing_place_trap(
             mem,
             csrs,
-            &Unplaced {
+            &MissingPlace {
                 address: place,
                 kind: Access::Implicit,
                 access,
@@ -72,7 +72,7 @@ pub fn translate<M: Mem>(
     requires backed { M.is_backed mem.now }
     requires whole { IsWhole (M.base mem.now) (M.bytes mem.now) }
     ensures answer { result ≡ answer_of csrs.now (M.base mem.now) (M.bytes mem.now)
-        (located_now csrs.now mode (M.base mem.now) (M.bytes mem.now) va access) }
+        (located_by_walk csrs.now mode (M.base mem.now) (M.bytes mem.now) va access) }
     ensures inside { IfOk result (λ place. IsPlaceOf (M.base mem.now) (M.bytes mem.now) va place) }
 {
     let found = first_stage(mem, csrs, mode, va, access);

@@ -1,16 +1,16 @@
 // The trap of an access for which the second stage has no place.
 
 ghost use Rattle.std.specs.Prelude.{◌≡◌};
-ghost use Rattle.arch_defs.specs.SecondStage.{guest_page_fault, guest_page_trap, is_implicit, unplaced_by, unplaced_trap};
+ghost use Rattle.arch_defs.specs.SecondStage.{guest_page_fault, guest_page_trap, is_implicit, missing_place_by, missing_place_trap};
 ghost use Rattle.two_stage_walk.specs.Places.{IsWhole};
 
-use crate::guest_addresses::{guest_walk, second_root_of};
+use crate::guest_addresses::{second_root_of, second_walk};
 use arch_defs::{
-    Access, Csrs, GuestRoot, GuestWalkEnd, INSTRUCTION_GUEST_PAGE_FAULT, LOAD_GUEST_PAGE_FAULT,
-    STORE_GUEST_PAGE_FAULT, Trap, Unplaced,
+    Access, Csrs, GuestRoot, INSTRUCTION_GUEST_PAGE_FAULT, LOAD_GUEST_PAGE_FAULT, MissingPlace,
+    STORE_GUEST_PAGE_FAULT, SecondWalkEnd, Trap,
 };
 use phys_mem::Mem;
-use trap_delegation::{exception, unplaced_fault};
+use trap_delegation::{exception, missing_place_fault};
 
 /// The code of the guest-page fault of an access.
 pub fn guest_page_fault(access: Access) -> u64
@@ -31,40 +31,40 @@ fn is_implicit(kind: Access) -> bool
 }
 
 /// The trap of a guest-page fault of an access.
-pub fn guest_page_trap(unplaced: &Unplaced) -> Trap
-    ensures { result ≡ guest_page_trap unplaced.now }
+pub fn guest_page_trap(missing: &MissingPlace) -> Trap
+    ensures { result ≡ guest_page_trap missing.now }
 {
-    let cause = guest_page_fault(unplaced.access);
+    let cause = guest_page_fault(missing.access);
     Trap {
-        tval2: unplaced.address / 4,
-        implicit: is_implicit(unplaced.kind),
-        ..exception(unplaced.mode, cause, unplaced.va)
+        tval2: missing.address / 4,
+        implicit: is_implicit(missing.kind),
+        ..exception(missing.mode, cause, missing.va)
     }
 }
 
 // The trap of an access that has no place, by the end of the walk of its address.
-fn unplaced_by(unplaced: &Unplaced, end: GuestWalkEnd) -> Trap
-    ensures { result ≡ unplaced_by unplaced.now end }
+fn missing_place_by(missing: &MissingPlace, end: SecondWalkEnd) -> Trap
+    ensures { result ≡ missing_place_by missing.now end }
 {
     match end {
-        GuestWalkEnd::GuestPageFault => guest_page_trap(unplaced),
-        GuestWalkEnd::Leaf(_) | GuestWalkEnd::AccessFault => unplaced_fault(unplaced),
+        SecondWalkEnd::GuestPageFault => guest_page_trap(missing),
+        SecondWalkEnd::Leaf(_) | SecondWalkEnd::AccessFault => missing_place_fault(missing),
     }
 }
 
 /// The trap of an access for which the second stage has no place, as the registers and memory are.
 #[cold]
-pub fn unplaced_trap<M: Mem>(mem: &M, csrs: &Csrs, unplaced: &Unplaced) -> Trap
+pub fn missing_place_trap<M: Mem>(mem: &M, csrs: &Csrs, missing: &MissingPlace) -> Trap
     requires backed { M.is_backed mem.now }
     requires whole { IsWhole (M.base mem.now) (M.bytes mem.now) }
-    ensures { result ≡ unplaced_trap csrs.now (M.base mem.now) (M.bytes mem.now) unplaced.now }
+    ensures { result ≡ missing_place_trap csrs.now (M.base mem.now) (M.bytes mem.now) missing.now }
 {
-    match second_root_of(csrs, unplaced.mode) {
-        GuestRoot::Bare => unplaced_fault(unplaced),
+    match second_root_of(csrs, missing.mode) {
+        GuestRoot::Bare => missing_place_fault(missing),
         GuestRoot::Table { mode, ppn, .. } => {
             let mxr = csrs.hs.status.mxr;
-            let end = guest_walk(mem, mxr, mode.shape(), ppn, unplaced.address, unplaced.kind);
-            unplaced_by(unplaced, end)
+            let end = second_walk(mem, mxr, mode.shape(), ppn, missing.address, missing.kind);
+            missing_place_by(missing, end)
         }
     }
 }

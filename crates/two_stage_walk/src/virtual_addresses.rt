@@ -2,15 +2,15 @@
 
 ghost use Rattle.std.specs.Prelude.{◌≡◌, ◌^◌, ◌%◌, ◌<◌};
 ghost use Rattle.arch_defs.specs.Memory.{reading_of};
-ghost use Rattle.arch_defs.specs.SecondStage.{second_now};
-ghost use Rattle.arch_defs.specs.Translation.{bank_of, entry_words_through, first_stage, found_by, privilege_of, unread};
+ghost use Rattle.arch_defs.specs.SecondStage.{second_by_walk};
+ghost use Rattle.arch_defs.specs.Translation.{entry_words_through, first_stage, found_by, privilege_of, supervisor_of, unread};
 ghost use Rattle.arch_defs.specs.Walk.{leaf_address, most_levels, walk};
 ghost use Rattle.stage_walk.specs.Ends.{EndFits, LeafFits};
 ghost use Rattle.two_stage_walk.specs.Places.{IsPlaceOf, IsWhole, KeepsOffset};
 
 use crate::guest_addresses::second_place;
 use arch_defs::{
-    Access, Bank, Csrs, Found, LOAD_ACCESS_FAULT, LeafEntry, Mode, Privilege, Shape,
+    Access, Csrs, Found, LOAD_ACCESS_FAULT, LeafPte, Mode, Privilege, Shape, SupervisorCsrs,
     SupervisorRoot, Trap, WalkEnd,
 };
 use phys_mem::Mem;
@@ -27,7 +27,7 @@ struct Entries<'a, M> {
 
 impl<M: Mem> Fetch for Entries<'_, M> {
     ghost reading = { λ e. entry_words_through
-        (second_now e.csrs.now e.mode (M.base e.mem.now) (M.bytes e.mem.now))
+        (second_by_walk e.csrs.now e.mode (M.base e.mem.now) (M.bytes e.mem.now))
         (reading_of (M.base e.mem.now) (M.bytes e.mem.now)) };
 
     ghost is_backed = { λ e. M.is_backed e.mem.now × IsWhole (M.base e.mem.now) (M.bytes e.mem.now) };
@@ -70,8 +70,8 @@ pub fn unread(at: u64) -> Trap
 }
 
 /// The registers of the level whose table translates for a mode.
-pub fn bank_of(csrs: &Csrs, mode: Mode) -> Bank
-    ensures { result ≡ bank_of csrs.now mode }
+pub fn supervisor_of(csrs: &Csrs, mode: Mode) -> SupervisorCsrs
+    ensures { result ≡ supervisor_of csrs.now mode }
 {
     match mode {
         Mode::HS | Mode::U => csrs.hs,
@@ -84,7 +84,7 @@ pub fn bank_of(csrs: &Csrs, mode: Mode) -> Bank
 pub fn privilege_of(csrs: &Csrs, mode: Mode) -> Privilege
     ensures { result ≡ privilege_of csrs.now mode }
 {
-    let status = bank_of(csrs, mode).status;
+    let status = supervisor_of(csrs, mode).status;
     Privilege {
         user: matches!(mode, Mode::U | Mode::VU),
         sum: status.sum,
@@ -93,7 +93,7 @@ pub fn privilege_of(csrs: &Csrs, mode: Mode) -> Privilege
 }
 
 /// The physical address of an address under a leaf.
-pub fn leaf_address(leaf: &LeafEntry, va: u64) -> u64
+pub fn leaf_address(leaf: &LeafPte, va: u64) -> u64
     requires { LeafFits most_levels leaf.now }
     ensures value { result ≡ leaf_address leaf.now va }
     ensures offset { result % 4096 ≡ va % 4096 }
@@ -122,7 +122,7 @@ pub fn found_by(privilege: Privilege, access: Access, va: u64, end: WalkEnd) -> 
             }
         }
         WalkEnd::PageFault => Found::PageFaults,
-        WalkEnd::FetchEnd { place, .. } => Found::Lacks(place),
+        WalkEnd::FetchEnd { place, .. } => Found::MissesEntry(place),
     }
 }
 
@@ -139,7 +139,7 @@ fn found_in_table<M: Mem>(
     requires backed { M.is_backed mem.now }
     requires whole { IsWhole (M.base mem.now) (M.bytes mem.now) }
     ensures value { result ≡ found_by (privilege_of csrs.now mode) access va
-        (walk (entry_words_through (second_now csrs.now mode (M.base mem.now) (M.bytes mem.now))
+        (walk (entry_words_through (second_by_walk csrs.now mode (M.base mem.now) (M.bytes mem.now))
         (reading_of (M.base mem.now) (M.bytes mem.now))) (ppn % 2 ^ 44) shape va access) }
     ensures offset { KeepsOffset va result }
 {
@@ -154,11 +154,11 @@ fn found_in_table<M: Mem>(
 pub fn first_stage<M: Mem>(mem: &M, csrs: &Csrs, mode: Mode, va: u64, access: Access) -> Found
     requires backed { M.is_backed mem.now }
     requires whole { IsWhole (M.base mem.now) (M.bytes mem.now) }
-    ensures value { result ≡ first_stage (second_now csrs.now mode (M.base mem.now) (M.bytes mem.now))
+    ensures value { result ≡ first_stage (second_by_walk csrs.now mode (M.base mem.now) (M.bytes mem.now))
         (reading_of (M.base mem.now) (M.bytes mem.now)) csrs.now mode va access }
     ensures offset { KeepsOffset va result }
 {
-    match bank_of(csrs, mode).atp {
+    match supervisor_of(csrs, mode).atp {
         SupervisorRoot::Bare => Found::Passes(va),
         SupervisorRoot::Table {
             mode: table,

@@ -2,40 +2,40 @@
 
 ghost use Rattle.std.specs.Prelude.{◌≡◌};
 ghost use Rattle.arch_defs.specs.Memory.{ram_base};
-ghost use Rattle.arch_defs.specs.WalkedEntries.{entry_by_end, entry_now, entry_under};
+ghost use Rattle.arch_defs.specs.WalkedEntries.{entry_by_end, entry_by_walk, entry_under};
 ghost use Rattle.arch_defs.specs.Walk.{most_levels};
 ghost use Rattle.two_stage_walk.specs.Places.{IsWhole};
 ghost use Rattle.stage_walk.specs.Ends.{LeafFits};
 
-use crate::guest_addresses::guest_walk;
+use crate::guest_addresses::second_walk;
 use crate::virtual_addresses::leaf_address;
-use arch_defs::{Access, Csrs, Entry, GuestRoot, GuestWalkEnd, LeafEntry};
+use arch_defs::{Access, Csrs, Entry, GuestRoot, LeafPte, SecondWalkEnd};
 use phys_mem::Mem;
 
 /// The cached translation that the walk of hgatp's table in RAM gives for an access of a kind at a guest
 /// physical address, for this one page; none where no leaf permits the access, or RAM does not have the
 /// leaf's frame (Privileged Architecture 20211203, 8.2.10 and 8.5).
-#[tactic(auto, unfolding(arch_defs::specs::WalkedEntries::entry_now))]
-pub fn entry_now<M: Mem>(mem: &M, csrs: &Csrs, address: u64, kind: Access) -> Option<Entry>
+#[tactic(auto, unfolding(arch_defs::specs::WalkedEntries::entry_by_walk))]
+pub fn entry_by_walk<M: Mem>(mem: &M, csrs: &Csrs, address: u64, kind: Access) -> Option<Entry>
     requires backed { M.is_backed mem.now }
     requires whole { IsWhole (M.base mem.now) (M.bytes mem.now) }
     requires ram { M.base mem.now ≡ ram_base }
-    ensures { result ≡ entry_now csrs.now (M.bytes mem.now) address kind }
+    ensures { result ≡ entry_by_walk csrs.now (M.bytes mem.now) address kind }
 {
     match csrs.hgatp {
         GuestRoot::Bare => None,
         GuestRoot::Table { mode, ppn, .. } => {
             let mxr = csrs.hs.status.mxr;
-            match guest_walk(mem, mxr, mode.shape(), ppn, address, kind) {
-                GuestWalkEnd::Leaf(leaf) => Some(entry_under(&leaf, address)),
-                GuestWalkEnd::GuestPageFault | GuestWalkEnd::AccessFault => None,
+            match second_walk(mem, mxr, mode.shape(), ppn, address, kind) {
+                SecondWalkEnd::Leaf(leaf) => Some(entry_under(&leaf, address)),
+                SecondWalkEnd::GuestPageFault | SecondWalkEnd::AccessFault => None,
             }
         }
     }
 }
 
 // The entry of an address's page under a leaf.
-fn entry_under(leaf: &LeafEntry, address: u64) -> Entry
+fn entry_under(leaf: &LeafPte, address: u64) -> Entry
     requires fits { LeafFits most_levels leaf.now }
     ensures { result ≡ entry_under leaf.now address }
 {

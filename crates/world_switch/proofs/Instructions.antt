@@ -6,18 +6,18 @@ use Rattle.arch_defs.specs.declared.modes.Mode.{Mode}
 use Rattle.arch_defs.specs.declared.modes.Mode.TheVariants.{HS, U, VS, VU}
 use Rattle.arch_defs.specs.declared.registers.GuestRoot.{GuestRoot}
 use Rattle.arch_defs.specs.declared.registers.Virtual.{Virtual}
-use Rattle.arch_defs.specs.Access.{reached, reached_by, reached_in_vs, reached_in_vu, read}
+use Rattle.arch_defs.specs.CsrAccess.{reached, reached_by, reached_in_vs, reached_in_vu, read_csr}
 use Rattle.arch_defs.specs.CsrNames.{read_only_register, register_of}
 use Rattle.arch_defs.specs.Traps.{arrived, is_supervisor, is_virtual, mode_of, returned, returned_from_vs}
 use Rattle.op_defs.specs.declared.ops.Privileged.TheVariants.{Sret, Wfi, SfenceVma}
 use Rattle.machine_defs.specs.declared.events.Event.TheVariants.{System}
 use Rattle.machine_defs.specs.Outcomes.{Done, passed}
 use Rattle.machine_defs.specs.Privileges.{decided, privileged, refusal, refused, virtual_if}
-use Rattle.world_switch.specs.Hosting.{hosted, saved}
+use Rattle.world_switch.specs.Hosting.{guest_state_of, hart_state_of}
 use Rattle.world_switch.specs.Laws.{FencesAlike, OwnMxr, ReturnsAlike, TimeIsLeft, WaitsAreLeft}
 use Rattle.world_switch.proofs.Undone.{same_csrs, same_mode}
 
-mxr_in : (root : GuestRoot) (v : Virtual) (mode : Mode) → (hosted root (record v { mode = mode })).csrs.hs.status.mxr ≡ (is_virtual mode && v.csrs.hs.status.mxr)
+mxr_in : (root : GuestRoot) (v : Virtual) (mode : Mode) → (hart_state_of root (record v { mode = mode })).csrs.hs.status.mxr ≡ (is_virtual mode && v.csrs.hs.status.mxr)
 mxr_in root v HS = refl
 mxr_in root v U = refl
 mxr_in root v VS = refl
@@ -36,17 +36,17 @@ always_virtual true = refl
 always_virtual false = refl
 
 returned_if : (root : GuestRoot) (v after : Virtual) (word : ℕ) (kept : Bool)
-    → decided (hosted root (record v { mode = VS })) word Sret (virtual_if kept) ≡ Done after None System
-    → decided (record v { mode = VS }) word Sret (virtual_if kept) ≡ Done (saved after (record v { mode = VS })) None System
+    → decided (hart_state_of root (record v { mode = VS })) word Sret (virtual_if kept) ≡ Done after None System
+    → decided (record v { mode = VS }) word Sret (virtual_if kept) ≡ Done (guest_state_of after (record v { mode = VS })) None System
 unfolding returned
 returned_if root v after word true e = cc
 returned_if root v after word false e =
-    let s = hosted root (record v { mode = VS }) in
+    let s = hart_state_of root (record v { mode = VS }) in
     let is : arrived s (returned_from_vs s.csrs s.regs) ≡ after = cc in rw (← is, supervisor_again v.csrs.vs.status.spp) refl
 
 returned_by : (root : GuestRoot) (v after : Virtual) (word : ℕ) (mode : Mode)
-    → privileged (hosted root (record v { mode = mode })) word Sret ≡ Done after None System
-    → privileged (record v { mode = mode }) word Sret ≡ Done (saved after (record v { mode = mode })) None System
+    → privileged (hart_state_of root (record v { mode = mode })) word Sret ≡ Done after None System
+    → privileged (record v { mode = mode }) word Sret ≡ Done (guest_state_of after (record v { mode = mode })) None System
 unfolding privileged refusal
 returned_by root v after word HS e = cc
 returned_by root v after word U e = cc
@@ -57,21 +57,21 @@ pub returns_alike : ReturnsAlike
 returns_alike = λ root v after word e. returned_by root v after word v.mode e
 
 -- an SFENCE.VMA
-passed_saved : (root : GuestRoot) (v after : Virtual) → Done (passed (hosted root v)) None System ≡ Done after None System
-    → Done (passed v) None System ≡ Done (saved after v) None System
+passed_saved : (root : GuestRoot) (v after : Virtual) → Done (passed (hart_state_of root v)) None System ≡ Done after None System
+    → Done (passed v) None System ≡ Done (guest_state_of after v) None System
 passed_saved root v after e =
-    let is : passed (hosted root v) ≡ after = cc in
+    let is : passed (hart_state_of root v) ≡ after = cc in
     rw (← is, same_csrs root (is_virtual v.mode) v.csrs, same_mode v.mode) refl
 
 fenced_if : (root : GuestRoot) (v after : Virtual) (word : ℕ) (kept : Bool)
-    → decided (hosted root v) word SfenceVma (virtual_if kept) ≡ Done after None System
-    → decided v word SfenceVma (virtual_if kept) ≡ Done (saved after v) None System
+    → decided (hart_state_of root v) word SfenceVma (virtual_if kept) ≡ Done after None System
+    → decided v word SfenceVma (virtual_if kept) ≡ Done (guest_state_of after v) None System
 fenced_if root v after word true e = cc
 fenced_if root v after word false e = passed_saved root v after e
 
 fenced_by : (root : GuestRoot) (v after : Virtual) (word : ℕ) (mode : Mode)
-    → privileged (hosted root (record v { mode = mode })) word SfenceVma ≡ Done after None System
-    → privileged (record v { mode = mode }) word SfenceVma ≡ Done (saved after (record v { mode = mode })) None System
+    → privileged (hart_state_of root (record v { mode = mode })) word SfenceVma ≡ Done after None System
+    → privileged (record v { mode = mode }) word SfenceVma ≡ Done (guest_state_of after (record v { mode = mode })) None System
 unfolding privileged refusal
 fenced_by root v after word HS e = passed_saved root (record v { mode = HS }) after e
 fenced_by root v after word U e = cc
@@ -83,7 +83,7 @@ fences_alike = λ root v after word e. fenced_by root v after word v.mode e
 
 -- a WFI, and a read of time
 waits_by : (root : GuestRoot) (v : Virtual) (word : ℕ) (mode : Mode)
-    → privileged (hosted root (record v { mode = mode })) word Wfi ≡ refused (hosted root (record v { mode = mode })) word VirtualInstruction
+    → privileged (hart_state_of root (record v { mode = mode })) word Wfi ≡ refused (hart_state_of root (record v { mode = mode })) word VirtualInstruction
 unfolding privileged refusal
 waits_by root v word HS = refl
 waits_by root v word U = refl
@@ -94,7 +94,7 @@ pub waits_are_left : WaitsAreLeft
 waits_are_left = λ root v word. waits_by root v word v.mode
 
 pub time_is_left : TimeIsLeft
-unfolding read reached_by reached reached_in_vs reached_in_vu register_of read_only_register
+unfolding read_csr reached_by reached reached_in_vs reached_in_vu register_of read_only_register
 time_is_left root csrs HS = refl
 time_is_left root csrs U = refl
 time_is_left root csrs VS = refl

@@ -1,19 +1,19 @@
 -- The registers of the guest, and those of the hart that stand for them.
 use Rattle.std.specs.Prelude.{◌/◌, ◌^◌, ◌&&◌, nat_le, Result, Ok, Err, if◌then◌else◌}
 use Rattle.std.proofs.Common.{cond, ◌≡◌, ℕ, Option, Some, None, Bool, true, false, refl, sym, arith, ◌∙◌}
-use Rattle.arch_defs.specs.declared.csr_names.BankRegister.{BankRegister}
-use Rattle.arch_defs.specs.declared.csr_names.BankRegister.TheVariants.{Status, Tvec, Scratch, Epc, Cause, Tval, Atp}
-use Rattle.arch_defs.specs.declared.csr_names.BitRegister.TheVariants.{Scounteren, Senvcfg, Hcounteren, Henvcfg}
+use Rattle.arch_defs.specs.declared.csr_names.SupervisorCsr.{SupervisorCsr}
+use Rattle.arch_defs.specs.declared.csr_names.SupervisorCsr.TheVariants.{Status, Tvec, Scratch, Epc, Cause, Tval, Atp}
+use Rattle.arch_defs.specs.declared.csr_names.EnableCsr.TheVariants.{Scounteren, Senvcfg, Hcounteren, Henvcfg}
 use Rattle.arch_defs.specs.declared.csr_names.CsrEnd.{CsrEnd}
 use Rattle.arch_defs.specs.declared.csr_names.CsrEnd.TheVariants.{Illegal, Virtual as VirtualInstruction}
-use Rattle.arch_defs.specs.declared.csr_names.InterruptRegister.TheVariants.{Sie, Sip, Vsie, Vsip, Hideleg, Hie, Hip, Hvip}
+use Rattle.arch_defs.specs.declared.csr_names.InterruptCsr.TheVariants.{Sie, Sip, Vsie, Vsip, Hideleg, Hie, Hip, Hvip}
 use Rattle.arch_defs.specs.declared.csr_names.Register.{Register}
-use Rattle.arch_defs.specs.declared.csr_names.Register.TheVariants.{Supervisor, VirtualSupervisor, Interrupt, Bit, Hypervisor, Time, GuestTime}
+use Rattle.arch_defs.specs.declared.csr_names.Register.TheVariants.{Supervisor, VirtualSupervisor, Interrupt, Enable, Hypervisor, Time, GuestTime}
 use Rattle.arch_defs.specs.declared.modes.Mode.{Mode}
 use Rattle.arch_defs.specs.declared.modes.Mode.TheVariants.{HS, U, VS, VU}
 use Rattle.arch_defs.specs.declared.registers.Csrs.{Csrs}
 use Rattle.arch_defs.specs.declared.registers.GuestRoot.{GuestRoot}
-use Rattle.arch_defs.specs.Access.{bit_shown, bit_written, changed_by, interrupts_shown, interrupts_written, named_to_write, reached, reached_by, reached_in_vs, reached_in_vu, read, shown, value_of, write, written}
+use Rattle.arch_defs.specs.CsrAccess.{enable_shown, enable_written, interrupts_shown, interrupts_written, named_to_write, reached, reached_by, reached_in_vs, reached_in_vu, read_csr, shown, value_of, write_csr, written, written_by}
 use Rattle.arch_defs.specs.Bits.{bit}
 use Rattle.arch_defs.specs.CsrBits.{delegated, delegated_become, supervisor_interrupts}
 use Rattle.arch_defs.specs.CsrNames.{hypervisor_register, read_only_register, register_of, virtual_supervisor_register}
@@ -34,18 +34,18 @@ pub data Reaches (root : GuestRoot) (virtual : Bool) (csrs : Csrs) (n : ℕ) (ow
   Withheld : hart ≡ Err VirtualInstruction → Reaches root virtual csrs n own hart
   Both : (r twin : Register) → own ≡ Ok r → hart ≡ Ok twin → Twins root virtual csrs r twin → n / 2 ^ 8 ≡ 1 → Reaches root virtual csrs n own hart
 
--- the guest's own bank, with V = 0 HS's and with V = 1 VS's, and VS's on the hart
-bank_twins : (root : GuestRoot) (csrs : Csrs) (r : BankRegister) → Twins root false csrs (Supervisor r) (VirtualSupervisor r)
+-- the guest's own supervisor registers, with V = 0 HS's and with V = 1 VS's, and VS's on the hart
+supervisor_twins : (root : GuestRoot) (csrs : Csrs) (r : SupervisorCsr) → Twins root false csrs (Supervisor r) (VirtualSupervisor r)
 unfolding shown written
-bank_twins root csrs r = record {
+supervisor_twins root csrs r = record {
   shows = refl;
   changes = λ v. refl;
   keeps = λ v. record { rest = refl; timer = λ e. refl; external = λ e. refl; waits = refl };
 }
 
-nested_bank_twins : (root : GuestRoot) (csrs : Csrs) (r : BankRegister) → Twins root true csrs (VirtualSupervisor r) (VirtualSupervisor r)
+nested_supervisor_twins : (root : GuestRoot) (csrs : Csrs) (r : SupervisorCsr) → Twins root true csrs (VirtualSupervisor r) (VirtualSupervisor r)
 unfolding shown written
-nested_bank_twins root csrs r = record {
+nested_supervisor_twins root csrs r = record {
   shows = refl;
   changes = λ v. refl;
   keeps = λ v. record { rest = refl; timer = λ e. cc; external = λ e. cc; waits = refl };
@@ -121,8 +121,8 @@ vsip_twins root csrs = record {
 }
 
 -- the registers of which there is no copy
-scounteren_twins : (root : GuestRoot) (virtual : Bool) (csrs : Csrs) → Twins root virtual csrs (Bit Scounteren) (Bit Scounteren)
-unfolding shown written bit_shown bit_written
+scounteren_twins : (root : GuestRoot) (virtual : Bool) (csrs : Csrs) → Twins root virtual csrs (Enable Scounteren) (Enable Scounteren)
+unfolding shown written enable_shown enable_written
 scounteren_twins root false csrs = record {
   shows = refl;
   changes = λ v. refl;
@@ -134,8 +134,8 @@ scounteren_twins root true csrs = record {
   keeps = λ v. record { rest = refl; timer = λ e. cc; external = λ e. cc; waits = refl };
 }
 
-senvcfg_twins : (root : GuestRoot) (virtual : Bool) (csrs : Csrs) → Twins root virtual csrs (Bit Senvcfg) (Bit Senvcfg)
-unfolding shown written bit_shown bit_written
+senvcfg_twins : (root : GuestRoot) (virtual : Bool) (csrs : Csrs) → Twins root virtual csrs (Enable Senvcfg) (Enable Senvcfg)
+unfolding shown written enable_shown enable_written
 senvcfg_twins root false csrs = record {
   shows = refl;
   changes = λ v. refl;
@@ -152,8 +152,8 @@ abbrev is_hosted : Register → Bool
 is_hosted (Supervisor r) = true
 is_hosted (Interrupt Sie) = true
 is_hosted (Interrupt Sip) = true
-is_hosted (Bit Scounteren) = true
-is_hosted (Bit Senvcfg) = true
+is_hosted (Enable Scounteren) = true
+is_hosted (Enable Senvcfg) = true
 is_hosted _ = false
 
 -- whether a number names one of them
@@ -187,13 +187,13 @@ first_row n e = grind (arith, none_virtual n, none_hypervisor n, none_read_only 
 twins_in_hs : (root : GuestRoot) (csrs : Csrs) (n : ℕ) (r : Register) → (is_hosted r ≡ true → n / 2 ^ 8 ≡ 1)
     → Reaches root false csrs n (reached csrs HS r) (reached (hosted_csrs root false csrs) VS r)
 unfolding reached reached_in_vs
-twins_in_hs root csrs n (Supervisor Status) row = Both _ _ refl refl (bank_twins root csrs Status) (row refl)
-twins_in_hs root csrs n (Supervisor Tvec) row = Both _ _ refl refl (bank_twins root csrs Tvec) (row refl)
-twins_in_hs root csrs n (Supervisor Scratch) row = Both _ _ refl refl (bank_twins root csrs Scratch) (row refl)
-twins_in_hs root csrs n (Supervisor Epc) row = Both _ _ refl refl (bank_twins root csrs Epc) (row refl)
-twins_in_hs root csrs n (Supervisor Cause) row = Both _ _ refl refl (bank_twins root csrs Cause) (row refl)
-twins_in_hs root csrs n (Supervisor Tval) row = Both _ _ refl refl (bank_twins root csrs Tval) (row refl)
-twins_in_hs root csrs n (Supervisor Atp) row = Both _ _ refl refl (bank_twins root csrs Atp) (row refl)
+twins_in_hs root csrs n (Supervisor Status) row = Both _ _ refl refl (supervisor_twins root csrs Status) (row refl)
+twins_in_hs root csrs n (Supervisor Tvec) row = Both _ _ refl refl (supervisor_twins root csrs Tvec) (row refl)
+twins_in_hs root csrs n (Supervisor Scratch) row = Both _ _ refl refl (supervisor_twins root csrs Scratch) (row refl)
+twins_in_hs root csrs n (Supervisor Epc) row = Both _ _ refl refl (supervisor_twins root csrs Epc) (row refl)
+twins_in_hs root csrs n (Supervisor Cause) row = Both _ _ refl refl (supervisor_twins root csrs Cause) (row refl)
+twins_in_hs root csrs n (Supervisor Tval) row = Both _ _ refl refl (supervisor_twins root csrs Tval) (row refl)
+twins_in_hs root csrs n (Supervisor Atp) row = Both _ _ refl refl (supervisor_twins root csrs Atp) (row refl)
 twins_in_hs root csrs n (VirtualSupervisor r) row = Withheld refl
 twins_in_hs root csrs n (Interrupt Sie) row = Both _ _ refl refl (sie_twins root csrs) (row refl)
 twins_in_hs root csrs n (Interrupt Sip) row = Both _ _ refl refl (sip_twins root csrs) (row refl)
@@ -203,10 +203,10 @@ twins_in_hs root csrs n (Interrupt Hideleg) row = Withheld refl
 twins_in_hs root csrs n (Interrupt Hie) row = Withheld refl
 twins_in_hs root csrs n (Interrupt Hip) row = Withheld refl
 twins_in_hs root csrs n (Interrupt Hvip) row = Withheld refl
-twins_in_hs root csrs n (Bit Scounteren) row = Both _ _ refl refl (scounteren_twins root false csrs) (row refl)
-twins_in_hs root csrs n (Bit Senvcfg) row = Both _ _ refl refl (senvcfg_twins root false csrs) (row refl)
-twins_in_hs root csrs n (Bit Hcounteren) row = Withheld refl
-twins_in_hs root csrs n (Bit Henvcfg) row = Withheld refl
+twins_in_hs root csrs n (Enable Scounteren) row = Both _ _ refl refl (scounteren_twins root false csrs) (row refl)
+twins_in_hs root csrs n (Enable Senvcfg) row = Both _ _ refl refl (senvcfg_twins root false csrs) (row refl)
+twins_in_hs root csrs n (Enable Hcounteren) row = Withheld refl
+twins_in_hs root csrs n (Enable Henvcfg) row = Withheld refl
 twins_in_hs root csrs n (Hypervisor r) row = Withheld refl
 twins_in_hs root csrs n Time row = Withheld refl
 twins_in_hs root csrs n GuestTime row = Withheld refl
@@ -215,17 +215,17 @@ twins_in_hs root csrs n GuestTime row = Withheld refl
 atp_in_vs : (root : GuestRoot) (csrs : Csrs) (n : ℕ) (kept : Bool) → n / 2 ^ 8 ≡ 1
     → Reaches root true csrs n (cond kept (Err VirtualInstruction) (Ok (VirtualSupervisor Atp))) (cond kept (Err VirtualInstruction) (Ok (VirtualSupervisor Atp)))
 atp_in_vs root csrs n true row = Withheld refl
-atp_in_vs root csrs n false row = Both _ _ refl refl (nested_bank_twins root csrs Atp) row
+atp_in_vs root csrs n false row = Both _ _ refl refl (nested_supervisor_twins root csrs Atp) row
 
 twins_in_vs : (root : GuestRoot) (csrs : Csrs) (n : ℕ) (r : Register) → (is_hosted r ≡ true → n / 2 ^ 8 ≡ 1)
     → Reaches root true csrs n (reached csrs VS r) (reached (hosted_csrs root true csrs) VS r)
 unfolding reached reached_in_vs
-twins_in_vs root csrs n (Supervisor Status) row = Both _ _ refl refl (nested_bank_twins root csrs Status) (row refl)
-twins_in_vs root csrs n (Supervisor Tvec) row = Both _ _ refl refl (nested_bank_twins root csrs Tvec) (row refl)
-twins_in_vs root csrs n (Supervisor Scratch) row = Both _ _ refl refl (nested_bank_twins root csrs Scratch) (row refl)
-twins_in_vs root csrs n (Supervisor Epc) row = Both _ _ refl refl (nested_bank_twins root csrs Epc) (row refl)
-twins_in_vs root csrs n (Supervisor Cause) row = Both _ _ refl refl (nested_bank_twins root csrs Cause) (row refl)
-twins_in_vs root csrs n (Supervisor Tval) row = Both _ _ refl refl (nested_bank_twins root csrs Tval) (row refl)
+twins_in_vs root csrs n (Supervisor Status) row = Both _ _ refl refl (nested_supervisor_twins root csrs Status) (row refl)
+twins_in_vs root csrs n (Supervisor Tvec) row = Both _ _ refl refl (nested_supervisor_twins root csrs Tvec) (row refl)
+twins_in_vs root csrs n (Supervisor Scratch) row = Both _ _ refl refl (nested_supervisor_twins root csrs Scratch) (row refl)
+twins_in_vs root csrs n (Supervisor Epc) row = Both _ _ refl refl (nested_supervisor_twins root csrs Epc) (row refl)
+twins_in_vs root csrs n (Supervisor Cause) row = Both _ _ refl refl (nested_supervisor_twins root csrs Cause) (row refl)
+twins_in_vs root csrs n (Supervisor Tval) row = Both _ _ refl refl (nested_supervisor_twins root csrs Tval) (row refl)
 twins_in_vs root csrs n (Supervisor Atp) row = atp_in_vs root csrs n csrs.hstatus.vtvm (row refl)
 twins_in_vs root csrs n (VirtualSupervisor r) row = Withheld refl
 twins_in_vs root csrs n (Interrupt Sie) row = Both _ _ refl refl (vsie_twins root csrs) (row refl)
@@ -236,10 +236,10 @@ twins_in_vs root csrs n (Interrupt Hideleg) row = Withheld refl
 twins_in_vs root csrs n (Interrupt Hie) row = Withheld refl
 twins_in_vs root csrs n (Interrupt Hip) row = Withheld refl
 twins_in_vs root csrs n (Interrupt Hvip) row = Withheld refl
-twins_in_vs root csrs n (Bit Scounteren) row = Both _ _ refl refl (scounteren_twins root true csrs) (row refl)
-twins_in_vs root csrs n (Bit Senvcfg) row = Both _ _ refl refl (senvcfg_twins root true csrs) (row refl)
-twins_in_vs root csrs n (Bit Hcounteren) row = Withheld refl
-twins_in_vs root csrs n (Bit Henvcfg) row = Withheld refl
+twins_in_vs root csrs n (Enable Scounteren) row = Both _ _ refl refl (scounteren_twins root true csrs) (row refl)
+twins_in_vs root csrs n (Enable Senvcfg) row = Both _ _ refl refl (senvcfg_twins root true csrs) (row refl)
+twins_in_vs root csrs n (Enable Hcounteren) row = Withheld refl
+twins_in_vs root csrs n (Enable Henvcfg) row = Withheld refl
 twins_in_vs root csrs n (Hypervisor r) row = Withheld refl
 twins_in_vs root csrs n Time row = Withheld refl
 twins_in_vs root csrs n GuestTime row = Withheld refl
@@ -267,7 +267,7 @@ read_alike root virtual csrs n value own hart (Withheld f) is = cc
 read_alike root virtual csrs n value own hart (Both r twin e f twins row) is = rw e (rw (f, twins.shows) at is)
 
 pub reads_alike : ReadsAlike
-unfolding read
+unfolding read_csr
 reads_alike = λ root csrs mode n value is. read_alike root (is_virtual mode) csrs n value _ _ (reached_alike root csrs mode n (register_of n) refl) is
 
 illegal_by : (root : GuestRoot) (virtual : Bool) (csrs : Csrs) (n : ℕ) (own hart : Result Register CsrEnd) → Reaches root virtual csrs n own hart → value_of (hosted_csrs root virtual csrs) hart ≡ Err Illegal
@@ -277,12 +277,12 @@ illegal_by root virtual csrs n own hart (Withheld f) is = cc
 illegal_by root virtual csrs n own hart (Both r twin e f twins row) is = cc
 
 pub illegal_alike : IllegalAlike
-unfolding read
+unfolding read_csr
 illegal_alike = λ root csrs mode n is. illegal_by root (is_virtual mode) csrs n _ _ (reached_alike root csrs mode n (register_of n) refl) is
 
 -- a write, by whether the number is one of those that cannot be written
 write_alike : (root : GuestRoot) (virtual : Bool) (csrs after : Csrs) (n value : ℕ) (late : Bool) (own hart : Result Register CsrEnd) → Reaches root virtual csrs n own hart
-    → changed_by (hosted_csrs root virtual csrs) (cond late (Err Illegal) hart) value ≡ Ok after → changed_by csrs (cond late (Err Illegal) own) value ≡ Ok (saved_csrs virtual after csrs)
+    → written_by (hosted_csrs root virtual csrs) (cond late (Err Illegal) hart) value ≡ Ok after → written_by csrs (cond late (Err Illegal) own) value ≡ Ok (saved_csrs virtual after csrs)
 write_alike root virtual csrs after n value true own hart reaches is = cc
 write_alike root virtual csrs after n value false own hart (Nothing e f) is = cc
 write_alike root virtual csrs after n value false own hart (Withheld f) is = cc
@@ -290,16 +290,16 @@ write_alike root virtual csrs after n value false own hart (Both r twin e f twin
     let same : written (hosted_csrs root virtual csrs) twin value ≡ after = cc in rw (e, ← twins.changes value, same) refl
 
 pub writes_alike : WritesAlike
-unfolding write named_to_write
+unfolding write_csr named_to_write
 writes_alike = λ root csrs after mode n value is. write_alike root (is_virtual mode) csrs after n value (nat_le 0xC00 n) _ _ (reached_alike root csrs mode n (register_of n) refl) is
 
 not_written : (root : GuestRoot) (virtual : Bool) (csrs : Csrs) (n value : ℕ) (late : Bool) (own hart : Result Register CsrEnd) → Reaches root virtual csrs n own hart
-    → changed_by (hosted_csrs root virtual csrs) (cond late (Err Illegal) hart) value ≡ Err Illegal → changed_by csrs (cond late (Err Illegal) own) value ≡ Err Illegal
+    → written_by (hosted_csrs root virtual csrs) (cond late (Err Illegal) hart) value ≡ Err Illegal → written_by csrs (cond late (Err Illegal) own) value ≡ Err Illegal
 not_written root virtual csrs n value true own hart reaches is = refl
 not_written root virtual csrs n value false own hart (Nothing e f) is = rw e refl
 not_written root virtual csrs n value false own hart (Withheld f) is = cc
 not_written root virtual csrs n value false own hart (Both r twin e f twins row) is = cc
 
 pub illegal_to_write_alike : IllegalToWriteAlike
-unfolding write named_to_write
+unfolding write_csr named_to_write
 illegal_to_write_alike = λ root csrs mode n value is. not_written root (is_virtual mode) csrs n value (nat_le 0xC00 n) _ _ (reached_alike root csrs mode n (register_of n) refl) is

@@ -13,7 +13,7 @@ use Rattle.arch_defs.specs.Interrupts.{interrupt_of}
 use Rattle.arch_defs.specs.Memory.{Reading, SecondStage}
 use Rattle.arch_defs.specs.Translation.{first_stage, found_under}
 use Rattle.arch_defs.specs.Traps.{entered_at, entered_hs, entered_vs, exception, is_guest_page_fault, is_virtual}
-use Rattle.world_switch.specs.Hosting.{fixed_up, hosted, hosted_csrs, hosted_mode, saved, saved_csrs, saved_mode}
+use Rattle.world_switch.specs.Hosting.{after_hs_trap, guest_state_of, hart_state_of, hosted_csrs, hosted_mode, saved_csrs, saved_mode}
 use Rattle.world_switch.specs.Laws.{ExceptionsAlike, InterruptsAlike, IsVirtual, LoadAfterSave, NestedTrapsAlike, SaveAfterLoad, TranslatesAlike, hidden}
 
 -- modes
@@ -113,7 +113,7 @@ no_address false = refl
 
 -- with V = 0 an entry into VS, fixed up, is one into the guest's HS
 exception_entered : (root : GuestRoot) (v : Virtual) (mode : Mode) (cause tval : ℕ) → is_virtual mode ≡ false
-    → fixed_up (saved (entered_at (hosted root (record v { mode = mode })) (exception (hosted_mode mode) cause tval) level.VS) (record v { mode = mode }))
+    → after_hs_trap (guest_state_of (entered_at (hart_state_of root (record v { mode = mode })) (exception (hosted_mode mode) cause tval) level.VS) (record v { mode = mode }))
     ≡ entered_at (record v { mode = mode }) (exception mode cause tval) level.HS
 unfolding entered_hs entered_vs
 exception_entered root v HS cause tval own =
@@ -131,7 +131,7 @@ one_less : (code : ℕ) → code + 1 - 1 ≡ code
 one_less code = omega arith
 
 interrupt_entered : (root : GuestRoot) (v : Virtual) (mode : Mode) (code : ℕ) → is_virtual mode ≡ false
-    → fixed_up (saved (entered_at (hosted root (record v { mode = mode })) (interrupt_of (code + 1)) level.VS) (record v { mode = mode }))
+    → after_hs_trap (guest_state_of (entered_at (hart_state_of root (record v { mode = mode })) (interrupt_of (code + 1)) level.VS) (record v { mode = mode }))
     ≡ entered_at (record v { mode = mode }) (interrupt_of code) level.HS
 unfolding entered_hs entered_vs
 interrupt_entered root v HS code own = rw (one_less code) refl
@@ -144,7 +144,7 @@ interrupts_alike = λ root v code own. interrupt_entered root v v.mode code own
 
 -- with V = 1 it is one into the guest's VS
 nested_entered : (root : GuestRoot) (v : Virtual) (mode : Mode) (trap : Trap) → is_virtual mode ≡ true
-    → saved (entered_at (hosted root (record v { mode = mode })) trap level.VS) (record v { mode = mode })
+    → guest_state_of (entered_at (hart_state_of root (record v { mode = mode })) trap level.VS) (record v { mode = mode })
     ≡ entered_at (record v { mode = mode }) trap level.VS
 unfolding entered_vs
 nested_entered root v HS trap on = cc

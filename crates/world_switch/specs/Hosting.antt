@@ -2,7 +2,7 @@
 -- guest's VS and VU.
 use Rattle.std.specs.Prelude.{ℕ, Bool, true, false, not, ◌&&◌, if◌then◌else◌}
 use Rattle.arch_defs.specs.declared.modes.Mode.{Mode}
-use Rattle.arch_defs.specs.declared.registers.Bank.{Bank}
+use Rattle.arch_defs.specs.declared.registers.SupervisorCsrs.{SupervisorCsrs}
 use Rattle.arch_defs.specs.declared.registers.Csrs.{Csrs}
 use Rattle.arch_defs.specs.declared.registers.GuestRoot.{GuestRoot}
 use Rattle.arch_defs.specs.declared.registers.GuestMode.TheVariants.{Sv39x4}
@@ -12,7 +12,7 @@ use Rattle.arch_defs.specs.declared.registers.Interrupts.{Interrupts}
 use Rattle.arch_defs.specs.declared.registers.Virtual.{Virtual}
 use Rattle.arch_defs.specs.CsrBits.{hedeleg_bits}
 use Rattle.arch_defs.specs.Layouts.{Layout}
-use Rattle.arch_defs.specs.Registers.{bank_at_reset, clear_hypervisor_status, clear_supervisor_status, csrs_at_reset}
+use Rattle.arch_defs.specs.Registers.{clear_hypervisor_status, clear_supervisor_status, csrs_at_reset, supervisor_at_reset}
 use Rattle.arch_defs.specs.Traps.{is_supervisor, is_virtual, mode_of}
 use Rattle.machine_laws.specs.HostPlaces.{memory_place}
 use Rattle.machine_laws.specs.Renaming.{renamed}
@@ -45,8 +45,8 @@ hosted_exceptions false hedeleg = own_exceptions
 hosted_exceptions true hedeleg = hedeleg_bits hedeleg
 
 -- the hart's own registers of HS: of the guest's MXR alone, which counts with V = 1
-abbrev pub bank_with : Bool → Bank
-bank_with mxr = record bank_at_reset { status = record clear_supervisor_status { mxr = mxr } }
+abbrev pub supervisor_with : Bool → SupervisorCsrs
+supervisor_with mxr = record supervisor_at_reset { status = record clear_supervisor_status { mxr = mxr } }
 
 -- the hart's registers under this root of the second stage, by the guest's V: VS's are those of the guest's
 -- HS, whose exceptions and interrupts are all delegated to VS, or those of its VS, delegated as the guest
@@ -64,7 +64,7 @@ hosted_csrs root false csrs = record csrs_at_reset {
   hgatp = root;
 }
 hosted_csrs root true csrs = record csrs_at_reset {
-  hs = bank_with csrs.hs.status.mxr;
+  hs = supervisor_with csrs.hs.status.mxr;
   vs = csrs.vs;
   hie = csrs.hie;
   hvip = csrs.hvip;
@@ -77,8 +77,8 @@ hosted_csrs root true csrs = record csrs_at_reset {
 }
 
 -- what the hart has for a guest under this root, the reservation at the guest's own address
-abbrev pub hosted : GuestRoot → Virtual → Virtual
-hosted root virt = record {
+abbrev pub hart_state_of : GuestRoot → Virtual → Virtual
+hart_state_of root virt = record {
   regs = virt.regs;
   csrs = hosted_csrs root (is_virtual virt.mode) virt.csrs;
   mode = hosted_mode virt.mode;
@@ -95,8 +95,8 @@ abbrev pub host_root : Layout → GuestRoot
 host_root part = table_from part.first_root
 
 -- what the hart has for that guest under a root: its reservation is at the place in machine memory
-abbrev pub loaded : Layout → GuestRoot → Virtual → Virtual
-loaded part root virt = renamed (memory_place part.blocks) (hosted root virt)
+abbrev pub hart_state_in : Layout → GuestRoot → Virtual → Virtual
+hart_state_in part root virt = renamed (memory_place part.blocks) (hart_state_of root virt)
 
 -- what the guest has after the hart has run, by the guest's V; what the hart does not have for it stays
 abbrev pub saved_csrs : Bool → Csrs → Csrs → Csrs
@@ -115,8 +115,8 @@ saved_csrs true hart before = record before {
   senvcfg_fiom = hart.senvcfg_fiom;
 }
 
-abbrev pub saved : Virtual → Virtual → Virtual
-saved hart before = record {
+abbrev pub guest_state_of : Virtual → Virtual → Virtual
+guest_state_of hart before = record {
   regs = hart.regs;
   csrs = saved_csrs (is_virtual before.mode) hart.csrs before.csrs;
   mode = saved_mode (is_virtual before.mode) hart.mode;
@@ -126,13 +126,14 @@ saved hart before = record {
 -- and after the hart has taken a trap into VS that stands for one into the guest's HS with V = 0 (Privileged
 -- Architecture 20211203, 8.2.1, 8.2.8, 8.2.9): GVA, SPV, htval and htinst, which the hart does not have for
 -- the guest
-abbrev pub fixed_up : Virtual → Virtual
-fixed_up virt =
+abbrev pub after_hs_trap : Virtual → Virtual
+after_hs_trap virt =
     let hstatus = record virt.csrs.hstatus { gva = false; spv = false } in
     record virt { csrs = record virt.csrs { hstatus = hstatus; htval = 0; htinst = 0 } }
 
 -- what the guest has after the hart has run, by whether its last step was a trap into VS. With V = 1 that is
 -- one into the guest's VS, which changes nothing that the hart does not have for it
-abbrev pub taken_back : Bool → Virtual → Virtual → Virtual
-taken_back trapped hart before =
-    if trapped && not (is_virtual before.mode) then fixed_up (saved hart before) else saved hart before
+abbrev pub guest_state_after : Bool → Virtual → Virtual → Virtual
+guest_state_after trapped hart before =
+    if trapped && not (is_virtual before.mode) then after_hs_trap (guest_state_of hart before)
+    else guest_state_of hart before

@@ -9,11 +9,11 @@ use Rattle.arch_defs.specs.declared.modes.Trap.{Trap}
 use Rattle.arch_defs.specs.declared.registers.Csrs.{Csrs}
 use Rattle.arch_defs.specs.declared.registers.GuestRoot.{GuestRoot}
 use Rattle.arch_defs.specs.declared.registers.Virtual.{Virtual}
-use Rattle.arch_defs.specs.Access.{read, write}
+use Rattle.arch_defs.specs.CsrAccess.{read_csr, write_csr}
 use Rattle.arch_defs.specs.Interrupts.{interrupt_of, is_ready_for_hs}
 use Rattle.arch_defs.specs.Layouts.{Layout}
 use Rattle.arch_defs.specs.Memory.{Reading, SecondStage}
-use Rattle.arch_defs.specs.Registers.{bank_at_reset, clear_interrupts}
+use Rattle.arch_defs.specs.Registers.{clear_interrupts, supervisor_at_reset}
 use Rattle.arch_defs.specs.Translation.{first_stage}
 use Rattle.arch_defs.specs.Traps.{entered_at, exception, is_virtual}
 use Rattle.op_defs.specs.declared.ops.Privileged.{Privileged}
@@ -22,21 +22,21 @@ use Rattle.machine_defs.specs.declared.events.Event.TheVariants.{System}
 use Rattle.machine_laws.specs.HostPlaces.{in_ram, memory_place}
 use Rattle.machine_defs.specs.Outcomes.{Done}
 use Rattle.machine_defs.specs.Privileges.{privileged, refused}
-use Rattle.machine_laws.specs.Renaming.{ReservesHeld, renamed}
-use Rattle.world_switch.specs.Hosting.{fixed_up, hosted, hosted_csrs, hosted_mode, saved, saved_csrs, taken_back}
+use Rattle.machine_laws.specs.Renaming.{ReservesWithin, renamed}
+use Rattle.world_switch.specs.Hosting.{after_hs_trap, guest_state_after, guest_state_of, hart_state_of, hosted_csrs, hosted_mode, saved_csrs}
 
 -- the hart runs with V = 1
 abbrev pub IsVirtual : Type 0
-IsVirtual = (root : GuestRoot) (v : Virtual) → is_virtual (hosted root v).mode ≡ true
+IsVirtual = (root : GuestRoot) (v : Virtual) → is_virtual (hart_state_of root v).mode ≡ true
 
 -- what is saved of a hart that was just loaded is what the guest had
 abbrev pub SaveAfterLoad : Type 0
-SaveAfterLoad = (root : GuestRoot) (v : Virtual) → saved (hosted root v) v ≡ v
+SaveAfterLoad = (root : GuestRoot) (v : Virtual) → guest_state_of (hart_state_of root v) v ≡ v
 
 -- the hart's registers without those that it has for the guest
 abbrev pub hidden : Csrs → Csrs
 hidden csrs = record csrs {
-  vs = bank_at_reset;
+  vs = supervisor_at_reset;
   hie = clear_interrupts;
   hvip = clear_interrupts;
   scounteren_tm = false;
@@ -63,7 +63,7 @@ abbrev pub LoadAfterSave : Type 0
 LoadAfterSave =
     (root : GuestRoot) (v hart : Virtual)
     → hidden hart.csrs ≡ hidden (hosted_csrs root (is_virtual v.mode) v.csrs)
-    → is_virtual hart.mode ≡ true → hosted root (saved hart v) ≡ hart
+    → is_virtual hart.mode ≡ true → hart_state_of root (guest_state_of hart v) ≡ hart
 
 -- the first stage translates each access alike
 abbrev pub TranslatesAlike : Type 0
@@ -79,39 +79,39 @@ TranslatesAlike =
 abbrev pub ReadsAlike : Type 0
 ReadsAlike =
     (root : GuestRoot) (csrs : Csrs) (mode : Mode) (n value : ℕ)
-    → read (hosted_csrs root (is_virtual mode) csrs) (hosted_mode mode) n ≡ Ok value
-    → read csrs mode n ≡ Ok value
+    → read_csr (hosted_csrs root (is_virtual mode) csrs) (hosted_mode mode) n ≡ Ok value
+    → read_csr csrs mode n ≡ Ok value
 
 abbrev pub WritesAlike : Type 0
 WritesAlike =
     (root : GuestRoot) (csrs after : Csrs) (mode : Mode) (n value : ℕ)
-    → write (hosted_csrs root (is_virtual mode) csrs) (hosted_mode mode) n value ≡ Ok after
-    → write csrs mode n value ≡ Ok (saved_csrs (is_virtual mode) after csrs)
+    → write_csr (hosted_csrs root (is_virtual mode) csrs) (hosted_mode mode) n value ≡ Ok after
+    → write_csr csrs mode n value ≡ Ok (saved_csrs (is_virtual mode) after csrs)
 
 abbrev pub IllegalAlike : Type 0
 IllegalAlike =
     (root : GuestRoot) (csrs : Csrs) (mode : Mode) (n : ℕ)
-    → read (hosted_csrs root (is_virtual mode) csrs) (hosted_mode mode) n ≡ Err Illegal
-    → read csrs mode n ≡ Err Illegal
+    → read_csr (hosted_csrs root (is_virtual mode) csrs) (hosted_mode mode) n ≡ Err Illegal
+    → read_csr csrs mode n ≡ Err Illegal
 
 abbrev pub IllegalToWriteAlike : Type 0
 IllegalToWriteAlike =
     (root : GuestRoot) (csrs : Csrs) (mode : Mode) (n value : ℕ)
-    → write (hosted_csrs root (is_virtual mode) csrs) (hosted_mode mode) n value ≡ Err Illegal
-    → write csrs mode n value ≡ Err Illegal
+    → write_csr (hosted_csrs root (is_virtual mode) csrs) (hosted_mode mode) n value ≡ Err Illegal
+    → write_csr csrs mode n value ≡ Err Illegal
 
 -- the hart's own sstatus.MXR, which counts beside vsstatus.MXR, is the guest's with V = 1, and else clear
 abbrev pub OwnMxr : Type 0
 OwnMxr =
     (root : GuestRoot) (v : Virtual)
-    → (hosted root v).csrs.hs.status.mxr ≡ (is_virtual v.mode && v.csrs.hs.status.mxr)
+    → (hart_state_of root v).csrs.hs.status.mxr ≡ (is_virtual v.mode && v.csrs.hs.status.mxr)
 
 -- an instruction that the mode decides on and that the hart makes is the guest's
 abbrev pub PrivilegedAlike : Privileged → Type 0
 PrivilegedAlike effect =
     (root : GuestRoot) (v after : Virtual) (word : ℕ)
-    → privileged (hosted root v) word effect ≡ Done after None System
-    → privileged v word effect ≡ Done (saved after v) None System
+    → privileged (hart_state_of root v) word effect ≡ Done after None System
+    → privileged v word effect ≡ Done (guest_state_of after v) None System
 
 -- so is an SRET, and an SFENCE.VMA
 abbrev pub ReturnsAlike : Type 0
@@ -124,33 +124,34 @@ FencesAlike = PrivilegedAlike SfenceVma
 abbrev pub WaitsAreLeft : Type 0
 WaitsAreLeft =
     (root : GuestRoot) (v : Virtual) (word : ℕ)
-    → privileged (hosted root v) word Wfi ≡ refused (hosted root v) word VirtualInstruction
+    → privileged (hart_state_of root v) word Wfi ≡ refused (hart_state_of root v) word VirtualInstruction
 
 abbrev pub TimeIsLeft : Type 0
 TimeIsLeft =
     (root : GuestRoot) (csrs : Csrs) (mode : Mode)
-    → read (hosted_csrs root (is_virtual mode) csrs) (hosted_mode mode) 0xC01 ≡ Err VirtualInstruction
+    → read_csr (hosted_csrs root (is_virtual mode) csrs) (hosted_mode mode) 0xC01 ≡ Err VirtualInstruction
 
 -- with V = 0 a trap that the hart delegates, fixed up, is the one that the guest's HS takes
 abbrev pub ExceptionsAlike : Type 0
 ExceptionsAlike = (root : GuestRoot) (v : Virtual) (cause tval : ℕ) → is_virtual v.mode ≡ false
-    → fixed_up (saved (entered_at (hosted root v) (exception (hosted_mode v.mode) cause tval) level.VS) v)
+    → after_hs_trap (guest_state_of
+    (entered_at (hart_state_of root v) (exception (hosted_mode v.mode) cause tval) level.VS) v)
     ≡ entered_at v (exception v.mode cause tval) level.HS
 
 -- so with an interrupt, whose code is one more on the hart
 abbrev pub InterruptsAlike : Type 0
 InterruptsAlike = (root : GuestRoot) (v : Virtual) (code : ℕ) → is_virtual v.mode ≡ false
-    → fixed_up (saved (entered_at (hosted root v) (interrupt_of (code + 1)) level.VS) v)
+    → after_hs_trap (guest_state_of (entered_at (hart_state_of root v) (interrupt_of (code + 1)) level.VS) v)
     ≡ entered_at v (interrupt_of code) level.HS
 
 -- with V = 1 a trap that the hart delegates is the one that the guest's VS takes
 abbrev pub NestedTrapsAlike : Type 0
 NestedTrapsAlike = (root : GuestRoot) (v : Virtual) (trap : Trap) → is_virtual v.mode ≡ true
-    → saved (entered_at (hosted root v) trap level.VS) v ≡ entered_at v trap level.VS
+    → guest_state_of (entered_at (hart_state_of root v) trap level.VS) v ≡ entered_at v trap level.VS
 
 -- what the guest that has this part has after the hart has run: what is taken back of the same hart with its
 -- reservation, if it has one, at the guest's own address
 abbrev pub GivesBack : Layout → Virtual → Bool → Virtual → Virtual → Type 0
 GivesBack part hart trapped before after =
-    (own : Virtual) → ReservesHeld (in_ram part.blocks) own.reservation
-    → hart ≡ renamed (memory_place part.blocks) own → after ≡ taken_back trapped own before
+    (own : Virtual) → ReservesWithin (in_ram part.blocks) own.reservation
+    → hart ≡ renamed (memory_place part.blocks) own → after ≡ guest_state_after trapped own before

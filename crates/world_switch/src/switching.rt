@@ -4,13 +4,13 @@ ghost use Rattle.std.specs.Prelude.{◌≡◌, ℕ, Option, Some, true, false};
 ghost use Rattle.arch_defs.specs.Registers.{clear_hypervisor_status};
 ghost use Rattle.arch_defs.specs.Traps.{is_virtual};
 ghost use Rattle.machine_laws.specs.HostPlaces.{in_ram, memory_place};
-ghost use Rattle.machine_laws.specs.Renaming.{ReservesHeld, renamed, reservation_renamed};
-ghost use Rattle.world_switch.specs.Hosting.{all_interrupts, bank_with, fixed_up, hosted_csrs, hosted_mode, loaded, saved, saved_csrs, saved_mode, table_from};
+ghost use Rattle.machine_laws.specs.Renaming.{ReservesWithin, renamed, reservation_renamed};
+ghost use Rattle.world_switch.specs.Hosting.{after_hs_trap, all_interrupts, guest_state_of, hart_state_in, hosted_csrs, hosted_mode, saved_csrs, saved_mode, supervisor_with, table_from};
 ghost use Rattle.world_switch.specs.Laws.{GivesBack};
 
 use arch_defs::{
-    BLOCK_SIZE, Bank, Csrs, GuestMode, GuestRoot, HypervisorStatus, Interrupts, Mode, Part,
-    SupervisorStatus, Virtual,
+    BLOCK_SIZE, Csrs, GuestMode, GuestRoot, HypervisorStatus, Interrupts, Mode, Part,
+    SupervisorCsrs, SupervisorStatus, Virtual,
 };
 use csr_file::hedeleg_bits;
 use phys_mem::RAM_BASE;
@@ -24,8 +24,8 @@ const OWN_EXCEPTIONS: u64 = 0xB1FF;
 /// 0, and for its VS and VU with V = 1, under the table whose root begins at the frame `root`. The guest's
 /// reservation is at its place in machine memory.
 pub fn load(virt: &Virtual, part: &Part, root: u64) -> Virtual
-    requires held { ReservesHeld (in_ram part.now.blocks) virt.now.reservation }
-    ensures { result ≡ loaded part.now (table_from root) virt.now }
+    requires held { ReservesWithin (in_ram part.now.blocks) virt.now.reservation }
+    ensures { result ≡ hart_state_in part.now (table_from root) virt.now }
 {
     if is_virtual(virt.mode) {
         to_nested(virt, part, root)
@@ -37,8 +37,8 @@ pub fn load(virt: &Virtual, part: &Part, root: u64) -> Virtual
 /// What the hart has for a guest with V = 0: its VS stands for the guest's HS, its VU for the guest's U.
 pub fn to_guest_hs(virt: &Virtual, part: &Part, root: u64) -> Virtual
     requires own { is_virtual virt.now.mode ≡ false }
-    requires held { ReservesHeld (in_ram part.now.blocks) virt.now.reservation }
-    ensures { result ≡ loaded part.now (table_from root) virt.now }
+    requires held { ReservesWithin (in_ram part.now.blocks) virt.now.reservation }
+    ensures { result ≡ hart_state_in part.now (table_from root) virt.now }
 {
     with_csrs(virt, part, csrs_of_hs(table_from(root), &virt.csrs))
 }
@@ -46,8 +46,8 @@ pub fn to_guest_hs(virt: &Virtual, part: &Part, root: u64) -> Virtual
 /// What the hart has for a guest with V = 1: its VS stands for the guest's VS, its VU for the guest's VU.
 pub fn to_nested(virt: &Virtual, part: &Part, root: u64) -> Virtual
     requires nested { is_virtual virt.now.mode ≡ true }
-    requires held { ReservesHeld (in_ram part.now.blocks) virt.now.reservation }
-    ensures { result ≡ loaded part.now (table_from root) virt.now }
+    requires held { ReservesWithin (in_ram part.now.blocks) virt.now.reservation }
+    ensures { result ≡ hart_state_in part.now (table_from root) virt.now }
 {
     with_csrs(virt, part, csrs_of_vs(table_from(root), &virt.csrs))
 }
@@ -58,7 +58,7 @@ pub fn take_back(hart: &Virtual, part: &Part, trapped: bool, virt: &mut Virtual)
     ensures { GivesBack part.now hart.now trapped virt.old virt.new }
 {
     let own = Virtual {
-        reservation: found_again(part, hart.reservation),
+        reservation: guest_reservation(part, hart.reservation),
         ..*hart
     };
     if trapped && !is_virtual(virt.mode) {
@@ -72,7 +72,7 @@ pub fn take_back(hart: &Virtual, part: &Part, trapped: bool, virt: &mut Virtual)
 /// Gives the guest what the hart has for it, by the guest's V, the reservation as the hart has it. What the
 /// hart does not have for the guest stays.
 pub fn save(hart: &Virtual, virt: &mut Virtual)
-    ensures { virt.new ≡ saved hart.now virt.old }
+    ensures { virt.new ≡ guest_state_of hart.now virt.old }
 {
     let nested = is_virtual(virt.mode);
     save_csrs(&hart.csrs, nested, &mut virt.csrs);
@@ -100,7 +100,7 @@ fn save_csrs(hart: &Csrs, nested: bool, csrs: &mut Csrs)
 /// Sets what a trap from V = 0 into HS sets beside the registers that the hart has for the guest: GVA, SPV,
 /// htval and htinst (Privileged Architecture 20211203, 8.2.1, 8.2.8 and 8.2.9).
 pub fn fix_up(virt: &mut Virtual)
-    ensures { virt.new ≡ fixed_up virt.old }
+    ensures { virt.new ≡ after_hs_trap virt.old }
 {
     virt.csrs.hstatus.gva = false;
     virt.csrs.hstatus.spv = false;
@@ -110,7 +110,7 @@ pub fn fix_up(virt: &mut Virtual)
 
 // What the hart has for a guest beside these control and status registers.
 fn with_csrs(virt: &Virtual, part: &Part, csrs: Csrs) -> Virtual
-    requires held { ReservesHeld (in_ram part.now.blocks) virt.now.reservation }
+    requires held { ReservesWithin (in_ram part.now.blocks) virt.now.reservation }
     ensures { result ≡ renamed (memory_place part.now.blocks)
         (record virt.now { csrs = csrs; mode = hosted_mode virt.now.mode }) }
 {
@@ -124,7 +124,7 @@ fn with_csrs(virt: &Virtual, part: &Part, csrs: Csrs) -> Virtual
 
 // A reservation of the guest that has this part, at its place in machine memory.
 fn placed(part: &Part, reservation: Option<(u64, u8)>) -> Option<(u64, u8)>
-    requires { ReservesHeld (in_ram part.now.blocks) reservation }
+    requires { ReservesWithin (in_ram part.now.blocks) reservation }
     ensures { result ≡ reservation_renamed (memory_place part.now.blocks) reservation }
 {
     match reservation {
@@ -135,8 +135,8 @@ fn placed(part: &Part, reservation: Option<(u64, u8)>) -> Option<(u64, u8)>
 
 // A reservation at a place in machine memory, at the guest's own address. One at a place that the part does
 // not have becomes none. That cannot occur: the hart reserves only what the guest's host table gives.
-fn found_again(part: &Part, reservation: Option<(u64, u8)>) -> Option<(u64, u8)>
-    ensures { (own : Option (ℕ × ℕ)) → ReservesHeld (in_ram part.now.blocks) own
+fn guest_reservation(part: &Part, reservation: Option<(u64, u8)>) -> Option<(u64, u8)>
+    ensures { (own : Option (ℕ × ℕ)) → ReservesWithin (in_ram part.now.blocks) own
         → reservation ≡ reservation_renamed (memory_place part.now.blocks) own → result ≡ own }
 {
     let (place, bytes) = reservation?;
@@ -226,7 +226,7 @@ fn csrs_of_vs(root: GuestRoot, csrs: &Csrs) -> Csrs
     ensures { result ≡ hosted_csrs root true csrs.now }
 {
     Csrs {
-        hs: bank_with(csrs.hs.status.mxr),
+        hs: supervisor_with(csrs.hs.status.mxr),
         vs: csrs.vs,
         hie: csrs.hie,
         hvip: csrs.hvip,
@@ -254,15 +254,15 @@ fn waits_kept() -> HypervisorStatus
     }
 }
 
-// A bank that has MXR alone, since with V = 1 sstatus.MXR counts beside vsstatus.MXR (8.5.1).
-fn bank_with(mxr: bool) -> Bank
-    ensures { result ≡ bank_with mxr }
+// Supervisor registers that have MXR alone, since with V = 1 sstatus.MXR counts beside vsstatus.MXR (8.5.1).
+fn supervisor_with(mxr: bool) -> SupervisorCsrs
+    ensures { result ≡ supervisor_with mxr }
 {
-    Bank {
+    SupervisorCsrs {
         status: SupervisorStatus {
             mxr,
             ..SupervisorStatus::clear()
         },
-        ..Bank::at_reset()
+        ..SupervisorCsrs::at_reset()
     }
 }

@@ -32,8 +32,8 @@ part_at-part-requires-clause-roots c =
 pub part_at-part-requires-clause-small : goal.part_at-part-requires-clause-small
 part_at-part-requires-clause-small c = omega (arith, c.loop-i.invariant.tables, c.requires.most)
 
-pub after-free-requires-clause-room : goal.after-free-requires-clause-room
-after-free-requires-clause-room c = (
+pub after_need-free-requires-clause-room : goal.after_need-free-requires-clause-room
+after_need-free-requires-clause-room c = (
   omega (arith, c.loop-i.invariant.blocks, c.loop-i.invariant.from.1, c.loop-i.invariant.roots, c.loop-i.invariant.from.2, c.loop-i.invariant.tables, c.requires.most),
   omega (arith, c.loop-i.invariant.roots, c.loop-i.invariant.from.2, c.loop-i.invariant.tables, c.requires.most),
   omega (arith, c.loop-i.invariant.tables, c.requires.most),
@@ -43,7 +43,7 @@ pub loop-i-preserved : goal.loop-i-preserved
 loop-i-preserved c =
     let need : Need = get_or c.args.needs.now c.loop-i.i (record { blocks = 0; spaces = 0; entries = 0 }) in
     let pushed : c.push.new.self.items ≡ c.loop-i.parts.items ++ c.part_at-part.result ∷ [] = search rules in
-    rw (pushed, c.after-free.ensures)
+    rw (pushed, c.after_need-free.ensures)
     (so_far_more c.args.needs.now c.loop-i.i c.loop-i.parts.items c.args.start c.loop-i.free c.args.frames need c.part_at-part.result
     c.loop-i.invariant c.loop-i-test.true (get_or_default c.args.needs.now c.loop-i.i (record { blocks = 0; spaces = 0; entries = 0 }) need c.loop-i-test.true)
     c.part_at-part.ensures.meets c.part_at-part.ensures.once c.part_at-part.ensures.between)

@@ -26,7 +26,7 @@ returns-clause-run c =
     let q = progress c.run-stop.new.self.state c.run-stop.new.memory c.run-stop.new.tally.trace (is_vs_trap c.run-stop.result.why) in
     let hart = returns-clause-hart c in
     let is = ran part pool m c.args.memory.now c.args.limit c.args.tally.now.trace can.running can.lasts can.placed c.run-stop.result.taken c.run-stop.ensures.within q hart.steps in
-    let fixed = c.take_steps.ensures.fixed in
+    let fixed = c.take_steps.ensures.keeps in
     record {
       ready = is.need;
       steps =
@@ -52,8 +52,8 @@ returns-clause-keeps c =
     (returns-clause-hart c).steps in
     record {
       only = is.only;
-      placed = placed_after c.args.guest.now c.take_steps.new.self c.args.memory.now c.run-stop.new.memory c.run-stop.result.taken can.placed c.take_steps.ensures.fixed is.only (returns-clause-run c).steps;
-      fixed = c.take_steps.ensures.fixed;
+      placed = placed_after c.args.guest.now c.take_steps.new.self c.args.memory.now c.run-stop.new.memory c.run-stop.result.taken can.placed c.take_steps.ensures.keeps is.only (returns-clause-run c).steps;
+      keeps = c.take_steps.ensures.keeps;
     }
 
 pub returns-clause-why : goal.returns-clause-why

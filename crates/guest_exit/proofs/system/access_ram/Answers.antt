@@ -10,7 +10,7 @@ use Rattle.guest_exit.proofs.system.access_ram.Goals as goal
 pub returns-in-Done-clause-step : goal.returns-in-Done-clause-step
 returns-in-Done-clause-step c =
     access_made c.args.guest.now c.tick.new.self c.args.memory.now c.access_in.new.memory c.access_in.new.virt c.args.wanted
-    c.in-Done.ensures.ends (record { part = c.tick.ensures.fixed.part; pool = c.tick.ensures.fixed.pool }) c.tick.ensures.platform
+    c.in-Done.ensures.ends (record { part = c.tick.ensures.keeps.part; pool = c.tick.ensures.keeps.pool }) c.tick.ensures.platform
 
 pub returns-in-Raise-clause-step : goal.returns-in-Raise-clause-step
 returns-in-Raise-clause-step c =

@@ -6,7 +6,7 @@ use Rattle.guest_exit.proofs.system.emulate.Goals as goal
 pub returns-in-Waits-clause-quiet : goal.returns-in-Waits-clause-quiet
 returns-in-Waits-clause-quiet c =
     let m = machine_of c.args.guest.now c.args.memory.now in
-    rw (c.in-Waits.ensures.ends c.args.word) (waited_is_quiet m c.execute.new.state)
+    rw (c.in-Waits.ensures.ends c.args.word) (waited_is_quiet m c.perform.new.state)
 
 pub returns-in-Accesses-clause-quiet : goal.returns-in-Accesses-clause-quiet
 returns-in-Accesses-clause-quiet c =
@@ -16,4 +16,4 @@ returns-in-Accesses-clause-quiet c =
 -- an access stores in the blocks
 pub returns-in-Accesses-clause-within : goal.returns-in-Accesses-clause-within
 returns-in-Accesses-clause-within c =
-    blocks_changed c.args.guest.now c.access_ram.new.guest c.args.memory.now c.access_ram.new.memory c.requires.can.placed c.access_ram.ensures.fixed c.access_ram.ensures.only
+    blocks_changed c.args.guest.now c.access_ram.new.guest c.args.memory.now c.access_ram.new.memory c.requires.can.placed c.access_ram.ensures.keeps c.access_ram.ensures.only

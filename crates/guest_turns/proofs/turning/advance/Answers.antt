@@ -15,7 +15,7 @@ returns-then-interrupt-clause-advances c =
     ((c.interrupt.ensures.takes c.if-interrupt.true).step c.args.memory.now) in
     record {
       goes = part.goes;
-      fixed = stays_by c.args.guest.now c.interrupt.new.guest c.interrupt.ensures.fixed;
+      keeps = stays_by c.args.guest.now c.interrupt.new.guest c.interrupt.ensures.keeps;
       only = only_none (changed_by c.args.guest.now) c.args.memory.now;
     }
 
@@ -60,9 +60,9 @@ returns-in-Limit-clause-advances c =
     c.requires.hosted (c.interrupt.ensures.stays c.if-interrupt.false) some few c.enter-stop.ensures.run.ready c.enter-stop.ensures.run.steps in
     record {
       goes = part.goes;
-      fixed =
-          fixed_both c.args.guest.now c.interrupt.new.guest c.enter-stop.new.guest (stays_by c.args.guest.now c.interrupt.new.guest c.interrupt.ensures.fixed)
-          (stays_by c.interrupt.new.guest c.enter-stop.new.guest c.enter-stop.ensures.keeps.fixed);
+      keeps =
+          fixed_both c.args.guest.now c.interrupt.new.guest c.enter-stop.new.guest (stays_by c.args.guest.now c.interrupt.new.guest c.interrupt.ensures.keeps)
+          (stays_by c.interrupt.new.guest c.enter-stop.new.guest c.enter-stop.ensures.keeps.keeps);
       only =
           rw (c.interrupt.ensures.stays c.if-interrupt.false) at
           (only_of_blocks c.interrupt.new.guest c.args.memory.now c.enter-stop.new.memory c.enter-stop.ensures.keeps.only);
@@ -105,9 +105,9 @@ returns-in-VsTrap-clause-advances c =
     c.requires.hosted (c.interrupt.ensures.stays c.if-interrupt.false) some few c.enter-stop.ensures.run.ready c.enter-stop.ensures.run.steps in
     record {
       goes = part.goes;
-      fixed =
-          fixed_both c.args.guest.now c.interrupt.new.guest c.enter-stop.new.guest (stays_by c.args.guest.now c.interrupt.new.guest c.interrupt.ensures.fixed)
-          (stays_by c.interrupt.new.guest c.enter-stop.new.guest c.enter-stop.ensures.keeps.fixed);
+      keeps =
+          fixed_both c.args.guest.now c.interrupt.new.guest c.enter-stop.new.guest (stays_by c.args.guest.now c.interrupt.new.guest c.interrupt.ensures.keeps)
+          (stays_by c.interrupt.new.guest c.enter-stop.new.guest c.enter-stop.ensures.keeps.keeps);
       only =
           rw (c.interrupt.ensures.stays c.if-interrupt.false) at
           (only_of_blocks c.interrupt.new.guest c.args.memory.now c.enter-stop.new.memory c.enter-stop.ensures.keeps.only);
@@ -149,13 +149,13 @@ returns-in-Exit-clause-advances c =
     c.args.left c.enter-stop.result.taken c.handle-made.result c.requires.hosted (c.interrupt.ensures.stays c.if-interrupt.false) some c.enter-stop.ensures.run.ready
     c.enter-stop.ensures.run.steps c.enter-stop.ensures.goes.status c.handle-made.ensures.does.step c.handle-made.ensures.does.fill in
     let entered =
-    fixed_both c.args.guest.now c.interrupt.new.guest c.enter-stop.new.guest (stays_by c.args.guest.now c.interrupt.new.guest c.interrupt.ensures.fixed)
-    (stays_by c.interrupt.new.guest c.enter-stop.new.guest c.enter-stop.ensures.keeps.fixed) in
+    fixed_both c.args.guest.now c.interrupt.new.guest c.enter-stop.new.guest (stays_by c.args.guest.now c.interrupt.new.guest c.interrupt.ensures.keeps)
+    (stays_by c.interrupt.new.guest c.enter-stop.new.guest c.enter-stop.ensures.keeps.keeps) in
     let only = rw (c.interrupt.ensures.stays c.if-interrupt.false) at
     (only_of_blocks c.interrupt.new.guest c.args.memory.now c.enter-stop.new.memory c.enter-stop.ensures.keeps.only) in
     record {
       goes = rw c.used.ensures part.goes;
-      fixed = fixed_both c.args.guest.now c.enter-stop.new.guest c.handle-made.new.guest entered c.handle-made.ensures.keeps.fixed;
+      keeps = fixed_both c.args.guest.now c.enter-stop.new.guest c.handle-made.new.guest entered c.handle-made.ensures.keeps.keeps;
       only =
           only_then c.args.guest.now c.enter-stop.new.guest c.handle-made.new.guest c.args.memory.now c.enter-stop.new.memory c.handle-made.new.memory entered only
           c.handle-made.ensures.keeps.only;

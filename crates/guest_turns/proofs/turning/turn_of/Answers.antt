@@ -32,9 +32,9 @@ loop-left-preserved c =
     let made = c.advance-left.ensures in
     record {
       run = made.advances.goes.ran ∙ is.run;
-      fixed = fixed_both _ _ _ is.fixed made.advances.fixed;
+      keeps = fixed_both _ _ _ is.keeps made.advances.keeps;
       only =
-          only_then c.args.guest.now c.loop-left.guest c.advance-left.new.guest c.args.memory.now c.loop-left.memory c.advance-left.new.memory is.fixed is.only
+          only_then c.args.guest.now c.loop-left.guest c.advance-left.new.guest c.args.memory.now c.loop-left.memory c.advance-left.new.memory is.keeps is.only
           made.advances.only;
       hosted = made.hosted;
       began = is.began;

@@ -3,7 +3,7 @@ use Rattle.arch_defs.specs.Frames.{Only}
 use Rattle.machine_laws.specs.Budgets.{budget}
 use Rattle.machine_defs.specs.declared.guests.Status.TheVariants.{Running}
 use Rattle.machine_defs.specs.Runs.{run}
-use Rattle.guest_exit.specs.View.{StaysFixed, changed_by, machine_of}
+use Rattle.guest_exit.specs.View.{KeepsLayout, changed_by, machine_of}
 use Rattle.guest_turns.specs.Hosting.{IsHosted}
 use Rattle.guest_turns.proofs.Turns.{AccountedTo}
 use Rattle.guest_turns.proofs.turning.turn_of.Given as goal
@@ -14,7 +14,7 @@ decreases-loop-left l = budget (machine_of l.guest l.memory) l.left
 abbrev pub invariant-loop-left : goal.invariant-loop-left
 invariant-loop-left l = record {
   run : run (machine_of l.guest l.memory) l.left ≡ run (machine_of l.fn.guest l.fn.memory) l.k;
-  fixed : StaysFixed l.fn.guest l.guest;
+  keeps : KeepsLayout l.fn.guest l.guest;
   only : Only (changed_by l.fn.guest) l.fn.memory l.memory;
   hosted : IsHosted l.guest l.memory;
   began : l.before ≡ l.fn.guest.steps;

@@ -7,11 +7,11 @@ use Rattle.arch_defs.proofs.Rooms.{joined_lie, range_lies}
 use Rattle.shadow_space.specs.Shadows.{AreZeros}
 use Rattle.shadow_space.proofs.Clearing.{zeros_length}
 use Rattle.shadow_space.proofs.Partings.{untouched}
-use Rattle.shadow_pool.specs.Slots.{Pooled, TidyPool, frames_for, pool_frames}
+use Rattle.shadow_pool.specs.Slots.{Pooled, TidyPool, pool_frames, table_frames_for}
 use Rattle.shadow_pool.proofs.tests.empty_pool.Goals as goal
 
 lies : (part : Layout) (frames : ℕ) → part.first_root + 4 * (1 + part.spaces) ≤ frames → part.first_table + 1 + part.spaces * tables_for part.entries ≤ frames
-    → LieIn (frames_for part part.spaces) (length (zeros (frames * 4096)))
+    → LieIn (table_frames_for part part.spaces) (length (zeros (frames * 4096)))
 lies part frames roots tables =
     joined_lie (within (part.first_root + 4) (4 * part.spaces)) (within (part.first_table + 1) (part.spaces * tables_for part.entries)) (length (zeros (frames * 4096)))
     (range_lies (part.first_root + 4) (4 * part.spaces) (length (zeros (frames * 4096))) (omega (arith, zeros_length (frames * 4096), roots)))
@@ -21,7 +21,7 @@ new_tidy : (part : Layout) (pool : Pooled) (frames : ℕ) (memory : List ℕ) �
     → part.first_table + 1 + part.spaces * tables_for part.entries ≤ frames → pool.part ≡ part → length pool.slots ≡ part.spaces
     → ((memory : List ℕ) → LieIn (pool_frames pool) (length memory) → AreZeros (pool_frames pool) memory → TidyPool pool memory) → TidyPool pool memory
 new_tidy part pool frames memory is roots tables same count tidy =
-    let own : frames_for part part.spaces ≡ pool_frames pool = sym (ap (λ p. frames_for p (length pool.slots)) same ∙ ap (frames_for part) count) in
+    let own : table_frames_for part part.spaces ≡ pool_frames pool = sym (ap (λ p. table_frames_for p (length pool.slots)) same ∙ ap (table_frames_for part) count) in
     subst (TidyPool pool) (sym is)
     (tidy (zeros (frames * 4096)) (subst (λ own. LieIn own (length (zeros (frames * 4096)))) own (lies part frames roots tables))
     (untouched (pool_frames pool) (frames * 4096) (zeros (frames * 4096)) (same_none (pool_frames pool) (zeros (frames * 4096)))))

@@ -67,4 +67,4 @@ returns-clause-room c =
     let inside = among host.guests.items host.memory _ c.args.g c.self.view_is c.requires.guest in
     let before = host_machine host.guests.items host.memory _ c.args.g c.index_mut-guest.result.now c.self.view_is inside c.index_mut-guest.ensures.value in
     let after = written_machine host.guests.items c.turn_of.new.memory c.args.g c.turn_of.new.guest inside in
-    ap (λ m. m.entry_room) after ∙ c.turn_of.ensures.run.fixed.entry_room ∙ ap (λ m. m.entry_room) (sym before)
+    ap (λ m. m.entry_room) after ∙ c.turn_of.ensures.run.keeps.entry_room ∙ ap (λ m. m.entry_room) (sym before)

@@ -4,60 +4,60 @@
 use Rattle.std.specs.Prelude.{ℕ, ◌+◌, ◌%◌, ◌^◌, ◌&&◌, Option, Some, None, Result, Ok, Err, nat_le, if◌then◌else◌}
 use Rattle.arch_defs.specs.declared.modes.Mode.{Mode}
 use Rattle.arch_defs.specs.declared.modes.Mode.TheVariants.{HS, U, VS, VU}
-use Rattle.arch_defs.specs.declared.registers.Bank.{Bank}
+use Rattle.arch_defs.specs.declared.registers.SupervisorCsrs.{SupervisorCsrs}
 use Rattle.arch_defs.specs.declared.registers.Csrs.{Csrs}
-use Rattle.arch_defs.specs.declared.csr_names.BankRegister.{BankRegister}
-use Rattle.arch_defs.specs.declared.csr_names.BankRegister.TheVariants.{Status, Tvec, Scratch, Epc, Cause, Tval, Atp}
-use Rattle.arch_defs.specs.declared.csr_names.InterruptRegister.{InterruptRegister}
-use Rattle.arch_defs.specs.declared.csr_names.InterruptRegister.TheVariants.{Sie, Sip, Vsie, Vsip, Hideleg, Hie, Hip, Hvip}
-use Rattle.arch_defs.specs.declared.csr_names.BitRegister.{BitRegister}
-use Rattle.arch_defs.specs.declared.csr_names.BitRegister.TheVariants.{Scounteren, Senvcfg, Hcounteren, Henvcfg}
-use Rattle.arch_defs.specs.declared.csr_names.HypervisorRegister.{HypervisorRegister}
-use Rattle.arch_defs.specs.declared.csr_names.HypervisorRegister.TheVariants.{Hstatus, Hedeleg, Htimedelta, Hgeie, Hgeip, Htval, Htinst, Hgatp}
+use Rattle.arch_defs.specs.declared.csr_names.SupervisorCsr.{SupervisorCsr}
+use Rattle.arch_defs.specs.declared.csr_names.SupervisorCsr.TheVariants.{Status, Tvec, Scratch, Epc, Cause, Tval, Atp}
+use Rattle.arch_defs.specs.declared.csr_names.InterruptCsr.{InterruptCsr}
+use Rattle.arch_defs.specs.declared.csr_names.InterruptCsr.TheVariants.{Sie, Sip, Vsie, Vsip, Hideleg, Hie, Hip, Hvip}
+use Rattle.arch_defs.specs.declared.csr_names.EnableCsr.{EnableCsr}
+use Rattle.arch_defs.specs.declared.csr_names.EnableCsr.TheVariants.{Scounteren, Senvcfg, Hcounteren, Henvcfg}
+use Rattle.arch_defs.specs.declared.csr_names.HypervisorCsr.{HypervisorCsr}
+use Rattle.arch_defs.specs.declared.csr_names.HypervisorCsr.TheVariants.{Hstatus, Hedeleg, Htimedelta, Hgeie, Hgeip, Htval, Htinst, Hgatp}
 use Rattle.arch_defs.specs.declared.csr_names.Register.{Register}
-use Rattle.arch_defs.specs.declared.csr_names.Register.TheVariants.{Supervisor, VirtualSupervisor, Interrupt, Bit, Hypervisor, Time, GuestTime}
+use Rattle.arch_defs.specs.declared.csr_names.Register.TheVariants.{Supervisor, VirtualSupervisor, Interrupt, Enable, Hypervisor, Time, GuestTime}
 use Rattle.arch_defs.specs.declared.csr_names.CsrEnd.{CsrEnd}
 use Rattle.arch_defs.specs.declared.csr_names.CsrEnd.TheVariants.{Illegal, Virtual}
 use Rattle.arch_defs.specs.CsrNames.{register_of}
 use Rattle.arch_defs.specs.Bits.{bit}
-use Rattle.arch_defs.specs.CsrBits.{bit_number, status_number, status_of, hstatus_number, hstatus_of, supervisor_number, supervisor_interrupts, virtual_number, virtual_interrupts, delegated, delegated_become, tvec_bits, epc_bits, hedeleg_bits, supervisor_root_number, supervisor_root_of, guest_root_number, guest_root_of}
+use Rattle.arch_defs.specs.CsrBits.{bit_number, sstatus_bits, sstatus_of, hstatus_bits, hstatus_of, sip_bits, supervisor_interrupts, hip_bits, virtual_interrupts, delegated, delegated_become, tvec_bits, epc_bits, hedeleg_bits, satp_bits, supervisor_root_of, hgatp_bits, guest_root_of}
 
--- what a register of a bank shows: sstatus 4.1.1, stvec 4.1.2, sscratch 4.1.6, sepc 4.1.7, scause 4.1.8,
+-- what a supervisor register shows: sstatus 4.1.1, stvec 4.1.2, sscratch 4.1.6, sepc 4.1.7, scause 4.1.8,
 -- stval 4.1.9, satp 4.1.11; vsstatus 8.2.11, vstvec 8.2.13, vsscratch 8.2.14, vsepc 8.2.15, vscause 8.2.16,
 -- vstval 8.2.17, vsatp 8.2.18. scause, stval and their copies hold all values (own)
-unfoldable pub bank_shown : Bank → BankRegister → ℕ
-bank_shown bank Status = status_number bank.status
-bank_shown bank Tvec = tvec_bits bank.tvec
-bank_shown bank Scratch = bank.scratch
-bank_shown bank Epc = epc_bits bank.epc
-bank_shown bank Cause = bank.cause
-bank_shown bank Tval = bank.tval
-bank_shown bank Atp = supervisor_root_number bank.atp
+unfoldable pub supervisor_shown : SupervisorCsrs → SupervisorCsr → ℕ
+supervisor_shown registers Status = sstatus_bits registers.status
+supervisor_shown registers Tvec = tvec_bits registers.tvec
+supervisor_shown registers Scratch = registers.scratch
+supervisor_shown registers Epc = epc_bits registers.epc
+supervisor_shown registers Cause = registers.cause
+supervisor_shown registers Tval = registers.tval
+supervisor_shown registers Atp = satp_bits registers.atp
 
--- the bank after a write
-unfoldable pub bank_written : Bank → BankRegister → ℕ → Bank
-bank_written bank Status v = record bank { status = status_of v }
-bank_written bank Tvec v = record bank { tvec = tvec_bits v }
-bank_written bank Scratch v = record bank { scratch = v }
-bank_written bank Epc v = record bank { epc = epc_bits v }
-bank_written bank Cause v = record bank { cause = v }
-bank_written bank Tval v = record bank { tval = v }
-bank_written bank Atp v = record bank { atp = supervisor_root_of bank.atp v }
+-- the registers after a write
+unfoldable pub supervisor_written : SupervisorCsrs → SupervisorCsr → ℕ → SupervisorCsrs
+supervisor_written registers Status v = record registers { status = sstatus_of v }
+supervisor_written registers Tvec v = record registers { tvec = tvec_bits v }
+supervisor_written registers Scratch v = record registers { scratch = v }
+supervisor_written registers Epc v = record registers { epc = epc_bits v }
+supervisor_written registers Cause v = record registers { cause = v }
+supervisor_written registers Tval v = record registers { tval = v }
+supervisor_written registers Atp v = record registers { atp = supervisor_root_of registers.atp v }
 
 -- sie and sip 4.1.3; vsie and vsip 8.2.12, which show hie and hip, shifted, where hideleg delegates; hideleg
 -- 8.2.2; hie, hip and hvip 8.2.3; hip shows hvip
-unfoldable pub interrupts_shown : Csrs → InterruptRegister → ℕ
-interrupts_shown csrs Sie = supervisor_number csrs.sie
-interrupts_shown csrs Sip = supervisor_number csrs.sip
-interrupts_shown csrs Vsie = supervisor_number (delegated csrs.hideleg csrs.hie)
-interrupts_shown csrs Vsip = supervisor_number (delegated csrs.hideleg csrs.hvip)
-interrupts_shown csrs Hideleg = virtual_number csrs.hideleg
-interrupts_shown csrs Hie = virtual_number csrs.hie
-interrupts_shown csrs Hip = virtual_number csrs.hvip
-interrupts_shown csrs Hvip = virtual_number csrs.hvip
+unfoldable pub interrupts_shown : Csrs → InterruptCsr → ℕ
+interrupts_shown csrs Sie = sip_bits csrs.sie
+interrupts_shown csrs Sip = sip_bits csrs.sip
+interrupts_shown csrs Vsie = sip_bits (delegated csrs.hideleg csrs.hie)
+interrupts_shown csrs Vsip = sip_bits (delegated csrs.hideleg csrs.hvip)
+interrupts_shown csrs Hideleg = hip_bits csrs.hideleg
+interrupts_shown csrs Hie = hip_bits csrs.hie
+interrupts_shown csrs Hip = hip_bits csrs.hvip
+interrupts_shown csrs Hvip = hip_bits csrs.hvip
 
 -- sip, vsip and hip change the software interrupt alone, the latter two in hvip
-unfoldable pub interrupts_written : Csrs → InterruptRegister → ℕ → Csrs
+unfoldable pub interrupts_written : Csrs → InterruptCsr → ℕ → Csrs
 interrupts_written csrs Sie v = record csrs { sie = supervisor_interrupts v }
 interrupts_written csrs Sip v = record csrs { sip = record csrs.sip { software = bit 1 v } }
 interrupts_written csrs Vsie v =
@@ -74,31 +74,31 @@ interrupts_written csrs Hvip v = record csrs { hvip = virtual_interrupts v }
 
 -- scounteren 4.1.5 and hcounteren 8.2.6: TM 1; senvcfg 4.1.10 and henvcfg 8.2.5: FIOM 0, which has no effect
 -- here
-unfoldable pub bit_shown : Csrs → BitRegister → ℕ
-bit_shown csrs Scounteren = bit_number 1 csrs.scounteren_tm
-bit_shown csrs Senvcfg = bit_number 0 csrs.senvcfg_fiom
-bit_shown csrs Hcounteren = bit_number 1 csrs.hcounteren_tm
-bit_shown csrs Henvcfg = bit_number 0 csrs.henvcfg_fiom
+unfoldable pub enable_shown : Csrs → EnableCsr → ℕ
+enable_shown csrs Scounteren = bit_number 1 csrs.scounteren_tm
+enable_shown csrs Senvcfg = bit_number 0 csrs.senvcfg_fiom
+enable_shown csrs Hcounteren = bit_number 1 csrs.hcounteren_tm
+enable_shown csrs Henvcfg = bit_number 0 csrs.henvcfg_fiom
 
-unfoldable pub bit_written : Csrs → BitRegister → ℕ → Csrs
-bit_written csrs Scounteren v = record csrs { scounteren_tm = bit 1 v }
-bit_written csrs Senvcfg v = record csrs { senvcfg_fiom = bit 0 v }
-bit_written csrs Hcounteren v = record csrs { hcounteren_tm = bit 1 v }
-bit_written csrs Henvcfg v = record csrs { henvcfg_fiom = bit 0 v }
+unfoldable pub enable_written : Csrs → EnableCsr → ℕ → Csrs
+enable_written csrs Scounteren v = record csrs { scounteren_tm = bit 1 v }
+enable_written csrs Senvcfg v = record csrs { senvcfg_fiom = bit 0 v }
+enable_written csrs Hcounteren v = record csrs { hcounteren_tm = bit 1 v }
+enable_written csrs Henvcfg v = record csrs { henvcfg_fiom = bit 0 v }
 
 -- hstatus 8.2.1, hedeleg 8.2.2, htimedelta 8.2.7, htval 8.2.8, htinst 8.2.9, hgatp 8.2.10;
 -- hgeie and hgeip 8.2.4 read zero, as GEILEN is 0 (own); htval and htinst hold all values (own)
-unfoldable pub hypervisor_shown : Csrs → HypervisorRegister → ℕ
-hypervisor_shown csrs Hstatus = hstatus_number csrs.hstatus
+unfoldable pub hypervisor_shown : Csrs → HypervisorCsr → ℕ
+hypervisor_shown csrs Hstatus = hstatus_bits csrs.hstatus
 hypervisor_shown csrs Hedeleg = hedeleg_bits csrs.hedeleg
 hypervisor_shown csrs Htimedelta = csrs.htimedelta
 hypervisor_shown csrs Hgeie = 0
 hypervisor_shown csrs Hgeip = 0
 hypervisor_shown csrs Htval = csrs.htval
 hypervisor_shown csrs Htinst = csrs.htinst
-hypervisor_shown csrs Hgatp = guest_root_number csrs.hgatp
+hypervisor_shown csrs Hgatp = hgatp_bits csrs.hgatp
 
-unfoldable pub hypervisor_written : Csrs → HypervisorRegister → ℕ → Csrs
+unfoldable pub hypervisor_written : Csrs → HypervisorCsr → ℕ → Csrs
 hypervisor_written csrs Hstatus v = record csrs { hstatus = hstatus_of v }
 hypervisor_written csrs Hedeleg v = record csrs { hedeleg = hedeleg_bits v }
 hypervisor_written csrs Htimedelta v = record csrs { htimedelta = v }
@@ -110,20 +110,20 @@ hypervisor_written csrs Hgatp v = record csrs { hgatp = guest_root_of v }
 
 -- what a register shows; time with V = 1 is ahead by htimedelta (8.2.7)
 unfoldable pub shown : Csrs → Register → ℕ
-shown csrs (Supervisor r) = bank_shown csrs.hs r
-shown csrs (VirtualSupervisor r) = bank_shown csrs.vs r
+shown csrs (Supervisor r) = supervisor_shown csrs.hs r
+shown csrs (VirtualSupervisor r) = supervisor_shown csrs.vs r
 shown csrs (Interrupt r) = interrupts_shown csrs r
-shown csrs (Bit r) = bit_shown csrs r
+shown csrs (Enable r) = enable_shown csrs r
 shown csrs (Hypervisor r) = hypervisor_shown csrs r
 shown csrs Time = csrs.time
 shown csrs GuestTime = (csrs.time + csrs.htimedelta) % 2 ^ 64
 
 -- the registers after a write; time is read-only
 unfoldable pub written : Csrs → Register → ℕ → Csrs
-written csrs (Supervisor r) v = record csrs { hs = bank_written csrs.hs r v }
-written csrs (VirtualSupervisor r) v = record csrs { vs = bank_written csrs.vs r v }
+written csrs (Supervisor r) v = record csrs { hs = supervisor_written csrs.hs r v }
+written csrs (VirtualSupervisor r) v = record csrs { vs = supervisor_written csrs.vs r v }
 written csrs (Interrupt r) v = interrupts_written csrs r v
-written csrs (Bit r) v = bit_written csrs r v
+written csrs (Enable r) v = enable_written csrs r v
 written csrs (Hypervisor r) v = hypervisor_written csrs r v
 written csrs Time v = csrs
 written csrs GuestTime v = csrs
@@ -141,8 +141,8 @@ reached_in_vs csrs (Supervisor Atp) = if csrs.hstatus.vtvm then Err Virtual else
 reached_in_vs csrs (Supervisor r) = Ok (VirtualSupervisor r)
 reached_in_vs csrs (Interrupt Sie) = Ok (Interrupt Vsie)
 reached_in_vs csrs (Interrupt Sip) = Ok (Interrupt Vsip)
-reached_in_vs csrs (Bit Scounteren) = Ok (Bit Scounteren)
-reached_in_vs csrs (Bit Senvcfg) = Ok (Bit Senvcfg)
+reached_in_vs csrs (Enable Scounteren) = Ok (Enable Scounteren)
+reached_in_vs csrs (Enable Senvcfg) = Ok (Enable Senvcfg)
 reached_in_vs csrs Time = if csrs.hcounteren_tm then Ok GuestTime else Err Virtual
 reached_in_vs csrs r = Err Virtual
 
@@ -175,14 +175,14 @@ abbrev pub value_of : Csrs → Result Register CsrEnd → Result ℕ CsrEnd
 value_of csrs (Ok r) = Ok (shown csrs r)
 value_of csrs (Err e) = Err e
 
-abbrev pub changed_by : Csrs → Result Register CsrEnd → ℕ → Result Csrs CsrEnd
-changed_by csrs (Ok r) v = Ok (written csrs r v)
-changed_by csrs (Err e) v = Err e
+abbrev pub written_by : Csrs → Result Register CsrEnd → ℕ → Result Csrs CsrEnd
+written_by csrs (Ok r) v = Ok (written csrs r v)
+written_by csrs (Err e) v = Err e
 
 -- a read: a value, or the exception
-unfoldable pub read : Csrs → Mode → ℕ → Result ℕ CsrEnd
-read csrs mode number = value_of csrs (named csrs mode number)
+unfoldable pub read_csr : Csrs → Mode → ℕ → Result ℕ CsrEnd
+read_csr csrs mode number = value_of csrs (named csrs mode number)
 
 -- a write: new registers, or the exception
-unfoldable pub write : Csrs → Mode → ℕ → ℕ → Result Csrs CsrEnd
-write csrs mode number v = changed_by csrs (named_to_write csrs mode number) v
+unfoldable pub write_csr : Csrs → Mode → ℕ → ℕ → Result Csrs CsrEnd
+write_csr csrs mode number v = written_by csrs (named_to_write csrs mode number) v

@@ -4,7 +4,7 @@ ghost use Rattle.std.specs.Prelude.{◌≡◌, ℕ, None};
 ghost use Rattle.arch_defs.specs.Traps.{arrived, returned};
 ghost use Rattle.op_defs.specs.declared.ops.Privileged.TheVariants as effect;
 ghost use Rattle.machine_defs.specs.Privileges.{performed, privileged, refusal};
-ghost use Rattle.system_ops.specs.Executions.{outcome_of, IfNotMade};
+ghost use Rattle.privileged_ops.specs.PrivilegedEnds.{outcome_of, IfNotMade};
 
 use crate::advancing::pass;
 use crate::csrs::access;
@@ -15,7 +15,7 @@ use trap_delegation::sret;
 
 /// How an instruction ended.
 #[derive(Clone, Copy, Debug, PartialEq, Eq)]
-pub enum Executed {
+pub enum Performed {
     /// It was made.
     Done,
     /// It was a WFI, and was made but for the wait.
@@ -30,19 +30,19 @@ pub enum Executed {
 
 /// Makes what an instruction asks for, unless its mode does not allow it.
 #[tactic(auto, unfolding(machine_defs::specs::Privileges::privileged))]
-pub fn execute(state: &mut Virtual, effect: Privileged) -> Executed
+pub fn perform(state: &mut Virtual, effect: Privileged) -> Performed
     ensures ends { (word : ℕ) → privileged state.old word effect ≡ outcome_of word result state.new }
     ensures stays { IfNotMade result (state.new ≡ state.old) }
 {
     match refusal(&effect, &state.csrs.hstatus, state.mode) {
-        Some(end) => Executed::Refused(end),
-        None => perform(state, effect),
+        Some(end) => Performed::Refused(end),
+        None => perform_allowed(state, effect),
     }
 }
 
 // Makes what an instruction asks for that its mode allows. SFENCE.VMA and HFENCE.VVMA change nothing but pc,
 // since walks of the first stage read memory as it is.
-fn perform(state: &mut Virtual, effect: Privileged) -> Executed
+fn perform_allowed(state: &mut Virtual, effect: Privileged) -> Performed
     requires { refusal effect state.old.csrs.hstatus state.old.mode ≡ None }
     ensures ends { (word : ℕ) → performed state.old word effect ≡ outcome_of word result state.new }
     ensures stays { IfNotMade result (state.new ≡ state.old) }
@@ -58,28 +58,28 @@ fn perform(state: &mut Virtual, effect: Privileged) -> Executed
         Privileged::Sret => leave(state),
         Privileged::Wfi => {
             pass(state);
-            Executed::Waits
+            Performed::Waits
         }
         Privileged::SfenceVma | Privileged::HfenceVvma => {
             pass(state);
-            Executed::Done
+            Performed::Done
         }
         Privileged::HfenceGvma(named) => {
             pass(state);
-            Executed::Fenced(named)
+            Performed::Fenced(named)
         }
-        Privileged::HlvAccess(wanted) => Executed::Accesses(wanted),
+        Privileged::HlvAccess(wanted) => Performed::Accesses(wanted),
     }
 }
 
 // SRET (Privileged Architecture 20211203, 8.6.4).
 #[tactic(auto, using(crate::proofs::Returns::sret_is_supervisor))]
-fn leave(state: &mut Virtual) -> Executed
+fn leave(state: &mut Virtual) -> Performed
     requires { refusal effect.Sret state.old.csrs.hstatus state.old.mode ≡ None }
     ensures state { state.new
         ≡ arrived state.old (returned state.old.csrs state.old.regs state.old.mode) }
-    ensures done { result ≡ Executed.Done }
+    ensures done { result ≡ Performed.Done }
 {
     state.mode = sret(&mut state.csrs, &mut state.regs, state.mode);
-    Executed::Done
+    Performed::Done
 }

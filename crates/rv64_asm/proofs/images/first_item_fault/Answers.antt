@@ -1,6 +1,6 @@
 use Rattle.std.proofs.Common.{sym, ◌∙◌, arith}
 use Rattle.rv64_asm.proofs.Loops.{faulty, goes_on}
-use Rattle.rv64_asm.proofs.images.first_fault.Goals as goal
+use Rattle.rv64_asm.proofs.images.first_item_fault.Goals as goal
 
 pub returns-then-is_some : goal.returns-then-is_some
 returns-then-is_some c = faulty c.args.labels.now c.args.lines.now c.loop-index.index c.index-lines-index.result

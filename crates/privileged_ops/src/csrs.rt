@@ -1,12 +1,12 @@
 // Instructions on control and status registers (Unprivileged ISA 20191213, 9.1).
 
 ghost use Rattle.std.specs.Prelude.{◌≡◌, ℕ};
-ghost use Rattle.arch_defs.specs.Access.{read, write};
-ghost use Rattle.machine_defs.specs.Privileges.{combined, held, csr_shown, csr_changed, csr_accessed};
-ghost use Rattle.system_ops.specs.Executions.{outcome_of, IfNotMade};
+ghost use Rattle.arch_defs.specs.CsrAccess.{read_csr, write_csr};
+ghost use Rattle.machine_defs.specs.Privileges.{combined, value_or_zero, csr_shown, csr_changed, csr_accessed};
+ghost use Rattle.privileged_ops.specs.PrivilegedEnds.{outcome_of, IfNotMade};
 
 use crate::advancing::set;
-use crate::executing::Executed;
+use crate::instructions::Performed;
 use arch_defs::{CsrEnd, Reg, Virtual};
 use op_defs::CsrOp;
 
@@ -22,8 +22,8 @@ fn combined(op: CsrOp, before: u64, operand: u64) -> u64
 }
 
 /// What a register shows, or 0 where it cannot be read.
-fn held(shown: Result<u64, CsrEnd>) -> u64
-    ensures { result ≡ held shown }
+fn value_or_zero(shown: Result<u64, CsrEnd>) -> u64
+    ensures { result ≡ value_or_zero shown }
 {
     match shown {
         Ok(value) => value,
@@ -32,33 +32,33 @@ fn held(shown: Result<u64, CsrEnd>) -> u64
 }
 
 /// Reads a register into `rd`.
-fn show(state: &mut Virtual, number: u16, rd: Reg) -> Executed
-    ensures ends { (word : ℕ) → csr_shown state.old word rd (read state.old.csrs state.old.mode number)
+fn show(state: &mut Virtual, number: u16, rd: Reg) -> Performed
+    ensures ends { (word : ℕ) → csr_shown state.old word rd (read_csr state.old.csrs state.old.mode number)
         ≡ outcome_of word result state.new }
     ensures stays { IfNotMade result (state.new ≡ state.old) }
 {
     match csr_file::read(&state.csrs, state.mode, number) {
         Ok(value) => {
             set(state, rd, value);
-            Executed::Done
+            Performed::Done
         }
-        Err(end) => Executed::Refused(end),
+        Err(end) => Performed::Refused(end),
     }
 }
 
 /// Writes a register, and sets `rd` to what it showed before.
-fn change(state: &mut Virtual, number: u16, value: u64, rd: Reg, before: u64) -> Executed
+fn change(state: &mut Virtual, number: u16, value: u64, rd: Reg, before: u64) -> Performed
     ensures ends { (word : ℕ) →
-        csr_changed state.old word rd before (write state.old.csrs state.old.mode number value)
+        csr_changed state.old word rd before (write_csr state.old.csrs state.old.mode number value)
         ≡ outcome_of word result state.new }
     ensures stays { IfNotMade result (state.new ≡ state.old) }
 {
     match csr_file::write(&mut state.csrs, state.mode, number, value) {
         Ok(()) => {
             set(state, rd, before);
-            Executed::Done
+            Performed::Done
         }
-        Err(end) => Executed::Refused(end),
+        Err(end) => Performed::Refused(end),
     }
 }
 
@@ -70,7 +70,7 @@ pub fn access(
     operand: u64,
     writes: bool,
     rd: Reg,
-) -> Executed
+) -> Performed
     ensures ends { (word : ℕ) → csr_accessed state.old word op number operand writes rd
         ≡ outcome_of word result state.new }
     ensures stays { IfNotMade result (state.new ≡ state.old) }
@@ -78,6 +78,6 @@ pub fn access(
     if !writes {
         return show(state, number, rd);
     }
-    let before = held(csr_file::read(&state.csrs, state.mode, number));
+    let before = value_or_zero(csr_file::read(&state.csrs, state.mode, number));
     change(state, number, combined(op, before, operand), rd, before)
 }

@@ -3,11 +3,11 @@
 
 mod advancing;
 mod csrs;
-mod executing;
+mod instructions;
 mod refusals;
 #[cfg(test)]
 mod tests;
 
 pub use advancing::{pass, set};
-pub use executing::{Executed, execute};
+pub use instructions::{Performed, perform};
 pub use refusals::refusal_code;

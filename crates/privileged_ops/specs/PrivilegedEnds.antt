@@ -1,15 +1,15 @@
--- What `execute` answers and leaves, as the end of an instruction.
+-- What `perform` answers and leaves, as the end of an instruction.
 use Rattle.std.specs.Prelude.{ℕ, None, ⊤}
 use Rattle.arch_defs.specs.declared.registers.Virtual.{Virtual}
 use Rattle.machine_defs.specs.declared.events.Event.TheVariants.{System}
 use Rattle.machine_defs.specs.Outcomes.{Outcome}
 use Rattle.machine_defs.specs.Outcomes as outcome
 use Rattle.machine_defs.specs.Privileges.{refused}
-use Rattle.system_ops.specs.declared.executing.Executed.{Executed}
-use Rattle.system_ops.specs.declared.executing.Executed.TheVariants.{Done, Waits, Fenced, Accesses, Refused}
+use Rattle.privileged_ops.specs.declared.instructions.Performed.{Performed}
+use Rattle.privileged_ops.specs.declared.instructions.Performed.TheVariants.{Done, Waits, Fenced, Accesses, Refused}
 
 -- how the instruction of this word ended, by the answer and the state after it
-abbrev pub outcome_of : ℕ → Executed → Virtual → Outcome
+abbrev pub outcome_of : ℕ → Performed → Virtual → Outcome
 outcome_of word Done state = outcome.Done state None System
 outcome_of word Waits state = outcome.Waits state
 outcome_of word (Fenced fence) state = outcome.Fenced state fence
@@ -17,7 +17,7 @@ outcome_of word (Accesses access) state = outcome.Accesses access
 outcome_of word (Refused end) state = refused state word end
 
 -- where the instruction was not made
-abbrev pub IfNotMade : Executed → Type 0 → Type 0
+abbrev pub IfNotMade : Performed → Type 0 → Type 0
 IfNotMade Done P = ⊤
 IfNotMade Waits P = ⊤
 IfNotMade (Fenced fence) P = ⊤

@@ -1,7 +1,7 @@
 // Values worked out from the Privileged Architecture 20211203 and from chapter 9 of the Unprivileged ISA
 // 20191213.
 
-use crate::{Executed, execute};
+use crate::{Performed, perform};
 use arch_defs::{
     CsrEnd, Csrs, Fence, Interrupts, Mode, Reg, SupervisorMode, SupervisorRoot, SupervisorStatus,
     Virtual, Width,
@@ -10,13 +10,13 @@ use op_defs::{CsrOp, DataAccess, Privileged, Purpose};
 
 const START: u64 = 0x8000_0000;
 
-const DONE: Executed = Executed::Done;
+const DONE: Performed = Performed::Done;
 
-const WAITS: Executed = Executed::Waits;
+const WAITS: Performed = Performed::Waits;
 
-const ILLEGAL: Executed = Executed::Refused(CsrEnd::Illegal);
+const ILLEGAL: Performed = Performed::Refused(CsrEnd::Illegal);
 
-const VIRTUAL: Executed = Executed::Refused(CsrEnd::Virtual);
+const VIRTUAL: Performed = Performed::Refused(CsrEnd::Virtual);
 
 const ALL: Interrupts = Interrupts {
     software: true,
@@ -46,16 +46,16 @@ fn writes(number: u16, operand: u64) -> Privileged {
 }
 
 /// How an instruction ends, and the state after it, with 7 in x5 before.
-fn after(csrs: Csrs, mode: Mode, effect: &Privileged) -> (Executed, Virtual) {
+fn after(csrs: Csrs, mode: Mode, effect: &Privileged) -> (Performed, Virtual) {
     let mut state = Virtual::starting_at(mode, START);
     state.csrs = csrs;
     state.regs.x[5] = 7;
-    let end = execute(&mut state, *effect);
+    let end = perform(&mut state, *effect);
     (end, state)
 }
 
 /// How an instruction ends in HS, U, VS and VU.
-fn ends(csrs: Csrs, effect: &Privileged) -> (Executed, Executed, Executed, Executed) {
+fn ends(csrs: Csrs, effect: &Privileged) -> (Performed, Performed, Performed, Performed) {
     let (hs, _) = after(csrs, Mode::HS, effect);
     let (u, _) = after(csrs, Mode::U, effect);
     let (vs, _) = after(csrs, Mode::VS, effect);
@@ -127,7 +127,7 @@ fn last_address(rt: HostRuntime) {
         writes: true,
         rd: Reg::new(0),
     };
-    assert_eq!(rt; execute(&mut state, effect), DONE);
+    assert_eq!(rt; perform(&mut state, effect), DONE);
     assert_eq!(rt; (state.regs.x[0], state.regs.pc), (0, 0));
     assert_eq!(rt; (state.csrs.vs.scratch, state.csrs.hs.scratch), (8, 0));
 }
@@ -355,8 +355,8 @@ fn hypervisor_fences(rt: HostRuntime) {
         let csrs = with_hu(hu);
         for (effect, in_hs) in [
             (Privileged::HfenceVvma, DONE),
-            (Privileged::HfenceGvma(named), Executed::Fenced(named)),
-            (Privileged::HfenceGvma(all), Executed::Fenced(all)),
+            (Privileged::HfenceGvma(named), Performed::Fenced(named)),
+            (Privileged::HfenceGvma(all), Performed::Fenced(all)),
         ] {
             let want = (in_hs, ILLEGAL, VIRTUAL, VIRTUAL);
             assert_eq!(rt; ends(csrs, &effect), want, "{effect:?}");
@@ -365,8 +365,8 @@ fn hypervisor_fences(rt: HostRuntime) {
 }
 
 // The ends of HLV, HLVX and HSV in HS, U, VS and VU, by HU.
-fn ends_of(wanted: &DataAccess, hu: bool) -> (Executed, Executed, Executed, Executed) {
-    let made = Executed::Accesses(*wanted);
+fn ends_of(wanted: &DataAccess, hu: bool) -> (Performed, Performed, Performed, Performed) {
+    let made = Performed::Accesses(*wanted);
     (made, if hu { made } else { ILLEGAL }, VIRTUAL, VIRTUAL)
 }
 
