@@ -5,7 +5,8 @@ ghost use Rattle.std.specs.List.Sorted.{IsNonDecreasingBy};
 ghost use Rattle.arch_defs.specs.Consoles.{has_room};
 ghost use Rattle.arch_defs.specs.Inputs.{AreInputs, arrived_byte, has_input, next_input, unread_after};
 
-use std::alloc::{AllocError, Global};
+use no_memory::NoMemory;
+use std::alloc::Global;
 use std::marker::Model;
 
 /// The bytes that a guest has put, and its inputs: bytes that are there for it, each from a moment of its
@@ -38,7 +39,7 @@ impl Console {
     /// # Errors
     ///
     /// Out of memory.
-    pub fn new(alloc: Global, room: u64, inputs: Vec<(u64, u8)>) -> Result<Console, AllocError>
+    pub fn new(alloc: Global, room: u64, inputs: Vec<(u64, u8)>) -> Result<Console, NoMemory>
         requires inputs { AreInputs inputs.items }
         ensures { IfOk result (λ c. c ≡ record { bytes = []; room = room; inputs = inputs.items }) }
     {

@@ -6,3 +6,4 @@ mod consoles;
 mod tests;
 
 pub use consoles::Console;
+pub use no_memory::NoMemory;

@@ -2,11 +2,12 @@ ghost use Rattle.std.specs.Prelude.{IfOk};
 ghost use Rattle.arch_defs.specs.Inputs.{AreInputs};
 
 use crate::Console;
-use std::alloc::{AllocError, Global};
+use no_memory::NoMemory;
+use std::alloc::Global;
 use std::test::Fail;
 
 // Two inputs at one moment, and a later one.
-fn inputs(alloc: Global) -> Result<Vec<(u64, u8)>, AllocError>
+fn inputs(alloc: Global) -> Result<Vec<(u64, u8)>, NoMemory>
     ensures { IfOk result (λ inputs. AreInputs inputs.items) }
 {
     Ok(vec![in alloc; (3u64, b'a'), (3, b'b'), (9, b'c')]?)

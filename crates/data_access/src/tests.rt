@@ -4,8 +4,8 @@
 use crate::{DataAccess, Purpose, complete, kind_of, place_for};
 use arch_defs::{Access, Csrs, Mode, Reg, Trap, Virtual, Width};
 use op_defs::AmoOp;
-use phys_mem::{Mem, PhysMem};
-use std::alloc::{AllocError, Global};
+use phys_mem::{Mem, NoMemory, PhysMem};
+use std::alloc::Global;
 use std::test::Fail;
 use two_stage_walk::memory_is_whole;
 
@@ -14,7 +14,7 @@ const START: u64 = 0x8000_0000;
 const HELD: u64 = 0x8899_AABB_CCDD_EEFF;
 
 // A frame from 0 on, with a doubleword at 100 and zeros elsewhere.
-fn memory(alloc: Global) -> Result<PhysMem, AllocError> {
+fn memory(alloc: Global) -> Result<PhysMem, NoMemory> {
     let mut memory = PhysMem::new(alloc, 1)?;
     put(&mut memory, 0x100, HELD);
     Ok(memory)

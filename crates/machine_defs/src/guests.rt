@@ -1,7 +1,9 @@
 // What a guest is given, and what is told of it.
 
 ghost use Rattle.std.specs.Prelude.{◌≡◌};
+ghost use Rattle.machine_defs.specs.GuestNeeds.{need_of};
 
+use arch_defs::Need;
 use std::marker::Model;
 
 /// Whether a machine goes on.
@@ -139,4 +141,17 @@ pub struct GuestSpec {
     pub entries: u64,
     pub console: u64,
     pub inputs: Inputs,
+}
+
+impl GuestSpec {
+    /// What the guest needs of machine memory.
+    pub fn need(&self) -> Need
+        ensures { result ≡ need_of self.now }
+    {
+        Need {
+            blocks: self.blocks,
+            spaces: self.spaces,
+            entries: self.entries,
+        }
+    }
 }

@@ -1,4 +1,4 @@
-use crate::{Bytes, Inputs, Name};
+use crate::{Bytes, GuestSpec, Inputs, Name};
 use std::test::Fail;
 
 #[test]
@@ -13,4 +13,21 @@ fn small_types_give_back_what_they_got(rt: HostRuntime) -> Result<(), Fail> {
     assert_eq!(rt; inputs.as_slice(), [(7, 65)].as_slice());
     assert_eq!(rt; inputs.into_vec().as_slice(), [(7, 65)].as_slice());
     Ok(())
+}
+
+#[test]
+fn guest_needs_what_its_settings_say(rt: HostRuntime) {
+    let guest = GuestSpec {
+        name: Name::from_vec(Vec::new(rt.alloc())),
+        image: Bytes::from_vec(Vec::new(rt.alloc())),
+        blocks: 2,
+        spaces: 3,
+        entries: 16,
+        console: 100,
+        inputs: Inputs::from_vec(Vec::new(rt.alloc())),
+    };
+    let need = guest.need();
+    assert_eq!(rt; need.blocks, 2);
+    assert_eq!(rt; need.spaces, 3);
+    assert_eq!(rt; need.entries, 16);
 }

@@ -2,7 +2,8 @@ ghost use Rattle.std.specs.Prelude.{◌≡◌, List, Option, None, ℕ, option_m
 ghost use Rattle.outside.specs.Arguments.{word_of, IsArgument, IsWord, AreWords};
 
 use crate::words::Word;
-use std::alloc::{AllocError, Global};
+use no_memory::NoMemory;
+use std::alloc::Global;
 use std::env::FillError;
 use std::rt::Env;
 
@@ -12,13 +13,13 @@ pub trait Arguments {
     ghost given: { Self → Option (List (List ℕ)) };
 
     /// The bytes of the argument of this number, from 0, if there are so many arguments.
-    fn argument(&self, alloc: Global, i: usize) -> Result<Option<Vec<u8>>, AllocError>
+    fn argument(&self, alloc: Global, i: usize) -> Result<Option<Vec<u8>>, NoMemory>
         ensures { IfOk result (λ bytes. IsArgument (given self.now) i (option_map (λ v. v.items) bytes)) };
 }
 
 /// All arguments as words. One that is not UTF-8 becomes the empty word.
 #[tactic(auto, using(crate::proofs::ArgumentList::words_more, crate::proofs::ArgumentList::words_done))]
-pub fn words_of<A: Arguments>(arguments: &A, alloc: Global) -> Result<Vec<Word>, AllocError>
+pub fn words_of<A: Arguments>(arguments: &A, alloc: Global) -> Result<Vec<Word>, NoMemory>
     ensures { IfOk result (λ words. AreWords (A.given arguments.now) words.items) }
 {
     let mut words = Vec::new(alloc);
@@ -28,10 +29,10 @@ pub fn words_of<A: Arguments>(arguments: &A, alloc: Global) -> Result<Vec<Word>,
             None => return Ok(words),
         }
     }
-    Err(AllocError)
+    Err(NoMemory)
 }
 
-fn word_at<A: Arguments>(arguments: &A, alloc: Global, i: usize) -> Result<Option<Word>, AllocError>
+fn word_at<A: Arguments>(arguments: &A, alloc: Global, i: usize) -> Result<Option<Word>, NoMemory>
     ensures { IfOk result (λ word. IsWord (A.given arguments.now) i word) }
 {
     match arguments.argument(alloc, i)? {
@@ -41,7 +42,7 @@ fn word_at<A: Arguments>(arguments: &A, alloc: Global, i: usize) -> Result<Optio
 }
 
 #[tactic(auto, using(crate::proofs::ArgumentList::word_texts))]
-fn word_of(alloc: Global, bytes: &[u8]) -> Result<Word, AllocError>
+fn word_of(alloc: Global, bytes: &[u8]) -> Result<Word, NoMemory>
     ensures { IfOk result (λ word. word ≡ word_of bytes.now) }
 {
     match str::from_utf8(bytes) {
@@ -69,7 +70,7 @@ impl<'a, R: Env> Arguments for ProcessArguments<'a, R> {
     ghost given = { λ _. None };
 
     // The buffer is doubled until the argument fits.
-    fn argument(&self, alloc: Global, i: usize) -> Result<Option<Vec<u8>>, AllocError> {
+    fn argument(&self, alloc: Global, i: usize) -> Result<Option<Vec<u8>>, NoMemory> {
         let mut room = FIRST_ROOM;
         for _ in 0..usize::BITS {
             let mut buffer = Vec::from_elem(alloc, 0, room)?;
@@ -82,6 +83,6 @@ impl<'a, R: Env> Arguments for ProcessArguments<'a, R> {
                 Err(FillError::TooLong) => room = room.saturating_mul(2),
             }
         }
-        Err(AllocError)
+        Err(NoMemory)
     }
 }

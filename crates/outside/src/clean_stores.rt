@@ -4,7 +4,8 @@ ghost use Rattle.outside.specs.Named.{content_of};
 
 use crate::named::{NamedFiles, front};
 use crate::stores::{Store, StoreFault};
-use std::alloc::{AllocError, Global};
+use no_memory::NoMemory;
+use std::alloc::Global;
 use std::marker::Model;
 
 /// A store in memory that never fails. A name outside it reads as no bytes.
@@ -22,6 +23,7 @@ impl Model for CleanStore {
 }
 
 impl CleanStore {
+    /// A store without a file.
     pub fn new(alloc: Global) -> CleanStore
         ensures { result ≡ [] }
     {
@@ -31,7 +33,7 @@ impl CleanStore {
     }
 
     /// Adds a file, which takes the place of an earlier one with its name.
-    pub fn insert(&mut self, name: &str, bytes: &[u8]) -> Result<(), AllocError>
+    pub fn insert(&mut self, name: &str, bytes: &[u8]) -> Result<(), NoMemory>
         ensures ok { OnOk result (self.new ≡ (name.now, bytes.now) ∷ self.old) }
         ensures err { OnErr result (self.new ≡ self.old) }
     {
@@ -54,7 +56,7 @@ impl Store for CleanStore {
         let bytes = self.files.get(name).unwrap_or(&[]);
         match front(alloc, bytes, most) {
             Ok(given) => Ok(given),
-            Err(AllocError) => Err(StoreFault::NoMemory),
+            Err(NoMemory) => Err(StoreFault::NoMemory),
         }
     }
 }

@@ -26,6 +26,7 @@ impl<'a, R> Model for FileStore<'a, R> {
 }
 
 impl<'a, R> FileStore<'a, R> {
+    /// The files of the system, of which none was read.
     pub fn new(rt: &'a R) -> FileStore<'a, R>
         ensures { result ≡ record { faults = 0; error = None } }
     {
@@ -36,6 +37,7 @@ impl<'a, R> FileStore<'a, R> {
         }
     }
 
+    /// The count of its faults.
     pub fn faults(&self) -> u64
         ensures { result ≡ self.now.faults }
     {

@@ -7,6 +7,7 @@ pub use clean_stores::CleanStore;
 pub use file_stores::FileStore;
 pub use list_sinks::ListSink;
 pub use map_stores::{Asked, MapStore};
+pub use no_memory::NoMemory;
 pub use sinks::{Sink, SinkFault};
 pub use std_sinks::StdSink;
 pub use stores::{Store, StoreFault};

@@ -2,7 +2,8 @@ ghost use Rattle.std.specs.Prelude.{◌≡◌, ◌≤◌, ◌∷◌, [], ◌++�
 ghost use Rattle.outside.specs.Pieces.{Appends, Puts};
 
 use crate::sinks::{Sink, SinkFault};
-use std::alloc::{AllocError, Global};
+use no_memory::NoMemory;
+use std::alloc::Global;
 use std::marker::Model;
 
 /// A put that is to fail: its number, and how many bytes it still takes.
@@ -52,7 +53,8 @@ impl Model for ListSink {
 impl ListSink {
     ghost use Rattle.outside.specs.ListSinks.{empty_sink, failure_of};
 
-    pub fn new(alloc: Global, room: usize) -> Result<ListSink, AllocError>
+    /// An empty sink with room for this many bytes.
+    pub fn new(alloc: Global, room: usize) -> Result<ListSink, NoMemory>
         ensures { IfOk result (λ s. s ≡ empty_sink room) }
     {
         Ok(ListSink {
@@ -65,7 +67,7 @@ impl ListSink {
     }
 
     /// Lets the put with this number fail once it has taken so many bytes. The first put has number 1.
-    pub fn fail_at(&mut self, call: u64, takes: usize) -> Result<(), AllocError>
+    pub fn fail_at(&mut self, call: u64, takes: usize) -> Result<(), NoMemory>
         ensures ok { OnOk result
             (self.new ≡ record self.old { failing = self.old.failing ++ (call, takes) ∷ [] }) }
         ensures err { OnErr result (self.new ≡ self.old) }
@@ -81,6 +83,7 @@ impl ListSink {
         self.bytes.as_slice()
     }
 
+    /// The count of its faults.
     pub fn faults(&self) -> u64
         ensures { result ≡ self.now.faults }
     {

@@ -4,7 +4,8 @@ ghost use Rattle.outside.specs.Asks.{told};
 use crate::named::{NamedFiles, front};
 use crate::stores::{Store, StoreFault};
 use crate::words::Word;
-use std::alloc::{AllocError, Global};
+use no_memory::NoMemory;
+use std::alloc::Global;
 use std::marker::Model;
 
 /// A read that a store was asked for.
@@ -24,12 +25,14 @@ impl Model for Asked {
 }
 
 impl Asked {
+    /// The name of the file that was asked for.
     pub fn name(&self) -> &str
         ensures { result.now ≡ self.now.name }
     {
         self.name.as_str()
     }
 
+    /// The number of bytes that were asked for at most.
     pub fn most(&self) -> u64
         ensures { result ≡ self.now.most }
     {
@@ -69,6 +72,7 @@ impl Model for MapStore {
 impl MapStore {
     ghost use Rattle.outside.specs.MapStores.{empty_store};
 
+    /// A store without a file, which was asked for nothing.
     pub fn new(alloc: Global) -> MapStore
         ensures { result ≡ empty_store }
     {
@@ -81,7 +85,7 @@ impl MapStore {
     }
 
     /// Adds a file, which takes the place of an earlier one with its name.
-    pub fn insert(&mut self, name: &str, bytes: &[u8]) -> Result<(), AllocError>
+    pub fn insert(&mut self, name: &str, bytes: &[u8]) -> Result<(), NoMemory>
         ensures ok { OnOk result
             (self.new ≡ record self.old { files = (name.now, bytes.now) ∷ self.old.files }) }
         ensures err { OnErr result (self.new ≡ self.old) }
@@ -91,7 +95,7 @@ impl MapStore {
 
     /// Lets the read with this number fail. The first has number 1, and one that found no memory has
     /// none.
-    pub fn fail_at(&mut self, call: u64) -> Result<(), AllocError>
+    pub fn fail_at(&mut self, call: u64) -> Result<(), NoMemory>
         ensures ok { OnOk result
             (self.new ≡ record self.old { failing = self.old.failing ++ call ∷ [] }) }
         ensures err { OnErr result (self.new ≡ self.old) }
@@ -107,6 +111,7 @@ impl MapStore {
         self.asked.as_slice()
     }
 
+    /// The count of its faults.
     pub fn faults(&self) -> u64
         ensures { result ≡ self.now.faults }
     {
@@ -135,7 +140,7 @@ impl MapStore {
         };
         match front(alloc, bytes, most) {
             Ok(given) => Ok(given),
-            Err(AllocError) => Err(StoreFault::NoMemory),
+            Err(NoMemory) => Err(StoreFault::NoMemory),
         }
     }
 }

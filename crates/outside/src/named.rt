@@ -2,7 +2,8 @@ ghost use Rattle.std.specs.Prelude.{◌≡◌, [], ◌∷◌, take, option_map, 
 ghost use Rattle.outside.specs.Named.{content_of};
 
 use crate::words::Word;
-use std::alloc::{AllocError, Global};
+use no_memory::NoMemory;
+use std::alloc::Global;
 use std::marker::Model;
 
 #[derive(Debug, Drop)]
@@ -43,7 +44,7 @@ impl NamedFiles {
     }
 
     /// Adds a file, which takes the place of an earlier one with its name.
-    pub(crate) fn insert(&mut self, name: &str, bytes: &[u8]) -> Result<(), AllocError>
+    pub(crate) fn insert(&mut self, name: &str, bytes: &[u8]) -> Result<(), NoMemory>
         ensures ok { OnOk result (self.new ≡ (name.now, bytes.now) ∷ self.old) }
         ensures err { OnErr result (self.new ≡ self.old) }
     {
@@ -67,9 +68,9 @@ impl NamedFiles {
 }
 
 /// A copy of the first `most` bytes, or of all where there are fewer.
-pub(crate) fn front(alloc: Global, bytes: &[u8], most: u64) -> Result<Vec<u8>, AllocError>
+pub(crate) fn front(alloc: Global, bytes: &[u8], most: u64) -> Result<Vec<u8>, NoMemory>
     ensures { IfOk result (λ v. v.items ≡ take most bytes.now) }
 {
     let given = bytes.len().min(most as usize);
-    Vec::from_slice(alloc, &bytes[..given])
+    Ok(Vec::from_slice(alloc, &bytes[..given])?)
 }

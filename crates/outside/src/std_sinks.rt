@@ -23,12 +23,14 @@ impl<W> Model for StdSink<W> {
 }
 
 impl<W> StdSink<W> {
+    /// A sink that writes to this writer.
     pub fn new(to: W) -> StdSink<W>
         ensures { result ≡ (to, 0) }
     {
         StdSink { to, faults: 0 }
     }
 
+    /// The count of its faults.
     pub fn faults(&self) -> u64
         ensures { result ≡ self.now.1 }
     {

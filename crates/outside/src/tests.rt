@@ -6,7 +6,8 @@ use crate::{
     Asked, CleanSink, CleanStore, FileStore, ListSink, MapStore, ProcessArguments, Sink, SinkFault,
     StdSink, Store, StoreFault, Word, words_of,
 };
-use std::alloc::{AllocError, Global};
+use no_memory::NoMemory;
+use std::alloc::Global;
 use std::env::FillError;
 use std::io;
 use std::io::{ErrorKind, Write};
@@ -65,7 +66,7 @@ fn answers<S: Store>(
     }
 }
 
-fn sample(alloc: Global) -> Result<MapStore, AllocError> {
+fn sample(alloc: Global) -> Result<MapStore, NoMemory> {
     let mut store = MapStore::new(alloc);
     store.insert("a.toml", b"stale")?;
     store.insert("a.toml", b"format = 1\n")?;

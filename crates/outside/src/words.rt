@@ -1,6 +1,7 @@
 ghost use Rattle.std.specs.Prelude.{◌≡◌, IfOk};
 
-use std::alloc::{AllocError, Global};
+use no_memory::NoMemory;
+use std::alloc::Global;
 use std::convert::AsStr;
 use std::marker::Model;
 
@@ -19,7 +20,8 @@ impl Model for Word {
 }
 
 impl Word {
-    pub fn new(alloc: Global, text: &str) -> Result<Word, AllocError>
+    /// A copy of the text.
+    pub fn new(alloc: Global, text: &str) -> Result<Word, NoMemory>
         ensures { IfOk result (λ w. w ≡ text.now) }
     {
         Ok(Word {
@@ -27,6 +29,7 @@ impl Word {
         })
     }
 
+    /// The text.
     pub fn as_str(&self) -> &str
         ensures { result.now ≡ self.now }
     {

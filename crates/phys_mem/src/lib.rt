@@ -11,4 +11,5 @@ mod tests;
 pub use accesses::Mem;
 pub use arch_defs::{BLOCK_SIZE, FRAME_SIZE, Part};
 pub use memory::{MOST_FRAMES, PhysMem};
+pub use no_memory::NoMemory;
 pub use ram::{RAM_BASE, Ram};

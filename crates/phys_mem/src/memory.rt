@@ -9,7 +9,8 @@ use crate::accesses::Mem;
 use crate::slices::{bytes_of, clear, copy, number, paste};
 use arch_defs::FRAME_SIZE;
 use byteorder::{ByteOrder, LittleEndian};
-use std::alloc::{AllocError, Global};
+use no_memory::NoMemory;
+use std::alloc::Global;
 use std::marker::Model;
 
 /// The most frames of machine memory.
@@ -34,7 +35,7 @@ impl Model for PhysMem {
 impl PhysMem {
     /// So many frames of zeros.
     #[tactic(auto, unfolding(arch_defs::specs::Memory::zeros))]
-    pub fn new(alloc: Global, frames: u64) -> Result<PhysMem, AllocError>
+    pub fn new(alloc: Global, frames: u64) -> Result<PhysMem, NoMemory>
         requires some { 1 ≤ frames }
         requires most { frames ≤ 131072 }
         ensures { IfOk result (λ m. m ≡ zeros (frames * 4096)) }

@@ -2,11 +2,12 @@ ghost use Rattle.std.specs.Prelude.{◌≡◌, ◌+◌, ◌*◌, ◌≤◌, true
 ghost use Rattle.arch_defs.specs.Layouts.{Layout, names_each_once};
 
 use crate::{Mem, Part, PhysMem, Ram};
-use std::alloc::{AllocError, Global};
+use no_memory::NoMemory;
+use std::alloc::Global;
 use std::test::Fail;
 
 // So many frames of machine memory.
-fn memory(alloc: Global, frames: u64) -> Result<PhysMem, AllocError>
+fn memory(alloc: Global, frames: u64) -> Result<PhysMem, NoMemory>
     requires some { 1 ≤ frames }
     requires most { frames ≤ 131072 }
 {

@@ -4,6 +4,7 @@ ghost use Rattle.std.specs.Prelude.{◌≡◌};
 ghost use Rattle.run_config.specs.declared.ends.ReadEnd.TheVariants.{NoMemory, Refused};
 
 use crate::faults::ConfigFault;
+use no_memory::NoMemory;
 use std::alloc::{AllocError, AllocFailed};
 use thiserror::Error;
 
@@ -20,6 +21,14 @@ impl From<AllocError> for ReadEnd {
     ghost from_gives = { λ _ end. end ≡ NoMemory };
 
     fn from(_: AllocError) -> ReadEnd {
+        ReadEnd::NoMemory
+    }
+}
+
+impl From<NoMemory> for ReadEnd {
+    ghost from_gives = { λ _ end. end ≡ NoMemory };
+
+    fn from(_: NoMemory) -> ReadEnd {
         ReadEnd::NoMemory
     }
 }

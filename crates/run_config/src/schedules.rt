@@ -9,7 +9,8 @@ ghost use Rattle.run_config.specs.Values.{pair_within, pairs_within, value_at};
 use crate::keys::ConfigKey;
 use crate::pairs::pair_within;
 use crate::values::{natural, number_within, value_at};
-use std::alloc::{AllocError, Global};
+use no_memory::NoMemory;
+use std::alloc::Global;
 use toml::{Table, Value};
 use turn_plan::Turns;
 
@@ -34,7 +35,7 @@ fn all_turns(
     alloc: Global,
     guests: u32,
     values: &[Value],
-) -> Result<Option<Vec<(u32, u64)>>, AllocError>
+) -> Result<Option<Vec<(u32, u64)>>, NoMemory>
     requires { 1 ≤ guests }
     ensures { IfOk result (λ o. option_map (λ v. v.items) o
         ≡ pairs_within (guests - 1) (2 ^ 32) (items_view values.now)) }
@@ -60,7 +61,7 @@ fn has_no_rounds(document: &Table) -> bool
 
 /// The turns of the key `turns`, where they are as they must be.
 #[tactic(auto, unfolding(crate::specs::Turns::listed_turns))]
-fn listed_turns(alloc: Global, guests: u32, document: &Table) -> Result<Option<Turns>, AllocError>
+fn listed_turns(alloc: Global, guests: u32, document: &Table) -> Result<Option<Turns>, NoMemory>
     requires { 1 ≤ guests }
     ensures { IfOk result (λ o. o ≡ listed_turns guests (table_view document.now)) }
 {
@@ -108,11 +109,7 @@ fn quantum_and_rounds(document: &Table) -> Option<(u64, u64)>
 
 /// The turns of the keys `quantum` and `rounds`, where they are as they must be.
 #[tactic(auto, unfolding(crate::specs::Turns::turns_by_rounds))]
-fn turns_by_rounds(
-    alloc: Global,
-    guests: u32,
-    document: &Table,
-) -> Result<Option<Turns>, AllocError>
+fn turns_by_rounds(alloc: Global, guests: u32, document: &Table) -> Result<Option<Turns>, NoMemory>
     ensures { IfOk result (λ o. o ≡ turns_by_rounds guests (table_view document.now)) }
 {
     let Some((quantum, rounds)) = quantum_and_rounds(document) else {
@@ -127,7 +124,7 @@ fn turns_by_rounds(
 
 /// The turns of so many guests, where they are said in one of the two forms.
 #[tactic(auto, unfolding(crate::specs::Turns::turns_at))]
-pub fn turns_at(alloc: Global, guests: u32, document: &Table) -> Result<Option<Turns>, AllocError>
+pub fn turns_at(alloc: Global, guests: u32, document: &Table) -> Result<Option<Turns>, NoMemory>
     requires { 1 ≤ guests }
     ensures { IfOk result (λ o. o ≡ turns_at guests (table_view document.now)) }
 {

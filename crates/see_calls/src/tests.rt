@@ -3,8 +3,8 @@ ghost use Rattle.arch_defs.specs.Inputs.{AreInputs};
 
 use crate::{CallEnd, call};
 use arch_defs::{Reg, Regs};
-use console_dev::Console;
-use std::alloc::{AllocError, Global};
+use console_dev::{Console, NoMemory};
+use std::alloc::Global;
 use std::process::Abort;
 use std::test::Fail;
 use virtual_timer::Clock;
@@ -37,11 +37,11 @@ fn shown(regs: &Regs) -> (u64, u64, u64, u64, u64) {
 }
 
 // A console of one byte, with two inputs at moment 5.
-fn console(alloc: Global) -> Result<Console, AllocError> {
+fn console(alloc: Global) -> Result<Console, NoMemory> {
     Console::new(alloc, 1, inputs(alloc)?)
 }
 
-fn inputs(alloc: Global) -> Result<Vec<(u64, u8)>, AllocError>
+fn inputs(alloc: Global) -> Result<Vec<(u64, u8)>, NoMemory>
     ensures { IfOk result (λ inputs. AreInputs inputs.items) }
 {
     Ok(vec![in alloc; (5u64, 90u8), (5, 91)]?)

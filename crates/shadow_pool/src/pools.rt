@@ -10,9 +10,10 @@ ghost use Rattle.arch_defs.specs.Spaces.{entered, fenced, filled_in, has_space};
 use crate::listing::{enter, fence, fill};
 use crate::slots::Slot;
 use arch_defs::{Entry, Fence, GuestRoot, Part};
+use no_memory::NoMemory;
 use phys_mem::PhysMem;
 use shadow_space::Space;
-use std::alloc::{AllocError, Global};
+use std::alloc::Global;
 use std::marker::Model;
 
 /// A guest's spaces of cached second-stage translations, each for a whole value of hgatp and with a folded
@@ -43,7 +44,7 @@ impl Model for Pool {
 impl Pool {
     /// A pool of at most so many spaces, of at most so many entries each, in the frames that a part has for
     /// them. There are none yet. It may answer out of memory.
-    pub fn new(alloc: Global, part: &Part, spaces: u64, entries: u64) -> Result<Pool, AllocError>
+    pub fn new(alloc: Global, part: &Part, spaces: u64, entries: u64) -> Result<Pool, NoMemory>
         requires some { 1 ≤ spaces }
         requires own { spaces ≤ part.now.spaces }
         requires few { entries ≤ 256 }
@@ -124,13 +125,18 @@ impl Pool {
     }
 }
 
+#[cfg(test)]
+impl Pool {
+    // The tables, those of the most recently entered spaces first.
+    pub(crate) fn slots(&self) -> &[Slot]
+        ensures { result.now ≡ self.now.slots }
+    {
+        self.slots.as_slice()
+    }
+}
+
 // The first tables of a part, for spaces that there are not yet.
-fn spare_slots(
-    alloc: Global,
-    part: &Part,
-    spaces: u64,
-    entries: u64,
-) -> Result<Vec<Slot>, AllocError>
+fn spare_slots(alloc: Global, part: &Part, spaces: u64, entries: u64) -> Result<Vec<Slot>, NoMemory>
     requires own { spaces ≤ part.now.spaces }
     requires few { entries ≤ 256 }
     requires room { entries ≤ part.now.entries }

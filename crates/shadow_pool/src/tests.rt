@@ -6,9 +6,10 @@ ghost use Rattle.shadow_pool.specs.Slots.{TidyPool};
 
 use crate::{Entry, Fence, GuestRoot, Part, PhysMem, Pool};
 use arch_defs::{Access, GuestMode, LOAD_ACCESS_FAULT, Shape, TABLES_PER_ENTRY, Trap, WalkEnd};
+use no_memory::NoMemory;
 use phys_mem::Mem;
 use stage_walk::{Fetch, walk};
-use std::alloc::{AllocError, Global};
+use std::alloc::Global;
 use std::test::Fail;
 
 // Blocks 5 and 3 are outside these frames, which hold tables alone: the host's root from 0 on, those of two
@@ -33,7 +34,7 @@ fn part(entries: u16) -> Part
 }
 
 // Memory of so many frames.
-fn memory(alloc: Global, frames: u64) -> Result<PhysMem, AllocError>
+fn memory(alloc: Global, frames: u64) -> Result<PhysMem, NoMemory>
     requires some { 1 ≤ frames }
     requires most { frames ≤ 131072 }
     ensures { IfOk result (λ m. m ≡ zeros (frames * 4096)) }
@@ -54,7 +55,7 @@ fn empty_pool(
     part: &Part,
     frames: u64,
     entries: u64,
-) -> Result<Option<Machine>, AllocError>
+) -> Result<Option<Machine>, NoMemory>
     requires some { 1 ≤ frames }
     requires most { frames ≤ 131072 }
     requires own { 0 < part.now.spaces }
@@ -166,6 +167,22 @@ const R: GuestRoot = GuestRoot::Table {
     ppn: 0x8_0200,
 };
 
+// Whether a pool has these spaces, each a value of hgatp with its entries, in this order.
+fn has_spaces(pool: &Pool, spaces: &[(GuestRoot, &[Entry])]) -> bool {
+    let mut count = 0;
+    for slot in pool.slots() {
+        if let Some(key) = slot.key {
+            match spaces.get(count) {
+                Some(&(wanted, entries)) if key == wanted && slot.space.entries() == entries => {
+                    count += 1;
+                }
+                _ => return false,
+            }
+        }
+    }
+    count == spaces.len()
+}
+
 // With room for two spaces, P's is kept while it is one of the last two that were entered, and empty when it
 // comes again. Frame 80003 is the fourth of block 5, which is frame 5 * 512 + 3 of machine memory.
 #[test]
@@ -173,21 +190,27 @@ fn pool_of_two(rt: HostRuntime) {
     let part = part(16);
     let made = empty_pool(rt.alloc(), &part, 77, 16).expect(&rt, "memory");
     let mut machine = made.expect(&rt, "room");
-    let first = filled(&mut machine, P, entry(5, 0x8_0003, 0));
+    let entries = [entry(5, 0x8_0003, 0)];
+    let first = filled(&mut machine, P, entries[0]);
+    assert!(rt; has_spaces(&machine.pool, &[(P, &entries)]));
     assert_eq!(rt; frame_of(&machine.mem, first, 5), Some(2563));
     let second = machine.pool.enter(&mut machine.mem, Q);
     assert_eq!(rt; second != first, true);
     assert_eq!(rt; machine.pool.root(), second);
     assert_eq!(rt; frame_of(&machine.mem, second, 5), None);
     assert_eq!(rt; machine.pool.enter(&mut machine.mem, P), first);
+    assert!(rt; has_spaces(&machine.pool, &[(P, &entries), (Q, &[])]));
     assert_eq!(rt; frame_of(&machine.mem, first, 5), Some(2563));
     let third = machine.pool.enter(&mut machine.mem, R);
+    assert!(rt; has_spaces(&machine.pool, &[(R, &[]), (P, &entries)]));
     assert_eq!(rt; frame_of(&machine.mem, third, 5), None);
     assert_eq!(rt; frame_of(&machine.mem, first, 5), Some(2563));
     let fourth = machine.pool.enter(&mut machine.mem, Q);
+    assert!(rt; has_spaces(&machine.pool, &[(Q, &[]), (R, &[])]));
     assert_eq!(rt; fourth != third, true);
     assert_eq!(rt; frame_of(&machine.mem, fourth, 5), None);
     let fifth = machine.pool.enter(&mut machine.mem, P);
+    assert!(rt; has_spaces(&machine.pool, &[(P, &[]), (Q, &[])]));
     assert_eq!(rt; frame_of(&machine.mem, fifth, 5), None);
 }
 
@@ -197,7 +220,7 @@ fn left_by(
     alloc: Global,
     vmid: Option<u64>,
     page: Option<u64>,
-) -> Result<Option<[bool; 4]>, AllocError> {
+) -> Result<Option<[bool; 4]>, NoMemory> {
     let Some(mut machine) = empty_pool(alloc, &part(16), 77, 16)? else {
         return Ok(None);
     };

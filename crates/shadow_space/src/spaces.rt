@@ -72,6 +72,13 @@ impl Space {
         tables_of(&self.part, self.index).root
     }
 
+    /// The entries, the oldest first.
+    pub fn entries(&self) -> &[Entry]
+        ensures { result.now ≡ self.now.entries }
+    {
+        self.entries.as_slice()
+    }
+
     /// Adds an entry, as the newest. An entry of the same page is dropped, and else, where there are as many
     /// as there may be, the oldest one.
     pub fn fill(&mut self, mem: &mut PhysMem, entry: Entry)

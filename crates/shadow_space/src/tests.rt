@@ -6,9 +6,9 @@ ghost use Rattle.shadow_space.specs.Shadows.{Tidy};
 
 use crate::{Entry, MOST_ENTRIES, Part, PhysMem, Space};
 use arch_defs::{Access, LOAD_ACCESS_FAULT, LeafPte, Shape, TABLES_PER_ENTRY, Trap, WalkEnd};
-use phys_mem::Mem;
+use phys_mem::{Mem, NoMemory};
 use stage_walk::{Fetch, walk};
-use std::alloc::{AllocError, Global};
+use std::alloc::Global;
 use std::test::Fail;
 
 // Blocks 5 and 3 are outside these frames, which hold tables alone: the host's root from 0 on, the space's
@@ -33,7 +33,7 @@ fn part(entries: u16) -> Part
 }
 
 // Memory of so many frames.
-fn memory(alloc: Global, frames: u64) -> Result<PhysMem, AllocError>
+fn memory(alloc: Global, frames: u64) -> Result<PhysMem, NoMemory>
     requires some { 1 ≤ frames }
     requires most { frames ≤ 131072 }
     ensures { IfOk result (λ m. m ≡ zeros (frames * 4096)) }
@@ -54,7 +54,7 @@ fn empty_space(
     part: &Part,
     frames: u64,
     entries: u64,
-) -> Result<Option<Machine>, AllocError>
+) -> Result<Option<Machine>, NoMemory>
     requires some { 1 ≤ frames }
     requires most { frames ≤ 131072 }
     requires own { 0 < part.now.spaces }
@@ -197,6 +197,8 @@ fn the_oldest_goes(rt: HostRuntime) {
         true
     );
     assert_eq!(rt; frame_of(&mem, 1), Some(1537));
+    let both = [entry(1, 0x8_0201, 0), entry(0x1FFF_FFFF, 0x8_0202, 0)];
+    assert_eq!(rt; space.entries(), both.as_slice());
     assert_eq!(rt; filled(&mut space, &mut mem, entry(1, 0x8_0203, 0)), true);
     assert_eq!(rt; frame_of(&mem, 1), Some(1539));
     assert_eq!(rt; frame_of(&mem, 0x1FFF_FFFF), Some(1538));

@@ -3,7 +3,8 @@
 ghost use Rattle.std.specs.Prelude.{◌≡◌, ◌*◌, ◌^◌, ◌≤◌, ◌++◌, IfOk, OnOk};
 ghost use Rattle.turn_plan.specs.Turns.{round_of, rounds_of};
 
-use std::alloc::{AllocError, Global};
+use no_memory::NoMemory;
+use std::alloc::Global;
 use std::marker::Model;
 
 /// The turns of a run in order. Each is the number of a guest, from 0 on, and at most how many steps it
@@ -37,7 +38,7 @@ impl Turns {
         guests: u64,
         quantum: u64,
         rounds: u64,
-    ) -> Result<Turns, AllocError>
+    ) -> Result<Turns, NoMemory>
         requires { guests * rounds ≤ 2 ^ 20 }
         ensures { IfOk result (λ turns. turns ≡ rounds_of guests quantum rounds) }
     {
@@ -58,7 +59,7 @@ impl Turns {
 
 // Adds one turn of each guest.
 #[tactic(auto, using(crate::proofs::Rounds::turns))]
-fn push_round(pairs: &mut Vec<(u32, u64)>, guests: u64, quantum: u64) -> Result<(), AllocError>
+fn push_round(pairs: &mut Vec<(u32, u64)>, guests: u64, quantum: u64) -> Result<(), NoMemory>
     requires { guests ≤ 2 ^ 20 }
     ensures { OnOk result (pairs.new.items ≡ pairs.old.items ++ round_of guests quantum) }
 {

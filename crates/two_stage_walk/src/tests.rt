@@ -9,12 +9,12 @@ use crate::{memory_is_whole, ram_is_whole, translate};
 use arch_defs::{
     Access, Csrs, GuestMode, GuestRoot, Mode, Part, Regs, SupervisorMode, SupervisorRoot, Trap,
 };
-use phys_mem::{Mem, PhysMem, Ram};
-use std::alloc::{AllocError, Global};
+use phys_mem::{Mem, NoMemory, PhysMem, Ram};
+use std::alloc::Global;
 use std::test::Fail;
 use trap_delegation::enter_hs;
 
-fn memory(alloc: Global, frames: u64) -> Result<PhysMem, AllocError>
+fn memory(alloc: Global, frames: u64) -> Result<PhysMem, NoMemory>
     requires some { 1 ≤ frames }
     requires most { frames ≤ 131072 }
 {
@@ -145,7 +145,7 @@ fn put(memory: &mut PhysMem, at: u64, word: u64) {
     }
 }
 
-fn tables(alloc: Global) -> Result<PhysMem, AllocError> {
+fn tables(alloc: Global) -> Result<PhysMem, NoMemory> {
     let mut memory = memory(alloc, 16)?;
     for &(at, word) in &TABLES {
         put(&mut memory, at, word);

@@ -1,0 +1,6 @@
+//! Want of memory, as the one refusal of a call that takes memory.
+#![tactic(auto)]
+
+mod wants;
+
+pub use wants::NoMemory;
