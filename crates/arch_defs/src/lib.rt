@@ -34,7 +34,7 @@ pub use modes::{
 pub use needs::Need;
 pub use parts::{BLOCK_FRAMES, BLOCK_SIZE, FRAME_SIZE, MOST_BLOCKS, Part, TABLES_PER_ENTRY};
 pub use registers::{
-    Csrs, GuestMode, GuestRoot, HypervisorStatus, Interrupts, Reg, Regs, SupervisorCsrs,
+    Csrs, GuestMode, GuestRoot, HartState, HypervisorStatus, Interrupts, Reg, Regs, SupervisorCsrs,
     SupervisorMode, SupervisorRoot, SupervisorStatus, Virtual,
 };
 pub use second_walks::SecondWalkEnd;

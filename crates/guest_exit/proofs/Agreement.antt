@@ -34,7 +34,8 @@ use Rattle.machine_defs.specs.Core.{Fails, Faults, accessed, accessed_data, call
 use Rattle.machine_defs.specs.Outcomes.{passed, sets}
 use Rattle.world_switch.specs.Hosting.{hart_state_of, hosted_csrs, hosted_mode}
 use Rattle.world_switch.proofs.Undone.{translates_alike}
-use Rattle.guest_exit.specs.ExitCases.{access_of, privileged_in, privileged_of}
+use Rattle.guest_exit.specs.ExitCases.{access_of}
+use Rattle.guest_exit.proofs.Decided.{privileged_in, privileged_of}
 use Rattle.guest_exit.proofs.Delegation.{IsOwn, own_0, own_12, own_13, own_15, own_2, own_3, own_4, own_6, own_8}
 use Rattle.guest_exit.proofs.Privileged.{privileged_stands}
 use Rattle.guest_exit.proofs.Stands.{Own, Call, Nested, SamePlace, Stands, at_stands, completes}

@@ -7,7 +7,7 @@ use Rattle.arch_defs.specs.declared.modes.TheConstants.{VIRTUAL_INSTRUCTION}
 use Rattle.arch_defs.specs.declared.registers.Virtual.{Virtual}
 use Rattle.arch_defs.specs.Traps.{is_virtual}
 use Rattle.arch_defs.specs.WalkedEntries.{folds}
-use Rattle.op_defs.specs.declared.ops.Privileged.{Privileged}
+use Rattle.op_defs.specs.declared.ops.Op.{Op}
 use Rattle.machine_defs.specs.declared.guests.Status.TheVariants.{Running}
 use Rattle.machine_defs.specs.Fills.{missing_entry}
 use Rattle.machine_defs.specs.Machine.{Machine, Tried, WaitsForGood, trapped}
@@ -17,8 +17,9 @@ use Rattle.guest_exit.specs.declared.exit_cases.Exit.{Exit}
 use Rattle.guest_exit.specs.declared.exit_cases.Exit.TheVariants.{Instruction, Missing, OutsideRam, Call, Own}
 use Rattle.guest_exit.specs.declared.hart_exit.Handled.{Handled}
 use Rattle.guest_exit.specs.declared.hart_exit.Handled.TheVariants as handled
-use Rattle.guest_exit.specs.ExitCases.{IsLeft, entry_for_exit, exit_of, instruction_exit, is_guest_page_code, missing_place_exit, missing_place_of, other_exit, privileged_at, privileged_in, try_at}
-use Rattle.guest_exit.specs.HartExit.{IfMissing, IsHandled, IsMadeOf, status_after}
+use Rattle.guest_exit.specs.ExitCases.{IsLeft, decided_at, decided_in, entry_for_exit, exit_of, instruction_exit, is_guest_page_code, missing_place_exit, missing_place_of, other_exit, try_at}
+use Rattle.guest_exit.specs.HartExit.{IfInstruction, IfMissing, IsDecidedOp, IsHandled, IsMadeOf, status_after}
+use Rattle.guest_exit.proofs.Decided.{decided_at_is}
 use Rattle.guest_exit.proofs.ForGood.{never_waits, waits_exactly}
 
 -- a trap of none of the host's codes, by the guest's V
@@ -27,10 +28,10 @@ unfolding exit_of
 other_exit_is v trap page code = rw (page, code) refl
 
 -- one of code 22
-pub instruction_exit_is : (v : Virtual) (trap : Trap) (effect : Privileged) → is_guest_page_code trap.cause ≡ false → (trap.cause == VIRTUAL_INSTRUCTION) ≡ true
-    → trap.tval < 2 ^ 32 → privileged_in trap.tval v.regs ≡ Some effect → exit_of v trap ≡ Instruction trap.tval effect
+pub instruction_exit_is : (v : Virtual) (trap : Trap) (o : Op) → is_guest_page_code trap.cause ≡ false → (trap.cause == VIRTUAL_INSTRUCTION) ≡ true
+    → trap.tval < 2 ^ 32 → decided_in trap.tval ≡ Some o → exit_of v trap ≡ Instruction o
 unfolding exit_of
-instruction_exit_is v trap effect page code small is =
+instruction_exit_is v trap o page code small is =
     let word : nat_lt trap.tval (2 ^ 32) ≡ true = grind (arith, small) in rw (page, code, word, is) refl
 
 -- a guest-page fault
@@ -49,8 +50,8 @@ missing_place_folds v trap true =
     elim (nat_lt trap.tval2 (2 ^ 39)) as (λ b. IfMissing (cond b (Missing (missing_place_of v trap)) (Own trap)) true) [ true ↦ refl | false ↦ tt ]
 missing_place_folds v trap false = tt
 
-instruction_folds : (trap : Trap) (effect : Option Privileged) (folding : Bool) → IfMissing (instruction_exit trap effect) folding
-instruction_folds trap (Some effect) folding = tt
+instruction_folds : (trap : Trap) (op : Option Op) (folding : Bool) → IfMissing (instruction_exit trap op) folding
+instruction_folds trap (Some o) folding = tt
 instruction_folds trap None folding = tt
 
 other_folds : (trap : Trap) (virtual folding : Bool) → IfMissing (other_exit trap virtual) folding
@@ -65,7 +66,31 @@ pub missing_folds : (v : Virtual) (trap : Trap) → IfMissing (exit_of v trap) (
 unfolding exit_of
 missing_folds v trap =
     either_folds (is_guest_page_code trap.cause) _ _ (folds v) (missing_place_folds v trap (folds v))
-    (either_folds (trap.cause == VIRTUAL_INSTRUCTION) _ _ (folds v) (instruction_folds trap (privileged_at trap.tval v.regs) (folds v)) (other_folds trap (is_virtual v.mode) (folds v)))
+    (either_folds (trap.cause == VIRTUAL_INSTRUCTION) _ _ (folds v) (instruction_folds trap (decided_at trap.tval) (folds v)) (other_folds trap (is_virtual v.mode) (folds v)))
+
+-- an instruction that is left is one on which the mode decides, and its fields fit
+missing_place_decided : (v : Virtual) (trap : Trap) (folding : Bool) → IfInstruction (missing_place_exit v trap folding)
+missing_place_decided v trap true =
+    elim (nat_lt trap.tval2 (2 ^ 39)) as (λ b. IfInstruction (cond b (Missing (missing_place_of v trap)) (Own trap))) [ true ↦ tt | false ↦ tt ]
+missing_place_decided v trap false = tt
+
+instruction_decided : (trap : Trap) (found : Option Op) → ((o : Op) → found ≡ Some o → IsDecidedOp o) → IfInstruction (instruction_exit trap found)
+instruction_decided trap (Some o) is = is o refl
+instruction_decided trap None is = tt
+
+other_decided : (trap : Trap) (virtual : Bool) → IfInstruction (other_exit trap virtual)
+other_decided trap true = tt
+other_decided trap false = tt
+
+either_decided : (b : Bool) (one other : Exit) → IfInstruction one → IfInstruction other → IfInstruction (cond b one other)
+either_decided true one other h i = h
+either_decided false one other h i = i
+
+pub exit_decided : (v : Virtual) (trap : Trap) → IfInstruction (exit_of v trap)
+unfolding exit_of
+exit_decided v trap =
+    either_decided (is_guest_page_code trap.cause) _ _ (missing_place_decided v trap (folds v))
+    (either_decided (trap.cause == VIRTUAL_INSTRUCTION) _ _ (instruction_decided trap (decided_at trap.tval) (decided_at_is trap.tval)) (other_decided trap (is_virtual v.mode)))
 
 -- what is made of the exit is made of the machine's next step
 pub handled_by : (m after : Machine) (left : Exit) (result : Handled) → IsLeft m (try m) (missing_entry m) left → IsMadeOf left result m after → IsHandled result m after
@@ -77,7 +102,7 @@ handled_by m after left result is made = record {
 -- where an entry is filled, the try is a trap
 filled_traps : (m : Machine) (left : Exit) (e : Entry) → entry_for_exit m left ≡ Some e → (trap : Trap) × (try_at m left ≡ trapped m trap)
 filled_traps m (Missing missing) e some = (_, refl)
-filled_traps m (Instruction word effect) e some = absurd (cc)
+filled_traps m (Instruction o) e some = absurd (cc)
 filled_traps m (OutsideRam fault) e some = absurd (cc)
 filled_traps m Call e some = absurd (cc)
 filled_traps m (Own trap) e some = absurd (cc)

@@ -1,5 +1,6 @@
 pub mod Agreement
 pub mod Alone
+pub mod Decided
 pub mod Delegation
 pub mod Entries
 pub mod ExitCases

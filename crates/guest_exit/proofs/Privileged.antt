@@ -20,7 +20,7 @@ use Rattle.op_defs.specs.declared.ops.Privileged.TheVariants.{Csr, Sret, Wfi, Sf
 use Rattle.machine_defs.specs.declared.events.Event.TheVariants.{System}
 use Rattle.machine_defs.specs.Outcomes.{Outcome, Done, passed, sets}
 use Rattle.machine_defs.specs.Privileges.{combined, csr_accessed, csr_changed, csr_shown, decided, left_by_sret, privileged, refusal, refused, value_or_zero, virtual_if}
-use Rattle.guest_exit.specs.ExitCases.{privileged_in}
+use Rattle.guest_exit.proofs.Decided.{privileged_in}
 use Rattle.world_switch.specs.Hosting.{hart_state_of, hosted_csrs, hosted_mode}
 use Rattle.world_switch.proofs.Instructions.{always_virtual, supervisor_again}
 use Rattle.world_switch.proofs.Registers.{Nothing, Withheld, Both, Reaches, reached_alike}

@@ -21,7 +21,8 @@ use Rattle.rv64_hart.specs.Steps.{enters_vs}
 use Rattle.world_switch.specs.Hosting.{guest_state_after, guest_state_of, hart_state_of, hosted_csrs, hosted_mode, saved_csrs}
 use Rattle.world_switch.specs.Laws.{KeepsHidden}
 use Rattle.world_switch.proofs.Undone.{same_csrs, same_mode, virtual_mode}
-use Rattle.guest_exit.specs.ExitCases.{access_of, privileged_in}
+use Rattle.guest_exit.specs.ExitCases.{access_of}
+use Rattle.guest_exit.proofs.Decided.{privileged_in}
 use Rattle.guest_exit.specs.HartSteps.{KeepsHart, event_for}
 use Rattle.guest_exit.proofs.Delegation.{IsOwn}
 

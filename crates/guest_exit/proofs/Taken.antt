@@ -16,12 +16,13 @@ use Rattle.arch_defs.specs.declared.registers.Virtual.{Virtual}
 use Rattle.arch_defs.specs.Interrupts.{interrupt_of, vs_bit}
 use Rattle.arch_defs.specs.Frames.{in_blocks}
 use Rattle.arch_defs.specs.Layouts.{Layout}
+use Rattle.arch_defs.specs.Memory.{ram_base, reading_of}
 use Rattle.arch_defs.specs.Traps.{access_fault, entered_at, entered_vs, exception, is_delegated, is_virtual, target}
 use Rattle.arch_defs.proofs.FrameSets.{only_none}
 use Rattle.machine_defs.specs.declared.events.Event.TheVariants as event
 use Rattle.machine_laws.specs.HostPlaces.{in_ram, memory_place}
 use Rattle.machine_defs.specs.Machine.{Machine, Tried, stepped_to, trapped}
-use Rattle.machine_defs.specs.Tries.{apply_outcome}
+use Rattle.machine_defs.specs.Tries.{apply_outcome, second_of}
 use Rattle.op_defs.specs.declared.ops.CsrOp.{CsrOp}
 use Rattle.op_defs.specs.declared.ops.Privileged.{Privileged}
 use Rattle.op_defs.specs.declared.ops.Privileged.TheVariants.{Csr, Wfi}
@@ -29,13 +30,14 @@ use Rattle.machine_defs.specs.Outcomes.{Outcome, Trapped, Called}
 use Rattle.machine_defs.specs.Privileges.{privileged, refusal}
 use Rattle.world_switch.proofs.Instructions.{time_is_left}
 use Rattle.machine_laws.specs.Renaming.{ReservesWithin, renamed}
-use Rattle.world_switch.specs.Hosting.{after_hs_trap, all_interrupts, guest_state_after, guest_state_of, hart_state_in, hart_state_of, hosted_csrs, hosted_mode}
+use Rattle.world_switch.specs.Hosting.{after_hs_trap, all_interrupts, guest_state_after, guest_state_of, hart_state_in, hart_state_of, hosted_csrs, hosted_level, hosted_mode}
 use Rattle.world_switch.specs.Laws.{KeepsHidden}
-use Rattle.world_switch.proofs.Undone.{exceptions_alike, interrupts_alike, nested_traps_alike, virtual_mode}
+use Rattle.world_switch.proofs.Undone.{back_nested, back_own, exception_taken, interrupt_taken, nested_trap_taken, virtual_mode}
 use Rattle.guest_exit.specs.declared.exit_cases.Exit.TheVariants as case
 use Rattle.guest_exit.specs.ExitCases.{IsLeft, exit_of, is_guest_page_code, other_exit}
-use Rattle.guest_exit.specs.HartSteps.{ExitsAt, FollowsTry, IsAt, IsMade, KeepsHart, TimeExits, WaitsExit, hosted_level, step_for}
+use Rattle.guest_exit.specs.HartSteps.{ExitsAt, FollowsTry, IsAt, IsMade, KeepsHart, TimeExits, WaitsExit, step_for}
 use Rattle.rv64_hart.specs.Steps.{HartEnd, end_by, next_attempt, trapped_to}
+use Rattle.guest_exit.proofs.Decided.{ends_as, instruction_of, is_decided_in}
 use Rattle.guest_exit.proofs.ExitCases.{instruction_exit_is, left_as, other_exit_is}
 use Rattle.guest_exit.proofs.Interrupts.{IsDue}
 use Rattle.guest_exit.proofs.Delegation.{IsOwn, never_10, never_22, own_1, own_5, own_7}
@@ -104,13 +106,6 @@ entry_made part root m memory trap tried lacks interrupt at ready step =
       only = only_none (in_blocks part.blocks) memory;
     }
 
--- what is taken back after it, by the guest's V
-back_own : (hart before : Virtual) → is_virtual before.mode ≡ false → guest_state_after true hart before ≡ after_hs_trap (guest_state_of hart before)
-back_own hart before own = rw own refl
-
-back_nested : (hart before : Virtual) → is_virtual before.mode ≡ true → guest_state_after true hart before ≡ guest_state_of hart before
-back_nested hart before on = rw on refl
-
 -- a trap of the machine by its level, and so with V = 0 into HS, and with V = 1 into VS
 trapped_at : (m : Machine) (trap : Trap) (into : Level) → target m.platform.virt.csrs m.platform.virt.mode trap ≡ into
     → trapped m trap ≡ stepped_to m (record m.platform { virt = entered_at m.platform.virt trap into }) (event.Trap into trap.interrupt)
@@ -141,7 +136,7 @@ own_interrupt part root m memory lacks code own e at ready =
     let v = m.platform.virt in
     rw (to_vs (hosted_csrs root (is_virtual v.mode) v.csrs) (hosted_mode v.mode) (interrupt_of (code + 1)) (virtual_mode v.mode) (rw own e))
     (entry_made part root m memory (interrupt_of (code + 1)) _ lacks true at ready
-    (hs_entry m (interrupt_of code) (entered_at (hart_state_of root v) (interrupt_of (code + 1)) level.VS) own (interrupts_alike root v code own)))
+    (hs_entry m (interrupt_of code) (entered_at (hart_state_of root v) (interrupt_of (code + 1)) level.VS) own (interrupt_taken root v code own)))
 
 nested_interrupt : (part : Layout) {pool : Pooled} (root : GuestRoot) (m : Machine) (memory : List ℕ) (lacks : Option Entry) (code : ℕ) → is_virtual m.platform.virt.mode ≡ true → vs_bit m.platform.virt.csrs.hideleg code ≡ true
     → IsAt part pool m memory → lacks ≡ None → FollowsTry part root m (trapped m (interrupt_of code)) lacks memory (taken part root m memory (interrupt_of code))
@@ -149,7 +144,7 @@ nested_interrupt part root m memory lacks code on e at ready =
     let v = m.platform.virt in
     rw (to_vs (hosted_csrs root (is_virtual v.mode) v.csrs) (hosted_mode v.mode) (interrupt_of code) (virtual_mode v.mode) (rw on e))
     (entry_made part root m memory (interrupt_of code) _ lacks true at ready
-    (vs_entry m (interrupt_of code) (entered_at (hart_state_of root v) (interrupt_of code) level.VS) on e (nested_traps_alike root v (interrupt_of code) on)))
+    (vs_entry m (interrupt_of code) (entered_at (hart_state_of root v) (interrupt_of code) level.VS) on e (nested_trap_taken root v (interrupt_of code) on)))
 
 pub interrupt_follows : (part : Layout) {pool : Pooled} (root : GuestRoot) (m : Machine) (memory : List ℕ) (lacks : Option Entry) (code : ℕ) (hart : Option ℕ) (virtual : Bool) → is_virtual m.platform.virt.mode ≡ virtual
     → IsDue (Some code) virtual m.platform.virt.csrs.hideleg hart → IsAt part pool m memory → lacks ≡ None
@@ -178,7 +173,7 @@ own_exception part root m memory lacks cause tval own good at ready =
     let trap = exception (hosted_mode v.mode) cause tval in
     rw (to_vs (hosted_csrs root (is_virtual v.mode) v.csrs) (hosted_mode v.mode) trap (virtual_mode v.mode) (rw own (given_own root v.csrs cause good)))
     (entry_made part root m memory trap _ lacks false at ready
-    (hs_entry m (exception v.mode cause tval) (entered_at (hart_state_of root v) trap level.VS) own (exceptions_alike root v cause tval own)))
+    (hs_entry m (exception v.mode cause tval) (entered_at (hart_state_of root v) trap level.VS) own (exception_taken root v cause tval own)))
 
 pub hosted_here : (mode : Mode) → is_virtual mode ≡ true → hosted_mode mode ≡ mode
 hosted_here HS on = cc
@@ -196,7 +191,7 @@ nested_exception part root m memory lacks cause tval on good at ready true given
     rw (to_vs (hosted_csrs root (is_virtual v.mode) v.csrs) (hosted_mode v.mode) trap (virtual_mode v.mode) (rw on (given_alike root v.csrs cause good ∙ given)))
     (entry_made part root m memory trap _ lacks false at ready
     (subst (λ t. trapped m t ≡ step_for m (entered_at (hart_state_of root v) trap level.VS) true m.ram (event.Trap (hosted_level (is_virtual v.mode)) false)) here
-    (vs_entry m trap (entered_at (hart_state_of root v) trap level.VS) on given (nested_traps_alike root v trap on))))
+    (vs_entry m trap (entered_at (hart_state_of root v) trap level.VS) on given (nested_trap_taken root v trap on))))
 nested_exception part root m memory lacks cause tval on good at ready false given =
     let v = m.platform.virt in
     let trap = exception (hosted_mode v.mode) cause tval in
@@ -246,8 +241,10 @@ trap_follows part root m memory lacks lone trap at ready (Nested on is e) =
 trap_follows part root m memory lacks lone trap at ready (Left tval is small p e f) =
     let v = m.platform.virt in
     let left = exception (hosted_mode v.mode) VIRTUAL_INSTRUCTION tval in
+    let i = instruction_of tval v.regs p e in
     rw (is, to_host (hosted_csrs root (is_virtual v.mode) v.csrs) (hosted_mode v.mode) left (virtual_mode v.mode) (kept_22 root (is_virtual v.mode) v.csrs))
-    (left_as m (apply_outcome m lone) lacks left (case.Instruction tval p) (instruction_exit_is v left p refl refl small e) (ap (apply_outcome m) f) ready)
+    (left_as m (apply_outcome m lone) lacks left (case.Instruction i.o) (instruction_exit_is v left i.o refl refl small (is_decided_in tval v.regs p i))
+    (ap (apply_outcome m) (f ∙ ends_as (second_of m) (reading_of ram_base m.ram) v tval p i small)) ready)
 
 -- the hart leaves a WFI and a read of time to the host
 exits_at : (part : Layout) (root : GuestRoot) (v : Virtual) (memory : List ℕ) (word : ℕ) (effect : Privileged)

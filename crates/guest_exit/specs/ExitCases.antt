@@ -5,36 +5,35 @@ use Rattle.arch_defs.specs.declared.modes.Access.{Access}
 use Rattle.arch_defs.specs.declared.modes.Access.TheVariants.{Fetch, Load, Store, Implicit}
 use Rattle.arch_defs.specs.declared.modes.Trap.{Trap}
 use Rattle.arch_defs.specs.declared.modes.TheConstants.{INSTRUCTION_ACCESS_FAULT, INSTRUCTION_GUEST_PAGE_FAULT, LOAD_ACCESS_FAULT, LOAD_GUEST_PAGE_FAULT, STORE_ACCESS_FAULT, STORE_GUEST_PAGE_FAULT, VIRTUAL_INSTRUCTION}
-use Rattle.arch_defs.specs.declared.registers.Regs.{Regs}
 use Rattle.arch_defs.specs.declared.registers.Virtual.{Virtual}
 use Rattle.arch_defs.specs.declared.walks.MissingPlace.{MissingPlace}
-use Rattle.arch_defs.specs.Memory.{ram_base}
+use Rattle.arch_defs.specs.Memory.{ram_base, reading_of}
 use Rattle.arch_defs.specs.SecondStage.{missing_place_trap}
 use Rattle.arch_defs.specs.Traps.{exception, is_virtual}
 use Rattle.arch_defs.specs.WalkedEntries.{entry_by_walk, folds}
-use Rattle.op_defs.specs.declared.ops.Effect.{Effect}
-use Rattle.op_defs.specs.declared.ops.Effect.TheVariants as effect
-use Rattle.op_defs.specs.declared.ops.Privileged.{Privileged}
-use Rattle.op_defs.specs.Meaning.{meaning}
+use Rattle.op_defs.specs.declared.ops.Op.{Op}
 use Rattle.op_defs.specs.Table.{op_of}
 use Rattle.machine_defs.specs.declared.events.Event.TheVariants.{System}
+use Rattle.machine_defs.specs.Core.{decoded}
 use Rattle.machine_defs.specs.Machine.{Machine, Tried, called, stepped_to, trapped}
-use Rattle.machine_defs.specs.Privileges.{privileged}
-use Rattle.machine_defs.specs.Tries.{apply_outcome}
+use Rattle.machine_defs.specs.Outcomes.{Outcome}
+use Rattle.machine_defs.specs.Tries.{apply_outcome, second_of}
+use Rattle.rv64_asm.specs.Words.{encoded}
+use Rattle.hcsr_emulation.specs.Ends.{is_decided}
 use Rattle.guest_exit.specs.declared.exit_cases.Exit.{Exit}
 use Rattle.guest_exit.specs.declared.exit_cases.Exit.TheVariants.{Instruction, Missing, OutsideRam, Call, Own}
 
--- the effect of the instruction that a word is, if the mode decides on it
-abbrev pub privileged_of : Effect → Option Privileged
-privileged_of (effect.Privileged p) = Some p
-privileged_of _ = None
+-- an instruction, if the mode decides on it
+abbrev pub if_decided : Op → Option Op
+if_decided op = if is_decided op then Some op else None
 
-unfoldable pub privileged_in : ℕ → Regs → Option Privileged
-privileged_in word regs = option_and_then (λ op. privileged_of (meaning op regs)) (op_of word)
+-- the instruction that a word is, if the mode decides on it
+unfoldable pub decided_in : ℕ → Option Op
+decided_in word = option_and_then if_decided (op_of word)
 
 -- the instruction whose word a virtual-instruction exception tells (8.6.1)
-abbrev pub privileged_at : ℕ → Regs → Option Privileged
-privileged_at tval regs = if nat_lt tval (2 ^ 32) then privileged_in tval regs else None
+abbrev pub decided_at : ℕ → Option Op
+decided_at tval = if nat_lt tval (2 ^ 32) then decided_in tval else None
 
 abbrev pub is_guest_page_code : ℕ → Bool
 is_guest_page_code code =
@@ -65,8 +64,8 @@ missing_place_of virt trap = record {
 
 -- code 22: an instruction that the mode decides on. The hart takes it for no other word, so the line for one
 -- is for completeness
-abbrev pub instruction_exit : Trap → Option Privileged → Exit
-instruction_exit trap (Some effect) = Instruction trap.tval effect
+abbrev pub instruction_exit : Trap → Option Op → Exit
+instruction_exit trap (Some op) = Instruction op
 instruction_exit trap None = Own trap
 
 -- a guest-page fault, by whether the guest folds. If it does, the front space has no place for the access,
@@ -86,12 +85,17 @@ other_exit trap true = Own trap
 unfoldable pub exit_of : Virtual → Trap → Exit
 exit_of virt trap =
     if is_guest_page_code trap.cause then missing_place_exit virt trap (folds virt)
-    else if trap.cause == VIRTUAL_INSTRUCTION then instruction_exit trap (privileged_at trap.tval virt.regs)
+    else if trap.cause == VIRTUAL_INSTRUCTION then instruction_exit trap (decided_at trap.tval)
     else other_exit trap (is_virtual virt.mode)
+
+-- how the instruction of this op ends, with the op's own word, in the guest's own mode
+abbrev pub decided_end : Machine → Op → Outcome
+decided_end m op =
+    decoded (second_of m) (reading_of ram_base m.ram) m.platform.virt (encoded op) (Some op)
 
 -- the machine's try at such a step
 abbrev pub try_at : Machine → Exit → Tried
-try_at m (Instruction word effect) = apply_outcome m (privileged m.platform.virt word effect)
+try_at m (Instruction op) = apply_outcome m (decided_end m op)
 try_at m (Missing missing) = trapped m (missing_place_trap m.platform.virt.csrs ram_base m.ram missing)
 try_at m (OutsideRam fault) = trapped m fault
 try_at m Call = stepped_to m (called m.platform) System
@@ -100,7 +104,7 @@ try_at m (Own trap) = trapped m trap
 -- the cached translation that it lacks, if any: what the walk of the guest's own table gives
 abbrev pub entry_for_exit : Machine → Exit → Option Entry
 entry_for_exit m (Missing missing) = entry_by_walk m.platform.virt.csrs m.ram missing.address missing.kind
-entry_for_exit m (Instruction word effect) = None
+entry_for_exit m (Instruction op) = None
 entry_for_exit m (OutsideRam fault) = None
 entry_for_exit m Call = None
 entry_for_exit m (Own trap) = None

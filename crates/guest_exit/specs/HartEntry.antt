@@ -54,6 +54,13 @@ moved p virt n =
     let clock = record p.clock { time = p.clock.time + n } in
     with_pending_lines (record p { virt = virt; clock = clock; steps = p.steps + n })
 
+-- what the guest that has this part has after the hart has run, by whether its last step was a trap into VS:
+-- what the same hart gives it with its reservation, if it has one, at the guest's own address
+abbrev pub TakesBack : Layout → Virtual → Bool → Virtual → Virtual → Type 0
+TakesBack part hart trapped before after =
+    (own : Virtual) → ReservesWithin (in_ram part.blocks) own.reservation
+    → hart ≡ renamed (memory_place part.blocks) own → after ≡ guest_state_after trapped own before
+
 -- the platform after so many steps of the hart in a part of machine memory, by the hart's state after them
 abbrev pub GivesSteps : Layout → Platform → Virtual → Bool → ℕ → Platform → Type 0
 GivesSteps part before hart trapped taken after =

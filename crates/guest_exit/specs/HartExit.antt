@@ -1,16 +1,20 @@
 -- What the host makes of a step that the hart has left to it.
-use Rattle.std.specs.Prelude.{ℕ, ◌≡◌, ◌≢◌, ◌+◌, ◌^◌, ◌≤◌, Bool, true, List, Some, None}
+use Rattle.std.specs.Prelude.{ℕ, ◌≡◌, ◌≢◌, ◌+◌, ◌^◌, ◌≤◌, Bool, true, List, Some, None, ⊤}
 use Rattle.arch_defs.specs.declared.cached.Entry.{Entry}
 use Rattle.arch_defs.specs.declared.modes.Trap.{Trap}
 use Rattle.arch_defs.specs.declared.registers.Virtual.{Virtual}
 use Rattle.arch_defs.specs.Frames.{Only}
 use Rattle.arch_defs.specs.Registers.{a7, read}
+use Rattle.op_defs.specs.declared.ops.Op.{Op}
+use Rattle.op_defs.specs.declared.ops.Op.TheVariants as op
 use Rattle.machine_defs.specs.declared.guests.Status.{Status}
 use Rattle.machine_defs.specs.declared.guests.Status.TheVariants as status
 use Rattle.machine_defs.specs.Fills.{fill}
 use Rattle.machine_defs.specs.Machine.{Machine, with_pending_lines}
 use Rattle.machine_defs.specs.Runs.{left_by}
 use Rattle.shadow_pool.specs.Slots.{TidyPool}
+use Rattle.rv64_asm.specs.Fitting.{fits}
+use Rattle.hcsr_emulation.specs.Ends.{is_decided}
 use Rattle.guest_exit.specs.declared.exit_cases.Exit.{Exit}
 use Rattle.guest_exit.specs.declared.exit_cases.Exit.TheVariants.{Instruction, Missing, OutsideRam, Call, Own}
 use Rattle.guest_exit.specs.declared.guests.Guest.{Guest}
@@ -76,10 +80,31 @@ pub record KeepsPart (before : Guest) (memory : List ℕ) (after : Guest) (chang
 -- an access that has no place by the front space is one of a guest that folds
 abbrev pub IfMissing : Exit → Bool → Type 0
 IfMissing (Missing missing) folding = folding ≡ true
-IfMissing (Instruction word effect) folding = Unit {0}
+IfMissing (Instruction o) folding = Unit {0}
 IfMissing (OutsideRam fault) folding = Unit {0}
 IfMissing Call folding = Unit {0}
 IfMissing (Own trap) folding = Unit {0}
+
+-- an instruction on which the mode decides, and whose fields fit
+pub record IsDecidedOp (o : Op) : Type 0 where
+  pub decided : is_decided o ≡ true
+  pub fits : fits o ≡ true
+
+-- an instruction that is left to the host is one of these
+abbrev pub IfInstruction : Exit → Type 0
+IfInstruction (Instruction o) = IsDecidedOp o
+IfInstruction (Missing missing) = Unit {0}
+IfInstruction (OutsideRam fault) = Unit {0}
+IfInstruction Call = Unit {0}
+IfInstruction (Own trap) = Unit {0}
+
+-- a WFI, or a fence
+abbrev pub IsWaitOrFence : Op → Type 0
+IsWaitOrFence op.Wfi = ⊤
+IsWaitOrFence (op.SfenceVma rs1 rs2) = ⊤
+IsWaitOrFence (op.HfenceVvma rs1 rs2) = ⊤
+IsWaitOrFence (op.HfenceGvma rs1 rs2) = ⊤
+IsWaitOrFence other = ⊥
 
 -- the step that the hart has left so is made of the machine, or what it lacks is filled
 pub record IsMadeOf (left : Exit) (result : Handled) (before after : Machine) : Type 0 where

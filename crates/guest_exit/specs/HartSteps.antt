@@ -30,7 +30,7 @@ use Rattle.machine_laws.specs.Keeping.{IsOrderly}
 use Rattle.host_tables.specs.Walks.{IsHeld}
 use Rattle.shadow_pool.specs.Slots.{Pooled, TidyPool, front_root, pool_frames, room_of, spaces_of}
 use Rattle.rv64_hart.specs.Steps.{HartEnd, Goes, Exits, attempt_of, end_by, enters_vs, hart_step}
-use Rattle.world_switch.specs.Hosting.{guest_state_after, hart_state_in, table_from}
+use Rattle.world_switch.specs.Hosting.{guest_state_after, hart_state_in, hosted_level, table_from}
 use Rattle.world_switch.specs.Laws.{KeepsHidden}
 use Rattle.guest_exit.specs.ExitCases.{IsLeft, exit_of}
 
@@ -44,11 +44,6 @@ is_hosts (Some code) true hideleg = not (vs_bit hideleg code)
 -- whether the interrupt that is due is one that the host must take
 abbrev pub host_takes : Virtual → Bool
 host_takes virt = is_hosts (due virt.csrs virt.mode) (is_virtual virt.mode) virt.csrs.hideleg
-
--- the level for which the hart's VS stands, by the guest's V
-abbrev pub hosted_level : Bool → Level
-hosted_level false = level.HS
-hosted_level true = level.VS
 
 -- what the hart's step was to the guest: a trap into VS is one into that level
 abbrev pub event_for : Bool → Event → Event

@@ -2,17 +2,18 @@
 
 ghost use Rattle.std.specs.Prelude.{◌≡◌, ◌^◌, ◌<◌};
 ghost use Rattle.arch_defs.specs.WalkedEntries.{folds};
-ghost use Rattle.guest_exit.specs.ExitCases.{access_fault_for, access_of, exit_of, instruction_exit, is_guest_page_code, missing_place_exit, missing_place_of, privileged_at, privileged_in, privileged_of};
+ghost use Rattle.hcsr_emulation.specs.Ends.{is_decided};
+ghost use Rattle.guest_exit.specs.ExitCases.{access_fault_for, access_of, decided_at, decided_in, exit_of, instruction_exit, is_guest_page_code, missing_place_exit, missing_place_of};
 
 use crate::guests::folds;
 use arch_defs::{
     Access, INSTRUCTION_ACCESS_FAULT, INSTRUCTION_GUEST_PAGE_FAULT, LOAD_ACCESS_FAULT,
-    LOAD_GUEST_PAGE_FAULT, Regs, STORE_ACCESS_FAULT, STORE_GUEST_PAGE_FAULT, Trap,
-    VIRTUAL_INSTRUCTION, Virtual,
+    LOAD_GUEST_PAGE_FAULT, STORE_ACCESS_FAULT, STORE_GUEST_PAGE_FAULT, Trap, VIRTUAL_INSTRUCTION,
+    Virtual,
 };
-use op_defs::{Effect, Privileged};
+use hcsr_emulation::is_decided;
+use op_defs::Op;
 use rv64_decode::decode;
-use rv64_hart::effect_of;
 use trap_delegation::{exception, is_virtual};
 use two_stage_walk::MissingPlace;
 
@@ -23,8 +24,8 @@ const PAST_ADDRESSES: u64 = 0x80_0000_0000;
 /// A step that the hart has left to the host.
 #[derive(Clone, Copy)]
 pub enum Exit {
-    /// An instruction on which the mode decides: its word and its effect.
-    Instruction { word: u64, effect: Privileged },
+    /// An instruction on which the mode decides.
+    Instruction(Op),
     /// An access to which the front space gives no place.
     Missing(MissingPlace),
     /// An access outside RAM, with the guest's access fault.
@@ -44,7 +45,7 @@ pub fn exit_of(virt: &Virtual, trap: &Trap) -> Exit
         return missing_place_exit(virt, trap);
     }
     if trap.cause == VIRTUAL_INSTRUCTION {
-        return instruction_exit(virt, trap);
+        return instruction_exit(trap);
     }
     if is_virtual(virt.mode) {
         Exit::Own(*trap)
@@ -116,44 +117,32 @@ fn access_of(code: u64) -> Access
 }
 
 // A virtual-instruction exception, whose tval is the word of the instruction.
-fn instruction_exit(virt: &Virtual, trap: &Trap) -> Exit
-    ensures { result ≡ instruction_exit trap.now (privileged_at trap.now.tval virt.now.regs) }
+fn instruction_exit(trap: &Trap) -> Exit
+    ensures { result ≡ instruction_exit trap.now (decided_at trap.now.tval) }
 {
-    match privileged_at(trap.tval, &virt.regs) {
-        Some(effect) => Exit::Instruction {
-            word: trap.tval,
-            effect,
-        },
+    match decided_at(trap.tval) {
+        Some(op) => Exit::Instruction(op),
         None => Exit::Own(*trap),
     }
 }
 
-fn privileged_at(tval: u64, regs: &Regs) -> Option<Privileged>
-    ensures { result ≡ privileged_at tval regs.now }
+fn decided_at(tval: u64) -> Option<Op>
+    ensures { result ≡ decided_at tval }
 {
     if tval < 0x1_0000_0000 {
-        privileged_in(tval as u32, regs)
+        decided_in(tval as u32)
     } else {
         None
     }
 }
 
-// The effect of the instruction that a word is, if the mode decides on it.
-#[tactic(auto, unfolding(crate::specs::ExitCases::privileged_in))]
-fn privileged_in(word: u32, regs: &Regs) -> Option<Privileged>
-    ensures { result ≡ privileged_in word regs.now }
+// The instruction that a word is, if the mode decides on it.
+#[tactic(auto, unfolding(crate::specs::ExitCases::decided_in))]
+fn decided_in(word: u32) -> Option<Op>
+    ensures { result ≡ decided_in word }
 {
     match decode(word) {
-        Some(op) => privileged_of(effect_of(&op, regs)),
-        None => None,
-    }
-}
-
-fn privileged_of(effect: Effect) -> Option<Privileged>
-    ensures { result ≡ privileged_of effect }
-{
-    match effect {
-        Effect::Privileged(effect) => Some(effect),
+        Some(op) if is_decided(&op) => Some(op),
         _ => None,
     }
 }

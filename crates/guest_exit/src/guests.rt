@@ -6,16 +6,16 @@ ghost use Rattle.arch_defs.specs.Clocks.{next_event};
 ghost use Rattle.arch_defs.specs.Traps.{is_virtual};
 ghost use Rattle.arch_defs.specs.WalkedEntries.{folds};
 ghost use Rattle.machine_defs.specs.Machine.{made_by, ticked, with_pending_lines};
-ghost use Rattle.guest_exit.specs.HartEntry.{GivesSteps};
+ghost use Rattle.guest_exit.specs.HartEntry.{GivesSteps, TakesBack};
 ghost use Rattle.guest_exit.specs.View.{KeepsSpaces, platform_of};
 
-use arch_defs::{Part, Virtual};
+use arch_defs::{HartState, Part, Virtual};
 use console_dev::Console;
 use machine_defs::Status;
 use shadow_pool::Pool;
 use trap_delegation::is_virtual;
 use virtual_timer::Clock;
-use world_switch::take_back;
+use world_switch::{fix_up, save};
 
 /// What the host keeps of a guest beside the bytes of machine memory, which has its RAM and its tables.
 /// Contracts see it with the RAM as the lone machine.
@@ -73,7 +73,7 @@ impl Guest {
     }
 
     /// The hart has made so many steps for the guest, the last of which was a trap into VS or was not.
-    pub(crate) fn take_steps(&mut self, hart: &Virtual, trapped: bool, taken: u64)
+    pub(crate) fn take_steps(&mut self, hart: &HartState, trapped: bool, taken: u64)
         requires event { ForSome (next_event self.old.clock)
             (λ moment. self.old.clock.time + taken ≤ moment) }
         requires clock { self.old.clock.time + taken ≤ 2 ^ 63 }
@@ -89,6 +89,18 @@ impl Guest {
         self.clock.advance(taken);
         self.steps += taken;
         self.set_pending_lines();
+    }
+}
+
+// Gives the guest that has this part what the hart has for it, after a run whose last step was a trap into VS
+// or was not. Such a trap from V = 0 is one into HS, which sets more than the hart has for the guest.
+fn take_back(hart: &HartState, part: &Part, trapped: bool, virt: &mut Virtual)
+    ensures { TakesBack part.now hart.now trapped virt.old virt.new }
+{
+    let into_hs = trapped && !is_virtual(virt.mode);
+    save(hart, part, virt);
+    if into_hs {
+        fix_up(virt);
     }
 }
 

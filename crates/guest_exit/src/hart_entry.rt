@@ -35,7 +35,7 @@ pub fn enter(
     ensures keeps { KeepsTables guest.old memory.old guest.new memory.new }
 {
     let root = root_frame_of(guest);
-    *hart.state_mut() = load(&guest.virt, &guest.part, root);
+    load(&guest.virt, &guest.part, root, hart.state_mut());
     let stop = hart.run(memory, limit, true, tally);
     guest.take_steps(hart.state(), is_vs_trap(&stop.why), stop.taken);
     stop

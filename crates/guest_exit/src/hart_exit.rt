@@ -7,7 +7,7 @@ ghost use Rattle.machine_defs.specs.declared.events.Event.TheVariants.{System};
 ghost use Rattle.machine_defs.specs.Machine.{WaitsForGood, called, stepped_to, trapped};
 ghost use Rattle.machine_defs.specs.Tries.{try};
 ghost use Rattle.guest_exit.specs.ExitCases.{exit_of, try_at};
-ghost use Rattle.guest_exit.specs.HartExit.{CanGoOn, HasExited, IfMissing, IsHandled, IsMadeOf, IsStopCall, IsTold, KeepsOutside, KeepsPart};
+ghost use Rattle.guest_exit.specs.HartExit.{CanGoOn, HasExited, IfInstruction, IfMissing, IsHandled, IsMadeOf, IsStopCall, IsTold, KeepsOutside, KeepsPart};
 ghost use Rattle.guest_exit.specs.Steps.{CanStep, IsMiss, IsNotPlain, IsQuiet, Makes};
 ghost use Rattle.guest_exit.specs.View.{KeepsSpaces, machine_of};
 
@@ -56,6 +56,7 @@ pub fn handle(guest: &mut Guest, memory: &mut PhysMem, trap: &Trap) -> Handled
 fn make(guest: &mut Guest, memory: &mut PhysMem, left: Exit) -> Handled
     requires can { CanGoOn guest.old memory.old }
     requires folds { IfMissing left (folds guest.old.virt) }
+    requires op { IfInstruction left }
     ensures makes { IsMadeOf left result
         (machine_of guest.old memory.old) (machine_of guest.new memory.new) }
     ensures stops { (result ≡ Handled.Stopped) ↔ IsStopCall left guest.old.virt }
@@ -64,7 +65,7 @@ fn make(guest: &mut Guest, memory: &mut PhysMem, left: Exit) -> Handled
     ensures within { KeepsOutside guest.old memory.old guest.new memory.new }
 {
     match left {
-        Exit::Instruction { word, effect } => emulate(guest, memory, word, effect),
+        Exit::Instruction(op) => emulate(guest, memory, op),
         Exit::Missing(access) => miss(guest, memory, &access),
         Exit::OutsideRam(fault) => raise(guest, &fault),
         Exit::Call => call(guest),

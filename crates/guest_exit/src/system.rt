@@ -6,52 +6,96 @@ ghost use Rattle.arch_defs.specs.Memory.{ram_base};
 ghost use Rattle.arch_defs.specs.Ram.{ram_of};
 ghost use Rattle.arch_defs.specs.Traps.{is_virtual};
 ghost use Rattle.arch_defs.specs.WalkedEntries.{folds};
-ghost use Rattle.hlv_hsv.specs.Ends.{EndsAs, IfRaised};
 ghost use Rattle.machine_defs.specs.declared.events.Event.TheVariants.{System};
-ghost use Rattle.machine_defs.specs.HlvAccesses.{hlv_outcome};
 ghost use Rattle.machine_defs.specs.Outcomes.{Fenced};
-ghost use Rattle.machine_defs.specs.Privileges.{privileged};
 ghost use Rattle.machine_defs.specs.Runs.{left_by};
-ghost use Rattle.machine_defs.specs.Tries.{hlv_committed, apply_outcome, enters, committed};
-ghost use Rattle.guest_exit.specs.HartExit.{CanGoOn, IsTold, KeepsOutside};
+ghost use Rattle.machine_defs.specs.Tries.{apply_outcome, committed, enters};
+ghost use Rattle.rv64_asm.specs.Fitting.{fits};
+ghost use Rattle.hcsr_emulation.specs.Ends.{IfRaised, IsCsrOrSret};
+ghost use Rattle.hlv_hsv.specs.Ends.{IsAccessed, IsHlvOp};
+ghost use Rattle.guest_exit.specs.ExitCases.{decided_end};
+ghost use Rattle.guest_exit.specs.HartExit.{CanGoOn, IsDecidedOp, IsTold, IsWaitOrFence, KeepsOutside};
 ghost use Rattle.guest_exit.specs.Steps.{CanStep, IsNotPlain};
-ghost use Rattle.guest_exit.specs.View.{IsPlaced, KeepsSpaces, machine_of};
+ghost use Rattle.guest_exit.specs.View.{IsPlaced, machine_of};
 
 use crate::guests::{Guest, folds};
 use crate::hart_exit::{Handled, raise};
 use crate::wfi::wait;
 use arch_defs::{Fence, Part, Virtual};
-use hlv_hsv::{Accessed, access};
-use op_defs::{DataAccess, Privileged};
+use hcsr_emulation::{Accessed, Emulated};
+use op_defs::Op;
 use phys_mem::{PhysMem, Ram};
-use privileged_ops::{Performed, perform, refusal_code};
-use trap_delegation::{exception, is_virtual};
+use trap_delegation::is_virtual;
 use two_stage_walk::ram_is_whole;
 
-/// Makes an instruction on which the mode decides, where it is allowed: a WFI waits, an SRET may enter a
-/// guest of the guest, an HFENCE.GVMA drops cached translations, and an HLV, HLVX or HSV makes its access to
-/// the guest's RAM. Where the mode does not allow it, its exception is taken.
-pub fn emulate(guest: &mut Guest, memory: &mut PhysMem, word: u64, effect: Privileged) -> Handled
+/// Makes an instruction on which the mode decides, where it is allowed: an instruction on a register; an
+/// SRET, which may enter a guest of the guest; an HLV, HLVX or HSV, which makes its access to the guest's
+/// RAM; a WFI, which waits; or a fence, which drops cached translations. Where the mode does not allow it, its
+/// exception is taken.
+pub fn emulate(guest: &mut Guest, memory: &mut PhysMem, op: Op) -> Handled
     requires can { CanGoOn guest.old memory.old }
+    requires op { IsDecidedOp op }
     ensures step { machine_of guest.new memory.new ≡ left_by (machine_of guest.old memory.old)
-        (apply_outcome (machine_of guest.old memory.old) (privileged guest.old.virt word effect)) }
+        (apply_outcome (machine_of guest.old memory.old) (decided_end (machine_of guest.old memory.old) op)) }
     ensures quiet { IsNotPlain
-        (apply_outcome (machine_of guest.old memory.old) (privileged guest.old.virt word effect)) }
+        (apply_outcome (machine_of guest.old memory.old) (decided_end (machine_of guest.old memory.old) op)) }
+    ensures went { result ≢ Handled.Retry }
+    ensures runs { result ≢ Handled.Stopped }
+    ensures within { KeepsOutside guest.old memory.old guest.new memory.new }
+    ensures told { IsTold result guest.old guest.new }
+{
+    match op {
+        Op::Csr { .. } | Op::Sret => access_registers(guest, memory, op),
+        Op::GuestLoad { .. } | Op::GuestFetch { .. } | Op::GuestStore { .. } => {
+            access_ram(guest, memory, op)
+        }
+        Op::Wfi | Op::SfenceVma { .. } | Op::HfenceVvma { .. } | Op::HfenceGvma { .. } => {
+            wait_or_fence(guest, memory, op)
+        }
+        _ => unreachable!(),
+    }
+}
+
+// An instruction on a control and status register, or an SRET.
+fn access_registers(guest: &mut Guest, memory: &mut PhysMem, op: Op) -> Handled
+    requires can { CanGoOn guest.old memory.old }
+    requires kind { IsCsrOrSret op }
+    requires fits { fits op ≡ true }
+    ensures step { machine_of guest.new memory.new ≡ left_by (machine_of guest.old memory.old)
+        (apply_outcome (machine_of guest.old memory.old) (decided_end (machine_of guest.old memory.old) op)) }
+    ensures quiet { IsNotPlain
+        (apply_outcome (machine_of guest.old memory.old) (decided_end (machine_of guest.old memory.old) op)) }
+    ensures went { result ≡ Handled.Stepped }
+    ensures within { KeepsOutside guest.old memory.old guest.new memory.new }
+    ensures told { IsTold result guest.old guest.new }
+{
+    let mut virt = guest.virt;
+    match hcsr_emulation::access(&mut virt, op) {
+        Accessed::Done => finish(guest, memory, virt),
+        Accessed::Raise(trap) => raise(guest, &trap),
+    }
+}
+
+// A WFI or a fence.
+fn wait_or_fence(guest: &mut Guest, memory: &mut PhysMem, op: Op) -> Handled
+    requires can { CanGoOn guest.old memory.old }
+    requires kind { IsWaitOrFence op }
+    ensures step { machine_of guest.new memory.new ≡ left_by (machine_of guest.old memory.old)
+        (apply_outcome (machine_of guest.old memory.old) (decided_end (machine_of guest.old memory.old) op)) }
+    ensures quiet { IsNotPlain
+        (apply_outcome (machine_of guest.old memory.old) (decided_end (machine_of guest.old memory.old) op)) }
     ensures went { result ≢ Handled.Retry }
     ensures runs { result ≢ Handled.Stopped }
     ensures within { KeepsOutside guest.old memory.old guest.new memory.new }
     ensures told { IsTold result guest.old guest.new }
 {
     let mut virt = guest.virt;
-    match perform(&mut virt, effect) {
-        Performed::Done => finish(guest, memory, virt),
-        Performed::Waits => wait(guest, virt),
-        Performed::Accesses(wanted) => access_ram(guest, memory, wanted),
-        Performed::Fenced(named) => fence(guest, memory, virt, named),
-        Performed::Refused(end) => {
-            let trap = exception(guest.virt.mode, refusal_code(end), word);
-            raise(guest, &trap)
-        }
+    match hcsr_emulation::emulate(&mut virt, op) {
+        Emulated::Done => finish(guest, memory, virt),
+        Emulated::Waits => wait(guest, virt),
+        Emulated::Fenced(named) => fence(guest, memory, virt, named),
+        Emulated::Raise(trap) => raise(guest, &trap),
+        Emulated::Accesses(_) => unreachable!(),
     }
 }
 
@@ -114,19 +158,19 @@ fn fence(guest: &mut Guest, memory: &mut PhysMem, virt: Virtual, named: Fence) -
 }
 
 // An HLV, HLVX or HSV. Its trap is taken in the mode of the instruction.
-fn access_ram(guest: &mut Guest, memory: &mut PhysMem, wanted: DataAccess) -> Handled
-    requires can { CanStep guest.old }
-    requires lies { LieIn (in_blocks guest.old.part.blocks) (length memory.old) }
+fn access_ram(guest: &mut Guest, memory: &mut PhysMem, op: Op) -> Handled
+    requires can { CanGoOn guest.old memory.old }
+    requires op { IsHlvOp op }
     ensures step { machine_of guest.new memory.new ≡ left_by (machine_of guest.old memory.old)
-        (hlv_committed (machine_of guest.old memory.old)
-        (hlv_outcome ram_base (ram_of guest.old.part.blocks memory.old) guest.old.virt wanted)) }
-    ensures only { Only (in_blocks guest.old.part.blocks) memory.old memory.new }
+        (apply_outcome (machine_of guest.old memory.old) (decided_end (machine_of guest.old memory.old) op)) }
+    ensures quiet { IsNotPlain
+        (apply_outcome (machine_of guest.old memory.old) (decided_end (machine_of guest.old memory.old) op)) }
     ensures went { result ≡ Handled.Stepped }
+    ensures within { KeepsOutside guest.old memory.old guest.new memory.new }
     ensures told { IsTold result guest.old guest.new }
-    ensures keeps { KeepsSpaces guest.old guest.new }
 {
     let mut virt = guest.virt;
-    match access_in(memory, &guest.part, &mut virt, wanted) {
+    match access_in(memory, &guest.part, &mut virt, op) {
         Accessed::Done => {
             guest.virt = virt;
             guest.tick();
@@ -137,15 +181,15 @@ fn access_ram(guest: &mut Guest, memory: &mut PhysMem, wanted: DataAccess) -> Ha
 }
 
 // The access, in the RAM of a part of machine memory.
-fn access_in(memory: &mut PhysMem, part: &Part, virt: &mut Virtual, wanted: DataAccess) -> Accessed
+fn access_in(memory: &mut PhysMem, part: &Part, virt: &mut Virtual, op: Op) -> Accessed
     requires lies { LieIn (in_blocks part.now.blocks) (length memory.old) }
-    ensures ends { EndsAs ram_base (ram_of part.now.blocks memory.old)
-        (hlv_outcome ram_base (ram_of part.now.blocks memory.old) virt.old wanted)
+    requires op { IsHlvOp op }
+    ensures ends { IsAccessed op ram_base (ram_of part.now.blocks memory.old) virt.old
         result virt.new (ram_of part.now.blocks memory.new) }
     ensures stays { IfRaised result (memory.new ≡ memory.old) }
     ensures only { Only (in_blocks part.now.blocks) memory.old memory.new }
 {
     let mut ram = Ram::new(memory, part);
     ram_is_whole(&ram);
-    access(&mut ram, virt, wanted)
+    hlv_hsv::access(&mut ram, virt, op)
 }

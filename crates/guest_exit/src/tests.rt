@@ -12,9 +12,9 @@ use crate::{Console, Guest, Handled, Pool, enter, handle, interrupt, limit};
 use arch_defs::{BLOCK_SIZE, Mode, Part, Reg, Virtual};
 use host_tables::build;
 use machine_defs::Status;
-use phys_mem::{PhysMem, RAM_BASE};
+use phys_mem::{NoMemory, PhysMem, RAM_BASE};
 use rv64_hart::{Hart, Stop, Tally, Why};
-use std::alloc::{AllocError, Global};
+use std::alloc::Global;
 use std::test::Fail;
 use virtual_timer::Clock;
 
@@ -33,7 +33,7 @@ pub const FRAMES: u64 = 1024;
 
 // A guest at the start of RAM, in this mode, with a console of one byte, and one space of sixteen entries.
 // Its RAM is block 1 of machine memory; frames 0 to 40 have its tables.
-pub fn guest(alloc: Global, mode: Mode) -> Result<Guest, AllocError>
+pub fn guest(alloc: Global, mode: Mode) -> Result<Guest, NoMemory>
     ensures { IfOk result (λ g. (g.status ≡ Running) × (g.clock ≡ times_at_start) × (g.steps ≡ 0)
         × (g.virt.reservation ≡ None) × IsNewPool g.part g.pool) }
 {
@@ -50,13 +50,13 @@ pub fn guest(alloc: Global, mode: Mode) -> Result<Guest, AllocError>
 }
 
 // A console of one byte, to which the byte 65 comes at this moment.
-pub fn console(alloc: Global, moment: u64) -> Result<Console, AllocError>
+pub fn console(alloc: Global, moment: u64) -> Result<Console, NoMemory>
     requires { moment ≤ 1000 }
 {
     Console::new(alloc, 1, inputs(alloc, moment)?)
 }
 
-fn inputs(alloc: Global, moment: u64) -> Result<Vec<(u64, u8)>, AllocError>
+fn inputs(alloc: Global, moment: u64) -> Result<Vec<(u64, u8)>, NoMemory>
     requires { moment ≤ 1000 }
     ensures { IfOk result (λ inputs. AreInputs inputs.items) }
 {
@@ -64,7 +64,7 @@ fn inputs(alloc: Global, moment: u64) -> Result<Vec<(u64, u8)>, AllocError>
 }
 
 // Machine memory of so many frames with the guest's host table, if that is enough.
-fn built(alloc: Global, guest: &Guest, frames: u64) -> Result<Option<PhysMem>, AllocError>
+fn built(alloc: Global, guest: &Guest, frames: u64) -> Result<Option<PhysMem>, NoMemory>
     requires some { 1 ≤ frames }
     requires most { frames ≤ 131072 }
     requires unreserved { guest.now.virt.reservation ≡ None }
@@ -104,7 +104,7 @@ pub fn placed(
     guest: &Guest,
     image: &[u8],
     frames: u64,
-) -> Result<Option<PhysMem>, AllocError>
+) -> Result<Option<PhysMem>, NoMemory>
     requires some { 1 ≤ frames }
     requires most { frames ≤ 131072 }
     requires unreserved { guest.now.virt.reservation ≡ None }
@@ -122,7 +122,7 @@ pub fn placed(
 }
 
 // One step of the guest on an image of this word.
-pub fn one(alloc: Global, guest: &mut Guest, word: u32) -> Result<By, AllocError>
+pub fn one(alloc: Global, guest: &mut Guest, word: u32) -> Result<By, NoMemory>
     requires running { guest.old.status ≡ Running }
     requires clock { guest.old.clock.time ≤ 2 ^ 62 }
     requires steps { guest.old.steps ≡ 0 }
@@ -133,7 +133,7 @@ pub fn one(alloc: Global, guest: &mut Guest, word: u32) -> Result<By, AllocError
 }
 
 // One step of the guest on this image.
-pub fn one_on(alloc: Global, guest: &mut Guest, image: &[u8]) -> Result<By, AllocError>
+pub fn one_on(alloc: Global, guest: &mut Guest, image: &[u8]) -> Result<By, NoMemory>
     requires running { guest.old.status ≡ Running }
     requires clock { guest.old.clock.time ≤ 2 ^ 62 }
     requires steps { guest.old.steps ≡ 0 }
@@ -320,7 +320,7 @@ fn interrupts(rt: HostRuntime) -> Result<(), Fail> {
 }
 
 // In U, where SIE has no part.
-fn guest_with_software_interrupt(alloc: Global) -> Result<Guest, AllocError>
+fn guest_with_software_interrupt(alloc: Global) -> Result<Guest, NoMemory>
     ensures { IfOk result (λ g. (g.status ≡ Running) × (g.clock ≡ times_at_start) × (g.steps ≡ 0)
         × (g.virt.reservation ≡ None) × IsNewPool g.part g.pool) }
 {
@@ -338,7 +338,7 @@ fn entered(
     image: &[u8],
     most: u64,
     tally: &mut Tally,
-) -> Result<Option<Stop>, AllocError>
+) -> Result<Option<Stop>, NoMemory>
     requires running { guest.old.status ≡ Running }
     requires clock { guest.old.clock.time ≤ 2 ^ 62 }
     requires steps { guest.old.steps ≡ 0 }

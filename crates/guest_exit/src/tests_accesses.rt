@@ -8,8 +8,8 @@ ghost use Rattle.guest_exit.specs.Starting.{IsNewPool};
 use crate::tests::{By, FRAMES, guest, one_in, one_on, placed};
 use crate::{Guest, Handled};
 use arch_defs::{GuestMode, GuestRoot, Mode, Reg, SupervisorMode, SupervisorRoot};
-use phys_mem::RAM_BASE;
-use std::alloc::{AllocError, Global};
+use phys_mem::{NoMemory, RAM_BASE};
+use std::alloc::Global;
 use std::test::Fail;
 
 const STEPPED: By = By::Host(Handled::Stepped);
@@ -29,7 +29,7 @@ const HSV_D: u32 = 0x6E62_C073; // hsv.d x6, (x5)
 const HANDLER: u64 = 0x8000_0100;
 
 // A guest in this mode, with HU set and this address in x5.
-fn accessing(alloc: Global, mode: Mode, address: u64) -> Result<Guest, AllocError>
+fn accessing(alloc: Global, mode: Mode, address: u64) -> Result<Guest, NoMemory>
     ensures { IfOk result (λ g. (g.status ≡ Running) × (g.clock ≡ times_at_start) × (g.steps ≡ 0)
         × (g.virt.reservation ≡ None) × IsNewPool g.part g.pool) }
 {
@@ -45,9 +45,9 @@ fn accessing(alloc: Global, mode: Mode, address: u64) -> Result<Guest, AllocErro
 }
 
 // The table's root at 80001000: entry 0 maps 0 to RAM's gigabyte as a page of U that can be read and written
-// (V, R, W, U, A and D, D7), entry 2 maps that gigabyte to itself as one that can be executed alone (V, X and
+// (V, R, W, U, A and D: 0xD7), entry 2 maps that gigabyte to itself as one that can be executed alone (V, X and
 // A, 49).
-fn image(alloc: Global, word: u32) -> Result<Vec<u8>, AllocError> {
+fn image(alloc: Global, word: u32) -> Result<Vec<u8>, NoMemory> {
     let mut bytes = Vec::new(alloc);
     bytes.extend_from_slice(&word.to_le_bytes())?;
     bytes.resize(0x1000, 0)?;

@@ -8,8 +8,8 @@ use crate::tests::{By, console, guest, one};
 use crate::{Guest, Handled};
 use arch_defs::{Mode, Reg};
 use machine_defs::Status;
-use phys_mem::RAM_BASE;
-use std::alloc::{AllocError, Global};
+use phys_mem::{NoMemory, RAM_BASE};
+use std::alloc::Global;
 use std::test::Fail;
 
 const STEPPED: By = By::Host(Handled::Stepped);
@@ -27,7 +27,7 @@ const INTERRUPT: u64 = 0x8000_0000_0000_0000;
 const NO_WAKE: u64 = 0x4000_0000_0000_0000;
 
 // A guest at this clock, whose input comes at moment 20.
-fn at(alloc: Global, mode: Mode, time: u64) -> Result<Guest, AllocError>
+fn at(alloc: Global, mode: Mode, time: u64) -> Result<Guest, NoMemory>
     requires { time ≤ 1000 }
     ensures { IfOk result (λ g. (g.status ≡ Running) × (g.clock.time ≡ time) × (g.steps ≡ 0)
         × (g.virt.reservation ≡ None) × IsNewPool g.part g.pool) }
@@ -40,7 +40,7 @@ fn at(alloc: Global, mode: Mode, time: u64) -> Result<Guest, AllocError>
 }
 
 // One that makes a call of this number, with 65 in a0 and 9 in a1.
-fn calling(alloc: Global, number: u64, time: u64) -> Result<Guest, AllocError>
+fn calling(alloc: Global, number: u64, time: u64) -> Result<Guest, NoMemory>
     requires { time ≤ 1000 }
     ensures { IfOk result (λ g. (g.status ≡ Running) × (g.clock.time ≡ time) × (g.steps ≡ 0)
         × (g.virt.reservation ≡ None) × IsNewPool g.part g.pool) }

@@ -11,8 +11,8 @@ use crate::tests::{By, FRAMES, guest, one_in, placed};
 use crate::{Guest, Handled};
 use arch_defs::{GuestMode, GuestRoot, Mode, Reg, Regs, SupervisorMode, SupervisorRoot};
 use machine_defs::Status;
-use phys_mem::RAM_BASE;
-use std::alloc::{AllocError, Global};
+use phys_mem::{NoMemory, RAM_BASE};
+use std::alloc::Global;
 use std::test::Fail;
 
 const STEPPED: By = By::Host(Handled::Stepped);
@@ -49,7 +49,7 @@ const NESTED: [u32; 4] = [0x0002_B503, 0x0000_0073, 0x0002_B583, 0x00A2_B023];
 
 // An image: SRET, and at 100 a handler that stores x7 in the slot at x6, goes on at x28 after this word, and
 // makes an SRET: sd x7, 0(x6); csrrw x0, sepc, x28.
-fn image(alloc: Global, word: u32, leaf: u64) -> Result<Vec<u8>, AllocError> {
+fn image(alloc: Global, word: u32, leaf: u64) -> Result<Vec<u8>, NoMemory> {
     let mut bytes = Vec::new(alloc);
     bytes.extend_from_slice(&0x1020_0073_u32.to_le_bytes())?;
     bytes.resize(0x100, 0)?;
@@ -76,7 +76,7 @@ fn image(alloc: Global, word: u32, leaf: u64) -> Result<Vec<u8>, AllocError> {
 }
 
 // A guest before its SRET into VS, at this address of the nested guest, with this in x5.
-fn hypervisor(alloc: Global, pc: u64, x5: u64) -> Result<Guest, AllocError>
+fn hypervisor(alloc: Global, pc: u64, x5: u64) -> Result<Guest, NoMemory>
     ensures { IfOk result (λ g. (g.status ≡ Running) × (g.clock ≡ times_at_start) × (g.steps ≡ 0)
         × (g.virt.reservation ≡ None) × IsNewPool g.part g.pool) }
 {
@@ -97,12 +97,7 @@ fn set_registers(regs: &mut Regs, x5: u64) {
 }
 
 // So many tries of its next steps, fewer where it does not go on, with who made each.
-fn tries(
-    alloc: Global,
-    guest: &mut Guest,
-    image: &[u8],
-    count: usize,
-) -> Result<Vec<By>, AllocError>
+fn tries(alloc: Global, guest: &mut Guest, image: &[u8], count: usize) -> Result<Vec<By>, NoMemory>
     requires running { guest.old.status ≡ Running }
     requires clock { guest.old.clock.time ≡ 0 }
     requires steps { guest.old.steps ≡ 0 }

@@ -9,8 +9,8 @@ use crate::tests::{By, guest, one, one_on};
 use crate::{Guest, Handled};
 use arch_defs::{GuestMode, GuestRoot, Interrupts, Mode, Reg, SupervisorMode, SupervisorRoot};
 use machine_defs::Status;
-use phys_mem::RAM_BASE;
-use std::alloc::{AllocError, Global};
+use phys_mem::{NoMemory, RAM_BASE};
+use std::alloc::Global;
 use std::test::Fail;
 
 const STEPPED: By = By::Host(Handled::Stepped);
@@ -40,7 +40,7 @@ const EXTERNAL: Interrupts = Interrupts {
 };
 
 // A guest in this mode with a handler at each level, whose hypervisor delegates these exceptions.
-fn nested(alloc: Global, mode: Mode, hedeleg: u64) -> Result<Guest, AllocError>
+fn nested(alloc: Global, mode: Mode, hedeleg: u64) -> Result<Guest, NoMemory>
     ensures { IfOk result (λ g. (g.status ≡ Running) × (g.clock ≡ times_at_start) × (g.steps ≡ 0)
         × (g.virt.reservation ≡ None) × IsNewPool g.part g.pool) }
 {
@@ -371,7 +371,7 @@ fn interrupts_for_hs(rt: HostRuntime) -> Result<(), Fail> {
 
 // The table's root at 80001000: entry 0 maps 0 to RAM's gigabyte as a page of U that can be read (V, R, U and
 // A, 53), entry 2 maps that gigabyte to itself as one that can be executed alone (V, X and A, 49).
-fn image(alloc: Global, word: u32) -> Result<Vec<u8>, AllocError> {
+fn image(alloc: Global, word: u32) -> Result<Vec<u8>, NoMemory> {
     let mut bytes = Vec::new(alloc);
     bytes.extend_from_slice(&word.to_le_bytes())?;
     bytes.resize(0x1000, 0)?;

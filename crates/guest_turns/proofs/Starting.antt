@@ -34,7 +34,8 @@ use Rattle.guest_exit.specs.declared.guests.Guest.{Guest}
 use Rattle.guest_exit.specs.View.{machine_of, platform_of}
 use Rattle.guest_turns.specs.Hosted.{no_machine, no_part}
 use Rattle.guest_turns.specs.Hosting.{AreAtStart, AreHosted, AreLaidOut, IsAtStart, IsHosted, parts_of, space_tables}
-use Rattle.guest_turns.specs.Limits.{IsBootable, frames_for, need_of, needs_of}
+use Rattle.guest_turns.specs.Limits.{IsBootable, frames_for, needs_of}
+use Rattle.machine_defs.specs.GuestNeeds.{need_of}
 use Rattle.guest_turns.proofs.Among.{machines_of}
 use Rattle.guest_turns.proofs.Placing.{part_ram_kept}
 

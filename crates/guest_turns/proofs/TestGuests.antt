@@ -3,7 +3,8 @@ use Rattle.std.proofs.Common.{◌≡◌, zero, suc, ◌≤◌, [], ◌∷◌, ap
 use Rattle.std.specs.List.{All}
 use Rattle.arch_defs.specs.Needs.{frames_needed}
 use Rattle.machine_defs.specs.declared.guests.GuestSpec.{GuestSpec}
-use Rattle.guest_turns.specs.Limits.{IsBootable, frames_for, need_of}
+use Rattle.guest_turns.specs.Limits.{IsBootable, frames_for}
+use Rattle.machine_defs.specs.GuestNeeds.{need_of}
 
 abbrev IsSmall : GuestSpec → Type 0
 IsSmall spec = need_of spec ≡ record { blocks = 1; spaces = 1; entries = 16 }

@@ -5,6 +5,7 @@ use Rattle.arch_defs.specs.declared.needs.Need.{Need}
 use Rattle.arch_defs.specs.Inputs.{AreInputs}
 use Rattle.arch_defs.specs.Memory.{block_size}
 use Rattle.frame_split.specs.Shares.{frames_of_all}
+use Rattle.machine_defs.specs.GuestNeeds.{need_of}
 use Rattle.machine_defs.specs.declared.guests.GuestSpec.{GuestSpec}
 
 -- a guest that is within the limits, and whose image fits (own)
@@ -19,10 +20,7 @@ pub record IsBootable (guest : GuestSpec) : Type 0 where
   pub image : length guest.image ≤ guest.blocks * block_size
   pub inputs : AreInputs guest.inputs
 
--- what a guest needs of machine memory
-abbrev pub need_of : GuestSpec → Need
-need_of guest = record { blocks = guest.blocks; spaces = guest.spaces; entries = guest.entries }
-
+-- what each guest needs of machine memory
 abbrev pub needs_of : List GuestSpec → List Need
 needs_of guests = map need_of guests
 

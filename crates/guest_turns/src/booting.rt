@@ -13,12 +13,13 @@ use guest_exit::{Guest, Pool};
 use guest_loader::load;
 use host_tables::build;
 use machine_defs::{GuestSpec, Status};
+use no_memory::NoMemory;
 use phys_mem::{PhysMem, RAM_BASE};
-use std::alloc::{AllocError, Global};
+use std::alloc::Global;
 use virtual_timer::Clock;
 
 /// The parts of guests.
-pub fn share(alloc: Global, guests: &[GuestSpec]) -> Result<Split, AllocError>
+pub fn share(alloc: Global, guests: &[GuestSpec]) -> Result<Split, NoMemory>
     requires few { length guests.now ≤ 16 }
     requires each { All IsBootable guests.now }
     requires frames { frames_for guests.now ≤ 131072 }
@@ -28,22 +29,18 @@ pub fn share(alloc: Global, guests: &[GuestSpec]) -> Result<Split, AllocError>
     let needs = needs(alloc, guests)?;
     match plan(alloc, needs.as_slice()) {
         Ok(split) => Ok(split),
-        Err(PlanFault::NoMemory) => Err(AllocError),
+        Err(PlanFault::NoMemory) => Err(NoMemory),
         Err(PlanFault::TooMuch(_)) => unreachable!(),
     }
 }
 
 // What the guests need.
-fn needs(alloc: Global, guests: &[GuestSpec]) -> Result<Vec<Need>, AllocError>
+fn needs(alloc: Global, guests: &[GuestSpec]) -> Result<Vec<Need>, NoMemory>
     ensures { IfOk result (λ needs. needs.items ≡ needs_of guests.now) }
 {
     let mut needs = Vec::with_capacity(alloc, guests.len())?;
     for guest in guests {
-        needs.push(Need {
-            blocks: guest.blocks,
-            spaces: guest.spaces,
-            entries: guest.entries,
-        })?;
+        needs.push(guest.need())?;
     }
     Ok(needs)
 }
@@ -69,7 +66,7 @@ pub fn guests_at_start(
     alloc: Global,
     specs: Vec<GuestSpec>,
     parts: &[Part],
-) -> Result<Vec<Guest>, AllocError>
+) -> Result<Vec<Guest>, NoMemory>
     requires each { All IsBootable specs.items }
     requires split { IsSplit (needs_of specs.items) parts.now (frames_for specs.items) }
     ensures { IfOk result (λ guests. AreAtStart specs.items parts.now guests.items) }
@@ -86,7 +83,7 @@ pub fn guests_at_start(
 
 // A guest at its start.
 #[tactic(auto, unfolding(machine_defs::specs::Machine::start))]
-fn guest_at_start(alloc: Global, spec: GuestSpec, part: Part) -> Result<Guest, AllocError>
+fn guest_at_start(alloc: Global, spec: GuestSpec, part: Part) -> Result<Guest, NoMemory>
     requires bootable { IsBootable spec }
     requires spaces { part.spaces ≡ spec.spaces }
     requires entries { part.entries ≡ spec.entries }

@@ -16,9 +16,10 @@ use crate::booting::{guests_at_start, lay_out, share};
 use crate::turning::turn_of;
 use guest_exit::Guest;
 use machine_defs::{GuestSpec, Status};
+use no_memory::NoMemory;
 use phys_mem::PhysMem;
 use rv64_hart::{Hart, Tally};
-use std::alloc::{AllocError, Global};
+use std::alloc::Global;
 use std::marker::Model;
 
 /// Guests on one hart in one machine memory, which contracts see as their lone machines, with the part of
@@ -45,7 +46,7 @@ impl Model for Host {
 impl Host {
     /// The guests' machines at their start, in order, each in a part of machine memory of the size that it
     /// needs. No frame is in two parts. It may answer out of memory.
-    pub fn boot(alloc: Global, guests: Vec<GuestSpec>) -> Result<Host, AllocError>
+    pub fn boot(alloc: Global, guests: Vec<GuestSpec>) -> Result<Host, NoMemory>
         requires bootable { AreBootable guests.items }
         ensures machines { IfOk result (λ host. host.machines ≡ map start guests.items) }
         ensures parts { IfOk result (λ host. IsSplit (needs_of guests.items) host.parts

@@ -1,10 +1,12 @@
 ghost use Rattle.std.specs.Prelude.{◌≡◌, ◌≤◌, length, IfOk};
-ghost use Rattle.guest_turns.specs.Limits.{IsBootable, need_of};
+ghost use Rattle.guest_turns.specs.Limits.{IsBootable};
+ghost use Rattle.machine_defs.specs.GuestNeeds.{need_of};
 
 use crate::Host;
 use machine_defs::{Bytes, GuestSpec, Inputs, Name, Status};
+use no_memory::NoMemory;
 use rv64_hart::Tally;
-use std::alloc::{AllocError, Global};
+use std::alloc::Global;
 use std::test::Fail;
 
 // Puts `A` and stops.
@@ -40,7 +42,7 @@ const STORES: [u8; 28] = [
 ];
 
 // A guest of one block, with room for one console byte.
-fn guest(alloc: Global, image: &[u8]) -> Result<GuestSpec, AllocError>
+fn guest(alloc: Global, image: &[u8]) -> Result<GuestSpec, NoMemory>
     requires { length image.now ≤ 32 }
     ensures bootable { IfOk result IsBootable }
     ensures need { IfOk result (λ spec. need_of spec ≡ record { blocks = 1; spaces = 1; entries = 16 }) }
@@ -57,13 +59,13 @@ fn guest(alloc: Global, image: &[u8]) -> Result<GuestSpec, AllocError>
 }
 
 // A host of one such guest, and one of two.
-fn one(alloc: Global, image: &[u8]) -> Result<Host, AllocError>
+fn one(alloc: Global, image: &[u8]) -> Result<Host, NoMemory>
     requires { length image.now ≤ 32 }
 {
     Host::boot(alloc, vec![in alloc; guest(alloc, image)?]?)
 }
 
-fn two(alloc: Global, first: &[u8], second: &[u8]) -> Result<Host, AllocError>
+fn two(alloc: Global, first: &[u8], second: &[u8]) -> Result<Host, NoMemory>
     requires first { length first.now ≤ 32 }
     requires second { length second.now ≤ 32 }
 {

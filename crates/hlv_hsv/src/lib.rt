@@ -5,6 +5,7 @@ mod accesses;
 #[cfg(test)]
 mod tests;
 
-pub use accesses::{Accessed, access};
-pub use op_defs::DataAccess;
+pub use accesses::access;
+pub use hcsr_emulation::Accessed;
+pub use op_defs::Op;
 pub use phys_mem::Mem;

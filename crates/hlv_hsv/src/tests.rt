@@ -5,16 +5,17 @@
 ghost use Rattle.std.specs.Prelude.{◌≡◌, ◌≤◌, ◌<◌, length, true};
 ghost use Rattle.arch_defs.specs.Frames.{LieIn, in_blocks};
 ghost use Rattle.arch_defs.specs.Layouts.{names_each_once};
+ghost use Rattle.arch_defs.specs.Memory.{ram_base};
+ghost use Rattle.arch_defs.specs.Ram.{ram_of};
+ghost use Rattle.two_stage_walk.specs.Places.{IsWhole};
 
-use crate::{Accessed, DataAccess, access};
+use crate::{Accessed, Op, access};
 use arch_defs::{
-    CsrEnd, GuestMode, GuestRoot, Mode, Part, Reg, SupervisorMode, SupervisorRoot, Trap, Virtual,
-    Width,
+    GuestMode, GuestRoot, Mode, Part, Reg, SupervisorMode, SupervisorRoot, Trap, Virtual, Width,
 };
-use op_defs::{Privileged, Purpose};
-use phys_mem::{Mem, PhysMem, Ram};
-use privileged_ops::{Performed, perform};
-use std::alloc::{AllocError, Global};
+use phys_mem::{Mem, NoMemory, PhysMem, Ram};
+use rv64_asm::fits;
+use std::alloc::Global;
 use std::test::Fail;
 use two_stage_walk::{memory_is_whole, ram_is_whole};
 
@@ -22,7 +23,7 @@ const START: u64 = 0x8000_0000;
 
 const DONE: Accessed = Accessed::Done;
 
-fn memory(alloc: Global, frames: u64) -> Result<PhysMem, AllocError>
+fn memory(alloc: Global, frames: u64) -> Result<PhysMem, NoMemory>
     requires some { 1 ≤ frames }
     requires most { frames ≤ 131072 }
 {
@@ -50,6 +51,18 @@ fn raise(cause: u64, tval: u64, tval2: u64, implicit: bool) -> Accessed {
         tval2,
         gva: true,
         implicit,
+    })
+}
+
+// The end of an instruction of this word that the mode does not allow.
+fn refusal(cause: u64, word: u64) -> Accessed {
+    Accessed::Raise(Trap {
+        cause,
+        interrupt: false,
+        tval: word,
+        tval2: 0,
+        gva: false,
+        implicit: false,
     })
 }
 
@@ -89,41 +102,94 @@ fn x10() -> Reg {
     Reg::new(10)
 }
 
+fn x11() -> Reg {
+    Reg::new(11)
+}
+
+// An instruction, with the address in x11 and the value in x12.
+#[derive(Clone, Copy)]
+struct Wanted {
+    op: Op,
+    address: u64,
+    value: u64,
+}
+
 // HLV into x10.
-fn hlv(address: u64, width: Width, signed: bool) -> DataAccess {
-    DataAccess {
+fn hlv(address: u64, width: Width, signed: bool) -> Wanted {
+    Wanted {
+        op: Op::GuestLoad {
+            width,
+            signed,
+            rd: x10(),
+            rs1: x11(),
+        },
         address,
-        width,
-        purpose: Purpose::Load { signed, rd: x10() },
+        value: 0,
     }
 }
 
 // HLVX into x10.
-fn hlvx(address: u64, width: Width) -> DataAccess {
-    DataAccess {
+fn hlvx(address: u64, width: Width) -> Wanted {
+    Wanted {
+        op: Op::GuestFetch {
+            width,
+            rd: x10(),
+            rs1: x11(),
+        },
         address,
-        width,
-        purpose: Purpose::LoadCode { rd: x10() },
+        value: 0,
     }
 }
 
-fn hsv(address: u64, width: Width, value: u64) -> DataAccess {
-    DataAccess {
+fn hsv(address: u64, width: Width, value: u64) -> Wanted {
+    Wanted {
+        op: Op::GuestStore {
+            width,
+            rs1: x11(),
+            rs2: Reg::new(12),
+        },
         address,
-        width,
-        purpose: Purpose::Store { value },
+        value,
     }
 }
+
+// The answer where what is wanted is no HLV, HLVX or HSV.
+const OTHER_OP: Accessed = Accessed::Raise(Trap {
+    cause: 64,
+    interrupt: false,
+    tval: 0,
+    tval2: 0,
+    gva: false,
+    implicit: false,
+});
 
 // How an access to RAM ends, and what x10 is then.
-fn ended_in_ram(ram: &mut Ram, state: &Virtual, wanted: &DataAccess) -> (Accessed, u64)
+fn ended_in_ram(ram: &mut Ram, state: &Virtual, wanted: &Wanted) -> (Accessed, u64)
     requires { LieIn (in_blocks ram.old.part.now.blocks) (length ram.old.mem.now) }
     ensures { LieIn (in_blocks ram.new.part.now.blocks) (length ram.new.mem.now) }
 {
     let mut state = *state;
+    state.regs.x[11] = wanted.address;
+    state.regs.x[12] = wanted.value;
     ram_is_whole(ram);
-    let end = access(ram, &mut state, *wanted);
+    let end = access_to_ram(ram, &mut state, wanted.op);
     (end, state.regs.x[10])
+}
+
+fn access_to_ram(ram: &mut Ram, state: &mut Virtual, op: Op) -> Accessed
+    requires lies { LieIn (in_blocks ram.old.part.now.blocks) (length ram.old.mem.now) }
+    requires whole { IsWhole ram_base (ram_of ram.old.part.now.blocks ram.old.mem.now) }
+    ensures { LieIn (in_blocks ram.new.part.now.blocks) (length ram.new.mem.now) }
+{
+    if !fits(&op) {
+        return OTHER_OP;
+    }
+    match op {
+        Op::GuestLoad { .. } | Op::GuestFetch { .. } | Op::GuestStore { .. } => {
+            access(ram, state, op)
+        }
+        _ => OTHER_OP,
+    }
 }
 
 // The tables of a nested guest in RAM, which is block 1 of machine memory and then block 0: hgatp's root at
@@ -158,8 +224,9 @@ fn hlv_execute_only(rt: HostRuntime) {
     assert_eq!(rt; ended_in_ram(&mut ram, &state, &byte), (DONE, 65));
     assert_eq!(rt; ended_in_ram(&mut ram, &state, &code), (DONE, 65));
     state.mode = Mode::U;
-    let refused = perform(&mut state, Privileged::HlvAccess(byte));
-    assert_eq!(rt; refused, Performed::Refused(CsrEnd::Illegal));
+    // HLV.BU x10, (x11): 0110000 00001 01011 100 01010 1110011.
+    let refused = refusal(2, 0x6015_C573);
+    assert_eq!(rt; ended_in_ram(&mut ram, &state, &byte), (refused, 0));
     state.csrs.hstatus.hu = true;
     assert_eq!(rt; ended_in_ram(&mut ram, &state, &byte), (DONE, 65));
 }
@@ -216,7 +283,7 @@ fn put(memory: &mut PhysMem, at: u64, word: u64) {
     }
 }
 
-fn tables(alloc: Global) -> Result<PhysMem, AllocError> {
+fn tables(alloc: Global) -> Result<PhysMem, NoMemory> {
     let mut memory = memory(alloc, 16)?;
     for &(at, word) in &TABLES {
         put(&mut memory, at, word);
@@ -228,13 +295,24 @@ fn word(memory: &PhysMem, at: u64) -> Option<u64> {
     if at % 8 == 0 { memory.get(at, 8) } else { None }
 }
 
-fn made_in(memory: &mut PhysMem, state: &mut Virtual, wanted: DataAccess) -> Accessed {
+fn made_in(memory: &mut PhysMem, state: &mut Virtual, wanted: Wanted) -> Accessed {
+    state.regs.x[11] = wanted.address;
+    state.regs.x[12] = wanted.value;
+    let op = wanted.op;
+    if !fits(&op) {
+        return OTHER_OP;
+    }
     memory_is_whole(memory);
-    access(memory, state, wanted)
+    match op {
+        Op::GuestLoad { .. } | Op::GuestFetch { .. } | Op::GuestStore { .. } => {
+            access(memory, state, op)
+        }
+        _ => OTHER_OP,
+    }
 }
 
 // How an access ends, and what x10 is then, which was 7.
-fn ended(memory: &mut PhysMem, state: &Virtual, wanted: DataAccess) -> (Accessed, u64) {
+fn ended(memory: &mut PhysMem, state: &Virtual, wanted: Wanted) -> (Accessed, u64) {
     let mut state = *state;
     state.regs.x[10] = 7;
     let end = made_in(memory, &mut state, wanted);
@@ -278,26 +356,69 @@ fn registers(rt: HostRuntime) -> Result<(), Fail> {
     let mut state = state_as(false, GUEST_ROOT, ROOT);
     state.reservation = Some((0xA000, 8));
     let mut expected = state;
+    expected.regs.x[11] = 0x1008;
     expected.regs.x[10] = 0x7708;
     expected.regs.pc = START + 4;
     let end = made_in(&mut memory, &mut state, hlv(0x1008, Width::Half, true));
     assert_eq!(rt; end, DONE);
     assert_eq!(rt; state, expected);
+    expected.regs.x[11] = 0x1000;
     expected.regs.pc = START + 8;
-    let to_zero = DataAccess {
-        address: 0x1000,
-        width: Width::Double,
-        purpose: Purpose::Load {
+    let to_zero = Wanted {
+        op: Op::GuestLoad {
+            width: Width::Double,
             signed: true,
             rd: Reg::new(0),
+            rs1: x11(),
         },
+        address: 0x1000,
+        value: 0,
     };
     assert_eq!(rt; made_in(&mut memory, &mut state, to_zero), DONE);
     assert_eq!(rt; state, expected);
+    expected.regs.x[12] = 1;
     expected.regs.pc = START + 12;
     let end = made_in(&mut memory, &mut state, hsv(0x1000, Width::Double, 1));
     assert_eq!(rt; end, DONE);
     assert_eq!(rt; state, expected);
+    Ok(())
+}
+
+// HLV.D x10, (x11), HLVX.HU x10, (x11) and HSV.D x12, (x11) in each mode, by HU, with their words by hand:
+// 0110110 00000 01011 100 01010 1110011, 0110010 00011 01011 100 01010 1110011 and
+// 0110111 01100 01011 100 00000 1110011. In VS and VU they are virtual instructions, in U illegal without HU
+// (8.2.1, 8.6.1).
+#[test]
+fn modes(rt: HostRuntime) -> Result<(), Fail> {
+    let mut memory = tables(rt.alloc())?;
+    for (mode, hu, cause) in [
+        (Mode::HS, false, None),
+        (Mode::HS, true, None),
+        (Mode::U, false, Some(2)),
+        (Mode::U, true, None),
+        (Mode::VS, true, Some(22)),
+        (Mode::VU, true, Some(22)),
+    ] {
+        for (made, word) in [
+            (hlv(0x1000, Width::Double, true), 0x6C05_C573),
+            (hlvx(0x1000, Width::Half), 0x6435_C573),
+            (hsv(0x1000, Width::Double, 1), 0x6EC5_C073),
+        ] {
+            let mut state = state_as(false, GUEST_ROOT, ROOT);
+            state.mode = mode;
+            state.csrs.hstatus.hu = hu;
+            let before = state;
+            let end = made_in(&mut memory, &mut state, made);
+            match cause {
+                None => assert_eq!(rt; end, DONE, "{word:x}"),
+                Some(cause) => {
+                    assert_eq!(rt; end, refusal(cause, word), "{word:x}");
+                    assert_eq!(rt; (state.csrs, state.mode), (before.csrs, mode));
+                    assert_eq!(rt; (state.regs.pc, state.regs.x[10]), (START, 0));
+                }
+            }
+        }
+    }
     Ok(())
 }
 
@@ -416,7 +537,8 @@ fn faults(rt: HostRuntime) -> Result<(), Fail> {
         assert_eq!(rt; end, end_of(load, va, tval2), "{va:X}");
         let (end, _) = ended(&mut memory, &state, hlvx(va, width));
         assert_eq!(rt; end, end_of(load_code, va, tval2), "{va:X}");
-        let before = state;
+        let mut before = state;
+        before.regs.x[11] = va;
         let end = made_in(&mut memory, &mut state, hsv(va, width, 0));
         assert_eq!(rt; end, end_of(store, va, tval2), "{va:X}");
         assert_eq!(rt; state, before);

@@ -39,7 +39,7 @@ picked : {A : Type 0} (P : A → Type 0) (test : Bool) (x y : A) → P x → P y
 picked P true x y h k = h
 picked P false x y h k = k
 
-chosen : {A : Type 0} (P : A → Type 0) (test : Bool) (x y : Option A) → Each P x → Each P y → Each P (if test then x else y)
+pub chosen : {A : Type 0} (P : A → Type 0) (test : Bool) (x y : Option A) → Each P x → Each P y → Each P (if test then x else y)
 chosen P test x y h k = picked (Each P) test x y h k
 
 pub tested : {A : Type 0} (P : A → Type 0) (test : Bool) (x y : Option A) → (test ≡ true → Each P x) → (test ≡ false → Each P y)
@@ -52,7 +52,7 @@ mapped : {A B : Type 0} (P : A → Type 0) (Q : B → Type 0) (f : A → B) (fou
 mapped P Q f None h k = none Q
 mapped P Q f (Some x) h k = some Q (f x) (k x (h.each x refl))
 
-mapped_any : {A B : Type 0} (Q : B → Type 0) (f : A → B) (found : Option A) → ((x : A) → Q (f x)) → Each Q (option_map f found)
+pub mapped_any : {A B : Type 0} (Q : B → Type 0) (f : A → B) (found : Option A) → ((x : A) → Q (f x)) → Each Q (option_map f found)
 mapped_any Q f None k = none Q
 mapped_any Q f (Some x) k = some Q (f x) (k x)
 

@@ -6,4 +6,5 @@ pub mod Coding
 pub mod Loops
 pub mod Faultless
 pub mod Decoded
+pub mod SystemOps
 pub mod SystemWords

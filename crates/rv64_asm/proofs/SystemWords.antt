@@ -1,5 +1,5 @@
 -- A word of opcode SYSTEM is the word of its op, group by group.
-use Rattle.std.proofs.Common.{◌≡◌, ℕ, ◌+◌, ◌*◌, ◌/◌, ◌%◌, ◌^◌, ◌<◌, Bool, true, false, refl, sym, ◌∙◌, arith, if◌then◌else◌}
+use Rattle.std.proofs.Common.{◌≡◌, ℕ, ◌+◌, ◌*◌, ◌^◌, ◌<◌, Bool, true, false, refl, sym, ◌∙◌, arith, if◌then◌else◌}
 use Rattle.std.specs.Prelude.{◌==◌}
 use Rattle.std.proofs.lemmas.Bool.{eqb-true, eqb-false}
 use Rattle.arch_defs.specs.Bits.{field}
@@ -9,7 +9,7 @@ use Rattle.op_defs.specs.declared.ops.CsrOp.TheVariants as csr
 use Rattle.op_defs.specs.declared.ops.Op.{Op}
 use Rattle.op_defs.specs.declared.ops.Op.TheVariants as op
 use Rattle.op_defs.specs.Fields.{opcode, rd, rs1, rs2, funct3, funct7}
-use Rattle.op_defs.specs.Table.{op_of, is_system, system_of, system_op_of, fence_op_of, guest_access_of, guest_load_of, guest_load_by, guest_store_of, csr_of, csr_op_of}
+use Rattle.op_defs.specs.Table.{is_system, system_of, system_op_of, fence_op_of, guest_access_of, guest_load_of, guest_load_by, guest_store_of, csr_of, csr_op_of}
 use Rattle.rv64_asm.specs.Laws.{SystemHasOneWord}
 use Rattle.rv64_asm.specs.Words.{encoded, r_word, i_word, csr_word, csr_code, width_code, guest_load_rs2}
 use Rattle.rv64_asm.proofs.Decoded.{Each, none, some, tested}

@@ -1,5 +1,5 @@
 -- Decoding gives the op back, and each op that is decoded can be encoded.
-use Rattle.std.specs.Prelude.{ℕ, ◌≡◌, ◌<◌, ◌^◌, Bool, true, Some, ◌&&◌, nat_lt}
+use Rattle.std.specs.Prelude.{ℕ, ◌≡◌, ◌<◌, ◌^◌, Bool, true, false, Some, ◌&&◌, nat_lt}
 use Rattle.op_defs.specs.declared.ops.CsrSource.{CsrSource}
 use Rattle.op_defs.specs.declared.ops.CsrSource.TheVariants as source
 use Rattle.op_defs.specs.declared.ops.Op.{Op}
@@ -54,4 +54,24 @@ DecodedStays = (word : ℕ) (o : Op) → op_of word ≡ Some o → op_of (encode
 -- a word of opcode SYSTEM is the one that its op is encoded to: the op has each of its bits
 abbrev pub SystemHasOneWord : Type 0
 SystemHasOneWord = (word : ℕ) (o : Op) → word < 2 ^ 32 → is_system word ≡ true → op_of word ≡ Some o
+    → encoded o ≡ word
+
+-- an instruction of opcode SYSTEM
+unfoldable pub is_system_op : Op → Bool
+is_system_op op.Ecall = true
+is_system_op op.Ebreak = true
+is_system_op op.Sret = true
+is_system_op op.Wfi = true
+is_system_op (op.Csr o from rd number) = true
+is_system_op (op.SfenceVma rs1 rs2) = true
+is_system_op (op.HfenceVvma rs1 rs2) = true
+is_system_op (op.HfenceGvma rs1 rs2) = true
+is_system_op (op.GuestLoad w signed rd rs1) = true
+is_system_op (op.GuestFetch w rd rs1) = true
+is_system_op (op.GuestStore w rs1 rs2) = true
+is_system_op other = false
+
+-- the same of its op: each word that is decoded to it is the one that it is encoded to
+abbrev pub SystemOpHasOneWord : Type 0
+SystemOpHasOneWord = (word : ℕ) (o : Op) → word < 2 ^ 32 → is_system_op o ≡ true → op_of word ≡ Some o
     → encoded o ≡ word

@@ -6,13 +6,13 @@ ghost use Rattle.rv64_asm.specs.Fitting.{fits};
 ghost use Rattle.rv64_asm.specs.Plans.{empty_plan, index_of, is_aimed, with_item, with_label, with_piece};
 ghost use Rattle.rv64_asm.specs.Plans.{code, first_item_fault, plan_fault, image_plan_of, IsImage};
 ghost use Rattle.rv64_asm.specs.declared.faults.AsmFault.{AsmFault};
-ghost use Rattle.rv64_asm.specs.declared.faults.AsmFault.TheVariants.{NoMemory};
 
 use crate::faults::AsmFault;
 use crate::lines::{Label, Line, index_of};
 use crate::pieces::{Piece, last_end, lay_all};
+use no_memory::NoMemory;
 use op_defs::Op;
-use std::alloc::{AllocError, Global};
+use std::alloc::Global;
 use std::marker::Model;
 
 /// An image in the making: ops one after the other from place 0 on, labels between them, and placed bytes.
@@ -44,7 +44,7 @@ impl Image {
     }
 
     /// Pushes an op whose fields fit.
-    pub fn push(&mut self, op: Op) -> Result<(), AllocError>
+    pub fn push(&mut self, op: Op) -> Result<(), NoMemory>
         requires { fits op ≡ true }
         ensures ok { OnOk result (self.new ≡ with_item self.old (record { op = op; target = None })) }
         ensures err { OnErr result (self.new ≡ self.old) }
@@ -54,7 +54,7 @@ impl Image {
     }
 
     /// Pushes a branch or JAL, whose offset will be the distance to a label.
-    pub fn push_to(&mut self, op: Op, label: u32) -> Result<(), AllocError>
+    pub fn push_to(&mut self, op: Op, label: u32) -> Result<(), NoMemory>
         requires { is_aimed op ≡ true }
         ensures ok { OnOk result (self.new ≡ with_item self.old (record { op = op; target = Some label })) }
         ensures err { OnErr result (self.new ≡ self.old) }
@@ -64,7 +64,7 @@ impl Image {
     }
 
     /// Sets a label, which is not set yet, at the next op.
-    pub fn label(&mut self, id: u32) -> Result<(), AllocError>
+    pub fn label(&mut self, id: u32) -> Result<(), NoMemory>
         requires { index_of self.old.labels id ≡ None }
         ensures ok { OnOk result (self.new ≡ with_label self.old id) }
         ensures err { OnErr result (self.new ≡ self.old) }
@@ -82,7 +82,7 @@ impl Image {
     }
 
     /// Places bytes, over ops wherever these are pushed, and over bytes placed before.
-    pub fn place(&mut self, at: u64, bytes: &[u8]) -> Result<(), AllocError>
+    pub fn place(&mut self, at: u64, bytes: &[u8]) -> Result<(), NoMemory>
         requires { at + length bytes.now ≤ 2 ^ 26 }
         ensures ok { OnOk result (self.new ≡ with_piece self.old (record { at = at; bytes = bytes.now })) }
         ensures err { OnErr result (self.new ≡ self.old) }
@@ -102,8 +102,8 @@ impl Image {
         ensures ok { OnOk result (plan_fault self ≡ None) }
         ensures image { IfOk result (λ v. IsImage self v.items) }
         ensures fault { (e : AsmFault) → plan_fault self ≡ Some e → result ≡ Err e }
-        ensures err { IfErr result (λ e. e ≢ NoMemory → plan_fault self ≡ Some e) }
-        ensures memory { IsErrOf result NoMemory → plan_fault self ≡ None }
+        ensures err { IfErr result (λ e. e ≢ AsmFault.NoMemory → plan_fault self ≡ Some e) }
+        ensures memory { IsErrOf result AsmFault.NoMemory → plan_fault self ≡ None }
     {
         if let Some(fault) = first_item_fault(self.lines.as_slice(), self.labels.as_slice()) {
             return Err(fault);
@@ -143,7 +143,7 @@ fn bytes_of(
     labels: &[Label],
     pieces: &[Piece],
     alloc: Global,
-) -> Result<Vec<u8>, AllocError>
+) -> Result<Vec<u8>, NoMemory>
     requires { first_item_fault labels.now 0 lines.now ≡ None }
     ensures { IfOk result (λ v. IsImage (image_plan_of lines.now labels.now pieces.now) v.items) }
 {
@@ -155,7 +155,7 @@ fn bytes_of(
 }
 
 // The words of ops without a fault, one after the other.
-fn assemble(lines: &[Line], labels: &[Label], alloc: Global) -> Result<Vec<u8>, AllocError>
+fn assemble(lines: &[Line], labels: &[Label], alloc: Global) -> Result<Vec<u8>, NoMemory>
     requires { first_item_fault labels.now 0 lines.now ≡ None }
     ensures { IfOk result (λ v. v.items ≡ code labels.now 0 lines.now) }
 {

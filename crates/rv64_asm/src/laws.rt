@@ -1,6 +1,6 @@
 // Laws of the definitions.
 
-ghost use Rattle.rv64_asm.specs.Laws.{DecodedFits, DecodedStays, DecodesBack, SystemHasOneWord};
+ghost use Rattle.rv64_asm.specs.Laws.{DecodedFits, DecodedStays, DecodesBack, SystemHasOneWord, SystemOpHasOneWord};
 
 /// Decoding gives each op back whose fields fit: the instruction table has it at its word.
 pub fn decodes_back()
@@ -17,4 +17,9 @@ pub fn decoded_fits()
 /// ignored.
 pub fn system_has_one_word()
     ensures { SystemHasOneWord }
+{}
+
+/// The same by the op: each word of 32 bits that is decoded to an op of opcode SYSTEM is the op's word.
+pub fn system_op_has_one_word()
+    ensures { SystemOpHasOneWord }
 {}

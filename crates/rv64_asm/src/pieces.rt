@@ -4,7 +4,8 @@ ghost use Rattle.std.specs.Prelude.{◌≡◌, ◌+◌, ◌^◌, ◌≤◌, leng
 ghost use Rattle.arch_defs.specs.Memory.{pasted};
 ghost use Rattle.rv64_asm.specs.Plans.{covering, last_end, own, piece_end, LaidOver};
 
-use std::alloc::{AllocError, Global};
+use no_memory::NoMemory;
+use std::alloc::Global;
 use std::marker::Model;
 
 /// Bytes, and the place that they begin at.
@@ -26,7 +27,7 @@ impl Model for Piece {
 }
 
 impl Piece {
-    pub fn new(alloc: Global, at: u64, bytes: &[u8]) -> Result<Piece, AllocError>
+    pub fn new(alloc: Global, at: u64, bytes: &[u8]) -> Result<Piece, NoMemory>
         requires { at + length bytes.now ≤ 2 ^ 26 }
         ensures { IfOk result (λ p. p ≡ record { at = at; bytes = bytes.now }) }
     {

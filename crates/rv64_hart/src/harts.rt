@@ -9,13 +9,9 @@ ghost use Rattle.rv64_hart.specs.Steps.{Exits, enters_vs, hart_step, hart_steps,
 
 use crate::steps::step;
 use crate::tallies::Tally;
-use arch_defs::{Level, Mode, Trap, Virtual};
+use arch_defs::{HartState, Level, Mode, Trap, Virtual};
 use machine_defs::Event;
 use phys_mem::PhysMem;
-
-/// What the hart has of registers, CSRs, mode and reservation: the same as a lone machine, with the
-/// hart's own values.
-pub type HartState = Virtual;
 
 /// Why the hart stopped.
 #[derive(Clone, Copy, Debug, PartialEq, Eq)]

@@ -3,7 +3,7 @@
 #![tactic(auto)]
 
 mod accesses;
-mod effects;
+mod events;
 mod harts;
 mod laws;
 mod steps;
@@ -23,8 +23,7 @@ mod tests_translation;
 #[cfg(test)]
 mod tests_traps;
 
-pub use effects::effect_of;
-pub use harts::{Hart, HartState, Stop, Why};
+pub use harts::{Hart, Stop, Why};
 pub use laws::guest_page_faults_exit;
 pub use phys_mem::PhysMem;
 pub use tallies::Tally;

@@ -11,13 +11,14 @@ ghost use Rattle.rv64_hart.specs.MachineMemory.{reading_of_memory, second_of_mem
 ghost use Rattle.rv64_hart.specs.Steps.{Raises, attempt_of, hart_step, next_attempt, trapped_to};
 
 use crate::accesses::{access_data, access_place, word_at};
-use crate::effects::{effect_of, event_of};
+use crate::events::event_of;
 use arch_defs::{
     Access, ECALL_FROM_HS, ECALL_FROM_USER, ECALL_FROM_VS, ILLEGAL_INSTRUCTION, Level, Mode, Trap,
     Virtual, Width,
 };
 use machine_defs::Event;
 use op_defs::{Effect, Privileged};
+use op_effects::effect_of;
 use phys_mem::PhysMem;
 use privileged_ops::{Performed, perform, refusal_code};
 use rv64_decode::decode;

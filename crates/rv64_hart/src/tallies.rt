@@ -38,18 +38,21 @@ impl Tally {
         }
     }
 
+    /// How often the hart was entered.
     pub fn entries(&self) -> u64
         ensures { result ≡ self.now.entries }
     {
         self.entries
     }
 
+    /// How many steps the hart made.
     pub fn taken(&self) -> u64
         ensures { result ≡ self.now.taken }
     {
         self.taken
     }
 
+    /// The sum of pc and word of the hart's plain steps, modulo 2^64.
     pub fn trace(&self) -> u64
         ensures trace { result ≡ self.now.trace }
         ensures small { result < 2 ^ 64 }

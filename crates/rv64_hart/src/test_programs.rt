@@ -4,9 +4,10 @@
 
 ghost use Rattle.std.specs.Prelude.{◌≡◌, ◌≤◌, ◌⊎◌};
 
-use crate::{Hart, HartState, PhysMem, Stop, Tally, Why};
-use arch_defs::{Mode, Trap, Virtual};
-use std::alloc::{AllocError, Global};
+use crate::{Hart, PhysMem, Stop, Tally, Why};
+use arch_defs::{HartState, Mode, Trap, Virtual};
+use phys_mem::NoMemory;
+use std::alloc::Global;
 use std::process::Abort;
 use std::test::Fail;
 
@@ -74,7 +75,7 @@ pub fn doubleword(memory: &PhysMem, at: u64) -> u64 {
 }
 
 // Memory of so many frames with a program in it.
-pub fn loaded(alloc: Global, frames: u64, code: &[u32]) -> Result<PhysMem, AllocError>
+pub fn loaded(alloc: Global, frames: u64, code: &[u32]) -> Result<PhysMem, NoMemory>
     requires some { 1 ≤ frames }
     requires most { frames ≤ 131072 }
 {

@@ -1,17 +1,17 @@
 ghost use Rattle.std.specs.Prelude.{◌≤◌};
 
 use crate::test_programs::START;
-use crate::{Hart, PhysMem, Stop, Tally, Why, effect_of};
-use arch_defs::{Fence, Reg, Regs, Trap, Width};
-use op_defs::{DataAccess, Effect, Op, Privileged, Purpose};
-use std::alloc::{AllocError, Global};
+use crate::{Hart, PhysMem, Stop, Tally, Why};
+use arch_defs::{Reg, Trap};
+use phys_mem::NoMemory;
+use std::alloc::Global;
 use std::test::Fail;
 
 // The last word of the addresses.
 const LAST_WORD: u64 = 0xFFFF_FFFF_FFFF_FFFC;
 
 // Memory of so many frames that begins with these words.
-fn memory_of(alloc: Global, frames: u64, words: &[u32]) -> Result<PhysMem, AllocError>
+fn memory_of(alloc: Global, frames: u64, words: &[u32]) -> Result<PhysMem, NoMemory>
     requires some { 1 ≤ frames }
     requires most { frames ≤ 131072 }
 {
@@ -138,61 +138,4 @@ fn reads_little_endian(rt: HostRuntime) -> Result<(), Fail> {
         assert_eq!(rt; memory.load_word(4), 0x8807_0605);
     }
     Ok(())
-}
-
-// What HFENCE.GVMA names: a page by rs1, which has the address shifted right by 2, and a VMID of 7 bits by
-// rs2; all where the operand is x0, but not where another register has 0 (Privileged Architecture, 8.3.2).
-#[test]
-fn fences_of_guests(rt: HostRuntime) {
-    let mut regs = Regs::starting_at(START);
-    regs.x[5] = 0x2000_0CFF; // 0x8000_33FC shifted right by 2
-    regs.x[6] = 0x83;
-    for (rs1, rs2, page, vmid) in [
-        (0, 0, None, None),
-        (5, 0, Some(0x8_0003), None),
-        (0, 6, None, Some(3)),
-        (5, 6, Some(0x8_0003), Some(3)),
-        (7, 7, Some(0), Some(0)),
-    ] {
-        let op = Op::HfenceGvma {
-            rs1: Reg::new(rs1),
-            rs2: Reg::new(rs2),
-        };
-        let effect = Effect::Privileged(Privileged::HfenceGvma(Fence { vmid, page }));
-        assert_eq!(rt; effect_of(&op, &regs), effect);
-    }
-}
-
-// HLV, HLVX and HSV have their address in rs1 and no offset (Privileged Architecture, 8.3.1).
-#[test]
-fn accesses_of_guests(rt: HostRuntime) {
-    let mut regs = Regs::starting_at(START);
-    regs.x[5] = 0x1004;
-    regs.x[6] = 9;
-    let (rd, rs1, rs2) = (Reg::new(7), Reg::new(5), Reg::new(6));
-    let width = Width::Word;
-    for (op, purpose) in [
-        (
-            Op::GuestLoad {
-                width,
-                signed: true,
-                rd,
-                rs1,
-            },
-            Purpose::Load { signed: true, rd },
-        ),
-        (Op::GuestFetch { width, rd, rs1 }, Purpose::LoadCode { rd }),
-        (
-            Op::GuestStore { width, rs1, rs2 },
-            Purpose::Store { value: 9 },
-        ),
-    ] {
-        let access = DataAccess {
-            address: 0x1004,
-            width,
-            purpose,
-        };
-        let effect = Effect::Privileged(Privileged::HlvAccess(access));
-        assert_eq!(rt; effect_of(&op, &regs), effect);
-    }
 }

@@ -3,9 +3,12 @@
 // the format of 4.4.1: the physical page number from bit 10 on, D A G U X W R V in bits 7 to 0.
 
 use crate::test_programs::{HELD, doubleword, put, trap};
-use crate::{Hart, HartState, PhysMem, Stop, Tally, Why};
-use arch_defs::{GuestMode, GuestRoot, Mode, SupervisorMode, SupervisorRoot, Trap, Virtual};
-use std::alloc::{AllocError, Global};
+use crate::{Hart, PhysMem, Stop, Tally, Why};
+use arch_defs::{
+    GuestMode, GuestRoot, HartState, Mode, SupervisorMode, SupervisorRoot, Trap, Virtual,
+};
+use phys_mem::NoMemory;
+use std::alloc::Global;
 use std::process::Abort;
 use std::test::Fail;
 
@@ -43,7 +46,7 @@ const JUMP: u32 = 0x0004_8067; // jalr x0, 0(x9)
 const EBREAK: u32 = 0x0010_0073;
 
 // Memory with the tables, the doubleword, and a program in the guest's first frame.
-fn memory_for(alloc: Global, code: &[u32]) -> Result<PhysMem, AllocError> {
+fn memory_for(alloc: Global, code: &[u32]) -> Result<PhysMem, NoMemory> {
     let mut memory = PhysMem::new(alloc, FRAMES)?;
     for &(at, word) in &TABLES {
         put(&mut memory, at, 8, word);

@@ -5,7 +5,8 @@
 use crate::test_programs::{DATA, HELD, doubleword, put, trap};
 use crate::{Hart, PhysMem, Stop, Tally, Why};
 use arch_defs::{Mode, SupervisorMode, SupervisorRoot, Virtual};
-use std::alloc::{AllocError, Global};
+use phys_mem::NoMemory;
+use std::alloc::Global;
 use std::process::Abort;
 use std::test::Fail;
 
@@ -93,7 +94,7 @@ fn memory_for(
     mode: Mode,
     code: u32,
     entries: &[(u64, u64)],
-) -> Result<PhysMem, AllocError> {
+) -> Result<PhysMem, NoMemory> {
     let mut memory = PhysMem::new(alloc, FRAMES)?;
     put(&mut memory, 0, 4, code as u64);
     put(&mut memory, 4, 4, EBREAK as u64);

@@ -4,8 +4,8 @@
 ghost use Rattle.std.specs.Prelude.{◌≤◌};
 
 use crate::test_programs::{START, loaded, put, trap};
-use crate::{Hart, HartState, PhysMem, Stop, Tally, Why};
-use arch_defs::{Interrupts, Mode, SupervisorStatus, Trap, Virtual};
+use crate::{Hart, PhysMem, Stop, Tally, Why};
+use arch_defs::{HartState, Interrupts, Mode, SupervisorStatus, Trap, Virtual};
 use std::test::Fail;
 
 const HANDLER: u64 = START + 0x100;

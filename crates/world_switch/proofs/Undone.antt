@@ -1,6 +1,8 @@
 -- Loading, saving, translations and traps.
-use Rattle.std.specs.Prelude.{◌||◌}
-use Rattle.std.proofs.Common.{cond, ◌≡◌, ℕ, ◌+◌, ◌-◌, Bool, true, false, refl, ap, sym, arith}
+use Rattle.std.specs.Prelude.{◌||◌, ◌&&◌, ◌/◌, ◌%◌, ◌^◌, min, nat_lt, if◌then◌else◌}
+use Rattle.std.proofs.lemmas.Bool.{eqb-true, eq-eqb}
+use Rattle.std.proofs.lemmas.Nat.Bits.{bit_at_and}
+use Rattle.std.proofs.Common.{cond, ◌≡◌, ◌∙◌, ℕ, ◌+◌, ◌-◌, Bool, true, false, refl, ap, sym, arith}
 use Rattle.arch_defs.specs.declared.levels.Level.TheVariants as level
 use Rattle.arch_defs.specs.declared.modes.Access.{Access}
 use Rattle.arch_defs.specs.declared.modes.Mode.{Mode}
@@ -9,12 +11,18 @@ use Rattle.arch_defs.specs.declared.modes.Trap.{Trap}
 use Rattle.arch_defs.specs.declared.registers.Csrs.{Csrs}
 use Rattle.arch_defs.specs.declared.registers.GuestRoot.{GuestRoot}
 use Rattle.arch_defs.specs.declared.registers.Virtual.{Virtual}
+use Rattle.arch_defs.specs.Bits.{bit}
+use Rattle.arch_defs.specs.CsrBits.{hedeleg_bits}
 use Rattle.arch_defs.specs.Interrupts.{interrupt_of}
+use Rattle.arch_defs.specs.Layouts.{Layout}
 use Rattle.arch_defs.specs.Memory.{Reading, SecondStage}
 use Rattle.arch_defs.specs.Translation.{first_stage, found_under}
-use Rattle.arch_defs.specs.Traps.{entered_at, entered_hs, entered_vs, exception, is_guest_page_fault, is_virtual}
-use Rattle.world_switch.specs.Hosting.{after_hs_trap, guest_state_of, hart_state_of, hosted_csrs, hosted_mode, saved_csrs, saved_mode}
-use Rattle.world_switch.specs.Laws.{ExceptionsAlike, InterruptsAlike, IsVirtual, LoadAfterSave, NestedTrapsAlike, SaveAfterLoad, TranslatesAlike, hidden}
+use Rattle.arch_defs.specs.Traps.{entered_at, entered_hs, entered_vs, exception, is_delegated, is_guest_page_fault, is_virtual, target}
+use Rattle.csr_file.proofs.Statuses.{hedeleg_under}
+use Rattle.machine_laws.specs.HostPlaces.{in_ram}
+use Rattle.machine_laws.specs.Renaming.{ReservesWithin}
+use Rattle.world_switch.specs.Hosting.{after_hs_trap, guest_state_after, guest_state_of, hart_state_in, hart_state_of, hosted_csrs, hosted_level, hosted_mode, saved_csrs, saved_mode}
+use Rattle.world_switch.specs.Laws.{ExceptionsAlike, InterruptsAlike, IsVirtual, LoadAfterSave, NestedTrapsAlike, SaveAfterLoad, SavesBack, TakesAlike, TranslatesAlike, hidden}
 
 -- modes
 pub virtual_mode : (mode : Mode) → is_virtual (hosted_mode mode) ≡ true
@@ -49,7 +57,12 @@ saved_v true VS = refl
 saved_v true VU = refl
 
 pub is_virtual_on_hart : IsVirtual
-is_virtual_on_hart = λ root v. virtual_mode v.mode
+is_virtual_on_hart = record {
+  hs = λ root v is. ap hosted_mode is;
+  u = λ root v is. ap hosted_mode is;
+  vs = λ root v is. ap hosted_mode is;
+  vu = λ root v is. ap hosted_mode is;
+}
 
 -- registers that were loaded and saved
 pub same_csrs : (root : GuestRoot) (virtual : Bool) (csrs : Csrs) → saved_csrs virtual (hosted_csrs root virtual csrs) csrs ≡ csrs
@@ -58,6 +71,11 @@ same_csrs root true csrs = refl
 
 pub save_after_load : SaveAfterLoad
 save_after_load = λ root v. rw (same_mode v.mode, same_csrs root (is_virtual v.mode) v.csrs) refl
+
+-- so with the reservation at its place in machine memory
+pub saves_back : (part : Layout) (root : GuestRoot) (v hart : Virtual) → ReservesWithin (in_ram part.blocks) v.reservation → hart ≡ hart_state_in part root v
+    → SavesBack part hart v
+saves_back part root v hart held is = λ after saved. saved (hart_state_of root v) held is ∙ save_after_load root v
 
 -- registers that were saved and loaded
 csrs_again : (root : GuestRoot) (virtual : Bool) (csrs hart : Csrs) → hidden hart ≡ hidden (hosted_csrs root virtual csrs)
@@ -123,8 +141,10 @@ exception_entered root v U cause tval own =
 exception_entered root v VS cause tval own = cc
 exception_entered root v VU cause tval own = cc
 
-pub exceptions_alike : ExceptionsAlike
-exceptions_alike = λ root v cause tval own. exception_entered root v v.mode cause tval own
+pub exception_taken : (root : GuestRoot) (v : Virtual) (cause tval : ℕ) → is_virtual v.mode ≡ false
+    → after_hs_trap (guest_state_of (entered_at (hart_state_of root v) (exception (hosted_mode v.mode) cause tval) level.VS) v)
+    ≡ entered_at v (exception v.mode cause tval) level.HS
+exception_taken root v cause tval own = exception_entered root v v.mode cause tval own
 
 -- the code that VS sees
 one_less : (code : ℕ) → code + 1 - 1 ≡ code
@@ -139,8 +159,10 @@ interrupt_entered root v U code own = rw (one_less code) refl
 interrupt_entered root v VS code own = cc
 interrupt_entered root v VU code own = cc
 
-pub interrupts_alike : InterruptsAlike
-interrupts_alike = λ root v code own. interrupt_entered root v v.mode code own
+pub interrupt_taken : (root : GuestRoot) (v : Virtual) (code : ℕ) → is_virtual v.mode ≡ false
+    → after_hs_trap (guest_state_of (entered_at (hart_state_of root v) (interrupt_of (code + 1)) level.VS) v)
+    ≡ entered_at v (interrupt_of code) level.HS
+interrupt_taken root v code own = interrupt_entered root v v.mode code own
 
 -- with V = 1 it is one into the guest's VS
 nested_entered : (root : GuestRoot) (v : Virtual) (mode : Mode) (trap : Trap) → is_virtual mode ≡ true
@@ -152,5 +174,71 @@ nested_entered root v U trap on = cc
 nested_entered root v VS trap on = refl
 nested_entered root v VU trap on = refl
 
+pub nested_trap_taken : (root : GuestRoot) (v : Virtual) (trap : Trap) → is_virtual v.mode ≡ true
+    → guest_state_of (entered_at (hart_state_of root v) trap level.VS) v ≡ entered_at v trap level.VS
+nested_trap_taken root v trap on = nested_entered root v v.mode trap on
+
+-- what is taken back after a trap into VS, by the guest's V
+pub back_own : (hart before : Virtual) → is_virtual before.mode ≡ false → guest_state_after true hart before ≡ after_hs_trap (guest_state_of hart before)
+back_own hart before own = rw own refl
+
+pub back_nested : (hart before : Virtual) → is_virtual before.mode ≡ true → guest_state_after true hart before ≡ guest_state_of hart before
+back_nested hart before on = rw on refl
+
+-- with V = 0 each trap goes to HS, for which the hart's VS stands
+own_level : (csrs : Csrs) (mode : Mode) (trap : Trap) → is_virtual mode ≡ false → target csrs mode trap ≡ hosted_level (is_virtual mode)
+unfolding target
+own_level csrs HS trap own = refl
+own_level csrs U trap own = refl
+own_level csrs VS trap own = cc
+own_level csrs VU trap own = cc
+
+own_trap : (root : GuestRoot) (v : Virtual) (on_hart trap : Trap) → is_virtual v.mode ≡ false
+    → after_hs_trap (guest_state_of (entered_at (hart_state_of root v) on_hart level.VS) v) ≡ entered_at v trap level.HS
+    → TakesAlike root v on_hart trap
+own_trap root v on_hart trap own same = record {
+  goes = λ given. own_level v.csrs v.mode trap own;
+  state = back_own (entered_at (hart_state_of root v) on_hart level.VS) v own ∙ same ∙ sym (ap (λ virtual. entered_at v trap (hosted_level virtual)) own);
+}
+
+pub exceptions_alike : ExceptionsAlike
+exceptions_alike = λ root v cause tval own. own_trap root v _ _ own (exception_taken root v cause tval own)
+
+pub interrupts_alike : InterruptsAlike
+interrupts_alike = λ root v code own. own_trap root v _ _ own (interrupt_taken root v code own)
+
+-- with V = 1 the hart delegates what the guest does
+kept_code : (code hedeleg : ℕ) → bit code (hedeleg_bits hedeleg) ≡ true → bit code hedeleg ≡ true
+kept_code code hedeleg given =
+    let kept : hedeleg_bits hedeleg / 2 ^ code % 2 ≡ min (hedeleg / 2 ^ code % 2) (0xB1FF / 2 ^ code % 2) = rw (← hedeleg_under hedeleg) (bit_at_and hedeleg 0xB1FF code) in
+    let one = eqb-true (hedeleg_bits hedeleg / 2 ^ code % 2) 1 given in
+    eq-eqb (hedeleg / 2 ^ code % 2) 1 (omega (arith, kept, one))
+
+second : (a b c : Bool) → (b ≡ true → c ≡ true) → (a && b) ≡ true → (a && c) ≡ true
+second true b c kept given = kept given
+second false b c kept given = given
+
+to_vs : (b c : Bool) → (b ≡ true → c ≡ true) → (if b then level.VS else level.HS) ≡ level.VS → (if c then level.VS else level.HS) ≡ level.VS
+to_vs true c kept given = rw (kept refl) refl
+to_vs false c kept given = cc
+
+nested_delegated : (root : GuestRoot) (csrs : Csrs) (interrupt : Bool) (code : ℕ)
+    → is_delegated (hosted_csrs root true csrs) interrupt code ≡ true → is_delegated csrs interrupt code ≡ true
+nested_delegated root csrs true code given = given
+nested_delegated root csrs false code given = second (nat_lt code 64) _ _ (kept_code code csrs.hedeleg) given
+
+nested_level : (root : GuestRoot) (csrs : Csrs) (mode : Mode) (trap : Trap) → is_virtual mode ≡ true
+    → target (hosted_csrs root (is_virtual mode) csrs) (hosted_mode mode) trap ≡ level.VS → target csrs mode trap ≡ hosted_level (is_virtual mode)
+unfolding target
+nested_level root csrs HS trap on given = cc
+nested_level root csrs U trap on given = cc
+nested_level root csrs VS trap on given = to_vs _ _ (nested_delegated root csrs trap.interrupt trap.cause) given
+nested_level root csrs VU trap on given = to_vs _ _ (nested_delegated root csrs trap.interrupt trap.cause) given
+
 pub nested_traps_alike : NestedTrapsAlike
-nested_traps_alike = λ root v trap on. nested_entered root v v.mode trap on
+nested_traps_alike = λ root v trap on. record {
+  goes = nested_level root v.csrs v.mode trap on;
+  state =
+      back_nested (entered_at (hart_state_of root v) trap level.VS) v on ∙ nested_trap_taken root v trap on
+      ∙ sym (ap (λ virtual. entered_at v trap (hosted_level virtual)) on);
+}

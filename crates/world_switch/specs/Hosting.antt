@@ -1,6 +1,8 @@
 -- How the hart stands for a guest: with V = 0 its VS and VU for the guest's HS and U, with V = 1 for the
 -- guest's VS and VU.
 use Rattle.std.specs.Prelude.{ℕ, Bool, true, false, not, ◌&&◌, if◌then◌else◌}
+use Rattle.arch_defs.specs.declared.levels.Level.{Level}
+use Rattle.arch_defs.specs.declared.levels.Level.TheVariants as level
 use Rattle.arch_defs.specs.declared.modes.Mode.{Mode}
 use Rattle.arch_defs.specs.declared.registers.SupervisorCsrs.{SupervisorCsrs}
 use Rattle.arch_defs.specs.declared.registers.Csrs.{Csrs}
@@ -20,6 +22,11 @@ use Rattle.machine_laws.specs.Renaming.{renamed}
 -- the hart's mode for a mode of the guest
 abbrev pub hosted_mode : Mode → Mode
 hosted_mode mode = mode_of true (is_supervisor mode)
+
+-- the level for which the hart's VS stands, by the guest's V
+abbrev pub hosted_level : Bool → Level
+hosted_level false = level.HS
+hosted_level true = level.VS
 
 -- the guest's mode for a mode of the hart, by the guest's V, which no step of the hart changes
 abbrev pub saved_mode : Bool → Mode → Mode

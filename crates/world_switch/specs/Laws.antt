@@ -5,6 +5,7 @@ use Rattle.arch_defs.specs.declared.levels.Level.TheVariants as level
 use Rattle.arch_defs.specs.declared.levels.TheConstants.{VS_SOFTWARE, VS_TIMER, VS_EXTERNAL}
 use Rattle.arch_defs.specs.declared.modes.Access.{Access}
 use Rattle.arch_defs.specs.declared.modes.Mode.{Mode}
+use Rattle.arch_defs.specs.declared.modes.Mode.TheVariants.{HS, U, VS, VU}
 use Rattle.arch_defs.specs.declared.modes.Trap.{Trap}
 use Rattle.arch_defs.specs.declared.registers.Csrs.{Csrs}
 use Rattle.arch_defs.specs.declared.registers.GuestRoot.{GuestRoot}
@@ -15,7 +16,7 @@ use Rattle.arch_defs.specs.Layouts.{Layout}
 use Rattle.arch_defs.specs.Memory.{Reading, SecondStage}
 use Rattle.arch_defs.specs.Registers.{clear_interrupts, supervisor_at_reset}
 use Rattle.arch_defs.specs.Translation.{first_stage}
-use Rattle.arch_defs.specs.Traps.{entered_at, exception, is_virtual}
+use Rattle.arch_defs.specs.Traps.{entered_at, exception, is_virtual, target}
 use Rattle.op_defs.specs.declared.ops.Privileged.{Privileged}
 use Rattle.op_defs.specs.declared.ops.Privileged.TheVariants.{Sret, Wfi, SfenceVma}
 use Rattle.machine_defs.specs.declared.events.Event.TheVariants.{System}
@@ -23,11 +24,19 @@ use Rattle.machine_laws.specs.HostPlaces.{in_ram, memory_place}
 use Rattle.machine_defs.specs.Outcomes.{Done}
 use Rattle.machine_defs.specs.Privileges.{privileged, refused}
 use Rattle.machine_laws.specs.Renaming.{ReservesWithin, renamed}
-use Rattle.world_switch.specs.Hosting.{after_hs_trap, guest_state_after, guest_state_of, hart_state_of, hosted_csrs, hosted_mode, saved_csrs}
+use Rattle.world_switch.specs.Hosting.{guest_state_after, guest_state_of, hart_state_of, hosted_csrs, hosted_level, hosted_mode, saved_csrs}
 
--- the hart runs with V = 1
-abbrev pub IsVirtual : Type 0
-IsVirtual = (root : GuestRoot) (v : Virtual) → is_virtual (hart_state_of root v).mode ≡ true
+-- the hart runs in this mode for that mode of the guest
+abbrev pub Hosts : Mode → Mode → Type 0
+Hosts hart_mode mode =
+    (root : GuestRoot) (v : Virtual) → v.mode ≡ mode → (hart_state_of root v).mode ≡ hart_mode
+
+-- it runs with V = 1: in VS for the guest's HS and VS, and in VU for its U and VU
+pub record IsVirtual : Type 0 where
+  pub hs : Hosts VS HS
+  pub u : Hosts VU U
+  pub vs : Hosts VS VS
+  pub vu : Hosts VU VU
 
 -- what is saved of a hart that was just loaded is what the guest had
 abbrev pub SaveAfterLoad : Type 0
@@ -131,27 +140,37 @@ TimeIsLeft =
     (root : GuestRoot) (csrs : Csrs) (mode : Mode)
     → read_csr (hosted_csrs root (is_virtual mode) csrs) (hosted_mode mode) 0xC01 ≡ Err VirtualInstruction
 
--- with V = 0 a trap that the hart delegates, fixed up, is the one that the guest's HS takes
+-- a trap of the hart is this one of the guest: where the hart delegates it, the guest takes it at the level
+-- for which the hart's VS stands; and what the guest has after the hart's entry into VS is what its own entry
+-- into that level leaves
+pub record TakesAlike (root : GuestRoot) (v : Virtual) (on_hart trap : Trap) : Type 0 where
+  pub goes : target (hart_state_of root v).csrs (hart_state_of root v).mode on_hart ≡ level.VS
+      → target v.csrs v.mode trap ≡ hosted_level (is_virtual v.mode)
+  pub state : guest_state_after true (entered_at (hart_state_of root v) on_hart level.VS) v
+      ≡ entered_at v trap (hosted_level (is_virtual v.mode))
+
+-- with V = 0 an exception of the hart is the guest's
 abbrev pub ExceptionsAlike : Type 0
 ExceptionsAlike = (root : GuestRoot) (v : Virtual) (cause tval : ℕ) → is_virtual v.mode ≡ false
-    → after_hs_trap (guest_state_of
-    (entered_at (hart_state_of root v) (exception (hosted_mode v.mode) cause tval) level.VS) v)
-    ≡ entered_at v (exception v.mode cause tval) level.HS
+    → TakesAlike root v (exception (hosted_mode v.mode) cause tval) (exception v.mode cause tval)
 
--- so with an interrupt, whose code is one more on the hart
+-- so is an interrupt, whose code is one more on the hart
 abbrev pub InterruptsAlike : Type 0
 InterruptsAlike = (root : GuestRoot) (v : Virtual) (code : ℕ) → is_virtual v.mode ≡ false
-    → after_hs_trap (guest_state_of (entered_at (hart_state_of root v) (interrupt_of (code + 1)) level.VS) v)
-    ≡ entered_at v (interrupt_of code) level.HS
+    → TakesAlike root v (interrupt_of (code + 1)) (interrupt_of code)
 
--- with V = 1 a trap that the hart delegates is the one that the guest's VS takes
+-- with V = 1 each trap of the hart is the guest's
 abbrev pub NestedTrapsAlike : Type 0
 NestedTrapsAlike = (root : GuestRoot) (v : Virtual) (trap : Trap) → is_virtual v.mode ≡ true
-    → guest_state_of (entered_at (hart_state_of root v) trap level.VS) v ≡ entered_at v trap level.VS
+    → TakesAlike root v trap trap
 
--- what the guest that has this part has after the hart has run: what is taken back of the same hart with its
+-- what the guest that has this part has after it was saved from the hart: what the same hart gives it with its
 -- reservation, if it has one, at the guest's own address
-abbrev pub GivesBack : Layout → Virtual → Bool → Virtual → Virtual → Type 0
-GivesBack part hart trapped before after =
+abbrev pub Saves : Layout → Virtual → Virtual → Virtual → Type 0
+Saves part hart before after =
     (own : Virtual) → ReservesWithin (in_ram part.blocks) own.reservation
-    → hart ≡ renamed (memory_place part.blocks) own → after ≡ guest_state_after trapped own before
+    → hart ≡ renamed (memory_place part.blocks) own → after ≡ guest_state_of own before
+
+-- what is saved of a hart for this guest is what the guest had
+abbrev pub SavesBack : Layout → Virtual → Virtual → Type 0
+SavesBack part hart virt = (after : Virtual) → Saves part hart virt after → after ≡ virt

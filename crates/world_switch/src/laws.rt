@@ -2,7 +2,7 @@
 
 ghost use Rattle.world_switch.specs.Laws.{ExceptionsAlike, FencesAlike, IllegalAlike, IllegalToWriteAlike, InterruptsAlike, IsVirtual, LoadAfterSave, NestedTrapsAlike, OwnMxr, ReadsAlike, ReturnsAlike, SaveAfterLoad, TimeIsLeft, TranslatesAlike, WaitsAreLeft, WritesAlike};
 
-/// The hart runs with V = 1. Saving what was loaded gives back what the guest had, and loading what was saved
+/// The hart runs with V = 1: in VS for HS and VS, and in VU for U and VU. Saving what was loaded gives back what the guest had, and loading what was saved
 /// gives back what the hart had.
 pub fn load_and_save()
     ensures virtual_mode { IsVirtual }
@@ -29,8 +29,8 @@ pub fn instructions_alike()
     ensures time { TimeIsLeft }
 {}
 
-/// Each trap that the hart takes into VS is the one that the guest takes: with V = 0, fixed up, into HS, and
-/// with V = 1 into VS.
+/// Each trap that the hart delegates is one that the guest takes, at the level for which the hart's VS stands:
+/// HS with V = 0, and VS with V = 1.
 pub fn traps_alike()
     ensures exceptions { ExceptionsAlike }
     ensures interrupts { InterruptsAlike }

@@ -7,4 +7,4 @@ mod switching;
 mod tests;
 
 pub use laws::{accesses_alike, instructions_alike, load_and_save, traps_alike};
-pub use switching::{fix_up, load, save, take_back, to_guest_hs, to_nested};
+pub use switching::{fix_up, load, save, to_guest_hs, to_nested};

@@ -6,10 +6,10 @@ ghost use Rattle.arch_defs.specs.Traps.{is_virtual};
 ghost use Rattle.machine_laws.specs.HostPlaces.{in_ram, memory_place};
 ghost use Rattle.machine_laws.specs.Renaming.{ReservesWithin, renamed, reservation_renamed};
 ghost use Rattle.world_switch.specs.Hosting.{after_hs_trap, all_interrupts, guest_state_of, hart_state_in, hosted_csrs, hosted_mode, saved_csrs, saved_mode, supervisor_with, table_from};
-ghost use Rattle.world_switch.specs.Laws.{GivesBack};
+ghost use Rattle.world_switch.specs.Laws.{Saves, SavesBack};
 
 use arch_defs::{
-    BLOCK_SIZE, Csrs, GuestMode, GuestRoot, HypervisorStatus, Interrupts, Mode, Part,
+    BLOCK_SIZE, Csrs, GuestMode, GuestRoot, HartState, HypervisorStatus, Interrupts, Mode, Part,
     SupervisorCsrs, SupervisorStatus, Virtual,
 };
 use csr_file::hedeleg_bits;
@@ -20,65 +20,62 @@ use trap_delegation::is_virtual;
 /// that a guest with V = 1 can delegate.
 const OWN_EXCEPTIONS: u64 = 0xB1FF;
 
-/// What the hart has for the guest that has this part: its VS and VU stand for the guest's HS and U with V =
-/// 0, and for its VS and VU with V = 1, under the table whose root begins at the frame `root`. The guest's
+/// Sets what the hart has for the guest that has this part: its VS and VU stand for the guest's HS and U with
+/// V = 0, and for its VS and VU with V = 1, under the table whose root begins at the frame `root`. The guest's
 /// reservation is at its place in machine memory.
-pub fn load(virt: &Virtual, part: &Part, root: u64) -> Virtual
+pub fn load(virt: &Virtual, part: &Part, root: u64, hart: &mut HartState)
     requires held { ReservesWithin (in_ram part.now.blocks) virt.now.reservation }
-    ensures { result ≡ hart_state_in part.now (table_from root) virt.now }
+    ensures has { hart.new ≡ hart_state_in part.now (table_from root) virt.now }
+    ensures saves { SavesBack part.now hart.new virt.now }
 {
     if is_virtual(virt.mode) {
-        to_nested(virt, part, root)
+        to_nested(virt, part, root, hart);
     } else {
-        to_guest_hs(virt, part, root)
+        to_guest_hs(virt, part, root, hart);
     }
 }
 
-/// What the hart has for a guest with V = 0: its VS stands for the guest's HS, its VU for the guest's U.
-pub fn to_guest_hs(virt: &Virtual, part: &Part, root: u64) -> Virtual
+/// Sets what the hart has for a guest with V = 0: its VS stands for the guest's HS, its VU for the guest's U.
+pub fn to_guest_hs(virt: &Virtual, part: &Part, root: u64, hart: &mut HartState)
     requires own { is_virtual virt.now.mode ≡ false }
     requires held { ReservesWithin (in_ram part.now.blocks) virt.now.reservation }
-    ensures { result ≡ hart_state_in part.now (table_from root) virt.now }
+    ensures { hart.new ≡ hart_state_in part.now (table_from root) virt.now }
 {
-    with_csrs(virt, part, csrs_of_hs(table_from(root), &virt.csrs))
+    hart.csrs = csrs_of_hs(table_from(root), &virt.csrs);
+    set_others(virt, part, hart);
 }
 
-/// What the hart has for a guest with V = 1: its VS stands for the guest's VS, its VU for the guest's VU.
-pub fn to_nested(virt: &Virtual, part: &Part, root: u64) -> Virtual
+/// Sets what the hart has for a guest with V = 1: its VS stands for the guest's VS, its VU for the guest's VU.
+pub fn to_nested(virt: &Virtual, part: &Part, root: u64, hart: &mut HartState)
     requires nested { is_virtual virt.now.mode ≡ true }
     requires held { ReservesWithin (in_ram part.now.blocks) virt.now.reservation }
-    ensures { result ≡ hart_state_in part.now (table_from root) virt.now }
+    ensures { hart.new ≡ hart_state_in part.now (table_from root) virt.now }
 {
-    with_csrs(virt, part, csrs_of_vs(table_from(root), &virt.csrs))
+    hart.csrs = csrs_of_vs(table_from(root), &virt.csrs);
+    set_others(virt, part, hart);
 }
 
-/// Gives the guest that has this part what the hart has for it, after a run whose last step was a trap into
-/// VS or was not. The reservation comes back to the guest's own address.
-pub fn take_back(hart: &Virtual, part: &Part, trapped: bool, virt: &mut Virtual)
-    ensures { GivesBack part.now hart.now trapped virt.old virt.new }
+// Sets what the hart has for the guest beside its control and status registers.
+fn set_others(virt: &Virtual, part: &Part, hart: &mut HartState)
+    requires held { ReservesWithin (in_ram part.now.blocks) virt.now.reservation }
+    ensures { hart.new ≡ renamed (memory_place part.now.blocks)
+        (record virt.now { csrs = hart.old.csrs; mode = hosted_mode virt.now.mode }) }
 {
-    let own = Virtual {
-        reservation: guest_reservation(part, hart.reservation),
-        ..*hart
-    };
-    if trapped && !is_virtual(virt.mode) {
-        save(&own, virt);
-        fix_up(virt);
-    } else {
-        save(&own, virt);
-    }
+    hart.regs = virt.regs;
+    hart.mode = hosted_mode(virt.mode);
+    hart.reservation = placed(part, virt.reservation);
 }
 
-/// Gives the guest what the hart has for it, by the guest's V, the reservation as the hart has it. What the
-/// hart does not have for the guest stays.
-pub fn save(hart: &Virtual, virt: &mut Virtual)
-    ensures { virt.new ≡ guest_state_of hart.now virt.old }
+/// Gives the guest that has this part what the hart has for it, by the guest's V. The reservation comes back
+/// to the guest's own address. What the hart does not have for the guest stays.
+pub fn save(hart: &HartState, part: &Part, virt: &mut Virtual)
+    ensures { Saves part.now hart.now virt.old virt.new }
 {
     let nested = is_virtual(virt.mode);
     save_csrs(&hart.csrs, nested, &mut virt.csrs);
     virt.regs = hart.regs;
     virt.mode = saved_mode(nested, hart.mode);
-    virt.reservation = hart.reservation;
+    virt.reservation = guest_reservation(part, hart.reservation);
 }
 
 fn save_csrs(hart: &Csrs, nested: bool, csrs: &mut Csrs)
@@ -106,20 +103,6 @@ pub fn fix_up(virt: &mut Virtual)
     virt.csrs.hstatus.spv = false;
     virt.csrs.htval = 0;
     virt.csrs.htinst = 0;
-}
-
-// What the hart has for a guest beside these control and status registers.
-fn with_csrs(virt: &Virtual, part: &Part, csrs: Csrs) -> Virtual
-    requires held { ReservesWithin (in_ram part.now.blocks) virt.now.reservation }
-    ensures { result ≡ renamed (memory_place part.now.blocks)
-        (record virt.now { csrs = csrs; mode = hosted_mode virt.now.mode }) }
-{
-    Virtual {
-        regs: virt.regs,
-        csrs,
-        mode: hosted_mode(virt.mode),
-        reservation: placed(part, virt.reservation),
-    }
 }
 
 // A reservation of the guest that has this part, at its place in machine memory.

@@ -4,9 +4,11 @@
 ghost use Rattle.std.specs.Prelude.{◌≡◌, [], ◌∷◌, Some, true};
 ghost use Rattle.arch_defs.specs.Layouts.{names_each_once};
 ghost use Rattle.machine_laws.specs.HostPlaces.{in_ram};
+ghost use Rattle.machine_laws.specs.Renaming.{ReservesWithin};
+ghost use Rattle.world_switch.specs.Hosting.{hart_state_in, table_from};
 
-use crate::{fix_up, load, save, take_back};
-use arch_defs::{GuestMode, GuestRoot, Interrupts, Mode, Part, Virtual};
+use crate::{fix_up, load, save};
+use arch_defs::{GuestMode, GuestRoot, HartState, Interrupts, Mode, Part, Virtual};
 
 const START: u64 = 0x8000_0000;
 
@@ -60,6 +62,16 @@ fn guest(mode: Mode) -> Virtual
     virt
 }
 
+// What a hart has that had something else before.
+fn loaded_for(virt: &Virtual, part: &Part, root: u64) -> HartState
+    requires { ReservesWithin (in_ram part.now.blocks) virt.now.reservation }
+    ensures { result ≡ hart_state_in part.now (table_from root) virt.now }
+{
+    let mut hart = Virtual::starting_at(Mode::VU, START);
+    load(virt, part, root, &mut hart);
+    hart
+}
+
 // The hart's VS is the guest's HS, and its VU the guest's U: each exception that V = 0 raises, and each
 // interrupt, is delegated to VS; WFI and SRET trap (8.2.1, 8.2.2).
 #[test]
@@ -67,7 +79,7 @@ fn loaded(rt: HostRuntime) {
     let part = part();
     for (mode, hosted) in [(Mode::HS, Mode::VS), (Mode::U, Mode::VU)] {
         let virt = guest(mode);
-        let hart = load(&virt, &part, ROOT);
+        let hart = loaded_for(&virt, &part, ROOT);
         assert_eq!(rt; (hart.mode, hart.regs), (hosted, virt.regs));
         assert_eq!(rt; hart.csrs.vs, virt.csrs.hs);
         assert_eq!(rt;
@@ -92,7 +104,7 @@ fn loaded(rt: HostRuntime) {
 fn under_a_table(rt: HostRuntime) {
     for mode in [Mode::HS, Mode::U, Mode::VS, Mode::VU] {
         for root in [8, 24] {
-            let hart = load(&guest(mode), &part(), root);
+            let hart = loaded_for(&guest(mode), &part(), root);
             let table = GuestRoot::Table {
                 mode: GuestMode::Sv39x4,
                 vmid: 0,
@@ -109,9 +121,9 @@ fn reserved_at(address: u64, part: &Part) -> (Option<(u64, u8)>, Option<(u64, u8
 {
     let mut virt = Virtual::starting_at(Mode::HS, START);
     virt.reservation = Some((address, 8));
-    let hart = load(&virt, part, ROOT);
+    let hart = loaded_for(&virt, part, ROOT);
     let mut after = Virtual::starting_at(Mode::HS, START);
-    take_back(&hart, part, false, &mut after);
+    save(&hart, part, &mut after);
     (hart.reservation, after.reservation)
 }
 
@@ -142,27 +154,23 @@ fn reservations(rt: HostRuntime) {
 fn no_reservation(rt: HostRuntime) {
     let part = part();
     let virt = Virtual::starting_at(Mode::HS, START);
-    assert_eq!(rt; load(&virt, &part, ROOT).reservation, None);
+    assert_eq!(rt; loaded_for(&virt, &part, ROOT).reservation, None);
     let mut virt = guest(Mode::HS);
-    let mut hart = load(&virt, &part, ROOT);
+    let mut hart = loaded_for(&virt, &part, ROOT);
     hart.reservation = None;
-    take_back(&hart, &part, false, &mut virt);
+    save(&hart, &part, &mut virt);
     assert_eq!(rt; virt.reservation, None);
 }
 
-// What was loaded and taken back is as it was. What is saved has the reservation of the hart.
+// What was loaded and saved is as it was.
 #[test]
 fn saved(rt: HostRuntime) {
     let part = part();
-    for mode in [Mode::HS, Mode::U] {
+    for mode in [Mode::HS, Mode::U, Mode::VS, Mode::VU] {
         let virt = guest(mode);
-        let hart = load(&virt, &part, ROOT);
+        let hart = loaded_for(&virt, &part, ROOT);
         let mut after = virt;
-        take_back(&hart, &part, false, &mut after);
-        assert_eq!(rt; after, virt);
-        save(&hart, &mut after);
-        assert_eq!(rt; after.reservation, Some((0x00A0_0000, 4)));
-        after.reservation = virt.reservation;
+        save(&hart, &part, &mut after);
         assert_eq!(rt; after, virt);
     }
 }
@@ -177,20 +185,17 @@ fn fixed_up(rt: HostRuntime) {
     assert_eq!(rt; (virt.csrs.htval, virt.csrs.htinst), (0, 0));
 }
 
-// After a run whose last step was a trap into VS what is saved is fixed up too.
+// After a trap into VS of the hart the guest's HS has the cause, and what the hart does not have stays.
 #[test]
-fn taken_back(rt: HostRuntime) {
+fn saved_after_a_trap(rt: HostRuntime) {
     let part = part();
     let virt = guest(Mode::U);
-    let mut hart = load(&virt, &part, ROOT);
+    let mut hart = loaded_for(&virt, &part, ROOT);
     hart.mode = Mode::VS;
     hart.csrs.vs.cause = 8;
-    for trapped in [false, true] {
-        let mut after = virt;
-        take_back(&hart, &part, trapped, &mut after);
-        assert_eq!(rt; (after.mode, after.csrs.hs.cause), (Mode::HS, 8));
-        assert_eq!(rt; after.csrs.hstatus.spv, !trapped);
-        assert_eq!(rt; after.csrs.htval, if trapped { 0 } else { 0x400 });
-        assert_eq!(rt; after.csrs.vs, virt.csrs.vs);
-    }
+    let mut after = virt;
+    save(&hart, &part, &mut after);
+    assert_eq!(rt; (after.mode, after.csrs.hs.cause), (Mode::HS, 8));
+    assert_eq!(rt; (after.csrs.hstatus.spv, after.csrs.htval), (true, 0x400));
+    assert_eq!(rt; after.csrs.vs, virt.csrs.vs);
 }

@@ -13,7 +13,7 @@ pub returns-clause-hart : goal.returns-clause-hart
 returns-clause-hart c = record {
   steps =
       steps_from c.args.guest.now.part c.args.guest.now.pool c.args.guest.now.virt c.args.memory.now c.args.tally.now.trace c.run-stop.result.taken _
-      (rw (c.load.ensures, c.root_frame_of-root.ensures) at c.run-stop.ensures.steps);
+      (rw (c.load.ensures.has, c.root_frame_of-root.ensures) at c.run-stop.ensures.steps);
   saves = rw (c.is_vs_trap.ensures, c.state.ensures) at c.take_steps.ensures.platform;
 }
 

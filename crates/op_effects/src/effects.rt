@@ -1,14 +1,12 @@
-// What an instruction asks for, and what it is to the account.
+// What an instruction asks for.
 
 ghost use Rattle.std.specs.Prelude.{◌≡◌};
 ghost use Rattle.op_defs.specs.declared.ops.Effect.TheVariants.{Sets, Raises};
 ghost use Rattle.op_defs.specs.Meaning.{accesses, accesses_by_hlv, address_at, branch, even, is_branch_taken, is_none, jump, meaning, operand_of, writes};
-ghost use Rattle.machine_defs.specs.Core.{event_of};
 
 use arch_defs::{BREAKPOINT, INSTRUCTION_MISALIGNED, Reg, Regs, Width};
 use fence_handler::request;
 use int_ops::{alu, word_alu};
-use machine_defs::Event;
 use op_defs::{CsrOp, CsrSource, DataAccess, Effect, Op, Privileged, Purpose, Test};
 
 /// What an instruction asks for, read off the registers.
@@ -257,17 +255,5 @@ fn misaligned(target: u64) -> Effect
     Effect::Raises {
         cause: INSTRUCTION_MISALIGNED,
         tval: target,
-    }
-}
-
-/// What a step that made the instruction of this word at this pc was.
-#[tactic(auto, unfolding(op_defs::specs::Table::is_system))]
-pub fn event_of(pc: u64, word: u32) -> Event
-    ensures { result ≡ event_of pc word }
-{
-    if word & 0x7F == 0b1110011 {
-        Event::System
-    } else {
-        Event::Plain { pc, word }
     }
 }

@@ -1,0 +1,139 @@
+-- An instruction on which the mode decides: its word, its op and its effect.
+use Rattle.std.specs.Prelude.{nat_lt, option_and_then, if◌then◌else◌}
+use Rattle.std.proofs.Common.{◌≡◌, ℕ, ◌^◌, ◌<◌, Bool, true, false, Option, Some, None, refl, subst, ap}
+use Rattle.std.proofs.lemmas.Option.{same_Some}
+use Rattle.arch_defs.specs.declared.csr_names.CsrEnd.{CsrEnd}
+use Rattle.arch_defs.specs.declared.registers.Regs.{Regs}
+use Rattle.arch_defs.specs.declared.registers.Virtual.{Virtual}
+use Rattle.arch_defs.specs.Memory.{Reading, SecondStage}
+use Rattle.arch_defs.specs.declared.widths.Width.{Width}
+use Rattle.op_defs.specs.declared.ops.CsrOp.{CsrOp}
+use Rattle.op_defs.specs.declared.ops.CsrSource.{CsrSource}
+use Rattle.op_defs.specs.declared.ops.Effect.{Effect}
+use Rattle.op_defs.specs.declared.ops.Effect.TheVariants as effect
+use Rattle.op_defs.specs.declared.ops.Op.{Op}
+use Rattle.op_defs.specs.declared.ops.Op.TheVariants as op
+use Rattle.op_defs.specs.declared.ops.Privileged.{Privileged}
+use Rattle.op_defs.specs.declared.ops.Privileged.TheVariants.{Wfi, SfenceVma, HfenceVvma, HfenceGvma}
+use Rattle.op_defs.specs.declared.ops.DataAccess.{DataAccess}
+use Rattle.op_defs.specs.Meaning.{fence_named, meaning}
+use Rattle.op_defs.specs.Table.{op_of}
+use Rattle.machine_defs.specs.Core.{decoded}
+use Rattle.machine_defs.specs.Outcomes.{Outcome, Accesses}
+use Rattle.machine_defs.specs.Privileges as privileges
+use Rattle.machine_defs.specs.Privileges.{performed, privileged, refusal}
+use Rattle.rv64_asm.specs.Fitting.{fits}
+use Rattle.rv64_asm.specs.Words.{encoded}
+use Rattle.rv64_asm.proofs.Decoded as coded
+use Rattle.rv64_asm.proofs.SystemOps.{op_has_one_word}
+use Rattle.hcsr_emulation.specs.Ends.{is_decided}
+use Rattle.hcsr_emulation.proofs.Decided.{asks_decided, decided_system}
+use Rattle.guest_exit.specs.ExitCases.{decided_at, decided_in, if_decided}
+use Rattle.guest_exit.specs.HartExit.{IsDecidedOp, IsWaitOrFence}
+
+-- the effect of the instruction that a word is, if the mode decides on it
+abbrev pub privileged_of : Effect → Option Privileged
+privileged_of (effect.Privileged p) = Some p
+privileged_of _ = None
+
+unfoldable pub privileged_in : ℕ → Regs → Option Privileged
+privileged_in word regs = option_and_then (λ o. privileged_of (meaning o regs)) (op_of word)
+
+-- its op
+pub record IsInstruction (word : ℕ) (regs : Regs) (p : Privileged) : Type 0 where
+  pub o : Op
+  pub is : op_of word ≡ Some o
+  pub asks : meaning o regs ≡ effect.Privileged p
+
+asked : (e : Effect) (p : Privileged) → privileged_of e ≡ Some p → e ≡ effect.Privileged p
+asked (effect.Privileged q) p e = ap effect.Privileged (same_Some q p e)
+asked other p e = cc
+
+found : (word : ℕ) (regs : Regs) (p : Privileged) (given : Option Op) → op_of word ≡ given → option_and_then (λ o. privileged_of (meaning o regs)) given ≡ Some p
+    → IsInstruction word regs p
+found word regs p (Some o) is e = record { o = o; is = is; asks = asked (meaning o regs) p e }
+found word regs p None is e = cc
+
+pub instruction_of : (word : ℕ) (regs : Regs) (p : Privileged) → privileged_in word regs ≡ Some p → IsInstruction word regs p
+unfolding privileged_in
+instruction_of word regs p e = found word regs p (op_of word) refl e
+
+-- the mode decides on it
+pub is_decided_in : (word : ℕ) (regs : Regs) (p : Privileged) (i : IsInstruction word regs p) → decided_in word ≡ Some i.o
+unfolding decided_in
+is_decided_in word regs p i = rw (i.is, asks_decided i.o regs p i.asks) refl
+
+-- it ends as with the op's own word
+pub ends_as : (second : SecondStage) (reading : Reading) (s : Virtual) (word : ℕ) (p : Privileged) (i : IsInstruction word s.regs p) → word < 2 ^ 32
+    → privileged s word p ≡ decoded second reading s (encoded i.o) (Some i.o)
+ends_as second reading s word p i small =
+    let one : encoded i.o ≡ word = op_has_one_word word i.o small (decided_system i.o (asks_decided i.o s.regs p i.asks)) i.is in
+    rw (one, i.asks) refl
+
+-- the mode decides on the op that a word gives, and its fields fit
+by_test : (word : ℕ) (o p : Op) (test : Bool) → is_decided p ≡ test → op_of word ≡ Some p → (if test then Some p else None) ≡ Some o → IsDecidedOp o
+by_test word o p true decided is e = subst IsDecidedOp (same_Some p o e) (record { decided = decided; fits = (coded.decoded word p is).fits })
+by_test word o p false decided is e = cc
+
+by_op : (word : ℕ) (o : Op) (given : Option Op) → op_of word ≡ given → option_and_then if_decided given ≡ Some o → IsDecidedOp o
+by_op word o (Some p) is e = by_test word o p (is_decided p) refl is e
+by_op word o None is e = cc
+
+decided_is : (word : ℕ) (o : Op) → decided_in word ≡ Some o → IsDecidedOp o
+unfolding decided_in
+decided_is word o e = by_op word o (op_of word) refl e
+
+by_size : (word : ℕ) (o : Op) (small : Bool) → (if small then decided_in word else None) ≡ Some o → IsDecidedOp o
+by_size word o true e = decided_is word o e
+by_size word o false e = cc
+
+pub decided_at_is : (word : ℕ) (o : Op) → decided_at word ≡ Some o → IsDecidedOp o
+decided_at_is word o e = by_size word o (nat_lt word (2 ^ 32)) e
+
+-- a WFI or a fence makes no access to data
+abbrev MakesNone : Outcome → Type 0
+MakesNone (Accesses wanted) = ⊥
+MakesNone other = Unit {0}
+
+none_by : (state : Virtual) (word : ℕ) (p : Privileged) (end : Option CsrEnd) → MakesNone (performed state word p) → MakesNone (privileges.decided state word p end)
+none_by state word p (Some end) h = tt
+none_by state word p None h = h
+
+makes_none : (o : Op) (state : Virtual) (word : ℕ) (second : SecondStage) (reading : Reading) → IsWaitOrFence o → MakesNone (decoded second reading state word (Some o))
+unfolding privileged meaning
+makes_none op.Wfi state word second reading kind = none_by state word Wfi (refusal Wfi state.csrs.hstatus state.mode) tt
+makes_none (op.SfenceVma rs1 rs2) state word second reading kind = none_by state word SfenceVma (refusal SfenceVma state.csrs.hstatus state.mode) tt
+makes_none (op.HfenceVvma rs1 rs2) state word second reading kind = none_by state word HfenceVvma (refusal HfenceVvma state.csrs.hstatus state.mode) tt
+makes_none (op.HfenceGvma rs1 rs2) state word second reading kind =
+    let fence = fence_named rs1 rs2 state.regs in none_by state word (HfenceGvma fence) (refusal (HfenceGvma fence) state.csrs.hstatus state.mode) tt
+makes_none other state word second reading kind = absurd kind
+
+pub accesses_never : (o : Op) (state : Virtual) (word : ℕ) (second : SecondStage) (reading : Reading) (wanted : DataAccess) → IsWaitOrFence o
+    → decoded second reading state word (Some o) ≡ Accesses wanted → ⊥
+accesses_never o state word second reading wanted kind e = subst MakesNone e (makes_none o state word second reading kind)
+
+-- the mode decides on it
+pub wait_is_op : (o : Op) → IsWaitOrFence o → IsDecidedOp o
+unfolding is_decided fits
+wait_is_op op.Wfi kind = record { decided = refl; fits = refl }
+wait_is_op (op.SfenceVma rs1 rs2) kind = record { decided = refl; fits = refl }
+wait_is_op (op.HfenceVvma rs1 rs2) kind = record { decided = refl; fits = refl }
+wait_is_op (op.HfenceGvma rs1 rs2) kind = record { decided = refl; fits = refl }
+wait_is_op other kind = absurd kind
+
+-- an op on which the mode decides is one of these
+pub decided_else : (o : Op) → is_decided o ≡ true → ((csr : CsrOp) (source : CsrSource) (rd number : ℕ) → o ≡ op.Csr csr source rd number → ⊥) → (o ≡ op.Sret → ⊥)
+    → (o ≡ op.Wfi → ⊥) → ((rs1 rs2 : ℕ) → o ≡ op.SfenceVma rs1 rs2 → ⊥) → ((rs1 rs2 : ℕ) → o ≡ op.HfenceVvma rs1 rs2 → ⊥) → ((rs1 rs2 : ℕ) → o ≡ op.HfenceGvma rs1 rs2 → ⊥)
+    → ((width : Width) (signed : Bool) (rd rs1 : ℕ) → o ≡ op.GuestLoad width signed rd rs1 → ⊥) → ((width : Width) (rd rs1 : ℕ) → o ≡ op.GuestFetch width rd rs1 → ⊥)
+    → ((width : Width) (rs1 rs2 : ℕ) → o ≡ op.GuestStore width rs1 rs2 → ⊥) → ⊥
+unfolding is_decided
+decided_else (op.Csr csr source rd number) e on_csr on_sret on_wfi on_sfence on_vvma on_gvma on_load on_fetch on_store = on_csr csr source rd number refl
+decided_else op.Sret e on_csr on_sret on_wfi on_sfence on_vvma on_gvma on_load on_fetch on_store = on_sret refl
+decided_else op.Wfi e on_csr on_sret on_wfi on_sfence on_vvma on_gvma on_load on_fetch on_store = on_wfi refl
+decided_else (op.SfenceVma rs1 rs2) e on_csr on_sret on_wfi on_sfence on_vvma on_gvma on_load on_fetch on_store = on_sfence rs1 rs2 refl
+decided_else (op.HfenceVvma rs1 rs2) e on_csr on_sret on_wfi on_sfence on_vvma on_gvma on_load on_fetch on_store = on_vvma rs1 rs2 refl
+decided_else (op.HfenceGvma rs1 rs2) e on_csr on_sret on_wfi on_sfence on_vvma on_gvma on_load on_fetch on_store = on_gvma rs1 rs2 refl
+decided_else (op.GuestLoad width signed rd rs1) e on_csr on_sret on_wfi on_sfence on_vvma on_gvma on_load on_fetch on_store = on_load width signed rd rs1 refl
+decided_else (op.GuestFetch width rd rs1) e on_csr on_sret on_wfi on_sfence on_vvma on_gvma on_load on_fetch on_store = on_fetch width rd rs1 refl
+decided_else (op.GuestStore width rs1 rs2) e on_csr on_sret on_wfi on_sfence on_vvma on_gvma on_load on_fetch on_store = on_store width rs1 rs2 refl
+decided_else other e on_csr on_sret on_wfi on_sfence on_vvma on_gvma on_load on_fetch on_store = cc

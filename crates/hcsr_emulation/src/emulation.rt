@@ -1,0 +1,86 @@
+// Instructions on which the mode decides, by their ops (Privileged Architecture 20211203, 8.6.1).
+
+ghost use Rattle.std.specs.Prelude.{◌≡◌, true};
+ghost use Rattle.arch_defs.specs.Traps.{exception};
+ghost use Rattle.machine_defs.specs.Privileges.{privileged, refusal_code};
+ghost use Rattle.rv64_asm.specs.Fitting.{fits};
+ghost use Rattle.rv64_asm.specs.Words.{encoded};
+ghost use Rattle.hcsr_emulation.specs.Ends.{EndsSo, IfNotMade, is_decided, outcome_of};
+
+use arch_defs::{CsrEnd, Fence, Trap, Virtual};
+use op_defs::{DataAccess, Effect, Op, Privileged};
+use op_effects::effect_of;
+use privileged_ops::{Performed, perform, refusal_code};
+use rv64_asm::encode;
+use trap_delegation::exception;
+
+/// How an instruction ended.
+#[derive(Clone, Copy, Debug, PartialEq, Eq)]
+pub enum Emulated {
+    /// It was made.
+    Done,
+    /// It was a WFI, and was made but for the wait.
+    Waits,
+    /// It was an HFENCE.GVMA, and was made but for the cached translations, of which it names these.
+    Fenced(Fence),
+    /// It is an HLV, HLVX or HSV, and is allowed to make this access as VS or VU.
+    Accesses(DataAccess),
+    /// It trapped, and nothing has changed.
+    Raise(Trap),
+}
+
+/// Makes an instruction on which the mode decides, in the mode of the state, or tells its trap: an illegal
+/// instruction or a virtual one, with the word of the instruction.
+pub fn emulate(state: &mut Virtual, op: Op) -> Emulated
+    requires decided { is_decided op ≡ true }
+    requires fits { fits op ≡ true }
+    ensures ends { EndsSo op state.old (outcome_of result state.new) }
+    ensures stays { IfNotMade result (state.new ≡ state.old) }
+{
+    match effect_of(&op, &state.regs) {
+        Effect::Privileged(effect) => make(state, op, effect),
+        _ => unreachable!(),
+    }
+}
+
+// Makes what the instruction asks for.
+fn make(state: &mut Virtual, op: Op, effect: Privileged) -> Emulated
+    requires fits { fits op ≡ true }
+    ensures ends { privileged state.old (encoded op) effect ≡ outcome_of result state.new }
+    ensures stays { IfNotMade result (state.new ≡ state.old) }
+{
+    match perform(state, effect) {
+        Performed::Done => Emulated::Done,
+        Performed::Waits => Emulated::Waits,
+        Performed::Fenced(named) => Emulated::Fenced(named),
+        Performed::Accesses(wanted) => Emulated::Accesses(wanted),
+        Performed::Refused(end) => Emulated::Raise(refused(state, op, end)),
+    }
+}
+
+// The trap of an instruction that the mode does not allow.
+fn refused(state: &Virtual, op: Op, end: CsrEnd) -> Trap
+    requires fits { fits op ≡ true }
+    ensures { result ≡ exception state.now.mode (refusal_code end) (encoded op) }
+{
+    exception(state.mode, refusal_code(end), encode(&op) as u64)
+}
+
+/// Whether the mode decides on an instruction.
+#[tactic(auto, unfolding(crate::specs::Ends::is_decided))]
+pub fn is_decided(op: &Op) -> bool
+    ensures { result ≡ is_decided op.now }
+{
+    matches!(
+        *op,
+        Op::Csr { .. }
+            | Op::Sret
+            | Op::Wfi
+            | Op::SfenceVma { .. }
+            | Op::HfenceVvma { .. }
+            | Op::HfenceGvma { .. }
+            | Op::GuestLoad { .. }
+            | Op::GuestFetch { .. }
+            | Op::GuestStore { .. }
+    )
+}
