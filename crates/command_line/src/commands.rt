@@ -11,7 +11,7 @@ ghost use Rattle.command_line.specs.Seen.{command_seen};
 
 use clap::error::ErrorKind;
 use clap::{Arg, ArgMatches, Command};
-use outside::Word;
+use outside::{NoMemory, Word};
 use std::alloc::{AllocError, Global};
 
 /// What the words ask for.
@@ -83,7 +83,7 @@ fn is_plain(word: &str) -> bool
 
 /// What the words after the program's name ask for, if they are a command; or want of memory.
 #[tactic(auto, unfolding(crate::specs::Commands::command_of))]
-pub fn request_of<'a>(alloc: Global, words: &'a [Word]) -> Result<Option<Request<'a>>, AllocError>
+pub fn request_of<'a>(alloc: Global, words: &'a [Word]) -> Result<Option<Request<'a>>, NoMemory>
     ensures request { IfOk result (λ request. option_map command_seen request ≡ command_of words.entry.now) }
     ensures memory { OnErr result (list_all is_plain (drop 1 words.entry.now) ≡ true) }
 {
@@ -94,7 +94,7 @@ pub fn request_of<'a>(alloc: Global, words: &'a [Word]) -> Result<Option<Request
 }
 
 // The same for words of which none after the first is empty or begins with a dash.
-fn parsed<'a>(alloc: Global, words: &'a [Word]) -> Result<Option<Request<'a>>, AllocError>
+fn parsed<'a>(alloc: Global, words: &'a [Word]) -> Result<Option<Request<'a>>, NoMemory>
     requires some { 1 ≤ length words.now }
     requires plain { list_all is_plain (drop 1 words.now) ≡ true }
     ensures { IfOk result (λ request. option_map command_seen request ≡ asked_by (drop 1 words.entry.now)) }
@@ -103,7 +103,7 @@ fn parsed<'a>(alloc: Global, words: &'a [Word]) -> Result<Option<Request<'a>>, A
         Ok(matches) => Ok(request_by(&matches)),
         Err(error) => {
             if error.kind() == ErrorKind::OutOfMemory {
-                Err(AllocError)
+                Err(NoMemory)
             } else {
                 Ok(None)
             }

@@ -1,9 +1,9 @@
 use crate::{Request, request_of};
-use outside::Word;
-use std::alloc::{AllocError, Global};
+use outside::{NoMemory, Word};
+use std::alloc::Global;
 use std::test::Fail;
 
-fn words_of(alloc: Global, texts: &[&str]) -> Result<Vec<Word>, AllocError> {
+fn words_of(alloc: Global, texts: &[&str]) -> Result<Vec<Word>, NoMemory> {
     let mut words = Vec::with_capacity(alloc, texts.len())?;
     for text in texts {
         words.push(Word::new(alloc, text)?)?;
@@ -12,7 +12,7 @@ fn words_of(alloc: Global, texts: &[&str]) -> Result<Vec<Word>, AllocError> {
 }
 
 // The words of a line, with a bar between two.
-fn words_in(alloc: Global, line: &str) -> Result<Vec<Word>, AllocError> {
+fn words_in(alloc: Global, line: &str) -> Result<Vec<Word>, NoMemory> {
     let mut words = Vec::new(alloc);
     for text in line.split('|') {
         words.push(Word::new(alloc, text)?)?;

@@ -1,7 +1,9 @@
 -- The reads of a command, and the plan that they give.
-use Rattle.std.proofs.Common.{cond, ◌≡◌, ◌∙◌, ℕ, zero, suc, ◌+◌, ◌-◌, ◌<◌, ◌≤◌, ◌==◌, List, [], ◌∷◌, Option, Some, None, Result, Ok, Err, length, take, Bool, false, true, nat_le, refl, ap, sym, subst, arith}
+use Rattle.std.proofs.Common.{cond, drop, ◌++◌, ◌≡◌, ◌∙◌, ℕ, zero, suc, ◌+◌, ◌-◌, ◌<◌, ◌≤◌, ◌==◌, List, [], ◌∷◌, Option, Some, None, Result, Ok, Err, length, take, Bool, false, true, nat_le, refl, ap, sym, subst, arith}
 use Rattle.std.proofs.lemmas.Bool.{eq-eqb}
-use Rattle.std.proofs.lemmas.List.{take_all, length-map}
+use Rattle.std.proofs.lemmas.Grind.{common_steps}
+use Rattle.std.proofs.lemmas.List.{append-nil, take-append-le, take_all, length-map}
+use Rattle.command_line.specs.Commands.{Command, Run, Replay, Check}
 use Rattle.outside.specs.declared.stores.Store as stores
 use Rattle.outside.specs.Asks.{Ask}
 use Rattle.outside.specs.Faults.{Rose}
@@ -16,13 +18,12 @@ use Rattle.run_config.specs.Tests.{first_fault, unless}
 use Rattle.nesthv_top.specs.declared.ends.Ended.TheVariants as ended
 use Rattle.nesthv_top.specs.declared.ends.LoadEnd.{LoadEnd}
 use Rattle.nesthv_top.specs.declared.ends.LoadEnd.TheVariants.{Refused, ReadFault, NoMemory}
-use Rattle.nesthv_top.specs.Commands.{Run}
 use Rattle.nesthv_top.specs.Endings.{IsFirstRead, SaysOfReads}
-use Rattle.nesthv_top.specs.Ends.{ended_by, IfFailed, IfWanting, RefusesOnly}
+use Rattle.nesthv_top.specs.Ends.{all_by, ended_by, IfFailed, IfRefusal, IfWanting, RefusesOnly}
 use Rattle.nesthv_top.specs.Loads.{AreRead, ReadsStopped}
-use Rattle.nesthv_top.specs.Plans.{Plan, config_most, content, fault_in, frames_fault, guest_of, guests_of, image_of, images_fault, plan_unless_fault, planned, planned_by, planned_if}
-use Rattle.nesthv_top.specs.Reads.{accepted_asks, ask, config_asks, failed_at, frames_after, image_ask, image_asks, AskedMore, AskedSome, BeginsWithConfig, IsFailedRead}
-use Rattle.nesthv_top.proofs.Imaging.{asked_then, asks_all, first_of, one_is, rest_is}
+use Rattle.nesthv_top.specs.Plans.{Plan, config_most, config_name, content, fault_in, frames_fault, guest_of, guests_of, image_of, images_fault, plan_unless_fault, planned, planned_by, planned_if}
+use Rattle.nesthv_top.specs.Reads.{accepted_asks, ask, asks_unless, command_asks, config_of, failed, failed_at, frames_after, image_ask, image_asks, report_asks, report_most, AskedMore, AskedSome, BeginsWithConfig, IsFailedRead, IsWanting}
+use Rattle.nesthv_top.proofs.Imaging.{asked_none, asked_then, asks_all, failed_next, first_of, one_is, rest_is, take_part}
 
 -- a configuration that was accepted is not too long
 short_if : (short : Bool) (tree rest : Option ConfigFault) (what c : Configuration)
@@ -42,9 +43,24 @@ planned_is : (f : Files) (name : List ℕ) (c : Configuration) → accept (conte
 unfolding planned
 planned_is f name c accepted = ap (planned_if f) accepted
 
-asks_are : (f : Files) (name : List ℕ) (c : Configuration) → accept (content f name config_most) ≡ Ok c
-    → config_asks f name ≡ ask name config_most ∷ image_asks f c.guests
-asks_are f name c accepted = rw accepted refl
+abbrev further_asks : Files → Command → Configuration → List Ask
+further_asks f command c = image_asks f c.guests ++ asks_unless (images_fault f 0 c.guests) (report_asks command)
+
+asks_are : (f : Files) (command : Command) (c : Configuration) → accept (config_of f command) ≡ Ok c
+    → command_asks f command ≡ ask (config_name command) config_most ∷ further_asks f command c
+asks_are f command c accepted = rw accepted refl
+
+-- where an image does not fit, nothing is read after it, and else the report, if one is named
+stopped_asks : (f : Files) (command : Command) (c : Configuration) (found : ConfigFault) → accept (config_of f command) ≡ Ok c → images_fault f 0 c.guests ≡ Some found
+    → command_asks f command ≡ ask (config_name command) config_most ∷ image_asks f c.guests
+stopped_asks f command c found accepted is =
+    asks_are f command c accepted ∙ ap (λ fault. ask (config_name command) config_most ∷ image_asks f c.guests ++ asks_unless fault (report_asks command)) is
+    ∙ ap (λ asks. ask (config_name command) config_most ∷ asks) (append-nil (image_asks f c.guests))
+
+whole_asks_are : (f : Files) (command : Command) (c : Configuration) → accept (config_of f command) ≡ Ok c → images_fault f 0 c.guests ≡ None
+    → command_asks f command ≡ ask (config_name command) config_most ∷ (image_asks f c.guests ++ report_asks command)
+whole_asks_are f command c accepted fit =
+    asks_are f command c accepted ∙ ap (λ fault. ask (config_name command) config_most ∷ image_asks f c.guests ++ asks_unless fault (report_asks command)) fit
 
 refused_by : (f : Files) (c : Configuration) (found : ConfigFault) → first_fault (images_fault f 0 c.guests ∷ frames_fault (guests_of f c.guests) ∷ []) ≡ Some found
     → planned_by f c ≡ Err found
@@ -59,6 +75,12 @@ faultless f c e = ap (λ fault. plan_unless_fault fault (record { guests = guest
 -- a count of faults that rose in the second step rose
 rose_since : (before between after : ℕ) → before ≤ between → Rose between after → Rose before after
 rose_since before between after le rose = grind (arith, le, rose)
+
+pub rose_last : (end : LoadEnd) (images before between later after : ℕ) → before ≤ between → between ≤ later → IfFailed end (λ n. (n ≡ images + 2) × Rose later after)
+    → IfFailed end (λ n. Rose before after)
+rose_last (Refused found) images before between later after le le' rose = tt
+rose_last (ReadFault n) images before between later after le le' (number, rose) = rose_since before later after (omega (arith, le, le')) rose
+rose_last (NoMemory n) images before between later after le le' rose = tt
 
 pub rose_later : (end : LoadEnd) (before between after : ℕ) → before ≤ between → IfFailed end (λ n. (2 ≤ n) × (n ≤ 17) × Rose between after)
     → IfFailed end (λ n. Rose before after)
@@ -82,8 +104,25 @@ taken_further a asks (suc n) some = rw (one_less n) refl
     one_less : (n : ℕ) → suc n - 1 ≡ n
     one_less n = omega arith
 
-frames_later : (f : Files) (n : ℕ) (c : Configuration) → n < length c.guests → frames_after f n c ≡ None
-frames_later f n c less = ap (λ b. cond b (frames_fault (guests_of f c.guests)) None) (not_equal n (length c.guests) less)
+-- what is known of the first reads, whatever follows them
+front_at : (xs ys : List Ask) (k : ℕ) → k < length xs → take k (xs ++ ys) ++ failed (drop k (xs ++ ys)) ≡ take k xs ++ failed (drop k xs)
+front_at [] ys k few = absurd (omega (arith, few))
+front_at (x ∷ xs) ys zero few = refl
+front_at (x ∷ xs) ys (suc k) few = ap (λ l. x ∷ l) (front_at xs ys k (omega (arith, few)))
+
+no_fewer : (xs ys : List Ask) (n : ℕ) → n ≤ length xs → n ≤ length (xs ++ ys)
+no_fewer xs ys n few = grind (arith, common_steps, few)
+
+failed_among : (xs ys : List Ask) (n : ℕ) (before after : Option (List Ask)) → IsFailedRead n xs before after → IsFailedRead n (xs ++ ys) before after
+failed_among xs ys n before after is = record {
+  some = is.some;
+  number = no_fewer xs ys n is.number;
+  asked = subst (λ asks. AskedMore asks before after) (sym (front_at xs ys (n - 1) (omega (arith, is.some, is.number)))) is.asked;
+}
+
+frames_later : (f : Files) (n : ℕ) (command : Command) (c : Configuration) → n < length c.guests + length (report_asks command) → frames_after f n command c ≡ None
+frames_later f n command c less =
+    ap (λ b. cond b (frames_fault (guests_of f c.guests)) None) (not_equal n (length c.guests + length (report_asks command)) less)
   where
     not_equal : (a b : ℕ) → a < b → (a == b) ≡ false
     not_equal a b less = grind (arith, less)
@@ -93,65 +132,78 @@ told_since : {X : Type 0} (files : X → Option Files) (old mid : X) (f : Files)
 told_since files old mid f stays told = stays ∙ told
 
 -- where some read was made, the first was that of the configuration
-later_first : {X : Type 0} (S : stores.Ghosts X) (name : List ℕ) (n : ℕ) (old new : X) → 1 ≤ n → BeginsWithConfig (Some (Run name)) (S.asked old) (S.asked new)
-    → IsFirstRead S (Some (Run name)) (ended.NoMemory n) old new
-later_first S name zero old new some begins = absurd (omega (arith, some))
-later_first S name (suc n) old new some begins = begins
+later_first : {X : Type 0} (S : stores.Ghosts X) (command : Command) (n : ℕ) (old new : X) → 1 ≤ n → BeginsWithConfig (Some command) (S.asked old) (S.asked new)
+    → IsFirstRead S (Some command) (ended.NoMemory n) old new
+later_first S command zero old new some begins = absurd (omega (arith, some))
+later_first S command (suc n) old new some begins = begins
 
 -- the end of a command whose images' reads stopped
 pub images_stop : {X : Type 0} (S : stores.Ghosts X)
-    (name : List ℕ) (c : Configuration) (end : LoadEnd) (old mid new : X)
-    → ((f : Files) → S.files old ≡ Some f → accept (content f name config_most) ≡ Ok c)
-    → AskedMore (ask name config_most ∷ []) (S.asked old) (S.asked mid)
+    (command : Command) (c : Configuration) (end : LoadEnd) (old mid new : X)
+    → ((f : Files) → S.files old ≡ Some f → accept (config_of f command) ≡ Ok c)
+    → AskedMore (ask (config_name command) config_most ∷ []) (S.asked old) (S.asked mid)
     → ((f : Files) → S.files mid ≡ Some f → ReadsStopped f c.guests end (S.asked mid) (S.asked new)) → AskedSome (S.asked mid) (S.asked new)
     → S.files mid ≡ S.files old → S.files new ≡ S.files mid → S.faults old ≤ S.faults mid → S.faults mid ≤ S.faults new
     → IfFailed end (λ n. (2 ≤ n) × (n ≤ 17) × Rose (S.faults mid) (S.faults new)) → IfWanting end (λ n. 1 ≤ n)
-    → SaysOfReads S (Some (Run name)) (ended_by end) old new
-images_stop S name c (Refused found) old mid new accepted first stopped some stays stays' count count' cause memory = record {
-  number = tt;
-  fault = λ f told.
-      let is = stopped f (stays ∙ told) in
-      ap fault_in (planned_is f name c (accepted f told) ∙ refused_by f c found (one_is (images_fault f 0 c.guests) (frames_fault (guests_of f c.guests)) found is.0));
-  first = (false, some.0, asked_then (ask name config_most ∷ []) some.0 (S.asked old) (S.asked mid) (S.asked new) first some.1);
-  reads = λ f told.
-      subst (λ asks. AskedMore asks (S.asked old) (S.asked new)) (sym (asks_are f name c (accepted f told)))
-      (asked_then (ask name config_most ∷ []) (image_asks f c.guests) (S.asked old) (S.asked mid) (S.asked new) first (stopped f (stays ∙ told)).1);
-  stays = stays' ∙ stays;
-  count = omega (arith, count, count');
-}
-images_stop S name c (ReadFault n) old mid new accepted first stopped some stays stays' count count' cause memory = record {
-  number = (omega (arith, cause.0), cause.1);
-  fault = λ f told. tt;
-  first = (false, some.0, asked_then (ask name config_most ∷ []) some.0 (S.asked old) (S.asked mid) (S.asked new) first some.1);
-  reads = λ f told.
-      let is = stopped f (stays ∙ told) in
-      subst (λ asks. IsFailedRead n asks (S.asked old) (S.asked new)) (sym (asks_are f name c (accepted f told))) (record {
-        some = omega (arith, cause.0);
-        number = omega (arith, is.number);
-        asked = subst (λ asks. AskedMore asks (S.asked old) (S.asked new)) (sym (failed_further (ask name config_most) (image_asks f c.guests) n is.some))
-            (asked_then (ask name config_most ∷ []) (failed_at (n - 1) (image_asks f c.guests)) (S.asked old) (S.asked mid) (S.asked new) first is.asked);
-      });
-  stays = stays' ∙ stays;
-  count = omega (arith, count, count');
-}
-images_stop S name c (NoMemory n) old mid new accepted first stopped some stays stays' count count' cause memory = record {
-  number = tt;
-  fault = λ f told. tt;
-  first = later_first S name n old new memory (false, some.0, asked_then (ask name config_most ∷ []) some.0 (S.asked old) (S.asked mid) (S.asked new) first some.1);
-  reads = λ f told.
-      let is = stopped f (stays ∙ told) in
-      let asks = asks_are f name c (accepted f told) in
-      record {
-        number = subst (λ asks. n ≤ length asks) (sym asks) (omega (arith, is.0, is.1.number));
-        early = λ _. accepted_short (content f name config_most) c (accepted f told);
-        later = λ _. rw (accepted f told) (rest_is (images_fault f 0 (take (n - 1) c.guests)) (frames_after f (n - 1) c) is.1.fault ∙ frames_later f (n - 1) c is.1.more);
-        asked = subst (λ asks. AskedMore (take n asks) (S.asked old) (S.asked new)) (sym asks)
-            (subst (λ asks. AskedMore asks (S.asked old) (S.asked new)) (sym (taken_further (ask name config_most) (image_asks f c.guests) n is.0))
-            (asked_then (ask name config_most ∷ []) (take (n - 1) (image_asks f c.guests)) (S.asked old) (S.asked mid) (S.asked new) first is.1.asked));
-      };
-  stays = stays' ∙ stays;
-  count = omega (arith, count, count');
-}
+    → SaysOfReads S (Some command) (ended_by end) old new
+images_stop S command c (Refused found) old mid new accepted first stopped some stays stays' count count' cause memory =
+    let a = ask (config_name command) config_most in
+    record {
+      number = tt;
+      fault = λ f told.
+          let is = stopped f (stays ∙ told) in
+          ap fault_in (planned_is f (config_name command) c (accepted f told) ∙ refused_by f c found (one_is (images_fault f 0 c.guests) (frames_fault (guests_of f c.guests)) found is.0));
+      first = (false, some.0, asked_then (a ∷ []) some.0 (S.asked old) (S.asked mid) (S.asked new) first some.1);
+      reads = λ f told.
+          let is = stopped f (stays ∙ told) in
+          subst (λ asks. AskedMore asks (S.asked old) (S.asked new)) (sym (stopped_asks f command c found (accepted f told) is.0))
+          (asked_then (a ∷ []) (image_asks f c.guests) (S.asked old) (S.asked mid) (S.asked new) first is.1);
+      stays = stays' ∙ stays;
+      count = omega (arith, count, count');
+    }
+images_stop S command c (ReadFault n) old mid new accepted first stopped some stays stays' count count' cause memory =
+    let a = ask (config_name command) config_most in
+    record {
+      number = (omega (arith, cause.0), omega (arith, cause.1));
+      fault = λ f told. tt;
+      first = (false, some.0, asked_then (a ∷ []) some.0 (S.asked old) (S.asked mid) (S.asked new) first some.1);
+      reads = λ f told.
+          let further = further_asks f command c in
+          let is = failed_among (image_asks f c.guests) (asks_unless (images_fault f 0 c.guests) (report_asks command)) (n - 1) (S.asked mid) (S.asked new) (stopped f (stays ∙ told)) in
+          subst (λ asks. IsFailedRead n asks (S.asked old) (S.asked new)) (sym (asks_are f command c (accepted f told))) (record {
+            some = omega (arith, cause.0);
+            number = omega (arith, is.number);
+            asked = subst (λ asks. AskedMore asks (S.asked old) (S.asked new)) (sym (failed_further a further n is.some))
+                (asked_then (a ∷ []) (failed_at (n - 1) further) (S.asked old) (S.asked mid) (S.asked new) first is.asked);
+          });
+      stays = stays' ∙ stays;
+      count = omega (arith, count, count');
+    }
+images_stop S command c (NoMemory n) old mid new accepted first stopped some stays stays' count count' cause memory =
+    let a = ask (config_name command) config_most in
+    record {
+      number = tt;
+      fault = λ f told. tt;
+      first = later_first S command n old new memory (false, some.0, asked_then (a ∷ []) some.0 (S.asked old) (S.asked mid) (S.asked new) first some.1);
+      reads = λ f told.
+          let is = stopped f (stays ∙ told) in
+          let asks = asks_are f command c (accepted f told) in
+          let further = further_asks f command c in
+          let rest = asks_unless (images_fault f 0 c.guests) (report_asks command) in
+          let made : take n (a ∷ further) ≡ a ∷ take (n - 1) (image_asks f c.guests) =
+          taken_further a further n is.0 ∙ ap (λ asks. a ∷ asks) (take-append-le (n - 1) (image_asks f c.guests) rest is.1.number) in
+          record {
+            number = subst (λ asks. n ≤ length asks) (sym asks) (omega (arith, is.0, no_fewer (image_asks f c.guests) rest (n - 1) is.1.number));
+            early = λ _. accepted_short (config_of f command) c (accepted f told);
+            later = λ _. rw (accepted f told) (rest_is (images_fault f 0 (take (n - 1) c.guests)) (frames_after f (n - 1) command c) is.1.fault
+                ∙ frames_later f (n - 1) command c (omega (arith, is.1.more)));
+            asked = subst (λ asks. AskedMore (take n asks) (S.asked old) (S.asked new)) (sym asks)
+                (subst (λ asks. AskedMore asks (S.asked old) (S.asked new)) (sym made)
+                (asked_then (a ∷ []) (take (n - 1) (image_asks f c.guests)) (S.asked old) (S.asked mid) (S.asked new) first is.1.asked));
+          };
+      stays = stays' ∙ stays;
+      count = omega (arith, count, count');
+    }
 
 -- the configuration is refused
 content_is : (told : Option Files) (f : Files) (name : List ℕ) (most : ℕ) (bytes : List ℕ) → GivesFile told name most bytes → told ≡ Some f → content f name most ≡ bytes
@@ -167,20 +219,22 @@ refused_plan f name (Refused found) is = refused_config f name found is
 refused_plan f name (ReadFault n) is = tt
 refused_plan f name (NoMemory n) is = tt
 
-pub config_stop : {X : Type 0} (S : stores.Ghosts X) (name bytes : List ℕ) (found : ConfigFault) (old new : X)
-    → GivesFile (S.files old) name config_most bytes → accept bytes ≡ Err found → AskedMore (ask name config_most ∷ []) (S.asked old) (S.asked new)
-    → S.files new ≡ S.files old → S.faults old ≤ S.faults new → SaysOfReads S (Some (Run name)) (ended.Refused found) old new
-config_stop S name bytes found old new gives refused made stays count = record {
+pub config_stop : {X : Type 0} (S : stores.Ghosts X) (command : Command) (bytes : List ℕ) (found : ConfigFault) (old new : X)
+    → GivesFile (S.files old) (config_name command) config_most bytes → accept bytes ≡ Err found
+    → AskedMore (ask (config_name command) config_most ∷ []) (S.asked old) (S.asked new)
+    → S.files new ≡ S.files old → S.faults old ≤ S.faults new → SaysOfReads S (Some command) (ended.Refused found) old new
+config_stop S command bytes found old new gives refused made stays count = record {
   number = tt;
-  fault = λ f told. ap fault_in (refused_config f name found (at f told));
+  fault = λ f told. ap fault_in (refused_config f (config_name command) found (at f told));
   first = (false, [], made);
-  reads = λ f told. subst (λ config. AskedMore (ask name config_most ∷ accepted_asks f config) (S.asked old) (S.asked new)) (sym (at f told)) made;
+  reads = λ f told.
+      subst (λ config. AskedMore (ask (config_name command) config_most ∷ accepted_asks f command config) (S.asked old) (S.asked new)) (sym (at f told)) made;
   stays = stays;
   count = count;
 }
   where
-    at : (f : Files) → S.files old ≡ Some f → accept (content f name config_most) ≡ Err found
-    at f told = ap accept (content_is (S.files old) f name config_most bytes gives told) ∙ refused
+    at : (f : Files) → S.files old ≡ Some f → accept (config_of f command) ≡ Err found
+    at f told = ap accept (content_is (S.files old) f (config_name command) config_most bytes gives told) ∙ refused
 
 -- the plan of guests whose images were all read
 pub planned_as : (f : Files) (name : List ℕ) (c : Configuration) (guests : List GuestSpec) → accept (content f name config_most) ≡ Ok c
@@ -205,41 +259,153 @@ stopped_plan f name c (Refused found) before after accepted stopped =
 stopped_plan f name c (ReadFault n) before after accepted stopped = tt
 stopped_plan f name c (NoMemory n) before after accepted stopped = tt
 
--- all images were read, and the frames are few enough, or not
+whole_asks : (f : Files) (c : Configuration) → images_fault f 0 c.guests ≡ None → length (image_asks f c.guests) ≡ length c.guests
+whole_asks f c fit = ap length (asks_all f 0 c.guests fit) ∙ length-map c.guests image_ask
+
+one_longer : (xs : List Ask) (y : Ask) → length (xs ++ y ∷ []) ≡ length xs + 1
+one_longer xs y = grind (arith, common_steps)
+
+-- the reads so far
+images_asked : {X : Type 0} (S : stores.Ghosts X) (command : Command) (c : Configuration) (f : Files) (guests : List GuestSpec) (old mid later : X)
+    → AskedMore (ask (config_name command) config_most ∷ []) (S.asked old) (S.asked mid) → AreRead f c.guests guests (S.asked mid) (S.asked later)
+    → AskedMore (ask (config_name command) config_most ∷ image_asks f c.guests) (S.asked old) (S.asked later)
+images_asked S command c f guests old mid later first read =
+    asked_then (ask (config_name command) config_most ∷ []) (image_asks f c.guests) (S.asked old) (S.asked mid) (S.asked later) first read.asked
+
+begun : {X : Type 0} (S : stores.Ghosts X) (command : Command) (more : List Ask) (old mid later new : X)
+    → AskedMore (ask (config_name command) config_most ∷ []) (S.asked old) (S.asked mid) → AskedSome (S.asked mid) (S.asked later)
+    → AskedMore more (S.asked later) (S.asked new) → BeginsWithConfig (Some command) (S.asked old) (S.asked new)
+begun S command more old mid later new first some last =
+    let a = ask (config_name command) config_most in (
+      false,
+      some.0 ++ more,
+      asked_then (a ∷ some.0) more (S.asked old) (S.asked later) (S.asked new)
+          (asked_then (a ∷ []) some.0 (S.asked old) (S.asked mid) (S.asked later) first some.1) last,
+    )
+
+whole_reads : {X : Type 0} (S : stores.Ghosts X) (command : Command) (c : Configuration) (f : Files) (guests : List GuestSpec) (old mid later new : X)
+    → accept (config_of f command) ≡ Ok c → AskedMore (ask (config_name command) config_most ∷ []) (S.asked old) (S.asked mid)
+    → AreRead f c.guests guests (S.asked mid) (S.asked later) → AskedMore (report_asks command) (S.asked later) (S.asked new)
+    → AskedMore (command_asks f command) (S.asked old) (S.asked new)
+whole_reads S command c f guests old mid later new accepted first read last =
+    subst (λ asks. AskedMore asks (S.asked old) (S.asked new)) (sym (whole_asks_are f command c accepted read.fault))
+    (asked_then (ask (config_name command) config_most ∷ image_asks f c.guests) (report_asks command) (S.asked old) (S.asked later) (S.asked new)
+    (images_asked S command c f guests old mid later first read) last)
+
+-- the frames are few enough, or not
 pub all_read : {X : Type 0} (S : stores.Ghosts X)
-    (name : List ℕ) (c : Configuration) (guests : List GuestSpec) (old mid new : X)
-    → ((f : Files) → S.files old ≡ Some f → accept (content f name config_most) ≡ Ok c)
-    → AskedMore (ask name config_most ∷ []) (S.asked old) (S.asked mid)
-    → ((f : Files) → S.files mid ≡ Some f → AreRead f c.guests guests (S.asked mid) (S.asked new)) → AskedSome (S.asked mid) (S.asked new)
-    → S.files mid ≡ S.files old → S.files new ≡ S.files mid → S.faults old ≤ S.faults mid → S.faults mid ≤ S.faults new
-    → frames_fault guests ≡ None → SaysOfReads S (Some (Run name)) ended.Done old new
-all_read S name c guests old mid new accepted first read some stays stays' count count' frames = record {
+    (command : Command) (c : Configuration) (guests : List GuestSpec) (old mid later new : X)
+    → ((f : Files) → S.files old ≡ Some f → accept (config_of f command) ≡ Ok c)
+    → AskedMore (ask (config_name command) config_most ∷ []) (S.asked old) (S.asked mid)
+    → ((f : Files) → S.files mid ≡ Some f → AreRead f c.guests guests (S.asked mid) (S.asked later)) → AskedSome (S.asked mid) (S.asked later)
+    → AskedMore (report_asks command) (S.asked later) (S.asked new)
+    → S.files mid ≡ S.files old → S.files later ≡ S.files mid → S.files new ≡ S.files later
+    → S.faults old ≤ S.faults mid → S.faults mid ≤ S.faults later → S.faults later ≤ S.faults new
+    → SaysOfReads S (Some command) ended.Done old new
+all_read S command c guests old mid later new accepted first read some last stays stays' stays'' count count' count'' = record {
   number = tt;
   fault = λ f told. tt;
-  first = (false, some.0, asked_then (ask name config_most ∷ []) some.0 (S.asked old) (S.asked mid) (S.asked new) first some.1);
-  reads = λ f told.
-      subst (λ asks. AskedMore asks (S.asked old) (S.asked new)) (sym (asks_are f name c (accepted f told)))
-      (asked_then (ask name config_most ∷ []) (image_asks f c.guests) (S.asked old) (S.asked mid) (S.asked new) first (read f (stays ∙ told)).asked);
-  stays = stays' ∙ stays;
-  count = omega (arith, count, count');
+  first = begun S command (report_asks command) old mid later new first some last;
+  reads = λ f told. whole_reads S command c f guests old mid later new (accepted f told) first (read f (stays ∙ told)) last;
+  stays = stays'' ∙ stays' ∙ stays;
+  count = omega (arith, count, count', count'');
 }
 
 pub frames_stop : {X : Type 0} (S : stores.Ghosts X)
-    (name : List ℕ) (c : Configuration) (guests : List GuestSpec) (found : ConfigFault) (old mid new : X)
-    → ((f : Files) → S.files old ≡ Some f → accept (content f name config_most) ≡ Ok c)
-    → AskedMore (ask name config_most ∷ []) (S.asked old) (S.asked mid)
-    → ((f : Files) → S.files mid ≡ Some f → AreRead f c.guests guests (S.asked mid) (S.asked new)) → AskedSome (S.asked mid) (S.asked new)
-    → S.files mid ≡ S.files old → S.files new ≡ S.files mid → S.faults old ≤ S.faults mid → S.faults mid ≤ S.faults new
-    → frames_fault guests ≡ Some found → SaysOfReads S (Some (Run name)) (ended.Refused found) old new
-frames_stop S name c guests found old mid new accepted first read some stays stays' count count' frames = record {
+    (command : Command) (c : Configuration) (guests : List GuestSpec) (found : ConfigFault) (old mid later new : X)
+    → ((f : Files) → S.files old ≡ Some f → accept (config_of f command) ≡ Ok c)
+    → AskedMore (ask (config_name command) config_most ∷ []) (S.asked old) (S.asked mid)
+    → ((f : Files) → S.files mid ≡ Some f → AreRead f c.guests guests (S.asked mid) (S.asked later)) → AskedSome (S.asked mid) (S.asked later)
+    → AskedMore (report_asks command) (S.asked later) (S.asked new)
+    → S.files mid ≡ S.files old → S.files later ≡ S.files mid → S.files new ≡ S.files later
+    → S.faults old ≤ S.faults mid → S.faults mid ≤ S.faults later → S.faults later ≤ S.faults new
+    → frames_fault guests ≡ Some found → SaysOfReads S (Some command) (ended.Refused found) old new
+frames_stop S command c guests found old mid later new accepted first read some last stays stays' stays'' count count' count'' frames = record {
   number = tt;
-  fault = λ f told. ap fault_in (refused_as f name c guests found (accepted f told) (read f (stays ∙ told)).fault (read f (stays ∙ told)).guests_are frames);
-  first = (false, some.0, asked_then (ask name config_most ∷ []) some.0 (S.asked old) (S.asked mid) (S.asked new) first some.1);
-  reads = λ f told.
-      subst (λ asks. AskedMore asks (S.asked old) (S.asked new)) (sym (asks_are f name c (accepted f told)))
-      (asked_then (ask name config_most ∷ []) (image_asks f c.guests) (S.asked old) (S.asked mid) (S.asked new) first (read f (stays ∙ told)).asked);
-  stays = stays' ∙ stays;
-  count = omega (arith, count, count');
+  fault = λ f told.
+      ap fault_in (refused_as f (config_name command) c guests found (accepted f told) (read f (stays ∙ told)).fault (read f (stays ∙ told)).guests_are frames);
+  first = begun S command (report_asks command) old mid later new first some last;
+  reads = λ f told. whole_reads S command c f guests old mid later new (accepted f told) first (read f (stays ∙ told)) last;
+  stays = stays'' ∙ stays' ∙ stays;
+  count = omega (arith, count, count', count'');
+}
+
+-- the read of the report failed, or memory was wanting before it
+report_failed : {X : Type 0} (S : stores.Ghosts X) (command : Command) (c : Configuration) (f : Files) (guests : List GuestSpec) (n : ℕ) (old mid later new : X)
+    → accept (config_of f command) ≡ Ok c → AskedMore (ask (config_name command) config_most ∷ []) (S.asked old) (S.asked mid)
+    → AreRead f c.guests guests (S.asked mid) (S.asked later) → AskedMore (failed (report_asks command)) (S.asked later) (S.asked new)
+    → 1 ≤ length (report_asks command) → n ≡ length c.guests + 2 → IsFailedRead n (command_asks f command) (S.asked old) (S.asked new)
+report_failed S (Run config) c f guests n old mid later new accepted first read last named is = absurd (omega (arith, named))
+report_failed S (Check config) c f guests n old mid later new accepted first read last named is = absurd (omega (arith, named))
+report_failed S (Replay config report) c f guests n old mid later new accepted first read last named is =
+    let a = ask config config_most in
+    let r = ask report report_most in
+    let images = image_asks f c.guests in
+    let count = whole_asks f c read.fault in
+    let asks = whole_asks_are f (Replay config report) c accepted read.fault in
+    let less : n - 1 ≡ length c.guests + 1 = omega (arith, is) in
+    let made : failed_at n (a ∷ (images ++ r ∷ [])) ≡ a ∷ (images ++ (record r { failed = true } ∷ [])) =
+    failed_further a (images ++ r ∷ []) n (omega (arith, is)) ∙ ap (λ k. a ∷ failed_at k (images ++ r ∷ [])) less
+    ∙ ap (λ asks. a ∷ asks) (failed_next images [] r (length c.guests) count) in
+    subst (λ asks. IsFailedRead n asks (S.asked old) (S.asked new)) (sym asks) (record {
+      some = omega (arith, is);
+      number = omega (arith, is, count, one_longer images r);
+      asked = subst (λ asks. AskedMore asks (S.asked old) (S.asked new)) (sym made)
+          (asked_then (a ∷ images) (record r { failed = true } ∷ []) (S.asked old) (S.asked later) (S.asked new)
+          (images_asked S (Replay config report) c f guests old mid later first read) last);
+    })
+
+report_wanting : {X : Type 0} (S : stores.Ghosts X) (command : Command) (c : Configuration) (f : Files) (guests : List GuestSpec) (n : ℕ) (old mid later new : X)
+    → accept (config_of f command) ≡ Ok c → AskedMore (ask (config_name command) config_most ∷ []) (S.asked old) (S.asked mid)
+    → AreRead f c.guests guests (S.asked mid) (S.asked later) → AskedMore [] (S.asked later) (S.asked new)
+    → 1 ≤ length (report_asks command) → n ≡ length c.guests + 1 → IsWanting n f (Some command) (S.asked old) (S.asked new)
+report_wanting S command c f guests n old mid later new accepted first read last named is =
+    let a = ask (config_name command) config_most in
+    let images = image_asks f c.guests in
+    let count = whole_asks f c read.fault in
+    let asks = whole_asks_are f command c accepted read.fault in
+    let less : n - 1 ≡ length c.guests = omega (arith, is) in
+    let made : take n (a ∷ (images ++ report_asks command)) ≡ a ∷ images =
+    taken_further a (images ++ report_asks command) n (omega (arith, is)) ∙ ap (λ asks. a ∷ asks) (take_part images (report_asks command) (n - 1) (count ∙ sym less)) in
+    record {
+      number = subst (λ asks. n ≤ length asks) (sym asks) (omega (arith, is, no_fewer images (report_asks command) (length c.guests) (omega (arith, count))));
+      early = λ _. accepted_short (config_of f command) c accepted;
+      later = λ _. rw (less, accepted) (rw (take_all (length c.guests) c.guests (omega arith))
+          (rest_is (images_fault f 0 c.guests) (frames_after f (length c.guests) command c) read.fault ∙ frames_later f (length c.guests) command c (omega (arith, named))));
+      asked = subst (λ asks. AskedMore (take n asks) (S.asked old) (S.asked new)) (sym asks)
+          (subst (λ asks. AskedMore asks (S.asked old) (S.asked new)) (sym made)
+          (subst (λ asks. AskedMore asks (S.asked old) (S.asked new)) (append-nil (a ∷ images))
+          (asked_then (a ∷ images) [] (S.asked old) (S.asked later) (S.asked new) (images_asked S command c f guests old mid later first read) last)));
+    }
+
+pub report_stop : {X : Type 0} (S : stores.Ghosts X)
+    (command : Command) (c : Configuration) (guests : List GuestSpec) (end : LoadEnd) (images : ℕ) (old mid later new : X)
+    → ((f : Files) → S.files old ≡ Some f → accept (config_of f command) ≡ Ok c)
+    → AskedMore (ask (config_name command) config_most ∷ []) (S.asked old) (S.asked mid)
+    → ((f : Files) → S.files mid ≡ Some f → AreRead f c.guests guests (S.asked mid) (S.asked later)) → AskedSome (S.asked mid) (S.asked later)
+    → AskedMore (all_by (report_asks command) end) (S.asked later) (S.asked new)
+    → S.files mid ≡ S.files old → S.files later ≡ S.files mid → S.files new ≡ S.files later
+    → S.faults old ≤ S.faults mid → S.faults mid ≤ S.faults later → S.faults later ≤ S.faults new
+    → 1 ≤ length (report_asks command) → images ≡ length c.guests → images ≤ 16 → IfRefusal end (λ found. ⊥)
+    → IfFailed end (λ n. (n ≡ images + 2) × Rose (S.faults later) (S.faults new)) → IfWanting end (λ n. n ≡ images + 1)
+    → SaysOfReads S (Some command) (ended_by end) old new
+report_stop S command c guests (Refused found) images old mid later new accepted first read some last stays stays' stays'' count count' count'' named as_many few refused cause memory =
+    absurd refused
+report_stop S command c guests (ReadFault n) images old mid later new accepted first read some last stays stays' stays'' count count' count'' named as_many few refused cause memory = record {
+  number = (omega (arith, cause.0), omega (arith, cause.0, few));
+  fault = λ f told. tt;
+  first = begun S command (failed (report_asks command)) old mid later new first some last;
+  reads = λ f told. report_failed S command c f guests n old mid later new (accepted f told) first (read f (stays ∙ told)) last named (omega (arith, cause.0, as_many));
+  stays = stays'' ∙ stays' ∙ stays;
+  count = omega (arith, count, count', count'');
+}
+report_stop S command c guests (NoMemory n) images old mid later new accepted first read some last stays stays' stays'' count count' count'' named as_many few refused cause memory = record {
+  number = tt;
+  fault = λ f told. tt;
+  first = later_first S command n old new (omega (arith, memory)) (begun S command [] old mid later new first some last);
+  reads = λ f told. report_wanting S command c f guests n old mid later new (accepted f told) first (read f (stays ∙ told)) last named (omega (arith, memory, as_many));
+  stays = stays'' ∙ stays' ∙ stays;
+  count = omega (arith, count, count', count'');
 }
 
 -- memory is wanting after all reads
@@ -279,37 +445,58 @@ planned_for : (f : Files) (name : List ℕ) (plan : Plan) → planned f name ≡
 unfolding planned
 planned_for f name plan e = accepted_for f name plan (accept (content f name config_most)) e
 
-frames_now : (f : Files) (c : Configuration) (n : ℕ) → n ≡ length c.guests → frames_after f n c ≡ frames_fault (guests_of f c.guests)
-frames_now f c n e = ap (λ b. cond b (frames_fault (guests_of f c.guests)) None) (equal n (length c.guests) e)
+frames_now : (f : Files) (command : Command) (c : Configuration) → frames_after f (length c.guests + length (report_asks command)) command c ≡ frames_fault (guests_of f c.guests)
+frames_now f command c =
+    ap (λ b. cond b (frames_fault (guests_of f c.guests)) None) (equal (length c.guests + length (report_asks command)) (length c.guests + length (report_asks command)) refl)
   where
     equal : (a b : ℕ) → a ≡ b → (a == b) ≡ true
     equal a b e = eq-eqb a b e
 
-whole_asks : (f : Files) (c : Configuration) → images_fault f 0 c.guests ≡ None → length (image_asks f c.guests) ≡ length c.guests
-whole_asks f c fit = ap length (asks_all f 0 c.guests fit) ∙ length-map c.guests image_ask
+pub late_wanting : {X : Type 0} (S : stores.Ghosts X) (command : Command) (plan : Plan) (reports : ℕ) (old new : X)
+    → ((f : Files) → S.files old ≡ Some f → planned f (config_name command) ≡ Ok plan) → reports ≡ length (report_asks command)
+    → SaysOfReads S (Some command) ended.Done old new → SaysOfReads S (Some command) (ended.NoMemory (1 + length plan.guests + reports)) old new
+late_wanting S command plan reports old new is made_reports made =
+    let n = 1 + length plan.guests + reports in
+    record {
+      number = tt;
+      fault = λ f told. tt;
+      first = later_first S command n old new (omega arith) made.first;
+      reads = λ f told.
+          let there = planned_for f (config_name command) plan (is f told) in
+          let c = there.0 in
+          let whole = read_whole f c plan there.2 in
+          let asks = whole_asks_are f command c there.1 whole.images in
+          let images = image_asks f c.guests in
+          let count : length (ask (config_name command) config_most ∷ (images ++ report_asks command)) ≡ n =
+          omega (arith, both_long images (report_asks command), whole_asks f c whole.images, whole.guests, made_reports) in
+          let less : n - 1 ≡ length c.guests + length (report_asks command) = omega (arith, whole.guests, made_reports) in
+          record {
+            number = subst (λ asks. n ≤ length asks) (sym asks) (omega (arith, count));
+            early = λ _. accepted_short (config_of f command) c there.1;
+            later = λ _. rw (less, there.1) (rw (take_all (length c.guests + length (report_asks command)) c.guests (omega arith))
+                (rest_is (images_fault f 0 c.guests) (frames_after f (length c.guests + length (report_asks command)) command c) whole.images ∙ frames_now f command c ∙ whole.frames));
+            asked = subst (λ reads. AskedMore reads (S.asked old) (S.asked new)) (sym (no_more (command_asks f command) n
+                (subst (λ asks. length asks ≤ n) (sym asks) (omega (arith, count))))) (made.reads f told);
+          };
+      stays = made.stays;
+      count = made.count;
+    }
+  where
+    both_long : (xs ys : List Ask) → length (xs ++ ys) ≡ length xs + length ys
+    both_long xs ys = grind (arith, common_steps)
 
-pub late_wanting : {X : Type 0} (S : stores.Ghosts X) (name : List ℕ) (plan : Plan) (old new : X)
-    → ((f : Files) → S.files old ≡ Some f → planned f name ≡ Ok plan) → SaysOfReads S (Some (Run name)) ended.Done old new
-    → SaysOfReads S (Some (Run name)) (ended.NoMemory (1 + length plan.guests)) old new
-late_wanting S name plan old new is made = record {
+-- no read was made, as memory was wanting before
+pub nothing_read : {X : Type 0} (S : stores.Ghosts X) (command : Option Command) (store : X) → SaysOfReads S command (ended.NoMemory 0) store store
+nothing_read S command store = record {
   number = tt;
   fault = λ f told. tt;
-  first = later_first S name (1 + length plan.guests) old new (omega arith) made.first;
-  reads = λ f told.
-      let there = planned_for f name plan (is f told) in
-      let c = there.0 in
-      let whole = read_whole f c plan there.2 in
-      let asks = asks_are f name c there.1 in
-      let count : length (ask name config_most ∷ image_asks f c.guests) ≡ 1 + length plan.guests = omega (arith, whole_asks f c whole.images, whole.guests) in
-      let less : 1 + length plan.guests - 1 ≡ length c.guests = omega (arith, whole.guests) in
-      record {
-        number = subst (λ asks. 1 + length plan.guests ≤ length asks) (sym asks) (omega (arith, count));
-        early = λ _. accepted_short (content f name config_most) c there.1;
-        later = λ _. rw (less, there.1) (rw (take_all (length c.guests) c.guests (omega arith))
-            (rest_is (images_fault f 0 c.guests) (frames_after f (length c.guests) c) whole.images ∙ frames_now f c (length c.guests) refl ∙ whole.frames));
-        asked = subst (λ reads. AskedMore reads (S.asked old) (S.asked new)) (sym (no_more (config_asks f name) (1 + length plan.guests)
-            (subst (λ asks. length asks ≤ 1 + length plan.guests) (sym asks) (omega (arith, count))))) (made.reads f told);
-      };
-  stays = made.stays;
-  count = made.count;
+  first = asked_none (S.asked store);
+  reads = λ f told. record {
+    number = omega arith;
+    early = λ one. absurd (omega (arith, one));
+    later = λ two. absurd (omega (arith, two));
+    asked = asked_none (S.asked store);
+  };
+  stays = refl;
+  count = omega arith;
 }

@@ -184,13 +184,13 @@ reads_to zero settings inside = refl
 reads_to (suc i) [] inside = absurd (omega (arith, inside))
 reads_to (suc i) (guest ∷ rest) inside = ap suc (reads_to i rest (omega (arith, inside)))
 
-take_part : (xs ys : List Ask) (n : ℕ) → length xs ≡ n → take n (xs ++ ys) ≡ xs
+pub take_part : (xs ys : List Ask) (n : ℕ) → length xs ≡ n → take n (xs ++ ys) ≡ xs
 take_part xs ys n e = subst (λ n. take n (xs ++ ys) ≡ xs) e (first_part xs ys)
 
 drop_part : (xs ys : List Ask) (n : ℕ) → length xs ≡ n → drop n (xs ++ ys) ≡ ys
 drop_part xs ys n e = subst (λ n. drop n (xs ++ ys) ≡ ys) e (other_part xs ys)
 
-failed_next : (xs ys : List Ask) (y : Ask) (i : ℕ) → length xs ≡ i → failed_at (i + 1) (xs ++ (y ∷ ys)) ≡ xs ++ (record y { failed = true } ∷ [])
+pub failed_next : (xs ys : List Ask) (y : Ask) (i : ℕ) → length xs ≡ i → failed_at (i + 1) (xs ++ (y ∷ ys)) ≡ xs ++ (record y { failed = true } ∷ [])
 failed_next xs ys y i e = rw (one_less i, take_part xs (y ∷ ys) i e, drop_part xs (y ∷ ys) i e) refl
   where
     one_less : (i : ℕ) → i + 1 - 1 ≡ i

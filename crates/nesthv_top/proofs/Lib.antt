@@ -1,5 +1,7 @@
 pub mod Accounting
 pub mod Asking
+pub mod CheckLines
+pub mod Comparing
 pub mod Framing
 pub mod Imaging
 pub mod Reporting

@@ -1,38 +1,72 @@
 -- What a status tells, by the end that it stands for.
-use Rattle.std.proofs.Common.{◌≡◌, ◌⊎◌, inl, inr, Option, Some, None, Result, Ok, Err, refl, arith}
+use Rattle.std.proofs.Common.{cond, ◌≡◌, ◌≤◌, ◌⊎◌, inl, inr, ℕ, zero, suc, List, [], ◌∷◌, Option, Some, None, Result, Ok, Err, Bool, true, false, refl, sym, ap, subst, ◌∙◌, arith}
+use Rattle.std.specs.List.{list_all}
 use Rattle.std.specs.Prelude.{IsSome, IsSomeAnd}
+use Rattle.command_line.specs.Commands.{Command, asked_by, command_of, is_plain}
 use Rattle.outside.specs.declared.sinks.Sink as sinks
 use Rattle.outside.specs.declared.stores.Store as stores
 use Rattle.outside.specs.Faults.{Rose}
 use Rattle.outside.specs.Files.{Files}
+use Rattle.outside.specs.Pieces.{Appends}
 use Rattle.run_config.specs.declared.faults.ConfigFault.{ConfigFault}
 use Rattle.nesthv_top.specs.declared.ends.Ended.{Ended}
-use Rattle.nesthv_top.specs.declared.ends.Ended.TheVariants.{Done, NoCommand, Refused, ReadFault, WriteFault, NoMemory}
-use Rattle.nesthv_top.specs.Commands.{Command, Run}
-use Rattle.nesthv_top.specs.Endings.{HasPlan, IfRefusedWith, IsRefusal, SaysOfCause, SaysOfOut, SaysOfReads}
-use Rattle.nesthv_top.specs.Plans.{AllRunAsWritten, Plan, fault_in, fault_of, plan_in, plan_of, planned, report_of}
-use Rattle.nesthv_top.specs.Statuses.{status_of}
-use Rattle.outside.specs.Pieces.{Appends}
+use Rattle.nesthv_top.specs.declared.ends.Ended.TheVariants.{Done, Differs, NoCommand, Refused, ReadFault, WriteFault, NoMemory}
+use Rattle.nesthv_top.specs.Endings.{HasPlan, IfReadFault, IfRefusedWith, IfRun, IfWriteFault, IsFor, IsOfCommand, IsRefusal, SaysOfCause, SaysOfOut, SaysOfReads, Tells, WithPlan}
+use Rattle.nesthv_top.specs.Plans.{AllRunAsWritten, Plan, config_name, fault_in, fault_of, plan_in, plan_of, planned}
+use Rattle.nesthv_top.specs.Statuses.{ArePlain, IsDone, IsNoCommand, status_of, verdict_status}
+use Rattle.nesthv_top.specs.Texts.{found_of, text_of}
 
--- the report of status 0
-pub reported : {Y : Type 0} (O : sinks.Ghosts Y) (told : Option Files) (command : Option Command) (ended : Ended) (old new : Y)
-    → status_of ended ≡ 0 → SaysOfOut O told command ended old new → HasPlan told command (λ plan. Appends O.stands_for old new (report_of plan))
-reported O told command Done old new e says = says.report
-reported O told command NoCommand old new e says = absurd (omega (arith, e))
-reported O told command (Refused found) old new e says = absurd (omega (arith, e))
-reported O told command (ReadFault n) old new e says = absurd (omega (arith, e))
-reported O told command WriteFault old new e says = absurd (omega (arith, e))
-reported O told command (NoMemory n) old new e says = absurd (omega (arith, e))
+not_done : {P : Type 0} (n : ℕ) → 1 ≤ n → n ≤ 5 → IsDone n → P
+not_done n some few (inl e) = absurd (omega (arith, e, some))
+not_done n some few (inr e) = absurd (omega (arith, e, few))
+
+-- the text of status 0 and 6
+pub texted : {Y : Type 0} (O : sinks.Ghosts Y) (told : Option Files) (command : Option Command) (ended : Ended) (old new : Y)
+    → IsDone (status_of ended) → SaysOfOut O told command ended old new
+    → HasPlan told command (λ files command plan. Appends O.stands_for old new (text_of files command plan))
+texted O told command Done old new e says = says.text
+texted O told command Differs old new e says = says.text
+texted O told command NoCommand old new e says = not_done 1 (omega arith) (omega arith) e
+texted O told command (Refused found) old new e says = not_done 2 (omega arith) (omega arith) e
+texted O told command (ReadFault n) old new e says = not_done 3 (omega arith) (omega arith) e
+texted O told command WriteFault old new e says = not_done 4 (omega arith) (omega arith) e
+texted O told command (NoMemory n) old new e says = not_done 5 (omega arith) (omega arith) e
 
 -- and the machines that it tells of
 pub ran_as_written : {Y : Type 0} (O : sinks.Ghosts Y) (told : Option Files) (command : Option Command) (ended : Ended) (old new : Y)
-    → status_of ended ≡ 0 → SaysOfOut O told command ended old new → HasPlan told command AllRunAsWritten
+    → IsDone (status_of ended) → SaysOfOut O told command ended old new
+    → HasPlan told command (λ files command plan. IfRun command (AllRunAsWritten plan))
 ran_as_written O told command Done old new e says = says.machines
-ran_as_written O told command NoCommand old new e says = absurd (omega (arith, e))
-ran_as_written O told command (Refused found) old new e says = absurd (omega (arith, e))
-ran_as_written O told command (ReadFault n) old new e says = absurd (omega (arith, e))
-ran_as_written O told command WriteFault old new e says = absurd (omega (arith, e))
-ran_as_written O told command (NoMemory n) old new e says = absurd (omega (arith, e))
+ran_as_written O told command Differs old new e says = says.machines
+ran_as_written O told command NoCommand old new e says = not_done 1 (omega arith) (omega arith) e
+ran_as_written O told command (Refused found) old new e says = not_done 2 (omega arith) (omega arith) e
+ran_as_written O told command (ReadFault n) old new e says = not_done 3 (omega arith) (omega arith) e
+ran_as_written O told command WriteFault old new e says = not_done 4 (omega arith) (omega arith) e
+ran_as_written O told command (NoMemory n) old new e says = not_done 5 (omega arith) (omega arith) e
+
+-- what follows of a plan from what holds of it
+some_so : (P Q : Plan → Type 0) (o : Option Plan) → ((p : Plan) → P p → Q p) → IsSomeAnd o P → IsSomeAnd o Q
+some_so P Q (Some p) so holds = so p holds
+some_so P Q None so holds = absurd holds
+
+plan_so : (f : Files) (command : Option Command) (P Q : Command → Plan → Type 0) → ((c : Command) (p : Plan) → P c p → Q c p)
+    → WithPlan f command P → WithPlan f command Q
+plan_so f (Some command) P Q so holds = some_so (P command) (Q command) (plan_of f (Some command)) (so command) holds
+plan_so f None P Q so holds = absurd holds
+
+-- which of the two it is
+pub found : {Y : Type 0} (O : sinks.Ghosts Y) (told : Option Files) (command : Option Command) (ended : Ended) (old new : Y)
+    → IsDone (status_of ended) → SaysOfOut O told command ended old new
+    → HasPlan told command (λ files command plan. status_of ended ≡ verdict_status (found_of files command plan))
+found O told command Done old new e says = λ f t.
+    plan_so f command (λ c p. Tells Done (found_of f c p)) (λ c p. 0 ≡ verdict_status (found_of f c p)) (λ c p is. sym (ap verdict_status is)) (says.verdict f t)
+found O told command Differs old new e says = λ f t.
+    plan_so f command (λ c p. Tells Differs (found_of f c p)) (λ c p. 6 ≡ verdict_status (found_of f c p)) (λ c p is. sym (ap verdict_status is.1)) (says.verdict f t)
+found O told command NoCommand old new e says = not_done 1 (omega arith) (omega arith) e
+found O told command (Refused fault) old new e says = not_done 2 (omega arith) (omega arith) e
+found O told command (ReadFault n) old new e says = not_done 3 (omega arith) (omega arith) e
+found O told command WriteFault old new e says = not_done 4 (omega arith) (omega arith) e
+found O told command (NoMemory n) old new e says = not_done 5 (omega arith) (omega arith) e
 
 -- a command with a plan has no fault
 one_of_both : (r : Result Plan ConfigFault) → IsSome (plan_in r) → IsSome (fault_in r) → ⊥
@@ -40,52 +74,107 @@ one_of_both (Ok plan) some fault = cc
 one_of_both (Err found) some fault = cc
 
 not_both : (f : Files) (command : Option Command) → IsSome (plan_of f command) → IsSome (fault_of f command) → ⊥
-not_both f (Some (Run name)) some fault = one_of_both (planned f name) some fault
+not_both f (Some command) some fault = one_of_both (planned f (config_name command)) some fault
 not_both f None some fault = cc
 
 has_some : {A : Type 0} (P : A → Type 0) (o : Option A) → IsSomeAnd o P → IsSome o
 has_some P (Some a) is = refl
 has_some P None is = absurd is
 
-known : {A : Type 0} (o : Option A) (a : A) → o ≡ Some a → IsSome o
+has_plan : (f : Files) (command : Option Command) (P : Command → Plan → Type 0) → WithPlan f command P → IsSome (plan_of f command)
+has_plan f (Some command) P is = has_some (P command) (plan_of f (Some command)) is
+has_plan f None P is = absurd is
+
+pub known : {A : Type 0} (o : Option A) (a : A) → o ≡ Some a → IsSome o
 known o a is = rw is refl
 
 -- when status 2 comes
-refuses : {X Y : Type 0} (S : stores.Ghosts X) (O : sinks.Ghosts Y) (f : Files) (command : Option Command) (ended : Ended) (store store' : X) (out out' : Y)
-    → S.files store ≡ Some f → SaysOfCause S O command ended store store' out out' → SaysOfOut O (S.files store) command ended out out' → IsSome (fault_of f command)
-    → (status_of ended ≡ 2) ⊎ (status_of ended ≡ 3) ⊎ (status_of ended ≡ 5)
-refuses S O f command Done store store' out out' told cause says fault = absurd (not_both f command (has_some _ _ (says.report f told)) fault)
-refuses S O f command NoCommand store store' out out' told cause says fault = let none = rw cause.words at fault in cc
-refuses S O f command (Refused found) store store' out out' told cause says fault = inl refl
-refuses S O f command (ReadFault n) store store' out out' told cause says fault = inr (inl refl)
-refuses S O f command WriteFault store store' out out' told cause says fault = absurd (not_both f command (has_some _ _ (says.report f told)) fault)
-refuses S O f command (NoMemory n) store store' out out' told cause says fault = inr (inr refl)
+refuses : {X Y : Type 0} (S : stores.Ghosts X) (O : sinks.Ghosts Y) (f : Files) (words : List (List ℕ)) (ended : Ended) (store store' : X) (out out' : Y)
+    → S.files store ≡ Some f → SaysOfCause S O words ended store store' out out' → SaysOfOut O (S.files store) (command_of words) ended out out'
+    → IsSome (fault_of f (command_of words)) → (status_of ended ≡ 2) ⊎ (status_of ended ≡ 3) ⊎ (status_of ended ≡ 5)
+refuses S O f words Done store store' out out' told cause says fault = absurd (not_both f (command_of words) (has_plan f (command_of words) _ (says.machines f told)) fault)
+refuses S O f words Differs store store' out out' told cause says fault = absurd (not_both f (command_of words) (has_plan f (command_of words) _ (says.machines f told)) fault)
+refuses S O f words NoCommand store store' out out' told cause says fault = let none = rw cause.words at fault in cc
+refuses S O f words (Refused found) store store' out out' told cause says fault = inl refl
+refuses S O f words (ReadFault n) store store' out out' told cause says fault = inr (inl refl)
+refuses S O f words WriteFault store store' out out' told cause says fault = absurd (not_both f (command_of words) (has_plan f (command_of words) _ (says.machines f told)) fault)
+refuses S O f words (NoMemory n) store store' out out' told cause says fault = inr (inr refl)
 
 has_fault : (f : Files) (command : Option Command) (ended : Ended) → IfRefusedWith ended (λ found. fault_of f command ≡ Some found) → status_of ended ≡ 2
     → IsSome (fault_of f command)
 has_fault f command Done is e = absurd (omega (arith, e))
+has_fault f command Differs is e = absurd (omega (arith, e))
 has_fault f command NoCommand is e = absurd (omega (arith, e))
 has_fault f command (Refused found) is e = known (fault_of f command) found is
 has_fault f command (ReadFault n) is e = absurd (omega (arith, e))
 has_fault f command WriteFault is e = absurd (omega (arith, e))
 has_fault f command (NoMemory n) is e = absurd (omega (arith, e))
 
-pub refusal : {X Y : Type 0} (S : stores.Ghosts X) (O : sinks.Ghosts Y) (command : Option Command) (ended : Ended) (store store' : X) (out out' : Y)
-    → SaysOfCause S O command ended store store' out out' → SaysOfReads S command ended store store' → SaysOfOut O (S.files store) command ended out out'
-    → IsRefusal (S.files store) command (status_of ended)
-refusal S O command ended store store' out out' cause reads says = record {
-  only = λ f told. has_fault f command ended (reads.fault f told);
-  always = λ f told. refuses S O f command ended store store' out out' told cause says;
+pub refusal : {X Y : Type 0} (S : stores.Ghosts X) (O : sinks.Ghosts Y) (words : List (List ℕ)) (ended : Ended) (store store' : X) (out out' : Y)
+    → SaysOfCause S O words ended store store' out out' → SaysOfReads S (command_of words) ended store store' → SaysOfOut O (S.files store) (command_of words) ended out out'
+    → IsRefusal (S.files store) (command_of words) (status_of ended)
+refusal S O words ended store store' out out' cause reads says = record {
+  only = λ f told. has_fault f (command_of words) ended (reads.fault f told);
+  always = λ f told. refuses S O f words ended store store' out out' told cause says;
 }
 
 -- completeness
-pub complete : {X Y : Type 0} (S : stores.Ghosts X) (O : sinks.Ghosts Y) (f : Files) (command : Option Command) (ended : Ended) (store store' : X) (out out' : Y)
-    → S.files store ≡ Some f → SaysOfCause S O command ended store store' out out' → SaysOfReads S command ended store store' → IsSome (plan_of f command)
-    → ¬ Rose (S.faults store) (S.faults store') → ¬ Rose (O.faults out) (O.faults out') → (status_of ended ≡ 0) ⊎ (status_of ended ≡ 5)
-complete S O f command Done store store' out out' told cause reads plan read write = inl refl
-complete S O f command NoCommand store store' out out' told cause reads plan read write = let none = rw cause.words at plan in cc
-complete S O f command (Refused found) store store' out out' told cause reads plan read write =
-    absurd (not_both f command plan (known (fault_of f command) found (reads.fault f told)))
-complete S O f command (ReadFault n) store store' out out' told cause reads plan read write = absurd (read cause.read)
-complete S O f command WriteFault store store' out out' told cause reads plan read write = absurd (write cause.write)
-complete S O f command (NoMemory n) store store' out out' told cause reads plan read write = inr refl
+pub complete : {X Y : Type 0} (S : stores.Ghosts X) (O : sinks.Ghosts Y) (f : Files) (words : List (List ℕ)) (ended : Ended) (store store' : X) (out out' : Y)
+    → S.files store ≡ Some f → SaysOfCause S O words ended store store' out out' → SaysOfReads S (command_of words) ended store store' → IsSome (plan_of f (command_of words))
+    → ¬ Rose (S.faults store) (S.faults store') → ¬ Rose (O.faults out) (O.faults out') → IsDone (status_of ended) ⊎ (status_of ended ≡ 5)
+complete S O f words Done store store' out out' told cause reads plan read write = inl (inl refl)
+complete S O f words Differs store store' out out' told cause reads plan read write = inl (inr refl)
+complete S O f words NoCommand store store' out out' told cause reads plan read write = let none = rw cause.words at plan in cc
+complete S O f words (Refused found) store store' out out' told cause reads plan read write =
+    absurd (not_both f (command_of words) plan (known (fault_of f (command_of words)) found (reads.fault f told)))
+complete S O f words (ReadFault n) store store' out out' told cause reads plan read write = absurd (read cause.read)
+complete S O f words WriteFault store store' out out' told cause reads plan read write = absurd (write cause.write)
+complete S O f words (NoMemory n) store store' out out' told cause reads plan read write = inr refl
+
+-- words that are a command are plain
+all_plain : (plain : Bool) (asked : Option Command) → IsSome (cond plain asked None) → plain ≡ true
+all_plain true asked some = refl
+all_plain false asked some = cc
+
+plain_command : (words : List (List ℕ)) → IsSome (command_of words) → ArePlain words
+unfolding command_of
+plain_command [] some = cc
+plain_command (name ∷ words) some = all_plain (list_all is_plain words) (asked_by words) some
+
+-- why a command ended so
+pub is_for : (words : List (List ℕ)) (ended : Ended) → IsSome (command_of words) → IsOfCommand ended → IsFor ended words
+is_for words Done some is = some
+is_for words Differs some is = some
+is_for words NoCommand some is = absurd is
+is_for words (Refused found) some is = some
+is_for words (ReadFault n) some is = some
+is_for words WriteFault some is = some
+is_for words (NoMemory zero) some is = plain_command words some
+is_for words (NoMemory (suc n)) some is = some
+
+-- when status 1 comes
+none_only : (words : List (List ℕ)) (ended : Ended) → IsFor ended words → status_of ended ≡ 1 → command_of words ≡ None
+none_only words Done is e = absurd (omega (arith, e))
+none_only words Differs is e = absurd (omega (arith, e))
+none_only words NoCommand is e = is
+none_only words (Refused found) is e = absurd (omega (arith, e))
+none_only words (ReadFault n) is e = absurd (omega (arith, e))
+none_only words WriteFault is e = absurd (omega (arith, e))
+none_only words (NoMemory n) is e = absurd (omega (arith, e))
+
+not_none : {P : Type 0} (o : Option Command) → IsSome o → o ≡ None → P
+not_none (Some command) some none = cc
+not_none None some none = cc
+
+none_always : (words : List (List ℕ)) (ended : Ended) → IsFor ended words → command_of words ≡ None → (status_of ended ≡ 1) ⊎ ((status_of ended ≡ 5) × ArePlain words)
+none_always words Done is none = not_none (command_of words) is none
+none_always words Differs is none = not_none (command_of words) is none
+none_always words NoCommand is none = inl refl
+none_always words (Refused found) is none = not_none (command_of words) is none
+none_always words (ReadFault n) is none = not_none (command_of words) is none
+none_always words WriteFault is none = not_none (command_of words) is none
+none_always words (NoMemory zero) is none = inr (refl, is)
+none_always words (NoMemory (suc n)) is none = not_none (command_of words) is none
+
+pub no_command : (words : List (List ℕ)) (ended : Ended) → IsFor ended words → IsNoCommand words (status_of ended)
+no_command words ended is = record { only = none_only words ended is; always = none_always words ended is }

@@ -1,6 +1,7 @@
 -- What each end of a command says: why it comes, and what it leaves of the reads, of `out`, of `err` and of
 -- the account.
 use Rattle.std.specs.Prelude.{◌≡◌, ℕ, zero, ◌+◌, ◌^◌, ◌≤◌, ◌⊎◌, List, [], Option, Some, None, IsSome, IsSomeAnd, IfSome, false, ⊤}
+use Rattle.command_line.specs.Commands.{Command, Run, Replay, Check, command_of}
 use Rattle.machine_defs.specs.Runs.{plain_count, trace_of}
 use Rattle.outside.specs.declared.sinks.Sink as sinks
 use Rattle.outside.specs.declared.stores.Store as stores
@@ -8,23 +9,31 @@ use Rattle.outside.specs.Asks.{Ask}
 use Rattle.outside.specs.Faults.{Rose}
 use Rattle.outside.specs.Files.{Files}
 use Rattle.outside.specs.Pieces.{Appends, Puts}
+use Rattle.replay.specs.declared.comparisons.Verdict.{Verdict}
+use Rattle.replay.specs.declared.comparisons.Verdict.TheVariants as verdict
 use Rattle.rv64_hart.specs.Counts.{Counts, IsRaisedBy}
 use Rattle.nesthv_top.specs.declared.ends.Ended.{Ended}
-use Rattle.nesthv_top.specs.declared.ends.Ended.TheVariants.{Done, NoCommand, Refused, ReadFault, WriteFault, NoMemory}
-use Rattle.nesthv_top.specs.Commands.{Command}
+use Rattle.nesthv_top.specs.declared.ends.Ended.TheVariants.{Done, Differs, NoCommand, Refused, ReadFault, WriteFault, NoMemory}
 use Rattle.nesthv_top.specs.Lines.{usage_line, configuration_line, read_line, write_line, memory_line}
 use Rattle.run_config.specs.declared.faults.ConfigFault.{ConfigFault}
-use Rattle.nesthv_top.specs.Plans.{AllRunAsWritten, Plan, fault_of, plan_of, report_of, entries_of, steps_of, events_of}
+use Rattle.nesthv_top.specs.Plans.{AllRunAsWritten, Plan, fault_of, plan_of, run_of, entries_of, steps_of, events_of}
 use Rattle.nesthv_top.specs.Reads.{asks_of, most_reads, AskedMore, BeginsWithConfig, IsFailedRead, IsWanting}
+use Rattle.nesthv_top.specs.Statuses.{ArePlain}
+use Rattle.nesthv_top.specs.Texts.{found_of, text_of}
 use Rattle.nesthv_top.specs.Written.{IsLinePut}
 
 -- a fact of the files, where the store tells them
 abbrev pub IfTold : Option Files → (Files → Type 0) → Type 0
 IfTold told P = (files : Files) → told ≡ Some files → P files
 
--- where the store tells the files, there is a plan for the command, of which this holds
-abbrev pub HasPlan : Option Files → Option Command → (Plan → Type 0) → Type 0
-HasPlan told command P = IfTold told (λ files. IsSomeAnd (plan_of files command) P)
+-- there is a command, and a plan for it, of which this holds
+abbrev pub WithPlan : Files → Option Command → (Command → Plan → Type 0) → Type 0
+WithPlan files (Some command) P = IsSomeAnd (plan_of files (Some command)) (P command)
+WithPlan files None P = ⊥
+
+-- the same where the store tells the files
+abbrev pub HasPlan : Option Files → Option Command → (Files → Command → Plan → Type 0) → Type 0
+HasPlan told command P = IfTold told (λ files. WithPlan files command (P files))
 
 -- the status is 2 only where the command has a first fault; and where it has one, the status is 2, unless a
 -- read failed or memory was wanting
@@ -34,10 +43,6 @@ pub record IsRefusal (told : Option Files) (command : Option Command) (status : 
       IfTold told (λ files. IsSome (fault_of files command) → (status ≡ 2) ⊎ (status ≡ 3) ⊎ (status ≡ 5))
 
 -- facts for an end of one kind
-abbrev pub IfDone : Ended → Type 0 → Type 0
-IfDone Done P = P
-IfDone other P = ⊤
-
 abbrev pub IfRefusedWith : Ended → (ConfigFault → Type 0) → Type 0
 IfRefusedWith (Refused found) P = P found
 IfRefusedWith other P = ⊤
@@ -50,15 +55,21 @@ abbrev pub IfWriteFault : Ended → Type 0 → Type 0
 IfWriteFault WriteFault P = P
 IfWriteFault other P = ⊤
 
--- whether the words are a command
-abbrev pub IsFor : Ended → Option Command → Type 0
-IsFor NoCommand command = command ≡ None
-IsFor other command = IsSome command
+-- whether the words are a command; memory may have been wanting to read them only where they are plain
+abbrev pub IsFor : Ended → List (List ℕ) → Type 0
+IsFor NoCommand words = command_of words ≡ None
+IsFor (NoMemory zero) words = ArePlain words
+IsFor other words = IsSome (command_of words)
+
+-- an end that words which are a command may have
+abbrev pub IsOfCommand : Ended → Type 0
+IsOfCommand NoCommand = ⊥
+IsOfCommand other = ⊤
 
 -- why a command ended so, by its words and by the counts of faults
-pub record SaysOfCause {X Y : Type 0} (S : stores.Ghosts X) (O : sinks.Ghosts Y) (command : Option Command)
+pub record SaysOfCause {X Y : Type 0} (S : stores.Ghosts X) (O : sinks.Ghosts Y) (said : List (List ℕ))
     (ended : Ended) (store store' : X) (out out' : Y) : Type 0 where
-  pub words : IsFor ended command
+  pub words : IsFor ended said
   pub read : IfReadFault ended (λ n. Rose (S.faults store) (S.faults store'))
   pub write : IfWriteFault ended (Rose (O.faults out) (O.faults out'))
 
@@ -90,20 +101,45 @@ pub record SaysOfReads {X : Type 0} (S : stores.Ghosts X) (command : Option Comm
 -- what stays as it was where nothing was run
 abbrev pub IsIdle : {A : Type 0} → Ended → A → A → Type 0
 IsIdle Done old new = ⊤
+IsIdle Differs old new = ⊤
 IsIdle WriteFault old new = ⊤
 IsIdle other old new = new ≡ old
 
--- the report, whole, or a front of it where a write failed
-abbrev pub IsReported : {Y : Type 0} → sinks.Ghosts Y → Option Plan → Ended → Y → Y → Type 0
-IsReported O plan Done old new = IsSomeAnd plan (λ p. Appends O.stands_for old new (report_of p))
-IsReported O plan WriteFault old new = IsSomeAnd plan (λ p. Puts O.stands_for old new false (report_of p))
-IsReported O plan other old new = ⊤
+-- a text was written, whole, or a front of it where a write failed
+abbrev pub IsTextPut : {Y : Type 0} → sinks.Ghosts Y → Ended → Y → Y → List ℕ → Type 0
+IsTextPut O Done old new text = Appends O.stands_for old new text
+IsTextPut O Differs old new text = Appends O.stands_for old new text
+IsTextPut O WriteFault old new text = Puts O.stands_for old new false text
+IsTextPut O other old new text = ⊤
 
--- what an end says of `out` and of the machines whose report it has
+-- an end at which all was written tells the verdict
+abbrev pub Tells : Ended → Verdict → Type 0
+Tells Done found = found ≡ verdict.Same
+Tells Differs found = (n : ℕ) × (found ≡ verdict.Differs n)
+Tells other found = ⊤
+
+-- what is said of the plan of a command that had one, at the ends that come after its tests
+abbrev pub IfPlanned : Ended → Files → Option Command → (Command → Plan → Type 0) → Type 0
+IfPlanned Done files command P = WithPlan files command P
+IfPlanned Differs files command P = WithPlan files command P
+IfPlanned WriteFault files command P = WithPlan files command P
+IfPlanned other files command P = ⊤
+
+-- a fact of a plan that is run: a check runs none
+abbrev pub IfRun : Command → Type 0 → Type 0
+IfRun (Run config) P = P
+IfRun (Replay config report) P = P
+IfRun (Check config) P = ⊤
+
+-- what an end says of `out` and of the machines whose report is written or compared
 pub record SaysOfOut {Y : Type 0} (O : sinks.Ghosts Y) (told : Option Files) (command : Option Command)
     (ended : Ended) (old new : Y) : Type 0 where
-  pub report : IfTold told (λ files. IsReported O (plan_of files command) ended old new)
-  pub machines : IfTold told (λ files. IfDone ended (IsSomeAnd (plan_of files command) AllRunAsWritten))
+  pub text : IfTold told (λ files. IfPlanned ended files command (λ command plan.
+      IsTextPut O ended old new (text_of files command plan)))
+  pub verdict : IfTold told (λ files. IfPlanned ended files command (λ command plan.
+      Tells ended (found_of files command plan)))
+  pub machines : IfTold told (λ files. IfPlanned ended files command (λ command plan.
+      IfRun command (AllRunAsWritten plan)))
   pub idle : IsIdle ended old new
   pub count : O.faults old ≤ O.faults new
   pub stays : O.made_with new ≡ O.made_with old
@@ -111,6 +147,7 @@ pub record SaysOfOut {Y : Type 0} (O : sinks.Ghosts Y) (told : Option Files) (co
 -- the line on `err` that tells of an end
 abbrev pub IsLineOf : {Z : Type 0} → sinks.Ghosts Z → Ended → Z → Z → Type 0
 IsLineOf E Done old new = new ≡ old
+IsLineOf E Differs old new = new ≡ old
 IsLineOf E NoCommand old new = IsLinePut E old new usage_line
 IsLineOf E (Refused found) old new = IsLinePut E old new (configuration_line found)
 IsLineOf E (ReadFault n) old new = IsLinePut E old new (read_line n)
@@ -124,23 +161,31 @@ pub record SaysOfErr {Z : Type 0} (E : sinks.Ghosts Z) (ended : Ended) (old new 
   pub stays : E.made_with new ≡ E.made_with old
 
 -- a run to its end made each plain step of the lone machines, and their trace
+pub record CountsRun (plan : Plan) (old new : Counts) : Type 0 where
+  pub taken : old.taken + plain_count (events_of plan) ≤ new.taken
+  pub trace : IsRaisedBy (trace_of (events_of plan)) old.trace new.trace
+
 abbrev pub IsCounted : Option Plan → Ended → Counts → Counts → Type 0
-IsCounted plan Done old new = IfSome plan (λ p. old.taken + plain_count (events_of p) ≤ new.taken)
-    × IfSome plan (λ p. IsRaisedBy (trace_of (events_of p)) old.trace new.trace)
+IsCounted plan Done old new = IfSome plan (λ p. CountsRun p old new)
+IsCounted plan Differs old new = IfSome plan (λ p. CountsRun p old new)
 IsCounted plan other old new = ⊤
+
+abbrev pub IsCheck : Option Command → Type 0
+IsCheck command = (config : List ℕ) × (command ≡ Some (Check config))
 
 -- entries and steps of the hart grew by at most this many
 pub record GrewBy (entries steps : ℕ) (old new : Counts) : Type 0 where
   pub entries_most : new.entries ≤ old.entries + entries
   pub taken_most : new.taken ≤ old.taken + steps
 
--- what an end says of the account of the hart
+-- what an end says of the account of the hart, which a check leaves as it was
 pub record SaysOfAccount (told : Option Files) (command : Option Command) (ended : Ended)
     (old new : Counts) : Type 0 where
-  pub run : IfTold told (λ files. IsCounted (plan_of files command) ended old new)
+  pub run : IfTold told (λ files. IsCounted (run_of files command) ended old new)
   pub idle : IsIdle ended old new
+  pub check : IsCheck command → new ≡ old
   pub entries : old.entries ≤ new.entries
   pub taken : old.taken ≤ new.taken
   pub bound : GrewBy (2 ^ 61) (2 ^ 52) old new
   pub most : IfTold told (λ files.
-      GrewBy (entries_of (plan_of files command)) (steps_of (plan_of files command)) old new)
+      GrewBy (entries_of (run_of files command)) (steps_of (run_of files command)) old new)

@@ -40,6 +40,16 @@ abbrev pub added_of : {A : Type 0} → Ask → Result A LoadEnd → List Ask
 added_of read (Ok a) = read ∷ []
 added_of read (Err end) = added_by read end
 
+-- the same of a file that is read, or none
+abbrev pub all_by : List Ask → LoadEnd → List Ask
+all_by reads (Refused found) = reads
+all_by reads (ReadFault n) = failed reads
+all_by reads (NoMemory n) = []
+
+abbrev pub added_all : {A : Type 0} → List Ask → Result A LoadEnd → List Ask
+added_all reads (Ok a) = reads
+added_all reads (Err end) = all_by reads end
+
 -- a fact for a refusal, by its fault
 abbrev pub IfRefusal : LoadEnd → (ConfigFault → Type 0) → Type 0
 IfRefusal (Refused found) P = P found

@@ -1,4 +1,3 @@
-pub mod Commands
 pub mod Endings
 pub mod Ends
 pub mod Lines
@@ -8,4 +7,5 @@ pub mod Reads
 pub mod Runnings
 pub mod Seen
 pub mod Statuses
+pub mod Texts
 pub mod Written

@@ -1,6 +1,7 @@
 -- What a command does with the files: the guests that it runs, their turns, and the report.
 use Rattle.std.specs.Prelude.{ℕ, ◌≡◌, ◌+◌, ◌*◌, ◌<◌, ◌≤◌, List, [], ◌∷◌, ◌++◌, Option, Some, None, Result, Ok, Err, Bool, length, map, nat_le, sum_by, unwrap_or}
 use Rattle.arch_defs.specs.Memory.{block_size}
+use Rattle.command_line.specs.Commands.{Command, Run, Replay, Check}
 use Rattle.guest_turns.specs.Hosted.{machine_at}
 use Rattle.guest_turns.specs.Limits.{frames_for}
 use Rattle.machine_defs.specs.declared.events.Event.{Event}
@@ -19,7 +20,6 @@ use Rattle.run_config.specs.Accept.{accept}
 use Rattle.run_config.specs.Configurations.{Configuration}
 use Rattle.run_config.specs.Tests.{first_fault, unless}
 use Rattle.guest_turns.specs.TurnLists.{entries_for, own_events, own_steps}
-use Rattle.nesthv_top.specs.Commands.{Command, Run}
 
 -- the first bytes of a file; one that is not there counts as empty
 abbrev pub content : Files → List ℕ → ℕ → List ℕ
@@ -108,14 +108,27 @@ abbrev pub fault_in : Result Plan ConfigFault → Option ConfigFault
 fault_in (Ok plan) = None
 fault_in (Err found) = Some found
 
+-- the configuration that a command names
+abbrev pub config_name : Command → List ℕ
+config_name (Run config) = config
+config_name (Replay config report) = config
+config_name (Check config) = config
+
 -- the plan of a command, and the first fault of its configuration
 abbrev pub plan_of : Files → Option Command → Option Plan
-plan_of files (Some (Run name)) = plan_in (planned files name)
+plan_of files (Some command) = plan_in (planned files (config_name command))
 plan_of files None = None
 
 abbrev pub fault_of : Files → Option Command → Option ConfigFault
-fault_of files (Some (Run name)) = fault_in (planned files name)
+fault_of files (Some command) = fault_in (planned files (config_name command))
 fault_of files None = None
+
+-- the plan that a command runs: a check runs none
+abbrev pub run_of : Files → Option Command → Option Plan
+run_of files (Some (Check config)) = None
+run_of files (Some (Run config)) = plan_of files (Some (Run config))
+run_of files (Some (Replay config report)) = plan_of files (Some (Replay config report))
+run_of files None = None
 
 -- the names of a plan's guests, and their lone machines at their start
 abbrev pub plan_names : Plan → List (List ℕ)

@@ -1,5 +1,6 @@
 -- The reads that a command asks for.
-use Rattle.std.specs.Prelude.{⊤, ◌≡◌, ℕ, ◌-◌, ◌≤◌, ◌==◌, List, [], ◌∷◌, ◌++◌, Option, Some, None, Result, Ok, Err, option_map, length, take, drop, Bool, false, true, if◌then◌else◌}
+use Rattle.std.specs.Prelude.{⊤, ◌≡◌, ℕ, ◌-◌, ◌+◌, ◌≤◌, ◌==◌, List, [], ◌∷◌, ◌++◌, Option, Some, None, Result, Ok, Err, option_map, length, take, drop, Bool, false, true, if◌then◌else◌}
+use Rattle.command_line.specs.Commands.{Command, Run, Replay, Check}
 use Rattle.outside.specs.Asks.{Ask}
 use Rattle.outside.specs.Files.{Files}
 use Rattle.run_config.specs.declared.faults.ConfigFault.{ConfigFault}
@@ -7,8 +8,7 @@ use Rattle.run_config.specs.declared.guests.GuestSettings.{GuestSettings}
 use Rattle.run_config.specs.Accept.{accept}
 use Rattle.run_config.specs.Configurations.{Configuration}
 use Rattle.run_config.specs.Tests.{first_fault}
-use Rattle.nesthv_top.specs.Commands.{Command, Run}
-use Rattle.nesthv_top.specs.Plans.{content, config_most, image_fits, frames_fault, guests_of, image_most, image_of, images_fault}
+use Rattle.nesthv_top.specs.Plans.{content, config_most, config_name, image_fits, frames_fault, guests_of, image_most, image_of, images_fault}
 
 -- a read of a file, at most so many bytes of it
 abbrev pub ask : List ℕ → ℕ → Ask
@@ -24,22 +24,43 @@ image_asks files [] = []
 image_asks files (guest ∷ rest) =
     image_ask guest ∷ (if image_fits guest (image_of files guest) then image_asks files rest else [])
 
--- the most reads of a command: a configuration and 16 images
+-- at most how many bytes of a report are asked for, which are those that it is compared by
+abbrev pub report_most : ℕ
+report_most = 33554432
+
+-- the read of the report that a command names
+abbrev pub report_asks : Command → List Ask
+report_asks (Run config) = []
+report_asks (Replay config report) = ask report report_most ∷ []
+report_asks (Check config) = []
+
+-- the most reads of a command: a configuration, 16 images and a report
 abbrev pub most_reads : ℕ
-most_reads = 17
+most_reads = 18
 
--- the reads of the images of a configuration, if it is accepted
-abbrev pub accepted_asks : Files → Result Configuration ConfigFault → List Ask
-accepted_asks files (Ok c) = image_asks files c.guests
-accepted_asks files (Err found) = []
+-- reads that follow where there is no fault
+abbrev pub asks_unless : Option ConfigFault → List Ask → List Ask
+asks_unless None asks = asks
+asks_unless (Some found) asks = []
 
--- the reads for a configuration: up to the first test that refuses
-abbrev pub config_asks : Files → List ℕ → List Ask
-config_asks files name = ask name config_most ∷ accepted_asks files (accept (content files name config_most))
+-- the reads after that of the configuration, if it is accepted: of the images, and, where these all fit, of
+-- the report
+abbrev pub accepted_asks : Files → Command → Result Configuration ConfigFault → List Ask
+accepted_asks files command (Ok c) =
+    image_asks files c.guests ++ asks_unless (images_fault files 0 c.guests) (report_asks command)
+accepted_asks files command (Err found) = []
 
--- the reads for a command
+-- what is read of a command's configuration
+abbrev pub config_of : Files → Command → List ℕ
+config_of files command = content files (config_name command) config_most
+
+-- the reads for a command: up to the first test that refuses
+abbrev pub command_asks : Files → Command → List Ask
+command_asks files command =
+    ask (config_name command) config_most ∷ accepted_asks files command (accept (config_of files command))
+
 abbrev pub asks_of : Files → Option Command → List Ask
-asks_of files (Some (Run name)) = config_asks files name
+asks_of files (Some command) = command_asks files command
 asks_of files None = []
 
 -- reads that answered a failure
@@ -61,8 +82,9 @@ AskedSome before after = (reads : List Ask) × AskedMore reads before after
 
 -- reads were made, and the first of them was that of the command's configuration, whatever it answered
 abbrev pub BeginsWithConfig : Option Command → Option (List Ask) → Option (List Ask) → Type 0
-BeginsWithConfig (Some (Run name)) before after = (failed : Bool) × (rest : List Ask)
-    × AskedMore (record { name = name; most = config_most; failed = failed } ∷ rest) before after
+BeginsWithConfig (Some command) before after = (failed : Bool) × (rest : List Ask)
+    × AskedMore (record { name = config_name command; most = config_most; failed = failed } ∷ rest)
+    before after
 BeginsWithConfig None before after = ⊥
 
 -- of the reads that are to be made, the first n were made, and the last of these answered a failure
@@ -71,31 +93,34 @@ pub record IsFailedRead (n : ℕ) (reads : List Ask) (before after : Option (Lis
   pub number : n ≤ length reads
   pub asked : AskedMore (failed_at n reads) before after
 
--- the fault that the tests find after the reads of the first n images: one of these images, or, after the
--- last of them, of the frames
-abbrev pub frames_after : Files → ℕ → Configuration → Option ConfigFault
-frames_after files n c = if n == length c.guests then frames_fault (guests_of files c.guests) else None
+-- the fault that the tests find after n reads more than that of the configuration: one of the images that
+-- were read, or, after the last read, of the frames
+abbrev pub frames_after : Files → ℕ → Command → Configuration → Option ConfigFault
+frames_after files n command c =
+    if n == length c.guests + length (report_asks command)
+    then frames_fault (guests_of files c.guests) else None
 
-abbrev pub images_after : Files → ℕ → Configuration → Option ConfigFault
-images_after files n c = first_fault (images_fault files 0 (take n c.guests) ∷ frames_after files n c ∷ [])
+abbrev pub fault_after : Files → ℕ → Command → Configuration → Option ConfigFault
+fault_after files n command c =
+    first_fault (images_fault files 0 (take n c.guests) ∷ frames_after files n command c ∷ [])
 
 -- a command's configuration is not too long
 abbrev pub IsShort : Files → Option Command → Type 0
-IsShort files (Some (Run name)) = length (content files name config_most) ≤ 65536
+IsShort files (Some command) = length (config_of files command) ≤ 65536
 IsShort files None = ⊤
 
--- a command's configuration is accepted, and after the reads of the first n images there is no fault
-abbrev pub IsFaultless : Files → ℕ → Result Configuration ConfigFault → Type 0
-IsFaultless files n (Ok c) = images_after files n c ≡ None
-IsFaultless files n (Err found) = ⊥
+-- a command's configuration is accepted, and n reads later there is no fault
+abbrev pub IsFaultless : Files → ℕ → Command → Result Configuration ConfigFault → Type 0
+IsFaultless files n command (Ok c) = fault_after files n command c ≡ None
+IsFaultless files n command (Err found) = ⊥
 
 abbrev pub HasNoFault : Files → ℕ → Option Command → Type 0
-HasNoFault files n (Some (Run name)) = IsFaultless files n (accept (content files name config_most))
+HasNoFault files n (Some command) = IsFaultless files n command (accept (config_of files command))
 HasNoFault files n None = ⊤
 
 -- memory was wanting after the first n of a command's reads were made, and no test before had refused: after
 -- the first read the configuration is not too long, and after more the images so far fit, and the frames
--- after the last of them
+-- after the last read
 pub record IsWanting (n : ℕ) (files : Files) (command : Option Command)
     (before after : Option (List Ask)) : Type 0 where
   pub number : n ≤ length (asks_of files command)

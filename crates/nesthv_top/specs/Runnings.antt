@@ -1,5 +1,6 @@
 -- What a run of a plan leaves: its account, and the report of machines.
 use Rattle.std.specs.Prelude.{◌≡◌, ℕ, ◌+◌, ◌≤◌, List, [], ◌∷◌, ◌++◌, Result, Ok, Err}
+use Rattle.command_line.specs.Commands.{Command, Run, Replay, Check}
 use Rattle.machine_defs.specs.Runs.{plain_count, trace_of}
 use Rattle.rv64_hart.specs.Counts.{Counts, IsRaisedBy}
 use Rattle.nesthv_top.specs.declared.ends.RunEnd.{RunEnd}
@@ -28,3 +29,9 @@ abbrev pub IsAccountOf : {A : Type 0} → Plan → Result A RunEnd → Counts �
 IsAccountOf plan (Ok a) old new = CountsTurns plan old new
 IsAccountOf plan (Err WriteFault) old new = CountsTurns plan old new
 IsAccountOf plan (Err NoMemory) old new = new ≡ old
+
+-- the same for what is asked for: a check runs nothing
+abbrev pub IsAccountFor : {A : Type 0} → Command → Plan → Result A RunEnd → Counts → Counts → Type 0
+IsAccountFor (Run config) plan result old new = IsAccountOf plan result old new
+IsAccountFor (Replay config report) plan result old new = IsAccountOf plan result old new
+IsAccountFor (Check config) plan result old new = new ≡ old

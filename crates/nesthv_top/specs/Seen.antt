@@ -1,21 +1,19 @@
--- The command and the plan that the program's own values stand for.
+-- The plan that the program's own values stand for.
 use Rattle.std.specs.List.{All}
 use Rattle.std.specs.Prelude.{◌≡◌, ◌≤◌, ℕ, List, map}
 use Rattle.machine_defs.specs.declared.guests.GuestSpec.{GuestSpec}
 use Rattle.guest_turns.specs.Limits.{IsBootable, frames_for}
 use Rattle.run_config.specs.declared.guests.GuestSettings.{GuestSettings}
 use Rattle.run_config.specs.Configurations.{IsWithinLimits}
-use Rattle.nesthv_top.specs.declared.commands.Request.{Request}
-use Rattle.nesthv_top.specs.declared.commands.Request.TheVariants as request
 use Rattle.nesthv_top.specs.declared.ends.Job.{Job}
-use Rattle.nesthv_top.specs.Commands.{Command, Run}
+use Rattle.nesthv_top.specs.declared.ends.Loaded.{Loaded}
 use Rattle.nesthv_top.specs.Plans.{Plan}
-
-abbrev pub command_seen : Request → Command
-command_seen (request.Run config) = Run config.now
 
 abbrev pub plan_seen : Job → Plan
 plan_seen job = record { guests = job.guests.items; turns = job.config.turns }
+
+abbrev pub loaded_plan : Loaded → Plan
+loaded_plan loaded = plan_seen loaded.job
 
 -- the names of guests, and those that a configuration says
 abbrev pub names_of_guests : List GuestSpec → List (List ℕ)

@@ -18,6 +18,14 @@ pub struct Job {
     pub guests: Vec<GuestSpec>,
 }
 
+/// What a command needs: its job, and what was read of the stored report that it names, which is nothing
+/// where it names none.
+#[derive(Debug, Drop)]
+pub struct Loaded {
+    pub job: Job,
+    pub stored: Vec<u8>,
+}
+
 /// Why a job was not done.
 #[derive(Clone, Copy, Debug, PartialEq, Eq)]
 pub enum RunEnd {
@@ -25,10 +33,11 @@ pub enum RunEnd {
     WriteFault,
 }
 
-/// How a command ended.
+/// How a command ended. `Differs` is the end of a replay that found a difference, and wrote so.
 #[derive(Clone, Copy, Debug, PartialEq, Eq)]
 pub enum Ended {
     Done,
+    Differs,
     NoCommand,
     Refused(ConfigFault),
     ReadFault(u64),

@@ -1,15 +1,18 @@
-// The top call: a command's words, the files that it names, and the report that it writes.
+// The top call: a command's words, the files that it names, and the text that it writes.
 #![tactic(auto)]
 
-mod commands;
+mod checking;
 mod ends;
 mod lines;
 mod loading;
 mod obeying;
 mod programs;
+mod replaying;
 mod running;
 #[cfg(test)]
 mod tests;
+#[cfg(test)]
+mod tests_commands;
 #[cfg(test)]
 mod tests_fences;
 #[cfg(test)]

@@ -16,7 +16,7 @@ pub fn tell<E: Sink>(ended: Ended, err: &mut E)
     ensures { SaysOfErr E.Sink ended err.old err.new }
 {
     match ended {
-        Ended::Done => {}
+        Ended::Done | Ended::Differs => {}
         Ended::NoCommand => put_line(
             b"nesthv: usage: run CONFIG | replay CONFIG REPORT | check CONFIG | work SEED SIZE\n",
             err,

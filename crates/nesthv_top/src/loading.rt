@@ -1,22 +1,24 @@
 // From a configuration's name to the job that it describes.
 
-ghost use Rattle.std.specs.Prelude.{◌≡◌, ◌+◌, ◌^◌, ◌<◌, ◌≤◌, [], ◌∷◌, Some, None, length, IfOk, IfErr, OnOk};
+ghost use Rattle.std.specs.Prelude.{◌≡◌, ◌+◌, ◌^◌, ◌<◌, ◌≤◌, [], ◌∷◌, Some, None, length, IfOk, IfErr, OnOk, OnErr};
 ghost use Rattle.std.specs.List.{All};
+ghost use Rattle.command_line.specs.Seen.{command_seen};
 ghost use Rattle.guest_turns.specs.Limits.{IsBootable, frames_for};
 ghost use Rattle.outside.specs.Faults.{Rose};
 ghost use Rattle.outside.specs.Files.{Files};
 ghost use Rattle.run_config.specs.Accept.{accept};
 ghost use Rattle.run_config.specs.Configurations.{Configuration, IsGuestWithin, IsWithinLimits};
-ghost use Rattle.nesthv_top.specs.Commands.{Run};
 ghost use Rattle.nesthv_top.specs.Endings.{SaysOfReads};
-ghost use Rattle.nesthv_top.specs.Ends.{AnswersAs, added_of, ended_by, ended_of, IfNoMemory, IfReadFailed, IfLoadRefused};
+ghost use Rattle.nesthv_top.specs.Ends.{AnswersAs, added_all, added_of, ended_by, ended_of, IfNoMemory, IfReadFailed, IfLoadRefused};
 ghost use Rattle.nesthv_top.specs.Loads.{AreLoaded, AreRead, IsLoaded, ReadsStopped};
-ghost use Rattle.nesthv_top.specs.Plans.{config_most, content, frames_fault, guest_of, guest_ram_size, image_fault, image_of, planned};
-ghost use Rattle.nesthv_top.specs.Reads.{ask, image_ask, AskedMore, AskedSome};
-ghost use Rattle.nesthv_top.specs.Seen.{plan_seen, IsJob};
+ghost use Rattle.nesthv_top.specs.Plans.{config_most, config_name, content, frames_fault, guest_of, guest_ram_size, image_fault, image_of, planned};
+ghost use Rattle.nesthv_top.specs.Reads.{ask, config_of, image_ask, report_asks, AskedMore, AskedSome};
+ghost use Rattle.nesthv_top.specs.Seen.{loaded_plan, IsJob};
+ghost use Rattle.nesthv_top.specs.Texts.{stored_of};
 
-use crate::ends::{Job, LoadEnd};
-use arch_defs::{BLOCK_SIZE, Need};
+use crate::ends::{Job, LoadEnd, Loaded};
+use arch_defs::BLOCK_SIZE;
+use command_line::Request;
 use machine_defs::{Bytes, GuestSpec, Inputs, Name};
 use outside::{Store, StoreFault};
 use run_config::{Config, ConfigFault, GuestSettings, ReadEnd};
@@ -25,18 +27,24 @@ use std::alloc::{AllocError, Global};
 /// At most how many bytes of a configuration are asked for: one more than it may have.
 const CONFIG_MOST: u64 = 65_537;
 
+/// At most how many bytes of a stored report are asked for, which are those that it is compared by.
+const REPORT_MOST: u64 = 33_554_432;
+
 /// The most frames of machine memory.
 const MOST_FRAMES: u64 = 131_072;
 
-/// Reads a configuration and its images.
-pub fn load<S: Store>(alloc: Global, name: &str, store: &mut S) -> Result<Job, LoadEnd>
-    ensures reads { SaysOfReads S.Store (Some (Run name.now)) (ended_of result) store.old store.new }
+/// Reads what is asked for: a configuration, its images, and for a replay the stored report.
+pub fn load<S: Store>(alloc: Global, request: Request<'_>, store: &mut S) -> Result<Loaded, LoadEnd>
+    ensures reads { SaysOfReads S.Store (Some (command_seen request.entry)) (ended_of result)
+        store.old store.new }
     ensures cause { IfReadFailed result (λ n. Rose (S.faults store.old) (S.faults store.new)) }
     ensures planned { (files : Files) → S.files store.old ≡ Some files
-        → AnswersAs plan_seen result (planned files name.now) }
-    ensures job { IfOk result IsJob }
+        → AnswersAs loaded_plan result (planned files (config_name (command_seen request.entry))) }
+    ensures stored { (files : Files) → S.files store.old ≡ Some files
+        → IfOk result (λ loaded. loaded.stored.items ≡ stored_of files (command_seen request.entry)) }
+    ensures job { IfOk result (λ loaded. IsJob loaded.job) }
 {
-    let config = match read_config(alloc, name, store) {
+    let config = match read_config(alloc, request, store) {
         Ok(config) => config,
         Err(end) => return Err(end),
     };
@@ -44,26 +52,48 @@ pub fn load<S: Store>(alloc: Global, name: &str, store: &mut S) -> Result<Job, L
         Ok(guests) => guests,
         Err(end) => return Err(end),
     };
+    let stored = match read_stored(alloc, request, config.guests().len() as u64, store) {
+        Ok(stored) => stored,
+        Err(end) => return Err(end),
+    };
     match frames_fault(guests.as_slice()) {
         Some(fault) => Err(LoadEnd::Refused(fault)),
-        None => Ok(Job { config, guests }),
+        None => Ok(Loaded {
+            job: Job { config, guests },
+            stored,
+        }),
     }
 }
 
-// Reads a configuration.
-fn read_config<S: Store>(alloc: Global, name: &str, store: &mut S) -> Result<Config, LoadEnd>
+// The configuration that is named.
+fn config_name<'a>(request: Request<'a>) -> &'a str
+    ensures { result.now ≡ config_name (command_seen request.entry) }
+{
+    match request {
+        Request::Run { config } | Request::Check { config } | Request::Replay { config, .. } =>
+            config,
+    }
+}
+
+// Reads the configuration that is named.
+fn read_config<S: Store>(
+    alloc: Global,
+    request: Request<'_>,
+    store: &mut S,
+) -> Result<Config, LoadEnd>
     ensures accepted { (files : Files) → S.files store.old ≡ Some files
-        → AnswersAs (λ (c : Configuration). c) result (accept (content files name.now config_most)) }
+        → AnswersAs (λ (c : Configuration). c) result
+        (accept (config_of files (command_seen request.entry))) }
     ensures limits { IfOk result IsWithinLimits }
-    ensures asked { OnOk result
-        (AskedMore (ask name.now config_most ∷ []) (S.asked store.old) (S.asked store.new)) }
+    ensures asked { OnOk result (AskedMore (ask (config_name (command_seen request.entry)) config_most ∷ [])
+        (S.asked store.old) (S.asked store.new)) }
     ensures ended { IfErr result (λ end.
-        SaysOfReads S.Store (Some (Run name.now)) (ended_by end) store.old store.new) }
+        SaysOfReads S.Store (Some (command_seen request.entry)) (ended_by end) store.old store.new) }
     ensures cause { IfReadFailed result (λ n. Rose (S.faults store.old) (S.faults store.new)) }
     ensures stays { S.files store.new ≡ S.files store.old }
     ensures count { S.faults store.old ≤ S.faults store.new }
 {
-    let bytes = match store.read(alloc, name, CONFIG_MOST) {
+    let bytes = match store.read(alloc, config_name(request), CONFIG_MOST) {
         Ok(bytes) => bytes,
         Err(StoreFault::Failed) => return Err(LoadEnd::ReadFault(1)),
         Err(StoreFault::NoMemory) => return Err(LoadEnd::NoMemory(0)),
@@ -198,6 +228,37 @@ fn read_image<S: Store>(
     }
 }
 
+// Reads the stored report, if one is named, after the configuration and so many images.
+fn read_stored<S: Store>(
+    alloc: Global,
+    request: Request<'_>,
+    images: u64,
+    store: &mut S,
+) -> Result<Vec<u8>, LoadEnd>
+    requires { images ≤ 16 }
+    ensures stored { (files : Files) → S.files store.old ≡ Some files
+        → IfOk result (λ stored. stored.items ≡ stored_of files (command_seen request.entry)) }
+    ensures asked { AskedMore (added_all (report_asks (command_seen request.entry)) result)
+        (S.asked store.old) (S.asked store.new) }
+    ensures named { OnErr result (1 ≤ length (report_asks (command_seen request.entry))) }
+    ensures refused { IfLoadRefused result (λ found. ⊥) }
+    ensures cause { IfReadFailed result (λ n. (n ≡ images + 2)
+        × Rose (S.faults store.old) (S.faults store.new)) }
+    ensures memory { IfNoMemory result (λ n. n ≡ images + 1) }
+    ensures stays { S.files store.new ≡ S.files store.old }
+    ensures count { S.faults store.old ≤ S.faults store.new }
+{
+    let report = match request {
+        Request::Run { .. } | Request::Check { .. } => return Ok(Vec::new(alloc)),
+        Request::Replay { report, .. } => report,
+    };
+    match store.read(alloc, report, REPORT_MOST) {
+        Ok(stored) => Ok(stored),
+        Err(StoreFault::Failed) => Err(LoadEnd::ReadFault(images + 2)),
+        Err(StoreFault::NoMemory) => Err(LoadEnd::NoMemory(images + 1)),
+    }
+}
+
 // The fault of guests that need more frames than machine memory has.
 fn frames_fault(guests: &[GuestSpec]) -> Option<ConfigFault>
     requires few { length guests.now ≤ 16 }
@@ -212,8 +273,8 @@ fn frames_fault(guests: &[GuestSpec]) -> Option<ConfigFault>
     }
 }
 
-// The frames of machine memory that guests need.
-fn frames_for(guests: &[GuestSpec]) -> u64
+/// The frames of machine memory that guests need.
+pub fn frames_for(guests: &[GuestSpec]) -> u64
     requires few { length guests.now ≤ 16 }
     requires each { All IsBootable guests.now }
     ensures frames { result ≡ frames_for guests.now }
@@ -221,12 +282,7 @@ fn frames_for(guests: &[GuestSpec]) -> u64
 {
     let mut sum = 0;
     for guest in guests {
-        let need = Need {
-            blocks: guest.blocks,
-            spaces: guest.spaces,
-            entries: guest.entries,
-        };
-        sum += need.frames();
+        sum += guest.need().frames();
     }
     sum
 }

@@ -1,14 +1,25 @@
 // From a command to its end.
 
-ghost use Rattle.std.specs.Prelude.{◌^◌, ◌≤◌, Some};
-ghost use Rattle.nesthv_top.specs.Commands.{Run, command_of};
-ghost use Rattle.nesthv_top.specs.Endings.{SaysOfAccount, SaysOfCause, SaysOfOut, SaysOfReads};
+ghost use Rattle.std.specs.Prelude.{◌≡◌, ◌^◌, ◌≤◌, Some, IfOk, IsErrOf, length};
+ghost use Rattle.command_line.specs.Commands.{command_of};
+ghost use Rattle.command_line.specs.Seen.{command_seen};
+ghost use Rattle.outside.specs.Faults.{Rose};
+ghost use Rattle.nesthv_top.specs.Endings.{IfReadFault, IfRun, IfWriteFault, IsOfCommand, SaysOfAccount, SaysOfCause, SaysOfOut, SaysOfReads};
+ghost use Rattle.nesthv_top.specs.Plans.{AllRunAsWritten};
+ghost use Rattle.nesthv_top.specs.Reads.{report_asks};
+ghost use Rattle.nesthv_top.specs.Runnings.{IsAccountFor};
+ghost use Rattle.nesthv_top.specs.Seen.{plan_seen, IsJob};
+ghost use Rattle.nesthv_top.specs.Texts.{found_with, text_with};
+ghost use Rattle.nesthv_top.specs.Written.{IsWritten};
 
-use crate::commands::{Request, request_of};
-use crate::ends::{Ended, LoadEnd, RunEnd};
+use crate::checking::check;
+use crate::ends::{Ended, Job, LoadEnd, Loaded, RunEnd};
 use crate::loading::load;
+use crate::replaying::replay;
 use crate::running::run;
+use command_line::{Request, request_of};
 use outside::{Sink, Store, Word};
+use replay::Verdict;
 use rv64_hart::Tally;
 use std::alloc::Global;
 
@@ -23,22 +34,22 @@ pub fn obey<S: Store, O: Sink>(
     requires entries { tally.old.entries ≤ 2 ^ 61 }
     requires taken { tally.old.taken ≤ 2 ^ 61 }
 
-    ensures cause { SaysOfCause S.Store O.Sink (command_of words.now) result store.old store.new
-        out.old out.new }
+    ensures cause { SaysOfCause S.Store O.Sink words.now result store.old store.new out.old out.new }
     ensures reads { SaysOfReads S.Store (command_of words.now) result store.old store.new }
     ensures out { SaysOfOut O.Sink (S.files store.old) (command_of words.now) result out.old out.new }
     ensures account { SaysOfAccount (S.files store.old) (command_of words.now) result tally.old tally.new }
 {
-    match request_of(words) {
-        Some(Request::Run { config }) => run_configuration(alloc, config, store, out, tally),
-        None => Ended::NoCommand,
+    match request_of(alloc, words) {
+        Ok(Some(request)) => answer(alloc, request, store, out, tally),
+        Ok(None) => Ended::NoCommand,
+        Err(_) => Ended::NoMemory(0),
     }
 }
 
-// Runs the configuration of this name.
-fn run_configuration<S: Store, O: Sink>(
+// Does what is asked for.
+fn answer<S: Store, O: Sink>(
     alloc: Global,
-    config: &str,
+    request: Request<'_>,
     store: &mut S,
     out: &mut O,
     tally: &mut Tally,
@@ -46,22 +57,72 @@ fn run_configuration<S: Store, O: Sink>(
     requires entries { tally.old.entries ≤ 2 ^ 61 }
     requires taken { tally.old.taken ≤ 2 ^ 61 }
 
-    ensures cause { SaysOfCause S.Store O.Sink (Some (Run config.now)) result store.old store.new
+    ensures command { IsOfCommand result }
+    ensures read { IfReadFault result (λ n. Rose (S.faults store.old) (S.faults store.new)) }
+    ensures write { IfWriteFault result (Rose (O.faults out.old) (O.faults out.new)) }
+    ensures reads { SaysOfReads S.Store (Some (command_seen request.entry)) result store.old store.new }
+    ensures out { SaysOfOut O.Sink (S.files store.old) (Some (command_seen request.entry)) result
         out.old out.new }
-    ensures reads { SaysOfReads S.Store (Some (Run config.now)) result store.old store.new }
-    ensures out { SaysOfOut O.Sink (S.files store.old) (Some (Run config.now)) result out.old out.new }
-    ensures account { SaysOfAccount (S.files store.old) (Some (Run config.now)) result tally.old tally.new }
+    ensures account { SaysOfAccount (S.files store.old) (Some (command_seen request.entry)) result
+        tally.old tally.new }
 {
-    let job = match load(alloc, config, store) {
-        Ok(job) => job,
+    let Loaded { job, stored } = match load(alloc, request, store) {
+        Ok(loaded) => loaded,
         Err(LoadEnd::Refused(fault)) => return Ended::Refused(fault),
         Err(LoadEnd::ReadFault(number)) => return Ended::ReadFault(number),
         Err(LoadEnd::NoMemory(reads)) => return Ended::NoMemory(reads),
     };
-    let reads = 1 + job.guests.as_slice().len() as u64;
-    match run(alloc, job, out, tally) {
-        Ok(()) => Ended::Done,
+    let reads = 1 + job.guests.as_slice().len() as u64 + reports_read(request);
+    match perform(alloc, request, job, stored.as_slice(), out, tally) {
+        Ok(Verdict::Same) => Ended::Done,
+        Ok(Verdict::Differs(_)) => Ended::Differs,
         Err(RunEnd::WriteFault) => Ended::WriteFault,
         Err(RunEnd::NoMemory) => Ended::NoMemory(reads),
+    }
+}
+
+// How many stored reports are read.
+fn reports_read(request: Request<'_>) -> u64
+    ensures { result ≡ length (report_asks (command_seen request.entry)) }
+{
+    match request {
+        Request::Run { .. } | Request::Check { .. } => 0,
+        Request::Replay { .. } => 1,
+    }
+}
+
+// Does with a job what is asked for, and answers what a replay finds; the others find nothing that differs.
+fn perform<O: Sink>(
+    alloc: Global,
+    request: Request<'_>,
+    job: Job,
+    stored: &[u8],
+    out: &mut O,
+    tally: &mut Tally,
+) -> Result<Verdict, RunEnd>
+    requires job { IsJob job }
+    requires entries { tally.old.entries ≤ 2 ^ 61 }
+    requires taken { tally.old.taken ≤ 2 ^ 61 }
+
+    ensures found { IfOk result (λ found.
+        found ≡ found_with (command_seen request.entry) stored.now (plan_seen job)) }
+    ensures written { IsWritten O.stands_for out.old out.new result
+        (text_with (command_seen request.entry) stored.now (plan_seen job)) }
+    ensures cause { IsErrOf result RunEnd.WriteFault → Rose (O.faults out.old) (O.faults out.new) }
+    ensures count { O.faults out.old ≤ O.faults out.new }
+    ensures stays { O.made_with out.new ≡ O.made_with out.old }
+    ensures account { IsAccountFor (command_seen request.entry) (plan_seen job) result tally.old tally.new }
+    ensures machines { IfRun (command_seen request.entry) (AllRunAsWritten (plan_seen job)) }
+{
+    match request {
+        Request::Run { .. } => match run(alloc, job, out, tally) {
+            Ok(()) => Ok(Verdict::Same),
+            Err(end) => Err(end),
+        },
+        Request::Replay { .. } => replay(alloc, job, stored, out, tally),
+        Request::Check { .. } => match check(&job, out) {
+            Ok(()) => Ok(Verdict::Same),
+            Err(_) => Err(RunEnd::WriteFault),
+        },
     }
 }

@@ -1,7 +1,7 @@
 // The whole program.
 
 ghost use Rattle.std.specs.Prelude.{◌≡◌, ◌^◌, ◌≤◌, IfOk, OnErr};
-ghost use Rattle.nesthv_top.specs.Commands.{command_of};
+ghost use Rattle.command_line.specs.Commands.{command_of};
 ghost use Rattle.nesthv_top.specs.Endings.{SaysOfAccount, SaysOfCause, SaysOfErr, SaysOfOut, SaysOfReads};
 ghost use Rattle.nesthv_top.specs.Lines.{memory_line};
 ghost use Rattle.nesthv_top.specs.Statuses.{IsStatusOf};
@@ -10,15 +10,16 @@ ghost use Rattle.nesthv_top.specs.Written.{IsLinePut};
 use crate::ends::Ended;
 use crate::lines::tell;
 use crate::top::{nesthv, status_of};
+use no_memory::NoMemory;
 use outside::{Sink, Store, Word};
 use rv64_hart::Tally;
-use std::alloc::{AllocError, Global};
+use std::alloc::Global;
 
 /// The program from its words to its status. The words are those of the command line, the program's name
 /// first, or want of memory for them. Then the line of status 5 is put, and nothing else is done.
 pub fn program<S: Store, O: Sink, E: Sink>(
     alloc: Global,
-    words: Result<Vec<Word>, AllocError>,
+    words: Result<Vec<Word>, NoMemory>,
     store: &mut S,
     out: &mut O,
     err: &mut E,
@@ -29,7 +30,7 @@ pub fn program<S: Store, O: Sink, E: Sink>(
 
     // With words: the status is that of an end of the command, which says why it comes and what it leaves.
     ensures ended { IfOk words (λ words. IsStatusOf result (λ ended.
-        SaysOfCause S.Store O.Sink (command_of words.items) ended store.old store.new out.old out.new
+        SaysOfCause S.Store O.Sink words.items ended store.old store.new out.old out.new
         × SaysOfReads S.Store (command_of words.items) ended store.old store.new
         × SaysOfOut O.Sink (S.files store.old) (command_of words.items) ended out.old out.new
         × SaysOfErr E.Sink ended err.old err.new
@@ -44,7 +45,7 @@ pub fn program<S: Store, O: Sink, E: Sink>(
 {
     match words {
         Ok(words) => nesthv(alloc, words.as_slice(), store, out, err, tally),
-        Err(AllocError) => {
+        Err(NoMemory) => {
             let ended = Ended::NoMemory(0);
             tell(ended, err);
             status_of(ended)

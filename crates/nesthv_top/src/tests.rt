@@ -1,7 +1,8 @@
 use crate::{nesthv, program};
+use no_memory::NoMemory;
 use outside::{Asked, CleanSink, ListSink, MapStore, Word};
 use rv64_hart::Tally;
-use std::alloc::{AllocError, Global};
+use std::alloc::Global;
 use std::test::Fail;
 
 /// Puts `A` on the console, and stops: 5 steps, of which two are calls.
@@ -162,14 +163,14 @@ fn config(
     rounds: u64,
     entries: u64,
     console: u64,
-) -> Result<String, AllocError> {
-    format!(in alloc;
+) -> Result<String, NoMemory> {
+    Ok(format!(in alloc;
         "format = 1\nquantum = {quantum}\nrounds = {rounds}\n[[guest]]\nname = \"a\"\nimage = \"a.bin\"\nblocks = 1\nspaces = 1\nentries = {entries}\nconsole = {console}\n"
-    )
+    )?)
 }
 
 /// Appends these instructions.
-pub fn append(bytes: &mut Vec<u8>, words: &[u32]) -> Result<(), AllocError> {
+pub fn append(bytes: &mut Vec<u8>, words: &[u32]) -> Result<(), NoMemory> {
     for word in words {
         bytes.extend_from_slice(&word.to_le_bytes())?;
     }
@@ -177,7 +178,7 @@ pub fn append(bytes: &mut Vec<u8>, words: &[u32]) -> Result<(), AllocError> {
 }
 
 /// Appends doublewords, each with zeros up to its offset.
-pub fn append_at(bytes: &mut Vec<u8>, doublewords: &[(usize, u64)]) -> Result<(), AllocError> {
+pub fn append_at(bytes: &mut Vec<u8>, doublewords: &[(usize, u64)]) -> Result<(), NoMemory> {
     for &(offset, value) in doublewords {
         if bytes.len() < offset {
             bytes.resize(offset, 0)?;
@@ -188,7 +189,7 @@ pub fn append_at(bytes: &mut Vec<u8>, doublewords: &[(usize, u64)]) -> Result<()
 }
 
 /// The bytes of these instructions, and zeros after them up to this length.
-pub fn image(alloc: Global, words: &[u32], length: usize) -> Result<Vec<u8>, AllocError> {
+pub fn image(alloc: Global, words: &[u32], length: usize) -> Result<Vec<u8>, NoMemory> {
     let mut bytes = Vec::new(alloc);
     append(&mut bytes, words)?;
     if bytes.len() < length {
@@ -197,7 +198,7 @@ pub fn image(alloc: Global, words: &[u32], length: usize) -> Result<Vec<u8>, All
     Ok(bytes)
 }
 
-pub fn words_of(alloc: Global, texts: &[&str]) -> Result<Vec<Word>, AllocError> {
+pub fn words_of(alloc: Global, texts: &[&str]) -> Result<Vec<Word>, NoMemory> {
     let mut words = Vec::new(alloc);
     for text in texts {
         words.push(Word::new(alloc, text)?)?;
@@ -205,14 +206,14 @@ pub fn words_of(alloc: Global, texts: &[&str]) -> Result<Vec<Word>, AllocError> 
     Ok(words)
 }
 
-pub fn sink(alloc: Global, failing: u64) -> Result<ListSink, AllocError> {
+pub fn sink(alloc: Global, failing: u64) -> Result<ListSink, NoMemory> {
     let mut sink = ListSink::new(alloc, 256)?;
     sink.fail_at(failing, 0)?;
     Ok(sink)
 }
 
 /// A store with the configuration `k` and the image `a.bin`.
-fn store_of(alloc: Global, config: &str, image: &[u8]) -> Result<MapStore, AllocError> {
+fn store_of(alloc: Global, config: &str, image: &[u8]) -> Result<MapStore, NoMemory> {
     let mut store = MapStore::new(alloc);
     store.insert("k", config.as_bytes())?;
     store.insert("a.bin", image)?;
@@ -226,7 +227,7 @@ pub fn outcome(
     config: &str,
     image: &[u8],
     failing: Failing,
-) -> Result<Left, AllocError> {
+) -> Result<Left, NoMemory> {
     let words = words_of(alloc, texts)?;
     let mut store = store_of(alloc, config, image)?;
     store.fail_at(failing.read)?;
@@ -280,7 +281,7 @@ fn whole_program(rt: HostRuntime) -> Result<(), Fail> {
     let mut out = sink(rt.alloc(), 0)?;
     let mut err = sink(rt.alloc(), 0)?;
     let mut tally = Tally::new();
-    let words = Err(AllocError);
+    let words = Err(NoMemory);
     let status = program(
         rt.alloc(),
         words,
@@ -323,7 +324,7 @@ pub struct Case<'a> {
 }
 
 /// Whether the run of a guest ends with this report.
-pub fn is_reported(alloc: Global, case: Case<'_>, report: &str) -> Result<bool, AllocError> {
+pub fn is_reported(alloc: Global, case: Case<'_>, report: &str) -> Result<bool, NoMemory> {
     let mut config = config(alloc, case.quantum, case.rounds, 16, case.console)?;
     config.push_str(case.inputs)?;
     let left = outcome(alloc, &RUN, config.as_str(), case.image, NONE)?;
@@ -445,7 +446,7 @@ const TRAPS: [(&[u32], &str); 12] = [
 ];
 
 /// The handler, and these instructions behind those that set it.
-fn trapping_image(alloc: Global, words: &[u32]) -> Result<Vec<u8>, AllocError> {
+fn trapping_image(alloc: Global, words: &[u32]) -> Result<Vec<u8>, NoMemory> {
     let mut bytes = image(alloc, &SETS_HANDLER, 0)?;
     append(&mut bytes, words)?;
     if bytes.len() < HANDLER_AT {
@@ -470,17 +471,49 @@ fn reports_of_traps(rt: HostRuntime) -> Result<(), Fail> {
 #[test]
 fn reports_of_turns(rt: HostRuntime) -> Result<(), Fail> {
     let image = image(rt.alloc(), &PUTS_A, 0)?;
-    for (quantum, rounds, console, report) in [
-        (10_000, 1, 0, "guest a stopped steps 5 bytes 0\n\n"),
-        (10_000, 0, 100, "guest a running steps 0 bytes 0\n\n"),
-        (0, 7, 100, "guest a running steps 0 bytes 0\n\n"),
-        (2, 2, 100, "guest a running steps 4 bytes 1\nA\n"),
-        (1, 5, 100, "guest a stopped steps 5 bytes 1\nA\n"),
+    for (quantum, rounds, report) in [
+        (10_000, 0, "guest a running steps 0 bytes 0\n\n"),
+        (0, 7, "guest a running steps 0 bytes 0\n\n"),
+        (2, 2, "guest a running steps 4 bytes 1\nA\n"),
+        (1, 5, "guest a stopped steps 5 bytes 1\nA\n"),
     ] {
         let case = Case {
             image: image.as_slice(),
             quantum,
             rounds,
+            console: 100,
+            inputs: "",
+        };
+        assert!(rt; is_reported(rt.alloc(), case, report)?, "{report}");
+    }
+    Ok(())
+}
+
+/// Puts `A`, and stops if the answer is -1; if it is not, a branch to itself goes on for ever.
+const STOPS_AT_A_FULL_CONSOLE: [u32; 7] = [
+    0x0010_0893, // addi a7, zero, 1
+    0x0410_0513, // addi a0, zero, 65
+    0x0000_0073, // ecall
+    0x0015_0513, // addi a0, a0, 1
+    0x0005_1063, // bne a0, zero, 0
+    0x0080_0893, // addi a7, zero, 8
+    0x0000_0073, // ecall
+];
+
+/// On a console without room a put answers -1, and its byte is dropped.
+#[test]
+fn full_console(rt: HostRuntime) -> Result<(), Fail> {
+    let puts_a = image(rt.alloc(), &PUTS_A, 0)?;
+    let tells = image(rt.alloc(), &STOPS_AT_A_FULL_CONSOLE, 0)?;
+    for (image, console, report) in [
+        (&puts_a, 0, "guest a stopped steps 5 bytes 0\n\n"),
+        (&tells, 0, "guest a stopped steps 7 bytes 0\n\n"),
+        (&tells, 1, "guest a running steps 2000 bytes 1\nA\n"),
+    ] {
+        let case = Case {
+            image: image.as_slice(),
+            quantum: 1,
+            rounds: 2_000,
             console,
             inputs: "",
         };
@@ -516,7 +549,7 @@ fn failing_store_and_sink(rt: HostRuntime) -> Result<(), Fail> {
 }
 
 /// Words that are no command.
-const NO_COMMANDS: [&[&str]; 12] = [
+const NO_COMMANDS: [&[&str]; 10] = [
     &[],
     &["nesthv"],
     &["nesthv", "run"],
@@ -526,8 +559,6 @@ const NO_COMMANDS: [&[&str]; 12] = [
     &["nesthv", "help"],
     &["nesthv", "help", "run"],
     &["nesthv", "RUN", "k"],
-    &["nesthv", "replay", "k", "r"],
-    &["nesthv", "check", "k"],
     &["nesthv", "work", "0", "1"],
 ];
 
@@ -630,7 +661,7 @@ const INTERRUPTED: [u32; 13] = [
 ];
 
 /// The instructions and the tables.
-pub fn supervisor_image(alloc: Global) -> Result<Vec<u8>, AllocError> {
+pub fn supervisor_image(alloc: Global) -> Result<Vec<u8>, NoMemory> {
     let mut bytes = image(alloc, &SUPERVISOR, 0)?;
     append_at(&mut bytes, &TABLES)?;
     Ok(bytes)
@@ -638,7 +669,7 @@ pub fn supervisor_image(alloc: Global) -> Result<Vec<u8>, AllocError> {
 
 /// Whether the run of an image ends with this report, in one turn of 10,000 steps and in 2,000 turns of one
 /// step.
-pub fn is_reported_of_bytes(alloc: Global, image: &[u8], report: &str) -> Result<bool, AllocError> {
+pub fn is_reported_of_bytes(alloc: Global, image: &[u8], report: &str) -> Result<bool, NoMemory> {
     is_reported_with(alloc, image, "", 100, report)
 }
 
@@ -649,7 +680,7 @@ pub fn is_reported_with(
     inputs: &str,
     console: u64,
     report: &str,
-) -> Result<bool, AllocError> {
+) -> Result<bool, NoMemory> {
     for (quantum, rounds) in [(10_000, 1), (1, 2_000)] {
         let case = Case {
             image,
@@ -666,8 +697,13 @@ pub fn is_reported_with(
 }
 
 /// The trace of an image's steps, in one turn.
-pub fn trace_of(alloc: Global, image: &[u8]) -> Result<u64, AllocError> {
-    let config = config(alloc, 10_000, 1, 16, 100)?;
+pub fn trace_of(alloc: Global, image: &[u8]) -> Result<u64, NoMemory> {
+    trace_after(alloc, image, 10_000)
+}
+
+/// The trace of an image's first steps, in one turn of so many.
+pub fn trace_after(alloc: Global, image: &[u8], steps: u64) -> Result<u64, NoMemory> {
+    let config = config(alloc, steps, 1, 16, 100)?;
     let left = outcome(alloc, &RUN, config.as_str(), image, NONE)?;
     Ok(left.tally.trace())
 }
@@ -688,9 +724,10 @@ fn software_interrupt(rt: HostRuntime) -> Result<(), Fail> {
     Ok(())
 }
 
-/// The word 0 is illegal, its trap goes to address 0, and each fetch there is an access fault.
+/// An empty image is as one of zeros: the word 0 is illegal, its trap goes to address 0, and each fetch there
+/// is an access fault.
 #[test]
-fn image_of_zeros(rt: HostRuntime) -> Result<(), Fail> {
+fn empty_image(rt: HostRuntime) -> Result<(), Fail> {
     for length in [0, BLOCK] {
         let image = image(rt.alloc(), &[], length)?;
         for (quantum, rounds, report) in [

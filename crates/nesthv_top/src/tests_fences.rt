@@ -5,7 +5,8 @@ ghost use Rattle.std.specs.Prelude.{◌≤◌};
 
 use crate::tests::{append, append_at};
 use crate::tests_rooms::{Room, SMALL, traced};
-use std::alloc::{AllocError, Global};
+use no_memory::NoMemory;
+use std::alloc::Global;
 use std::test::Fail;
 
 /// For each command it sets hgatp, vsatp and sstatus, stores a doubleword, makes a fence, and runs the nested
@@ -191,7 +192,7 @@ const V: [u64; 3] = [ONE, 0, SPP];
 const W: [u64; 3] = [TWO, 0, SPP];
 
 /// The tables of the nested guest from an offset on.
-fn append_own(bytes: &mut Vec<u8>, at: usize) -> Result<(), AllocError>
+fn append_own(bytes: &mut Vec<u8>, at: usize) -> Result<(), NoMemory>
     requires { at ≤ 98304 }
 {
     append_at(
@@ -213,7 +214,7 @@ fn append_own(bytes: &mut Vec<u8>, at: usize) -> Result<(), AllocError>
 }
 
 /// Sixteen letters from a first one on, each in a page of its own from an offset on.
-fn append_letters(bytes: &mut Vec<u8>, at: usize, first: u64) -> Result<(), AllocError>
+fn append_letters(bytes: &mut Vec<u8>, at: usize, first: u64) -> Result<(), NoMemory>
     requires offset { at ≤ 262144 }
     requires letter { first ≤ 97 }
 {
@@ -226,7 +227,7 @@ fn append_letters(bytes: &mut Vec<u8>, at: usize, first: u64) -> Result<(), Allo
 /// The image of the hypervisor with these commands. The capital letters stand in the pages from 80030000 on,
 /// and the small ones in those from 80040000 on. The tables of the nested guest are there twice, from
 /// 80010000 and from 80018000 on.
-fn commanded(alloc: Global, commands: &[Command]) -> Result<Vec<u8>, AllocError> {
+fn commanded(alloc: Global, commands: &[Command]) -> Result<Vec<u8>, NoMemory> {
     let mut bytes = Vec::new(alloc);
     append(&mut bytes, &HYPERVISOR)?;
     bytes.resize(0x1000, 0)?;
@@ -264,7 +265,7 @@ fn are_reported(
     room: Room,
     commands: &[Command],
     steps: u64,
-) -> Result<bool, AllocError> {
+) -> Result<bool, NoMemory> {
     let mut text = String::new(alloc);
     for &(_, _, _, _, put) in commands {
         text.push_str(put)?;

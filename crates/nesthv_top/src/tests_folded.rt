@@ -4,7 +4,8 @@
 use crate::tests::{append_at, image};
 use crate::tests_nested::{COMMANDED, HGATP};
 use crate::tests_rooms::{Account, Room, SMALL, traced};
-use std::alloc::{AllocError, Global};
+use no_memory::NoMemory;
+use std::alloc::Global;
 use std::test::Fail;
 
 /// What a hypervisor does for its nested guest before it runs it: it stores a value at an address, makes a
@@ -46,7 +47,7 @@ fn commanded(
     alloc: Global,
     doublewords: &[&[(usize, u64)]],
     commands: &[Command],
-) -> Result<Vec<u8>, AllocError> {
+) -> Result<Vec<u8>, NoMemory> {
     let mut bytes = image(alloc, &COMMANDED, 0)?;
     for part in doublewords {
         append_at(&mut bytes, part)?;
@@ -156,7 +157,7 @@ fn clean_leaf(rt: HostRuntime) -> Result<(), Fail> {
 
 /// Loads from page 1, whose leaf is A's, then B's for good; from fifteen other pages, whose leaves are C's;
 /// and from page 1 again.
-fn seventeen_loads(alloc: Global) -> Result<Vec<u8>, AllocError> {
+fn seventeen_loads(alloc: Global) -> Result<Vec<u8>, NoMemory> {
     let mut slots = Vec::new(alloc);
     for slot in 2..17 {
         slots.push((SLOT_0 + 8 * slot, LEAF_C))?;

@@ -1,7 +1,8 @@
 // Guests that access memory as VS or VU, by HLV, HLVX and HSV.
 
 use crate::tests::{append_at, image, is_reported_with};
-use std::alloc::{AllocError, Global};
+use no_memory::NoMemory;
+use std::alloc::Global;
 use std::test::Fail;
 
 /// Makes the instruction of each of its commands in the mode that the command says, by SRET, and puts what
@@ -154,7 +155,7 @@ const HSV_D: u64 = 0x6EC5_C073;
 /// hgatp and vsatp; sstatus, hstatus and vsstatus; the address, the instruction, and what is put of it.
 type Command = ([u64; 2], [u64; 3], u64, u64, &'static str);
 
-fn accesses(alloc: Global, commands: &[Command]) -> Result<Vec<u8>, AllocError> {
+fn accesses(alloc: Global, commands: &[Command]) -> Result<Vec<u8>, NoMemory> {
     let mut bytes = image(alloc, &ACCESSES, 0)?;
     append_at(&mut bytes, &TABLES)?;
     for &(tables, registers, address, word, _) in commands {
@@ -169,7 +170,7 @@ fn accesses(alloc: Global, commands: &[Command]) -> Result<Vec<u8>, AllocError> 
 
 /// Whether a guest with these commands puts what they say, under this header. Its steps are 7 before the
 /// commands, 52 for each that traps, 53 for each that is made, and 15 after them.
-fn are_reported(alloc: Global, commands: &[Command], header: &str) -> Result<bool, AllocError> {
+fn are_reported(alloc: Global, commands: &[Command], header: &str) -> Result<bool, NoMemory> {
     let mut report = String::from_str(alloc, header)?;
     for &(_, _, _, _, text) in commands {
         report.push_str(text)?;

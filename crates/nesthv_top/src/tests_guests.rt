@@ -4,17 +4,18 @@ use crate::nesthv;
 use crate::tests::{
     DOES_NOT_RESERVE, PUTS_A, RESERVES, RUN, image, sink, supervisor_image, words_of,
 };
+use no_memory::NoMemory;
 use outside::MapStore;
 use rv64_hart::Tally;
-use std::alloc::{AllocError, Global};
+use std::alloc::Global;
 use std::test::Fail;
 
 /// The turns of a configuration, and its guests: `a` and `b`, each with one block and the image `a.bin` or
 /// `b.bin`.
-fn config(alloc: Global, turns: &str) -> Result<String, AllocError> {
-    format!(in alloc;
+fn config(alloc: Global, turns: &str) -> Result<String, NoMemory> {
+    Ok(format!(in alloc;
         "format = 1\n{turns}\n[[guest]]\nname = \"a\"\nimage = \"a.bin\"\nblocks = 1\nspaces = 1\nentries = 16\nconsole = 100\n[[guest]]\nname = \"b\"\nimage = \"b.bin\"\nblocks = 1\nspaces = 1\nentries = 16\nconsole = 100\n"
-    )
+    )?)
 }
 
 /// What `nesthv run k` answers on a store with these files, and whether it puts this on its output and on its
@@ -26,7 +27,7 @@ fn ends(
     out_text: &str,
     err_text: &str,
     reads: usize,
-) -> Result<Option<u8>, AllocError> {
+) -> Result<Option<u8>, NoMemory> {
     let mut store = MapStore::new(alloc);
     store.insert("k", config.as_bytes())?;
     for (name, bytes) in images {
@@ -111,22 +112,32 @@ fn two_supervisors(rt: HostRuntime) -> Result<(), Fail> {
     Ok(())
 }
 
-// An image that is one byte too long is refused before the next one is read.
+// An image that is one byte too long is refused before the next one is read, be it of zeros alone or not.
 #[test]
 fn image_too_long(rt: HostRuntime) -> Result<(), Fail> {
-    let config = config(rt.alloc(), "quantum = 1\nrounds = 1")?;
-    let long = image(rt.alloc(), &PUTS_A, 2_097_153)?;
-    let first = [("a.bin", long.as_slice()), ("b.bin", b"".as_slice())];
-    let line = "nesthv: configuration fault 10 guest 0 value 2097153\n";
+    let config = config(rt.alloc(), "quantum = 10\nrounds = 1")?;
+    for words in [&[], PUTS_A.as_slice()] {
+        let long = image(rt.alloc(), words, 2_097_153)?;
+        let first = [("a.bin", long.as_slice()), ("b.bin", b"".as_slice())];
+        let line = "nesthv: configuration fault 10 guest 0 value 2097153\n";
+        assert_eq!(rt;
+            ends(rt.alloc(), config.as_str(), &first, "", line, 2)?,
+            Some(2)
+        );
+        let second = [("a.bin", b"".as_slice()), ("b.bin", long.as_slice())];
+        let line = "nesthv: configuration fault 10 guest 1 value 2097153\n";
+        assert_eq!(rt;
+            ends(rt.alloc(), config.as_str(), &second, "", line, 3)?,
+            Some(2)
+        );
+    }
+    // Zeros that fill the RAM fit, and are as no image.
+    let zeros = image(rt.alloc(), &[], 2_097_152)?;
+    let images = [("a.bin", zeros.as_slice()), ("b.bin", b"".as_slice())];
+    let report = "guest a running steps 10 bytes 0\n\nguest b running steps 10 bytes 0\n\n";
     assert_eq!(rt;
-        ends(rt.alloc(), config.as_str(), &first, "", line, 2)?,
-        Some(2)
-    );
-    let second = [("a.bin", b"".as_slice()), ("b.bin", long.as_slice())];
-    let line = "nesthv: configuration fault 10 guest 1 value 2097153\n";
-    assert_eq!(rt;
-        ends(rt.alloc(), config.as_str(), &second, "", line, 3)?,
-        Some(2)
+        ends(rt.alloc(), config.as_str(), &images, report, "", 3)?,
+        Some(0)
     );
     Ok(())
 }

@@ -1,5 +1,6 @@
 use crate::tests::{image, is_reported_of_bytes};
-use std::alloc::{AllocError, Global};
+use no_memory::NoMemory;
+use std::alloc::Global;
 use std::test::Fail;
 
 /// The first words of examples/kernel, each line of kernel.s beside its first word (`examples/words kernel`):
@@ -196,7 +197,7 @@ static USER: [u32; 22] = [
 ];
 
 /// The bytes of the example's image.
-fn kernel(alloc: Global) -> Result<Vec<u8>, AllocError> {
+fn kernel(alloc: Global) -> Result<Vec<u8>, NoMemory> {
     let mut bytes = image(alloc, &KERNEL, 0x1000)?;
     for word in USER {
         bytes.extend_from_slice(&word.to_le_bytes())?;

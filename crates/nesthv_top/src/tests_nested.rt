@@ -1,6 +1,6 @@
 // Guests that are hypervisors, with no second-stage table.
 
-use crate::tests::{append_at, image, is_reported_of_bytes, trace_of};
+use crate::tests::{append_at, image, is_reported_of_bytes, trace_after, trace_of};
 use std::test::Fail;
 
 /// A hypervisor that runs a nested guest for each of its commands, and puts the byte that the guest has read,
@@ -94,11 +94,27 @@ const UNDELEGATED: [u32; 16] = [
     0x0000_0073, // ecall
 ];
 
+// The trace has pc and word of an addi, an auipc and an addi before the trap, which is the eighth step: the jal,
+// which would add its own, is not made. The next such step is the addi at 8000002C, the tenth.
 #[test]
 fn undelegated_vssi(rt: HostRuntime) -> Result<(), Fail> {
     let image = image(rt.alloc(), &UNDELEGATED, 0)?;
     let report = "guest a stopped steps 14 bytes 1\n2\n";
     assert!(rt; is_reported_of_bytes(rt.alloc(), image.as_slice(), report)?);
+    let before = 0x8000_0000 + 0x0040_0293 + 0x8000_000C + 0x0317 + 0x8000_0010 + 0x01C3_0313;
+    for (steps, trace) in [
+        (5, before),
+        (7, before),
+        (8, before),
+        (9, before),
+        (10, before + 0x8000_002C + 0x0305_0513),
+    ] {
+        assert_eq!(rt;
+            trace_after(rt.alloc(), image.as_slice(), steps)?,
+            trace,
+            "{steps}"
+        );
+    }
     assert_eq!(rt; trace_of(rt.alloc(), image.as_slice())?, 0x3_0598_1FA6);
     Ok(())
 }

@@ -1,7 +1,8 @@
 // Runs of a guest in one turn and in turns of one step.
 
 use crate::tests::{NONE, RUN, outcome};
-use std::alloc::{AllocError, Global};
+use no_memory::NoMemory;
+use std::alloc::Global;
 
 /// The blocks of a guest, its spaces, and how many cached translations each of these may have.
 #[derive(Clone, Copy)]
@@ -18,11 +19,11 @@ pub const SMALL: Room = Room {
 };
 
 /// The text of a configuration of one guest, with so many turns.
-fn config(alloc: Global, room: Room, quantum: u64, rounds: u64) -> Result<String, AllocError> {
-    format!(in alloc;
+fn config(alloc: Global, room: Room, quantum: u64, rounds: u64) -> Result<String, NoMemory> {
+    Ok(format!(in alloc;
         "format = 1\nquantum = {quantum}\nrounds = {rounds}\n[[guest]]\nname = \"a\"\nimage = \"a.bin\"\nblocks = {}\nspaces = {}\nentries = {}\nconsole = 100\n",
         room.blocks, room.spaces, room.entries
-    )
+    )?)
 }
 
 /// What the hart's account tells of a run: its trace, and its entries in turns of one step, which are one for
@@ -41,7 +42,7 @@ pub fn traced(
     image: &[u8],
     report: &str,
     plain: u64,
-) -> Result<Option<Account>, AllocError> {
+) -> Result<Option<Account>, NoMemory> {
     let text = config(alloc, room, 10_000, 1)?;
     let whole = outcome(alloc, &RUN, text.as_str(), image, NONE)?;
     let text = config(alloc, room, 1, 2_000)?;

@@ -1,7 +1,8 @@
 // Guests with a timer and inputs, and guests that wait.
 
 use crate::tests::{Case, append, image, is_reported, is_reported_of_bytes, is_reported_with};
-use std::alloc::{AllocError, Global};
+use no_memory::NoMemory;
+use std::alloc::Global;
 use std::test::Fail;
 
 const WFI: u32 = 0x1050_0073;
@@ -479,7 +480,7 @@ const VIRTUAL: &str = "guest a stopped steps 39 bytes 4\nFsOA\n";
 /// What is tried, the words of sstatus, hstatus, sie, scounteren, hcounteren and htimedelta, and the report.
 type Tried = (u32, [u32; 6], &'static str);
 
-fn is_tried(alloc: Global, tried: Tried) -> Result<bool, AllocError> {
+fn is_tried(alloc: Global, tried: Tried) -> Result<bool, NoMemory> {
     let (word, registers, report) = tried;
     let mut image = image(alloc, &GOES_TO_TRIED, 0)?;
     append(&mut image, &[word])?;

@@ -1,12 +1,13 @@
 // The top call.
 
-ghost use Rattle.std.specs.Prelude.{◌≡◌, ◌^◌, ◌≤◌, ◌⊎◌, ◌↔◌, None, IsSome};
+ghost use Rattle.std.specs.Prelude.{◌≡◌, ◌^◌, ◌≤◌, ◌⊎◌, IsSome};
+ghost use Rattle.command_line.specs.Commands.{command_of};
 ghost use Rattle.outside.specs.Faults.{Rose};
 ghost use Rattle.outside.specs.Pieces.{Appends};
-ghost use Rattle.nesthv_top.specs.Commands.{command_of};
-ghost use Rattle.nesthv_top.specs.Endings.{HasPlan, IfTold, IsRefusal, SaysOfAccount, SaysOfErr, SaysOfOut, SaysOfReads};
-ghost use Rattle.nesthv_top.specs.Plans.{AllRunAsWritten, plan_of, report_of};
-ghost use Rattle.nesthv_top.specs.Statuses.{status_of, IsStatusOf};
+ghost use Rattle.nesthv_top.specs.Endings.{HasPlan, IfRun, IfTold, IsRefusal, SaysOfAccount, SaysOfCause, SaysOfErr, SaysOfOut, SaysOfReads};
+ghost use Rattle.nesthv_top.specs.Plans.{AllRunAsWritten, plan_of};
+ghost use Rattle.nesthv_top.specs.Statuses.{status_of, verdict_status, IsDone, IsNoCommand, IsStatusOf};
+ghost use Rattle.nesthv_top.specs.Texts.{found_of, text_of};
 
 use crate::ends::Ended;
 use crate::lines::tell;
@@ -16,8 +17,8 @@ use rv64_hart::Tally;
 use std::alloc::Global;
 
 /// Does what the words after the program's name ask for, and answers the program's status: 0 done, 1 no
-/// command, 2 a configuration that is refused, 3 a read that failed, 4 a write that failed, 5 no memory.
-/// A status that is not 0 has its line on `err`, whose faults change nothing.
+/// command, 2 a configuration that is refused, 3 a read that failed, 4 a write that failed, 5 no memory, 6 a
+/// report that differs. A status from 1 to 5 has its line on `err`, whose faults change nothing.
 pub fn nesthv<S: Store, O: Sink, E: Sink>(
     alloc: Global,
     words: &[Word],
@@ -29,26 +30,29 @@ pub fn nesthv<S: Store, O: Sink, E: Sink>(
     requires entries { tally.old.entries ≤ 2 ^ 61 }
     requires taken { tally.old.taken ≤ 2 ^ 61 }
 
-    // The headline: on status 0 the report of the guests' lone machines has been written, whose runs are of
-    // the written architecture, their second-stage translations stale only until the matching fence.
-    ensures report { result ≡ 0 → HasPlan (S.files store.old) (command_of words.now)
-        (λ plan. Appends O.stands_for out.old out.new (report_of plan)) }
-    ensures machines { result ≡ 0
-        → HasPlan (S.files store.old) (command_of words.now) AllRunAsWritten }
+    // The headline: on status 0 and 6 the text of the command has been written: of a run, the report of the
+    // guests' lone machines. Their runs are of the written architecture, their second-stage translations
+    // stale only until the matching fence.
+    ensures text { IsDone result → HasPlan (S.files store.old) (command_of words.now)
+        (λ files command plan. Appends O.stands_for out.old out.new (text_of files command plan)) }
+    ensures machines { IsDone result → HasPlan (S.files store.old) (command_of words.now)
+        (λ files command plan. IfRun command (AllRunAsWritten plan)) }
 
     // When each status comes. 5 is want of memory, which is free.
-    ensures statuses { result ≤ 5 }
-    ensures no_command { (result ≡ 1) ↔ (command_of words.now ≡ None) }
+    ensures verdict { IsDone result → HasPlan (S.files store.old) (command_of words.now)
+        (λ files command plan. result ≡ verdict_status (found_of files command plan)) }
+    ensures no_command { IsNoCommand words.now result }
     ensures refused { IsRefusal (S.files store.old) (command_of words.now) result }
     ensures read_fault { result ≡ 3 → Rose (S.faults store.old) (S.faults store.new) }
     ensures write_fault { result ≡ 4 → Rose (O.faults out.old) (O.faults out.new) }
     ensures complete { IfTold (S.files store.old) (λ files. IsSome (plan_of files (command_of words.now))
         → ¬ Rose (S.faults store.old) (S.faults store.new) → ¬ Rose (O.faults out.old) (O.faults out.new)
-        → (result ≡ 0) ⊎ (result ≡ 5)) }
+        → IsDone result ⊎ (result ≡ 5)) }
 
     // What it leaves, by the end that the status stands for.
     ensures ended { IsStatusOf result (λ ended.
-        SaysOfReads S.Store (command_of words.now) ended store.old store.new
+        SaysOfCause S.Store O.Sink words.now ended store.old store.new out.old out.new
+        × SaysOfReads S.Store (command_of words.now) ended store.old store.new
         × SaysOfOut O.Sink (S.files store.old) (command_of words.now) ended out.old out.new
         × SaysOfErr E.Sink ended err.old err.new
         × SaysOfAccount (S.files store.old) (command_of words.now) ended tally.old tally.new) }
@@ -69,5 +73,6 @@ pub fn status_of(ended: Ended) -> u8
         Ended::ReadFault(_) => 3,
         Ended::WriteFault => 4,
         Ended::NoMemory(_) => 5,
+        Ended::Differs => 6,
     }
 }

@@ -1,0 +1,71 @@
+// A run whose report is compared with a stored one.
+
+ghost use Rattle.std.specs.Prelude.{◌≡◌, ◌^◌, ◌≤◌, IfOk, IsErrOf};
+ghost use Rattle.outside.specs.Faults.{Rose};
+ghost use Rattle.replay.specs.Comparisons.{verdict_of};
+ghost use Rattle.nesthv_top.specs.Plans.{AllRunAsWritten, report_of};
+ghost use Rattle.nesthv_top.specs.Runnings.{IsAccountOf};
+ghost use Rattle.nesthv_top.specs.Seen.{plan_seen, IsJob};
+ghost use Rattle.nesthv_top.specs.Texts.{verdict_line};
+ghost use Rattle.nesthv_top.specs.Written.{IsWritten};
+
+use crate::ends::{Job, RunEnd};
+use crate::running::run;
+use arrayvec::ArrayVec;
+use itoa::Buffer;
+use outside::Sink;
+use replay::{Compare, Verdict};
+use rv64_hart::Tally;
+use std::alloc::Global;
+
+/// Runs a job's guests, compares the report with the stored one, and puts the verdict alone.
+pub fn replay<O: Sink>(
+    alloc: Global,
+    job: Job,
+    stored: &[u8],
+    out: &mut O,
+    tally: &mut Tally,
+) -> Result<Verdict, RunEnd>
+    requires job { IsJob job }
+    requires entries { tally.old.entries ≤ 2 ^ 61 }
+    requires taken { tally.old.taken ≤ 2 ^ 61 }
+
+    ensures verdict { IfOk result (λ found. found ≡ verdict_of stored.now (report_of (plan_seen job))) }
+    ensures written { IsWritten O.stands_for out.old out.new result
+        (verdict_line (verdict_of stored.now (report_of (plan_seen job)))) }
+    ensures cause { IsErrOf result RunEnd.WriteFault → Rose (O.faults out.old) (O.faults out.new) }
+    ensures count { O.faults out.old ≤ O.faults out.new }
+    ensures stays { O.made_with out.new ≡ O.made_with out.old }
+    ensures account { IsAccountOf (plan_seen job) result tally.old tally.new }
+    ensures machines { AllRunAsWritten (plan_seen job) }
+{
+    let mut compare = Compare::new(stored);
+    match run(alloc, job, &mut compare, tally) {
+        Ok(()) => {}
+        Err(end) => return Err(end),
+    }
+    let verdict = compare.verdict();
+    match out.put(verdict_line(verdict).as_slice()) {
+        Ok(()) => Ok(verdict),
+        Err(_) => Err(RunEnd::WriteFault),
+    }
+}
+
+// The line that says a verdict.
+#[tactic(auto, unfolding(crate::specs::Texts::verdict_line))]
+fn verdict_line(verdict: Verdict) -> ArrayVec<u8, 64>
+    ensures { result.items ≡ verdict_line verdict }
+{
+    let mut line = ArrayVec::new();
+    match verdict {
+        Verdict::Same => line.try_extend_from_slice(b"same\n").unwrap(),
+        Verdict::Differs(place) => {
+            let mut digits = Buffer::new();
+            line.try_extend_from_slice(b"differs at ").unwrap();
+            line.try_extend_from_slice(digits.format(place).as_bytes())
+                .unwrap();
+            line.try_extend_from_slice(b"\n").unwrap();
+        }
+    }
+    line
+}
