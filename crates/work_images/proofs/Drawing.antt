@@ -1,0 +1,54 @@
+-- Numbers that follow one another, and the commands drawn by them.
+use Rattle.std.proofs.Common.{◌≡◌, ℕ, zero, suc, ◌+◌, ◌*◌, List, [], ◌∷◌, ◌++◌, length, refl, ap, sym, ◌∙◌, arith, length-append}
+use Rattle.std.proofs.Math.Nat.{mul-add}
+use Rattle.std.specs.Prelude.{map}
+use Rattle.std.specs.List.{flat_map, range_with_len}
+use Rattle.std.proofs.lemmas.List.FromFn.{length-map-range_with_len, map-range_with_len_more}
+use Rattle.std.proofs.lemmas.List.{flat_map_more}
+use Rattle.work_images.specs.declared.commands.Command.{Command}
+use Rattle.work_images.specs.Numbers.{following, number}
+use Rattle.work_images.specs.Commands.{command_bytes, command_from, commands_from, list_bytes}
+use Rattle.byteorder.specs.Endian.{little_bytes}
+
+pub number_after : (x a b : ℕ) → number (number x a) b ≡ number x (a + b)
+unfolding number
+number_after x a zero = ap (λ n. number x n) (omega arith)
+number_after x a (suc b) = let e : a + suc b ≡ suc (a + b) = omega arith in rw e (ap following (number_after x a b))
+
+-- one more command
+pub one_command_more : (x i y : ℕ) (c : Command) (before after : List ℕ) → y ≡ number x (4 * i) → c ≡ command_from y
+    → before ≡ flat_map command_bytes (commands_from x i) → after ≡ before ++ command_bytes c
+    → after ≡ flat_map command_bytes (commands_from x (i + 1))
+unfolding commands_from
+one_command_more x i y c before after e f g h =
+    let each : ℕ → Command = λ k. command_from (number x (4 * k)) in
+    let first = map each (range_with_len 0 i) in
+    h ∙ ap (λ b. b ++ command_bytes c) g
+    ∙ flat_map_more command_bytes [] first c
+    ∙ ap (λ o. flat_map command_bytes (first ++ o ∷ [])) (f ∙ ap command_from e)
+    ∙ ap (flat_map command_bytes) (sym (map-range_with_len_more each 0 i i (omega arith)))
+
+pub next_number : (x i y z : ℕ) → y ≡ number x (4 * i) → z ≡ number y 4 → z ≡ number x (4 * (i + 1))
+next_number x i y z e f = f ∙ ap (λ n. number n 4) e ∙ number_after x (4 * i) 4 ∙ ap (λ n. number x n) (omega arith)
+
+-- the number that a guest's commands begin after
+pub next_guest : (seed count g y z : ℕ) → y ≡ number seed (4 * (count * g)) → z ≡ number y (4 * count)
+    → z ≡ number seed (4 * (count * (g + 1)))
+next_guest seed count g y z e f =
+    let m : count * (g + 1) ≡ count * g + count * 1 = mul-add count g 1 in
+    f ∙ ap (λ n. number n (4 * count)) e ∙ number_after seed (4 * (count * g)) (4 * count) ∙ ap (λ n. number seed n) (omega arith)
+
+pub no_commands : (x : ℕ) → [] ≡ flat_map command_bytes (commands_from x 0)
+unfolding commands_from
+no_commands x = refl
+
+pub length_commands : (commands : List Command) → length (flat_map command_bytes commands) ≡ 32 * length commands
+length_commands [] = refl
+length_commands (c ∷ commands) =
+    length-append (command_bytes c) (flat_map command_bytes commands) ∙ omega (arith, length_commands commands)
+
+pub length_list : (x count : ℕ) → length (list_bytes (commands_from x count)) ≡ 32 * count + 8
+unfolding commands_from
+length_list x count =
+    length-append (flat_map command_bytes (commands_from x count)) (little_bytes 8 0)
+    ∙ omega (arith, length_commands (commands_from x count), length-map-range_with_len (λ i. command_from (number x (4 * i))) 0 count)

@@ -1,0 +1,4 @@
+pub mod Drawing
+pub mod Adding
+pub mod Parts
+pub mod Images

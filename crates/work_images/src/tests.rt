@@ -1,0 +1,182 @@
+// Generated guests, against images that were made elsewhere from the same definition.
+
+ghost use Rattle.std.specs.Prelude.{◌≡◌, length, IfOk};
+
+use crate::guests;
+use crate::numbers::Numbers;
+use machine_defs::GuestSpec;
+use no_memory::NoMemory;
+use std::alloc::Global;
+use std::test::Fail;
+
+// The words of the code, by GNU Binutils 2.40: `riscv64-linux-gnu-as -march=rv64ima_zicsr_zifencei_h`.
+const CODE: [u32; 33] = [
+    0x0000_0417,
+    0x4004_3283,
+    0x6802_9073,
+    0x4084_3283,
+    0x2802_9073,
+    0x0604_0293,
+    0x1052_9073,
+    0x1000_0293,
+    0x1002_A073,
+    0x0800_0293,
+    0x6002_A073,
+    0x0002_04B7,
+    0x0084_84B3,
+    0x0004_B303,
+    0x0403_0263,
+    0x0084_B383,
+    0x0073_3023,
+    0x0104_B383,
+    0x0003_8463,
+    0x6203_8073,
+    0x0184_B583,
+    0x0204_8493,
+    0x1410_1073,
+    0x1020_0073,
+    0x1420_22F3,
+    0x00A0_0313,
+    0x0062_8463,
+    0x0202_8513,
+    0x0010_0893,
+    0x0000_0073,
+    0xFBDF_F06F,
+    0x0080_0893,
+    0x0000_0073,
+];
+
+// The doublewords below the commands: hgatp, vsatp, the nested guest's code and its table.
+const DOUBLEWORDS: [(usize, u64); 6] = [
+    (0x400, 0x8000_1000_0008_0004),
+    (0x408, 0),
+    (0x1000, 0x0000_0073_0005_C503),
+    (0x4000, 0x2000_2001),
+    (0x8000, 0x2000_2401),
+    (0x9000, 0x2000_045B),
+];
+
+// Seed, size, guest, its image's length, and its hash by FNV-1a, of 64 bits. Another program made the images.
+const HASHES: [(u64, u64, usize, usize, u64); 16] = [
+    (0, 1, 0, 131112, 0x718B_0024_E437_B94C),
+    (0, 1, 1, 131112, 0xBD6C_DE94_1FC2_50B6),
+    (0, 1, 2, 131112, 0xECCE_AF8C_DF90_9158),
+    (0, 1, 3, 131112, 0x7102_78F6_7739_7579),
+    (0, 2, 0, 131144, 0x54A8_9723_D551_161D),
+    (0, 2, 1, 131144, 0x13C1_5D04_B8B9_8166),
+    (0, 2, 2, 131144, 0x3DDF_108C_D838_DDD8),
+    (0, 2, 3, 131144, 0x6467_7A20_9D1C_9DAB),
+    (0x7FFF_FFFF, 3, 0, 131176, 0xAC8E_924C_41FB_4BA6),
+    (0x7FFF_FFFF, 3, 1, 131176, 0x0A5F_1AEB_81D1_1F9E),
+    (0x7FFF_FFFF, 3, 2, 131176, 0xA996_24E6_6618_580B),
+    (0x7FFF_FFFF, 3, 3, 131176, 0x1819_7717_522A_42E4),
+    (1, 10000, 0, 451080, 0xFA51_041D_9A21_4EB5),
+    (1, 10000, 1, 451080, 0x36F2_B550_FE15_4BC9),
+    (1, 10000, 2, 451080, 0xFD70_5A11_C6A6_1E50),
+    (1, 10000, 3, 451080, 0x27CA_DBF8_A7C6_D5F4),
+];
+
+// The command of each guest of seed 0 and size 1.
+const COMMANDS: [[u64; 4]; 4] = [
+    [0x8000_9008, 0x2000_58D7, 0x0000_0400, 0x0000_6000],
+    [0x8000_9058, 0, 0, 0x0001_E000],
+    [0x8000_90D8, 0x2000_50D7, 0, 0x0000_D000],
+    [0x8000_90E0, 0x2000_60D7, 0, 0x0001_4000],
+];
+
+// Seeds, and what six draws of one of 32,768 give, by Python's whole numbers.
+const SEQUENCES: [(u64, [u64; 6]); 3] = [
+    (0, [0, 21468, 9988, 22117, 3498, 16927]),
+    (1, [16838, 5758, 10113, 17515, 31051, 5627]),
+    (0x7FFF_FFFF, [15929, 4409, 9862, 26718, 8713, 28226]),
+];
+
+#[test]
+fn draws(rt: HostRuntime) -> Result<(), Fail> {
+    for (seed, wanted) in SEQUENCES {
+        let mut numbers = Numbers::new(seed);
+        for value in wanted {
+            assert_eq!(rt; numbers.draw(0x8000), value);
+        }
+    }
+    Ok(())
+}
+
+fn zeros(alloc: Global, count: usize) -> Result<Vec<u8>, NoMemory>
+    ensures { IfOk result (λ v. length v.items ≡ count) }
+{
+    vec![in alloc; 0u8; count]
+}
+
+fn lay(bytes: &mut Vec<u8>, place: usize, piece: &[u8]) {
+    for (index, byte) in piece.iter().enumerate() {
+        if let Some(at) = bytes.get_mut(place.wrapping_add(index)) {
+            *at = *byte;
+        }
+    }
+}
+
+// An image with one command, from its words, doublewords and letters.
+fn wanted(alloc: Global, command: [u64; 4]) -> Result<Vec<u8>, NoMemory> {
+    let mut bytes = zeros(alloc, 0x20028)?;
+    for (index, word) in CODE.iter().enumerate() {
+        lay(&mut bytes, index.wrapping_mul(4), &word.to_le_bytes());
+    }
+    for (place, value) in DOUBLEWORDS {
+        lay(&mut bytes, place, &value.to_le_bytes());
+    }
+    for (index, letter) in b"ABCDEFGHIJKLMNO".iter().enumerate() {
+        let page = index.wrapping_mul(0x1000).wrapping_add(0xA000);
+        lay(&mut bytes, page, &[*letter]);
+    }
+    for (index, value) in command.iter().enumerate() {
+        let place = index.wrapping_mul(8).wrapping_add(0x20000);
+        lay(&mut bytes, place, &value.to_le_bytes());
+    }
+    Ok(bytes)
+}
+
+// The guests of `work 0 1`: names, settings, and images byte by byte.
+#[test]
+fn work_smallest(rt: HostRuntime) -> Result<(), Fail> {
+    let made = guests(rt.alloc(), 0, 1)?;
+    assert_eq!(rt; made.len(), 4);
+    for (index, guest) in made.iter().enumerate() {
+        let name: &[u8] = [b"g0", b"g1", b"g2", b"g3"][index % 4];
+        assert!(rt; guest.name.as_slice() == name);
+        assert_eq!(rt;
+            (guest.blocks, guest.spaces, guest.entries, guest.console),
+            (1, 1, 16, 1_048_576)
+        );
+        assert_eq!(rt; guest.inputs.as_slice().len(), 0);
+        let wanted = wanted(rt.alloc(), COMMANDS[index % 4])?;
+        assert!(rt; guest.image.as_slice() == wanted.as_slice());
+    }
+    Ok(())
+}
+
+// FNV-1a, of 64 bits.
+fn hash(bytes: &[u8]) -> u64 {
+    let mut hash = 0xCBF2_9CE4_8422_2325u64;
+    for byte in bytes {
+        hash = (hash ^ *byte as u64).wrapping_mul(0x100_0000_01B3);
+    }
+    hash
+}
+
+// Images of more commands, and of the greatest seed.
+#[test]
+fn hashes(rt: HostRuntime) -> Result<(), Fail> {
+    for (seed, size, index, length, wanted) in HASHES {
+        assert!(rt; seed < 0x8000_0000 && size >= 1 && size <= 10000);
+        let made = guests(rt.alloc(), seed, size)?;
+        let image = made.as_slice().get(index).map(image_of);
+        assert_eq!(rt; image, Some((length, wanted)));
+    }
+    Ok(())
+}
+
+fn image_of(guest: &GuestSpec) -> (usize, u64) {
+    let image = guest.image.as_slice();
+    (image.len(), hash(image))
+}
