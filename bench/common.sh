@@ -1,7 +1,7 @@
-# What the scripts of this folder share; they source it after they set `steps`. `program` is the proved program,
-# crates/nesthv/out/nesthv. Where that is missing, `rt run` proves all crates and builds it, which takes long; where a
-# proof fails, the script ends with that status.
-program=$PWD/crates/nesthv/out/nesthv
+# What the scripts of this folder share; they source it after they set `steps`. `program` is the proved program that
+# tools/program names. Where there is none, `rt run` proves all crates and builds it, which takes long; where a proof
+# fails, the script ends with that status.
+program=$(tools/program || true)
 folder=$(mktemp -d)
 trap 'rm -rf "$folder"' EXIT
 

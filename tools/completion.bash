@@ -1,10 +1,13 @@
 # Completion of bash for nesthv and examples/run. Read it by `source tools/completion.bash`, or install it.
 _nesthv() {
     if [ "$COMP_CWORD" -eq 1 ]; then
-        mapfile -t COMPREPLY < <(compgen -W run -- "$2")
+        mapfile -t COMPREPLY < <(compgen -W 'run replay check' -- "$2")
     elif [ "$COMP_CWORD" -eq 2 ]; then
         compopt -o filenames
         mapfile -t COMPREPLY < <(compgen -d -- "$2"; compgen -f -X '!*.toml' -- "$2")
+    elif [ "$COMP_CWORD" -eq 3 ] && [ "${COMP_WORDS[1]}" = replay ]; then
+        compopt -o filenames
+        mapfile -t COMPREPLY < <(compgen -f -- "$2")
     fi
 }
 
@@ -15,11 +18,11 @@ _nesthv_examples_run() {
     --seconds) return ;;
     esac
     if [[ $2 == -* ]]; then
-        mapfile -t COMPREPLY < <(compgen -W '--json --expect --seconds --help' -- "$2")
+        mapfile -t COMPREPLY < <(compgen -W '--json --expect --progress --seconds --help' -- "$2")
         return
     fi
     folder=$(dirname -- "$1")
-    names=$(cd "$folder" 2>/dev/null && printf '%s ' */ | tr -d /)
+    names=$(cd "$folder" 2>/dev/null && printf '%s ' */report | sed 's|/report||g')
     compopt -o filenames
     mapfile -t COMPREPLY < <(compgen -W "$names" -- "$2"; compgen -d -- "$2"; compgen -f -X '!*.toml' -- "$2")
 }

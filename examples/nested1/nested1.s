@@ -1,0 +1,48 @@
+# The end of step 1 of docs/guest-hypervisor.md, which explains it.
+    .option norelax             # the linker changes no instruction, so .org is where it says
+    .globl  _start
+_start:
+    la      t0, traps
+    csrw    stvec, t0
+    ld      t0, table
+    csrw    hgatp, t0
+    li      t0, 0x80
+    csrs    hstatus, t0         # SPV
+    li      t0, 0x100
+    csrs    sstatus, t0         # SPP
+    csrw    sepc, zero
+    sret                        # to the kernel, at its address 0
+
+traps:                          # t0 to t6 are the hypervisor's: this kernel does without them
+    csrr    t0, scause
+    li      t1, 10
+    bne     t0, t1, other
+    ecall                       # a call of VS: the environment makes it
+next:
+    csrr    t0, sepc
+    addi    t0, t0, 4
+    csrw    sepc, t0
+    sret                        # the trap has set SPV and SPP
+other:
+    li      a0, '!'
+    li      a7, 1
+    ecall
+    li      a7, 8
+    ecall
+
+    .balign 8
+table:
+    .dword  8 << 60 | 1 << 44 | 0x80004000 >> 12
+    .org    0x1000              # the kernel
+    li      a7, 1
+    li      a0, 'K'
+    ecall
+    li      a7, 8
+    ecall
+    .org    0x4000              # the root table
+    .dword  0x80008000 >> 2 | 0x01
+    .org    0x8000              # level 1
+    .dword  0x80009000 >> 2 | 0x01
+    .org    0x9000
+level0:                         # page 0 is the kernel's code: V, R, X, U, A
+    .dword  0x80001000 >> 2 | 0x5B

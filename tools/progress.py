@@ -1,0 +1,63 @@
+"""Runs a configuration with fewer steps first, to show how far its guests come. Runs compose and a console only grows,
+so each report is what the whole run has come to at that moment.
+"""
+import json
+import os
+import subprocess
+import tempfile
+
+import reports
+
+FIRST = 10_000_000  # steps: about a second
+FACTOR = 4
+MOST_IN_TURN = 2**32
+
+
+def sums_of(document):
+    """The steps of each guest's own turns."""
+    if "turns" not in document:
+        return [document["quantum"] * document["rounds"]] * len(document["guest"])
+    return [sum(steps for guest, steps in document["turns"] if guest == number)
+            for number in range(len(document["guest"]))]
+
+
+def turns_of(sums, most):
+    """Turns in which each guest makes its steps, but not more than these."""
+    left = [min(steps, most) for steps in sums]
+    turns = []
+    for guest, steps in enumerate(left):
+        full, rest = divmod(steps, MOST_IN_TURN)
+        turns += [[guest, MOST_IN_TURN]] * full + [[guest, rest]]
+    return turns
+
+
+def capped(document, most):
+    """The text of this configuration, in which each guest makes at most so many steps."""
+    lines = ["format = 1", f"turns = {turns_of(sums_of(document), most)}"]
+    for guest in document["guest"]:
+        lines.append("[[guest]]")
+        lines += [f"{key} = {json.dumps(value, ensure_ascii=False)}" for key, value in guest.items()]
+    return "\n".join(lines) + "\n"
+
+
+def show(program, folder, document, say):
+    """Runs it with growing counts of steps, up to its own, and says for each how far the guests are. A configuration
+    that has a fault, or whose guests have all come to an end, is left to the whole run."""
+    try:
+        most = max(sums_of(document))
+    except (KeyError, TypeError, ValueError):
+        return
+    steps = FIRST
+    while steps < most:
+        with tempfile.NamedTemporaryFile("w", suffix=".toml", encoding="utf-8") as file:
+            file.write(capped(document, steps))
+            file.flush()
+            ran = subprocess.run([program, "run", os.path.abspath(file.name)], cwd=folder, capture_output=True)
+        if ran.returncode != 0:
+            return
+        sections = reports.sections_of(ran.stdout)
+        far = ", ".join(f"{each['name']} {each['status']}, {each['bytes']} bytes" for each in sections)
+        say(f"after {steps:,} steps of each guest: {far}")
+        if all(each["status"] != "running" or each["steps"] < steps for each in sections):
+            return
+        steps *= FACTOR
