@@ -105,7 +105,7 @@ fn draws(rt: HostRuntime) -> Result<(), Fail> {
 fn zeros(alloc: Global, count: usize) -> Result<Vec<u8>, NoMemory>
     ensures { IfOk result (λ v. length v.items ≡ count) }
 {
-    vec![in alloc; 0u8; count]
+    Ok(vec![in alloc; 0u8; count]?)
 }
 
 fn lay(bytes: &mut Vec<u8>, place: usize, piece: &[u8]) {
