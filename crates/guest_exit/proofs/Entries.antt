@@ -1,8 +1,9 @@
 -- What an entry of the hart for one step is to the lone machine.
 use Rattle.std.specs.Prelude.{◌&&◌, nat_le, not, option_and_then}
-use Rattle.std.proofs.Common.{cond, ◌≡◌, ℕ, zero, suc, ◌+◌, ◌%◌, ◌^◌, ◌<◌, ◌≤◌, List, [], ◌∷◌, Option, Some, None, Bool, true, false, refl, ap, sym, subst, arith, ◌∙◌}
+use Rattle.std.proofs.Common.{cond, ◌≡◌, ℕ, zero, suc, ◌+◌, ◌-◌, ◌%◌, ◌^◌, ◌<◌, ◌≤◌, List, [], ◌∷◌, Option, Some, None, Bool, true, false, refl, ap, sym, subst, arith, ◌∙◌}
 use Rattle.std.proofs.lemmas.List.{append-nil}
 use Rattle.std.proofs.lemmas.List.Sums.{sum_by-append}
+use Rattle.arch_defs.specs.declared.levels.Level.TheVariants as level
 use Rattle.arch_defs.specs.declared.modes.Trap.{Trap}
 use Rattle.arch_defs.specs.declared.registers.Csrs.{Csrs}
 use Rattle.arch_defs.specs.declared.registers.GuestRoot.{GuestRoot}
@@ -44,7 +45,7 @@ use Rattle.world_switch.specs.Laws.{KeepsHidden}
 use Rattle.world_switch.proofs.Registers.{none_waits}
 use Rattle.world_switch.proofs.Undone.{load_after_save, save_after_load, saved_v, virtual_mode}
 use Rattle.guest_exit.specs.ExitCases.{IsLeft, exit_of}
-use Rattle.guest_exit.specs.HartEntry.{Hands, IsStopped, Lasts, moved}
+use Rattle.guest_exit.specs.HartEntry.{EndsInTrap, Hands, IsStopped, Lasts, is_watched, moved}
 use Rattle.guest_exit.specs.HartSteps.{Follows, IsAt, KeepsHart, event_for, host_takes, root_for, root_frame_for}
 use Rattle.guest_exit.proofs.Followed.{followed}
 use Rattle.guest_exit.proofs.Interrupts.{own_after}
@@ -69,7 +70,11 @@ after_step m trapped hart ram =
 abbrev pub placed : Machine → Virtual → List ℕ → ℕ → Machine
 placed m virt ram n = record m { platform = moved m.platform virt n; ram = ram }
 
--- a step that the hart made in a part of machine memory is the machine's
+-- a trap into HS
+abbrev IsHsTrap : List Event → Type 0
+IsHsTrap events = (interrupt : Bool) × (events ≡ event.Trap level.HS interrupt ∷ [])
+
+-- a step that the hart made in a part of machine memory is the machine's, of which the hart watches one with V = 0
 record MadeBy (part : Layout) (root : GuestRoot) (m : Machine) (memory : List ℕ) (t : ℕ) (q : Progress) : Type 0 where
   own : Virtual
   state : q.state ≡ renamed (memory_place part.blocks) own
@@ -79,25 +84,45 @@ record MadeBy (part : Layout) (root : GuestRoot) (m : Machine) (memory : List �
   held : ReservesWithin (in_ram part.blocks) own.reservation
   only : Only (in_blocks part.blocks) memory q.memory
   trace : IsRaisedBy (trace_of (event_in (try m))) t q.trace
+  trap : q.trapped ≡ true → IsHsTrap (event_in (try m))
 
-made : (part : Layout) (root : GuestRoot) (m : Machine) (memory : List ℕ) (end : HartEnd) (t : ℕ) (q : Progress) → Follows part root m memory end → progressed true t end ≡ Some q
-    → MadeBy part root m memory t q
-made part root m memory (Goes state changed e) t q by some =
+-- an event that is told to be a trap into VS, of a machine with V = 0
+hs_trap : (virtual : Bool) (e : Event) → not virtual && enters_vs e ≡ true → IsHsTrap (event_for virtual e ∷ [])
+hs_trap false (event.Plain pc word) is = cc
+hs_trap true (event.Plain pc word) is = cc
+hs_trap false (event.Trap level.VS interrupt) is = (interrupt, refl)
+hs_trap true (event.Trap level.VS interrupt) is = cc
+hs_trap false (event.Trap level.HS interrupt) is = cc
+hs_trap true (event.Trap level.HS interrupt) is = cc
+hs_trap false event.System is = cc
+hs_trap true event.System is = cc
+
+-- a trap into VS that is not watched is one with V = 1, after which the host sets nothing
+when_watched : (virtual trapped : Bool) (hart before : Virtual) → is_virtual before.mode ≡ virtual
+    → guest_state_after trapped hart before ≡ guest_state_after (not virtual && trapped) hart before
+when_watched true true hart before is = rw is refl
+when_watched true false hart before is = rw is refl
+when_watched false trapped hart before is = refl
+
+made : (part : Layout) (root : GuestRoot) (m : Machine) (memory : List ℕ) (virtual : Bool) (end : HartEnd) (t : ℕ) (q : Progress) → is_virtual m.platform.virt.mode ≡ virtual
+    → Follows part root m memory end → progressed (not virtual) t end ≡ Some q → MadeBy part root m memory t q
+made part root m memory virtual (Goes state changed e) t q is by some =
     let state_is : state ≡ q.state = cc in
     let memory_is : changed ≡ q.memory = cc in
     let trace_is : (t + pc_and_word e) % 2 ^ 64 ≡ q.trace = cc in
-    let trapped_is : enters_vs e ≡ q.trapped = cc in
+    let trapped_is : not virtual && enters_vs e ≡ q.trapped = cc in
     record {
       own = by.own;
       state = rw (← state_is) by.state;
-      step = rw (by.step, ← memory_is, ← trapped_is) refl;
+      step = rw (by.step, ← memory_is, ← trapped_is, when_watched virtual (enters_vs e) by.own m.platform.virt is) refl;
       ready = by.ready;
       keeps = by.keeps;
       held = by.held;
       only = rw (← memory_is) by.only;
       trace = rw (by.step, one_trace (is_virtual m.platform.virt.mode) e, ← trace_is) (mod_mod (t + pc_and_word e));
+      trap = λ trapped. rw (by.step, is) (hs_trap virtual e (trapped_is ∙ trapped));
     }
-made part root m memory (Exits trap) t q by some = cc
+made part root m memory virtual (Exits trap) t q is by some = cc
 
 -- so many steps of the hart are a run of the machine
 pub record Ran (part : Layout) (pool : Pooled) (m : Machine) (memory : List ℕ) (t n : ℕ) (q : Progress) : Type 0 where
@@ -109,6 +134,7 @@ pub record Ran (part : Layout) (pool : Pooled) (m : Machine) (memory : List ℕ)
   pub held : ReservesWithin (in_ram part.blocks) own.reservation
   pub only : Only (in_blocks part.blocks) memory q.memory
   pub trace : IsRaisedBy (trace_of (events m n)) t q.trace
+  pub ends : q.trapped ≡ true → EndsInTrap m n
 
 -- what the clock sets has not changed
 record IsTold (p : Platform) (n : ℕ) : Type 0 where
@@ -306,8 +332,18 @@ at_next part pool m memory changed n own at only reserved there =
       orderly = subst IsOrderly there (stays_orderly m n at.orderly);
     }
 
+-- a run that ended in a trap was watched
+watched_own : (virtual : Bool) (t : ℕ) (end : HartEnd) (q : Progress) → progressed (not virtual) t end ≡ Some q → q.trapped ≡ true → virtual ≡ false
+watched_own false t end q some trapped = refl
+watched_own true t (Goes state memory e) q some trapped = cc
+watched_own true t (Exits trap) q some trapped = cc
+
+-- the machine before the last step
+last_of : (m now : Machine) (n : ℕ) → run m n ≡ now → now ≡ run m (n + 1 - 1)
+last_of m now n is = let same : n + 1 - 1 ≡ n = omega arith in rw same (sym is)
+
 ran_one : (part : Layout) (pool : Pooled) (m : Machine) (memory : List ℕ) (limit t n : ℕ) (p q : Progress) → m.platform.status ≡ Running → Lasts m.platform limit
-    → IsAt part pool m memory → n < limit → Ran part pool m memory t n p → p.trapped ≡ false → progressed true p.trace (hart_step p.state p.memory) ≡ Some q
+    → IsAt part pool m memory → n < limit → Ran part pool m memory t n p → p.trapped ≡ false → progressed (is_watched m.platform.virt) p.trace (hart_step p.state p.memory) ≡ Some q
     → Ran part pool m memory t (n + 1) q
 ran_one part pool m memory limit t n p q running lasts at h ran fresh some =
     let v = m.platform.virt in
@@ -322,7 +358,8 @@ ran_one part pool m memory limit t n p q running lasts at h ran fresh some =
     (followed part pool now p.memory is.own placed_at) in
     let follows : Follows part root now p.memory (hart_step p.state p.memory) =
     subst (λ hart. Follows part root now p.memory (hart_step hart p.memory)) is.stands by_now in
-    let by = made part root now p.memory (hart_step p.state p.memory) p.trace q follows some in
+    let stays : is_virtual now.platform.virt.mode ≡ is_virtual v.mode = saved_v (is_virtual v.mode) ran.own.mode in
+    let by = made part root now p.memory (is_virtual v.mode) (hart_step p.state p.memory) p.trace q stays follows some in
     record {
       own = by.own;
       state = by.state;
@@ -332,6 +369,11 @@ ran_one part pool m memory limit t n p q running lasts at h ran fresh some =
       held = by.held;
       only = only_both (in_blocks part.blocks) memory p.memory q.memory ran.only by.only;
       trace = trace_further m now n t p.trace q.trace there running by.ready ran.trace by.trace;
+      ends = λ trapped. record {
+        own = watched_own (is_virtual v.mode) p.trace (hart_step p.state p.memory) q some trapped;
+        some = omega arith;
+        trap = subst (λ now. IsHsTrap (event_in (try now))) (last_of m now n there) (by.trap trapped);
+      };
     }
 
 -- a step that the hart has made, if the run did not end before it
@@ -339,9 +381,9 @@ fresh_of : (b : Bool) (o : Option Progress) (q : Progress) → cond b None o ≡
 fresh_of true o q e = cc
 fresh_of false o q e = (refl, e)
 
-one_more_is : (p q : Progress) → one_more_step true p ≡ Some q → (p.trapped ≡ false) × (progressed true p.trace (hart_step p.state p.memory) ≡ Some q)
+one_more_is : (watch : Bool) (p q : Progress) → one_more_step watch p ≡ Some q → (p.trapped ≡ false) × (progressed watch p.trace (hart_step p.state p.memory) ≡ Some q)
 unfolding one_more_step
-one_more_is p q e = fresh_of p.trapped (progressed true p.trace (hart_step p.state p.memory)) q e
+one_more_is watch p q e = fresh_of p.trapped (progressed watch p.trace (hart_step p.state p.memory)) q e
 
 -- the value before a step that gave one
 before_of : {A B : Type 0} (f : A → Option B) (o : Option A) (after : B) → option_and_then f o ≡ Some after → (before : A) × (o ≡ Some before) × (f before ≡ Some after)
@@ -349,10 +391,11 @@ before_of f None after e = cc
 before_of f (Some before) after e = (before, refl, e)
 
 ran_next : (part : Layout) (pool : Pooled) (m : Machine) (memory : List ℕ) (limit t n : ℕ) (o : Option Progress) (q : Progress) → m.platform.status ≡ Running → Lasts m.platform limit
-    → IsAt part pool m memory → n < limit → ((p : Progress) → o ≡ Some p → Ran part pool m memory t n p) → option_and_then (one_more_step true) o ≡ Some q → Ran part pool m memory t (n + 1) q
+    → IsAt part pool m memory → n < limit → ((p : Progress) → o ≡ Some p → Ran part pool m memory t n p) → option_and_then (one_more_step (is_watched m.platform.virt)) o ≡ Some q → Ran part pool m memory t (n + 1) q
 ran_next part pool m memory limit t n o q running lasts at h before e =
-    let there = before_of (one_more_step true) o q e in
-    let is = one_more_is there.0 q there.2 in
+    let watch = is_watched m.platform.virt in
+    let there = before_of (one_more_step watch) o q e in
+    let is = one_more_is watch there.0 q there.2 in
     ran_one part pool m memory limit t n there.0 q running lasts at h (before there.0 there.1) is.0 is.1
 
 none_more_of : (a : ℕ) → a + 0 ≡ a
@@ -376,18 +419,19 @@ ran_none part pool m memory limit t lasts at =
       held = at.reserved;
       only = only_none (in_blocks part.blocks) memory;
       trace = ap (λ n. n % 2 ^ 64) (sym (none_more_of t));
+      ends = λ trapped. cc;
     }
 
 -- from the state that is loaded
-pub steps_from : (part : Layout) (pool : Pooled) (v : Virtual) (memory : List ℕ) (t taken : ℕ) (q : Progress)
-    → hart_steps true taken (progress (hart_state_in part (table_from (root_frame_for part pool v)) v) memory t false) ≡ Some q
-    → hart_steps true taken (progress (hart_state_in part (root_for part pool v) v) memory t false) ≡ Some q
+pub steps_from : (watch : Bool) (part : Layout) (pool : Pooled) (v : Virtual) (memory : List ℕ) (t taken : ℕ) (q : Progress)
+    → hart_steps watch taken (progress (hart_state_in part (table_from (root_frame_for part pool v)) v) memory t false) ≡ Some q
+    → hart_steps watch taken (progress (hart_state_in part (root_for part pool v) v) memory t false) ≡ Some q
 unfolding root_for
-steps_from part pool v memory t taken q e = e
+steps_from watch part pool v memory t taken q e = e
 
 -- so many steps of an entry
 pub ran : (part : Layout) (pool : Pooled) (m : Machine) (memory : List ℕ) (limit t : ℕ) → m.platform.status ≡ Running → Lasts m.platform limit → IsAt part pool m memory → (n : ℕ) → n ≤ limit
-    → (q : Progress) → hart_steps true n (progress (hart_state_in part (root_for part pool m.platform.virt) m.platform.virt) memory t false) ≡ Some q → Ran part pool m memory t n q
+    → (q : Progress) → hart_steps (is_watched m.platform.virt) n (progress (hart_state_in part (root_for part pool m.platform.virt) m.platform.virt) memory t false) ≡ Some q → Ran part pool m memory t n q
 unfolding hart_steps
 ran part pool m memory limit t running lasts at zero h q e =
     let is : progress (hart_state_in part (root_for part pool m.platform.virt) m.platform.virt) memory t false ≡ q = cc in subst (Ran part pool m memory t zero) is (ran_none part pool m memory limit t lasts at)
@@ -396,26 +440,17 @@ ran part pool m memory limit t running lasts at (suc n) h q e =
     let within : n < limit = omega (arith, h) in
     let before : n ≤ limit = omega (arith, h) in
     subst (λ k. Ran part pool m memory t k q) one
-    (ran_next part pool m memory limit t n (hart_steps true n (progress (hart_state_in part (root_for part pool m.platform.virt) m.platform.virt) memory t false)) q running lasts at within
+    (ran_next part pool m memory limit t n (hart_steps (is_watched m.platform.virt) n (progress (hart_state_in part (root_for part pool m.platform.virt) m.platform.virt) memory t false)) q running lasts at within
     (λ p some. ran part pool m memory limit t running lasts at n before p some) e)
-
--- a trap into VS is a step
-some_taken : (p : Progress) (state : Virtual) (memory : List ℕ) (t taken : ℕ) → p.trapped ≡ false
-    → hart_steps true taken p ≡ Some (progress state memory t true) → 0 < taken
-unfolding hart_steps
-some_taken p state memory t zero fresh e =
-    let same : p ≡ progress state memory t true = cc in
-    let never : false ≡ true = rw (← fresh) (ap (λ p. p.trapped) same) in cc
-some_taken p state memory t (suc n) fresh e = omega arith
 
 -- why an entry ended
 pub stopped : (part : Layout) (pool : Pooled) (m : Machine) (memory : List ℕ) (limit t : ℕ) (state : Virtual) (changed : List ℕ) (t' taken : ℕ) (why : Why) → m.platform.status ≡ Running
     → Lasts m.platform limit → IsAt part pool m memory → taken ≤ limit
-    → hart_steps true taken (progress (hart_state_in part (root_for part pool m.platform.virt) m.platform.virt) memory t false) ≡ Some (progress state changed t' (is_vs_trap why))
-    → IsWhy limit taken state changed why → IsStopped part pool (run m taken) changed limit taken why
+    → hart_steps (is_watched m.platform.virt) taken (progress (hart_state_in part (root_for part pool m.platform.virt) m.platform.virt) memory t false) ≡ Some (progress state changed t' (is_vs_trap why))
+    → IsWhy limit taken state changed why → IsStopped part pool m (run m taken) changed limit taken why
 stopped part pool m memory limit t state changed t' taken Limit running lasts at within e why = why
 stopped part pool m memory limit t state changed t' taken VsTrap running lasts at within e why =
-    some_taken (progress (hart_state_in part (root_for part pool m.platform.virt) m.platform.virt) memory t false) state changed t' taken refl e
+    (ran part pool m memory limit t running lasts at taken within (progress state changed t' true) e).ends refl
 stopped part pool m memory limit t state changed t' taken (Exit trap) running lasts at within e (fewer, exits) =
     let is = ran part pool m memory limit t running lasts at taken within (progress state changed t' false) e in
     let r = ready part (root_for part pool m.platform.virt) m limit taken is.own state (ram_of part.blocks changed) lasts fewer is.keeps is.state is.machine in (

@@ -1,13 +1,18 @@
 -- One entry of the hart: for how many steps, what it makes of the guest, and why it ends.
-use Rattle.std.specs.Prelude.{ℕ, ◌≡◌, ◌+◌, ◌^◌, ◌<◌, ◌≤◌, nat_le, Bool, true, false, List, Some}
+use Rattle.std.specs.Prelude.{ℕ, ◌≡◌, ◌+◌, ◌-◌, ◌^◌, ◌<◌, ◌≤◌, nat_le, Bool, false, not, List, [], ◌∷◌, Some}
+use Rattle.arch_defs.specs.declared.levels.Level.TheVariants.{HS}
 use Rattle.arch_defs.specs.declared.modes.Trap.{Trap}
 use Rattle.arch_defs.specs.declared.registers.Virtual.{Virtual}
 use Rattle.arch_defs.specs.Frames.{Only, in_blocks}
 use Rattle.arch_defs.specs.Inputs.{has_input}
 use Rattle.arch_defs.specs.Layouts.{Layout}
+use Rattle.arch_defs.specs.Traps.{is_virtual}
+use Rattle.machine_defs.specs.declared.events.Event.TheVariants as event
 use Rattle.machine_defs.specs.declared.guests.Status.TheVariants.{Running}
 use Rattle.machine_laws.specs.HostPlaces.{in_ram, memory_place}
 use Rattle.machine_defs.specs.Machine.{Machine, Platform, with_pending_lines}
+use Rattle.machine_defs.specs.Runs.{event_in, run}
+use Rattle.machine_defs.specs.Tries.{try}
 use Rattle.machine_laws.specs.Renaming.{ReservesWithin, renamed}
 use Rattle.rv64_hart.specs.declared.harts.Stop.{Stop}
 use Rattle.rv64_hart.specs.declared.harts.Why.{Why}
@@ -75,23 +80,38 @@ pub record Hands (part : Layout) (pool : Pooled) (m : Machine) (memory : List �
   pub exits : hart_step (hart_state_in part (root_for part pool m.platform.virt) m.platform.virt) memory
       ≡ Exits trap
 
--- why an entry ended, by the machine and the memory after it
-abbrev pub IsStopped : Layout → Pooled → Machine → List ℕ → ℕ → ℕ → Why → Type 0
-IsStopped part pool m memory limit taken Limit = taken ≡ limit
-IsStopped part pool m memory limit taken VsTrap = 0 < taken
-IsStopped part pool m memory limit taken (Exit trap) = (taken < limit) × Hands part pool m memory trap
+-- the hart stops after a trap into VS that stands for one into the guest's HS with V = 0, which the host has
+-- to complete. With V = 1 it is one into the guest's VS, which the hart takes whole (own)
+abbrev pub is_watched : Virtual → Bool
+is_watched virt = not (is_virtual virt.mode)
 
--- an entry in a part of machine memory ends within its limit, by the machine and the memory after it
-pub record Stops (part : Layout) (pool : Pooled) (m : Machine) (memory : List ℕ) (limit : ℕ) (stop : Stop)
-    : Type 0 where
+-- the last of so many steps of a machine with V = 0 is a trap into HS
+pub record EndsInTrap (m : Machine) (n : ℕ) : Type 0 where
+  pub own : is_virtual m.platform.virt.mode ≡ false
+  pub some : 0 < n
+  pub trap : (interrupt : Bool) × (event_in (try (run m (n - 1))) ≡ event.Trap HS interrupt ∷ [])
+
+-- why an entry ended, by the machine before it, and the machine and the memory after it
+abbrev pub IsStopped : Layout → Pooled → Machine → Machine → List ℕ → ℕ → ℕ → Why → Type 0
+IsStopped part pool before after memory limit taken Limit = taken ≡ limit
+IsStopped part pool before after memory limit taken VsTrap = EndsInTrap before taken
+IsStopped part pool before after memory limit taken (Exit trap) =
+    (taken < limit) × Hands part pool after memory trap
+
+-- an entry in a part of machine memory ends within its limit, by the machine before it, and the machine and
+-- the memory after it
+pub record Stops (part : Layout) (pool : Pooled) (before after : Machine) (memory : List ℕ) (limit : ℕ)
+    (stop : Stop) : Type 0 where
   pub within : stop.taken ≤ limit
-  pub why : IsStopped part pool m memory limit stop.taken stop.why
+  pub why : IsStopped part pool before after memory limit stop.taken stop.why
 
--- the hart has made so many steps for a guest, from what it has for it. What it has then is the guest's: what
--- is saved of it and, after a trap into VS, what that leaves to the host
+-- the hart has made so many steps for a guest, from what it has for it, with V = 0 none but the last a trap
+-- into VS. What it has then is the guest's: what is saved of it and, after such a trap, what that leaves to the
+-- host
 pub record HartMakes (n : ℕ) (before after : Guest) (memory : List ℕ) (trace : ℕ) (made : Progress)
     : Type 0 where
-  pub steps : hart_steps true n (progress (loaded_for before) memory trace false) ≡ Some made
+  pub steps : hart_steps (is_watched before.virt) n (progress (loaded_for before) memory trace false)
+      ≡ Some made
   pub saves : GivesSteps before.part (platform_of before) made.state made.trapped n (platform_of after)
 
 -- the hart's account of one entry: so many steps, of so much pc and word

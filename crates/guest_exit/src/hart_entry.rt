@@ -3,18 +3,21 @@
 ghost use Rattle.std.specs.Prelude.{◌≡◌};
 ghost use Rattle.machine_defs.specs.Runs.{events, trace_of};
 ghost use Rattle.rv64_hart.specs.Steps.{is_vs_trap, progress};
-ghost use Rattle.guest_exit.specs.HartEntry.{CanEnter, GoesOn, HartMakes, HasRoomForEntry, IsAccounted, KeepsTables, Stops};
+ghost use Rattle.guest_exit.specs.HartEntry.{CanEnter, GoesOn, HartMakes, HasRoomForEntry, IsAccounted, KeepsTables, Stops, is_watched};
 ghost use Rattle.guest_exit.specs.HartSteps.{root_frame_for};
 ghost use Rattle.guest_exit.specs.Steps.{MakesSteps};
 ghost use Rattle.guest_exit.specs.View.{machine_of};
 
 use crate::guests::{Guest, folds};
+use arch_defs::Virtual;
 use phys_mem::PhysMem;
 use rv64_hart::{Hart, Stop, Tally, Why};
+use trap_delegation::is_virtual;
 use world_switch::load;
 
 /// Enters the hart for at most `limit` steps of the guest, which are steps of its lone machine, and gives the
-/// guest what the hart then has for it. After `Exit` the machine's next step is for `handle`.
+/// guest what the hart then has for it. After `Exit` the machine's next step is for `handle`. `VsTrap` comes
+/// with V = 0 alone, after a trap into HS.
 pub fn enter(
     guest: &mut Guest,
     hart: &mut Hart,
@@ -26,7 +29,8 @@ pub fn enter(
     requires room { HasRoomForEntry limit tally.old }
 
     ensures run { MakesSteps result.taken (machine_of guest.old memory.old) (machine_of guest.new memory.new) }
-    ensures why { Stops guest.old.part guest.old.pool (machine_of guest.new memory.new) memory.new limit result }
+    ensures why { Stops guest.old.part guest.old.pool (machine_of guest.old memory.old)
+        (machine_of guest.new memory.new) memory.new limit result }
     ensures hart { HartMakes result.taken guest.old guest.new memory.old tally.old.trace
         (progress hart.new.state memory.new tally.new.trace (is_vs_trap result.why)) }
     ensures account { IsAccounted result.taken
@@ -36,7 +40,8 @@ pub fn enter(
 {
     let root = root_frame_of(guest);
     load(&guest.virt, &guest.part, root, hart.state_mut());
-    let stop = hart.run(memory, limit, true, tally);
+    let watch = is_watched(&guest.virt);
+    let stop = hart.run(memory, limit, watch, tally);
     guest.take_steps(hart.state(), is_vs_trap(&stop.why), stop.taken);
     stop
 }
@@ -50,6 +55,13 @@ fn root_frame_of(guest: &Guest) -> u64
     } else {
         guest.part.host_root()
     }
+}
+
+// Whether the hart is to stop after a trap into VS.
+fn is_watched(virt: &Virtual) -> bool
+    ensures { result ≡ is_watched virt.now }
+{
+    !is_virtual(virt.mode)
 }
 
 fn is_vs_trap(why: &Why) -> bool

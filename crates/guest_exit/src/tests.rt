@@ -332,7 +332,7 @@ fn guest_with_software_interrupt(alloc: Global) -> Result<Guest, NoMemory>
 }
 
 // One entry of the guest on this image, if its next step is the hart's.
-fn entered(
+pub fn entered(
     alloc: Global,
     guest: &mut Guest,
     image: &[u8],

@@ -5,11 +5,12 @@ ghost use Rattle.arch_defs.specs.Clocks.{times_at_start};
 ghost use Rattle.machine_defs.specs.declared.guests.Status.TheVariants.{Running};
 ghost use Rattle.guest_exit.specs.Starting.{IsNewPool};
 
-use crate::tests::{By, guest, one, one_on};
+use crate::tests::{By, entered, guest, one, one_on};
 use crate::{Guest, Handled};
 use arch_defs::{GuestMode, GuestRoot, Interrupts, Mode, Reg, SupervisorMode, SupervisorRoot};
 use machine_defs::Status;
 use phys_mem::{NoMemory, RAM_BASE};
+use rv64_hart::{Stop, Tally, Why};
 use std::alloc::Global;
 use std::test::Fail;
 
@@ -136,7 +137,7 @@ fn exceptions(rt: HostRuntime) -> Result<(), Fail> {
                 assert_eq!(rt; csrs.htval, 0x400);
                 assert_eq!(rt; csrs.vs.status.spp, mode == Mode::VS);
                 assert_eq!(rt; (csrs.vs.status.sie, csrs.vs.status.spie), (false, true));
-                assert_eq!(rt; by == By::HartByTrap, code != 5 && code != 7);
+                assert_eq!(rt; by == By::Hart, code != 5 && code != 7);
             } else {
                 assert_eq!(rt; by, STEPPED);
                 assert_eq!(rt;
@@ -289,6 +290,40 @@ fn returns(rt: HostRuntime) -> Result<(), Fail> {
     Ok(())
 }
 
+// A call, twice x5 += 1, and a jump back to these: 00000073, 00128293, 00128293, FF9FF06F (jal x0, -8).
+const CALLS: [u8; 16] = [
+    0x73, 0x00, 0x00, 0x00, 0x93, 0x82, 0x12, 0x00, 0x93, 0x82, 0x12, 0x00, 0x6F, 0xF0, 0x9F, 0xFF,
+];
+
+// With V = 1 a trap into VS ends no entry: ten steps are the call, which VS takes, six additions and three
+// jumps. With V = 0 the trap into HS ends it, since the host sets SPV, GVA, htval and htinst (8.6.2).
+#[test]
+fn traps_within_an_entry(rt: HostRuntime) -> Result<(), Fail> {
+    for (mode, stop, added, entered_mode) in [
+        (Mode::VU, (10, Why::Limit), 6, Mode::VS),
+        (Mode::U, (1, Why::VsTrap), 0, Mode::HS),
+    ] {
+        let (taken, why) = stop;
+        let mut guest = nested(rt.alloc(), mode, 0x100)?;
+        guest.virt.csrs.hs.tvec = RAM_BASE + 4;
+        guest.virt.csrs.vs.tvec = RAM_BASE + 4;
+        guest.virt.csrs.hstatus.gva = true;
+        let mut tally = Tally::new();
+        let stop = entered(rt.alloc(), &mut guest, &CALLS, 10, &mut tally)?;
+        assert_eq!(rt; stop, Some(Stop { taken, why }));
+        assert_eq!(rt; guest.virt.mode, entered_mode);
+        assert_eq!(rt; guest.virt.regs.read(Reg::new(5)), added);
+        let kept = mode == Mode::VU;
+        assert_eq!(rt; guest.virt.csrs.hstatus.gva, kept);
+        assert_eq!(rt; guest.virt.csrs.htval, if kept { 0x400 } else { 0 });
+        assert_eq!(rt;
+            (tally.entries(), tally.taken(), guest.steps),
+            (1, taken, taken)
+        );
+    }
+    Ok(())
+}
+
 // Each interrupt of VS that hideleg has is taken by the hart into VS, in VS with vsstatus.SIE and in VU: with
 // its supervisor code in vscause, and in mode 1 of vstvec at four times that code (8.2.2, 8.2.13, 8.2.16).
 #[test]
@@ -313,7 +348,7 @@ fn delegated_interrupts(rt: HostRuntime) -> Result<(), Fail> {
                 guest.virt.csrs.vs.tvec = VS_HANDLER | vectored as u64;
                 let status = guest.virt.csrs.hstatus;
                 let by = one(rt.alloc(), &mut guest, 0x0070_0293)?;
-                assert_eq!(rt; by, if taken { By::HartByTrap } else { By::Hart });
+                assert_eq!(rt; by, By::Hart);
                 if taken {
                     assert_eq!(rt; taken_by_vs(&guest), (INTERRUPT | code, 0, RAM_BASE));
                     let pc = if vectored { entry } else { VS_HANDLER };

@@ -1,5 +1,6 @@
 pub mod Accounts
 pub mod Among
+pub mod CalmSteps
 pub mod Current
 pub mod Parts
 pub mod Placing

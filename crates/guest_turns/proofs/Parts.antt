@@ -1,17 +1,22 @@
 -- What one advance of a guest is to its lone machine: what the hart makes in an entry, and what the host makes after it.
-use Rattle.std.proofs.Common.{◌≡◌, ◌≢◌, ℕ, ◌-◌, ◌<◌, ◌≤◌, List, ◌++◌, refl}
+use Rattle.std.proofs.Common.{◌≡◌, ◌≢◌, ℕ, ◌+◌, ◌-◌, ◌<◌, ◌≤◌, List, ◌++◌, refl, ap, arith}
 use Rattle.machine_defs.specs.declared.guests.Status.TheVariants.{Running}
 use Rattle.machine_defs.specs.Machine.{with_pending_lines}
-use Rattle.machine_defs.specs.Runs.{events, run}
+use Rattle.machine_defs.specs.Runs.{events, run, trace_of}
 use Rattle.machine_laws.specs.Budgets.{NeedNoFill}
 use Rattle.guest_exit.specs.declared.guests.Guest.{Guest}
 use Rattle.guest_exit.specs.declared.hart_exit.Handled.{Handled}
 use Rattle.guest_exit.specs.declared.hart_exit.Handled.TheVariants as handled
-use Rattle.guest_exit.specs.Steps.{Fills, MakesStep}
+use Rattle.guest_exit.specs.HartEntry.{IsAccounted}
+use Rattle.guest_exit.specs.Steps.{Fills, IsQuiet, MakesStep}
 use Rattle.guest_exit.specs.View.{machine_of, platform_of}
+use Rattle.rv64_hart.specs.Counts.{Counts}
+use Rattle.guest_turns.specs.Account.{AccountedTo}
 use Rattle.guest_turns.specs.Hosting.{IsHosted, used_by}
+use Rattle.guest_turns.specs.Calm.{AreCalm}
+use Rattle.guest_turns.proofs.CalmSteps.{no_calm_exit}
 use Rattle.guest_turns.proofs.Current.{after_fill, after_step}
-use Rattle.guest_turns.proofs.Turns.{Made, events_of, exit_made, run_made, step_made}
+use Rattle.guest_turns.proofs.Turns.{Made, accounted_part, events_of, exit_made, exit_plain, exit_trace, plain_within, run_made, step_made}
 
 -- an interrupt that the host takes
 pub interrupt_part : (guest new : Guest) (memory : List ℕ) (left : ℕ) → IsHosted guest memory → guest.status ≡ Running → 0 < left
@@ -46,3 +51,42 @@ handed_current between new changed last handled.Stepped e steps fills = after_st
 handed_current between new changed last handled.Retry e steps fills = after_fill (machine_of between changed) (machine_of new last) e (fills refl)
 handed_current between new changed last handled.Waits e steps fills = after_step (machine_of between changed) (machine_of new last) e (steps (λ e. cc))
 handed_current between new changed last handled.Stopped e steps fills = after_step (machine_of between changed) (machine_of new last) e (steps (λ e. cc))
+
+-- the account of an entry after which the host makes nothing
+pub entered_account : (guest same new : Guest) (memory changed : List ℕ) (left taken : ℕ) (old counts : Counts) → 0 < left → same ≡ guest
+    → Made (machine_of guest memory) left (machine_of new changed) (left - taken) (events (machine_of guest memory) taken)
+    → IsAccounted taken (trace_of (events (machine_of same memory) taken)) old counts → new.steps ≡ same.steps + taken
+    → (AreCalm (machine_of guest memory) left → left ≤ taken) → AccountedTo (machine_of guest memory) left (machine_of new changed) (left - taken) old counts
+entered_account guest same new memory changed left taken old counts some is made account steps all =
+    let m = machine_of guest memory in
+    let within = plain_within m taken in
+    let before = ap (λ (guest : Guest). guest.steps) is in
+    accounted_part m (machine_of new changed) left (left - taken) (events m taken) old counts some made (record {
+      entries_grow = omega (arith, account.entries);
+      entries_most = omega (arith, account.entries);
+      none = λ stayed. absurd (omega (arith, account.entries, stayed));
+      taken_least = omega (arith, within, account.taken);
+      taken_most = omega (arith, before, steps, account.taken);
+      trace = rw is at account.trace;
+    }) (λ calm. (omega (arith, all calm), account.entries))
+
+-- and of one after which it makes the next step, or a fill
+pub handed_account : (guest same between new : Guest) (memory changed last : List ℕ) (left taken : ℕ) (result : Handled) (old counts : Counts) → same ≡ guest
+    → Made (machine_of guest memory) left (machine_of new last) (left - taken - used_by result)
+    (events (machine_of guest memory) taken ++ events_of result (machine_of between changed))
+    → IsAccounted taken (trace_of (events (machine_of same memory) taken)) old counts → IsQuiet (machine_of between changed)
+    → same.steps + taken ≤ new.steps → taken < left → machine_of between changed ≡ run (machine_of same memory) taken
+    → AccountedTo (machine_of guest memory) left (machine_of new last) (left - taken - used_by result) old counts
+handed_account guest same between new memory changed last left taken result old counts is made account quiet steps some ran =
+    let m = machine_of guest memory in
+    let after = machine_of between changed in
+    let within = exit_plain m taken after result quiet in
+    let before = ap (λ (guest : Guest). guest.steps) is in
+    accounted_part m (machine_of new last) left (left - taken - used_by result) (events m taken ++ events_of result after) old counts (omega (arith, some)) made (record {
+      entries_grow = omega (arith, account.entries);
+      entries_most = omega (arith, account.entries);
+      none = λ stayed. absurd (omega (arith, account.entries, stayed));
+      taken_least = omega (arith, within, account.taken);
+      taken_most = omega (arith, before, steps, account.taken);
+      trace = exit_trace m taken old.trace counts.trace after result (rw is at account.trace) quiet;
+    }) (λ calm. absurd (no_calm_exit m after left taken calm some (rw is at ran) quiet))

@@ -1,5 +1,5 @@
 -- Turns, some steps at a time.
-use Rattle.std.proofs.Common.{cond, ◌≡◌, ◌≢◌, ℕ, zero, suc, ◌+◌, ◌*◌, ◌-◌, ◌%◌, ◌^◌, ◌<◌, ◌≤◌, ◌⊎◌, inl, inr, List, [], ◌∷◌, ◌++◌, refl, ap, sym, subst, ◌∙◌, append_assoc, suc-mul, arith}
+use Rattle.std.proofs.Common.{cond, ◌≡◌, ◌≢◌, ℕ, zero, suc, ◌+◌, ◌*◌, ◌-◌, ◌<◌, ◌≤◌, ◌⊎◌, inl, inr, List, [], ◌∷◌, ◌++◌, refl, ap, sym, subst, ◌∙◌, append_assoc, suc-mul, arith}
 use Rattle.std.proofs.lemmas.Bool.{cases_lt}
 use Rattle.std.proofs.lemmas.List.Sums.{sum_by-append}
 use Rattle.machine_defs.specs.declared.events.Event.{Event}
@@ -8,7 +8,7 @@ use Rattle.machine_defs.specs.declared.guests.Status.{Status}
 use Rattle.machine_defs.specs.declared.guests.Status.TheVariants as status
 use Rattle.machine_defs.specs.Fills.{most_tries, needed, ready}
 use Rattle.machine_defs.specs.Machine.{Machine, Tried, Ended, WaitsForGood}
-use Rattle.machine_defs.specs.Runs.{event_in, events, events_by, instruction_count, is_instruction, is_plain_step, pc_and_word, plain_count, run, step, trace_of}
+use Rattle.machine_defs.specs.Runs.{event_in, events, events_by, instruction_count, is_instruction, is_plain_step, left_after, pc_and_word, plain_count, run, step, trace_of}
 use Rattle.machine_defs.specs.Tries.{try}
 use Rattle.machine_laws.proofs.Running.{run_none, run_idle, events_none, events_idle, events_compose}
 use Rattle.machine_laws.specs.Budgets.{Goes, NeedNoFill, budget}
@@ -18,9 +18,11 @@ use Rattle.guest_exit.specs.declared.hart_exit.Handled.{Handled}
 use Rattle.guest_exit.specs.declared.hart_exit.Handled.TheVariants as handled
 use Rattle.guest_exit.specs.HartExit.{status_after, steps_made}
 use Rattle.guest_exit.specs.Steps.{Fills, IsQuiet, MakesStep}
-use Rattle.guest_turns.specs.Account.{Accounted}
+use Rattle.guest_turns.specs.Account.{Accounted, AccountedTo}
+use Rattle.guest_turns.specs.Calm.{AreCalm, calm_entries}
 use Rattle.guest_turns.specs.Hosting.{used_by}
 use Rattle.guest_turns.specs.TurnLists.{turn_entries}
+use Rattle.guest_turns.proofs.CalmSteps.{first_calm}
 
 -- the account of events one after another
 pub trace_then : (xs ys : List Event) → trace_of (xs ++ ys) ≡ trace_of xs + trace_of ys
@@ -135,19 +137,6 @@ no_plain m handled.Retry quiet = refl
 no_plain m handled.Waits quiet = quiet.plain
 no_plain m handled.Stopped quiet = quiet.plain
 
--- the account of a part of a run
-pub trace_made : (m next : Machine) (k left : ℕ) (es : List Event) (t u : ℕ) → Made m k next left es → IsRaisedBy (trace_of es) t u
-    → (u + trace_of (events next left)) % 2 ^ 64 ≡ (t + trace_of (events m k)) % 2 ^ 64
-trace_made m next k left es t u made raised = rw (made.events_are, trace_then es (events next left)) (omega (arith, raised))
-
-pub plain_made : (m next : Machine) (k left : ℕ) (es : List Event) → Made m k next left es
-    → plain_count (events m k) ≡ plain_count es + plain_count (events next left)
-plain_made m next k left es made = rw made.events_are (plain_then es (events next left))
-
-pub instructions_made : (m next : Machine) (k left : ℕ) (es : List Event) → Made m k next left es
-    → instruction_count (events m k) ≡ instruction_count es + instruction_count (events next left)
-instructions_made m next k left es made = rw made.events_are (instructions_then es (events next left))
-
 -- an entry of the hart, and what the host makes after it
 pub exit_trace : (m : Machine) (n t u : ℕ) (between : Machine) (result : Handled) → IsRaisedBy (trace_of (events m n)) t u → IsQuiet between
     → IsRaisedBy (trace_of (events m n ++ events_of result between)) t u
@@ -193,14 +182,45 @@ pub budget_positive : (m : Machine) (k : ℕ) → 0 < k → 0 < budget m k
 budget_positive m zero some = absurd (omega arith)
 budget_positive m (suc k) some = omega arith
 
--- the account of a part of k steps, of which the next machine makes those that are left
-pub record AccountedTo (m : Machine) (k : ℕ) (next : Machine) (left : ℕ) (old new : Counts) : Type 0 where
+-- the account of the events of a part, of which at most one entry is told: none where no instruction is made
+pub record IsCounted (m next : Machine) (es : List Event) (old new : Counts) : Type 0 where
   pub entries_grow : old.entries ≤ new.entries
-  pub entries_least : new.entries ≡ old.entries → instruction_count (events m k) ≡ instruction_count (events next left)
-  pub entries_most : new.entries + budget next left ≤ old.entries + budget m k
-  pub taken_least : old.taken + plain_count (events m k) ≤ new.taken + plain_count (events next left)
+  pub entries_most : new.entries ≤ old.entries + 1
+  pub none : new.entries ≡ old.entries → instruction_count es ≡ 0
+  pub taken_least : old.taken + plain_count es ≤ new.taken
   pub taken_most : new.taken + m.platform.steps ≤ old.taken + next.platform.steps
-  pub trace : (new.trace + trace_of (events next left)) % 2 ^ 64 ≡ (old.trace + trace_of (events m k)) % 2 ^ 64
+  pub trace : IsRaisedBy (trace_of es) old.trace new.trace
+
+-- if it is calm, it is all that is left, in one entry
+abbrev pub IsOnce : ℕ → Counts → Counts → Type 0
+IsOnce left old new = (left ≡ 0) × (new.entries ≡ old.entries + 1)
+
+one_entry : (k : ℕ) → 0 < k → calm_entries k ≡ 1
+one_entry zero some = absurd (omega arith)
+one_entry (suc k) some = refl
+
+once_to : (m next : Machine) (k left : ℕ) (old new : Counts) → 0 < k → IsOnce left old new → AreCalm next left × (new.entries + calm_entries left ≡ old.entries + calm_entries k)
+once_to m next k left old new some (none, one) =
+    let no_more : calm_entries left ≡ 0 = rw none refl in
+    let first = one_entry k some in
+    (λ i within. absurd (omega (arith, none, within)), omega (arith, no_more, first, one))
+
+pub accounted_part : (m next : Machine) (k left : ℕ) (es : List Event) (old new : Counts) → 0 < k → Made m k next left es → IsCounted m next es old new
+    → (AreCalm m k → IsOnce left old new) → AccountedTo m k next left old new
+accounted_part m next k left es old new some made is once =
+    let rest = events next left in
+    let plain : plain_count (events m k) ≡ plain_count es + plain_count rest = rw made.events_are (plain_then es rest) in
+    let counted : instruction_count (events m k) ≡ instruction_count es + instruction_count rest = rw made.events_are (instructions_then es rest) in
+    let traced : trace_of (events m k) ≡ trace_of es + trace_of rest = rw made.events_are (trace_then es rest) in
+    record {
+      entries_grow = is.entries_grow;
+      entries_least = λ same. let none = is.none same in omega (arith, counted, none);
+      entries_most = omega (arith, is.entries_most, made.goes.fewer);
+      entries_calm = λ calm. once_to m next k left old new some (once calm);
+      taken_least = omega (arith, plain, is.taken_least);
+      taken_most = is.taken_most;
+      trace = omega (arith, traced, is.trace);
+    }
 
 pub accounted_then : (m between last : Machine) (k left rest : ℕ) (t u v : Counts) → AccountedTo m k between left t u → AccountedTo between left last rest u v
     → AccountedTo m k last rest t v
@@ -211,10 +231,24 @@ accounted_then m between last k left rest t u v one then = record {
       let after : v.entries ≡ u.entries = omega (arith, same, before) in
       one.entries_least before ∙ then.entries_least after;
   entries_most = omega (arith, one.entries_most, then.entries_most);
+  entries_calm = λ calm.
+      let first = one.entries_calm calm in
+      let second = then.entries_calm first.0 in
+      (second.0, omega (arith, first.1, second.1));
   taken_least = omega (arith, one.taken_least, then.taken_least);
   taken_most = omega (arith, one.taken_most, then.taken_most);
   trace = then.trace ∙ one.trace;
 }
+
+-- a calm part that makes none has no steps
+none_calm : (m : Machine) (k : ℕ) → AreCalm m k → events m k ≡ [] → k ≡ 0
+none_calm m zero calm none = refl
+none_calm m (suc k) calm none =
+    let some : 0 < suc k = omega arith in
+    let now = first_calm m (suc k) some calm in
+    let sum = ap plain_count (try_is_event m (suc k) some now.running now.no_fill) ∙ plain_then (event_in (try m)) (events (left_after m) (suc k - 1)) in
+    let counted : plain_count (events m (suc k)) ≡ 0 = ap plain_count none in
+    absurd (omega (arith, sum, counted, now.plain))
 
 -- and of all of them, where it makes none
 pub accounted : (m next : Machine) (k left made : ℕ) (old new : Counts) → events next left ≡ [] → m.platform.steps + made ≡ next.platform.steps
@@ -228,6 +262,11 @@ accounted m next k left made old new none steps is =
       entries_grow = is.entries_grow;
       entries_least = λ some. by (cases_lt old.entries new.entries) counted some;
       entries_most = omega (arith, is.entries_most, most);
+      entries_calm = λ some calm.
+          let rest = is.entries_calm calm in
+          let no_more : calm_entries left ≡ 0 = ap calm_entries (none_calm next left rest.0 none) in
+          let first = one_entry k some in
+          omega (arith, rest.1, no_more, first);
       taken_least = omega (arith, is.taken_least, plain);
       taken_most = omega (arith, is.taken_most, steps);
       trace = omega (arith, is.trace, traced);

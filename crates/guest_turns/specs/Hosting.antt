@@ -9,6 +9,7 @@ use Rattle.machine_laws.specs.Budgets.{Goes}
 use Rattle.frame_split.specs.Shares.{ArePairwiseApart}
 use Rattle.host_tables.specs.HostTable.{IsHostTable}
 use Rattle.machine_defs.specs.declared.guests.GuestSpec.{GuestSpec}
+use Rattle.machine_defs.specs.declared.guests.Status.TheVariants.{Running}
 use Rattle.machine_defs.specs.Machine.{start, with_pending_lines}
 use Rattle.machine_defs.specs.Runs.{run}
 use Rattle.shadow_pool.specs.Slots as slots
@@ -48,6 +49,14 @@ pub record Advances (old : Guest) (memory : List ℕ) (k : ℕ) (new : Guest) (c
   pub goes : Goes (machine_of old memory) k (machine_of new changed) left
   pub keeps : KeepsLayout old new
   pub only : Only (changed_by old) memory changed
+
+-- how many of so many steps are left after a part of them, by those that were made: all the others, while the
+-- guest goes on
+pub record CountsLeft (old : Guest) (k : ℕ) (new : Guest) (left : ℕ) : Type 0 where
+  pub within : left ≤ k
+  pub forward : old.steps ≤ new.steps
+  pub made : new.steps + left ≤ old.steps + k
+  pub others : new.status ≡ Running → new.steps + left ≡ old.steps + k
 
 -- how many of the steps that are left are used up by what the host makes: a fill uses none, and a wait for
 -- good, which is not made, one

@@ -1,4 +1,5 @@
 pub mod Account
+pub mod Calm
 pub mod Hosted
 pub mod Hosting
 pub mod Limits

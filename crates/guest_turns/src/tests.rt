@@ -77,7 +77,7 @@ fn two(alloc: Global, first: &[u8], second: &[u8]) -> Result<Host, NoMemory>
 
 // A turn, if it is within the limits of a test.
 fn turn(host: &mut Host, g: u32, k: u64, tally: &mut Tally) -> Option<u64>
-    requires { k ≤ 1000 }
+    requires { k ≤ 10000 }
 {
     host.rooms_are_small();
     if g >= host.count() || host.steps(g) > 1000 || tally.entries() > 1000 || tally.taken() > 1000 {
@@ -165,5 +165,15 @@ fn a_step_is_not_made(rt: HostRuntime) -> Result<(), Fail> {
     assert_eq!(rt; turn(&mut host, 0, 10, &mut tally), Some(0));
     assert_eq!(rt; told(&host, 0), Some((Status::Waiting, 0, b"".as_slice())));
     assert_eq!(rt; (tally.entries(), tally.taken()), (1, 0));
+    Ok(())
+}
+
+// 0000006F (jal x0, 0) over and over: one entry a turn.
+#[test]
+fn a_calm_turn_is_one_entry(rt: HostRuntime) -> Result<(), Fail> {
+    let mut host = one(rt.alloc(), &[0x6F, 0x00, 0x00, 0x00])?;
+    let mut tally = Tally::new();
+    assert_eq!(rt; turn(&mut host, 0, 10_000, &mut tally), Some(10_000));
+    assert_eq!(rt; (tally.entries(), tally.taken()), (1, 10_000));
     Ok(())
 }

@@ -1,11 +1,10 @@
 // A turn of one guest.
 
-ghost use Rattle.std.specs.Prelude.{◌≡◌, ◌≢◌, ◌+◌, ◌%◌, ◌^◌, ◌<◌, ◌≤◌};
+ghost use Rattle.std.specs.Prelude.{◌≡◌, ◌≢◌, ◌+◌, ◌^◌, ◌<◌, ◌≤◌};
 ghost use Rattle.machine_defs.specs.declared.guests.Status.TheVariants.{Running};
-ghost use Rattle.machine_defs.specs.Runs.{events, instruction_count, plain_count, trace_of};
 ghost use Rattle.guest_exit.specs.View.{machine_of};
-ghost use Rattle.guest_turns.specs.Account.{Accounted, HasRoomForTurn};
-ghost use Rattle.guest_turns.specs.Hosting.{Advances, HasRun, IsHosted, used_by};
+ghost use Rattle.guest_turns.specs.Account.{Accounted, AccountedTo, HasRoomForTurn};
+ghost use Rattle.guest_turns.specs.Hosting.{Advances, CountsLeft, HasRun, IsHosted, used_by};
 
 use guest_exit::{Guest, Handled, enter, handle, interrupt, limit};
 use machine_defs::Status;
@@ -43,8 +42,8 @@ pub fn turn_of(
     guest.steps - before
 }
 
-// Makes some of so many steps of a guest that goes on, in one entry of the hart where it can make them, or
-// fills a cached translation that the next one lacks. Answers how many steps are left.
+// Makes some of the steps that are left of a guest that goes on, in one entry of the hart where it can make
+// them, or fills a cached translation that the next step lacks. Answers how many steps are left then.
 fn advance(
     guest: &mut Guest,
     hart: &mut Hart,
@@ -60,20 +59,10 @@ fn advance(
     requires taken { tally.old.taken + left ≤ 2 ^ 62 }
 
     ensures advances { Advances guest.old memory.old left guest.new memory.new result }
-    ensures within { result ≤ left }
     ensures hosted { IsHosted guest.new memory.new }
-    ensures forward { guest.old.steps ≤ guest.new.steps }
-    ensures made { guest.new.steps + result ≤ guest.old.steps + left }
-    ensures counts { guest.new.status ≡ Running → guest.new.steps + result ≡ guest.old.steps + left }
-    ensures entries { (tally.old.entries ≤ tally.new.entries) × (tally.new.entries ≤ tally.old.entries + 1) }
-    ensures none { tally.new.entries ≡ tally.old.entries
-        → instruction_count (events (machine_of guest.old memory.old) left)
-        ≡ instruction_count (events (machine_of guest.new memory.new) result) }
-    ensures taken_least { tally.old.taken + plain_count (events (machine_of guest.old memory.old) left)
-        ≤ tally.new.taken + plain_count (events (machine_of guest.new memory.new) result) }
-    ensures taken_most { tally.new.taken + guest.old.steps ≤ tally.old.taken + guest.new.steps }
-    ensures trace { (tally.new.trace + trace_of (events (machine_of guest.new memory.new) result)) % 2 ^ 64
-        ≡ (tally.old.trace + trace_of (events (machine_of guest.old memory.old) left)) % 2 ^ 64 }
+    ensures counts { CountsLeft guest.old left guest.new result }
+    ensures account { AccountedTo (machine_of guest.old memory.old) left (machine_of guest.new memory.new)
+        result tally.old tally.new }
 {
     if interrupt(guest) {
         return left - 1;

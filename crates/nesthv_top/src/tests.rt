@@ -667,7 +667,7 @@ pub fn supervisor_image(alloc: Global) -> Result<Vec<u8>, NoMemory> {
     Ok(bytes)
 }
 
-/// Whether the run of an image ends with this report, in one turn of 10,000 steps and in 2,000 turns of one
+/// Whether the run of an image ends with this report, in one turn of 10,000 steps and in 10,000 turns of one
 /// step.
 pub fn is_reported_of_bytes(alloc: Global, image: &[u8], report: &str) -> Result<bool, NoMemory> {
     is_reported_with(alloc, image, "", 100, report)
@@ -681,7 +681,7 @@ pub fn is_reported_with(
     console: u64,
     report: &str,
 ) -> Result<bool, NoMemory> {
-    for (quantum, rounds) in [(10_000, 1), (1, 2_000)] {
+    for (quantum, rounds) in [(10_000, 1), (1, 10_000)] {
         let case = Case {
             image,
             quantum,

@@ -1,6 +1,6 @@
 use Rattle.std.proofs.Common.{ap, refl, sym, subst, ◌∙◌}
 use Rattle.rv64_hart.specs.Steps.{is_vs_trap, progress}
-use Rattle.guest_exit.specs.HartEntry.{IsStopped}
+use Rattle.guest_exit.specs.HartEntry.{IsStopped, is_watched}
 use Rattle.guest_exit.specs.View.{machine_of}
 use Rattle.shadow_pool.specs.Slots.{Pooled, room_of, spaces_of}
 use Rattle.guest_exit.proofs.Alone.{machine_as}
@@ -12,8 +12,8 @@ use Rattle.guest_exit.proofs.hart_entry.enter.Goals as goal
 pub returns-clause-hart : goal.returns-clause-hart
 returns-clause-hart c = record {
   steps =
-      steps_from c.args.guest.now.part c.args.guest.now.pool c.args.guest.now.virt c.args.memory.now c.args.tally.now.trace c.run-stop.result.taken _
-      (rw (c.load.ensures.has, c.root_frame_of-root.ensures) at c.run-stop.ensures.steps);
+      steps_from (is_watched c.args.guest.now.virt) c.args.guest.now.part c.args.guest.now.pool c.args.guest.now.virt c.args.memory.now c.args.tally.now.trace c.run-stop.result.taken _
+      (rw (c.load.ensures.has, c.root_frame_of-root.ensures, c.is_watched-watch.ensures) at c.run-stop.ensures.steps);
   saves = rw (c.is_vs_trap.ensures, c.state.ensures) at c.take_steps.ensures.platform;
 }
 
@@ -60,14 +60,14 @@ pub returns-clause-why : goal.returns-clause-why
 returns-clause-why c =
     let part = c.args.guest.now.part in
     let pool = c.args.guest.now.pool in
-    let m = machine_of c.args.guest.now c.args.memory.now in
+    let before = machine_of c.args.guest.now c.args.memory.now in
     let can = c.requires.can in
     let why = c.run-stop.result.why in
-    let is = stopped part pool m c.args.memory.now c.args.limit c.args.tally.now.trace c.run-stop.new.self.state c.run-stop.new.memory c.run-stop.new.tally.trace c.run-stop.result.taken why
+    let is = stopped part pool before c.args.memory.now c.args.limit c.args.tally.now.trace c.run-stop.new.self.state c.run-stop.new.memory c.run-stop.new.tally.trace c.run-stop.result.taken why
     can.running can.lasts can.placed c.run-stop.ensures.within (returns-clause-hart c).steps c.run-stop.ensures.why in
     record {
       within = c.run-stop.ensures.within;
-      why = subst (λ m. IsStopped part pool m c.run-stop.new.memory c.args.limit c.run-stop.result.taken why) (sym (returns-clause-run c).steps) is;
+      why = subst (λ m. IsStopped part pool before m c.run-stop.new.memory c.args.limit c.run-stop.result.taken why) (sym (returns-clause-run c).steps) is;
     }
 
 pub take_steps-requires-clause-event : goal.take_steps-requires-clause-event

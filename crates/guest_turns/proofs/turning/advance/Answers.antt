@@ -2,10 +2,11 @@ use Rattle.std.proofs.Common.{◌+◌, ◌^◌, ◌<◌, ◌≤◌, ◌∙◌, a
 use Rattle.arch_defs.proofs.FrameSets.{only_none}
 use Rattle.guest_exit.proofs.Alone.{only_of_blocks, stays_by}
 use Rattle.guest_exit.specs.View.{changed_by, machine_of}
+use Rattle.guest_turns.proofs.CalmSteps.{calm_lasts, first_calm, no_calm_trap}
 use Rattle.guest_turns.proofs.Current.{after_step}
-use Rattle.guest_turns.proofs.Parts.{entered_part, handed_current, handed_part, interrupt_part}
+use Rattle.guest_turns.proofs.Parts.{entered_account, entered_part, handed_account, handed_current, handed_part, interrupt_part}
 use Rattle.guest_turns.proofs.Placing.{fixed_both, only_then}
-use Rattle.guest_turns.proofs.Turns.{exit_plain, exit_trace, instructions_made, made_at_most, made_if_running, plain_made, plain_within, trace_made, used_at_most}
+use Rattle.guest_turns.proofs.Turns.{accounted_part, made_at_most, made_if_running, used_at_most}
 use Rattle.guest_turns.proofs.turning.advance.Goals as goal
 
 -- an interrupt that the host takes
@@ -28,28 +29,20 @@ returns-then-interrupt-clause-hosted c = record {
       ((c.interrupt.ensures.takes c.if-interrupt.true).step c.args.memory.now);
 }
 
-pub returns-then-interrupt-clause-none : goal.returns-then-interrupt-clause-none
-returns-then-interrupt-clause-none c = λ same.
+pub returns-then-interrupt-clause-account : goal.returns-then-interrupt-clause-account
+returns-then-interrupt-clause-account c =
+    let takes = c.interrupt.ensures.takes c.if-interrupt.true in
     let part = interrupt_part c.args.guest.now c.interrupt.new.guest c.args.memory.now c.args.left c.requires.hosted c.requires.running c.requires.some
-    ((c.interrupt.ensures.takes c.if-interrupt.true).step c.args.memory.now) in
-    let sum = instructions_made _ _ _ _ _ part in
-    let none = (c.interrupt.ensures.takes c.if-interrupt.true).none c.args.memory.now in
-    omega (arith, sum, none)
-
-pub returns-then-interrupt-clause-taken_least : goal.returns-then-interrupt-clause-taken_least
-returns-then-interrupt-clause-taken_least c =
-    let part = interrupt_part c.args.guest.now c.interrupt.new.guest c.args.memory.now c.args.left c.requires.hosted c.requires.running c.requires.some
-    ((c.interrupt.ensures.takes c.if-interrupt.true).step c.args.memory.now) in
-    let sum = plain_made _ _ _ _ _ part in
-    let quiet = (c.interrupt.ensures.takes c.if-interrupt.true).quiet c.args.memory.now in
-    omega (arith, sum, quiet.plain)
-
-pub returns-then-interrupt-clause-trace : goal.returns-then-interrupt-clause-trace
-returns-then-interrupt-clause-trace c =
-    let part = interrupt_part c.args.guest.now c.interrupt.new.guest c.args.memory.now c.args.left c.requires.hosted c.requires.running c.requires.some
-    ((c.interrupt.ensures.takes c.if-interrupt.true).step c.args.memory.now) in
-    let quiet = (c.interrupt.ensures.takes c.if-interrupt.true).quiet c.args.memory.now in
-    trace_made _ _ _ _ _ c.args.tally.now.trace c.args.tally.now.trace part (rw quiet.trace (omega arith))
+    (takes.step c.args.memory.now) in
+    let quiet = takes.quiet c.args.memory.now in
+    accounted_part _ _ _ _ _ c.args.tally.now c.args.tally.now c.requires.some part (record {
+      entries_grow = omega arith;
+      entries_most = omega arith;
+      none = λ same. takes.none c.args.memory.now;
+      taken_least = omega (arith, quiet.plain);
+      taken_most = omega (arith, takes.made);
+      trace = rw quiet.trace (omega arith);
+    }) (λ calm. absurd (omega (arith, quiet.plain, (first_calm (machine_of c.args.guest.now c.args.memory.now) c.args.left c.requires.some calm).plain)))
 
 -- an entry that the hart ends itself, at the limit
 pub returns-in-Limit-clause-advances : goal.returns-in-Limit-clause-advances
@@ -77,29 +70,25 @@ returns-in-Limit-clause-hosted c =
       current = c.enter-stop.ensures.goes.current;
     }
 
-pub returns-in-Limit-clause-taken_least : goal.returns-in-Limit-clause-taken_least
-returns-in-Limit-clause-taken_least c =
+pub returns-in-Limit-clause-account : goal.returns-in-Limit-clause-account
+returns-in-Limit-clause-account c =
+    let m = machine_of c.args.guest.now c.args.memory.now in
     let some : 0 < c.enter-stop.result.taken = omega (arith, rw c.in-Limit.is at c.enter-stop.ensures.why.why, c.limit.ensures.some) in
     let few : c.enter-stop.result.taken ≤ c.args.left = omega (arith, c.enter-stop.ensures.why.within, c.limit.ensures.most) in
+    let same = c.interrupt.ensures.stays c.if-interrupt.false in
     let part = entered_part c.args.guest.now c.interrupt.new.guest c.enter-stop.new.guest c.args.memory.now c.enter-stop.new.memory c.args.left c.enter-stop.result.taken
-    c.requires.hosted (c.interrupt.ensures.stays c.if-interrupt.false) some few c.enter-stop.ensures.run.ready c.enter-stop.ensures.run.steps in
-    let sum = plain_made _ _ _ _ _ part in
-    let within = plain_within (machine_of c.args.guest.now c.args.memory.now) c.enter-stop.result.taken in
-    omega (arith, sum, within, c.enter-stop.ensures.account.taken)
-
-pub returns-in-Limit-clause-trace : goal.returns-in-Limit-clause-trace
-returns-in-Limit-clause-trace c =
-    let some : 0 < c.enter-stop.result.taken = omega (arith, rw c.in-Limit.is at c.enter-stop.ensures.why.why, c.limit.ensures.some) in
-    let few : c.enter-stop.result.taken ≤ c.args.left = omega (arith, c.enter-stop.ensures.why.within, c.limit.ensures.most) in
-    let part = entered_part c.args.guest.now c.interrupt.new.guest c.enter-stop.new.guest c.args.memory.now c.enter-stop.new.memory c.args.left c.enter-stop.result.taken
-    c.requires.hosted (c.interrupt.ensures.stays c.if-interrupt.false) some few c.enter-stop.ensures.run.ready c.enter-stop.ensures.run.steps in
-    let raised = rw (c.interrupt.ensures.stays c.if-interrupt.false) at c.enter-stop.ensures.account.trace in
-    trace_made _ _ _ _ _ c.args.tally.now.trace c.enter-stop.new.tally.trace part raised
+    c.requires.hosted same some few c.enter-stop.ensures.run.ready c.enter-stop.ensures.run.steps in
+    entered_account c.args.guest.now c.interrupt.new.guest c.enter-stop.new.guest c.args.memory.now c.enter-stop.new.memory c.args.left c.enter-stop.result.taken
+    c.args.tally.now c.enter-stop.new.tally c.requires.some same part c.enter-stop.ensures.account c.enter-stop.ensures.goes.steps (λ calm.
+    let lasts = calm_lasts m c.args.left c.requires.hosted.current (sym c.interrupt.ensures.which ∙ c.if-interrupt.false) c.requires.some calm in
+    let most = c.limit.ensures.largest c.args.left (omega arith) (rw same lasts) in
+    omega (arith, rw c.in-Limit.is at c.enter-stop.ensures.why.why, most))
 
 -- and after a trap into VS
 pub returns-in-VsTrap-clause-advances : goal.returns-in-VsTrap-clause-advances
 returns-in-VsTrap-clause-advances c =
-    let some : 0 < c.enter-stop.result.taken = rw c.in-VsTrap.is at c.enter-stop.ensures.why.why in
+    let ends = rw c.in-VsTrap.is at c.enter-stop.ensures.why.why in
+    let some : 0 < c.enter-stop.result.taken = ends.some in
     let few : c.enter-stop.result.taken ≤ c.args.left = omega (arith, c.enter-stop.ensures.why.within, c.limit.ensures.most) in
     let part = entered_part c.args.guest.now c.interrupt.new.guest c.enter-stop.new.guest c.args.memory.now c.enter-stop.new.memory c.args.left c.enter-stop.result.taken
     c.requires.hosted (c.interrupt.ensures.stays c.if-interrupt.false) some few c.enter-stop.ensures.run.ready c.enter-stop.ensures.run.steps in
@@ -122,24 +111,18 @@ returns-in-VsTrap-clause-hosted c =
       current = c.enter-stop.ensures.goes.current;
     }
 
-pub returns-in-VsTrap-clause-taken_least : goal.returns-in-VsTrap-clause-taken_least
-returns-in-VsTrap-clause-taken_least c =
-    let some : 0 < c.enter-stop.result.taken = rw c.in-VsTrap.is at c.enter-stop.ensures.why.why in
+pub returns-in-VsTrap-clause-account : goal.returns-in-VsTrap-clause-account
+returns-in-VsTrap-clause-account c =
+    let m = machine_of c.args.guest.now c.args.memory.now in
+    let ends = rw c.in-VsTrap.is at c.enter-stop.ensures.why.why in
+    let some : 0 < c.enter-stop.result.taken = ends.some in
     let few : c.enter-stop.result.taken ≤ c.args.left = omega (arith, c.enter-stop.ensures.why.within, c.limit.ensures.most) in
+    let same = c.interrupt.ensures.stays c.if-interrupt.false in
     let part = entered_part c.args.guest.now c.interrupt.new.guest c.enter-stop.new.guest c.args.memory.now c.enter-stop.new.memory c.args.left c.enter-stop.result.taken
-    c.requires.hosted (c.interrupt.ensures.stays c.if-interrupt.false) some few c.enter-stop.ensures.run.ready c.enter-stop.ensures.run.steps in
-    let sum = plain_made _ _ _ _ _ part in
-    let within = plain_within (machine_of c.args.guest.now c.args.memory.now) c.enter-stop.result.taken in
-    omega (arith, sum, within, c.enter-stop.ensures.account.taken)
-
-pub returns-in-VsTrap-clause-trace : goal.returns-in-VsTrap-clause-trace
-returns-in-VsTrap-clause-trace c =
-    let some : 0 < c.enter-stop.result.taken = rw c.in-VsTrap.is at c.enter-stop.ensures.why.why in
-    let few : c.enter-stop.result.taken ≤ c.args.left = omega (arith, c.enter-stop.ensures.why.within, c.limit.ensures.most) in
-    let part = entered_part c.args.guest.now c.interrupt.new.guest c.enter-stop.new.guest c.args.memory.now c.enter-stop.new.memory c.args.left c.enter-stop.result.taken
-    c.requires.hosted (c.interrupt.ensures.stays c.if-interrupt.false) some few c.enter-stop.ensures.run.ready c.enter-stop.ensures.run.steps in
-    let raised = rw (c.interrupt.ensures.stays c.if-interrupt.false) at c.enter-stop.ensures.account.trace in
-    trace_made _ _ _ _ _ c.args.tally.now.trace c.enter-stop.new.tally.trace part raised
+    c.requires.hosted same some few c.enter-stop.ensures.run.ready c.enter-stop.ensures.run.steps in
+    entered_account c.args.guest.now c.interrupt.new.guest c.enter-stop.new.guest c.args.memory.now c.enter-stop.new.memory c.args.left c.enter-stop.result.taken
+    c.args.tally.now c.enter-stop.new.tally c.requires.some same part c.enter-stop.ensures.account c.enter-stop.ensures.goes.steps (λ calm.
+    absurd (no_calm_trap m c.args.left c.enter-stop.result.taken calm few (rw same at ends)))
 
 -- an entry after which the host makes the next step, or fills a cached translation
 pub returns-in-Exit-clause-advances : goal.returns-in-Exit-clause-advances
@@ -170,48 +153,29 @@ returns-in-Exit-clause-hosted c = record {
       c.handle-made.ensures.does.step c.handle-made.ensures.does.fill;
 }
 
-pub returns-in-Exit-clause-forward : goal.returns-in-Exit-clause-forward
-returns-in-Exit-clause-forward c =
-    omega (arith, ap (λ guest. guest.steps) (c.interrupt.ensures.stays c.if-interrupt.false), c.enter-stop.ensures.goes.steps, c.handle-made.ensures.told.made)
-
-pub returns-in-Exit-clause-made : goal.returns-in-Exit-clause-made
-returns-in-Exit-clause-made c =
+pub returns-in-Exit-clause-counts : goal.returns-in-Exit-clause-counts
+returns-in-Exit-clause-counts c =
     let some : c.enter-stop.result.taken < c.args.left = omega (arith, (rw c.in-Exit.is at c.enter-stop.ensures.why.why).0, c.limit.ensures.most) in
     let before = ap (λ guest. guest.steps) (c.interrupt.ensures.stays c.if-interrupt.false) in
     let most = made_at_most c.handle-made.result in
     let one = used_at_most c.handle-made.result in
-    omega (arith, some, before, c.enter-stop.ensures.goes.steps, c.handle-made.ensures.told.made, most, one, c.used.ensures)
+    record {
+      within = omega (arith, some, one, c.used.ensures);
+      forward = omega (arith, before, c.enter-stop.ensures.goes.steps, c.handle-made.ensures.told.made);
+      made = omega (arith, some, before, c.enter-stop.ensures.goes.steps, c.handle-made.ensures.told.made, most, one, c.used.ensures);
+      others = λ running.
+          let same = made_if_running c.handle-made.result (sym c.handle-made.ensures.told.status ∙ running) in
+          omega (arith, some, before, c.enter-stop.ensures.goes.steps, c.handle-made.ensures.told.made, same, one, c.used.ensures);
+    }
 
-pub returns-in-Exit-clause-counts : goal.returns-in-Exit-clause-counts
-returns-in-Exit-clause-counts c = λ running.
+pub returns-in-Exit-clause-account : goal.returns-in-Exit-clause-account
+returns-in-Exit-clause-account c =
     let some : c.enter-stop.result.taken < c.args.left = omega (arith, (rw c.in-Exit.is at c.enter-stop.ensures.why.why).0, c.limit.ensures.most) in
-    let before = ap (λ guest. guest.steps) (c.interrupt.ensures.stays c.if-interrupt.false) in
-    let same = made_if_running c.handle-made.result (sym c.handle-made.ensures.told.status ∙ running) in
-    let one = used_at_most c.handle-made.result in
-    omega (arith, some, before, c.enter-stop.ensures.goes.steps, c.handle-made.ensures.told.made, same, one, c.used.ensures)
-
-pub returns-in-Exit-clause-taken_least : goal.returns-in-Exit-clause-taken_least
-returns-in-Exit-clause-taken_least c =
-    let some : c.enter-stop.result.taken < c.args.left = omega (arith, (rw c.in-Exit.is at c.enter-stop.ensures.why.why).0, c.limit.ensures.most) in
+    let same = c.interrupt.ensures.stays c.if-interrupt.false in
     let part = handed_part c.args.guest.now c.interrupt.new.guest c.enter-stop.new.guest c.handle-made.new.guest c.args.memory.now c.enter-stop.new.memory c.handle-made.new.memory
-    c.args.left c.enter-stop.result.taken c.handle-made.result c.requires.hosted (c.interrupt.ensures.stays c.if-interrupt.false) some c.enter-stop.ensures.run.ready
+    c.args.left c.enter-stop.result.taken c.handle-made.result c.requires.hosted same some c.enter-stop.ensures.run.ready
     c.enter-stop.ensures.run.steps c.enter-stop.ensures.goes.status c.handle-made.ensures.does.step c.handle-made.ensures.does.fill in
-    let sum = rw (← c.used.ensures) at (plain_made _ _ _ _ _ part) in
-    let within = exit_plain (machine_of c.args.guest.now c.args.memory.now) c.enter-stop.result.taken
-    (machine_of c.enter-stop.new.guest c.enter-stop.new.memory) c.handle-made.result c.handle-made.ensures.quiet in
-    omega (arith, sum, within, c.enter-stop.ensures.account.taken)
-
-pub returns-in-Exit-clause-taken_most : goal.returns-in-Exit-clause-taken_most
-returns-in-Exit-clause-taken_most c =
-    omega (arith, ap (λ guest. guest.steps) (c.interrupt.ensures.stays c.if-interrupt.false), c.enter-stop.ensures.goes.steps, c.enter-stop.ensures.account.taken, c.handle-made.ensures.told.made)
-
-pub returns-in-Exit-clause-trace : goal.returns-in-Exit-clause-trace
-returns-in-Exit-clause-trace c =
-    let some : c.enter-stop.result.taken < c.args.left = omega (arith, (rw c.in-Exit.is at c.enter-stop.ensures.why.why).0, c.limit.ensures.most) in
-    let part = handed_part c.args.guest.now c.interrupt.new.guest c.enter-stop.new.guest c.handle-made.new.guest c.args.memory.now c.enter-stop.new.memory c.handle-made.new.memory
-    c.args.left c.enter-stop.result.taken c.handle-made.result c.requires.hosted (c.interrupt.ensures.stays c.if-interrupt.false) some c.enter-stop.ensures.run.ready
-    c.enter-stop.ensures.run.steps c.enter-stop.ensures.goes.status c.handle-made.ensures.does.step c.handle-made.ensures.does.fill in
-    let before = rw (c.interrupt.ensures.stays c.if-interrupt.false) at c.enter-stop.ensures.account.trace in
-    let raised = exit_trace (machine_of c.args.guest.now c.args.memory.now) c.enter-stop.result.taken c.args.tally.now.trace c.enter-stop.new.tally.trace
-    (machine_of c.enter-stop.new.guest c.enter-stop.new.memory) c.handle-made.result before c.handle-made.ensures.quiet in
-    rw c.used.ensures (trace_made _ _ _ _ _ c.args.tally.now.trace c.enter-stop.new.tally.trace part raised)
+    rw c.used.ensures (handed_account c.args.guest.now c.interrupt.new.guest c.enter-stop.new.guest c.handle-made.new.guest c.args.memory.now c.enter-stop.new.memory
+    c.handle-made.new.memory c.args.left c.enter-stop.result.taken c.handle-made.result c.args.tally.now c.enter-stop.new.tally same part
+    c.enter-stop.ensures.account c.handle-made.ensures.quiet (omega (arith, c.enter-stop.ensures.goes.steps, c.handle-made.ensures.told.made))
+    some c.enter-stop.ensures.run.steps)

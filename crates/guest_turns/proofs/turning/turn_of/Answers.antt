@@ -1,5 +1,6 @@
-use Rattle.std.proofs.Common.{◌≡◌, ◌≢◌, ◌∙◌, rules, arith}
-use Rattle.machine_defs.specs.declared.guests.Status.TheVariants.{Running}
+use Rattle.std.proofs.Common.{◌≡◌, ◌≢◌, ◌∙◌, true, false, refl, sym, rules, arith}
+use Rattle.machine_defs.specs.declared.guests.Status.{Status}
+use Rattle.machine_defs.specs.declared.guests.Status.TheVariants.{Running, Waiting, Stopped}
 use Rattle.guest_exit.specs.View.{machine_of}
 use Rattle.guest_turns.proofs.Placing.{fixed_both, only_then}
 use Rattle.machine_laws.proofs.Running.{events_idle, events_none}
@@ -38,18 +39,16 @@ loop-left-preserved c =
           made.advances.only;
       hosted = made.hosted;
       began = is.began;
-      within = omega (arith, is.within, made.within);
-      forward = omega (arith, is.forward, made.forward);
-      made = omega (arith, is.made, made.made);
+      within = omega (arith, is.within, made.counts.within);
+      forward = omega (arith, is.forward, made.counts.forward);
+      made = omega (arith, is.made, made.counts.made);
       counted = λ running.
-          let was : c.loop-left.guest.status ≡ Running = search rules in
-          omega (arith, is.counted was, made.counts running);
-      account = accounted_then _ _ _ _ _ _ _ _ _ is.account (record {
-        entries_grow = made.entries.0;
-        entries_least = made.none;
-        entries_most = omega (arith, made.entries.1, made.advances.goes.fewer);
-        taken_least = made.taken_least;
-        taken_most = made.taken_most;
-        trace = made.trace;
-      });
+          let was = goes_on c.loop-left.guest.status refl in
+          omega (arith, is.counted was, made.counts.others running);
+      account = accounted_then _ _ _ _ _ _ _ _ _ is.account made.account;
     }
+  where
+    goes_on : (s : Status) → c.loop-left.guest.status ≡ s → c.loop-left.guest.status ≡ Running
+    goes_on Running is = is
+    goes_on Waiting is = let never : true ≡ false = sym (rw is at c.ne.ensures) ∙ c.if-ne.false in cc
+    goes_on Stopped is = let never : true ≡ false = sym (rw is at c.ne.ensures) ∙ c.if-ne.false in cc

@@ -5,7 +5,7 @@ use Rattle.machine_defs.specs.declared.guests.Status.TheVariants.{Running}
 use Rattle.machine_defs.specs.Runs.{run}
 use Rattle.guest_exit.specs.View.{KeepsLayout, changed_by, machine_of}
 use Rattle.guest_turns.specs.Hosting.{IsHosted}
-use Rattle.guest_turns.proofs.Turns.{AccountedTo}
+use Rattle.guest_turns.specs.Account.{AccountedTo}
 use Rattle.guest_turns.proofs.turning.turn_of.Given as goal
 
 abbrev pub decreases-loop-left : goal.decreases-loop-left
