@@ -1,7 +1,9 @@
 # Completion of bash for nesthv and examples/run. Read it by `source tools/completion.bash`, or install it.
 _nesthv() {
     if [ "$COMP_CWORD" -eq 1 ]; then
-        mapfile -t COMPREPLY < <(compgen -W 'run replay check' -- "$2")
+        mapfile -t COMPREPLY < <(compgen -W 'run replay check work' -- "$2")
+    elif [ "${COMP_WORDS[1]}" = work ]; then
+        COMPREPLY=()
     elif [ "$COMP_CWORD" -eq 2 ]; then
         compopt -o filenames
         mapfile -t COMPREPLY < <(compgen -d -- "$2"; compgen -f -X '!*.toml' -- "$2")

@@ -1,26 +1,58 @@
 -- The commands of the program, by its words.
-use Rattle.std.specs.Prelude.{ℕ, Bool, false, List, [], ◌∷◌, Option, Some, None, codes, bytes_eq, nat_eq, not, if◌then◌else◌}
+use Rattle.std.specs.Prelude.{ℕ, ◌-◌, ◌^◌, Bool, false, ◌&&◌, List, [], ◌∷◌, Option, Some, None, option_and_then, option_map, codes, bytes_eq, nat_eq, nat_le, not, length, if◌then◌else◌}
+use Rattle.std.specs.Char.{is_ascii_digit}
 use Rattle.std.specs.List.{list_all}
+use Rattle.std.specs.Str.Parse.{digits_value}
 
--- what is asked for: a run of the configuration in this file, the same compared with the report in another
+-- a command on files: a run of the configuration in this file, the same compared with the report in another
 -- file, or what a run would need
+pub data FileCommand : Type 0 where
+  Run : List ℕ → FileCommand
+  Replay : List ℕ → List ℕ → FileCommand
+  Check : List ℕ → FileCommand
+
+-- what is asked for: one of these, or a run of the guests that are generated from a seed and a size
 pub data Command : Type 0 where
-  Run : List ℕ → Command
-  Replay : List ℕ → List ℕ → Command
-  Check : List ℕ → Command
+  OnFiles : FileCommand → Command
+  Work : ℕ → ℕ → Command
 
 -- a word that is not empty and does not begin with a dash
 abbrev pub is_plain : List ℕ → Bool
 is_plain [] = false
 is_plain (first ∷ rest) = not (nat_eq first 45)
 
+-- whether a word has 1 to so many bytes, each a decimal digit
+abbrev pub is_numeral : ℕ → List ℕ → Bool
+is_numeral digits word = nat_le 1 (length word) && nat_le (length word) digits && list_all is_ascii_digit word
+
+-- a number, where it is within these bounds
+abbrev pub within : ℕ → ℕ → ℕ → Option ℕ
+within least most n = if nat_le least n && nat_le n most then Some n else None
+
+-- the number of a word of 1 to so many digits, of which the first may be zeros, where it is within these
+-- bounds (own)
+unfoldable pub number_of : ℕ → ℕ → ℕ → List ℕ → Option ℕ
+number_of digits least most word =
+    if is_numeral digits word then within least most (digits_value 10 word) else None
+
+abbrev pub seed_of : List ℕ → Option ℕ
+seed_of word = number_of 10 0 (2 ^ 31 - 1) word
+
+abbrev pub size_of : List ℕ → Option ℕ
+size_of word = number_of 5 1 10000 word
+
+-- a run of generated guests, where these words are a seed and a size
+abbrev pub work_of : List ℕ → List ℕ → Option Command
+work_of seed size = option_and_then (λ s. option_map (Work s) (size_of size)) (seed_of seed)
+
 -- the command of the words after the program's name
 abbrev pub asked_by : List (List ℕ) → Option Command
 asked_by (verb ∷ config ∷ []) =
-    if bytes_eq (codes "run") verb then Some (Run config)
-    else (if bytes_eq (codes "check") verb then Some (Check config) else None)
-asked_by (verb ∷ config ∷ report ∷ []) =
-    if bytes_eq (codes "replay") verb then Some (Replay config report) else None
+    if bytes_eq (codes "run") verb then Some (OnFiles (Run config))
+    else (if bytes_eq (codes "check") verb then Some (OnFiles (Check config)) else None)
+asked_by (verb ∷ first ∷ second ∷ []) =
+    if bytes_eq (codes "replay") verb then Some (OnFiles (Replay first second))
+    else (if bytes_eq (codes "work") verb then work_of first second else None)
 asked_by words = None
 
 -- the command of all words; the first is the program's name, and is not looked at

@@ -1,22 +1,23 @@
 // The words of a command line.
 
-ghost use Rattle.std.specs.Prelude.{◌≡◌, ◌≤◌, [], ◌∷◌, codes, drop, false, length, true, option_and_then, option_map, IfOk, OnErr};
+ghost use Rattle.std.specs.Prelude.{◌≡◌, ◌≤◌, [], ◌∷◌, codes, drop, false, length, true, option_and_then, option_map, IfOk, IfSome, OnErr};
+ghost use Rattle.std.specs.Char.{is_ascii_digit};
 ghost use Rattle.std.specs.List.{list_all};
 ghost use Rattle.clap.specs.Words.{app_of, fault_of, first_of, found_of, rows_of, shape_of, subcommand_of, subcommand_rows_of, with_subcommand, new_app};
 ghost use Rattle.clap.specs.declared.builder.command.Command.TheViews.{out-Command};
-ghost use Rattle.command_line.specs.CommandLines.{bare_app, file_rule, nesthv_app, one_file, two_files};
-ghost use Rattle.command_line.specs.Commands.{command_of, asked_by, is_plain};
-ghost use Rattle.command_line.specs.CommandLines.{command_by};
-ghost use Rattle.command_line.specs.Seen.{command_seen};
+ghost use Rattle.command_line.specs.CommandLines.{bare_app, files_app, nesthv_app, one_word, two_words};
+ghost use Rattle.command_line.specs.Commands.{OnFiles, command_of, asked_by, is_numeral, is_plain, number_of, within, work_of};
+ghost use Rattle.command_line.specs.CommandLines.{command_by, file_command_by};
+ghost use Rattle.command_line.specs.Seen.{command_seen, file_command_seen, IsRequest};
 
 use clap::error::ErrorKind;
 use clap::{Arg, ArgMatches, Command};
 use outside::{NoMemory, Word};
 use std::alloc::{AllocError, Global};
 
-/// What the words ask for.
+/// What a command on files asks for.
 #[derive(Clone, Copy, Debug, PartialEq, Eq)]
-pub enum Request<'a> {
+pub enum FileRequest<'a> {
     /// A run of the configuration in this file.
     Run { config: &'a str },
     /// The same run, whose report is compared with the one in a file.
@@ -25,20 +26,37 @@ pub enum Request<'a> {
     Check { config: &'a str },
 }
 
-// A command that takes the name of one file.
-fn one_file<'a>(alloc: Global, name: &'a str) -> Result<Command<'a>, AllocError>
-    ensures shape { IfOk result (λ c. shape_of c ≡ one_file name.entry.now) }
-    ensures local { IfOk result (λ c. (out-Command c).has_globals ≡ false) }
-{
-    Command::new(alloc, name).arg(Arg::new(alloc, "CONFIG").required(true))
+/// What the words ask for.
+#[derive(Clone, Copy, Debug, PartialEq, Eq)]
+pub enum Request<'a> {
+    OnFiles(FileRequest<'a>),
+    /// A run of the guests that are generated from a seed and a size.
+    Work {
+        seed: u64,
+        size: u64,
+    },
 }
 
-// A command that takes the names of two files.
-fn two_files<'a>(alloc: Global, name: &'a str) -> Result<Command<'a>, AllocError>
-    ensures shape { IfOk result (λ c. shape_of c ≡ two_files name.entry.now) }
+// A command that takes one word.
+fn one_word<'a>(alloc: Global, name: &'a str, id: &'a str) -> Result<Command<'a>, AllocError>
+    ensures shape { IfOk result (λ c. shape_of c ≡ one_word name.entry.now id.entry.now) }
     ensures local { IfOk result (λ c. (out-Command c).has_globals ≡ false) }
 {
-    one_file(alloc, name)?.arg(Arg::new(alloc, "REPORT").required(true))
+    Command::new(alloc, name).arg(Arg::new(alloc, id).required(true))
+}
+
+// A command that takes two words.
+fn two_words<'a>(
+    alloc: Global,
+    name: &'a str,
+    first: &'a str,
+    second: &'a str,
+) -> Result<Command<'a>, AllocError>
+    ensures shape { IfOk result (λ c.
+        shape_of c ≡ two_words name.entry.now first.entry.now second.entry.now) }
+    ensures local { IfOk result (λ c. (out-Command c).has_globals ≡ false) }
+{
+    one_word(alloc, name, first)?.arg(Arg::new(alloc, second).required(true))
 }
 
 // The program, without its commands.
@@ -56,13 +74,20 @@ fn with<'a>(above: Command<'a>, command: Command<'a>) -> Result<Command<'a>, All
     above.subcommand(command)
 }
 
+// The program with its commands on files.
+fn files_line<'a>(alloc: Global) -> Result<Command<'a>, AllocError>
+    ensures { IfOk result (λ c. app_of c ≡ files_app) }
+{
+    let run = with(bare(alloc), one_word(alloc, "run", "CONFIG")?)?;
+    let replay = with(run, two_words(alloc, "replay", "CONFIG", "REPORT")?)?;
+    with(replay, one_word(alloc, "check", "CONFIG")?)
+}
+
 // The program's command line.
 fn command_line<'a>(alloc: Global) -> Result<Command<'a>, AllocError>
     ensures { IfOk result (λ c. app_of c ≡ nesthv_app) }
 {
-    let run = with(bare(alloc), one_file(alloc, "run")?)?;
-    let replay = with(run, two_files(alloc, "replay")?)?;
-    with(replay, one_file(alloc, "check")?)
+    with(files_line(alloc)?, two_words(alloc, "work", "SEED", "SIZE")?)
 }
 
 // Whether no word after the first is empty or begins with a dash.
@@ -85,6 +110,7 @@ fn is_plain(word: &str) -> bool
 #[tactic(auto, unfolding(crate::specs::Commands::command_of))]
 pub fn request_of<'a>(alloc: Global, words: &'a [Word]) -> Result<Option<Request<'a>>, NoMemory>
     ensures request { IfOk result (λ request. option_map command_seen request ≡ command_of words.entry.now) }
+    ensures within { IfOk result (λ request. IfSome request IsRequest) }
     ensures memory { OnErr result (list_all is_plain (drop 1 words.entry.now) ≡ true) }
 {
     match words {
@@ -97,7 +123,9 @@ pub fn request_of<'a>(alloc: Global, words: &'a [Word]) -> Result<Option<Request
 fn parsed<'a>(alloc: Global, words: &'a [Word]) -> Result<Option<Request<'a>>, NoMemory>
     requires some { 1 ≤ length words.now }
     requires plain { list_all is_plain (drop 1 words.now) ≡ true }
-    ensures { IfOk result (λ request. option_map command_seen request ≡ asked_by (drop 1 words.entry.now)) }
+    ensures request { IfOk result (λ request.
+        option_map command_seen request ≡ asked_by (drop 1 words.entry.now)) }
+    ensures within { IfOk result (λ request. IfSome request IsRequest) }
 {
     match command_line(alloc)?.try_get_matches_from(words) {
         Ok(matches) => Ok(request_by(&matches)),
@@ -113,26 +141,95 @@ fn parsed<'a>(alloc: Global, words: &'a [Word]) -> Result<Option<Request<'a>>, N
 
 // What the matches ask for.
 fn request_by<'a>(matches: &ArgMatches<'a>) -> Option<Request<'a>>
-    ensures { option_map command_seen result ≡ option_and_then command_by (subcommand_rows_of matches.now) }
+    ensures request { option_map command_seen result
+        ≡ option_and_then command_by (subcommand_rows_of matches.now) }
+    ensures within { IfSome result IsRequest }
 {
     match matches.subcommand() {
-        Some((verb, files)) => request_for(verb, files),
+        Some((verb, values)) => request_for(verb, values),
         None => None,
     }
 }
 
-// What a command with these files asks for.
+// What a command with these values asks for.
 #[tactic(auto, using(crate::proofs::Words::file_rules))]
-fn request_for<'a>(verb: &str, files: &ArgMatches<'a>) -> Option<Request<'a>>
-    ensures { option_map command_seen result ≡ command_by (verb.now, rows_of (found_of files.now)) }
+fn request_for<'a>(verb: &str, values: &ArgMatches<'a>) -> Option<Request<'a>>
+    ensures request { option_map command_seen result ≡ command_by (verb.now, rows_of (found_of values.now)) }
+    ensures within { IfSome result IsRequest }
+{
+    if verb != "work" {
+        return Some(Request::OnFiles(file_request_for(verb, values)?));
+    }
+    let seed = values.get_str("SEED")?;
+    let size = values.get_str("SIZE")?;
+    work_request(seed, size)
+}
+
+// What a command on these files asks for.
+#[tactic(auto, using(crate::proofs::Words::file_rules))]
+fn file_request_for<'a>(verb: &str, files: &ArgMatches<'a>) -> Option<FileRequest<'a>>
+    ensures { option_map (λ request. OnFiles (file_command_seen request)) result
+        ≡ file_command_by (verb.now, rows_of (found_of files.now)) }
 {
     let config = files.get_str("CONFIG")?;
     if verb == "run" {
-        return Some(Request::Run { config });
+        return Some(FileRequest::Run { config });
     }
     if verb == "check" {
-        return Some(Request::Check { config });
+        return Some(FileRequest::Check { config });
     }
     let report = files.get_str("REPORT")?;
-    Some(Request::Replay { config, report })
+    Some(FileRequest::Replay { config, report })
+}
+
+// What `work` with these words asks for.
+fn work_request<'a>(seed: &str, size: &str) -> Option<Request<'a>>
+    ensures request { option_map command_seen result ≡ work_of seed.now size.now }
+    ensures within { IfSome result IsRequest }
+{
+    let seed = number_of(seed, 10, 0, 0x7FFF_FFFF)?;
+    let size = number_of(size, 5, 1, 10_000)?;
+    Some(Request::Work { seed, size })
+}
+
+// The number of a word of 1 to so many digits, where it is within these bounds.
+#[tactic(auto, unfolding(crate::specs::Commands::number_of), using(crate::proofs::Numbers::numbers))]
+fn number_of(word: &str, digits: usize, least: u64, most: u64) -> Option<u64>
+    ensures number { result ≡ number_of digits least most word.now }
+    ensures bounds { IfSome result (λ n. (least ≤ n) × (n ≤ most)) }
+{
+    if !is_numeral(word, digits) {
+        return None;
+    }
+    match word.parse::<u64>() {
+        Ok(number) => within(number, least, most),
+        Err(_) => None,
+    }
+}
+
+// Whether a word has 1 to so many bytes, each a decimal digit.
+#[tactic(auto, using(crate::proofs::Numbers::numeral_is))]
+fn is_numeral(word: &str, digits: usize) -> bool
+    ensures { result ≡ is_numeral digits word.now }
+{
+    !word.is_empty() && word.len() <= digits && are_digits(word)
+}
+
+// Whether each byte of a word is a decimal digit.
+fn are_digits(word: &str) -> bool
+    ensures { result ≡ list_all is_ascii_digit word.now }
+{
+    word.as_bytes().iter().all(|byte| byte.is_ascii_digit())
+}
+
+// A number, where it is within these bounds.
+fn within(number: u64, least: u64, most: u64) -> Option<u64>
+    ensures number { result ≡ within least most number }
+    ensures bounds { IfSome result (λ n. (least ≤ n) × (n ≤ most)) }
+{
+    if least <= number && number <= most {
+        Some(number)
+    } else {
+        None
+    }
 }

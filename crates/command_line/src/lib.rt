@@ -1,7 +1,7 @@
 //! The words of a command line, and what they ask for.
 #![tactic(auto)]
 
-pub use commands::{Request, request_of};
+pub use commands::{FileRequest, Request, request_of};
 
 mod commands;
 #[cfg(test)]

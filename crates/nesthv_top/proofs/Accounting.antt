@@ -1,51 +1,60 @@
 -- The account of a command that was done.
-use Rattle.std.proofs.Common.{◌≡◌, ℕ, ◌≤◌, ◌^◌, List, Option, Some, Result, Ok, Err, false, map, refl, subst, sym, ◌∙◌, arith}
-use Rattle.command_line.specs.Commands.{Command, Run, Replay, Check}
+use Rattle.std.proofs.Common.{◌≡◌, ℕ, ◌≤◌, ◌^◌, List, Option, Some, Result, Ok, Err, length, map, refl, ap, subst, sym, arith}
+use Rattle.std.specs.List.{All}
+use Rattle.command_line.specs.Commands.{Command, FileCommand, OnFiles, Run, Replay, Check, Work}
+use Rattle.guest_turns.specs.Limits.{IsBootable}
 use Rattle.guest_turns.proofs.Starting.{rooms_of}
 use Rattle.machine_defs.specs.Machine.{start}
 use Rattle.outside.specs.Files.{Files}
+use Rattle.run_config.specs.Configurations.{IsTurnWithin}
 use Rattle.rv64_hart.specs.Counts.{Counts}
 use Rattle.nesthv_top.specs.declared.ends.Ended.TheVariants as ended
 use Rattle.nesthv_top.specs.declared.ends.Job.{Job}
 use Rattle.nesthv_top.specs.declared.ends.RunEnd.TheVariants.{WriteFault}
 use Rattle.nesthv_top.specs.Endings.{GrewBy, IsCounted, SaysOfAccount}
-use Rattle.nesthv_top.specs.Plans.{Plan, config_name, entries_of, plan_in, planned, run_of, steps_of}
+use Rattle.nesthv_top.specs.Plans.{Plan, config_name, entries_of, plan_in, planned, run_of, steps_of, work_plan}
 use Rattle.nesthv_top.specs.Runnings.{CountsTurns, IsAccountFor}
 use Rattle.nesthv_top.specs.Seen.{IsJob, plan_seen}
 use Rattle.nesthv_top.proofs.Turning.{few_entries, few_steps}
+use Rattle.nesthv_top.proofs.Working.{all_bootable, few_turns, turns_within}
 
 -- the plan of a job is that of its command
-abbrev IsPlanned : Option Files → Command → Job → Type 0
+abbrev IsPlanned : Option Files → FileCommand → Job → Type 0
 IsPlanned told command job = (f : Files) → told ≡ Some f → planned f (config_name command) ≡ Ok (plan_seen job)
 
-bounded : (job : Job) (old new : Counts) → IsJob job → CountsTurns (plan_seen job) old new → GrewBy (2 ^ 61) (2 ^ 52) old new
-bounded job old new is grew =
-    let few = few_steps _ job.config.turns is.limits.turns_most is.limits.each_turn in
-    let entries = few_entries _ job.config.turns (map start job.guests.items) is.limits.turns_most is.limits.each_turn (rooms_of job.guests.items is.guests) in
+-- few turns of short lengths take few entries and steps
+pub bounded : (count : ℕ) (plan : Plan) (old new : Counts) → length plan.turns ≤ 2 ^ 20 → All (IsTurnWithin count) plan.turns → All IsBootable plan.guests
+    → CountsTurns plan old new → GrewBy (2 ^ 61) (2 ^ 52) old new
+bounded count plan old new most each guests grew =
+    let few = few_steps count plan.turns most each in
+    let entries = few_entries count plan.turns (map start plan.guests) most each (rooms_of plan.guests guests) in
     record { entries_most = omega (arith, entries, grew.entries_most); taken_most = omega (arith, few, grew.taken_most) }
 
 -- what is written or compared was run
-ran : (told : Option Files) (command : Command) (job : Job) (old new : Counts) → ((f : Files) → run_of f (Some command) ≡ plan_in (planned f (config_name command)))
-    → ((config : List ℕ) → Some command ≡ Some (Check config) → ⊥) → IsPlanned told command job → IsJob job → CountsTurns (plan_seen job) old new
+pub ran : (told : Option Files) (command : Command) (plan : Plan) (old new : Counts) → ((f : Files) → told ≡ Some f → run_of f (Some command) ≡ Some plan)
+    → ((config : List ℕ) → Some command ≡ Some (OnFiles (Check config)) → ⊥) → GrewBy (2 ^ 61) (2 ^ 52) old new → CountsTurns plan old new
     → SaysOfAccount told (Some command) ended.Done old new
-ran told command job old new runs no_check is job_is grew =
-    let plan_is : (f : Files) → told ≡ Some f → run_of f (Some command) ≡ Some (plan_seen job) = λ f t. runs f ∙ rw (is f t) refl in
-    record {
-      run = λ f t. subst (λ plan. IsCounted plan ended.Done old new) (sym (plan_is f t)) (record { taken = grew.taken_least; trace = grew.trace });
-      idle = tt;
-      check = λ check. absurd (no_check check.0 check.1);
-      entries = grew.entries_grow;
-      taken = grew.taken_grow;
-      bound = bounded job old new job_is grew;
-      most = λ f t. subst (λ plan. GrewBy (entries_of plan) (steps_of plan) old new) (sym (plan_is f t))
-          (record { entries_most = grew.entries_most; taken_most = grew.taken_most });
-    }
+ran told command plan old new plan_is no_check bound grew = record {
+  run = λ f t. subst (λ plan. IsCounted plan ended.Done old new) (sym (plan_is f t)) (record { taken = grew.taken_least; trace = grew.trace });
+  idle = tt;
+  check = λ check. absurd (no_check check.0 check.1);
+  entries = grew.entries_grow;
+  taken = grew.taken_grow;
+  bound = bound;
+  most = λ f t. subst (λ plan. GrewBy (entries_of plan) (steps_of plan) old new) (sym (plan_is f t))
+      (record { entries_most = grew.entries_most; taken_most = grew.taken_most });
+}
 
--- the account of a command that was done
-pub counted : {A : Type 0} (told : Option Files) (command : Command) (job : Job) (a : A) (old new : Counts) → IsPlanned told command job → IsJob job
-    → IsAccountFor {A = A} command (plan_seen job) (Ok a) old new → SaysOfAccount told (Some command) ended.Done old new
-counted told (Run config) job a old new is job_is grew = ran told (Run config) job old new (λ f. refl) (λ other e. cc) is job_is grew
-counted told (Replay config report) job a old new is job_is grew = ran told (Replay config report) job old new (λ f. refl) (λ other e. cc) is job_is grew
+job_bounded : (job : Job) (old new : Counts) → IsJob job → CountsTurns (plan_seen job) old new → GrewBy (2 ^ 61) (2 ^ 52) old new
+job_bounded job old new is grew = bounded _ (plan_seen job) old new is.limits.turns_most is.limits.each_turn is.guests grew
+
+-- the account of a command on files that was done
+pub counted : {A : Type 0} (told : Option Files) (command : FileCommand) (job : Job) (a : A) (old new : Counts) → IsPlanned told command job → IsJob job
+    → IsAccountFor {A = A} command (plan_seen job) (Ok a) old new → SaysOfAccount told (Some (OnFiles command)) ended.Done old new
+counted told (Run config) job a old new is job_is grew =
+    ran told (OnFiles (Run config)) (plan_seen job) old new (λ f t. ap plan_in (is f t)) (λ other e. cc) (job_bounded job old new job_is grew) grew
+counted told (Replay config report) job a old new is job_is grew =
+    ran told (OnFiles (Replay config report)) (plan_seen job) old new (λ f t. ap plan_in (is f t)) (λ other e. cc) (job_bounded job old new job_is grew) grew
 counted told (Check config) job a old new is job_is same = record {
   run = λ f t. tt;
   idle = tt;
@@ -69,22 +78,32 @@ counted_differing told command old new done = record {
   most = done.most;
 }
 
-as_if_done : {A : Type 0} (command : Command) (plan : Plan) (a : A) (old new : Counts) → IsAccountFor {A = A} command plan (Err WriteFault) old new
+pub in_part : (told : Option Files) (command : Command) (old new : Counts) → SaysOfAccount told (Some command) ended.Done old new
+    → SaysOfAccount told (Some command) ended.WriteFault old new
+in_part told command old new done = record {
+  run = λ f t. tt;
+  idle = tt;
+  check = done.check;
+  entries = done.entries;
+  taken = done.taken;
+  bound = done.bound;
+  most = done.most;
+}
+
+as_if_done : {A : Type 0} (command : FileCommand) (plan : Plan) (a : A) (old new : Counts) → IsAccountFor {A = A} command plan (Err WriteFault) old new
     → IsAccountFor {A = A} command plan (Ok a) old new
 as_if_done (Run config) plan a old new grew = grew
 as_if_done (Replay config report) plan a old new grew = grew
 as_if_done (Check config) plan a old new same = same
 
-pub counted_in_part : {A : Type 0} (told : Option Files) (command : Command) (job : Job) (a : A) (old new : Counts) → IsPlanned told command job → IsJob job
-    → IsAccountFor {A = A} command (plan_seen job) (Err WriteFault) old new → SaysOfAccount told (Some command) ended.WriteFault old new
+pub counted_in_part : {A : Type 0} (told : Option Files) (command : FileCommand) (job : Job) (a : A) (old new : Counts) → IsPlanned told command job → IsJob job
+    → IsAccountFor {A = A} command (plan_seen job) (Err WriteFault) old new → SaysOfAccount told (Some (OnFiles command)) ended.WriteFault old new
 counted_in_part told command job a old new is job_is grew =
-    let done = counted told command job a old new is job_is (as_if_done command (plan_seen job) a old new grew) in
-    record {
-      run = λ f t. tt;
-      idle = tt;
-      check = done.check;
-      entries = done.entries;
-      taken = done.taken;
-      bound = done.bound;
-      most = done.most;
-    }
+    in_part told (OnFiles command) old new (counted told command job a old new is job_is (as_if_done command (plan_seen job) a old new grew))
+
+-- the account of a work
+pub counted_work : (told : Option Files) (seed size : ℕ) (old new : Counts) → size ≤ 10000 → CountsTurns (work_plan seed size) old new
+    → SaysOfAccount told (Some (Work seed size)) ended.Done old new
+counted_work told seed size old new most grew =
+    ran told (Work seed size) (work_plan seed size) old new (λ f t. refl) (λ other e. cc)
+    (bounded 4 (work_plan seed size) old new (few_turns size most) (turns_within size) (all_bootable seed size most) grew) grew

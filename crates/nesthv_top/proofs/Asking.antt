@@ -3,7 +3,7 @@ use Rattle.std.proofs.Common.{cond, drop, ◌++◌, ◌≡◌, ◌∙◌, ℕ, z
 use Rattle.std.proofs.lemmas.Bool.{eq-eqb}
 use Rattle.std.proofs.lemmas.Grind.{common_steps}
 use Rattle.std.proofs.lemmas.List.{append-nil, take-append-le, take_all, length-map}
-use Rattle.command_line.specs.Commands.{Command, Run, Replay, Check}
+use Rattle.command_line.specs.Commands.{Command, FileCommand, OnFiles, Run, Replay, Check, Work}
 use Rattle.outside.specs.declared.stores.Store as stores
 use Rattle.outside.specs.Asks.{Ask}
 use Rattle.outside.specs.Faults.{Rose}
@@ -43,21 +43,21 @@ planned_is : (f : Files) (name : List ℕ) (c : Configuration) → accept (conte
 unfolding planned
 planned_is f name c accepted = ap (planned_if f) accepted
 
-abbrev further_asks : Files → Command → Configuration → List Ask
+abbrev further_asks : Files → FileCommand → Configuration → List Ask
 further_asks f command c = image_asks f c.guests ++ asks_unless (images_fault f 0 c.guests) (report_asks command)
 
-asks_are : (f : Files) (command : Command) (c : Configuration) → accept (config_of f command) ≡ Ok c
+asks_are : (f : Files) (command : FileCommand) (c : Configuration) → accept (config_of f command) ≡ Ok c
     → command_asks f command ≡ ask (config_name command) config_most ∷ further_asks f command c
 asks_are f command c accepted = rw accepted refl
 
 -- where an image does not fit, nothing is read after it, and else the report, if one is named
-stopped_asks : (f : Files) (command : Command) (c : Configuration) (found : ConfigFault) → accept (config_of f command) ≡ Ok c → images_fault f 0 c.guests ≡ Some found
+stopped_asks : (f : Files) (command : FileCommand) (c : Configuration) (found : ConfigFault) → accept (config_of f command) ≡ Ok c → images_fault f 0 c.guests ≡ Some found
     → command_asks f command ≡ ask (config_name command) config_most ∷ image_asks f c.guests
 stopped_asks f command c found accepted is =
     asks_are f command c accepted ∙ ap (λ fault. ask (config_name command) config_most ∷ image_asks f c.guests ++ asks_unless fault (report_asks command)) is
     ∙ ap (λ asks. ask (config_name command) config_most ∷ asks) (append-nil (image_asks f c.guests))
 
-whole_asks_are : (f : Files) (command : Command) (c : Configuration) → accept (config_of f command) ≡ Ok c → images_fault f 0 c.guests ≡ None
+whole_asks_are : (f : Files) (command : FileCommand) (c : Configuration) → accept (config_of f command) ≡ Ok c → images_fault f 0 c.guests ≡ None
     → command_asks f command ≡ ask (config_name command) config_most ∷ (image_asks f c.guests ++ report_asks command)
 whole_asks_are f command c accepted fit =
     asks_are f command c accepted ∙ ap (λ fault. ask (config_name command) config_most ∷ image_asks f c.guests ++ asks_unless fault (report_asks command)) fit
@@ -120,7 +120,7 @@ failed_among xs ys n before after is = record {
   asked = subst (λ asks. AskedMore asks before after) (sym (front_at xs ys (n - 1) (omega (arith, is.some, is.number)))) is.asked;
 }
 
-frames_later : (f : Files) (n : ℕ) (command : Command) (c : Configuration) → n < length c.guests + length (report_asks command) → frames_after f n command c ≡ None
+frames_later : (f : Files) (n : ℕ) (command : FileCommand) (c : Configuration) → n < length c.guests + length (report_asks command) → frames_after f n command c ≡ None
 frames_later f n command c less =
     ap (λ b. cond b (frames_fault (guests_of f c.guests)) None) (not_equal n (length c.guests + length (report_asks command)) less)
   where
@@ -132,20 +132,20 @@ told_since : {X : Type 0} (files : X → Option Files) (old mid : X) (f : Files)
 told_since files old mid f stays told = stays ∙ told
 
 -- where some read was made, the first was that of the configuration
-later_first : {X : Type 0} (S : stores.Ghosts X) (command : Command) (n : ℕ) (old new : X) → 1 ≤ n → BeginsWithConfig (Some command) (S.asked old) (S.asked new)
-    → IsFirstRead S (Some command) (ended.NoMemory n) old new
+later_first : {X : Type 0} (S : stores.Ghosts X) (command : FileCommand) (n : ℕ) (old new : X) → 1 ≤ n → BeginsWithConfig (Some (OnFiles command)) (S.asked old) (S.asked new)
+    → IsFirstRead S (Some (OnFiles command)) (ended.NoMemory n) old new
 later_first S command zero old new some begins = absurd (omega (arith, some))
 later_first S command (suc n) old new some begins = begins
 
 -- the end of a command whose images' reads stopped
 pub images_stop : {X : Type 0} (S : stores.Ghosts X)
-    (command : Command) (c : Configuration) (end : LoadEnd) (old mid new : X)
+    (command : FileCommand) (c : Configuration) (end : LoadEnd) (old mid new : X)
     → ((f : Files) → S.files old ≡ Some f → accept (config_of f command) ≡ Ok c)
     → AskedMore (ask (config_name command) config_most ∷ []) (S.asked old) (S.asked mid)
     → ((f : Files) → S.files mid ≡ Some f → ReadsStopped f c.guests end (S.asked mid) (S.asked new)) → AskedSome (S.asked mid) (S.asked new)
     → S.files mid ≡ S.files old → S.files new ≡ S.files mid → S.faults old ≤ S.faults mid → S.faults mid ≤ S.faults new
     → IfFailed end (λ n. (2 ≤ n) × (n ≤ 17) × Rose (S.faults mid) (S.faults new)) → IfWanting end (λ n. 1 ≤ n)
-    → SaysOfReads S (Some command) (ended_by end) old new
+    → SaysOfReads S (Some (OnFiles command)) (ended_by end) old new
 images_stop S command c (Refused found) old mid new accepted first stopped some stays stays' count count' cause memory =
     let a = ask (config_name command) config_most in
     record {
@@ -219,10 +219,10 @@ refused_plan f name (Refused found) is = refused_config f name found is
 refused_plan f name (ReadFault n) is = tt
 refused_plan f name (NoMemory n) is = tt
 
-pub config_stop : {X : Type 0} (S : stores.Ghosts X) (command : Command) (bytes : List ℕ) (found : ConfigFault) (old new : X)
+pub config_stop : {X : Type 0} (S : stores.Ghosts X) (command : FileCommand) (bytes : List ℕ) (found : ConfigFault) (old new : X)
     → GivesFile (S.files old) (config_name command) config_most bytes → accept bytes ≡ Err found
     → AskedMore (ask (config_name command) config_most ∷ []) (S.asked old) (S.asked new)
-    → S.files new ≡ S.files old → S.faults old ≤ S.faults new → SaysOfReads S (Some command) (ended.Refused found) old new
+    → S.files new ≡ S.files old → S.faults old ≤ S.faults new → SaysOfReads S (Some (OnFiles command)) (ended.Refused found) old new
 config_stop S command bytes found old new gives refused made stays count = record {
   number = tt;
   fault = λ f told. ap fault_in (refused_config f (config_name command) found (at f told));
@@ -266,15 +266,15 @@ one_longer : (xs : List Ask) (y : Ask) → length (xs ++ y ∷ []) ≡ length xs
 one_longer xs y = grind (arith, common_steps)
 
 -- the reads so far
-images_asked : {X : Type 0} (S : stores.Ghosts X) (command : Command) (c : Configuration) (f : Files) (guests : List GuestSpec) (old mid later : X)
+images_asked : {X : Type 0} (S : stores.Ghosts X) (command : FileCommand) (c : Configuration) (f : Files) (guests : List GuestSpec) (old mid later : X)
     → AskedMore (ask (config_name command) config_most ∷ []) (S.asked old) (S.asked mid) → AreRead f c.guests guests (S.asked mid) (S.asked later)
     → AskedMore (ask (config_name command) config_most ∷ image_asks f c.guests) (S.asked old) (S.asked later)
 images_asked S command c f guests old mid later first read =
     asked_then (ask (config_name command) config_most ∷ []) (image_asks f c.guests) (S.asked old) (S.asked mid) (S.asked later) first read.asked
 
-begun : {X : Type 0} (S : stores.Ghosts X) (command : Command) (more : List Ask) (old mid later new : X)
+begun : {X : Type 0} (S : stores.Ghosts X) (command : FileCommand) (more : List Ask) (old mid later new : X)
     → AskedMore (ask (config_name command) config_most ∷ []) (S.asked old) (S.asked mid) → AskedSome (S.asked mid) (S.asked later)
-    → AskedMore more (S.asked later) (S.asked new) → BeginsWithConfig (Some command) (S.asked old) (S.asked new)
+    → AskedMore more (S.asked later) (S.asked new) → BeginsWithConfig (Some (OnFiles command)) (S.asked old) (S.asked new)
 begun S command more old mid later new first some last =
     let a = ask (config_name command) config_most in (
       false,
@@ -283,7 +283,7 @@ begun S command more old mid later new first some last =
           (asked_then (a ∷ []) some.0 (S.asked old) (S.asked mid) (S.asked later) first some.1) last,
     )
 
-whole_reads : {X : Type 0} (S : stores.Ghosts X) (command : Command) (c : Configuration) (f : Files) (guests : List GuestSpec) (old mid later new : X)
+whole_reads : {X : Type 0} (S : stores.Ghosts X) (command : FileCommand) (c : Configuration) (f : Files) (guests : List GuestSpec) (old mid later new : X)
     → accept (config_of f command) ≡ Ok c → AskedMore (ask (config_name command) config_most ∷ []) (S.asked old) (S.asked mid)
     → AreRead f c.guests guests (S.asked mid) (S.asked later) → AskedMore (report_asks command) (S.asked later) (S.asked new)
     → AskedMore (command_asks f command) (S.asked old) (S.asked new)
@@ -294,14 +294,14 @@ whole_reads S command c f guests old mid later new accepted first read last =
 
 -- the frames are few enough, or not
 pub all_read : {X : Type 0} (S : stores.Ghosts X)
-    (command : Command) (c : Configuration) (guests : List GuestSpec) (old mid later new : X)
+    (command : FileCommand) (c : Configuration) (guests : List GuestSpec) (old mid later new : X)
     → ((f : Files) → S.files old ≡ Some f → accept (config_of f command) ≡ Ok c)
     → AskedMore (ask (config_name command) config_most ∷ []) (S.asked old) (S.asked mid)
     → ((f : Files) → S.files mid ≡ Some f → AreRead f c.guests guests (S.asked mid) (S.asked later)) → AskedSome (S.asked mid) (S.asked later)
     → AskedMore (report_asks command) (S.asked later) (S.asked new)
     → S.files mid ≡ S.files old → S.files later ≡ S.files mid → S.files new ≡ S.files later
     → S.faults old ≤ S.faults mid → S.faults mid ≤ S.faults later → S.faults later ≤ S.faults new
-    → SaysOfReads S (Some command) ended.Done old new
+    → SaysOfReads S (Some (OnFiles command)) ended.Done old new
 all_read S command c guests old mid later new accepted first read some last stays stays' stays'' count count' count'' = record {
   number = tt;
   fault = λ f told. tt;
@@ -312,14 +312,14 @@ all_read S command c guests old mid later new accepted first read some last stay
 }
 
 pub frames_stop : {X : Type 0} (S : stores.Ghosts X)
-    (command : Command) (c : Configuration) (guests : List GuestSpec) (found : ConfigFault) (old mid later new : X)
+    (command : FileCommand) (c : Configuration) (guests : List GuestSpec) (found : ConfigFault) (old mid later new : X)
     → ((f : Files) → S.files old ≡ Some f → accept (config_of f command) ≡ Ok c)
     → AskedMore (ask (config_name command) config_most ∷ []) (S.asked old) (S.asked mid)
     → ((f : Files) → S.files mid ≡ Some f → AreRead f c.guests guests (S.asked mid) (S.asked later)) → AskedSome (S.asked mid) (S.asked later)
     → AskedMore (report_asks command) (S.asked later) (S.asked new)
     → S.files mid ≡ S.files old → S.files later ≡ S.files mid → S.files new ≡ S.files later
     → S.faults old ≤ S.faults mid → S.faults mid ≤ S.faults later → S.faults later ≤ S.faults new
-    → frames_fault guests ≡ Some found → SaysOfReads S (Some command) (ended.Refused found) old new
+    → frames_fault guests ≡ Some found → SaysOfReads S (Some (OnFiles command)) (ended.Refused found) old new
 frames_stop S command c guests found old mid later new accepted first read some last stays stays' stays'' count count' count'' frames = record {
   number = tt;
   fault = λ f told.
@@ -331,7 +331,7 @@ frames_stop S command c guests found old mid later new accepted first read some 
 }
 
 -- the read of the report failed, or memory was wanting before it
-report_failed : {X : Type 0} (S : stores.Ghosts X) (command : Command) (c : Configuration) (f : Files) (guests : List GuestSpec) (n : ℕ) (old mid later new : X)
+report_failed : {X : Type 0} (S : stores.Ghosts X) (command : FileCommand) (c : Configuration) (f : Files) (guests : List GuestSpec) (n : ℕ) (old mid later new : X)
     → accept (config_of f command) ≡ Ok c → AskedMore (ask (config_name command) config_most ∷ []) (S.asked old) (S.asked mid)
     → AreRead f c.guests guests (S.asked mid) (S.asked later) → AskedMore (failed (report_asks command)) (S.asked later) (S.asked new)
     → 1 ≤ length (report_asks command) → n ≡ length c.guests + 2 → IsFailedRead n (command_asks f command) (S.asked old) (S.asked new)
@@ -355,10 +355,10 @@ report_failed S (Replay config report) c f guests n old mid later new accepted f
           (images_asked S (Replay config report) c f guests old mid later first read) last);
     })
 
-report_wanting : {X : Type 0} (S : stores.Ghosts X) (command : Command) (c : Configuration) (f : Files) (guests : List GuestSpec) (n : ℕ) (old mid later new : X)
+report_wanting : {X : Type 0} (S : stores.Ghosts X) (command : FileCommand) (c : Configuration) (f : Files) (guests : List GuestSpec) (n : ℕ) (old mid later new : X)
     → accept (config_of f command) ≡ Ok c → AskedMore (ask (config_name command) config_most ∷ []) (S.asked old) (S.asked mid)
     → AreRead f c.guests guests (S.asked mid) (S.asked later) → AskedMore [] (S.asked later) (S.asked new)
-    → 1 ≤ length (report_asks command) → n ≡ length c.guests + 1 → IsWanting n f (Some command) (S.asked old) (S.asked new)
+    → 1 ≤ length (report_asks command) → n ≡ length c.guests + 1 → IsWanting n f (Some (OnFiles command)) (S.asked old) (S.asked new)
 report_wanting S command c f guests n old mid later new accepted first read last named is =
     let a = ask (config_name command) config_most in
     let images = image_asks f c.guests in
@@ -379,7 +379,7 @@ report_wanting S command c f guests n old mid later new accepted first read last
     }
 
 pub report_stop : {X : Type 0} (S : stores.Ghosts X)
-    (command : Command) (c : Configuration) (guests : List GuestSpec) (end : LoadEnd) (images : ℕ) (old mid later new : X)
+    (command : FileCommand) (c : Configuration) (guests : List GuestSpec) (end : LoadEnd) (images : ℕ) (old mid later new : X)
     → ((f : Files) → S.files old ≡ Some f → accept (config_of f command) ≡ Ok c)
     → AskedMore (ask (config_name command) config_most ∷ []) (S.asked old) (S.asked mid)
     → ((f : Files) → S.files mid ≡ Some f → AreRead f c.guests guests (S.asked mid) (S.asked later)) → AskedSome (S.asked mid) (S.asked later)
@@ -388,7 +388,7 @@ pub report_stop : {X : Type 0} (S : stores.Ghosts X)
     → S.faults old ≤ S.faults mid → S.faults mid ≤ S.faults later → S.faults later ≤ S.faults new
     → 1 ≤ length (report_asks command) → images ≡ length c.guests → images ≤ 16 → IfRefusal end (λ found. ⊥)
     → IfFailed end (λ n. (n ≡ images + 2) × Rose (S.faults later) (S.faults new)) → IfWanting end (λ n. n ≡ images + 1)
-    → SaysOfReads S (Some command) (ended_by end) old new
+    → SaysOfReads S (Some (OnFiles command)) (ended_by end) old new
 report_stop S command c guests (Refused found) images old mid later new accepted first read some last stays stays' stays'' count count' count'' named as_many few refused cause memory =
     absurd refused
 report_stop S command c guests (ReadFault n) images old mid later new accepted first read some last stays stays' stays'' count count' count'' named as_many few refused cause memory = record {
@@ -445,16 +445,16 @@ planned_for : (f : Files) (name : List ℕ) (plan : Plan) → planned f name ≡
 unfolding planned
 planned_for f name plan e = accepted_for f name plan (accept (content f name config_most)) e
 
-frames_now : (f : Files) (command : Command) (c : Configuration) → frames_after f (length c.guests + length (report_asks command)) command c ≡ frames_fault (guests_of f c.guests)
+frames_now : (f : Files) (command : FileCommand) (c : Configuration) → frames_after f (length c.guests + length (report_asks command)) command c ≡ frames_fault (guests_of f c.guests)
 frames_now f command c =
     ap (λ b. cond b (frames_fault (guests_of f c.guests)) None) (equal (length c.guests + length (report_asks command)) (length c.guests + length (report_asks command)) refl)
   where
     equal : (a b : ℕ) → a ≡ b → (a == b) ≡ true
     equal a b e = eq-eqb a b e
 
-pub late_wanting : {X : Type 0} (S : stores.Ghosts X) (command : Command) (plan : Plan) (reports : ℕ) (old new : X)
+pub late_wanting : {X : Type 0} (S : stores.Ghosts X) (command : FileCommand) (plan : Plan) (reports : ℕ) (old new : X)
     → ((f : Files) → S.files old ≡ Some f → planned f (config_name command) ≡ Ok plan) → reports ≡ length (report_asks command)
-    → SaysOfReads S (Some command) ended.Done old new → SaysOfReads S (Some command) (ended.NoMemory (1 + length plan.guests + reports)) old new
+    → SaysOfReads S (Some (OnFiles command)) ended.Done old new → SaysOfReads S (Some (OnFiles command)) (ended.NoMemory (1 + length plan.guests + reports)) old new
 late_wanting S command plan reports old new is made_reports made =
     let n = 1 + length plan.guests + reports in
     record {
@@ -497,6 +497,27 @@ nothing_read S command store = record {
     later = λ two. absurd (omega (arith, two));
     asked = asked_none (S.asked store);
   };
+  stays = refl;
+  count = omega arith;
+}
+
+-- a work reads nothing
+pub work_done : {X : Type 0} (S : stores.Ghosts X) (seed size : ℕ) (store : X) → SaysOfReads S (Some (Work seed size)) ended.Done store store
+work_done S seed size store = record {
+  number = tt;
+  fault = λ f told. tt;
+  first = asked_none (S.asked store);
+  reads = λ f told. asked_none (S.asked store);
+  stays = refl;
+  count = omega arith;
+}
+
+pub work_unwritten : {X : Type 0} (S : stores.Ghosts X) (seed size : ℕ) (store : X) → SaysOfReads S (Some (Work seed size)) ended.WriteFault store store
+work_unwritten S seed size store = record {
+  number = tt;
+  fault = λ f told. tt;
+  first = asked_none (S.asked store);
+  reads = λ f told. asked_none (S.asked store);
   stays = refl;
   count = omega arith;
 }

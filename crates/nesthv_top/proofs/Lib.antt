@@ -9,3 +9,4 @@ pub mod Sectioning
 pub mod Telling
 pub mod TurnEvents
 pub mod Turning
+pub mod Working

@@ -2,7 +2,7 @@
 use Rattle.std.proofs.Common.{cond, ◌≡◌, ◌≤◌, ◌⊎◌, inl, inr, ℕ, zero, suc, List, [], ◌∷◌, Option, Some, None, Result, Ok, Err, Bool, true, false, refl, sym, ap, subst, ◌∙◌, arith}
 use Rattle.std.specs.List.{list_all}
 use Rattle.std.specs.Prelude.{IsSome, IsSomeAnd}
-use Rattle.command_line.specs.Commands.{Command, asked_by, command_of, is_plain}
+use Rattle.command_line.specs.Commands.{Command, OnFiles, Work, asked_by, command_of, is_plain}
 use Rattle.outside.specs.declared.sinks.Sink as sinks
 use Rattle.outside.specs.declared.stores.Store as stores
 use Rattle.outside.specs.Faults.{Rose}
@@ -74,7 +74,8 @@ one_of_both (Ok plan) some fault = cc
 one_of_both (Err found) some fault = cc
 
 not_both : (f : Files) (command : Option Command) → IsSome (plan_of f command) → IsSome (fault_of f command) → ⊥
-not_both f (Some command) some fault = one_of_both (planned f (config_name command)) some fault
+not_both f (Some (OnFiles command)) some fault = one_of_both (planned f (config_name command)) some fault
+not_both f (Some (Work seed size)) some fault = cc
 not_both f None some fault = cc
 
 has_some : {A : Type 0} (P : A → Type 0) (o : Option A) → IsSomeAnd o P → IsSome o

@@ -8,10 +8,10 @@ use Rattle.guest_turns.specs.TurnLists.{own_events, own_steps, turn_events, with
 use Rattle.guest_turns.proofs.Accounts.{turns_count_alike}
 use Rattle.guest_turns.proofs.TurnLists.{runs_its_own_turns, turns_keep_count}
 use Rattle.nesthv_top.specs.Plans.{section_from, sections}
-use Rattle.nesthv_top.specs.Runnings.{sections_of}
+use Rattle.nesthv_top.specs.Runnings.{said_of, sections_of}
 
 -- machines that have run for the steps of their own turns, after so many others
-abbrev runs_from : ℕ → List Machine → List (ℕ × ℕ) → List Machine
+abbrev pub runs_from : ℕ → List Machine → List (ℕ × ℕ) → List Machine
 runs_from before [] turns = []
 runs_from before (m ∷ ms) turns = run m (own_steps before turns) ∷ runs_from (before + 1) ms turns
 
@@ -35,7 +35,7 @@ run_at before (m ∷ ms) turns (suc g) inside =
 zero_plus : (g : ℕ) → 0 + g ≡ g
 zero_plus g = omega arith
 
-with_turns_are : (turns : List (ℕ × ℕ)) (ms : List Machine) → with_turns turns ms ≡ runs_from 0 ms turns
+pub with_turns_are : (turns : List (ℕ × ℕ)) (ms : List Machine) → with_turns turns ms ≡ runs_from 0 ms turns
 with_turns_are turns ms =
     ext_get_or no_machine (with_turns turns ms) (runs_from 0 ms turns) (turns_keep_count turns ms ∙ sym (length_runs 0 ms turns))
     (λ g inside.
@@ -45,7 +45,7 @@ with_turns_are turns ms =
 -- the sections of these machines
 sections_run : (before : ℕ) (names : List (List ℕ)) (ms : List Machine) (turns : List (ℕ × ℕ))
     → sections_of names (runs_from before ms turns) ≡ sections before names ms turns
-unfolding sections sections_of
+unfolding sections said_of
 sections_run before [] ms turns = refl
 sections_run before (name ∷ names) [] turns = refl
 sections_run before (name ∷ names) (m ∷ ms) turns = ap (λ text. section_from name m (own_steps before turns) ++ text) (sections_run (before + 1) names ms turns)

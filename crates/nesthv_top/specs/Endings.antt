@@ -1,7 +1,7 @@
 -- What each end of a command says: why it comes, and what it leaves of the reads, of `out`, of `err` and of
 -- the account.
 use Rattle.std.specs.Prelude.{◌≡◌, ℕ, zero, ◌+◌, ◌^◌, ◌≤◌, ◌⊎◌, List, [], Option, Some, None, IsSome, IsSomeAnd, IfSome, false, ⊤}
-use Rattle.command_line.specs.Commands.{Command, Run, Replay, Check, command_of}
+use Rattle.command_line.specs.Commands.{Command, OnFiles, Run, Replay, Check, Work, command_of}
 use Rattle.machine_defs.specs.Runs.{plain_count, trace_of}
 use Rattle.outside.specs.declared.sinks.Sink as sinks
 use Rattle.outside.specs.declared.stores.Store as stores
@@ -73,8 +73,8 @@ pub record SaysOfCause {X Y : Type 0} (S : stores.Ghosts X) (O : sinks.Ghosts Y)
   pub read : IfReadFault ended (λ n. Rose (S.faults store) (S.faults store'))
   pub write : IfWriteFault ended (Rose (O.faults out) (O.faults out'))
 
--- the first read: that of the configuration, or none where the words are no command or memory was wanting
--- before
+-- the first read: that of the configuration, or none where the words are no command or a work, or memory was
+-- wanting before
 abbrev pub IsFirstRead : {X : Type 0} → stores.Ghosts X → Option Command → Ended → X → X → Type 0
 IsFirstRead S command NoCommand old new = new ≡ old
 IsFirstRead S command (NoMemory zero) old new = AskedMore [] (S.asked old) (S.asked new)
@@ -127,9 +127,10 @@ IfPlanned other files command P = ⊤
 
 -- a fact of a plan that is run: a check runs none
 abbrev pub IfRun : Command → Type 0 → Type 0
-IfRun (Run config) P = P
-IfRun (Replay config report) P = P
-IfRun (Check config) P = ⊤
+IfRun (OnFiles (Run config)) P = P
+IfRun (OnFiles (Replay config report)) P = P
+IfRun (OnFiles (Check config)) P = ⊤
+IfRun (Work seed size) P = P
 
 -- what an end says of `out` and of the machines whose report is written or compared
 pub record SaysOfOut {Y : Type 0} (O : sinks.Ghosts Y) (told : Option Files) (command : Option Command)
@@ -171,7 +172,7 @@ IsCounted plan Differs old new = IfSome plan (λ p. CountsRun p old new)
 IsCounted plan other old new = ⊤
 
 abbrev pub IsCheck : Option Command → Type 0
-IsCheck command = (config : List ℕ) × (command ≡ Some (Check config))
+IsCheck command = (config : List ℕ) × (command ≡ Some (OnFiles (Check config)))
 
 -- entries and steps of the hart grew by at most this many
 pub record GrewBy (entries steps : ℕ) (old new : Counts) : Type 0 where

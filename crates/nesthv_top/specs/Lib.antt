@@ -8,4 +8,5 @@ pub mod Runnings
 pub mod Seen
 pub mod Statuses
 pub mod Texts
+pub mod Works
 pub mod Written

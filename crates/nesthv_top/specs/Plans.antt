@@ -1,7 +1,7 @@
 -- What a command does with the files: the guests that it runs, their turns, and the report.
 use Rattle.std.specs.Prelude.{ℕ, ◌≡◌, ◌+◌, ◌*◌, ◌<◌, ◌≤◌, List, [], ◌∷◌, ◌++◌, Option, Some, None, Result, Ok, Err, Bool, length, map, nat_le, sum_by, unwrap_or}
 use Rattle.arch_defs.specs.Memory.{block_size}
-use Rattle.command_line.specs.Commands.{Command, Run, Replay, Check}
+use Rattle.command_line.specs.Commands.{Command, FileCommand, OnFiles, Run, Replay, Check, Work}
 use Rattle.guest_turns.specs.Hosted.{machine_at}
 use Rattle.guest_turns.specs.Limits.{frames_for}
 use Rattle.machine_defs.specs.declared.events.Event.{Event}
@@ -20,6 +20,8 @@ use Rattle.run_config.specs.Accept.{accept}
 use Rattle.run_config.specs.Configurations.{Configuration}
 use Rattle.run_config.specs.Tests.{first_fault, unless}
 use Rattle.guest_turns.specs.TurnLists.{entries_for, own_events, own_steps}
+use Rattle.turn_plan.specs.Turns.{rounds_of}
+use Rattle.work_images.specs.Guests as generated
 
 -- the first bytes of a file; one that is not there counts as empty
 abbrev pub content : Files → List ℕ → ℕ → List ℕ
@@ -108,26 +110,34 @@ abbrev pub fault_in : Result Plan ConfigFault → Option ConfigFault
 fault_in (Ok plan) = None
 fault_in (Err found) = Some found
 
--- the configuration that a command names
-abbrev pub config_name : Command → List ℕ
+-- the configuration that a command on files names
+abbrev pub config_name : FileCommand → List ℕ
 config_name (Run config) = config
 config_name (Replay config report) = config
 config_name (Check config) = config
 
+-- the plan of a seed and a size: the four guests that they give, and as many rounds as each has commands, of
+-- 1,000 steps for each guest (own)
+abbrev pub work_plan : ℕ → ℕ → Plan
+work_plan seed size = record { guests = generated.guests seed size; turns = rounds_of 4 1000 size }
+
 -- the plan of a command, and the first fault of its configuration
 abbrev pub plan_of : Files → Option Command → Option Plan
-plan_of files (Some command) = plan_in (planned files (config_name command))
+plan_of files (Some (OnFiles command)) = plan_in (planned files (config_name command))
+plan_of files (Some (Work seed size)) = Some (work_plan seed size)
 plan_of files None = None
 
 abbrev pub fault_of : Files → Option Command → Option ConfigFault
-fault_of files (Some command) = fault_in (planned files (config_name command))
+fault_of files (Some (OnFiles command)) = fault_in (planned files (config_name command))
+fault_of files (Some (Work seed size)) = None
 fault_of files None = None
 
 -- the plan that a command runs: a check runs none
 abbrev pub run_of : Files → Option Command → Option Plan
-run_of files (Some (Check config)) = None
-run_of files (Some (Run config)) = plan_of files (Some (Run config))
-run_of files (Some (Replay config report)) = plan_of files (Some (Replay config report))
+run_of files (Some (OnFiles (Run config))) = plan_of files (Some (OnFiles (Run config)))
+run_of files (Some (OnFiles (Replay config report))) = plan_of files (Some (OnFiles (Replay config report)))
+run_of files (Some (OnFiles (Check config))) = None
+run_of files (Some (Work seed size)) = plan_of files (Some (Work seed size))
 run_of files None = None
 
 -- the names of a plan's guests, and their lone machines at their start

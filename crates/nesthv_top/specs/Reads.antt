@@ -1,6 +1,6 @@
 -- The reads that a command asks for.
 use Rattle.std.specs.Prelude.{⊤, ◌≡◌, ℕ, ◌-◌, ◌+◌, ◌≤◌, ◌==◌, List, [], ◌∷◌, ◌++◌, Option, Some, None, Result, Ok, Err, option_map, length, take, drop, Bool, false, true, if◌then◌else◌}
-use Rattle.command_line.specs.Commands.{Command, Run, Replay, Check}
+use Rattle.command_line.specs.Commands.{Command, FileCommand, OnFiles, Run, Replay, Check, Work}
 use Rattle.outside.specs.Asks.{Ask}
 use Rattle.outside.specs.Files.{Files}
 use Rattle.run_config.specs.declared.faults.ConfigFault.{ConfigFault}
@@ -29,7 +29,7 @@ abbrev pub report_most : ℕ
 report_most = 33554432
 
 -- the read of the report that a command names
-abbrev pub report_asks : Command → List Ask
+abbrev pub report_asks : FileCommand → List Ask
 report_asks (Run config) = []
 report_asks (Replay config report) = ask report report_most ∷ []
 report_asks (Check config) = []
@@ -45,22 +45,24 @@ asks_unless (Some found) asks = []
 
 -- the reads after that of the configuration, if it is accepted: of the images, and, where these all fit, of
 -- the report
-abbrev pub accepted_asks : Files → Command → Result Configuration ConfigFault → List Ask
+abbrev pub accepted_asks : Files → FileCommand → Result Configuration ConfigFault → List Ask
 accepted_asks files command (Ok c) =
     image_asks files c.guests ++ asks_unless (images_fault files 0 c.guests) (report_asks command)
 accepted_asks files command (Err found) = []
 
 -- what is read of a command's configuration
-abbrev pub config_of : Files → Command → List ℕ
+abbrev pub config_of : Files → FileCommand → List ℕ
 config_of files command = content files (config_name command) config_most
 
--- the reads for a command: up to the first test that refuses
-abbrev pub command_asks : Files → Command → List Ask
+-- the reads for a command on files: up to the first test that refuses
+abbrev pub command_asks : Files → FileCommand → List Ask
 command_asks files command =
     ask (config_name command) config_most ∷ accepted_asks files command (accept (config_of files command))
 
+-- the reads for a command
 abbrev pub asks_of : Files → Option Command → List Ask
-asks_of files (Some command) = command_asks files command
+asks_of files (Some (OnFiles command)) = command_asks files command
+asks_of files (Some (Work seed size)) = []
 asks_of files None = []
 
 -- reads that answered a failure
@@ -80,11 +82,13 @@ AskedMore reads before after = after ≡ option_map (λ asks. asks ++ reads) bef
 abbrev pub AskedSome : Option (List Ask) → Option (List Ask) → Type 0
 AskedSome before after = (reads : List Ask) × AskedMore reads before after
 
--- reads were made, and the first of them was that of the command's configuration, whatever it answered
+-- reads were made, and the first of them was that of the command's configuration, whatever it answered; a
+-- work makes none
 abbrev pub BeginsWithConfig : Option Command → Option (List Ask) → Option (List Ask) → Type 0
-BeginsWithConfig (Some command) before after = (failed : Bool) × (rest : List Ask)
+BeginsWithConfig (Some (OnFiles command)) before after = (failed : Bool) × (rest : List Ask)
     × AskedMore (record { name = config_name command; most = config_most; failed = failed } ∷ rest)
     before after
+BeginsWithConfig (Some (Work seed size)) before after = AskedMore [] before after
 BeginsWithConfig None before after = ⊥
 
 -- of the reads that are to be made, the first n were made, and the last of these answered a failure
@@ -95,27 +99,29 @@ pub record IsFailedRead (n : ℕ) (reads : List Ask) (before after : Option (Lis
 
 -- the fault that the tests find after n reads more than that of the configuration: one of the images that
 -- were read, or, after the last read, of the frames
-abbrev pub frames_after : Files → ℕ → Command → Configuration → Option ConfigFault
+abbrev pub frames_after : Files → ℕ → FileCommand → Configuration → Option ConfigFault
 frames_after files n command c =
     if n == length c.guests + length (report_asks command)
     then frames_fault (guests_of files c.guests) else None
 
-abbrev pub fault_after : Files → ℕ → Command → Configuration → Option ConfigFault
+abbrev pub fault_after : Files → ℕ → FileCommand → Configuration → Option ConfigFault
 fault_after files n command c =
     first_fault (images_fault files 0 (take n c.guests) ∷ frames_after files n command c ∷ [])
 
 -- a command's configuration is not too long
 abbrev pub IsShort : Files → Option Command → Type 0
-IsShort files (Some command) = length (config_of files command) ≤ 65536
+IsShort files (Some (OnFiles command)) = length (config_of files command) ≤ 65536
+IsShort files (Some (Work seed size)) = ⊤
 IsShort files None = ⊤
 
 -- a command's configuration is accepted, and n reads later there is no fault
-abbrev pub IsFaultless : Files → ℕ → Command → Result Configuration ConfigFault → Type 0
+abbrev pub IsFaultless : Files → ℕ → FileCommand → Result Configuration ConfigFault → Type 0
 IsFaultless files n command (Ok c) = fault_after files n command c ≡ None
 IsFaultless files n command (Err found) = ⊥
 
 abbrev pub HasNoFault : Files → ℕ → Option Command → Type 0
-HasNoFault files n (Some command) = IsFaultless files n command (accept (config_of files command))
+HasNoFault files n (Some (OnFiles command)) = IsFaultless files n command (accept (config_of files command))
+HasNoFault files n (Some (Work seed size)) = ⊤
 HasNoFault files n None = ⊤
 
 -- memory was wanting after the first n of a command's reads were made, and no test before had refused: after

@@ -1,6 +1,7 @@
 -- What a run of a plan leaves: its account, and the report of machines.
-use Rattle.std.specs.Prelude.{◌≡◌, ℕ, ◌+◌, ◌≤◌, List, [], ◌∷◌, ◌++◌, Result, Ok, Err}
-use Rattle.command_line.specs.Commands.{Command, Run, Replay, Check}
+use Rattle.std.specs.Prelude.{◌≡◌, ℕ, ◌+◌, ◌≤◌, List, [], ◌∷◌, ◌++◌, map, Result, Ok, Err}
+use Rattle.std.specs.List.{range_with_len}
+use Rattle.command_line.specs.Commands.{FileCommand, Run, Replay, Check}
 use Rattle.machine_defs.specs.Runs.{plain_count, trace_of}
 use Rattle.rv64_hart.specs.Counts.{Counts, IsRaisedBy}
 use Rattle.nesthv_top.specs.declared.ends.RunEnd.{RunEnd}
@@ -8,12 +9,25 @@ use Rattle.nesthv_top.specs.declared.ends.RunEnd.TheVariants.{NoMemory, WriteFau
 use Rattle.nesthv_top.specs.Plans.{Plan, events_of, plan_entries, turn_steps}
 use Rattle.machine_defs.specs.Machine.{Machine}
 use Rattle.machine_defs.specs.Report.{section_of}
+use Rattle.work_images.specs.Guests.{guest_name}
+use Rattle.nesthv_top.specs.Works.{line_of}
 
--- the sections of machines, which have these names
-unfoldable pub sections_of : List (List ℕ) → List Machine → List ℕ
-sections_of [] machines = []
-sections_of (name ∷ names) [] = []
-sections_of (name ∷ names) (m ∷ machines) = section_of name m ++ sections_of names machines
+-- what is said of machines, which have these names, one after the other
+unfoldable pub said_of : (List ℕ → Machine → List ℕ) → List (List ℕ) → List Machine → List ℕ
+said_of say [] machines = []
+said_of say (name ∷ names) [] = []
+said_of say (name ∷ names) (m ∷ machines) = say name m ++ said_of say names machines
+
+-- their sections
+abbrev pub sections_of : List (List ℕ) → List Machine → List ℕ
+sections_of names machines = said_of section_of names machines
+
+-- the lines of generated guests' machines
+abbrev pub work_names : List (List ℕ)
+work_names = map guest_name (range_with_len 0 4)
+
+abbrev pub lines_of : List Machine → List ℕ
+lines_of machines = said_of line_of work_names machines
 
 -- the account of a plan's turns
 pub record CountsTurns (plan : Plan) (old new : Counts) : Type 0 where
@@ -31,7 +45,7 @@ IsAccountOf plan (Err WriteFault) old new = CountsTurns plan old new
 IsAccountOf plan (Err NoMemory) old new = new ≡ old
 
 -- the same for what is asked for: a check runs nothing
-abbrev pub IsAccountFor : {A : Type 0} → Command → Plan → Result A RunEnd → Counts → Counts → Type 0
+abbrev pub IsAccountFor : {A : Type 0} → FileCommand → Plan → Result A RunEnd → Counts → Counts → Type 0
 IsAccountFor (Run config) plan result old new = IsAccountOf plan result old new
 IsAccountFor (Replay config report) plan result old new = IsAccountOf plan result old new
 IsAccountFor (Check config) plan result old new = new ≡ old

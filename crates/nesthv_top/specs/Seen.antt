@@ -9,8 +9,11 @@ use Rattle.nesthv_top.specs.declared.ends.Job.{Job}
 use Rattle.nesthv_top.specs.declared.ends.Loaded.{Loaded}
 use Rattle.nesthv_top.specs.Plans.{Plan}
 
+abbrev pub plan_with : List GuestSpec → List (ℕ × ℕ) → Plan
+plan_with guests turns = record { guests = guests; turns = turns }
+
 abbrev pub plan_seen : Job → Plan
-plan_seen job = record { guests = job.guests.items; turns = job.config.turns }
+plan_seen job = plan_with job.guests.items job.config.turns
 
 abbrev pub loaded_plan : Loaded → Plan
 loaded_plan loaded = plan_seen loaded.job

@@ -1,7 +1,7 @@
 -- What a command finds, and what it writes.
 use Rattle.std.specs.Prelude.{ℕ, List, [], ◌∷◌, ◌++◌, length, codes, decimal}
 use Rattle.arch_defs.specs.Needs.{frames_needed}
-use Rattle.command_line.specs.Commands.{Command, Run, Replay, Check}
+use Rattle.command_line.specs.Commands.{Command, FileCommand, OnFiles, Run, Replay, Check, Work}
 use Rattle.guest_turns.specs.Limits.{frames_for}
 use Rattle.machine_defs.specs.declared.guests.GuestSpec.{GuestSpec}
 use Rattle.machine_defs.specs.GuestNeeds.{need_of}
@@ -11,6 +11,7 @@ use Rattle.replay.specs.declared.comparisons.Verdict.{Verdict}
 use Rattle.replay.specs.declared.comparisons.Verdict.TheVariants.{Same, Differs}
 use Rattle.nesthv_top.specs.Plans.{Plan, content, report_of}
 use Rattle.nesthv_top.specs.Reads.{report_most}
+use Rattle.nesthv_top.specs.Works.{work_text}
 
 -- the line that says what a guest needs: its name, how long its image is, and its frames of machine memory
 unfoldable pub guest_check : GuestSpec → List ℕ
@@ -34,26 +35,30 @@ verdict_line Same = codes "same\n"
 verdict_line (Differs n) = codes "differs at " ++ decimal n ++ codes "\n"
 
 -- what is read of the stored report that a command names
-abbrev pub stored_of : Files → Command → List ℕ
+abbrev pub stored_of : Files → FileCommand → List ℕ
 stored_of files (Run config) = []
 stored_of files (Replay config report) = content files report report_most
 stored_of files (Check config) = []
 
--- what a command finds with this stored report: a replay whether the report differs from it, the others
--- nothing that differs
-abbrev pub found_with : Command → List ℕ → Plan → Verdict
+-- what a command on files finds with this stored report: a replay whether the report differs from it, the
+-- others nothing that differs
+abbrev pub found_with : FileCommand → List ℕ → Plan → Verdict
 found_with (Run config) stored plan = Same
 found_with (Replay config report) stored plan = verdict_of stored (report_of plan)
 found_with (Check config) stored plan = Same
 
+-- the same of any command
 abbrev pub found_of : Files → Command → Plan → Verdict
-found_of files command plan = found_with command (stored_of files command) plan
+found_of files (OnFiles command) plan = found_with command (stored_of files command) plan
+found_of files (Work seed size) plan = Same
 
--- what it writes: a run the report, a replay its verdict, and a check what the guests need
-abbrev pub text_with : Command → List ℕ → Plan → List ℕ
+-- what a command on files writes: a run the report, a replay its verdict, and a check what the guests need
+abbrev pub text_with : FileCommand → List ℕ → Plan → List ℕ
 text_with (Run config) stored plan = report_of plan
 text_with (Replay config report) stored plan = verdict_line (verdict_of stored (report_of plan))
 text_with (Check config) stored plan = check_text plan
 
+-- what any command writes
 abbrev pub text_of : Files → Command → Plan → List ℕ
-text_of files command plan = text_with command (stored_of files command) plan
+text_of files (OnFiles command) plan = text_with command (stored_of files command) plan
+text_of files (Work seed size) plan = work_text seed size

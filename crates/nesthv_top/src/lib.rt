@@ -30,6 +30,7 @@ mod tests_rooms;
 #[cfg(test)]
 mod tests_waits;
 mod top;
+mod works;
 
 pub use programs::program;
 pub use top::nesthv;

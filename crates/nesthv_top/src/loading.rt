@@ -2,7 +2,8 @@
 
 ghost use Rattle.std.specs.Prelude.{◌≡◌, ◌+◌, ◌^◌, ◌<◌, ◌≤◌, [], ◌∷◌, Some, None, length, IfOk, IfErr, OnOk, OnErr};
 ghost use Rattle.std.specs.List.{All};
-ghost use Rattle.command_line.specs.Seen.{command_seen};
+ghost use Rattle.command_line.specs.Commands.{OnFiles};
+ghost use Rattle.command_line.specs.Seen.{file_command_seen};
 ghost use Rattle.guest_turns.specs.Limits.{IsBootable, frames_for};
 ghost use Rattle.outside.specs.Faults.{Rose};
 ghost use Rattle.outside.specs.Files.{Files};
@@ -18,7 +19,7 @@ ghost use Rattle.nesthv_top.specs.Texts.{stored_of};
 
 use crate::ends::{Job, LoadEnd, Loaded};
 use arch_defs::BLOCK_SIZE;
-use command_line::Request;
+use command_line::FileRequest;
 use machine_defs::{Bytes, GuestSpec, Inputs, Name};
 use outside::{Store, StoreFault};
 use run_config::{Config, ConfigFault, GuestSettings, ReadEnd};
@@ -34,14 +35,14 @@ const REPORT_MOST: u64 = 33_554_432;
 const MOST_FRAMES: u64 = 131_072;
 
 /// Reads what is asked for: a configuration, its images, and for a replay the stored report.
-pub fn load<S: Store>(alloc: Global, request: Request<'_>, store: &mut S) -> Result<Loaded, LoadEnd>
-    ensures reads { SaysOfReads S.Store (Some (command_seen request.entry)) (ended_of result)
+pub fn load<S: Store>(alloc: Global, request: FileRequest<'_>, store: &mut S) -> Result<Loaded, LoadEnd>
+    ensures reads { SaysOfReads S.Store (Some (OnFiles (file_command_seen request.entry))) (ended_of result)
         store.old store.new }
     ensures cause { IfReadFailed result (λ n. Rose (S.faults store.old) (S.faults store.new)) }
     ensures planned { (files : Files) → S.files store.old ≡ Some files
-        → AnswersAs loaded_plan result (planned files (config_name (command_seen request.entry))) }
+        → AnswersAs loaded_plan result (planned files (config_name (file_command_seen request.entry))) }
     ensures stored { (files : Files) → S.files store.old ≡ Some files
-        → IfOk result (λ loaded. loaded.stored.items ≡ stored_of files (command_seen request.entry)) }
+        → IfOk result (λ loaded. loaded.stored.items ≡ stored_of files (file_command_seen request.entry)) }
     ensures job { IfOk result (λ loaded. IsJob loaded.job) }
 {
     let config = match read_config(alloc, request, store) {
@@ -66,29 +67,32 @@ pub fn load<S: Store>(alloc: Global, request: Request<'_>, store: &mut S) -> Res
 }
 
 // The configuration that is named.
-fn config_name<'a>(request: Request<'a>) -> &'a str
-    ensures { result.now ≡ config_name (command_seen request.entry) }
+fn config_name<'a>(request: FileRequest<'a>) -> &'a str
+    ensures { result.now ≡ config_name (file_command_seen request.entry) }
 {
     match request {
-        Request::Run { config } | Request::Check { config } | Request::Replay { config, .. } =>
-            config,
+        FileRequest::Run { config }
+        | FileRequest::Check { config }
+        | FileRequest::Replay { config, .. } => config,
     }
 }
 
 // Reads the configuration that is named.
 fn read_config<S: Store>(
     alloc: Global,
-    request: Request<'_>,
+    request: FileRequest<'_>,
     store: &mut S,
 ) -> Result<Config, LoadEnd>
     ensures accepted { (files : Files) → S.files store.old ≡ Some files
         → AnswersAs (λ (c : Configuration). c) result
-        (accept (config_of files (command_seen request.entry))) }
+        (accept (config_of files (file_command_seen request.entry))) }
     ensures limits { IfOk result IsWithinLimits }
-    ensures asked { OnOk result (AskedMore (ask (config_name (command_seen request.entry)) config_most ∷ [])
+    ensures asked { OnOk result (AskedMore
+        (ask (config_name (file_command_seen request.entry)) config_most ∷ [])
         (S.asked store.old) (S.asked store.new)) }
     ensures ended { IfErr result (λ end.
-        SaysOfReads S.Store (Some (command_seen request.entry)) (ended_by end) store.old store.new) }
+        SaysOfReads S.Store (Some (OnFiles (file_command_seen request.entry))) (ended_by end)
+        store.old store.new) }
     ensures cause { IfReadFailed result (λ n. Rose (S.faults store.old) (S.faults store.new)) }
     ensures stays { S.files store.new ≡ S.files store.old }
     ensures count { S.faults store.old ≤ S.faults store.new }
@@ -231,16 +235,16 @@ fn read_image<S: Store>(
 // Reads the stored report, if one is named, after the configuration and so many images.
 fn read_stored<S: Store>(
     alloc: Global,
-    request: Request<'_>,
+    request: FileRequest<'_>,
     images: u64,
     store: &mut S,
 ) -> Result<Vec<u8>, LoadEnd>
     requires { images ≤ 16 }
     ensures stored { (files : Files) → S.files store.old ≡ Some files
-        → IfOk result (λ stored. stored.items ≡ stored_of files (command_seen request.entry)) }
-    ensures asked { AskedMore (added_all (report_asks (command_seen request.entry)) result)
+        → IfOk result (λ stored. stored.items ≡ stored_of files (file_command_seen request.entry)) }
+    ensures asked { AskedMore (added_all (report_asks (file_command_seen request.entry)) result)
         (S.asked store.old) (S.asked store.new) }
-    ensures named { OnErr result (1 ≤ length (report_asks (command_seen request.entry))) }
+    ensures named { OnErr result (1 ≤ length (report_asks (file_command_seen request.entry))) }
     ensures refused { IfLoadRefused result (λ found. ⊥) }
     ensures cause { IfReadFailed result (λ n. (n ≡ images + 2)
         × Rose (S.faults store.old) (S.faults store.new)) }
@@ -249,8 +253,8 @@ fn read_stored<S: Store>(
     ensures count { S.faults store.old ≤ S.faults store.new }
 {
     let report = match request {
-        Request::Run { .. } | Request::Check { .. } => return Ok(Vec::new(alloc)),
-        Request::Replay { report, .. } => report,
+        FileRequest::Run { .. } | FileRequest::Check { .. } => return Ok(Vec::new(alloc)),
+        FileRequest::Replay { report, .. } => report,
     };
     match store.read(alloc, report, REPORT_MOST) {
         Ok(stored) => Ok(stored),

@@ -1,8 +1,8 @@
 // From a command to its end.
 
 ghost use Rattle.std.specs.Prelude.{◌≡◌, ◌^◌, ◌≤◌, Some, IfOk, IsErrOf, length};
-ghost use Rattle.command_line.specs.Commands.{command_of};
-ghost use Rattle.command_line.specs.Seen.{command_seen};
+ghost use Rattle.command_line.specs.Commands.{OnFiles, command_of};
+ghost use Rattle.command_line.specs.Seen.{file_command_seen};
 ghost use Rattle.outside.specs.Faults.{Rose};
 ghost use Rattle.nesthv_top.specs.Endings.{IfReadFault, IfRun, IfWriteFault, IsOfCommand, SaysOfAccount, SaysOfCause, SaysOfOut, SaysOfReads};
 ghost use Rattle.nesthv_top.specs.Plans.{AllRunAsWritten};
@@ -17,7 +17,8 @@ use crate::ends::{Ended, Job, LoadEnd, Loaded, RunEnd};
 use crate::loading::load;
 use crate::replaying::replay;
 use crate::running::run;
-use command_line::{Request, request_of};
+use crate::works::work;
+use command_line::{FileRequest, Request, request_of};
 use outside::{Sink, Store, Word};
 use replay::Verdict;
 use rv64_hart::Tally;
@@ -40,16 +41,21 @@ pub fn obey<S: Store, O: Sink>(
     ensures account { SaysOfAccount (S.files store.old) (command_of words.now) result tally.old tally.new }
 {
     match request_of(alloc, words) {
-        Ok(Some(request)) => answer(alloc, request, store, out, tally),
+        Ok(Some(Request::OnFiles(request))) => answer(alloc, request, store, out, tally),
+        Ok(Some(Request::Work { seed, size })) => match work(alloc, seed, size, out, tally) {
+            Ok(()) => Ended::Done,
+            Err(RunEnd::WriteFault) => Ended::WriteFault,
+            Err(RunEnd::NoMemory) => Ended::NoMemory(0),
+        },
         Ok(None) => Ended::NoCommand,
         Err(_) => Ended::NoMemory(0),
     }
 }
 
-// Does what is asked for.
+// Does what is asked for of files.
 fn answer<S: Store, O: Sink>(
     alloc: Global,
-    request: Request<'_>,
+    request: FileRequest<'_>,
     store: &mut S,
     out: &mut O,
     tally: &mut Tally,
@@ -60,11 +66,12 @@ fn answer<S: Store, O: Sink>(
     ensures command { IsOfCommand result }
     ensures read { IfReadFault result (λ n. Rose (S.faults store.old) (S.faults store.new)) }
     ensures write { IfWriteFault result (Rose (O.faults out.old) (O.faults out.new)) }
-    ensures reads { SaysOfReads S.Store (Some (command_seen request.entry)) result store.old store.new }
-    ensures out { SaysOfOut O.Sink (S.files store.old) (Some (command_seen request.entry)) result
-        out.old out.new }
-    ensures account { SaysOfAccount (S.files store.old) (Some (command_seen request.entry)) result
-        tally.old tally.new }
+    ensures reads { SaysOfReads S.Store (Some (OnFiles (file_command_seen request.entry))) result
+        store.old store.new }
+    ensures out { SaysOfOut O.Sink (S.files store.old) (Some (OnFiles (file_command_seen request.entry)))
+        result out.old out.new }
+    ensures account { SaysOfAccount (S.files store.old) (Some (OnFiles (file_command_seen request.entry)))
+        result tally.old tally.new }
 {
     let Loaded { job, stored } = match load(alloc, request, store) {
         Ok(loaded) => loaded,
@@ -82,19 +89,19 @@ fn answer<S: Store, O: Sink>(
 }
 
 // How many stored reports are read.
-fn reports_read(request: Request<'_>) -> u64
-    ensures { result ≡ length (report_asks (command_seen request.entry)) }
+fn reports_read(request: FileRequest<'_>) -> u64
+    ensures { result ≡ length (report_asks (file_command_seen request.entry)) }
 {
     match request {
-        Request::Run { .. } | Request::Check { .. } => 0,
-        Request::Replay { .. } => 1,
+        FileRequest::Run { .. } | FileRequest::Check { .. } => 0,
+        FileRequest::Replay { .. } => 1,
     }
 }
 
 // Does with a job what is asked for, and answers what a replay finds; the others find nothing that differs.
 fn perform<O: Sink>(
     alloc: Global,
-    request: Request<'_>,
+    request: FileRequest<'_>,
     job: Job,
     stored: &[u8],
     out: &mut O,
@@ -105,22 +112,23 @@ fn perform<O: Sink>(
     requires taken { tally.old.taken ≤ 2 ^ 61 }
 
     ensures found { IfOk result (λ found.
-        found ≡ found_with (command_seen request.entry) stored.now (plan_seen job)) }
+        found ≡ found_with (file_command_seen request.entry) stored.now (plan_seen job)) }
     ensures written { IsWritten O.stands_for out.old out.new result
-        (text_with (command_seen request.entry) stored.now (plan_seen job)) }
+        (text_with (file_command_seen request.entry) stored.now (plan_seen job)) }
     ensures cause { IsErrOf result RunEnd.WriteFault → Rose (O.faults out.old) (O.faults out.new) }
     ensures count { O.faults out.old ≤ O.faults out.new }
     ensures stays { O.made_with out.new ≡ O.made_with out.old }
-    ensures account { IsAccountFor (command_seen request.entry) (plan_seen job) result tally.old tally.new }
-    ensures machines { IfRun (command_seen request.entry) (AllRunAsWritten (plan_seen job)) }
+    ensures account { IsAccountFor (file_command_seen request.entry) (plan_seen job) result
+        tally.old tally.new }
+    ensures machines { IfRun (OnFiles (file_command_seen request.entry)) (AllRunAsWritten (plan_seen job)) }
 {
     match request {
-        Request::Run { .. } => match run(alloc, job, out, tally) {
+        FileRequest::Run { .. } => match run(alloc, job, out, tally) {
             Ok(()) => Ok(Verdict::Same),
             Err(end) => Err(end),
         },
-        Request::Replay { .. } => replay(alloc, job, stored, out, tally),
-        Request::Check { .. } => match check(&job, out) {
+        FileRequest::Replay { .. } => replay(alloc, job, stored, out, tally),
+        FileRequest::Check { .. } => match check(&job, out) {
             Ok(()) => Ok(Verdict::Same),
             Err(_) => Err(RunEnd::WriteFault),
         },

@@ -1,21 +1,25 @@
 // From a job to its report.
 
-ghost use Rattle.std.specs.Prelude.{◌≡◌, ◌+◌, ◌^◌, ◌≤◌, ◌<◌, is_ok, length, IsErrOf, OnErr};
+ghost use Rattle.std.specs.Prelude.{◌≡◌, ◌+◌, ◌^◌, ◌≤◌, ◌<◌, is_ok, length, map, IfOk, IsErrOf, OnOk, OnErr};
 ghost use Rattle.std.specs.List.{All};
+ghost use Rattle.machine_defs.specs.Machine.{start};
 ghost use Rattle.machine_defs.specs.Runs.{plain_count, trace_of};
 ghost use Rattle.outside.specs.Faults.{Rose};
 ghost use Rattle.outside.specs.Pieces.{Puts};
+ghost use Rattle.guest_turns.specs.Limits.{AreBootable};
 ghost use Rattle.guest_turns.specs.TurnLists.{entries_for, turn_events, with_turns};
 ghost use Rattle.rv64_hart.specs.Counts.{IsRaisedBy};
 ghost use Rattle.run_config.specs.Configurations.{IsGuestWithin, IsTurnWithin};
 ghost use Rattle.nesthv_top.specs.Plans.{AllRunAsWritten, report_of, turn_steps};
-ghost use Rattle.nesthv_top.specs.Runnings.{sections_of, IsAccountOf};
-ghost use Rattle.nesthv_top.specs.Seen.{names_in, plan_seen, IsJob};
+ghost use Rattle.nesthv_top.specs.Runnings.{sections_of, CountsTurns, IsAccountOf};
+ghost use Rattle.nesthv_top.specs.Seen.{names_in, plan_seen, plan_with, IsJob};
 ghost use Rattle.nesthv_top.specs.Written.{IsWritten};
 
 use crate::ends::{Job, RunEnd};
 use guest_turns::Host;
+use machine_defs::GuestSpec;
 use machine_laws::{fills_suffice, runs_are_architectural, runs_are_fresh};
+use no_memory::NoMemory;
 use outside::{Sink, SinkFault};
 use report::{GuestLine, section};
 use run_config::GuestSettings;
@@ -35,20 +39,42 @@ pub fn run<O: Sink>(alloc: Global, job: Job, out: &mut O, tally: &mut Tally) -> 
     ensures account { IsAccountOf (plan_seen job) result tally.old tally.new }
     ensures machines { AllRunAsWritten (plan_seen job) }
 {
-    fills_suffice();
-    runs_are_architectural();
-    runs_are_fresh();
     let Job { config, guests } = job;
-    let mut host = match Host::boot(alloc, guests) {
+    let host = match hosted(alloc, guests, config.turns().as_slice(), tally) {
         Ok(host) => host,
         Err(_) => return Err(RunEnd::NoMemory),
     };
-    host.rooms_are_small();
-    run_turns(&mut host, config.turns().as_slice(), tally);
     match put_sections(&host, config.guests(), out) {
         Ok(()) => Ok(()),
         Err(_) => Err(RunEnd::WriteFault),
     }
+}
+
+/// Boots guests, and makes their turns.
+pub fn hosted(
+    alloc: Global,
+    guests: Vec<GuestSpec>,
+    turns: &[(u32, u64)],
+    tally: &mut Tally,
+) -> Result<Host, NoMemory>
+    requires guests { AreBootable guests.items }
+    requires few { length turns.now ≤ 2 ^ 20 }
+    requires short { All (IsTurnWithin (length guests.items)) turns.now }
+    requires entries { tally.old.entries ≤ 2 ^ 61 }
+    requires taken { tally.old.taken ≤ 2 ^ 61 }
+
+    ensures machines { IfOk result (λ host. host.machines ≡ with_turns turns.now (map start guests.items)) }
+    ensures account { OnOk result (CountsTurns (plan_with guests.items turns.now) tally.old tally.new) }
+    ensures idle { OnErr result (tally.new ≡ tally.old) }
+    ensures written { AllRunAsWritten (plan_with guests.items turns.now) }
+{
+    fills_suffice();
+    runs_are_architectural();
+    runs_are_fresh();
+    let mut host = Host::boot(alloc, guests)?;
+    host.rooms_are_small();
+    run_turns(&mut host, turns, tally);
+    Ok(host)
 }
 
 // Makes the turns, in order.

@@ -559,7 +559,7 @@ const NO_COMMANDS: [&[&str]; 10] = [
     &["nesthv", "help"],
     &["nesthv", "help", "run"],
     &["nesthv", "RUN", "k"],
-    &["nesthv", "work", "0", "1"],
+    &["nesthv", "work", "0", "0"],
 ];
 
 #[test]

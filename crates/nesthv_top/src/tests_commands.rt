@@ -1,4 +1,4 @@
-// Checks and replays.
+// Checks, replays, and generated guests.
 
 use crate::nesthv;
 use crate::tests::{PUTS_A, image, words_of};
@@ -7,6 +7,7 @@ use outside::{ListSink, MapStore};
 use rv64_hart::Tally;
 use std::alloc::Global;
 use std::test::Fail;
+use work_images::guests;
 
 /// What `run` writes of a guest that puts one byte, and of one whose turns have no step.
 const ONE: &[u8] = b"guest a stopped steps 5 bytes 1\nA\n";
@@ -299,7 +300,8 @@ fn check_faults(rt: HostRuntime) -> Result<(), Fail> {
     Ok(())
 }
 
-// Each wrong count of words, an empty word, a dash, `help`, and words that are not ASCII.
+// Each wrong count of words, an empty word, a dash, `help`, words that are not ASCII, and seeds and sizes out
+// of range or with too many digits.
 #[test]
 fn no_commands(rt: HostRuntime) -> Result<(), Fail> {
     let config = one_guest(rt.alloc())?;
@@ -318,7 +320,11 @@ fn no_commands(rt: HostRuntime) -> Result<(), Fail> {
         ["nesthv", "help"].as_slice(),
         ["nesthv", "--help"].as_slice(),
         ["nesthv", "ch\u{e9}ck", "k"].as_slice(),
-        ["nesthv", "work", "0", "1"].as_slice(),
+        ["nesthv", "work", "0", "0"].as_slice(),
+        ["nesthv", "work", "2147483648", "1"].as_slice(),
+        ["nesthv", "work", "0", "000001"].as_slice(),
+        ["nesthv", "work", "0", "10001"].as_slice(),
+        ["nesthv", "work", "0"].as_slice(),
     ] {
         let mut store = store_of(rt.alloc(), config.as_str(), Some(ONE))?;
         let left = outcome(rt.alloc(), texts, &mut store, NONE)?;
@@ -330,6 +336,78 @@ fn no_commands(rt: HostRuntime) -> Result<(), Fail> {
             )
         );
         assert_eq!(rt; (left.reads, left.entries), (0, 0));
+    }
+    Ok(())
+}
+
+/// What `work 0 1` writes.
+const SMALLEST: &[u8] = b"work 0 1\n\
+guest g0 stopped steps 36 bytes 1 sum 53\n\
+guest g1 stopped steps 35 bytes 1 sum 53\n\
+guest g2 stopped steps 35 bytes 1 sum 53\n\
+guest g3 stopped steps 35 bytes 1 sum 53\n";
+
+// Seed 0 and size 1, with and without leading zeros. Nothing is read, and the hart is entered.
+#[test]
+fn work_smallest(rt: HostRuntime) -> Result<(), Fail> {
+    for texts in [
+        ["nesthv", "work", "0", "1"],
+        ["nesthv", "work", "0000000000", "00001"],
+    ] {
+        let mut store = MapStore::new(rt.alloc());
+        let left = outcome(rt.alloc(), texts.as_slice(), &mut store, NONE)?;
+        assert!(rt; left.is(0, SMALLEST, b""));
+        assert!(rt; left.reads == 0 && left.entries > 0 && left.taken > 0);
+    }
+    Ok(())
+}
+
+// Each put that fails leaves the lines before.
+#[test]
+fn work_faults(rt: HostRuntime) -> Result<(), Fail> {
+    for (put, length) in [(1, 0), (4, 91)] {
+        let mut store = MapStore::new(rt.alloc());
+        let failing = Failing { read: 0, put };
+        let left = outcome(rt.alloc(), &["nesthv", "work", "0", "1"], &mut store, failing)?;
+        assert!(rt; left.is(4, &SMALLEST[..length], b"nesthv: write fault\n"));
+    }
+    Ok(())
+}
+
+// The images of seed 0 and size 1 run as files: the same statuses and steps, and the byte 53 of each console.
+#[test]
+fn work_as_files(rt: HostRuntime) -> Result<(), Fail> {
+    for (guest, steps) in guests(rt.alloc(), 0, 1)?.as_slice().iter().zip([36, 35, 35, 35]) {
+        let mut config = String::new(rt.alloc());
+        config.push_str("format = 1\nquantum = 1000\nrounds = 1\n")?;
+        config.push_str("[[guest]]\nname = \"a\"\nimage = \"a.bin\"\nblocks = 1\nspaces = 1\n")?;
+        config.push_str("entries = 16\nconsole = 1048576\n")?;
+        let mut store = MapStore::new(rt.alloc());
+        store.insert("k", config.as_bytes())?;
+        store.insert("a.bin", guest.image.as_slice())?;
+        let mut report = String::new(rt.alloc());
+        write!(report, "guest a stopped steps {steps} bytes 1\n5\n")?;
+        let left = outcome(rt.alloc(), &["nesthv", "run", "k"], &mut store, NONE)?;
+        assert!(rt; left.is(0, report.as_bytes(), b""));
+    }
+    Ok(())
+}
+
+/// What `work 1 10000` writes, by another program.
+const LARGEST: &[u8] = b"work 1 10000\n\
+guest g0 stopped steps 182461 bytes 10000 sum 709365\n\
+guest g1 stopped steps 182562 bytes 10000 sum 707437\n\
+guest g2 stopped steps 182496 bytes 10000 sum 709157\n\
+guest g3 stopped steps 182555 bytes 10000 sum 707330\n";
+
+// The largest size, twice. With no proof it takes long: `rt try --test --seconds 3600 --steps 20000000000`.
+#[test]
+fn work_largest(rt: HostRuntime) -> Result<(), Fail> {
+    let work = ["nesthv", "work", "1", "10000"].as_slice();
+    for _ in 0..2 {
+        let mut store = MapStore::new(rt.alloc());
+        let left = outcome(rt.alloc(), work, &mut store, NONE)?;
+        assert!(rt; left.is(0, LARGEST, b""));
     }
     Ok(())
 }

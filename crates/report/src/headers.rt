@@ -1,4 +1,4 @@
-ghost use Rattle.std.specs.Prelude.{◌≡◌, ◌≤◌, ◌++◌, length, codes};
+ghost use Rattle.std.specs.Prelude.{◌≡◌, ◌≤◌, length};
 ghost use Rattle.machine_defs.specs.Report.{header, status_word};
 
 use arrayvec::ArrayVec;
@@ -15,12 +15,13 @@ fn word(status: Status) -> &'static [u8]
     }
 }
 
-/// The line that heads a section, with its line feed. At most 101 bytes: a name of 32, a word of 7, two
-/// numbers of 20 digits, and 22 bytes between them.
+/// The line that heads a section, without its line feed. At most 100 bytes: a name of 32, a word of 7, two
+/// numbers of 20 digits, and 21 bytes between them.
 #[tactic(auto, unfolding(machine_defs::specs::Report::header))]
-pub fn header_line(name: &[u8], status: Status, steps: u64, bytes: u64) -> ArrayVec<u8, 128>
+pub fn header(name: &[u8], status: Status, steps: u64, bytes: u64) -> ArrayVec<u8, 128>
     requires { length name.now ≤ 32 }
-    ensures { result.items ≡ header name.now status steps bytes ++ codes "\n" }
+    ensures text { result.items ≡ header name.now status steps bytes }
+    ensures short { length result.items ≤ 100 }
 {
     let mut digits = Buffer::new();
     let mut line = ArrayVec::new();
@@ -34,6 +35,5 @@ pub fn header_line(name: &[u8], status: Status, steps: u64, bytes: u64) -> Array
     line.try_extend_from_slice(b" bytes ").unwrap();
     line.try_extend_from_slice(digits.format(bytes).as_bytes())
         .unwrap();
-    line.try_extend_from_slice(b"\n").unwrap();
     line
 }

@@ -4,7 +4,7 @@ ghost use Rattle.outside.specs.Faults.{Rose};
 ghost use Rattle.outside.specs.Pieces.{Appends, Puts};
 ghost use Rattle.report.specs.Puts.{unless_empty, section_pieces};
 
-use crate::headers::header_line;
+use crate::headers::header;
 use machine_defs::{Name, Status};
 use outside::{Sink, SinkFault};
 
@@ -46,7 +46,8 @@ pub fn section<S: Sink>(line: &GuestLine, console: &[u8], out: &mut S) -> Result
     ensures stays { S.made_with out.new ≡ S.made_with out.old }
 {
     let bytes = console.len() as u64;
-    let header = header_line(line.name.as_slice(), line.status, line.steps, bytes);
+    let mut header = header(line.name.as_slice(), line.status, line.steps, bytes);
+    header.try_extend_from_slice(b"\n").unwrap();
     match put_both(header.as_slice(), console, out) {
         Ok(()) => out.put(b"\n"),
         Err(e) => Err(e),

@@ -1,5 +1,5 @@
 use Rattle.std.proofs.Common.{◌≡◌, Err}
-use Rattle.command_line.specs.Seen.{command_seen}
+use Rattle.command_line.specs.Seen.{file_command_seen}
 use Rattle.run_config.specs.Accept.{accept}
 use Rattle.nesthv_top.proofs.Asking.{config_stop}
 use Rattle.nesthv_top.proofs.loading.read_config.Goals as goal
@@ -9,5 +9,5 @@ returns-in-Err-Refused-clause-ended g c =
     let read = c.in-Ok.ensures in
     let refused = rw c.in-Err-Refused.field-0-is at c.in-Err-Refused.ensures.refused in
     let here : accept c.in-Ok.bytes.items ≡ Err c.in-Err-Refused.fault = rw (← c.as_slice.ensures.value) refused in
-    config_stop g.S.Store (command_seen c.args.request) c.in-Ok.bytes.items c.in-Err-Refused.fault _ _ (rw c.config_name.ensures at read.bytes) here
+    config_stop g.S.Store (file_command_seen c.args.request) c.in-Ok.bytes.items c.in-Err-Refused.fault _ _ (rw c.config_name.ensures at read.bytes) here
     (rw c.config_name.ensures at read.asked) read.stays read.count

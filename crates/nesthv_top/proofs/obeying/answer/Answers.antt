@@ -1,4 +1,5 @@
-use Rattle.command_line.specs.Seen.{command_seen}
+use Rattle.command_line.specs.Commands.{OnFiles}
+use Rattle.command_line.specs.Seen.{file_command_seen}
 use Rattle.replay.specs.declared.comparisons.Verdict.TheVariants.{Same}
 use Rattle.nesthv_top.specs.Seen.{plan_seen}
 use Rattle.nesthv_top.proofs.Accounting.{counted, counted_differing, counted_in_part}
@@ -7,22 +8,22 @@ use Rattle.nesthv_top.proofs.obeying.answer.Goals as goal
 
 pub returns-in-Ok-Same-clause-account : goal.returns-in-Ok-Same-clause-account
 returns-in-Ok-Same-clause-account g c =
-    counted (g.S.Store.files c.args.store.now) (command_seen c.args.request) c.in-Ok.loaded.job c.in-Ok-Same.field-0 c.args.tally.now c.perform.new.tally
+    counted (g.S.Store.files c.args.store.now) (file_command_seen c.args.request) c.in-Ok.loaded.job c.in-Ok-Same.field-0 c.args.tally.now c.perform.new.tally
     c.in-Ok.ensures.planned c.in-Ok.ensures.job c.in-Ok-Same.ensures.account
 
 pub returns-in-Ok-Differs-clause-account : goal.returns-in-Ok-Differs-clause-account
 returns-in-Ok-Differs-clause-account g c =
-    counted_differing (g.S.Store.files c.args.store.now) (command_seen c.args.request) c.args.tally.now c.perform.new.tally
-    (counted (g.S.Store.files c.args.store.now) (command_seen c.args.request) c.in-Ok.loaded.job c.in-Ok-Differs.field-0 c.args.tally.now c.perform.new.tally
+    counted_differing (g.S.Store.files c.args.store.now) (OnFiles (file_command_seen c.args.request)) c.args.tally.now c.perform.new.tally
+    (counted (g.S.Store.files c.args.store.now) (file_command_seen c.args.request) c.in-Ok.loaded.job c.in-Ok-Differs.field-0 c.args.tally.now c.perform.new.tally
     c.in-Ok.ensures.planned c.in-Ok.ensures.job c.in-Ok-Differs.ensures.account)
 
 pub returns-in-Err-WriteFault-clause-account : goal.returns-in-Err-WriteFault-clause-account
 returns-in-Err-WriteFault-clause-account g c =
-    counted_in_part (g.S.Store.files c.args.store.now) (command_seen c.args.request) c.in-Ok.loaded.job Same c.args.tally.now c.perform.new.tally
+    counted_in_part (g.S.Store.files c.args.store.now) (file_command_seen c.args.request) c.in-Ok.loaded.job Same c.args.tally.now c.perform.new.tally
     c.in-Ok.ensures.planned c.in-Ok.ensures.job (rw c.in-Err-WriteFault.field-0-is at c.in-Err-WriteFault.ensures.account)
 
 pub returns-clause-reads : goal.returns-clause-reads
 returns-clause-reads g c =
     rw c.as_slice.ensures.value
-    (late_wanting g.S.Store (command_seen c.args.request) (plan_seen c.in-Ok.loaded.job) c.reports_read.result c.args.store.now c.load.new.store
+    (late_wanting g.S.Store (file_command_seen c.args.request) (plan_seen c.in-Ok.loaded.job) c.reports_read.result c.args.store.now c.load.new.store
     c.in-Ok.ensures.planned c.reports_read.ensures c.in-Ok.ensures.reads)

@@ -1,0 +1,176 @@
+// Guests that a seed and a size give: their run, and a line for each.
+
+ghost use Rattle.std.specs.Prelude.{◌≡◌, ◌++◌, ◌^◌, ◌<◌, ◌≤◌, is_ok, length, IfOk, IsErrOf, OnErr, OnOk};
+ghost use Rattle.std.specs.List.{sum};
+ghost use Rattle.outside.specs.Faults.{Rose};
+ghost use Rattle.outside.specs.Pieces.{Puts};
+ghost use Rattle.turn_plan.specs.Turns.{rounds_of};
+ghost use Rattle.work_images.specs.Guests.{guest_name};
+ghost use Rattle.nesthv_top.specs.Plans.{work_plan, AllRunAsWritten};
+ghost use Rattle.nesthv_top.specs.Runnings.{lines_of, CountsTurns, IsAccountOf};
+ghost use Rattle.nesthv_top.specs.Works.{sum_line, work_heading, work_text};
+ghost use Rattle.nesthv_top.specs.Written.{IsWritten};
+
+use crate::ends::RunEnd;
+use crate::running::hosted;
+use arrayvec::ArrayVec;
+use guest_turns::Host;
+use itoa::Buffer;
+use machine_defs::Status;
+use machine_laws::{fills_suffice, runs_are_architectural, runs_are_fresh};
+use no_memory::NoMemory;
+use outside::{Sink, SinkFault};
+use report::header;
+use rv64_hart::Tally;
+use std::alloc::Global;
+use turn_plan::Turns;
+use work_images::{guests, image_length};
+
+/// How many guests a seed and a size give.
+const GUESTS: u64 = 4;
+
+/// The steps of a turn.
+const QUANTUM: u64 = 1_000;
+
+/// Runs the guests of a seed and a size, and puts the line of each.
+pub fn work<O: Sink>(
+    alloc: Global,
+    seed: u64,
+    size: u64,
+    out: &mut O,
+    tally: &mut Tally,
+) -> Result<(), RunEnd>
+    requires seed { seed < 2 ^ 31 }
+    requires some { 1 ≤ size }
+    requires most { size ≤ 10000 }
+    requires entries { tally.old.entries ≤ 2 ^ 61 }
+    requires taken { tally.old.taken ≤ 2 ^ 61 }
+
+    ensures written { IsWritten O.stands_for out.old out.new result (work_text seed size) }
+    ensures cause { IsErrOf result RunEnd.WriteFault → Rose (O.faults out.old) (O.faults out.new) }
+    ensures count { O.faults out.old ≤ O.faults out.new }
+    ensures stays { O.made_with out.new ≡ O.made_with out.old }
+    ensures account { IsAccountOf (work_plan seed size) result tally.old tally.new }
+    ensures machines { AllRunAsWritten (work_plan seed size) }
+{
+    let host = match generated(alloc, seed, size, tally) {
+        Ok(host) => host,
+        Err(_) => return Err(RunEnd::NoMemory),
+    };
+    match put_work(seed, size, &host, out) {
+        Ok(()) => Ok(()),
+        Err(_) => Err(RunEnd::WriteFault),
+    }
+}
+
+// The guests of a seed and a size, after their turns.
+fn generated(alloc: Global, seed: u64, size: u64, tally: &mut Tally) -> Result<Host, NoMemory>
+    requires seed { seed < 2 ^ 31 }
+    requires some { 1 ≤ size }
+    requires most { size ≤ 10000 }
+    requires entries { tally.old.entries ≤ 2 ^ 61 }
+    requires taken { tally.old.taken ≤ 2 ^ 61 }
+
+    ensures count { IfOk result (λ host. length host.machines ≡ 4) }
+    ensures lines { IfOk result (λ host.
+        work_heading seed size ++ lines_of host.machines ≡ work_text seed size) }
+    ensures account { OnOk result (CountsTurns (work_plan seed size) tally.old tally.new) }
+    ensures idle { OnErr result (tally.new ≡ tally.old) }
+    ensures written { AllRunAsWritten (work_plan seed size) }
+{
+    image_length();
+    fills_suffice();
+    runs_are_architectural();
+    runs_are_fresh();
+    let guests = guests(alloc, seed, size)?;
+    let turns = rounds(alloc, size)?;
+    let host = hosted(alloc, guests, turns.as_slice(), tally)?;
+    Ok(host)
+}
+
+// As many rounds as each guest has commands.
+fn rounds(alloc: Global, size: u64) -> Result<Turns, NoMemory>
+    requires { size ≤ 10000 }
+    ensures { IfOk result (λ turns. turns ≡ rounds_of 4 1000 size) }
+{
+    Turns::of_rounds(alloc, GUESTS, QUANTUM, size)
+}
+
+// Puts the seed and the size, and the line of each guest.
+#[tactic(auto, using(outside::proofs::Pieces::pieces))]
+fn put_work<O: Sink>(seed: u64, size: u64, host: &Host, out: &mut O) -> Result<(), SinkFault>
+    requires count { length host.now.machines ≡ 4 }
+    ensures bytes { Puts O.stands_for out.old out.new (is_ok result)
+        (work_heading seed size ++ lines_of host.now.machines) }
+    ensures cause { OnErr result (Rose (O.faults out.old) (O.faults out.new)) }
+    ensures count { O.faults out.old ≤ O.faults out.new }
+    ensures stays { O.made_with out.new ≡ O.made_with out.old }
+{
+    match out.put(heading(seed, size).as_slice()) {
+        Ok(()) => put_lines(host, out),
+        Err(fault) => Err(fault),
+    }
+}
+
+// Puts the line of each guest, in order.
+fn put_lines<O: Sink>(host: &Host, out: &mut O) -> Result<(), SinkFault>
+    requires count { length host.now.machines ≡ 4 }
+    ensures bytes { Puts O.stands_for out.old out.new (is_ok result) (lines_of host.now.machines) }
+    ensures cause { OnErr result (Rose (O.faults out.old) (O.faults out.new)) }
+    ensures count { O.faults out.old ≤ O.faults out.new }
+    ensures stays { O.made_with out.new ≡ O.made_with out.old }
+{
+    for i in 0..GUESTS {
+        let g = i as u32;
+        let line = sum_line(i, host.status(g), host.steps(g), host.console(g));
+        match out.put(line.as_slice()) {
+            Ok(()) => {}
+            Err(fault) => return Err(fault),
+        }
+    }
+    Ok(())
+}
+
+// The first line. At most 47 bytes: two numbers of 20 digits, and 7 bytes beside them.
+#[tactic(auto, unfolding(crate::specs::Works::work_heading))]
+fn heading(seed: u64, size: u64) -> ArrayVec<u8, 64>
+    ensures { result.items ≡ work_heading seed size }
+{
+    let mut digits = Buffer::new();
+    let mut line = ArrayVec::new();
+    line.try_extend_from_slice(b"work ").unwrap();
+    line.try_extend_from_slice(digits.format(seed).as_bytes())
+        .unwrap();
+    line.try_extend_from_slice(b" ").unwrap();
+    line.try_extend_from_slice(digits.format(size).as_bytes())
+        .unwrap();
+    line.try_extend_from_slice(b"\n").unwrap();
+    line
+}
+
+// The line of the guest of this number. At most 145 bytes: a header of 100, a number of 39 digits, and 6
+// bytes beside them.
+#[tactic(auto, unfolding(crate::specs::Works::sum_line))]
+fn sum_line(guest: u64, status: Status, steps: u64, console: &[u8]) -> ArrayVec<u8, 256>
+    requires { guest < 10 }
+    ensures { result.items ≡ sum_line (guest_name guest) status steps console.now }
+{
+    let name = [b'g', b'0' + guest as u8];
+    let bytes = console.len() as u64;
+    let mut digits = Buffer::new();
+    let mut line = ArrayVec::new();
+    line.try_extend_from_slice(header(&name, status, steps, bytes).as_slice())
+        .unwrap();
+    line.try_extend_from_slice(b" sum ").unwrap();
+    line.try_extend_from_slice(digits.format(sum_of(console)).as_bytes())
+        .unwrap();
+    line.try_extend_from_slice(b"\n").unwrap();
+    line
+}
+
+// The sum of bytes, however many.
+fn sum_of(bytes: &[u8]) -> u128
+    ensures { result ≡ sum bytes.now }
+{
+    bytes.iter().map(|byte| *byte as u128).sum()
+}
