@@ -1,2 +1,4 @@
+pub mod FrameBytes
+pub mod PiecesLaid
 pub mod Places
 pub mod Views

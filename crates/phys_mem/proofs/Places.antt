@@ -1,6 +1,5 @@
 -- Places of memory that an access fits in, and the bytes of a value.
-use Rattle.std.proofs.Common.{◌≡◌, ℕ, zero, suc, ◌+◌, ◌-◌, ◌%◌, ◌<◌, ◌≤◌, ◌⊎◌, inl, inr, List, ◌*◌, take, drop, refl, arith}
-use Rattle.phys_mem.specs.MemoryBytes.{frame_of}
+use Rattle.std.proofs.Common.{◌≡◌, ℕ, zero, suc, ◌+◌, ◌%◌, ◌<◌, ◌≤◌, ◌⊎◌, inl, inr, List, take, refl, arith}
 use Rattle.std.specs.Int.{bytes_low_first}
 
 -- an access at a place that is a multiple of its width lies in memory of whole frames
@@ -19,9 +18,9 @@ take_bytes i (suc n) (suc m) x h = rw (take_bytes (suc i) n m x (omega arith)) r
 pub fronts : (bytes : List ℕ) (x : ℕ) → bytes ≡ bytes_low_first 0 8 x → (n : ℕ) → n ≤ 8 → take n bytes ≡ bytes_low_first 0 n x
 fronts bytes x e n h = rw e (take_bytes 0 n 8 x h)
 
--- the slice of a frame
-frame_bytes : (n : ℕ) → n * 4096 + 4096 - n * 4096 ≡ 4096
-frame_bytes n = omega arith
-
-pub frame_slice : (n : ℕ) (bytes all : List ℕ) → bytes ≡ all → take (n * 4096 + 4096 - n * 4096) (drop (n * 4096) bytes) ≡ frame_of n all
-frame_slice n bytes all e = rw (frame_bytes n, e) refl
+-- and in one frame
+pub in_frame : (width at : ℕ) → (width ≡ 1) ⊎ (width ≡ 2) ⊎ (width ≡ 4) ⊎ (width ≡ 8) → at % width ≡ 0 → at % 4096 + width ≤ 4096
+in_frame width at (inl e) aligned = omega arith
+in_frame width at (inr (inl e)) aligned = let a : at % 2 ≡ 0 = rw (← e) aligned in omega arith
+in_frame width at (inr (inr (inl e))) aligned = let a : at % 4 ≡ 0 = rw (← e) aligned in omega arith
+in_frame width at (inr (inr (inr e))) aligned = let a : at % 8 ≡ 0 = rw (← e) aligned in omega arith

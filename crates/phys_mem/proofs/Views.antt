@@ -1,16 +1,15 @@
 -- Numbers in a guest's RAM, seen through its blocks of memory.
-use Rattle.std.proofs.Common.{◌≡◌, ℕ, ◌+◌, ◌-◌, ◌*◌, ◌/◌, ◌%◌, ◌<◌, ◌≤◌, ◌⊎◌, inl, inr, Bool, true, false, ◌&&◌, nat_le, List, Option, Some, None, length, slice_index, refl, sym, ap, ◌∙◌, arith}
+use Rattle.std.proofs.Common.{◌≡◌, ℕ, ◌+◌, ◌-◌, ◌*◌, ◌/◌, ◌%◌, ◌<◌, ◌≤◌, ◌⊎◌, inl, inr, true, false, nat_le, List, Some, None, length, slice_index, refl, sym, ap, ◌∙◌, arith}
 use Rattle.std.proofs.lemmas.Bool.{and_from, and_left, and_right, le-leb, lt-leb, cases_lt}
-use Rattle.std.proofs.lemmas.Nat.{mod_below}
 use Rattle.byteorder.specs.Endian.{little_bytes}
 use Rattle.byteorder.specs.Numbers.{length-bytes_low_first}
 use Rattle.arch_defs.specs.Memory.{ram_base, block_size, load, pasted}
 use Rattle.arch_defs.specs.Frames.{in_blocks, LieIn, Only}
 use Rattle.arch_defs.specs.Ram.{ram_of, host_place, IsDistinct}
 use Rattle.arch_defs.proofs.FrameSets.{only_pasted}
-use Rattle.arch_defs.proofs.RamBlocks.{blocks_lie_in, ram_length, place_named, place_held, host_place_along, ram_load, ram_pasted}
+use Rattle.arch_defs.proofs.RamBlocks.{blocks_lie_in, ram_length, place_named, place_held, ram_load, ram_pasted}
 use Rattle.phys_mem.specs.MemoryBytes.{IsWidth, is_inside, number_at, bytes_with}
-use Rattle.phys_mem.proofs.Places.{fits}
+use Rattle.phys_mem.proofs.Places.{fits, in_frame}
 
 -- a number that lies at a multiple of its width lies in one block, and its place is such a multiple
 in_one : (width offset : ℕ) → IsWidth width → offset % width ≡ 0 → offset % 2097152 + width ≤ 2097152
@@ -59,10 +58,7 @@ same_frame width at place (inr (inr (inl e))) aligned from to = let a : at % 4 �
 same_frame width at place (inr (inr (inr e))) aligned from to = let a : at % 8 ≡ 0 = rw (← e) aligned in omega arith
 
 frame_room : (width at : ℕ) → IsWidth width → at % width ≡ 0 → at + width ≤ at / 4096 * 4096 + 4096
-frame_room width at (inl e) aligned = omega arith
-frame_room width at (inr (inl e)) aligned = let a : at % 2 ≡ 0 = rw (← e) aligned in omega arith
-frame_room width at (inr (inr (inl e))) aligned = let a : at % 4 ≡ 0 = rw (← e) aligned in omega arith
-frame_room width at (inr (inr (inr e))) aligned = let a : at % 8 ≡ 0 = rw (← e) aligned in omega arith
+frame_room width at w aligned = let inside = in_frame width at w aligned in omega arith
 
 pub only_written : (blocks memory : List ℕ) (offset width value : ℕ) → IsWidth width → LieIn (in_blocks blocks) (length memory)
     → offset % width ≡ 0 → offset < length blocks * block_size

@@ -1,5 +1,6 @@
 -- Numbers in memory from a base on, little endian. A place outside has none.
 use Rattle.std.specs.Prelude.{ℕ, ◌≡◌, ◌+◌, ◌-◌, ◌*◌, ◌⊎◌, Bool, ◌&&◌, List, Option, Some, None, length, take, drop, nat_le, if◌then◌else◌}
+use Rattle.std.specs.List.{All}
 use Rattle.byteorder.specs.Endian.{little_bytes}
 use Rattle.arch_defs.specs.Memory.{load, pasted}
 
@@ -23,3 +24,7 @@ bytes_with base bytes at n value =
 -- the bytes of a frame
 abbrev pub frame_of : ℕ → List ℕ → List ℕ
 frame_of n bytes = take 4096 (drop (n * 4096) bytes)
+
+-- frames of so many bytes each
+abbrev pub AreWhole : ℕ → List (List ℕ) → Type 0
+AreWhole n frames = All (λ frame. length frame ≡ n) frames

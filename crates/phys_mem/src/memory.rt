@@ -6,11 +6,11 @@ ghost use Rattle.arch_defs.specs.Memory.{load, pasted, zeros};
 ghost use Rattle.phys_mem.specs.MemoryBytes.{IsWidth, is_inside, number_at, bytes_with, frame_of};
 
 use crate::accesses::Mem;
-use crate::slices::{bytes_of, clear, copy, number, paste};
+use crate::slices::{bytes_of, clear, number, paste, word};
 use arch_defs::FRAME_SIZE;
-use byteorder::{ByteOrder, LittleEndian};
 use no_memory::NoMemory;
 use std::alloc::Global;
+use std::cmp::min;
 use std::marker::Model;
 
 /// The most frames of machine memory.
@@ -19,17 +19,19 @@ pub const MOST_FRAMES: u64 = 131_072;
 /// Machine memory: whole frames of bytes, which contracts see as the list of the bytes.
 #[derive(Drop)]
 pub struct PhysMem {
-    bytes: Vec<u8>,
+    frames: Vec<[u8; 4096]>,
 }
 
 impl Model for PhysMem {
-    ghost use Rattle.std.specs.Prelude.{◌≡◌, ℕ, ◌%◌, ◌^◌, ◌≤◌, List, vec_len};
+    ghost use Rattle.std.specs.Prelude.{ℕ, ◌≤◌, List, vec_len};
+    ghost use Rattle.std.specs.List.{concat};
+    ghost use Rattle.phys_mem.specs.MemoryBytes.{AreWhole};
 
     ghost Value = { List ℕ };
 
-    ghost view = { λ m. m.bytes.items };
+    ghost view = { λ m. concat m.frames.items };
 
-    ghost invariant = { λ m. (vec_len m.bytes % 4096 ≡ 0) × (vec_len m.bytes ≤ 2 ^ 29) };
+    ghost invariant = { λ m. AreWhole 4096 m.frames.items × (vec_len m.frames ≤ 131072) };
 }
 
 impl PhysMem {
@@ -41,7 +43,7 @@ impl PhysMem {
         ensures { IfOk result (λ m. m ≡ zeros (frames * 4096)) }
     {
         Ok(PhysMem {
-            bytes: vec![in alloc; 0u8; (frames * FRAME_SIZE) as usize]?,
+            frames: vec![in alloc; [0; 4096]; frames as usize]?,
         })
     }
 
@@ -51,31 +53,34 @@ impl PhysMem {
         ensures whole { result % 4096 ≡ 0 }
         ensures most { result ≤ 131072 * 4096 }
     {
-        self.bytes.len() as u64
+        self.frames.len() as u64 * FRAME_SIZE
     }
 
     /// The number of `width` bytes at a place that is a multiple of it, little endian.
-    #[tactic(auto, using(crate::proofs::Places::fits))]
+    #[inline]
+    #[tactic(auto, using(crate::proofs::Places::in_frame))]
     pub fn load(&self, at: u64, width: u8) -> u64
         requires width { IsWidth width }
         requires inside { at < length self.now }
         requires aligned { at % width ≡ 0 }
         ensures { result ≡ load self.now at width }
     {
-        number(&self.bytes[at as usize..], width)
+        number(self.frame_with(at), (at % FRAME_SIZE) as usize, width)
     }
 
     /// The word of four bytes at a place that is a multiple of 4, little endian.
+    #[inline]
     pub fn load_word(&self, at: u64) -> u32
         requires inside { at < length self.now }
         requires aligned { at % 4 ≡ 0 }
         ensures { result ≡ load self.now at 4 }
     {
-        LittleEndian::read_u32(&self.bytes[at as usize..])
+        word(self.frame_with(at), (at % FRAME_SIZE) as usize)
     }
 
     /// Writes the low `width` bytes of a value at a place that is a multiple of it, little endian.
-    #[tactic(auto, using(crate::proofs::Places::fits))]
+    #[inline]
+    #[tactic(auto, using(crate::proofs::Places::in_frame))]
     pub fn store(&mut self, at: u64, width: u8, value: u64)
         requires width { IsWidth width }
         requires inside { at < length self.old }
@@ -83,13 +88,11 @@ impl PhysMem {
         ensures { self.new ≡ pasted self.old at (little_bytes width value) }
     {
         let piece = bytes_of(value);
-        let bytes = self.bytes.as_mut_slice();
-        let at = at as usize;
         match width {
-            1 => paste(bytes, at, &piece[..1]),
-            2 => paste(bytes, at, &piece[..2]),
-            4 => paste(bytes, at, &piece[..4]),
-            _ => paste(bytes, at, &piece),
+            1 => self.paste_within(at, &piece[..1]),
+            2 => self.paste_within(at, &piece[..2]),
+            4 => self.paste_within(at, &piece[..4]),
+            _ => self.paste_within(at, &piece),
         }
     }
 
@@ -98,9 +101,7 @@ impl PhysMem {
         requires { n * 4096 + 4096 ≤ length self.now }
         ensures { result.now ≡ frame_of n self.now }
     {
-        let bytes = self.bytes.as_slice();
-        let at = (n * FRAME_SIZE) as usize;
-        &bytes[at..at + FRAME_SIZE as usize]
+        &self.frames[n as usize]
     }
 
     /// Fills a frame with zeros.
@@ -108,9 +109,7 @@ impl PhysMem {
         requires { n * 4096 + 4096 ≤ length self.old }
         ensures { self.new ≡ pasted self.old (n * 4096) (zeros 4096) }
     {
-        let bytes = self.bytes.as_mut_slice();
-        let at = (n * FRAME_SIZE) as usize;
-        clear(bytes, at, FRAME_SIZE as usize);
+        clear(&mut self.frames[n as usize], 0, FRAME_SIZE as usize);
     }
 
     /// Fills a frame with the bytes of another one.
@@ -119,10 +118,7 @@ impl PhysMem {
         requires to { to * 4096 + 4096 ≤ length self.old }
         ensures { self.new ≡ pasted self.old (to * 4096) (frame_of from self.old) }
     {
-        let bytes = self.bytes.as_mut_slice();
-        let source = (from * FRAME_SIZE) as usize;
-        let target = (to * FRAME_SIZE) as usize;
-        copy(bytes, source, target, FRAME_SIZE as usize);
+        self.frames[to as usize] = self.frames[from as usize];
     }
 
     /// Fills so many bytes from a place on with zeros.
@@ -130,7 +126,14 @@ impl PhysMem {
         requires { at + count ≤ length self.old }
         ensures { self.new ≡ pasted self.old at (zeros count) }
     {
-        clear(self.bytes.as_mut_slice(), at as usize, count as usize);
+        let _ = &self.frames;
+        let mut done = 0;
+        while done < count {
+            let place = at + done;
+            let part = min(FRAME_SIZE - place % FRAME_SIZE, count - done);
+            self.clear_within(place, part);
+            done += part;
+        }
     }
 
     /// Lays bytes over those from a place on.
@@ -138,7 +141,54 @@ impl PhysMem {
         requires { at + length bytes.now ≤ length self.old }
         ensures { self.new ≡ pasted self.old at bytes.now }
     {
-        paste(self.bytes.as_mut_slice(), at as usize, bytes);
+        let _ = &self.frames;
+        let mut done = 0;
+        while done < bytes.len() {
+            let place = at + done as u64;
+            let part = min(
+                (FRAME_SIZE - place % FRAME_SIZE) as usize,
+                bytes.len() - done,
+            );
+            self.paste_within(place, &bytes[done..done + part]);
+            done += part;
+        }
+    }
+
+    // The frame that a place is in.
+    #[inline]
+    fn frame_with(&self, at: u64) -> &[u8]
+        requires { at < length self.now }
+        ensures size { length result.now ≡ 4096 }
+        ensures numbers { (n : ℕ) → at % 4096 + n ≤ 4096 → load result.now (at % 4096) n ≡ load self.now at n }
+    {
+        &self.frames[(at / FRAME_SIZE) as usize]
+    }
+
+    // Fills so many bytes of one frame with zeros.
+    fn clear_within(&mut self, at: u64, count: u64)
+        requires inside { at < length self.old }
+        requires one_frame { at % 4096 + count ≤ 4096 }
+        ensures { self.new ≡ pasted self.old at (zeros count) }
+    {
+        clear(
+            &mut self.frames[(at / FRAME_SIZE) as usize],
+            (at % FRAME_SIZE) as usize,
+            count as usize,
+        );
+    }
+
+    // Lays bytes over those of one frame.
+    #[inline]
+    fn paste_within(&mut self, at: u64, bytes: &[u8])
+        requires inside { at < length self.old }
+        requires one_frame { at % 4096 + length bytes.now ≤ 4096 }
+        ensures { self.new ≡ pasted self.old at bytes.now }
+    {
+        paste(
+            &mut self.frames[(at / FRAME_SIZE) as usize],
+            (at % FRAME_SIZE) as usize,
+            bytes,
+        );
     }
 }
 

@@ -7,12 +7,14 @@ ghost use Rattle.phys_mem.specs.MemoryBytes.{IsWidth};
 
 use byteorder::{ByteOrder, LittleEndian};
 
-/// The number of the first `width` bytes.
-pub fn number(bytes: &[u8], width: u8) -> u64
+/// The number of `width` bytes from a place on.
+#[inline]
+pub fn number(bytes: &[u8], at: usize, width: u8) -> u64
     requires width { IsWidth width }
-    requires inside { width ≤ length bytes.now }
-    ensures { result ≡ load bytes.now 0 width }
+    requires inside { at + width ≤ length bytes.now }
+    ensures { result ≡ load bytes.now at width }
 {
+    let bytes = &bytes[at..];
     match width {
         1 => bytes[0] as u64,
         2 => LittleEndian::read_u16(bytes) as u64,
@@ -21,7 +23,17 @@ pub fn number(bytes: &[u8], width: u8) -> u64
     }
 }
 
+/// The word of four bytes from a place on.
+#[inline]
+pub fn word(bytes: &[u8], at: usize) -> u32
+    requires { at + 4 ≤ length bytes.now }
+    ensures { result ≡ load bytes.now at 4 }
+{
+    LittleEndian::read_u32(&bytes[at..])
+}
+
 /// The eight bytes of a value, the lowest first.
+#[inline]
 #[tactic(auto, using(crate::proofs::Places::fronts))]
 pub fn bytes_of(value: u64) -> [u8; 8]
     ensures bytes { result ≡ little_bytes 8 value }
@@ -33,6 +45,7 @@ pub fn bytes_of(value: u64) -> [u8; 8]
 }
 
 /// Lays a piece over the bytes from a place on.
+#[inline]
 pub fn paste(bytes: &mut [u8], at: usize, piece: &[u8])
     requires { at + length piece.now ≤ length bytes.old }
     ensures { bytes.new ≡ pasted bytes.old at piece.now }
@@ -47,13 +60,4 @@ pub fn clear(bytes: &mut [u8], at: usize, count: usize)
     ensures { bytes.new ≡ pasted bytes.old at (zeros count) }
 {
     bytes[at..at + count].fill(0);
-}
-
-/// Lays so many bytes from one place on over those from another one on.
-pub fn copy(bytes: &mut [u8], from: usize, to: usize, count: usize)
-    requires from { from + count ≤ length bytes.old }
-    requires to { to + count ≤ length bytes.old }
-    ensures { bytes.new ≡ pasted bytes.old to (take count (drop from bytes.old)) }
-{
-    bytes.copy_within(from..from + count, to);
 }
