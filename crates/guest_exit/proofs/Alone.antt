@@ -1,6 +1,6 @@
 -- What the host makes of a step, as the step of the machine.
 use Rattle.std.specs.Prelude.{◌↔◌}
-use Rattle.std.proofs.Common.{cond, ◌≡◌, ℕ, List, Option, Some, None, Bool, true, false, refl, ap, sym, ◌∙◌}
+use Rattle.std.proofs.Common.{cond, ◌≡◌, ℕ, List, Option, Some, None, Bool, true, false, refl, ap, sym, subst, ◌∙◌}
 use Rattle.arch_defs.specs.declared.cached.Fence.{Fence}
 use Rattle.arch_defs.specs.declared.registers.Virtual.{Virtual}
 use Rattle.arch_defs.specs.Frames.{Only, in_blocks}
@@ -12,15 +12,15 @@ use Rattle.arch_defs.proofs.FrameSets.{left_within, only_more, only_none}
 use Rattle.machine_defs.specs.declared.events.Event.TheVariants.{System}
 use Rattle.machine_defs.specs.Fills.{missing_entry}
 use Rattle.machine_defs.specs.Machine.{Machine, Platform, has_enabled_interrupt, stepped_to, ticked, waited, waited_until}
-use Rattle.machine_defs.specs.Outcomes.{Fenced}
+use Rattle.machine_defs.specs.Outcomes.{Outcome, Fenced, Waits, passed}
 use Rattle.machine_defs.specs.Runs.{left_by}
 use Rattle.machine_defs.specs.Tries.{apply_outcome, committed, enters}
 use Rattle.shadow_pool.specs.Slots.{pool_frames, room_of, spaces_of}
 use Rattle.guest_exit.specs.declared.guests.Guest.{Guest}
 use Rattle.guest_exit.specs.declared.hart_exit.Handled.{Handled}
 use Rattle.guest_exit.specs.declared.hart_exit.Handled.TheVariants as handled
-use Rattle.guest_exit.specs.HartExit.{IsHandled, KeepsOutside, KeepsPart}
-use Rattle.guest_exit.specs.Steps.{IsMiss, IsNotPlain}
+use Rattle.guest_exit.specs.HartExit.{HoldsTables, IsHandled, KeepsOutside, KeepsPart, with_pc, with_state}
+use Rattle.guest_exit.specs.Steps.{IsMiss, IsNotPlain, Makes}
 use Rattle.guest_exit.specs.View.{IsPlaced, KeepsLayout, KeepsSpaces, changed_by, machine_of, platform_of}
 use Rattle.guest_exit.proofs.Placed.{placed_by_fill, placed_by_step}
 use Rattle.guest_exit.proofs.Pools.{ram_by_pool, tidy_by_blocks}
@@ -55,23 +55,37 @@ blocks_changed old new memory changed at keeps only = record {
   keeps = stays_by old new keeps;
 }
 
+-- the tables are there whatever the guest's state is
+pub holds_tables : (guest : Guest) (virt : Virtual) (memory : List ℕ) → IsPlaced guest memory → HoldsTables (with_state guest virt) memory
+holds_tables guest virt memory at = record { once = at.once; held = at.held; own = at.own; tidy = at.tidy }
+
+pub holds_with : (guest : Guest) (virt : Virtual) (memory : List ℕ) → HoldsTables guest memory → HoldsTables (with_state guest virt) memory
+holds_with guest virt memory at = record { once = at.once; held = at.held; own = at.own; tidy = at.tidy }
+
 -- an instruction that leaves this state, where it enters no space, and where it enters one
 pub made_stays : (old new : Guest) (memory : List ℕ) (virt : Virtual) → enters old.virt virt ≡ false → KeepsSpaces old new → platform_of new ≡ ticked (record (platform_of old) { virt = virt })
     → machine_of new memory ≡ left_by (machine_of old memory) (committed (machine_of old memory) virt None System)
 made_stays old new memory virt off keeps e = rw off (machine_is old new _ memory keeps e)
 
-pub made_enters : (old new : Guest) (memory changed : List ℕ) (virt : Virtual) → enters old.virt virt ≡ true → IsPlaced old memory → KeepsLayout old new
+pub made_enters : (old new : Guest) (memory changed : List ℕ) (virt : Virtual) → enters old.virt virt ≡ true → HoldsTables old memory → KeepsLayout old new
     → platform_of new ≡ ticked (record (platform_of old) { virt = virt }) → spaces_of new.pool ≡ entered (room_of old.pool) virt.csrs.hgatp (spaces_of old.pool) → Only (pool_frames old.pool) memory changed
     → machine_of new changed ≡ left_by (machine_of old memory) (committed (machine_of old memory) virt None System)
 made_enters old new memory changed virt on at fixed e are only =
     rw on (machine_as old new memory changed _ _ _ fixed.part e (ram_by_pool old.part old.pool memory changed at.once at.own at.tidy at.held only) are fixed.space_room fixed.entry_room)
 
 -- a fence
-pub fence_made : (old new : Guest) (memory changed : List ℕ) (virt : Virtual) (fence : Fence) → IsPlaced old memory → KeepsLayout old new
+pub fence_made : (old new : Guest) (memory changed : List ℕ) (virt : Virtual) (fence : Fence) → HoldsTables old memory → KeepsLayout old new
     → platform_of new ≡ ticked (record (platform_of old) { virt = virt }) → spaces_of new.pool ≡ fenced fence (spaces_of old.pool) → Only (pool_frames old.pool) memory changed
     → machine_of new changed ≡ left_by (machine_of old memory) (apply_outcome (machine_of old memory) (Fenced virt fence))
 fence_made old new memory changed virt fence at fixed e are only =
     machine_as old new memory changed _ _ _ fixed.part e (ram_by_pool old.part old.pool memory changed at.once at.own at.tidy at.held only) are fixed.space_room fixed.entry_room
+
+-- a WFI, after which the guest had this state
+pub wait_made : (old new : Guest) (virt : Virtual) (memory : List ℕ) (end : Outcome) → virt ≡ passed old.virt → end ≡ Waits virt
+    → Makes (with_pc (with_state old virt) old.virt.regs.pc) new (λ m. waited m virt) → machine_of new memory ≡ left_by (machine_of old memory) (apply_outcome (machine_of old memory) end)
+wait_made old new virt memory end passes is made = rw is
+    (subst (λ virt. Makes (with_pc (with_state old virt) old.virt.regs.pc) new (λ m. waited m virt) → machine_of new memory ≡ left_by (machine_of old memory) (apply_outcome (machine_of old memory) (Waits virt)))
+    (sym passes) (λ made. made memory) made)
 
 -- the answer tells whether a fill was made
 never_both : (m : Machine) → IsMiss m → missing_entry m ≡ None → ⊥

@@ -19,7 +19,7 @@ use Rattle.op_defs.specs.declared.ops.DataAccess.{DataAccess}
 use Rattle.op_defs.specs.Meaning.{fence_named, meaning}
 use Rattle.op_defs.specs.Table.{op_of}
 use Rattle.machine_defs.specs.Core.{decoded}
-use Rattle.machine_defs.specs.Outcomes.{Outcome, Accesses}
+use Rattle.machine_defs.specs.Outcomes.{Outcome, Accesses, Waits, passed}
 use Rattle.machine_defs.specs.Privileges as privileges
 use Rattle.machine_defs.specs.Privileges.{performed, privileged, refusal}
 use Rattle.rv64_asm.specs.Fitting.{fits}
@@ -111,6 +111,28 @@ makes_none other state word second reading kind = absurd kind
 pub accesses_never : (o : Op) (state : Virtual) (word : ℕ) (second : SecondStage) (reading : Reading) (wanted : DataAccess) → IsWaitOrFence o
     → decoded second reading state word (Some o) ≡ Accesses wanted → ⊥
 accesses_never o state word second reading wanted kind e = subst MakesNone e (makes_none o state word second reading kind)
+
+-- a WFI that is made leaves pc gone on, and nothing else changed
+abbrev PassesIfWaits : Virtual → Outcome → Type 0
+PassesIfWaits before (Waits after) = after ≡ passed before
+PassesIfWaits before other = Unit {0}
+
+waits_by : (state : Virtual) (word : ℕ) (p : Privileged) (end : Option CsrEnd) → PassesIfWaits state (performed state word p) → PassesIfWaits state (privileges.decided state word p end)
+waits_by state word p (Some end) h = tt
+waits_by state word p None h = h
+
+passes_if_waits : (o : Op) (state : Virtual) (word : ℕ) (second : SecondStage) (reading : Reading) → IsWaitOrFence o → PassesIfWaits state (decoded second reading state word (Some o))
+unfolding privileged meaning
+passes_if_waits op.Wfi state word second reading kind = waits_by state word Wfi (refusal Wfi state.csrs.hstatus state.mode) refl
+passes_if_waits (op.SfenceVma rs1 rs2) state word second reading kind = waits_by state word SfenceVma (refusal SfenceVma state.csrs.hstatus state.mode) tt
+passes_if_waits (op.HfenceVvma rs1 rs2) state word second reading kind = waits_by state word HfenceVvma (refusal HfenceVvma state.csrs.hstatus state.mode) tt
+passes_if_waits (op.HfenceGvma rs1 rs2) state word second reading kind =
+    let fence = fence_named rs1 rs2 state.regs in waits_by state word (HfenceGvma fence) (refusal (HfenceGvma fence) state.csrs.hstatus state.mode) tt
+passes_if_waits other state word second reading kind = absurd kind
+
+pub wait_passes : (o : Op) (state after : Virtual) (word : ℕ) (second : SecondStage) (reading : Reading) → IsWaitOrFence o
+    → decoded second reading state word (Some o) ≡ Waits after → after ≡ passed state
+wait_passes o state after word second reading kind e = subst (PassesIfWaits state) e (passes_if_waits o state word second reading kind)
 
 -- the mode decides on it
 pub wait_is_op : (o : Op) → IsWaitOrFence o → IsDecidedOp o

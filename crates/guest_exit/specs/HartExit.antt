@@ -1,17 +1,24 @@
 -- What the host makes of a step that the hart has left to it.
 use Rattle.std.specs.Prelude.{ℕ, ◌≡◌, ◌≢◌, ◌+◌, ◌^◌, ◌≤◌, Bool, true, List, Some, None, ⊤}
 use Rattle.arch_defs.specs.declared.cached.Entry.{Entry}
+use Rattle.arch_defs.specs.declared.cached.Fence.{Fence}
 use Rattle.arch_defs.specs.declared.modes.Trap.{Trap}
 use Rattle.arch_defs.specs.declared.registers.Virtual.{Virtual}
 use Rattle.arch_defs.specs.Frames.{Only}
+use Rattle.arch_defs.specs.Layouts.{NamesEachOnce}
 use Rattle.arch_defs.specs.Registers.{a7, read}
+use Rattle.arch_defs.specs.Traps.{is_virtual}
 use Rattle.op_defs.specs.declared.ops.Op.{Op}
 use Rattle.op_defs.specs.declared.ops.Op.TheVariants as op
+use Rattle.machine_defs.specs.declared.events.Event.TheVariants.{System}
 use Rattle.machine_defs.specs.declared.guests.Status.{Status}
 use Rattle.machine_defs.specs.declared.guests.Status.TheVariants as status
 use Rattle.machine_defs.specs.Fills.{fill}
 use Rattle.machine_defs.specs.Machine.{Machine, with_pending_lines}
+use Rattle.machine_defs.specs.Outcomes.{Fenced}
 use Rattle.machine_defs.specs.Runs.{left_by}
+use Rattle.machine_defs.specs.Tries.{apply_outcome, committed}
+use Rattle.host_tables.specs.Walks.{IsHeld}
 use Rattle.shadow_pool.specs.Slots.{TidyPool}
 use Rattle.rv64_asm.specs.Fitting.{fits}
 use Rattle.hcsr_emulation.specs.Ends.{is_decided}
@@ -76,6 +83,34 @@ pub record KeepsPart (before : Guest) (memory : List ℕ) (after : Guest) (chang
   pub only : Only (changed_by before) memory changed
   pub placed : IsPlaced after changed
   pub keeps : KeepsLayout before after
+
+-- machine memory holds a guest's part with the tables of its pool, whatever the guest's state is
+pub record HoldsTables (guest : Guest) (memory : List ℕ) : Type 0 where
+  pub once : NamesEachOnce guest.part
+  pub held : IsHeld guest.part memory
+  pub own : guest.pool.part ≡ guest.part
+  pub tidy : TidyPool guest.pool memory
+
+-- a guest with another state, or with another pc
+abbrev pub with_state : Guest → Virtual → Guest
+with_state guest virt = record guest { virt = virt }
+
+abbrev pub with_pc : Guest → ℕ → Guest
+with_pc guest pc = with_state guest (record guest.virt { regs = record guest.virt.regs { pc = pc } })
+
+-- an instruction, after which the guest has its state, is made for good: its machine before it had another
+-- state, with this V
+abbrev pub IsFinished : Bool → Guest → List ℕ → Guest → List ℕ → Type 0
+IsFinished nested guest memory after changed =
+    (before : Virtual) → is_virtual before.mode ≡ nested
+    → machine_of after changed ≡ left_by (machine_of (with_state guest before) memory)
+    (committed (machine_of (with_state guest before) memory) guest.virt None System)
+
+-- so is a fence that names these cached translations
+abbrev pub IsFenced : Fence → Guest → List ℕ → Guest → List ℕ → Type 0
+IsFenced named guest memory after changed =
+    (before : Virtual) → machine_of after changed ≡ left_by (machine_of (with_state guest before) memory)
+    (apply_outcome (machine_of (with_state guest before) memory) (Fenced guest.virt named))
 
 -- an access that has no place by the front space is one of a guest that folds
 abbrev pub IfMissing : Exit → Bool → Type 0

@@ -1,22 +1,19 @@
 // Instructions on which the mode decides, made in the guest's own mode.
 
-ghost use Rattle.std.specs.Prelude.{◌≡◌, ◌≢◌, None, length, true};
+ghost use Rattle.std.specs.Prelude.{◌≡◌, ◌≢◌, ◌&&◌, false, length, not, true};
 ghost use Rattle.arch_defs.specs.Frames.{LieIn, Only, in_blocks};
 ghost use Rattle.arch_defs.specs.Memory.{ram_base};
 ghost use Rattle.arch_defs.specs.Ram.{ram_of};
-ghost use Rattle.arch_defs.specs.Traps.{is_virtual};
 ghost use Rattle.arch_defs.specs.WalkedEntries.{folds};
-ghost use Rattle.machine_defs.specs.declared.events.Event.TheVariants.{System};
-ghost use Rattle.machine_defs.specs.Outcomes.{Fenced};
 ghost use Rattle.machine_defs.specs.Runs.{left_by};
-ghost use Rattle.machine_defs.specs.Tries.{apply_outcome, committed, enters};
+ghost use Rattle.machine_defs.specs.Tries.{apply_outcome};
 ghost use Rattle.rv64_asm.specs.Fitting.{fits};
 ghost use Rattle.hcsr_emulation.specs.Ends.{IfRaised, IsCsrOrSret};
 ghost use Rattle.hlv_hsv.specs.Ends.{IsAccessed, IsHlvOp};
 ghost use Rattle.guest_exit.specs.ExitCases.{decided_end};
-ghost use Rattle.guest_exit.specs.HartExit.{CanGoOn, IsDecidedOp, IsTold, IsWaitOrFence, KeepsOutside};
+ghost use Rattle.guest_exit.specs.HartExit.{CanGoOn, HoldsTables, IsDecidedOp, IsFenced, IsFinished, IsTold, IsWaitOrFence, KeepsOutside};
 ghost use Rattle.guest_exit.specs.Steps.{CanStep, IsNotPlain};
-ghost use Rattle.guest_exit.specs.View.{IsPlaced, machine_of};
+ghost use Rattle.guest_exit.specs.View.{machine_of};
 
 use crate::guests::{Guest, folds};
 use crate::hart_exit::{Handled, raise};
@@ -69,9 +66,9 @@ fn access_registers(guest: &mut Guest, memory: &mut PhysMem, op: Op) -> Handled
     ensures within { KeepsOutside guest.old memory.old guest.new memory.new }
     ensures told { IsTold result guest.old guest.new }
 {
-    let mut virt = guest.virt;
-    match hcsr_emulation::access(&mut virt, op) {
-        Accessed::Done => finish(guest, memory, virt),
+    let nested = is_virtual(guest.virt.mode);
+    match hcsr_emulation::access(&mut guest.virt, op) {
+        Accessed::Done => finish(guest, memory, nested),
         Accessed::Raise(trap) => raise(guest, &trap),
     }
 }
@@ -89,70 +86,65 @@ fn wait_or_fence(guest: &mut Guest, memory: &mut PhysMem, op: Op) -> Handled
     ensures within { KeepsOutside guest.old memory.old guest.new memory.new }
     ensures told { IsTold result guest.old guest.new }
 {
-    let mut virt = guest.virt;
-    match hcsr_emulation::emulate(&mut virt, op) {
-        Emulated::Done => finish(guest, memory, virt),
-        Emulated::Waits => wait(guest, virt),
-        Emulated::Fenced(named) => fence(guest, memory, virt, named),
+    let nested = is_virtual(guest.virt.mode);
+    let pc = guest.virt.regs.pc;
+    match hcsr_emulation::emulate(&mut guest.virt, op) {
+        Emulated::Done => finish(guest, memory, nested),
+        Emulated::Waits => wait(guest, pc),
+        Emulated::Fenced(named) => fence(guest, memory, named),
         Emulated::Raise(trap) => raise(guest, &trap),
         Emulated::Accesses(_) => unreachable!(),
     }
 }
 
-// An instruction leaves this state.
-fn finish(guest: &mut Guest, memory: &mut PhysMem, virt: Virtual) -> Handled
+// An instruction has left the guest its state, which had this V before.
+fn finish(guest: &mut Guest, memory: &mut PhysMem, nested: bool) -> Handled
     requires can { CanStep guest.old }
-    requires placed { IsPlaced guest.old memory.old }
-    ensures step { machine_of guest.new memory.new ≡ left_by (machine_of guest.old memory.old)
-        (committed (machine_of guest.old memory.old) virt None System) }
+    requires holds { HoldsTables guest.old memory.old }
+    ensures step { IsFinished nested guest.old memory.old guest.new memory.new }
     ensures went { result ≡ Handled.Stepped }
     ensures within { KeepsOutside guest.old memory.old guest.new memory.new }
     ensures told { IsTold result guest.old guest.new }
 {
-    if enters(&guest.virt, &virt) {
-        return enter_space(guest, memory, virt);
+    if enters(nested, &guest.virt) {
+        return enter_space(guest, memory);
     }
-    guest.virt = virt;
     guest.tick();
     Handled::Stepped
 }
 
 // Whether an instruction enters a guest of the guest: it sets V, and then the state folds.
-fn enters(before: &Virtual, after: &Virtual) -> bool
-    ensures { result ≡ enters before.now after.now }
+fn enters(nested: bool, after: &Virtual) -> bool
+    ensures { result ≡ (not nested && folds after.now) }
 {
-    !is_virtual(before.mode) && folds(after)
+    !nested && folds(after)
 }
 
-// An SRET leaves this state, which folds: the space of its hgatp comes to the front.
-fn enter_space(guest: &mut Guest, memory: &mut PhysMem, virt: Virtual) -> Handled
+// An SRET has left the guest its state, which folds: the space of its hgatp comes to the front.
+fn enter_space(guest: &mut Guest, memory: &mut PhysMem) -> Handled
     requires can { CanStep guest.old }
-    requires placed { IsPlaced guest.old memory.old }
-    requires enters { enters guest.old.virt virt ≡ true }
-    ensures step { machine_of guest.new memory.new ≡ left_by (machine_of guest.old memory.old)
-        (committed (machine_of guest.old memory.old) virt None System) }
+    requires holds { HoldsTables guest.old memory.old }
+    requires folds { folds guest.old.virt ≡ true }
+    ensures step { IsFinished false guest.old memory.old guest.new memory.new }
     ensures went { result ≡ Handled.Stepped }
     ensures within { KeepsOutside guest.old memory.old guest.new memory.new }
     ensures told { IsTold result guest.old guest.new }
 {
-    guest.pool.enter(memory, virt.csrs.hgatp);
-    guest.virt = virt;
+    guest.pool.enter(memory, guest.virt.csrs.hgatp);
     guest.tick();
     Handled::Stepped
 }
 
-// An HFENCE.GVMA leaves this state, and drops the cached translations that it names.
-fn fence(guest: &mut Guest, memory: &mut PhysMem, virt: Virtual, named: Fence) -> Handled
+// An HFENCE.GVMA has left the guest its state, and drops the cached translations that it names.
+fn fence(guest: &mut Guest, memory: &mut PhysMem, named: Fence) -> Handled
     requires can { CanStep guest.old }
-    requires placed { IsPlaced guest.old memory.old }
-    ensures step { machine_of guest.new memory.new ≡ left_by (machine_of guest.old memory.old)
-        (apply_outcome (machine_of guest.old memory.old) (Fenced virt named)) }
+    requires holds { HoldsTables guest.old memory.old }
+    ensures step { IsFenced named guest.old memory.old guest.new memory.new }
     ensures went { result ≡ Handled.Stepped }
     ensures within { KeepsOutside guest.old memory.old guest.new memory.new }
     ensures told { IsTold result guest.old guest.new }
 {
     guest.pool.fence(memory, named);
-    guest.virt = virt;
     guest.tick();
     Handled::Stepped
 }
@@ -169,10 +161,8 @@ fn access_ram(guest: &mut Guest, memory: &mut PhysMem, op: Op) -> Handled
     ensures within { KeepsOutside guest.old memory.old guest.new memory.new }
     ensures told { IsTold result guest.old guest.new }
 {
-    let mut virt = guest.virt;
-    match access_in(memory, &guest.part, &mut virt, op) {
+    match access_in(memory, &guest.part, &mut guest.virt, op) {
         Accessed::Done => {
-            guest.virt = virt;
             guest.tick();
             Handled::Stepped
         }
@@ -186,7 +176,7 @@ fn access_in(memory: &mut PhysMem, part: &Part, virt: &mut Virtual, op: Op) -> A
     requires op { IsHlvOp op }
     ensures ends { IsAccessed op ram_base (ram_of part.now.blocks memory.old) virt.old
         result virt.new (ram_of part.now.blocks memory.new) }
-    ensures stays { IfRaised result (memory.new ≡ memory.old) }
+    ensures stays { IfRaised result ((virt.new ≡ virt.old) × (memory.new ≡ memory.old)) }
     ensures only { Only (in_blocks part.now.blocks) memory.old memory.new }
 {
     let mut ram = Ram::new(memory, part);

@@ -2,41 +2,40 @@
 
 ghost use Rattle.std.specs.Prelude.{◌≡◌, ◌≢◌, ◌&&◌, ◌||◌, false};
 ghost use Rattle.machine_defs.specs.Machine.{has_enabled_interrupt, waited, with_pending_lines};
-ghost use Rattle.guest_exit.specs.HartExit.{IsTold};
+ghost use Rattle.guest_exit.specs.HartExit.{IsTold, with_pc};
 ghost use Rattle.guest_exit.specs.Steps.{CanStep, Makes};
 ghost use Rattle.guest_exit.specs.View.{KeepsSpaces, platform_of};
 
 use crate::guests::Guest;
 use crate::hart_exit::Handled;
-use arch_defs::{Csrs, Interrupts, Virtual};
+use arch_defs::{Csrs, Interrupts};
 use machine_defs::Status;
 use virtual_timer::{WaitEnd, wake_moment_is_least};
 
-/// A WFI, which leaves this state. Where an interrupt is pending and enabled it goes on at once, and else it
-/// waits for the wake moment, or for good.
-pub fn wait(guest: &mut Guest, virt: Virtual) -> Handled
+/// A WFI, which stood at `pc` and has left the guest its state. Where an interrupt is pending and enabled it
+/// goes on at once, and else it waits for the wake moment, or for good: then pc is what it was.
+pub fn wait(guest: &mut Guest, pc: u64) -> Handled
     requires can { CanStep guest.old }
     requires current { with_pending_lines (platform_of guest.old) ≡ platform_of guest.old }
-    ensures step { Makes guest.old guest.new (λ m. waited m virt) }
+    ensures step { Makes (with_pc guest.old pc) guest.new (λ m. waited m guest.old.virt) }
     ensures told { IsTold result guest.old guest.new }
     ensures went { result ≢ Handled.Retry }
     ensures runs { result ≢ Handled.Stopped }
     ensures keeps { KeepsSpaces guest.old guest.new }
 {
     if has_enabled_interrupt(&guest.virt.csrs) {
-        guest.virt = virt;
         guest.tick();
         return Handled::Stepped;
     }
-    wait_for_wake(guest, virt)
+    wait_for_wake(guest, pc)
 }
 
 // A WFI at which no enabled interrupt is pending.
-fn wait_for_wake(guest: &mut Guest, virt: Virtual) -> Handled
+fn wait_for_wake(guest: &mut Guest, pc: u64) -> Handled
     requires can { CanStep guest.old }
     requires current { with_pending_lines (platform_of guest.old) ≡ platform_of guest.old }
     requires none { has_enabled_interrupt guest.old.virt.csrs ≡ false }
-    ensures step { Makes guest.old guest.new (λ m. waited m virt) }
+    ensures step { Makes (with_pc guest.old pc) guest.new (λ m. waited m guest.old.virt) }
     ensures told { IsTold result guest.old guest.new }
     ensures went { result ≢ Handled.Retry }
     ensures runs { result ≢ Handled.Stopped }
@@ -45,11 +44,11 @@ fn wait_for_wake(guest: &mut Guest, virt: Virtual) -> Handled
     wake_moment_is_least();
     match guest.clock.wait(guest.virt.csrs.sie, guest.console.next()) {
         WaitEnd::Woke => {
-            guest.virt = virt;
             guest.count();
             Handled::Stepped
         }
         WaitEnd::ForGood => {
+            guest.virt.regs.pc = pc;
             guest.status = Status::Waiting;
             Handled::Waits
         }

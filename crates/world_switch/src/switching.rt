@@ -1,7 +1,7 @@
 // The hart's registers for a guest, and the guest's after the hart has run.
 
 ghost use Rattle.std.specs.Prelude.{◌≡◌, ℕ, Option, Some, true, false};
-ghost use Rattle.arch_defs.specs.Registers.{clear_hypervisor_status};
+ghost use Rattle.arch_defs.specs.Registers.{clear_hypervisor_status, clear_interrupts};
 ghost use Rattle.arch_defs.specs.Traps.{is_virtual};
 ghost use Rattle.machine_laws.specs.HostPlaces.{in_ram, memory_place};
 ghost use Rattle.machine_laws.specs.Renaming.{ReservesWithin, renamed, reservation_renamed};
@@ -10,7 +10,7 @@ ghost use Rattle.world_switch.specs.Laws.{Saves, SavesBack};
 
 use arch_defs::{
     BLOCK_SIZE, Csrs, GuestMode, GuestRoot, HartState, HypervisorStatus, Interrupts, Mode, Part,
-    SupervisorCsrs, SupervisorStatus, Virtual,
+    SupervisorCsrs, SupervisorRoot, SupervisorStatus, Virtual,
 };
 use csr_file::hedeleg_bits;
 use phys_mem::RAM_BASE;
@@ -41,7 +41,7 @@ pub fn to_guest_hs(virt: &Virtual, part: &Part, root: u64, hart: &mut HartState)
     requires held { ReservesWithin (in_ram part.now.blocks) virt.now.reservation }
     ensures { hart.new ≡ hart_state_in part.now (table_from root) virt.now }
 {
-    hart.csrs = csrs_of_hs(table_from(root), &virt.csrs);
+    set_csrs_of_hs(&virt.csrs, root, &mut hart.csrs);
     set_others(virt, part, hart);
 }
 
@@ -51,7 +51,7 @@ pub fn to_nested(virt: &Virtual, part: &Part, root: u64, hart: &mut HartState)
     requires held { ReservesWithin (in_ram part.now.blocks) virt.now.reservation }
     ensures { hart.new ≡ hart_state_in part.now (table_from root) virt.now }
 {
-    hart.csrs = csrs_of_vs(table_from(root), &virt.csrs);
+    set_csrs_of_vs(&virt.csrs, root, &mut hart.csrs);
     set_others(virt, part, hart);
 }
 
@@ -184,47 +184,64 @@ fn all_interrupts() -> Interrupts
 }
 
 // For a guest with V = 0. The host makes a WFI and an SRET of its HS.
-fn csrs_of_hs(root: GuestRoot, csrs: &Csrs) -> Csrs
-    ensures { result ≡ hosted_csrs root false csrs.now }
+fn set_csrs_of_hs(csrs: &Csrs, root: u64, hart: &mut Csrs)
+    ensures { hart.new ≡ hosted_csrs (table_from root) false csrs.now }
 {
-    Csrs {
-        vs: csrs.hs,
-        hie: csrs.sie,
-        hvip: csrs.sip,
-        scounteren_tm: csrs.scounteren_tm,
-        senvcfg_fiom: csrs.senvcfg_fiom,
-        hstatus: HypervisorStatus {
-            vtsr: true,
-            ..waits_kept()
-        },
-        hedeleg: OWN_EXCEPTIONS,
-        hideleg: all_interrupts(),
-        hgatp: root,
-        ..Csrs::at_reset()
-    }
+    set_own_csrs(false, root, hart);
+    hart.vs = csrs.hs;
+    hart.hie = csrs.sie;
+    hart.hvip = csrs.sip;
+    hart.scounteren_tm = csrs.scounteren_tm;
+    hart.senvcfg_fiom = csrs.senvcfg_fiom;
+    hart.hstatus.vtsr = true;
+    hart.hedeleg = OWN_EXCEPTIONS;
+    hart.hideleg = all_interrupts();
 }
 
 // For a guest with V = 1, whose VS traps to its HS as the guest asks for. The host makes a WFI of its VS.
-fn csrs_of_vs(root: GuestRoot, csrs: &Csrs) -> Csrs
-    ensures { result ≡ hosted_csrs root true csrs.now }
+fn set_csrs_of_vs(csrs: &Csrs, root: u64, hart: &mut Csrs)
+    ensures { hart.new ≡ hosted_csrs (table_from root) true csrs.now }
 {
-    Csrs {
-        hs: supervisor_with(csrs.hs.status.mxr),
-        vs: csrs.vs,
-        hie: csrs.hie,
-        hvip: csrs.hvip,
-        scounteren_tm: csrs.scounteren_tm,
-        senvcfg_fiom: csrs.senvcfg_fiom,
-        hstatus: HypervisorStatus {
-            vtvm: csrs.hstatus.vtvm,
-            vtsr: csrs.hstatus.vtsr,
-            ..waits_kept()
-        },
-        hedeleg: hedeleg_bits(csrs.hedeleg),
-        hideleg: csrs.hideleg,
-        hgatp: root,
-        ..Csrs::at_reset()
-    }
+    set_own_csrs(csrs.hs.status.mxr, root, hart);
+    hart.vs = csrs.vs;
+    hart.hie = csrs.hie;
+    hart.hvip = csrs.hvip;
+    hart.scounteren_tm = csrs.scounteren_tm;
+    hart.senvcfg_fiom = csrs.senvcfg_fiom;
+    hart.hstatus.vtvm = csrs.hstatus.vtvm;
+    hart.hstatus.vtsr = csrs.hstatus.vtsr;
+    hart.hedeleg = hedeleg_bits(csrs.hedeleg);
+    hart.hideleg = csrs.hideleg;
+}
+
+// Sets the registers of which the hart has its own: zero, but for MXR, the root of the second stage, and a WFI
+// of VS, which is a virtual instruction.
+fn set_own_csrs(mxr: bool, root: u64, hart: &mut Csrs)
+    ensures { hart.new ≡ record hart.old {
+      hs = supervisor_with mxr;
+      sie = clear_interrupts;
+      sip = clear_interrupts;
+      hstatus = record clear_hypervisor_status { vtw = true };
+      hcounteren_tm = false;
+      henvcfg_fiom = false;
+      htimedelta = 0;
+      htval = 0;
+      htinst = 0;
+      hgatp = table_from root;
+      time = 0;
+    } }
+{
+    set_supervisor(mxr, &mut hart.hs);
+    hart.sie = Interrupts::clear();
+    hart.sip = Interrupts::clear();
+    hart.hstatus = waits_kept();
+    hart.hcounteren_tm = false;
+    hart.henvcfg_fiom = false;
+    hart.htimedelta = 0;
+    hart.htval = 0;
+    hart.htinst = 0;
+    hart.hgatp = table_from(root);
+    hart.time = 0;
 }
 
 // A WFI of VS is a virtual instruction on the hart.
@@ -238,14 +255,17 @@ fn waits_kept() -> HypervisorStatus
 }
 
 // Supervisor registers that have MXR alone, since with V = 1 sstatus.MXR counts beside vsstatus.MXR (8.5.1).
-fn supervisor_with(mxr: bool) -> SupervisorCsrs
-    ensures { result ≡ supervisor_with mxr }
+fn set_supervisor(mxr: bool, csrs: &mut SupervisorCsrs)
+    ensures { csrs.new ≡ supervisor_with mxr }
 {
-    SupervisorCsrs {
-        status: SupervisorStatus {
-            mxr,
-            ..SupervisorStatus::clear()
-        },
-        ..SupervisorCsrs::at_reset()
-    }
+    csrs.status = SupervisorStatus {
+        mxr,
+        ..SupervisorStatus::clear()
+    };
+    csrs.tvec = 0;
+    csrs.scratch = 0;
+    csrs.epc = 0;
+    csrs.cause = 0;
+    csrs.tval = 0;
+    csrs.atp = SupervisorRoot::Bare;
 }
