@@ -1,5 +1,5 @@
 -- What the host makes of a step, as the step of the machine.
-use Rattle.std.specs.Prelude.{◌↔◌}
+use Rattle.std.specs.Prelude.{◌↔◌, ◌&&◌, not}
 use Rattle.std.proofs.Common.{cond, ◌≡◌, ℕ, List, Option, Some, None, Bool, true, false, refl, ap, sym, subst, ◌∙◌}
 use Rattle.arch_defs.specs.declared.cached.Fence.{Fence}
 use Rattle.arch_defs.specs.declared.registers.Virtual.{Virtual}
@@ -7,6 +7,7 @@ use Rattle.arch_defs.specs.Frames.{Only, in_blocks}
 use Rattle.arch_defs.specs.Inputs.{next_input}
 use Rattle.arch_defs.specs.Ram.{ram_of}
 use Rattle.arch_defs.specs.Spaces.{Space, entered, fenced}
+use Rattle.arch_defs.specs.WalkedEntries.{folds}
 use Rattle.arch_defs.specs.Waits.{wake_moment}
 use Rattle.arch_defs.proofs.FrameSets.{left_within, only_more, only_none}
 use Rattle.machine_defs.specs.declared.events.Event.TheVariants.{System}
@@ -19,7 +20,7 @@ use Rattle.shadow_pool.specs.Slots.{pool_frames, room_of, spaces_of}
 use Rattle.guest_exit.specs.declared.guests.Guest.{Guest}
 use Rattle.guest_exit.specs.declared.hart_exit.Handled.{Handled}
 use Rattle.guest_exit.specs.declared.hart_exit.Handled.TheVariants as handled
-use Rattle.guest_exit.specs.HartExit.{HoldsTables, IsHandled, KeepsOutside, KeepsPart, with_pc, with_state}
+use Rattle.guest_exit.specs.HartExit.{HoldsTables, IsFinished, IsHandled, KeepsOutside, KeepsPart, with_pc, with_state}
 use Rattle.guest_exit.specs.Steps.{IsMiss, IsNotPlain, Makes}
 use Rattle.guest_exit.specs.View.{IsPlaced, KeepsLayout, KeepsSpaces, changed_by, machine_of, platform_of}
 use Rattle.guest_exit.proofs.Placed.{placed_by_fill, placed_by_step}
@@ -79,6 +80,20 @@ pub fence_made : (old new : Guest) (memory changed : List ℕ) (virt : Virtual) 
     → machine_of new changed ≡ left_by (machine_of old memory) (apply_outcome (machine_of old memory) (Fenced virt fence))
 fence_made old new memory changed virt fence at fixed e are only =
     machine_as old new memory changed _ _ _ fixed.part e (ram_by_pool old.part old.pool memory changed at.once at.own at.tidy at.held only) are fixed.space_room fixed.entry_room
+
+-- an instruction that has left the guest its state enters a space where it sets V and the state folds
+pub sets_v : (nested folding : Bool) → (not nested && folding) ≡ true → nested ≡ false
+sets_v false folding e = refl
+sets_v true folding e = cc
+
+pub folds_then : (nested folding : Bool) → (not nested && folding) ≡ true → folding ≡ true
+folds_then false folding e = e
+folds_then true folding e = cc
+
+pub finish_stays : (guest new : Guest) (memory : List ℕ) (nested : Bool) → (not nested && folds guest.virt) ≡ false → KeepsSpaces guest new
+    → platform_of new ≡ ticked (platform_of guest) → IsFinished nested guest memory new memory
+finish_stays guest new memory nested off keeps e = λ before own.
+    made_stays (with_state guest before) new memory guest.virt (rw own off) (record { part = keeps.part; pool = keeps.pool }) e
 
 -- a WFI, after which the guest had this state
 pub wait_made : (old new : Guest) (virt : Virtual) (memory : List ℕ) (end : Outcome) → virt ≡ passed old.virt → end ≡ Waits virt

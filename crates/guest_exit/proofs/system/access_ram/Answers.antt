@@ -31,7 +31,7 @@ pub returns-in-Raise-clause-step : goal.returns-in-Raise-clause-step
 returns-in-Raise-clause-step c =
     let m = machine_of c.args.guest.now c.args.memory.now in
     let traps = access_traps m (decided_end m c.args.op) c.in-Raise.trap c.access_in.new.virt _ (c.in-Raise.ensures.ends (second_of m) (reading_of ram_base m.ram)) in
-    rw c.in-Raise.ensures.stays (c.raise.ensures.step c.args.memory.now ∙ ap (left_by m) traps)
+    rw c.in-Raise.ensures.stays.1 (rw c.in-Raise.ensures.stays.0 at c.raise.ensures.step c.args.memory.now ∙ ap (left_by m) traps)
 
 pub returns-in-Raise-clause-quiet : goal.returns-in-Raise-clause-quiet
 returns-in-Raise-clause-quiet c =
@@ -41,4 +41,5 @@ returns-in-Raise-clause-quiet c =
 
 pub returns-in-Raise-clause-within : goal.returns-in-Raise-clause-within
 returns-in-Raise-clause-within c =
-    blocks_changed c.args.guest.now c.raise.new.guest c.args.memory.now c.access_in.new.memory c.requires.can.placed c.raise.ensures.keeps c.access_in.ensures.only
+    blocks_changed c.args.guest.now c.raise.new.guest c.args.memory.now c.access_in.new.memory c.requires.can.placed
+    (record { part = c.raise.ensures.keeps.part; pool = c.raise.ensures.keeps.pool }) c.access_in.ensures.only
