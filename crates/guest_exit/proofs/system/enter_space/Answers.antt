@@ -1,3 +1,4 @@
+use Rattle.std.proofs.Common.{refl}
 use Rattle.guest_exit.proofs.Alone.{holds_with, made_enters}
 use Rattle.guest_exit.specs.HartExit.{with_state}
 use Rattle.guest_exit.proofs.system.enter_space.Goals as goal
