@@ -3,3 +3,4 @@ pub mod Fitting
 pub mod Flag
 pub mod Leaves
 pub mod Levels
+pub mod NotedWalks

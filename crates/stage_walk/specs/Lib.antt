@@ -1,3 +1,4 @@
 pub mod ByLevels
 pub mod Ends
 pub mod Laws
+pub mod Reads

@@ -4,6 +4,7 @@
 mod entries;
 mod fetching;
 mod laws;
+mod noting;
 mod permissions;
 mod places;
 #[cfg(test)]
@@ -16,5 +17,6 @@ pub use laws::{
     entries_are_valid, entries_met_are_linked, leaf_has_the_standard_address,
     walks_depend_on_entries_met, walks_end_by_levels,
 };
+pub use noting::{NotingFetch, walk_noted};
 pub use permissions::{permits_first, permits_second};
 pub use walking::walk;

@@ -43,8 +43,8 @@ fn has_frame_of<M: Mem>(mem: &M, place: u64) -> bool
     mem.get(place, 1).is_some()
 }
 
-// What the end of a walk is to an access.
-fn second_end<M: Mem>(mem: &M, mxr: bool, address: u64, kind: Access, end: WalkEnd) -> SecondWalkEnd
+/// What the end of a walk is to an access.
+pub fn second_end<M: Mem>(mem: &M, mxr: bool, address: u64, kind: Access, end: WalkEnd) -> SecondWalkEnd
     requires backed { M.is_backed mem.now }
     requires whole { IsWhole (M.base mem.now) (M.bytes mem.now) }
     requires fits { EndFits most_levels end }
@@ -109,8 +109,8 @@ fn walked<M: Mem>(
     }
 }
 
-// Bare passes on each address inside memory.
-fn bare<M: Mem>(mem: &M, address: u64, kind: Access) -> Option<u64>
+/// Bare passes on each address inside memory.
+pub fn bare<M: Mem>(mem: &M, address: u64, kind: Access) -> Option<u64>
     requires backed { M.is_backed mem.now }
     ensures place { result ≡ bare (M.base mem.now) (length (M.bytes mem.now)) address kind }
     ensures inside { IfSome result (λ place. IsPlaceOf (M.base mem.now) (M.bytes mem.now) address place) }

@@ -3,6 +3,7 @@
 
 mod guest_addresses;
 mod laws;
+mod noting;
 #[cfg(test)]
 mod tests;
 mod translating;
@@ -13,6 +14,7 @@ mod walked_entries;
 pub use arch_defs::{Found, MissingPlace, SecondWalkEnd};
 pub use guest_addresses::{second_place, second_root_of, second_walk};
 pub use laws::{memory_is_whole, ram_is_whole};
+pub use noting::{first_noted, second_noted};
 pub use phys_mem::Mem;
 pub use translating::translate;
 pub use traps::{guest_page_fault, guest_page_trap, missing_place_trap};

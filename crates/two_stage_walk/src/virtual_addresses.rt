@@ -40,9 +40,9 @@ impl<M: Mem> Fetch for Entries<'_, M> {
     }
 }
 
-// The doubleword at a place of memory.
+/// The doubleword at a place of memory.
 #[tactic(auto, using(crate::proofs::Frames::doubleword))]
-fn word_at<M: Mem>(mem: &M, place: u64) -> u64
+pub fn word_at<M: Mem>(mem: &M, place: u64) -> u64
     requires backed { M.is_backed mem.now }
     requires whole { IsWhole (M.base mem.now) (M.bytes mem.now) }
     requires inside { IsPlaceOf (M.base mem.now) (M.bytes mem.now) place place }

@@ -1,0 +1,21 @@
+-- The frames that a set holds (own).
+use Rattle.std.specs.Prelude.{ℕ, ◌/◌, ◌%◌, ◌^◌, Bool, ◌&&◌, ◌||◌, ◌==◌, List, nat_lt, slice_index, if◌then◌else◌}
+use Rattle.arch_defs.specs.Frames.{Frames}
+use Rattle.arch_defs.specs.Bits.{bit}
+use Rattle.frame_set.specs.declared.sets.FrameSet.{FrameSet}
+
+-- the mark of a frame is set: the bit of its number modulo 4,096 in words of 64 bits
+abbrev pub is_marked : List ℕ → ℕ → Bool
+is_marked marks frame = bit (frame % 64) (slice_index marks (frame % 4096 / 64))
+
+-- the upper part of a frame's number
+abbrev pub upper_of : ℕ → ℕ
+upper_of frame = if nat_lt (frame / 4096) 255 then frame / 4096 else 255
+
+-- it is the one at the frame's mark, or several frames share the mark
+abbrev pub is_upper : List ℕ → ℕ → Bool
+is_upper uppers frame =
+    let upper = slice_index uppers (frame % 4096) in upper == upper_of frame || upper == 255
+
+unfoldable pub holds : FrameSet → Frames
+holds set frame = is_marked set.marks frame && is_upper set.uppers frame

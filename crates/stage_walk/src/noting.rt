@@ -1,0 +1,98 @@
+// The walk that notes the frames of what it reads.
+
+ghost use Rattle.std.specs.Prelude.{◌≡◌, ℕ, ◌^◌, ◌%◌, ◌<◌, Result, ⊤};
+ghost use Rattle.arch_defs.specs.declared.modes.Trap.{Trap};
+ghost use Rattle.arch_defs.specs.Frames.{Frames, Within};
+ghost use Rattle.arch_defs.specs.Walk.{levels, met_in, next_of, path, walk};
+ghost use Rattle.frame_set.specs.Holding.{holds};
+ghost use Rattle.stage_walk.specs.Ends.{EndFits, NextFits};
+ghost use Rattle.stage_walk.specs.Reads.{Each};
+
+use crate::entries::{entry_next, pte_of};
+use crate::places::{is_canonical, levels, place_of};
+use arch_defs::{Access, Next, Shape, Trap, WalkEnd};
+use frame_set::FrameSet;
+
+/// What reads the entries of a table, and notes the frames of all that it reads for each.
+pub trait NotingFetch {
+    // What it gives at each place, as the walk's definition reads it.
+    ghost reading: { Self → ℕ → Result ℕ Trap };
+
+    // All that it reads for the entry at a place lies in these frames.
+    ghost reads: { Self → Frames → ℕ → Type 0 };
+
+    // What it stands on is there.
+    ghost is_backed: { Self → Type 0 } = { λ _. ⊤ };
+
+    /// The entry at a place, or the trap for which there is none. The frames of what is read are added to
+    /// a set.
+    fn pte_noted(&self, place: u64, read: &mut FrameSet) -> Result<u64, Trap>
+        requires aligned { place % 8 ≡ 0 }
+        requires backed { is_backed self.now }
+        ensures word { result ≡ reading self.now place }
+        ensures more { Within (holds read.old) (holds read.new) }
+        ensures noted { (frames : Frames) → Within (holds read.new) frames → reads self.now frames place };
+}
+
+// What the entry for an address in the table of a frame says to the walk.
+#[inline]
+#[tactic(auto, using(arch_defs::proofs::Shapes::few_levels, crate::proofs::Fitting::next_fits))]
+fn visit_noted<N: NotingFetch>(
+    fetch: &N,
+    shape: Shape,
+    va: u64,
+    access: Access,
+    level: u8,
+    table: u64,
+    read: &mut FrameSet,
+) -> Next
+    requires level { level < levels shape }
+    requires table { table < 2 ^ 44 }
+    requires backed { N.is_backed fetch.now }
+    ensures next { result ≡ next_of access (met_in (N.reading fetch.now) shape va level table) }
+    ensures fits { NextFits (levels shape) result }
+    ensures more { Within (holds read.old) (holds read.new) }
+    ensures noted { (frames : Frames) → Within (holds read.new) frames
+        → N.reads fetch.now frames (met_in (N.reading fetch.now) shape va level table).place }
+{
+    let place = place_of(shape, level, table, va);
+    match fetch.pte_noted(place, read) {
+        Ok(word) => entry_next(level, access, &pte_of(word)),
+        Err(trap) => Next::Ends(WalkEnd::FetchEnd { place, trap }),
+    }
+}
+
+/// The walk of the table whose root is this frame, for an access at an address. The frames of all that it
+/// reads are added to a set.
+#[inline]
+#[tactic(auto, using(crate::proofs::Levels::steps))]
+pub fn walk_noted<N: NotingFetch>(
+    fetch: &N,
+    root: u64,
+    shape: Shape,
+    va: u64,
+    access: Access,
+    read: &mut FrameSet,
+) -> WalkEnd
+    requires root { root < 2 ^ 44 }
+    requires backed { N.is_backed fetch.now }
+    ensures end { result ≡ walk (N.reading fetch.now) root shape va access }
+    ensures fits { EndFits (levels shape) result }
+    ensures more { Within (holds read.old) (holds read.new) }
+    ensures noted { (frames : Frames) → Within (holds read.new) frames
+        → Each (N.reads fetch.now frames) (path (N.reading fetch.now) root shape va access) }
+{
+    if !is_canonical(shape, va) {
+        return WalkEnd::PageFault;
+    }
+    let mut table = root;
+    let mut level = levels(shape);
+    while level > 0 {
+        level -= 1;
+        match visit_noted(fetch, shape, va, access, level, table, read) {
+            Next::Ends(end) => return end,
+            Next::Below(frame) => table = frame,
+        }
+    }
+    WalkEnd::PageFault
+}

@@ -1,0 +1,140 @@
+-- Slots stand in other memories, by more frames, and where they are kept.
+use Rattle.std.proofs.Common.{◌≡◌, ℕ, ◌+◌, ◌-◌, ◌*◌, ◌/◌, ◌%◌, ◌^◌, ◌<◌, ◌≤◌, ◌∙◌, Bool, true, false, List, [], Some, length, get_or, set, replicate, refl, ap, sym, subst, arith}
+use Rattle.std.specs.List.{All}
+use Rattle.std.proofs.lemmas.List.{get_or-replicate, length-replicate}
+
+use Rattle.std.proofs.lemmas.List.Elements.{All-set}
+use Rattle.arch_defs.specs.declared.modes.Access.{Access}
+use Rattle.arch_defs.specs.declared.modes.Access.TheVariants.{Fetch, Load, Store, ExecLoad, Implicit}
+use Rattle.arch_defs.specs.declared.modes.Mode.{Mode}
+use Rattle.arch_defs.specs.declared.registers.Csrs.{Csrs}
+use Rattle.arch_defs.specs.declared.walks.Privilege.{Privilege}
+use Rattle.arch_defs.specs.Frames.{Apart, Frames, Only, Same, Within}
+use Rattle.arch_defs.specs.Translation.{privilege_of}
+use Rattle.arch_defs.proofs.FrameSets.{kept, same_both, same_fewer, same_none}
+use Rattle.frame_set.specs.Holding.{holds}
+use Rattle.translation_buffer.specs.declared.buffers.Buffer.{Buffer}
+use Rattle.translation_buffer.specs.declared.contexts.Context.{Context}
+use Rattle.translation_buffer.specs.declared.slots.Slot.{Slot}
+use Rattle.translation_buffer.specs.declared.slots.Slots.{Slots}
+use Rattle.translation_buffer.specs.Places.{Reads, context_of, place_in}
+use Rattle.translation_buffer.specs.Serving.{AllStand, Serves, Stands, bit_of, slots_of, tag_of, who_bits}
+use Rattle.translation_buffer.proofs.KeptPlaces.{translations_stay}
+
+-- tags
+bit_small : (b : Bool) → bit_of b ≤ 1
+bit_small true = omega arith
+bit_small false = omega arith
+
+bits_small : (a b c page : ℕ) → a ≤ 1 → b ≤ 1 → c ≤ 1 → page < 4503599627370496 → 4503599627370496 * (a + 2 * b + 4 * c) + page < 2 ^ 56
+bits_small a b c page x y z small = omega (arith, x, y, z, small)
+
+page_small : (va : ℕ) → va < 2 ^ 64 → va / 4096 < 4503599627370496
+page_small va small = omega (arith, small)
+
+pub tag_small : (who : Privilege) (va : ℕ) → va < 2 ^ 64 → tag_of who va < 2 ^ 56
+tag_small who va small = bits_small (bit_of who.user) (bit_of who.sum) (bit_of who.mxr) (va / 4096) (bit_small who.user) (bit_small who.sum) (bit_small who.mxr) (page_small va small)
+
+bits_same : (a b c p d e f q : ℕ) → a ≤ 1 → b ≤ 1 → c ≤ 1 → p < 4503599627370496 → d ≤ 1 → e ≤ 1 → f ≤ 1 → q < 4503599627370496
+    → 4503599627370496 * (a + 2 * b + 4 * c) + p ≡ 4503599627370496 * (d + 2 * e + 4 * f) + q → (a ≡ d) × (b ≡ e) × (c ≡ f) × (p ≡ q)
+bits_same a b c p d e f q x y z u i j k v same =
+    (omega (arith, x, y, z, u, i, j, k, v, same), omega (arith, x, y, z, u, i, j, k, v, same), omega (arith, x, y, z, u, i, j, k, v, same), omega (arith, x, y, z, u, i, j, k, v, same))
+
+bit_same : (a b : Bool) → bit_of a ≡ bit_of b → a ≡ b
+bit_same true true same = refl
+bit_same true false same = absurd (omega (arith, same))
+bit_same false true same = absurd (omega (arith, same))
+bit_same false false same = refl
+
+who_same : (who other : Privilege) → who.user ≡ other.user → who.sum ≡ other.sum → who.mxr ≡ other.mxr → who ≡ other
+who_same who other user sum mxr = rw (user, sum, mxr) refl
+
+pub tag_tells : (who other : Privilege) (va near : ℕ) → va < 2 ^ 64 → near < 2 ^ 64 → tag_of who va ≡ tag_of other near → (who ≡ other) × (va / 4096 ≡ near / 4096)
+tag_tells who other va near small near_small same =
+    let parts = bits_same (bit_of who.user) (bit_of who.sum) (bit_of who.mxr) (va / 4096) (bit_of other.user) (bit_of other.sum) (bit_of other.mxr) (near / 4096)
+      (bit_small who.user) (bit_small who.sum) (bit_small who.mxr) (page_small va small) (bit_small other.user) (bit_small other.sum) (bit_small other.mxr) (page_small near near_small) same in
+    (who_same who other (bit_same who.user other.user parts.0) (bit_same who.sum other.sum parts.1) (bit_same who.mxr other.mxr parts.2), parts.3)
+
+-- no translation
+pub none_stands : (frames : Frames) (memory : List ℕ) (context : Context) (kind : Access) (slot : Slot) → slot.tag ≡ 2 ^ 64 - 1 → Stands frames memory context kind slot
+none_stands frames memory context kind slot none = record {
+  place = λ other who va same small tag. absurd (let less = tag_small who va small in omega (arith, none, tag, less));
+}
+
+pub all_none : (frames : Frames) (memory : List ℕ) (context : Context) (kind : Access) (slot : Slot) (n : ℕ) → slot.tag ≡ 2 ^ 64 - 1 → All (Stands frames memory context kind) (replicate n slot)
+all_none frames memory context kind slot n none k d inside = rw (get_or-replicate n k slot d (inside_of n k inside)) (none_stands frames memory context kind slot none)
+  where
+    inside_of : (n k : ℕ) → k < length (replicate n slot) → k < n
+    inside_of n k inside = rw (length-replicate n slot) at inside
+
+pub no_slot_stands : (frames : Frames) (memory : List ℕ) (context : Context) (slots : Slots)
+    → All (Stands frames memory context Fetch) slots.fetches → All (Stands frames memory context Load) slots.loads → All (Stands frames memory context Store) slots.stores
+    → AllStand frames memory context slots
+no_slot_stands frames memory context slots fetches loads stores Fetch = fetches
+no_slot_stands frames memory context slots fetches loads stores Load = loads
+no_slot_stands frames memory context slots fetches loads stores Store = stores
+no_slot_stands frames memory context slots fetches loads stores ExecLoad = λ k d inside. absurd (omega (arith, inside))
+no_slot_stands frames memory context slots fetches loads stores Implicit = λ k d inside. absurd (omega (arith, inside))
+
+-- a walk's
+pub walk_stands : (frames : Frames) (memory : List ℕ) (context : Context) (who : Privilege) (va place : ℕ) (kind : Access) (slot : Slot) → length memory % 4096 ≡ 0 → va < 2 ^ 64
+    → Reads frames context who memory va kind → place_in context who memory va kind ≡ Some place → slot.tag ≡ tag_of who va → slot.frame ≡ place / 4096
+    → Stands frames memory context kind slot
+walk_stands frames memory context who va place kind slot whole small reads is tag frame = record {
+  place = λ other whom near same near_small tagged.
+      let one = tag_tells who whom va near small near_small (sym tag ∙ tagged) in
+      rw frame (subst (λ (w : Privilege). place_in context w other near kind ≡ Some (4096 * (place / 4096) + near % 4096)) one.0
+      (translations_stay frames context who memory other va near place kind whole reads is same (sym one.1)));
+}
+
+-- by more frames, and in another memory
+pub stands_more : (less more : Frames) (memory : List ℕ) (context : Context) (kind : Access) (slot : Slot) → Within less more → Stands less memory context kind slot → Stands more memory context kind slot
+stands_more less more memory context kind slot within stands = record {
+  place = λ other who va same small tag. stands.place other who va (same_fewer less more memory other within same) small tag;
+}
+
+pub all_more : (less more : Frames) (memory : List ℕ) (context : Context) (slots : Slots) → Within less more → AllStand less memory context slots → AllStand more memory context slots
+all_more less more memory context slots within all kind k d inside = stands_more less more memory context kind (get_or (slots_of slots kind) k d) within (all kind k d inside)
+
+pub all_same : (frames : Frames) (memory other : List ℕ) (context : Context) (slots : Slots) → Same frames memory other → AllStand frames memory context slots → AllStand frames other context slots
+all_same frames memory other context slots same all kind k d inside = record {
+  place = λ third who va later small tag. (all kind k d inside).place third who va (same_both frames memory other third same later) small tag;
+}
+
+-- one more
+pub fetch_kept : (frames : Frames) (memory : List ℕ) (context : Context) (slots : Slots) (at : ℕ) (slot : Slot) → Stands frames memory context Fetch slot → AllStand frames memory context slots
+    → AllStand frames memory context (record slots { fetches = set slots.fetches at slot })
+fetch_kept frames memory context slots at slot stands all Fetch = All-set (Stands frames memory context Fetch) slots.fetches at slot stands (all Fetch)
+fetch_kept frames memory context slots at slot stands all Load = all Load
+fetch_kept frames memory context slots at slot stands all Store = all Store
+fetch_kept frames memory context slots at slot stands all ExecLoad = all ExecLoad
+fetch_kept frames memory context slots at slot stands all Implicit = all Implicit
+
+pub load_kept : (frames : Frames) (memory : List ℕ) (context : Context) (slots : Slots) (at : ℕ) (slot : Slot) → Stands frames memory context Load slot → AllStand frames memory context slots
+    → AllStand frames memory context (record slots { loads = set slots.loads at slot })
+load_kept frames memory context slots at slot stands all Fetch = all Fetch
+load_kept frames memory context slots at slot stands all Load = All-set (Stands frames memory context Load) slots.loads at slot stands (all Load)
+load_kept frames memory context slots at slot stands all Store = all Store
+load_kept frames memory context slots at slot stands all ExecLoad = all ExecLoad
+load_kept frames memory context slots at slot stands all Implicit = all Implicit
+
+pub store_kept : (frames : Frames) (memory : List ℕ) (context : Context) (slots : Slots) (at : ℕ) (slot : Slot) → Stands frames memory context Store slot → AllStand frames memory context slots
+    → AllStand frames memory context (record slots { stores = set slots.stores at slot })
+store_kept frames memory context slots at slot stands all Fetch = all Fetch
+store_kept frames memory context slots at slot stands all Load = all Load
+store_kept frames memory context slots at slot stands all Store = All-set (Stands frames memory context Store) slots.stores at slot stands (all Store)
+store_kept frames memory context slots at slot stands all ExecLoad = all ExecLoad
+store_kept frames memory context slots at slot stands all Implicit = all Implicit
+
+-- a hit
+tag_fits : (who page tag : ℕ) → who + page < 2 ^ 56 → tag ≡ (who + page) % 2 ^ 64 → tag ≡ who + page
+tag_fits who page tag small is = omega (arith, small, is)
+
+pub served : (buffer : Buffer) (csrs : Csrs) (mode : Mode) (memory : List ℕ) (va : ℕ) (access : Access) (slot : Slot) → Serves buffer csrs mode memory
+    → Stands (holds buffer.read) memory buffer.context access slot → va < 2 ^ 64 → slot.tag ≡ (buffer.who + va / 4096) % 2 ^ 64
+    → place_in (context_of csrs mode) (privilege_of csrs mode) memory va access ≡ Some (4096 * slot.frame + va % 4096)
+served buffer csrs mode memory va access slot serves stands small tag =
+    let tagged : slot.tag ≡ (who_bits (privilege_of csrs mode) + va / 4096) % 2 ^ 64 = subst (λ n. slot.tag ≡ (n + va / 4096) % 2 ^ 64) serves.who tag in
+    subst (λ (c : Context). place_in c (privilege_of csrs mode) memory va access ≡ Some (4096 * slot.frame + va % 4096)) serves.context
+    (stands.place memory (privilege_of csrs mode) va (same_none (holds buffer.read) memory) small
+    (tag_fits (who_bits (privilege_of csrs mode)) (va / 4096) slot.tag (tag_small (privilege_of csrs mode) va small) tagged))

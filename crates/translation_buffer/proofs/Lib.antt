@@ -1,0 +1,4 @@
+pub mod Answered
+pub mod KeptPlaces
+pub mod KeptSlots
+pub mod OnePage

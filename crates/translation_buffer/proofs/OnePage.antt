@@ -1,0 +1,152 @@
+-- The addresses of one page have their places in one frame.
+use Rattle.std.proofs.Common.{cond, ◌≡◌, ℕ, zero, suc, ◌+◌, ◌*◌, ◌/◌, ◌%◌, ◌^◌, ◌<◌, ◌∙◌, Bool, true, false, List, [], ◌∷◌, Option, Some, None, refl, ap, sym, arith}
+use Rattle.std.specs.Prelude.{nat_le, nat_lt, ◌&&◌, not, length}
+use Rattle.std.proofs.lemmas.Bool.{le-leb, lt-ltb, ltb-true}
+use Rattle.std.proofs.lemmas.Nat.{mod-pow-add, pow-add}
+use Rattle.std.proofs.Math.Nat.{div-div-eq-div-mul}
+use Rattle.arch_defs.specs.declared.modes.Access.{Access}
+use Rattle.arch_defs.specs.declared.registers.GuestRoot.{GuestRoot}
+use Rattle.arch_defs.specs.declared.registers.GuestRoot.TheVariants as guest
+use Rattle.arch_defs.specs.declared.registers.SupervisorRoot.{SupervisorRoot}
+use Rattle.arch_defs.specs.declared.registers.SupervisorRoot.TheVariants as supervisor
+use Rattle.arch_defs.specs.declared.second_walks.SecondWalkEnd.TheVariants.{GuestPageFault, AccessFault}
+use Rattle.arch_defs.specs.declared.second_walks.SecondWalkEnd.TheVariants as walk_end
+use Rattle.arch_defs.specs.declared.walks.Found.{Found}
+use Rattle.arch_defs.specs.declared.walks.Found.TheVariants.{Passes, PageFaults, MissesEntry}
+use Rattle.arch_defs.specs.declared.walks.LeafPte.{LeafPte}
+use Rattle.arch_defs.specs.declared.walks.Next.{Next}
+use Rattle.arch_defs.specs.declared.walks.Next.TheVariants.{Ends, Below}
+use Rattle.arch_defs.specs.declared.walks.Privilege.{Privilege}
+use Rattle.arch_defs.specs.declared.walks.Shape.{Shape}
+use Rattle.arch_defs.specs.declared.walks.WalkEnd.{WalkEnd}
+use Rattle.arch_defs.specs.declared.walks.WalkEnd.TheVariants.{Leaf, PageFault, FetchEnd}
+use Rattle.arch_defs.specs.Memory.{Reading, SecondStage, bare}
+use Rattle.arch_defs.specs.Permits.{permits_first, permits_second}
+use Rattle.arch_defs.specs.Roots.{guest_shape, supervisor_shape}
+use Rattle.arch_defs.specs.SecondStage.{guest_root_frame, has_frame_of, memory_words, place_under, second_end, second_under, second_walk, walked}
+use Rattle.arch_defs.specs.Translation.{entry_words_through, found_by, found_under}
+use Rattle.arch_defs.specs.Walk.{EntryReading, end_of, index, index_bits, is_canonical, later, leaf_address, levels, met_in, next_of, path, path_from, walk}
+use Rattle.arch_defs.proofs.Shapes.{canonical_same}
+
+-- their walks are one
+index_same : (shape : Shape) (level a b : ℕ) → a / 4096 ≡ b / 4096 → index shape level a ≡ index shape level b
+index_same shape level a b same = ap (λ n. n % 2 ^ index_bits shape level) (split a ∙ ap (λ n. n / 2 ^ (9 * level)) same ∙ sym (split b))
+  where
+    split : (n : ℕ) → n / 2 ^ (12 + 9 * level) ≡ n / 4096 / 2 ^ (9 * level)
+    split n = rw (pow-add 2 12 (9 * level)) (sym (div-div-eq-div-mul n 4096 (2 ^ (9 * level))))
+
+paths_same : (reading : EntryReading) (shape : Shape) (kind : Access) (a b : ℕ) → a / 4096 ≡ b / 4096 → (level table : ℕ)
+    → path_from reading shape a kind level table ≡ path_from reading shape b kind level table
+unfolding path_from
+paths_same reading shape kind a b same zero table = refl
+paths_same reading shape kind a b same (suc level) table = rw (index_same shape level a b same)
+    (ap (λ ms. met_in reading shape b level table ∷ ms) (by (next_of kind (met_in reading shape b level table)) (λ t. paths_same reading shape kind a b same level t)))
+  where
+    by : (next : Next) → ((t : ℕ) → path_from reading shape a kind level t ≡ path_from reading shape b kind level t)
+        → later (path_from reading shape a kind level) next ≡ later (path_from reading shape b kind level) next
+    by (Ends end) deeper = refl
+    by (Below t) deeper = deeper t
+
+pub walks_same : (reading : EntryReading) (shape : Shape) (root : ℕ) (kind : Access) (a b : ℕ) → a / 4096 ≡ b / 4096 → walk reading root shape a kind ≡ walk reading root shape b kind
+unfolding walk path
+walks_same reading shape root kind a b same = rw (canonical_same shape a b same) (by (is_canonical shape b))
+  where
+    by : (right : Bool) → end_of kind (cond right (path_from reading shape a kind (levels shape) root) []) ≡ end_of kind (cond right (path_from reading shape b kind (levels shape) root) [])
+    by true = ap (end_of kind) (paths_same reading shape kind a b same (levels shape) root)
+    by false = refl
+
+-- under a leaf their frame is one
+quotient : (f p r n : ℕ) → n ≡ p * 4096 + r % 4096 → (4096 * f + n) / 4096 ≡ f + p
+quotient f p r n is = omega arith
+
+remainder : (f p r n : ℕ) → n ≡ p * 4096 + r % 4096 → (4096 * f + n) % 4096 ≡ r % 4096
+remainder f p r n is = omega arith
+
+turned : (level : ℕ) → 12 + 9 * level ≡ 9 * level + 12
+turned level = omega arith
+
+frame_under : (leaf : LeafPte) (n : ℕ) → leaf_address leaf n / 4096 ≡ leaf.frame + n / 4096 % 2 ^ (9 * leaf.level)
+frame_under leaf n = rw (turned leaf.level) (quotient leaf.frame (n / 4096 % 2 ^ (9 * leaf.level)) n (n % 2 ^ (9 * leaf.level + 12)) (mod-pow-add n (9 * leaf.level) 12))
+
+frame_same : (leaf : LeafPte) (a b : ℕ) → a / 4096 ≡ b / 4096 → leaf_address leaf a / 4096 ≡ leaf_address leaf b / 4096
+frame_same leaf a b same = frame_under leaf a ∙ ap (λ n. leaf.frame + n % 2 ^ (9 * leaf.level)) same ∙ sym (frame_under leaf b)
+
+-- and each keeps its offset
+pub offset_under : (leaf : LeafPte) (n : ℕ) → leaf_address leaf n % 4096 ≡ n % 4096
+offset_under leaf n = rw (turned leaf.level) (remainder leaf.frame (n / 4096 % 2 ^ (9 * leaf.level)) n (n % 2 ^ (9 * leaf.level + 12)) (mod-pow-add n (9 * leaf.level) 12))
+
+whole : (n q r : ℕ) → n / 4096 ≡ q → n % 4096 ≡ r → n ≡ 4096 * q + r
+whole n q r quot rest = omega (arith, quot, rest)
+
+under_near : (leaf : LeafPte) (a b : ℕ) → a / 4096 ≡ b / 4096 → leaf_address leaf a ≡ 4096 * (leaf_address leaf b / 4096) + a % 4096
+under_near leaf a b same = whole (leaf_address leaf a) (leaf_address leaf b / 4096) (a % 4096) (frame_same leaf a b same) (offset_under leaf a)
+
+-- the first stage
+pub same_passes : (a b : ℕ) → Passes a ≡ Passes b → a ≡ b
+same_passes a b same = cc
+
+pub same_some : (a b : ℕ) → Some a ≡ Some b → a ≡ b
+same_some a b same = cc
+
+found_by_near : (who : Privilege) (access : Access) (near va address : ℕ) (end : WalkEnd) → near / 4096 ≡ va / 4096 → found_by who access va end ≡ Passes address
+    → found_by who access near end ≡ Passes (4096 * (address / 4096) + near % 4096)
+found_by_near who access near va address (Leaf leaf) same is = by (permits_first who access leaf) is
+  where
+    by : (fit : Bool) → cond fit (Passes (leaf_address leaf va)) PageFaults ≡ Passes address
+        → cond fit (Passes (leaf_address leaf near)) PageFaults ≡ Passes (4096 * (address / 4096) + near % 4096)
+    by true passes = ap Passes (under_near leaf near va same ∙ ap (λ n. 4096 * (n / 4096) + near % 4096) (same_passes (leaf_address leaf va) address passes))
+    by false passes = absurd cc
+found_by_near who access near va address PageFault same is = absurd cc
+found_by_near who access near va address (FetchEnd place trap) same is = absurd cc
+
+bare_near : (near va address : ℕ) → near / 4096 ≡ va / 4096 → va ≡ address → near ≡ 4096 * (address / 4096) + near % 4096
+bare_near near va address same is = omega (arith, same, is)
+
+pub found_near : (second : SecondStage) (reading : Reading) (who : Privilege) (near va address : ℕ) (access : Access) (root : SupervisorRoot) → near / 4096 ≡ va / 4096
+    → found_under second reading who va access root ≡ Passes address → found_under second reading who near access root ≡ Passes (4096 * (address / 4096) + near % 4096)
+found_near second reading who near va address access supervisor.Bare same is = ap Passes (bare_near near va address same (same_passes va address is))
+found_near second reading who near va address access (supervisor.Table mode asid ppn) same is =
+    rw (walks_same (entry_words_through second reading) (supervisor_shape mode) (ppn % 2 ^ 44) access near va same)
+    (found_by_near who access near va address (walk (entry_words_through second reading) (ppn % 2 ^ 44) (supervisor_shape mode) va access) same is)
+
+-- the second stage
+end_near : (memory : List ℕ) (mxr : Bool) (kind : Access) (near address place : ℕ) (end : WalkEnd) → near / 4096 ≡ address / 4096
+    → place_under address (second_end 0 memory mxr address kind end) ≡ Some place → place_under near (second_end 0 memory mxr near kind end) ≡ Some (4096 * (place / 4096) + near % 4096)
+end_near memory mxr kind near address place (Leaf leaf) same is =
+    rw (frame_same leaf near address same) (by (not (permits_second mxr kind leaf)) (has_frame_of 0 memory (leaf_address leaf address)) is)
+  where
+    by : (denied inside : Bool) → place_under address (cond denied GuestPageFault (cond inside (walk_end.Leaf leaf) AccessFault)) ≡ Some place
+        → place_under near (cond denied GuestPageFault (cond inside (walk_end.Leaf leaf) AccessFault)) ≡ Some (4096 * (place / 4096) + near % 4096)
+    by true inside is = absurd cc
+    by false true is = ap Some (under_near leaf near address same ∙ ap (λ n. 4096 * (n / 4096) + near % 4096) (same_some (leaf_address leaf address) place is))
+    by false false is = absurd cc
+end_near memory mxr kind near address place PageFault same is = absurd cc
+end_near memory mxr kind near address place (FetchEnd at trap) same is = absurd cc
+
+bare_inside : (near address size : ℕ) → size % 4096 ≡ 0 → near / 4096 ≡ address / 4096 → address < size → near < size
+bare_inside near address size is same less = omega (arith, is, same, less)
+
+near_bare : (memory : List ℕ) (near address place : ℕ) (kind : Access) → length memory % 4096 ≡ 0 → near / 4096 ≡ address / 4096
+    → bare 0 (length memory) address kind ≡ Some place → bare 0 (length memory) near kind ≡ Some (4096 * (place / 4096) + near % 4096)
+near_bare memory near address place kind size same is =
+    let whole : (0 + length memory) % 4096 ≡ 0 = omega (arith, size) in
+    by (nat_le 0 address) (nat_lt address (0 + length memory)) (nat_le 0 near) (nat_lt near (0 + length memory))
+    (le-leb 0 near (omega arith)) (λ inside. lt-ltb near (0 + length memory) (bare_inside near address (0 + length memory) whole same (ltb-true address (0 + length memory) inside))) is
+  where
+    by : (from to near_from near_to : Bool) → near_from ≡ true → (to ≡ true → near_to ≡ true) → cond (from && to) (Some address) None ≡ Some place
+        → cond (near_from && near_to) (Some near) None ≡ Some (4096 * (place / 4096) + near % 4096)
+    by true true near_from near_to begins ends is = rw (begins, ends refl) (ap Some (bare_near near address place same (same_some address place is)))
+    by true false near_from near_to begins ends is = absurd cc
+    by false to near_from near_to begins ends is = absurd cc
+
+walked_near : (memory : List ℕ) (mxr : Bool) (shape : Shape) (ppn near address place : ℕ) (kind : Access) → near / 4096 ≡ address / 4096
+    → walked 0 memory mxr shape ppn address kind ≡ Some place → walked 0 memory mxr shape ppn near kind ≡ Some (4096 * (place / 4096) + near % 4096)
+unfolding second_walk
+walked_near memory mxr shape ppn near address place kind same is =
+    rw (walks_same (memory_words 0 memory) shape (guest_root_frame ppn) kind near address same)
+    (end_near memory mxr kind near address place (walk (memory_words 0 memory) (guest_root_frame ppn) shape address kind) same is)
+
+pub second_near : (memory : List ℕ) (mxr : Bool) (root : GuestRoot) (near address place : ℕ) (kind : Access) → length memory % 4096 ≡ 0 → near / 4096 ≡ address / 4096
+    → second_under 0 memory mxr root address kind ≡ Some place → second_under 0 memory mxr root near kind ≡ Some (4096 * (place / 4096) + near % 4096)
+second_near memory mxr guest.Bare near address place kind size same is = near_bare memory near address place kind size same is
+second_near memory mxr (guest.Table mode vmid ppn) near address place kind size same is = walked_near memory mxr (guest_shape mode) ppn near address place kind same is

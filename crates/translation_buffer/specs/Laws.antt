@@ -1,0 +1,18 @@
+-- A place stays the place, and is that of each address of the page.
+use Rattle.std.specs.Prelude.{ℕ, ◌≡◌, ◌+◌, ◌*◌, ◌/◌, ◌%◌, List, length, Some}
+use Rattle.arch_defs.specs.declared.modes.Access.{Access}
+use Rattle.arch_defs.specs.declared.walks.Privilege.{Privilege}
+use Rattle.arch_defs.specs.Frames.{Frames, Same}
+use Rattle.translation_buffer.specs.declared.contexts.Context.{Context}
+use Rattle.translation_buffer.specs.Places.{Reads, place_in}
+
+-- in each memory in which the frames that were read are the same, each address of the page has its place in the
+-- frame that was found, at its own offset
+abbrev pub TranslationsStay : Type 0
+TranslationsStay =
+    (frames : Frames) (context : Context) (who : Privilege) (memory other : List ℕ) (va near place : ℕ)
+    (access : Access)
+    → length memory % 4096 ≡ 0
+    → Reads frames context who memory va access → place_in context who memory va access ≡ Some place
+    → Same frames memory other → near / 4096 ≡ va / 4096
+    → place_in context who other near access ≡ Some (4096 * (place / 4096) + near % 4096)

@@ -1,0 +1,29 @@
+// What translations are made under.
+
+ghost use Rattle.std.specs.Prelude.{◌≡◌};
+ghost use Rattle.translation_buffer.specs.Places.{context_of};
+
+use arch_defs::{Csrs, GuestRoot, Mode, SupervisorRoot};
+use two_stage_walk::{second_root_of, supervisor_of};
+
+/// What translations are made under: the roots of both stages, and sstatus.MXR, which counts in the second
+/// stage too.
+#[derive(Clone, Copy, Debug, PartialEq, Eq)]
+pub struct Context {
+    pub first: SupervisorRoot,
+    pub second: GuestRoot,
+    pub mxr: bool,
+}
+
+impl Context {
+    /// That of a mode, as the registers are.
+    pub fn of(csrs: &Csrs, mode: Mode) -> Context
+        ensures { result ≡ context_of csrs.now mode }
+    {
+        Context {
+            first: supervisor_of(csrs, mode).atp,
+            second: second_root_of(csrs, mode),
+            mxr: csrs.hs.status.mxr,
+        }
+    }
+}

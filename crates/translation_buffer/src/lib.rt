@@ -1,0 +1,12 @@
+// The translations that the hart keeps between accesses.
+#![tactic(auto)]
+
+mod buffers;
+mod contexts;
+mod laws;
+mod slots;
+
+pub use buffers::Buffer;
+pub use contexts::Context;
+pub use laws::translations_stay;
+pub use slots::{Slot, Slots};

@@ -1,0 +1,43 @@
+-- Where the entries lie that a translation by both stages reads (own).
+use Rattle.std.specs.Prelude.{ℕ, ◌≡◌, ◌%◌, ◌^◌, Bool, List, Option, Some, None}
+use Rattle.arch_defs.specs.declared.modes.Access.{Access}
+use Rattle.arch_defs.specs.declared.modes.Access.TheVariants.{Implicit}
+use Rattle.arch_defs.specs.declared.registers.GuestRoot.{GuestRoot}
+use Rattle.arch_defs.specs.declared.registers.GuestRoot.TheVariants as guest
+use Rattle.arch_defs.specs.declared.registers.SupervisorRoot.{SupervisorRoot}
+use Rattle.arch_defs.specs.declared.registers.SupervisorRoot.TheVariants as supervisor
+use Rattle.arch_defs.specs.declared.walks.Found.{Found}
+use Rattle.arch_defs.specs.declared.walks.Found.TheVariants.{Passes, PageFaults, MissesEntry}
+use Rattle.arch_defs.specs.Frames.{Frames}
+use Rattle.arch_defs.specs.Memory.{SecondStage, reading_of}
+use Rattle.arch_defs.specs.Roots.{guest_shape, supervisor_shape}
+use Rattle.arch_defs.specs.SecondStage.{guest_root_frame, memory_words, second_under}
+use Rattle.arch_defs.specs.Translation.{entry_words_through}
+use Rattle.arch_defs.specs.Walk.{path}
+use Rattle.stage_walk.specs.Reads.{Each, LiesIn}
+
+-- the place of an access, by what the first stage made of its address
+abbrev pub placed_by : SecondStage → Access → Found → Option ℕ
+placed_by second access (Passes address) = second address access
+placed_by second access PageFaults = None
+placed_by second access (MissesEntry place) = None
+
+-- the entries that the second stage reads for an address lie in these frames
+abbrev pub SecondReads : Frames → ℕ → List ℕ → ℕ → Access → GuestRoot → Type 0
+SecondReads frames base bytes address kind guest.Bare = Unit {0}
+SecondReads frames base bytes address kind (guest.Table mode vmid ppn) =
+    Each (LiesIn frames) (path (memory_words base bytes) (guest_root_frame ppn) (guest_shape mode) address kind)
+
+-- so do those read for the first-stage entry at a guest physical address, and this entry itself
+pub record EntryReads (base : ℕ) (bytes : List ℕ) (mxr : Bool) (root : GuestRoot) (frames : Frames) (at : ℕ)
+    : Type 0 where
+  pub second : SecondReads frames base bytes at Implicit root
+  pub own : (place : ℕ) → second_under base bytes mxr root at Implicit ≡ Some place → LiesIn frames place
+
+-- and those read for all entries of the first stage
+abbrev pub FirstReads : Frames → ℕ → List ℕ → Bool → GuestRoot → ℕ → Access → SupervisorRoot → Type 0
+FirstReads frames base bytes mxr root va access supervisor.Bare = Unit {0}
+FirstReads frames base bytes mxr root va access (supervisor.Table mode asid ppn) =
+    Each (EntryReads base bytes mxr root frames)
+    (path (entry_words_through (second_under base bytes mxr root) (reading_of base bytes)) (ppn % 2 ^ 44)
+    (supervisor_shape mode) va access)

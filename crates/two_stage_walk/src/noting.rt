@@ -1,0 +1,160 @@
+// Both stages, where the frames of what they read are noted.
+
+ghost use Rattle.std.specs.Prelude.{◌≡◌, ◌^◌, ◌%◌, ◌<◌, IfSome};
+ghost use Rattle.arch_defs.specs.Frames.{Frames, Within};
+ghost use Rattle.arch_defs.specs.Memory.{reading_of};
+ghost use Rattle.arch_defs.specs.SecondStage.{guest_root_frame, memory_words, second_under, second_walk, walked};
+ghost use Rattle.arch_defs.specs.Translation.{entry_words_through, found_by, found_under, unread};
+ghost use Rattle.arch_defs.specs.Walk.{path, walk};
+ghost use Rattle.frame_set.specs.Holding.{holds};
+ghost use Rattle.stage_walk.specs.Reads.{Each, LiesIn};
+ghost use Rattle.two_stage_walk.specs.Places.{IsPlaceOf, IsWhole, KeepsOffset, LeafIn};
+ghost use Rattle.two_stage_walk.specs.Reads.{EntryReads, FirstReads, SecondReads};
+
+use crate::guest_addresses::{bare, second_end};
+use crate::virtual_addresses::{found_by, leaf_address, unread, word_at};
+use arch_defs::{Access, Found, GuestRoot, Privilege, SecondWalkEnd, Shape, SupervisorRoot, Trap};
+use frame_set::FrameSet;
+use phys_mem::Mem;
+use stage_walk::{NotingFetch, walk_noted};
+
+// Memory as what a walk reads its entries from.
+#[derive_where(Clone, Copy)]
+struct NotedWords<'a, M> {
+    mem: &'a M,
+}
+
+impl<M: Mem> NotingFetch for NotedWords<'_, M> {
+    ghost reading = { λ w. memory_words (M.base w.mem.now) (M.bytes w.mem.now) };
+
+    ghost reads = { λ w frames place. LiesIn frames place };
+
+    ghost is_backed = { λ w. M.is_backed w.mem.now };
+
+    fn pte_noted(&self, place: u64, read: &mut FrameSet) -> Result<u64, Trap> {
+        read.add(place / 4096);
+        match self.mem.get(place, 8) {
+            Some(word) => Ok(word),
+            None => Err(unread(place)),
+        }
+    }
+}
+
+// The place that the walk of a table gives.
+#[inline(never)]
+#[tactic(auto, unfolding(arch_defs::specs::SecondStage::second_walk))]
+fn walked_noted<M: Mem>(
+    mem: &M,
+    mxr: bool,
+    shape: Shape,
+    ppn: u64,
+    address: u64,
+    kind: Access,
+    read: &mut FrameSet,
+) -> Option<u64>
+    requires backed { M.is_backed mem.now }
+    requires whole { IsWhole (M.base mem.now) (M.bytes mem.now) }
+    ensures place { result ≡ walked (M.base mem.now) (M.bytes mem.now) mxr shape ppn address kind }
+    ensures inside { IfSome result (λ place. IsPlaceOf (M.base mem.now) (M.bytes mem.now) address place) }
+    ensures more { Within (holds read.old) (holds read.new) }
+    ensures noted { (frames : Frames) → Within (holds read.new) frames → Each (LiesIn frames)
+        (path (memory_words (M.base mem.now) (M.bytes mem.now)) (guest_root_frame ppn) shape address kind) }
+{
+    let root = ppn / 4 % 0x400_0000_0000 * 4;
+    let end = walk_noted(&NotedWords { mem }, root, shape, address, kind, read);
+    match second_end(mem, mxr, address, kind, end) {
+        SecondWalkEnd::Leaf(leaf) => Some(leaf_address(&leaf, address)),
+        SecondWalkEnd::GuestPageFault | SecondWalkEnd::AccessFault => None,
+    }
+}
+
+/// The place that the second stage by a table gives an access of a kind at a guest physical address. The
+/// frames of the entries that are read are added to a set.
+#[inline]
+pub fn second_noted<M: Mem>(
+    mem: &M,
+    mxr: bool,
+    root: GuestRoot,
+    address: u64,
+    kind: Access,
+    read: &mut FrameSet,
+) -> Option<u64>
+    requires backed { M.is_backed mem.now }
+    requires whole { IsWhole (M.base mem.now) (M.bytes mem.now) }
+    ensures place { result ≡ second_under (M.base mem.now) (M.bytes mem.now) mxr root address kind }
+    ensures inside { IfSome result (λ place. IsPlaceOf (M.base mem.now) (M.bytes mem.now) address place) }
+    ensures more { Within (holds read.old) (holds read.new) }
+    ensures noted { (frames : Frames) → Within (holds read.new) frames
+        → SecondReads frames (M.base mem.now) (M.bytes mem.now) address kind root }
+{
+    match root {
+        GuestRoot::Bare => bare(mem, address, kind),
+        GuestRoot::Table { mode, ppn, .. } => {
+            walked_noted(mem, mxr, mode.shape(), ppn, address, kind, read)
+        }
+    }
+}
+
+// Memory as what a first stage reads its entries from: each at the place that the second stage has for it.
+#[derive_where(Clone, Copy)]
+struct NotedEntries<'a, M> {
+    mem: &'a M,
+    mxr: bool,
+    root: GuestRoot,
+}
+
+impl<M: Mem> NotingFetch for NotedEntries<'_, M> {
+    ghost reading = { λ e. entry_words_through
+        (second_under (M.base e.mem.now) (M.bytes e.mem.now) e.mxr e.root)
+        (reading_of (M.base e.mem.now) (M.bytes e.mem.now)) };
+
+    ghost reads = { λ e. EntryReads (M.base e.mem.now) (M.bytes e.mem.now) e.mxr e.root };
+
+    ghost is_backed = { λ e. M.is_backed e.mem.now × IsWhole (M.base e.mem.now) (M.bytes e.mem.now) };
+
+    fn pte_noted(&self, place: u64, read: &mut FrameSet) -> Result<u64, Trap> {
+        match second_noted(self.mem, self.mxr, self.root, place, Access::Implicit, read) {
+            Some(at) => {
+                read.add(at / 4096);
+                Ok(word_at(self.mem, at))
+            }
+            None => Err(unread(place)),
+        }
+    }
+}
+
+/// What the first stage by a root makes of a virtual address for an access. The frames of all that is read
+/// for its entries are added to a set.
+pub fn first_noted<M: Mem>(
+    mem: &M,
+    mxr: bool,
+    second: GuestRoot,
+    privilege: Privilege,
+    root: SupervisorRoot,
+    va: u64,
+    access: Access,
+    read: &mut FrameSet,
+) -> Found
+    requires backed { M.is_backed mem.now }
+    requires whole { IsWhole (M.base mem.now) (M.bytes mem.now) }
+    ensures value { result ≡ found_under (second_under (M.base mem.now) (M.bytes mem.now) mxr second)
+        (reading_of (M.base mem.now) (M.bytes mem.now)) privilege va access root }
+    ensures offset { KeepsOffset va result }
+    ensures more { Within (holds read.old) (holds read.new) }
+    ensures noted { (frames : Frames) → Within (holds read.new) frames
+        → FirstReads frames (M.base mem.now) (M.bytes mem.now) mxr second va access root }
+{
+    match root {
+        SupervisorRoot::Bare => Found::Passes(va),
+        SupervisorRoot::Table { mode, ppn, .. } => {
+            let entries = NotedEntries {
+                mem,
+                mxr,
+                root: second,
+            };
+            let ppn = ppn % 0x1000_0000_0000;
+            let end = walk_noted(&entries, ppn, mode.shape(), va, access, read);
+            found_by(privilege, access, va, end)
+        }
+    }
+}
