@@ -1,6 +1,6 @@
 -- The place of an access is the answer of the walks of now, and lies in memory.
 use Rattle.std.proofs.Common.{cond, ◌≡◌, ℕ, ◌+◌, ◌*◌, ◌/◌, ◌%◌, ◌^◌, ◌<◌, ◌≤◌, ◌∙◌, Bool, true, false, List, Option, Some, None, Ok, Err, length, refl, ap, sym, subst, arith}
-use Rattle.std.specs.Prelude.{nat_le, nat_lt, ◌&&◌, not}
+use Rattle.std.specs.Prelude.{IfSome, nat_le, nat_lt, ◌&&◌, not}
 use Rattle.std.proofs.lemmas.Bool.{and_parts, leb-true, ltb-true}
 use Rattle.arch_defs.specs.declared.modes.Access.{Access}
 use Rattle.arch_defs.specs.declared.modes.Mode.{Mode}
@@ -44,6 +44,12 @@ pub answered : (csrs : Csrs) (mode : Mode) (memory : List ℕ) (va place : ℕ) 
 unfolding first_stage
 answered csrs mode memory va place access is =
     answer_at csrs mode memory va place access (found_in (context_of csrs mode) (privilege_of csrs mode) memory va access) is
+
+pub answered_if : (csrs : Csrs) (mode : Mode) (memory : List ℕ) (va : ℕ) (access : Access) (found : Option ℕ)
+    → found ≡ place_in (context_of csrs mode) (privilege_of csrs mode) memory va access
+    → IfSome found (λ place. Ok place ≡ answer_of csrs 0 memory (located_by_walk csrs mode 0 memory va access))
+answered_if csrs mode memory va access (Some place) is = answered csrs mode memory va place access (sym is)
+answered_if csrs mode memory va access None is = tt
 
 -- inside memory
 frame_inside : (place size : ℕ) → place / 4096 * 4096 + 4096 ≤ size → place < size

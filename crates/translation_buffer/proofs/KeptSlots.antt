@@ -138,3 +138,17 @@ served buffer csrs mode memory va access slot serves stands small tag =
     subst (λ (c : Context). place_in c (privilege_of csrs mode) memory va access ≡ Some (4096 * slot.frame + va % 4096)) serves.context
     (stands.place memory (privilege_of csrs mode) va (same_none (holds buffer.read) memory) small
     (tag_fits (who_bits (privilege_of csrs mode)) (va / 4096) slot.tag (tag_small (privilege_of csrs mode) va small) tagged))
+
+pub kept_tag : (buffer : Buffer) (csrs : Csrs) (mode : Mode) (memory : List ℕ) (va : ℕ) (who : Privilege) → Serves buffer csrs mode memory → who ≡ privilege_of csrs mode → va < 2 ^ 64
+    → (buffer.who + va / 4096) % 2 ^ 64 ≡ tag_of who va
+kept_tag buffer csrs mode memory va who serves is small =
+    ap (λ n. (n + va / 4096) % 2 ^ 64) (serves.who ∙ ap who_bits (sym is)) ∙ fits (tag_of who va) (tag_small who va small)
+  where
+    fits : (n : ℕ) → n < 2 ^ 56 → n % 2 ^ 64 ≡ n
+    fits n less = omega (arith, less)
+
+-- the slot of an address
+pub slot_stands : (frames : Frames) (memory : List ℕ) (context : Context) (slots : Slots) (kind access : Access) (at : ℕ) (d : Slot) → access ≡ kind
+    → at < length (slots_of slots kind) → AllStand frames memory context slots → Stands frames memory context access (get_or (slots_of slots kind) at d)
+slot_stands frames memory context slots kind access at d same inside all =
+    subst (λ k. Stands frames memory context k (get_or (slots_of slots kind) at d)) (sym same) (all kind at d inside)

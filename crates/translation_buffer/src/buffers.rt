@@ -201,6 +201,7 @@ impl Buffer {
         ensures inside { IfSome result (λ place. IsPlaceOf 0 memory.now va place) }
         ensures serves { Serves self.new csrs.now mode memory.now }
     {
+        memory_is_whole(memory);
         match self.find(va, access) {
             Some(place) => Some(place),
             None => self.walk(memory, csrs, mode, va, access),

@@ -1,0 +1,13 @@
+use Rattle.std.proofs.Common.{rules, ◌≡◌, ◌+◌, ◌/◌, ◌%◌, ◌^◌, ◌<◌, Some, ap, sym, ◌∙◌}
+use Rattle.frame_set.specs.Holding.{holds}
+use Rattle.translation_buffer.proofs.KeptSlots.{served}
+use Rattle.translation_buffer.proofs.buffers.Buffer.find.Goals as goal
+
+pub returns-then-slot-self : goal.returns-then-slot-self
+returns-then-slot-self c =
+    let small : c.args.va < 2 ^ 64 = search rules in
+    let tag : c.slot-slot.result.tag ≡ (c.args.self.now.who + c.args.va / 4096) % 2 ^ 64 = search rules in
+    λ csrs mode memory serves.
+        served c.args.self.now csrs mode memory c.args.va c.args.access c.slot-slot.result serves
+        (c.slot-slot.ensures (holds c.args.self.now.read) memory c.args.self.now.context serves.slots) small tag
+        ∙ ap Some (sym c.place.ensures)
