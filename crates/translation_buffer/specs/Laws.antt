@@ -1,8 +1,17 @@
 -- A place stays the place, and is that of each address of the page.
-use Rattle.std.specs.Prelude.{ℕ, ◌≡◌, ◌+◌, ◌*◌, ◌/◌, ◌%◌, List, length, Some}
+use Rattle.std.specs.Prelude.{ℕ, ◌≡◌, ◌+◌, ◌*◌, ◌/◌, ◌%◌, ◌≤◌, false, List, length, Some}
 use Rattle.arch_defs.specs.declared.modes.Access.{Access}
 use Rattle.arch_defs.specs.declared.walks.Privilege.{Privilege}
+use Rattle.arch_defs.specs.declared.modes.Mode.{Mode}
+use Rattle.arch_defs.specs.declared.registers.Csrs.{Csrs}
+use Rattle.arch_defs.specs.declared.widths.Width.{Width}
 use Rattle.arch_defs.specs.Frames.{Frames, Same}
+use Rattle.arch_defs.specs.Memory.{with_stored}
+use Rattle.arch_defs.specs.Widths.{bytes_in}
+use Rattle.machine_defs.specs.Core.{storing}
+use Rattle.frame_set.specs.Holding.{holds}
+use Rattle.translation_buffer.specs.declared.buffers.Buffer.{Buffer}
+use Rattle.translation_buffer.specs.Serving.{Serves}
 use Rattle.translation_buffer.specs.declared.contexts.Context.{Context}
 use Rattle.translation_buffer.specs.Places.{Reads, place_in}
 
@@ -16,3 +25,11 @@ TranslationsStay =
     → Reads frames context who memory va access → place_in context who memory va access ≡ Some place
     → Same frames memory other → near / 4096 ≡ va / 4096
     → place_in context who other near access ≡ Some (4096 * (place / 4096) + near % 4096)
+
+-- a buffer serves on after the store of an instruction to a frame that it does not hold
+abbrev pub ServesStored : Type 0
+ServesStored =
+    (buffer : Buffer) (csrs : Csrs) (mode : Mode) (memory : List ℕ) (width : Width) (place value : ℕ)
+    → Serves buffer csrs mode memory → holds buffer.read (place / 4096) ≡ false → place % bytes_in width ≡ 0
+    → place + bytes_in width ≤ 0 + length memory
+    → Serves buffer csrs mode (with_stored 0 (storing place width value) memory)

@@ -8,5 +8,5 @@ mod slots;
 
 pub use buffers::Buffer;
 pub use contexts::Context;
-pub use laws::translations_stay;
+pub use laws::{buffers_serve_on, translations_stay};
 pub use slots::{Slot, Slots};
