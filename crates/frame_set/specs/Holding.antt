@@ -1,5 +1,5 @@
 -- The frames that a set holds (own).
-use Rattle.std.specs.Prelude.{ℕ, ◌/◌, ◌%◌, ◌^◌, Bool, ◌&&◌, ◌||◌, ◌==◌, List, nat_lt, slice_index, if◌then◌else◌}
+use Rattle.std.specs.Prelude.{ℕ, ◌/◌, ◌%◌, Bool, ◌&&◌, ◌||◌, ◌==◌, List, nat_lt, slice_index, if◌then◌else◌}
 use Rattle.arch_defs.specs.Frames.{Frames}
 use Rattle.arch_defs.specs.Bits.{bit}
 use Rattle.frame_set.specs.declared.sets.FrameSet.{FrameSet}

@@ -50,7 +50,7 @@ unfolding path_from
 goes_below reads reading shape va access noted more root zero below table next one says within here goes frames fewer from = absurd (omega arith)
 goes_below reads reading shape va access noted more root (suc level) below table next one says within here goes frames fewer from =
     let same : below ≡ level = omega (arith, one) in
-    goes frames (λ frame named. fewer frame (within frame named)) 
+    goes frames (λ frame named. fewer frame (within frame named))
     (step_below (reads frames) reading shape va access level table next
     (subst (λ n. next_of access (met_in reading shape va n table) ≡ Below next) same says)
     (subst (λ n. reads frames (met_in reading shape va n table).place) same (here frames fewer))
@@ -66,7 +66,7 @@ unfolding path_from
 goes_end reads reading shape va access noted more root zero below table end one says within here goes frames fewer = absurd (omega arith)
 goes_end reads reading shape va access noted more root (suc level) below table end one says within here goes frames fewer =
     let same : below ≡ level = omega (arith, one) in
-    goes frames (λ frame named. fewer frame (within frame named)) 
+    goes frames (λ frame named. fewer frame (within frame named))
     (step_end (reads frames) reading shape va access level table end
     (subst (λ n. next_of access (met_in reading shape va n table) ≡ Ends end) same says)
     (subst (λ n. reads frames (met_in reading shape va n table).place) same (here frames fewer)))
@@ -78,4 +78,3 @@ pub goes_out : (reads : Frames → ℕ → Type 0) (reading : EntryReading) (sha
 unfolding path_from
 goes_out reads reading shape va access noted root zero table none goes frames fewer = goes frames fewer tt
 goes_out reads reading shape va access noted root (suc level) table none goes frames fewer = absurd (omega arith)
-

@@ -39,9 +39,10 @@ same_from : (holds : ℕ → Type 0) (reading other : EntryReading) → ((at : �
     → Each holds (path_from reading shape va access level table) → SameOn other (path_from reading shape va access level table)
 unfolding path_from
 same_from holds reading other agree shape va access zero table each = tt
-same_from holds reading other agree shape va access (suc level) table (here, after) =
-    (agree (place_of shape level table va) (eighth table (index shape level va)) here,
-    by (same_from holds reading other agree shape va access level) (next_of access (met_in reading shape va level table)) after)
+same_from holds reading other agree shape va access (suc level) table (here, after) = (
+  agree (place_of shape level table va) (eighth table (index shape level va)) here,
+  by (same_from holds reading other agree shape va access level) (next_of access (met_in reading shape va level table)) after,
+)
   where
     by : ((below : ℕ) → Each holds (path_from reading shape va access level below) → SameOn other (path_from reading shape va access level below)) → (next : Next)
         → Each holds (later (path_from reading shape va access level) next) → SameOn other (later (path_from reading shape va access level) next)

@@ -2,7 +2,6 @@
 use Rattle.std.proofs.Common.{◌≡◌, ℕ, ◌+◌, ◌-◌, ◌*◌, ◌/◌, ◌%◌, ◌^◌, ◌<◌, ◌≤◌, ◌∙◌, Bool, true, false, List, [], Some, length, get_or, set, replicate, refl, ap, sym, subst, arith}
 use Rattle.std.specs.List.{All}
 use Rattle.std.proofs.lemmas.List.{get_or-replicate, length-replicate}
-
 use Rattle.std.proofs.lemmas.List.Elements.{All-set}
 use Rattle.arch_defs.specs.declared.modes.Access.{Access}
 use Rattle.arch_defs.specs.declared.modes.Access.TheVariants.{Fetch, Load, Store, ExecLoad, Implicit}
@@ -52,7 +51,7 @@ who_same who other user sum mxr = rw (user, sum, mxr) refl
 pub tag_tells : (who other : Privilege) (va near : ℕ) → va < 2 ^ 64 → near < 2 ^ 64 → tag_of who va ≡ tag_of other near → (who ≡ other) × (va / 4096 ≡ near / 4096)
 tag_tells who other va near small near_small same =
     let parts = bits_same (bit_of who.user) (bit_of who.sum) (bit_of who.mxr) (va / 4096) (bit_of other.user) (bit_of other.sum) (bit_of other.mxr) (near / 4096)
-      (bit_small who.user) (bit_small who.sum) (bit_small who.mxr) (page_small va small) (bit_small other.user) (bit_small other.sum) (bit_small other.mxr) (page_small near near_small) same in
+    (bit_small who.user) (bit_small who.sum) (bit_small who.mxr) (page_small va small) (bit_small other.user) (bit_small other.sum) (bit_small other.mxr) (page_small near near_small) same in
     (who_same who other (bit_same who.user other.user parts.0) (bit_same who.sum other.sum parts.1) (bit_same who.mxr other.mxr parts.2), parts.3)
 
 -- no translation

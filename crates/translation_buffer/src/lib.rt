@@ -5,6 +5,8 @@ mod buffers;
 mod contexts;
 mod laws;
 mod slots;
+#[cfg(test)]
+mod tests;
 
 pub use buffers::Buffer;
 pub use contexts::Context;

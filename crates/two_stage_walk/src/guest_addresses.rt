@@ -44,7 +44,13 @@ fn has_frame_of<M: Mem>(mem: &M, place: u64) -> bool
 }
 
 /// What the end of a walk is to an access.
-pub fn second_end<M: Mem>(mem: &M, mxr: bool, address: u64, kind: Access, end: WalkEnd) -> SecondWalkEnd
+pub fn second_end<M: Mem>(
+    mem: &M,
+    mxr: bool,
+    address: u64,
+    kind: Access,
+    end: WalkEnd,
+) -> SecondWalkEnd
     requires backed { M.is_backed mem.now }
     requires whole { IsWhole (M.base mem.now) (M.bytes mem.now) }
     requires fits { EndFits most_levels end }

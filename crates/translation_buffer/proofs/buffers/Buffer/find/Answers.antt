@@ -8,6 +8,6 @@ returns-then-slot-self c =
     let small : c.args.va < 2 ^ 64 = search rules in
     let tag : c.slot-slot.result.tag ≡ (c.args.self.now.who + c.args.va / 4096) % 2 ^ 64 = search rules in
     λ csrs mode memory serves.
-        served c.args.self.now csrs mode memory c.args.va c.args.access c.slot-slot.result serves
-        (c.slot-slot.ensures (holds c.args.self.now.read) memory c.args.self.now.context serves.slots) small tag
-        ∙ ap Some (sym c.place.ensures)
+    served c.args.self.now csrs mode memory c.args.va c.args.access c.slot-slot.result serves
+    (c.slot-slot.ensures (holds c.args.self.now.read) memory c.args.self.now.context serves.slots) small tag
+    ∙ ap Some (sym c.place.ensures)
