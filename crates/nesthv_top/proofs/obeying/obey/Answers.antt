@@ -1,6 +1,8 @@
-use Rattle.std.proofs.Common.{sym}
+use Rattle.std.proofs.Common.{◌≡◌, Some, subst, sym}
 use Rattle.command_line.specs.Commands.{OnFiles, Work, command_of}
 use Rattle.command_line.specs.Seen.{file_command_seen}
+use Rattle.nesthv_top.specs.declared.ends.Ended.TheVariants.{Done, NoMemory, WriteFault}
+use Rattle.nesthv_top.specs.Endings.{SaysOfAccount}
 use Rattle.nesthv_top.proofs.Accounting.{counted_work, in_part}
 use Rattle.nesthv_top.proofs.Telling.{is_for, known}
 use Rattle.nesthv_top.proofs.obeying.obey.Goals as goal
@@ -14,3 +16,12 @@ returns-in-Ok-Some-OnFiles-clause-cause g c =
       read = c.answer.ensures.read;
       write = c.answer.ensures.write;
     }
+
+pub returns-in-Ok-clause-account : goal.returns-in-Ok-clause-account
+returns-in-Ok-clause-account g c = ?
+
+pub returns-in-Err-WriteFault-clause-account : goal.returns-in-Err-WriteFault-clause-account
+returns-in-Err-WriteFault-clause-account g c = ?
+
+pub returns-in-Err-NoMemory-clause-cause : goal.returns-in-Err-NoMemory-clause-cause
+returns-in-Err-NoMemory-clause-cause g c = ?
