@@ -2,6 +2,7 @@
 # tools/program names. Where there is none, `rt run` proves all crates and builds it, which takes long; where a proof
 # fails, the script ends with that status.
 program=$(tools/program || true)
+console=0
 folder=$(mktemp -d)
 trap 'rm -rf "$folder"' EXIT
 
@@ -19,7 +20,7 @@ put() {
 }
 
 # configure IMAGE GUESTS QUANTUM SPACES ENTRIES: so many guests with this image, for all of the steps in all, in turns
-# of so many; at most 2^20 turns. `made` is how many steps they make
+# of so many; at most 2^20 turns. Each has a console of `console` bytes. `made` is how many steps they make
 configure() {
     local guest rounds=$((steps / ($2 * $3)))
     if ((rounds * $2 > 1048576)); then
@@ -35,20 +36,25 @@ image = "$folder/$1.bin"
 blocks = 1
 spaces = $4
 entries = $5
-console = 0
+console = $console
 TOML
     done
 }
 
-# timed NAME COMMAND..: the seconds that the command takes, its steps a second, and what it writes on the first line;
-# `taken` is how many nanoseconds it took
-timed() {
-    local name=$1 from to
-    shift
+# clocked COMMAND..: `taken` is how many nanoseconds the command takes. What it writes is in the file `output`
+clocked() {
+    local from to
     from=$(date +%s%N)
     "$@" >"$folder/output"
     to=$(date +%s%N)
     taken=$((to - from))
+}
+
+# timed NAME COMMAND..: the seconds that the command takes, its steps a second, and what it writes on the first line
+timed() {
+    local name=$1
+    shift
+    clocked "$@"
     awk -v name="$name" -v steps="$made" -v ns="$taken" -v said="$(head -n 1 "$folder/output")" \
         'BEGIN { printf "%s: %.3f s, %.0f steps/s (%s)\n", name, ns / 1e9, steps * 1e9 / ns, said }'
 }
