@@ -22,55 +22,124 @@ fn refusal(csrs: Csrs, mode: Mode, number: u16, writes: bool) -> Option<CsrEnd> 
     }
 }
 
-/// How many of all accesses are made, are illegal, and are virtual instructions.
-fn counts(csrs: Csrs, mode: Mode, writes: bool) -> (u16, u16, u16) {
-    let (mut made, mut illegal, mut virtual_ones): (u16, u16, u16) = (0, 0, 0);
-    for number in 0..4096u16 {
-        match refusal(csrs, mode, number, writes) {
-            None => made = made.saturating_add(1),
-            Some(CsrEnd::Illegal) => illegal = illegal.saturating_add(1),
-            Some(CsrEnd::Virtual) => virtual_ones = virtual_ones.saturating_add(1),
-        }
-    }
-    (made, illegal, virtual_ones)
+/// A row of the table of registers, as to who may access it.
+#[derive(Clone, Copy)]
+enum Row {
+    /// No register that is there.
+    Unlisted,
+    /// A supervisor register, which in VS is the copy of VS, or itself where there is none.
+    Supervisor,
+    Satp,
+    /// A register of VS by its own number, or one of the hypervisor.
+    Hypervisor,
+    /// hgeip, which is read-only.
+    Hgeip,
+    Time,
 }
 
-/// The table has 11 supervisor, 9 virtual supervisor and 13 hypervisor registers from 0x100, 0x200 and 0x600
-/// on, and the read-only hgeip and time: 35, so 4,061 numbers name nothing and are illegal everywhere.
-///
-/// With time shown and satp allowed: HS reads 35, and writes 33, as hgeip and time are illegal then. U reads
-/// time. VS reads 12, which are 9 copies, scounteren, senvcfg and time, and 9 + 13 + 1 are virtual; it writes
-/// 11, 9 + 13 are virtual, and hgeip and time are illegal. VU reads time, and 11 + 9 + 13 + 1 are virtual; of
-/// its writes 11 + 9 + 13.
-///
-/// With time kept back and VTVM = 1, U reads nothing, and VS's satp and time, and VU's time, are virtual.
+/// The registers of the table; every other number is unlisted.
+const ROWS: [(u16, Row); 35] = [
+    (0x100, Row::Supervisor), // sstatus
+    (0x104, Row::Supervisor), // sie
+    (0x105, Row::Supervisor), // stvec
+    (0x106, Row::Supervisor), // scounteren
+    (0x10A, Row::Supervisor), // senvcfg
+    (0x140, Row::Supervisor), // sscratch
+    (0x141, Row::Supervisor), // sepc
+    (0x142, Row::Supervisor), // scause
+    (0x143, Row::Supervisor), // stval
+    (0x144, Row::Supervisor), // sip
+    (0x180, Row::Satp),
+    (0x200, Row::Hypervisor), // vsstatus
+    (0x204, Row::Hypervisor), // vsie
+    (0x205, Row::Hypervisor), // vstvec
+    (0x240, Row::Hypervisor), // vsscratch
+    (0x241, Row::Hypervisor), // vsepc
+    (0x242, Row::Hypervisor), // vscause
+    (0x243, Row::Hypervisor), // vstval
+    (0x244, Row::Hypervisor), // vsip
+    (0x280, Row::Hypervisor), // vsatp
+    (0x600, Row::Hypervisor), // hstatus
+    (0x602, Row::Hypervisor), // hedeleg
+    (0x603, Row::Hypervisor), // hideleg
+    (0x604, Row::Hypervisor), // hie
+    (0x605, Row::Hypervisor), // htimedelta
+    (0x606, Row::Hypervisor), // hcounteren
+    (0x607, Row::Hypervisor), // hgeie
+    (0x60A, Row::Hypervisor), // henvcfg
+    (0x643, Row::Hypervisor), // htval
+    (0x644, Row::Hypervisor), // hip
+    (0x645, Row::Hypervisor), // hvip
+    (0x64A, Row::Hypervisor), // htinst
+    (0x680, Row::Hypervisor), // hgatp
+    (0xC01, Row::Time),
+    (0xE12, Row::Hgeip),
+];
+
+fn row_of(number: u16) -> Row {
+    for (listed, row) in ROWS {
+        if listed == number {
+            return row;
+        }
+    }
+    Row::Unlisted
+}
+
+/// Whether a row can be read, or written, in HS.
+fn is_made_in_hs(row: Row, writes: bool) -> bool {
+    match row {
+        Row::Unlisted => false,
+        Row::Hgeip | Row::Time => !writes,
+        Row::Supervisor | Row::Satp | Row::Hypervisor => true,
+    }
+}
+
+/// Whether a row can be read in this mode, and written where HS can write it; what VTVM and both TM bits say
+/// of satp and of time.
+fn is_made(row: Row, mode: Mode, vtvm: bool, tm: bool) -> bool {
+    match (mode, row) {
+        (Mode::HS, _) => true,
+        (_, Row::Time) => tm,
+        (Mode::VS, Row::Supervisor) => true,
+        (Mode::VS, Row::Satp) => !vtvm,
+        _ => false,
+    }
+}
+
+/// Why an access to a row is refused, if it is. What HS cannot do is illegal in every mode, and U has time
+/// alone; what HS can do and VS or VU cannot is a virtual instruction.
+fn wanted(row: Row, mode: Mode, writes: bool, vtvm: bool, tm: bool) -> Option<CsrEnd> {
+    if !is_made_in_hs(row, writes) {
+        Some(CsrEnd::Illegal)
+    } else if is_made(row, mode, vtvm, tm) {
+        None
+    } else if mode == Mode::U {
+        Some(CsrEnd::Illegal)
+    } else {
+        Some(CsrEnd::Virtual)
+    }
+}
+
+/// Whether a number is refused as wanted in every mode, read and written.
+fn is_refused_as_wanted(number: u16, vtvm: bool, tm: bool) -> bool {
+    let csrs = registers(vtvm, tm);
+    let row = row_of(number);
+    for mode in [Mode::HS, Mode::U, Mode::VS, Mode::VU] {
+        for writes in [false, true] {
+            if refusal(csrs, mode, number, writes) != wanted(row, mode, writes, vtvm, tm) {
+                return false;
+            }
+        }
+    }
+    true
+}
+
 #[test]
 fn every_number_in_every_mode(rt: HostRuntime) {
-    let open = registers(false, true);
-    let kept = registers(true, false);
-    for (csrs, mode, writes, want) in [
-        (open, Mode::HS, false, (35, 4061, 0)),
-        (open, Mode::U, false, (1, 4095, 0)),
-        (open, Mode::VS, false, (12, 4061, 23)),
-        (open, Mode::VU, false, (1, 4061, 34)),
-        (open, Mode::HS, true, (33, 4063, 0)),
-        (open, Mode::U, true, (0, 4096, 0)),
-        (open, Mode::VS, true, (11, 4063, 22)),
-        (open, Mode::VU, true, (0, 4063, 33)),
-        (kept, Mode::HS, false, (35, 4061, 0)),
-        (kept, Mode::U, false, (0, 4096, 0)),
-        (kept, Mode::VS, false, (10, 4061, 25)),
-        (kept, Mode::VU, false, (0, 4061, 35)),
-        (kept, Mode::HS, true, (33, 4063, 0)),
-        (kept, Mode::U, true, (0, 4096, 0)),
-        (kept, Mode::VS, true, (10, 4063, 23)),
-        (kept, Mode::VU, true, (0, 4063, 33)),
-    ] {
-        assert_eq!(rt;
-            counts(csrs, mode, writes),
-            want,
-            "{mode:?}, writes {writes}"
-        );
+    for number in 0..4096u16 {
+        for (vtvm, tm) in [(false, true), (true, false)] {
+            assert!(rt; is_refused_as_wanted(number, vtvm, tm), "{number:x}");
+        }
     }
 }
 
