@@ -6,7 +6,8 @@ use Rattle.std.specs.List.{flat_map, range_with_len}
 use Rattle.std.proofs.lemmas.List.FromFn.{length-map-range_with_len, map-range_with_len_more}
 use Rattle.std.proofs.lemmas.List.{flat_map_more}
 use Rattle.work_images.specs.declared.commands.Command.{Command}
-use Rattle.work_images.specs.Numbers.{following, number}
+use Rattle.work_images.specs.Numbers.{draw, following, number}
+use Rattle.work_images.specs.Noise.{noise}
 use Rattle.work_images.specs.Commands.{command_bytes, command_from, commands_from, list_bytes}
 use Rattle.byteorder.specs.Endian.{little_bytes}
 
@@ -52,3 +53,21 @@ unfolding commands_from
 length_list x count =
     length-append (flat_map command_bytes (commands_from x count)) (little_bytes 8 0)
     ∙ omega (arith, length_commands (commands_from x count), length-map-range_with_len (λ i. command_from (number x (4 * i))) 0 count)
+
+pub one_number_more : (x i y z : ℕ) → y ≡ number x i → z ≡ following y → z ≡ number x (i + 1)
+unfolding number
+one_number_more x i y z e f = let m : i + 1 ≡ suc i = omega arith in rw m (f ∙ ap following e)
+
+pub no_noise : (seed : ℕ) → [] ≡ noise seed 0
+unfolding noise
+no_noise seed = refl
+
+-- one more byte of noise
+pub one_byte_more : (seed i byte : ℕ) (before after : List ℕ) → byte ≡ draw seed i 256 → before ≡ noise seed i
+    → after ≡ before ++ byte ∷ [] → after ≡ noise seed (i + 1)
+unfolding noise
+one_byte_more seed i byte before after e f g =
+    let each : ℕ → ℕ = λ k. draw seed k 256 in
+    g ∙ ap (λ b. b ++ byte ∷ []) f
+    ∙ ap (λ b. map each (range_with_len 0 i) ++ b ∷ []) e
+    ∙ sym (map-range_with_len_more each 0 i i (omega arith))

@@ -5,3 +5,4 @@ pub mod Lines
 pub mod Program
 pub mod Guests
 pub mod Laws
+pub mod Noise

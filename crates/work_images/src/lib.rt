@@ -6,11 +6,15 @@ mod generated;
 mod instructions;
 mod laws;
 mod lines;
+mod noises;
 mod numbers;
 mod program;
 
 pub use generated::guests;
 pub use laws::image_length;
+pub use noises::noise;
 
 #[cfg(test)]
 mod tests;
+#[cfg(test)]
+mod tests_noise;
