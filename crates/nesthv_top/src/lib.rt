@@ -22,9 +22,13 @@ mod tests_guest_accesses;
 #[cfg(test)]
 mod tests_guests;
 #[cfg(test)]
+mod tests_hostile;
+#[cfg(test)]
 mod tests_kernel;
 #[cfg(test)]
 mod tests_nested;
+#[cfg(test)]
+mod tests_outside;
 #[cfg(test)]
 mod tests_rooms;
 #[cfg(test)]
