@@ -1,0 +1,542 @@
+#!/usr/bin/env python3
+"""Makes hostile guest hypervisors from seeds, and runs each in several ways whose sections must be byte for byte the
+same: alone in one turn, alone in turns of random lengths, and beside another guest in random turns, with two choices
+of the other guest's spaces and entries. It prints each difference and what the guests reached, and ends with status 1
+where a section differs or a run ends with another status than 0.
+
+An image is a hypervisor and one or two nested guests. The hypervisor goes through a list of deeds: it stores entries
+in its first-stage and second-stage tables (loops, roots outside RAM, wrong bits, superpages of every level), puts
+random words at mapped places, writes registers, delegates, fences in every form, sets timers, waits, makes HLV, HLVX
+and HSV, and enters VS, VU and U. Its trap handler puts on the console what trapped, from where, and a hash of the
+registers, and goes on with the next deed.
+"""
+# Usage: bench/hypervisors.py [--first SEED] [--count N] [--steps N] [--jobs N] [--program PATH] [--keep FOLDER]
+#   --first SEED, --count N  the images of so many seeds from this one on; 0 and 10,000 if left out
+#   --steps N                the steps of each guest in each run; 12,000 if left out
+#   --jobs N                 so many at once; as many as there are processors if left out
+#   --program PATH           this program in place of the proved one (tools/program)
+#   --keep FOLDER            writes the files of each run that differs there
+# 10,000 images take some minutes on four processors.
+import argparse
+import collections
+import os
+import random
+import shutil
+import struct
+import subprocess
+import sys
+import tempfile
+from concurrent.futures import ProcessPoolExecutor
+
+TOP = os.path.dirname(os.path.dirname(os.path.abspath(__file__)))
+RAM = 0x80000000
+BLOCK = 2097152
+
+# Where things begin in RAM: the trap handler, the deeds, their constants, second-stage tables, first-stage tables,
+# nested code, data. MIDDLES are tables of level 1, LASTS of level 0.
+HANDLER = 0x200
+DEEDS = 0x400
+CONSTANTS, ROOTS, MIDDLES, LASTS = 0x8000, 0x10000, 0x18000, 0x1C000
+FIRSTS, CODE, DATA, END = 0x20000, 0x28000, 0x30000, 0x38000
+
+SSTATUS, SIE, STVEC, SCOUNTEREN, SSCRATCH, SEPC, SCAUSE, STVAL, SIP, SATP = (
+    0x100, 0x104, 0x105, 0x106, 0x140, 0x141, 0x142, 0x143, 0x144, 0x180)
+VSSTATUS, VSIE, VSTVEC, VSEPC, VSCAUSE, VSTVAL, VSIP, VSATP = 0x200, 0x204, 0x205, 0x241, 0x242, 0x243, 0x244, 0x280
+HSTATUS, HEDELEG, HIDELEG, HIE, HTIMEDELTA, HCOUNTEREN, HTVAL, HIP, HVIP, HTINST, HGATP, TIME = (
+    0x600, 0x602, 0x603, 0x604, 0x605, 0x606, 0x643, 0x644, 0x645, 0x64A, 0x680, 0xC01)
+REGISTERS = [SSTATUS, SIE, STVEC, SCOUNTEREN, 0x10A, SSCRATCH, SEPC, SCAUSE, STVAL, SIP, SATP, VSSTATUS, VSIE, VSTVEC,
+             0x240, VSEPC, VSCAUSE, VSTVAL, VSIP, VSATP, HSTATUS, HEDELEG, HIDELEG, HIE, HTIMEDELTA, HCOUNTEREN, 0x607,
+             0x60A, HTVAL, HIP, HVIP, HTINST, HGATP, TIME, 0xC00, 0xE12, 0x300, 0xF14]
+
+ECALL, EBREAK, SRET, WFI, NOP = 0x73, 0x100073, 0x10200073, 0x10500073, 0x13
+
+
+def i_type(opcode, funct3, rd, rs1, immediate):
+    return (immediate & 0xFFF) << 20 | rs1 << 15 | funct3 << 12 | rd << 7 | opcode
+
+
+def r_type(opcode, funct3, funct7, rd, rs1, rs2):
+    return funct7 << 25 | rs2 << 20 | rs1 << 15 | funct3 << 12 | rd << 7 | opcode
+
+
+def addi(rd, rs1, immediate):
+    return i_type(0x13, 0, rd, rs1, immediate)
+
+
+def load(funct3, rd, rs1, offset):
+    return i_type(0x03, funct3, rd, rs1, offset)
+
+
+def store(funct3, rs2, rs1, offset):
+    return (offset >> 5 & 0x7F) << 25 | rs2 << 20 | rs1 << 15 | funct3 << 12 | (offset & 31) << 7 | 0x23
+
+
+def branch(funct3, rs1, rs2, offset):
+    return ((offset >> 12 & 1) << 31 | (offset >> 5 & 63) << 25 | rs2 << 20 | rs1 << 15 | funct3 << 12
+            | (offset >> 1 & 15) << 8 | (offset >> 11 & 1) << 7 | 0x63)
+
+
+def jal(rd, offset):
+    return ((offset >> 20 & 1) << 31 | (offset >> 1 & 0x3FF) << 21 | (offset >> 11 & 1) << 20
+            | (offset >> 12 & 0xFF) << 12 | rd << 7 | 0x6F)
+
+
+def amo(funct5, width, rd, rs1, rs2):
+    return r_type(0x2F, width, funct5 << 2, rd, rs1, rs2)
+
+
+def csr(funct3, rd, number, rs1):
+    return i_type(0x73, funct3, rd, rs1, number)
+
+
+def read_csr(rd, number):
+    return csr(2, rd, number, 0)
+
+
+def write_csr(number, rs1):
+    return csr(1, 0, number, rs1)
+
+
+def fence(funct7, rs1, rs2):
+    return r_type(0x73, 0, funct7, 0, rs1, rs2)
+
+
+SFENCE_VMA, HFENCE_VVMA, HFENCE_GVMA = 0x09, 0x11, 0x31
+# HLV and HLVX: funct7 and rs2; HSV: funct7
+HLVS = [(0x30, 0), (0x30, 1), (0x32, 0), (0x32, 1), (0x32, 3), (0x34, 0), (0x34, 1), (0x34, 3), (0x36, 0)]
+HSVS = [0x31, 0x33, 0x35, 0x37]
+AMOS = [0, 1, 4, 8, 12, 16, 20, 24, 28]
+
+
+class Maker:
+    """One image and what its configuration says of it."""
+
+    def __init__(self, seed):
+        self.random = random.Random(seed)
+        self.blocks = self.random.choice([1, 1, 1, 2])
+        self.spaces = self.random.choice([1, 1, 2, 3, 8])
+        self.entries = self.random.choice([16, 16, 17, 24, 64, 256])
+        self.inputs = sorted((self.random.choice([self.random.randrange(20), self.random.randrange(4000)]),
+                              self.random.randrange(256)) for _ in range(self.random.randrange(5)))
+        self.wild = self.random.choice([0.01, 0.05, 0.25])
+        # Whether hgatp and fences are left alone for the most part, so that spaces fill up.
+        self.is_calm = self.random.random() < 0.5
+        self.bytes = bytearray(END)
+        self.words = []
+        self.constants = []
+        self.make()
+
+    def put(self, offset, words):
+        for i, word in enumerate(words):
+            struct.pack_into("<I", self.bytes, offset + 4 * i, word & 0xFFFFFFFF)
+
+    def double(self, offset, value):
+        struct.pack_into("<Q", self.bytes, offset, value & (1 << 64) - 1)
+
+    def is_wild(self):
+        return self.random.random() < self.wild
+
+    # the tables
+
+    def page_number(self):
+        """The number of a page that an entry may name: mostly one in RAM, tables among them."""
+        r = self.random
+        ram = RAM >> 12
+        pick = r.random()
+        if pick < 0.55:
+            return ram + r.randrange(CODE >> 12, END >> 12)
+        if pick < 0.80:
+            return ram + r.randrange(ROOTS >> 12, CODE >> 12)
+        if pick < 0.88:
+            return ram + r.randrange(0, CONSTANTS >> 12)
+        if pick < 0.93:
+            return ram + r.randrange(self.blocks * 512)
+        if pick < 0.96:
+            return ram + self.blocks * 512 - 1
+        return r.choice([0, ram - 1, ram + self.blocks * 512, 0x10000, (1 << 44) - 1, r.randrange(1 << 44)])
+
+    def bits(self, user):
+        r = self.random
+        if self.is_wild():
+            return r.randrange(1 << 10)
+        common = 0xC1 | (0x10 if user else 0)
+        kept = common | r.choice([0x0E, 0x0E, 0x0E, 0x0E, 0x02, 0x06, 0x0A, 0x08])
+        return kept & ~r.choice([0, 0, 0, 0, 0, 0, 0x80, 0x40]) | r.choice([0, 0, 0, 0x20, 0x300])
+
+    def entry(self, user):
+        """An entry of a table: a leaf of 4 KiB, a superpage, a pointer, or none."""
+        r = self.random
+        pick = r.random()
+        if pick < 0.60:
+            number = self.page_number()
+        elif pick < 0.68:
+            number = (RAM >> 12) + 512 * r.randrange(self.blocks + 1)
+        elif pick < 0.76:
+            number = r.choice([RAM >> 12, RAM >> 12, 0, 0xC0000])
+        elif pick < 0.90:
+            return self.page_number() << 10 | (r.randrange(256) & ~0x0E | 1 if self.is_wild() else 1)
+        else:
+            return 0 if pick < 0.97 else r.randrange(1 << 64)
+        high = 1 << r.randrange(54, 64) if self.is_wild() else 0
+        return number << 10 | self.bits(user) | high
+
+    def tables(self):
+        """Second-stage tables that map pages 0 to 31 of the guest, and first-stage tables at its pages 16 to 23."""
+        ram = RAM >> 12
+        pointer = lambda offset: (RAM + offset >> 12) << 10 | 1
+        for n, root in enumerate((ROOTS, ROOTS + 0x4000)):
+            middle, last = MIDDLES + 0x1000 * n, LASTS + 0x1000 * n
+            self.double(root, pointer(middle))
+            self.double(middle, pointer(last))
+            if self.random.random() < 0.7:
+                self.double(root + 16, ram << 10 | 0xDF)
+            for page in range(32):
+                offset = ((CODE if page < 8 else DATA if page < 16 else FIRSTS) + 0x1000 * (page % 8) if page < 24
+                          else LASTS + 0x1000 * (page % 4) if page < 28 else DEEDS & ~0xFFF)
+                value = self.entry(True) if self.is_wild() else (RAM + offset >> 12) << 10 | 0xDF
+                self.double(last + 8 * page, value)
+            for _ in range(self.random.randrange(6)):
+                self.double(self.random.choice([root, middle, last]) + 8 * self.random.randrange(40), self.entry(True))
+        # First stage: two roots, at the guest's pages 16 and 17; next levels at 18 and 20.
+        for n in range(2):
+            user = n == 1
+            root, middle, last = FIRSTS + 0x1000 * n, FIRSTS + 0x1000 * (2 + n), FIRSTS + 0x1000 * (4 + n)
+            self.double(root, (18 + n) << 10 | 1)
+            self.double(middle, (20 + n) << 10 | 1)
+            self.double(root + 16, ram << 10 | 0xCF)
+            for page in range(32):
+                self.double(last + 8 * page, self.entry(user) if self.is_wild()
+                            else page << 10 | (0xDF if user else 0xCF))
+        # satp's own tables, with RAM as one superpage, so that the hypervisor goes on under them.
+        self.double(FIRSTS + 0x6000 + 16, ram << 10 | 0xCF)
+        self.double(FIRSTS + 0x6000, (ram + (FIRSTS + 0x4000 >> 12)) << 10 | 1)
+
+    # nested guests
+
+    def nested_word(self):
+        r = self.random
+        rd = r.choice([0, 5, 6, 7, 10, 11, 12, 28])
+        a, b = r.randrange(8, 16), r.randrange(5, 16)
+        near = r.choice([0, 0, 8, 16, 0x100, 0x7F8, -8, r.randrange(-2048, 2048) & ~7])
+        pick = r.random()
+        if pick < 0.40:
+            return load(r.randrange(7), rd, a, near)
+        if pick < 0.58:
+            return store(r.choice([0, 3]), b, a, near)
+        if pick < 0.62:
+            return amo(r.choice(AMOS + [2, 3, 3]), r.choice([2, 3]), rd, a, b)
+        if pick < 0.645:
+            return ECALL
+        if pick < 0.70:
+            return csr(r.choice([1, 2, 3, 5, 6, 7]), rd, r.choice(REGISTERS), b)
+        if pick < 0.87:
+            return r.choice([addi(rd, a, near), r_type(0x33, r.randrange(8), r.choice([0, 1]), rd, a, b),
+                             r.randrange(1 << 20) << 12 | rd << 7 | 0x37])
+        if pick < 0.92:
+            return branch(r.choice([0, 1, 4, 5, 6, 7]), a, b, r.choice([8, 12, 16, -8, 6]))
+        if pick < 0.96:
+            return r.choice([jal(rd, r.choice([8, 0x1000, -0x1000, 4, 0x1FF8])), i_type(0x67, 0, rd, a, near)])
+        if pick < 0.99:
+            return r.choice([SRET, EBREAK, fence(SFENCE_VMA, a, b), fence(HFENCE_GVMA, 0, 0), NOP,
+                             r_type(0x73, 4, r.choice(HLVS)[0], rd, a, 0), WFI if self.is_wild() else NOP])
+        return r.randrange(1 << 32)
+
+    def nested(self):
+        for page in range(8):
+            words = [self.nested_word() for _ in range(self.random.randrange(8, 64))]
+            self.put(CODE + 0x1000 * page, words + [ECALL])
+        # Where vstvec points: puts the cause, as VS sees it, into x10, and calls.
+        self.put(CODE + 0x7000, [read_csr(10, SCAUSE), addi(10, 10, 0x40), ECALL])
+        for offset in range(DATA, END, 8):
+            if self.random.random() < 0.2:
+                self.double(offset, self.random.randrange(1 << 64))
+        if self.is_wild():
+            self.double(DATA + 8 * self.random.randrange(64), self.entry(True))
+
+    # the hypervisor
+
+    def handler(self):
+        """Puts six bytes: 255, the cause, where it came from, x10's low byte, and two of a hash. Goes to sscratch."""
+        h = [addi(30, 10, 0)]
+        for register in (6, 7, 8, 9, 11, 12, 13, 14, 15, 28):
+            h += [r_type(0x33, 4, 0, 5, 5, register), i_type(0x13, 1, 5, 5, 1)]
+        for number in (STVAL, HTVAL, HTINST, SEPC, VSEPC, VSCAUSE, VSTVAL, VSSTATUS, HSTATUS, SSTATUS, SIP):
+            h += [read_csr(6, number), r_type(0x33, 4, 0, 5, 5, 6), i_type(0x13, 1, 7, 5, 7),
+                  r_type(0x33, 0, 0, 5, 5, 7)]
+        for shift in (32, 16):
+            h += [i_type(0x13, 5, 6, 5, shift), r_type(0x33, 4, 0, 5, 5, 6)]
+        put = [ECALL]
+        h += [addi(17, 0, 1), addi(10, 0, 255), *put]
+        h += [read_csr(6, SCAUSE), i_type(0x13, 5, 7, 6, 63), i_type(0x13, 1, 7, 7, 6), i_type(0x13, 7, 10, 6, 63),
+              r_type(0x33, 6, 0, 10, 10, 7), *put]
+        h += [read_csr(6, HSTATUS), i_type(0x13, 5, 6, 6, 6), i_type(0x13, 7, 6, 6, 3), i_type(0x13, 1, 6, 6, 1),
+              read_csr(7, SSTATUS), i_type(0x13, 5, 7, 7, 8), i_type(0x13, 7, 7, 7, 1), r_type(0x33, 6, 0, 10, 6, 7),
+              *put]
+        h += [addi(10, 30, 0), *put, addi(10, 5, 0), *put, i_type(0x13, 5, 10, 5, 8), *put]
+        calm = [write_csr(HVIP, 0), csr(7, 0, SIP, 2), addi(17, 0, 2), ECALL, read_csr(10, TIME),
+                addi(10, 10, self.random.choice([5, 50, 400])), addi(17, 0, 0), ECALL]
+        h += self.random.choice([calm, calm, calm[:4], calm[4:], []])
+        h += [read_csr(5, SSCRATCH), i_type(0x67, 0, 0, 5, 0)]
+        self.put(HANDLER, h)
+        assert HANDLER + 4 * len(h) <= DEEDS
+
+    def constant(self, rd, value):
+        """The words that load a constant, which stands behind the code."""
+        at = CONSTANTS + 8 * len(self.constants)
+        self.constants.append(value)
+        distance = at - (DEEDS + 4 * len(self.words))
+        high, low = (distance + 0x800) >> 12, distance & 0xFFF
+        self.words += [(high & 0xFFFFF) << 12 | rd << 7 | 0x17, load(3, rd, rd, low)]
+
+    def root_value(self):
+        r = self.random
+        number = r.choice([RAM + ROOTS >> 12] * 12 + [RAM + ROOTS + 0x4000 >> 12] * 8
+                          + [(RAM >> 12) + self.blocks * 512 - 4, RAM + MIDDLES >> 12, 0, self.page_number()])
+        mode = r.choice([8] * 30 + [0, 9])
+        return mode << 60 | r.choice([0, 1, 1, 2, 3, 9, 127]) << 44 | number
+
+    def own_root_value(self):
+        r = self.random
+        return r.choice([0, 0, 8 << 60 | r.choice([0, 1, 0xFFFF]) << 44
+                         | r.choice([16] * 6 + [17] * 6 + [18, 31, 40, RAM + FIRSTS >> 12, self.page_number()])])
+
+    def pointer(self):
+        r = self.random
+        mapped = 0x1000 * r.choice([r.randrange(8, 16), r.randrange(32)]) + 8 * r.randrange(512)
+        return r.choice([mapped] * 12 + [0x1000 * r.randrange(34), 0x1000 * r.randrange(16) + 0xFFC,
+                                         RAM + r.randrange(END) & ~7, RAM + self.blocks * BLOCK - 8,
+                                         r.randrange(1 << 41) & ~7, r.randrange(1 << 64)])
+
+    def enter(self):
+        """Enters a nested guest, or U."""
+        r = self.random
+        nested = r.random() < 0.85
+        self.constant(5, 0x80 | 0x180 if nested else 0x100)
+        self.words.append(csr(3, 0, HSTATUS, 5))
+        bits = r.choice([0x80, 0x80, 0x180, 0x180, 0x180]) if nested else 0
+        self.constant(5, bits | r.choice([0, 0, 0, 0x100000, 0x200000, 0x400000, 0x200]))
+        self.words.append(csr(2, 0, HSTATUS, 5))
+        self.constant(5, 0xC0122)
+        self.words.append(csr(3, 0, SSTATUS, 5))
+        self.constant(5, (0x100 if nested and r.random() < 0.7 else 0) | r.choice([0, 0x20, 0x40000, 0x80000, 0xC0020]))
+        self.words.append(csr(2, 0, SSTATUS, 5))
+        place = 0x1000 * r.randrange(8) + 4 * r.randrange(8) if nested else RAM + CODE + 0x1000 * r.randrange(8)
+        if self.is_wild():
+            place = self.pointer()
+        self.constant(5, place)
+        self.words.append(write_csr(SEPC, 5))
+        for register in r.sample(range(8, 16), r.choice([3, 8, 8])):
+            self.constant(register, self.pointer())
+        self.words.append(SRET)
+
+    def deed(self):
+        r = self.random
+        pick = r.random()
+        if pick < 0.30 or self.is_calm and 0.48 <= pick < 0.71 and r.random() < 0.9:
+            self.enter()
+        elif pick < 0.48:
+            table = r.choice([ROOTS, ROOTS + 0x4000, MIDDLES, MIDDLES + 0x1000, LASTS, LASTS, LASTS, LASTS + 0x1000,
+                              FIRSTS, FIRSTS + 0x1000, FIRSTS + 0x2000, FIRSTS + 0x4000, FIRSTS + 0x5000])
+            self.constant(5, self.entry(table < FIRSTS or r.random() < 0.5))
+            slot = r.choice([0, 2, r.randrange(8), r.randrange(8, 32), r.randrange(8, 32), r.randrange(512)])
+            self.constant(6, RAM + table + 8 * slot)
+            self.words.append(store(3, 5, 6, 0))
+        elif pick < 0.60:
+            self.constant(5, r.choice([0, r.randrange(64) << 10, self.pointer() >> 2]))
+            self.constant(6, r.choice([0, 1, 2, 3, 127, r.randrange(1 << 16)]))
+            self.words.append(fence(r.choice([HFENCE_GVMA] * 5 + [HFENCE_VVMA, SFENCE_VMA]), r.choice([0, 0, 5]),
+                                    r.choice([0, 6])))
+        elif pick < 0.66:
+            self.constant(5, self.root_value())
+            self.words.append(write_csr(HGATP, 5))
+        elif pick < 0.71:
+            self.constant(5, self.own_root_value())
+            self.words.append(write_csr(VSATP, 5))
+        elif pick < 0.78:
+            number, value = r.choice([
+                (HEDELEG, r.choice([0, 0xB1FF, r.randrange(1 << 16)])), (HIDELEG, r.choice([0, 0x444, 4, 0x40])),
+                (HIE, r.choice([0, 0x444, r.randrange(1 << 11)])), (HVIP, r.choice([0, 0x444, 4, 0x40, 0x400])),
+                (SIE, r.choice([0, 0x222, 0x20, 2])), (SIP, r.choice([0, 2])), (VSTVEC, r.choice([0x7000, 0x7001])),
+                (VSSTATUS, r.randrange(1 << 20)), (HTIMEDELTA, r.randrange(1 << 64)), (HCOUNTEREN, r.choice([0, 2])),
+                (SCOUNTEREN, r.choice([0, 2])), (VSIE, 0x222),
+                (SATP, r.choice([0, 8 << 60 | RAM + FIRSTS + 0x6000 >> 12]))])
+            self.constant(5, value)
+            self.words.append(write_csr(number, 5))
+        elif pick < 0.84:
+            self.constant(11, self.pointer())
+            self.constant(12, r.randrange(1 << 64))
+            funct7, rs2 = r.choice(HLVS)
+            self.words.append(r_type(0x73, 4, funct7, 10, 11, rs2) if r.random() < 0.7
+                              else r_type(0x73, 4, r.choice(HSVS), 0, 11, 12))
+        elif pick < 0.89:
+            self.words += [read_csr(10, TIME), addi(10, 10, r.choice([0, 1, 20, 100, 700])), addi(17, 0, 0), ECALL]
+        elif pick < 0.92:
+            self.words += [addi(17, 0, r.choice([2, 2, 3, 7])), ECALL, addi(17, 0, 1), ECALL]
+        elif pick < 0.94:
+            self.constant(5, r.randrange(1 << 32))
+            self.constant(6, RAM + r.choice([CODE, CODE, DATA, ROOTS]) + 4 * r.randrange(0x1000))
+            self.words.append(store(2, 5, 6, 0))
+        elif pick < 0.96:
+            self.words += [csr(6, 0, SSTATUS, 2), NOP, NOP, NOP, csr(7, 0, SSTATUS, 2)]
+        elif pick < 0.97:
+            self.words += [addi(5, 0, 0x220), write_csr(SIE, 5), read_csr(10, TIME), addi(10, 10, 60), addi(17, 0, 0),
+                           ECALL, WFI]
+        else:
+            self.constant(8, self.pointer())
+            self.words.append(self.nested_word())
+
+    def make(self):
+        self.tables()
+        self.nested()
+        self.handler()
+        self.put(0, [0x00000297, addi(5, 5, HANDLER), write_csr(STVEC, 5), jal(0, DEEDS - 12)])
+        r = self.random
+        for number, value in ((HGATP, self.root_value()), (VSATP, self.own_root_value()), (VSTVEC, 0x7000),
+                              (HEDELEG, r.choice([0, 0xB1FF, 0xB1FF, r.randrange(1 << 16)])),
+                              (HIDELEG, r.choice([0, 0x444])), (HCOUNTEREN, r.choice([0, 2])),
+                              (VSSTATUS, r.choice([0, 0x40000, 0xC0022]))):
+            self.constant(5, value)
+            self.words.append(write_csr(number, 5))
+        while len(self.words) < 1700 and len(self.constants) < 3500:
+            # Where the handler goes on: behind the deed.
+            at = len(self.words)
+            self.words += [0, 0, 0]
+            self.deed()
+            self.words[at:at + 3] = [0x297, addi(5, 5, 4 * (len(self.words) - at)), write_csr(SSCRATCH, 5)]
+        self.words += [addi(17, 0, 8), ECALL]
+        self.put(DEEDS, self.words)
+        for i, value in enumerate(self.constants):
+            self.double(CONSTANTS + 8 * i, value)
+
+    def table(self, name, spaces, entries):
+        """The guest's table in a configuration."""
+        pairs = ", ".join(f"[{moment}, {byte}]" for moment, byte in self.inputs)
+        return (f'[[guest]]\nname = "{name}"\nimage = "{name}.bin"\nblocks = {self.blocks}\nspaces = {spaces}\n'
+                f"entries = {entries}\nconsole = 20000\n" + (f"input = [{pairs}]\n" if pairs else ""))
+
+
+def turns_of(chance, steps, guests):
+    """Turns of random lengths with so many steps for each guest, in random order."""
+    left = [steps] * guests
+    turns = []
+    while any(left):
+        guest = chance.choice([g for g in range(guests) if left[g]])
+        count = min(left[guest], chance.choice([1, 1, 2, 3, 7, 40, 300, chance.randrange(1, 1000)]))
+        left[guest] -= count
+        turns.append(f"[{guest}, {count}]")
+    return "turns = [" + ", ".join(turns) + "]\n"
+
+
+class Ended(Exception):
+    """A run that did not end with status 0."""
+
+
+def run(program, folder, text):
+    """The sections of a run, in the order of its guests."""
+    with open(os.path.join(folder, "run.toml"), "w") as file:
+        file.write(text)
+    ran = subprocess.run([program, "run", "run.toml"], cwd=folder, capture_output=True)
+    if ran.returncode != 0:
+        raise Ended(f"status {ran.returncode} {ran.stderr[:200]!r}")
+    sections = []
+    rest = ran.stdout
+    while rest:
+        header, _, body = rest.partition(b"\n")
+        length = int(header.split()[6])
+        # Without the guest's name, so that sections under two names can be compared.
+        sections.append((header.split()[2:], body[:length]))
+        rest = body[length + 1:]
+    return sections
+
+
+def reached(section, counts):
+    """Adds to the counts what a section tells: its status, and each trap that the handler has put."""
+    header, console = section
+    counts["guests that end " + header[0].decode()] += 1
+    counts["steps"] += int(header[2])
+    at = 0
+    while at + 6 <= len(console):
+        mark, cause, place, value = console[at:at + 4]
+        if mark != 255 or place >= 16 or cause > 0x7F:
+            at += 1
+            continue
+        kind = f"interrupt {cause & 0x3F}" if cause & 0x40 else f"trap {cause}"
+        level = ("VS" if place & 1 else "VU") if place & 4 else ("HS" if place & 1 else "U")
+        counts[f"{kind} from {level}"] += 1
+        if place & 4 and cause == 10 and 0x40 <= value < 0x60:
+            counts[f"cause {value & 0x1F} taken by VS"] += 1
+        at += 6
+
+
+def tried(task):
+    """Runs the image of a seed in each way: what differs, and what its guest reached."""
+    program, seed, steps, keep = task
+    chance = random.Random(f"turns {seed}")
+    one, other = Maker(seed), Maker(seed + 1)
+    counts = collections.Counter()
+    differences = []
+    with tempfile.TemporaryDirectory(dir="/dev/shm" if os.path.isdir("/dev/shm") else None) as folder:
+        for name, maker in (("a", one), ("b", other)):
+            with open(os.path.join(folder, name + ".bin"), "wb") as file:
+                file.write(maker.bytes)
+        a = one.table("a", one.spaces, one.entries)
+        pair = lambda spaces, entries: a + other.table("b", spaces, entries)
+        ways = [
+            ("in one turn", f"turns = [[0, {steps}]]\n" + a),
+            ("in random turns", turns_of(chance, steps, 1) + a),
+            ("beside another guest", turns_of(chance, steps, 2) + pair(other.spaces, other.entries)),
+            ("beside it with other spaces",
+             turns_of(chance, steps, 2) + pair(1 + chance.randrange(8), chance.choice([16, 32, 100]))),
+        ]
+        first = None
+        for way, text in ways:
+            try:
+                section = run(program, folder, "format = 1\n" + text)[0]
+            except (Ended, ValueError, IndexError) as error:
+                section = ([str(error).encode()], b"")
+                differences.append(f"seed {seed} {way}: {error}")
+            if first is None:
+                first = section
+                if not differences:
+                    reached(section, counts)
+            elif section != first:
+                differences.append(f"seed {seed} {way}: {section[0]!r}, and in one turn {first[0]!r}")
+            if differences and keep:
+                shutil.copytree(folder, os.path.join(keep, f"{seed}"), dirs_exist_ok=True)
+                break
+    return differences, counts
+
+
+def main():
+    parser = argparse.ArgumentParser(prog="bench/hypervisors.py", description=__doc__)
+    parser.add_argument("--first", type=int, default=0)
+    parser.add_argument("--count", type=int, default=10000)
+    parser.add_argument("--steps", type=int, default=12000)
+    parser.add_argument("--jobs", type=int, default=os.cpu_count())
+    parser.add_argument("--program")
+    parser.add_argument("--keep")
+    options = parser.parse_args()
+    program = options.program or subprocess.run([os.path.join(TOP, "tools", "program")], stdout=subprocess.PIPE,
+                                                text=True).stdout.strip()
+    if not program:
+        print("bench/hypervisors.py: no proved program; `cd crates/nesthv && rt run` builds it", file=sys.stderr)
+        return 2
+    program = os.path.abspath(program)
+    counts = collections.Counter()
+    differences = 0
+    seeds = range(options.first, options.first + options.count)
+    tasks = [(program, seed, options.steps, options.keep) for seed in seeds]
+    with ProcessPoolExecutor(options.jobs) as pool:
+        for found, made in pool.map(tried, tasks, chunksize=16):
+            counts += made
+            differences += len(found)
+            for difference in found:
+                print(difference, flush=True)
+    for what, count in sorted(counts.items()):
+        print(f"{what}: {count}")
+    print(f"{options.count} images, each run 4 times: {differences} differences")
+    return 1 if differences else 0
+
+
+if __name__ == "__main__":
+    sys.exit(main())
