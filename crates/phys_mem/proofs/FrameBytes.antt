@@ -1,28 +1,16 @@
 -- Bytes that lie in frames of one length, one frame after the other.
-use Rattle.std.proofs.Common.{◌≡◌, ℕ, zero, suc, ◌+◌, ◌-◌, ◌*◌, ◌/◌, ◌%◌, ◌<◌, ◌≤◌, List, [], ◌∷◌, ◌++◌, length, get_or, set, take, drop, replicate, refl, sym, ap, ◌∙◌, arith, length-append}
+use Rattle.std.proofs.Common.{◌≡◌, ℕ, zero, suc, ◌+◌, ◌*◌, ◌/◌, ◌%◌, ◌<◌, ◌≤◌, List, [], ◌∷◌, ◌++◌, length, get_or, set, take, drop, replicate, refl, sym, ap, ◌∙◌, arith, length-append}
 use Rattle.std.specs.List.{concat}
 use Rattle.std.proofs.Math.Seq.{split_at, take-append-add, drop-append-add, take-append_seam}
-use Rattle.std.proofs.lemmas.List.{append_assoc, length-take-le, length-set, get_or-set_same, get_or_append_left, get_or-append_right, take-append-le, drop-append-le, take-set, drop-set-lt, drop_at, replicate-append-replicate}
+use Rattle.std.proofs.lemmas.List.{append_assoc, length-take-le, length-set, get_or-set_same, take-append-le, drop-append-le, take-set, drop-set-lt, drop_at, replicate-append-replicate}
 use Rattle.std.proofs.lemmas.List.Elements.{All-take}
 use Rattle.std.proofs.lemmas.List.Folds.{concat-append}
 use Rattle.std.proofs.lemmas.Nat.{div-add-mod', div-mul-add, div_below}
-use Rattle.arch_defs.specs.Memory.{load, pasted, zeros}
-use Rattle.arch_defs.proofs.Pastes.{load_same}
+use Rattle.arch_defs.specs.Memory.{pasted, zeros}
 use Rattle.phys_mem.specs.MemoryBytes.{AreWhole}
 use Rattle.phys_mem.proofs.PiecesLaid.{length_zeros, pasted_over}
 
 -- three lists: what lies before a frame, the frame, what lies after it
-load_between : (before frame after : List ℕ) (p k w : ℕ) → length before ≡ p → k + w ≤ length frame
-    → load (before ++ (frame ++ after)) (p + k) w ≡ load frame k w
-load_between before frame after p k w e fits =
-    load_same (before ++ (frame ++ after)) frame (p + k) k w (λ j h.
-    get_or-append_right before (frame ++ after) p (p + k + j) 0 e (omega arith)
-    ∙ ap (λ i. get_or (frame ++ after) i 0) (there j)
-    ∙ get_or_append_left frame after 0 (k + j) (omega arith))
-  where
-    there : (j : ℕ) → p + k + j - p ≡ k + j
-    there j = omega arith
-
 taken_between : (before frame after : List ℕ) (p k : ℕ) → length before ≡ p → k ≤ length frame
     → take (p + k) (before ++ (frame ++ after)) ≡ before ++ take k frame
 taken_between before frame after p k e fits =
@@ -86,16 +74,6 @@ module _ (n : ℕ) (frames : List (List ℕ)) (memory : List ℕ) (some : 0 < n)
   -- the frame that a place is in
   pub frame_there : (at : ℕ) → at < length memory → at / n < length frames
   frame_there at h = div_below at n (length frames) some (omega (arith, size_is, h))
-
-  pub read_there : (at w : ℕ) (frame : List ℕ) → at < length memory → at % n + w ≤ n → frame ≡ get_or frames (at / n) frame → load frame (at % n) w ≡ load memory at w
-  read_there at w frame h fits named =
-      let there = frame_there at h in
-      let place : at ≡ at / n * n + at % n = sym (div-add-mod' at n) in
-      ap (λ bytes. load bytes (at % n) w) named
-      ∙ (sym (load_between (before (at / n) frames) (get_or frames (at / n) frame) (after (at / n) frames) (at / n * n) (at % n) w
-      (length_before n (at / n) frames whole (omega arith)) (rw (whole (at / n) frame there) fits))
-      ∙ (ap (λ bytes. load bytes (at / n * n + at % n) w) (sym (parts (at / n) frames frame there) ∙ is)
-      ∙ ap (λ p. load memory p w) (sym place)))
 
   pub written_there : (at : ℕ) (frame new piece : List ℕ) → at < length memory → at % n + length piece ≤ n → frame ≡ get_or frames (at / n) frame
       → new ≡ pasted frame (at % n) piece → concat (set frames (at / n) new) ≡ pasted memory at piece

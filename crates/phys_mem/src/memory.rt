@@ -6,8 +6,9 @@ ghost use Rattle.arch_defs.specs.Memory.{load, pasted, zeros};
 ghost use Rattle.phys_mem.specs.MemoryBytes.{IsWidth, is_inside, number_at, bytes_with, frame_of};
 
 use crate::accesses::Mem;
-use crate::slices::{bytes_of, clear, number, paste, word};
+use crate::slices::{bytes_of, clear, number, paste};
 use arch_defs::FRAME_SIZE;
+use byteorder::{ByteOrder, LittleEndian};
 use no_memory::NoMemory;
 use std::alloc::Global;
 use std::cmp::min;
@@ -53,19 +54,19 @@ impl PhysMem {
         ensures whole { result % 4096 ≡ 0 }
         ensures most { result ≤ 131072 * 4096 }
     {
-        self.frames.len() as u64 * FRAME_SIZE
+        self.bytes().len() as u64
     }
 
     /// The number of `width` bytes at a place that is a multiple of it, little endian.
     #[inline]
-    #[tactic(auto, using(crate::proofs::Places::in_frame))]
+    #[tactic(auto, using(crate::proofs::Places::fits))]
     pub fn load(&self, at: u64, width: u8) -> u64
         requires width { IsWidth width }
         requires inside { at < length self.now }
         requires aligned { at % width ≡ 0 }
         ensures { result ≡ load self.now at width }
     {
-        number(self.frame_with(at), (at % FRAME_SIZE) as usize, width)
+        number(&self.bytes()[at as usize..], width)
     }
 
     /// The word of four bytes at a place that is a multiple of 4, little endian.
@@ -75,7 +76,7 @@ impl PhysMem {
         requires aligned { at % 4 ≡ 0 }
         ensures { result ≡ load self.now at 4 }
     {
-        word(self.frame_with(at), (at % FRAME_SIZE) as usize)
+        LittleEndian::read_u32(&self.bytes()[at as usize..])
     }
 
     /// Writes the low `width` bytes of a value at a place that is a multiple of it, little endian.
@@ -154,14 +155,15 @@ impl PhysMem {
         }
     }
 
-    // The frame that a place is in.
+    // All bytes.
     #[inline]
-    fn frame_with(&self, at: u64) -> &[u8]
-        requires { at < length self.now }
-        ensures size { length result.now ≡ 4096 }
-        ensures numbers { (n : ℕ) → at % 4096 + n ≤ 4096 → load result.now (at % 4096) n ≡ load self.now at n }
+    #[tactic(auto, using(std::proofs::lemmas::List::Concat::concat_is))]
+    fn bytes(&self) -> &[u8]
+        ensures bytes { result.now ≡ self.now }
+        ensures whole { length result.now % 4096 ≡ 0 }
+        ensures most { length result.now ≤ 131072 * 4096 }
     {
-        &self.frames[(at / FRAME_SIZE) as usize]
+        self.frames.as_flattened()
     }
 
     // Fills so many bytes of one frame with zeros.

@@ -7,29 +7,19 @@ ghost use Rattle.phys_mem.specs.MemoryBytes.{IsWidth};
 
 use byteorder::{ByteOrder, LittleEndian};
 
-/// The number of `width` bytes from a place on.
+/// The number of the first `width` bytes.
 #[inline]
-pub fn number(bytes: &[u8], at: usize, width: u8) -> u64
+pub fn number(bytes: &[u8], width: u8) -> u64
     requires width { IsWidth width }
-    requires inside { at + width ≤ length bytes.now }
-    ensures { result ≡ load bytes.now at width }
+    requires inside { width ≤ length bytes.now }
+    ensures { result ≡ load bytes.now 0 width }
 {
-    let bytes = &bytes[at..];
     match width {
         1 => bytes[0] as u64,
         2 => LittleEndian::read_u16(bytes) as u64,
         4 => LittleEndian::read_u32(bytes) as u64,
         _ => LittleEndian::read_u64(bytes),
     }
-}
-
-/// The word of four bytes from a place on.
-#[inline]
-pub fn word(bytes: &[u8], at: usize) -> u32
-    requires { at + 4 ≤ length bytes.now }
-    ensures { result ≡ load bytes.now at 4 }
-{
-    LittleEndian::read_u32(&bytes[at..])
 }
 
 /// The eight bytes of a value, the lowest first.
