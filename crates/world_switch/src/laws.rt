@@ -2,8 +2,8 @@
 
 ghost use Rattle.world_switch.specs.Laws.{ExceptionsAlike, FencesAlike, IllegalAlike, IllegalToWriteAlike, InterruptsAlike, IsVirtual, LoadAfterSave, NestedTrapsAlike, OwnMxr, ReadsAlike, ReturnsAlike, SaveAfterLoad, TimeIsLeft, TranslatesAlike, WaitsAreLeft, WritesAlike};
 
-/// The hart runs with V = 1: in VS for HS and VS, and in VU for U and VU. Saving what was loaded gives back what the guest had, and loading what was saved
-/// gives back what the hart had.
+/// The hart runs with V = 1: in VS for HS and VS, and in VU for U and VU. Saving what was loaded gives back
+/// what the guest had, and loading what was saved gives back what the hart had.
 pub fn load_and_save()
     ensures virtual_mode { IsVirtual }
     ensures save_after_load { SaveAfterLoad }

@@ -214,8 +214,8 @@ fn set_csrs_of_vs(csrs: &Csrs, root: u64, hart: &mut Csrs)
     hart.hideleg = csrs.hideleg;
 }
 
-// Sets the registers of which the hart has its own: zero, but for MXR, the root of the second stage, and a WFI
-// of VS, which is a virtual instruction.
+// Sets the registers of which the hart has its own: zero, but for MXR, the root of the second stage, and the
+// WFI of VS, which is a virtual instruction.
 fn set_own_csrs(mxr: bool, root: u64, hart: &mut Csrs)
     ensures { hart.new ≡ record hart.old {
       hs = supervisor_with mxr;
