@@ -28,8 +28,10 @@ list_tells = record {
   where
     digit_least : (c : ℕ) → is_ascii_digit c ≡ true → 48 ≤ c
     digit_least c h = grind (arith, h)
+
     digit_most : (c : ℕ) → is_ascii_digit c ≡ true → c ≤ 57
     digit_most c h = grind (arith, h)
+
     is_digit : (c : ℕ) → 48 ≤ c → c ≤ 57 → is_ascii_digit c ≡ true
     is_digit c least most = grind (arith, least, most)
 
@@ -42,6 +44,7 @@ numeral_is digits word empty each is some few all =
     least : (n : ℕ) → (n == 0) ≡ false → nat_le 1 n ≡ true
     least zero h = cc
     least (suc n) h = grind arith
+
     most : (n d : ℕ) → n ≤ d → nat_le n d ≡ true
     most n d h = grind (arith, h)
 
@@ -63,6 +66,7 @@ parts_of digits word h =
     of_three true true false h = cc
     of_three true false c h = cc
     of_three false b c h = cc
+
     positive : (n : ℕ) → nat_le 1 n ≡ true → 0 < n
     positive n h = grind (arith, h)
 
@@ -88,6 +92,7 @@ above least most n more = by (nat_le least n) (nat_le n most) (not_le n most mor
   where
     not_le : (n most : ℕ) → most < n → nat_le n most ≡ false
     not_le n most more = grind (arith, more)
+
     by : (a b : Bool) → b ≡ false → cond (a && b) (Some n) None ≡ None
     by true false h = refl
     by true true h = cc

@@ -31,10 +31,7 @@ pub enum FileRequest<'a> {
 pub enum Request<'a> {
     OnFiles(FileRequest<'a>),
     /// A run of the guests that are generated from a seed and a size.
-    Work {
-        seed: u64,
-        size: u64,
-    },
+    Work { seed: u64, size: u64 },
 }
 
 // A command that takes one word.
@@ -87,7 +84,10 @@ fn files_line<'a>(alloc: Global) -> Result<Command<'a>, AllocError>
 fn command_line<'a>(alloc: Global) -> Result<Command<'a>, AllocError>
     ensures { IfOk result (λ c. app_of c ≡ nesthv_app) }
 {
-    with(files_line(alloc)?, two_words(alloc, "work", "SEED", "SIZE")?)
+    with(
+        files_line(alloc)?,
+        two_words(alloc, "work", "SEED", "SIZE")?,
+    )
 }
 
 // Whether no word after the first is empty or begins with a dash.

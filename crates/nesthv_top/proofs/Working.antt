@@ -93,9 +93,9 @@ one_bootable seed size g most = record {
   console = omega arith;
   image = omega (arith, image_length seed size g, most);
   inputs = record {
-      count = omega arith;
-      moments = λ k d inside. absurd (omega (arith, inside));
-      order = λ i j d before inside. absurd (omega (arith, inside));
+    count = omega arith;
+    moments = λ k d inside. absurd (omega (arith, inside));
+    order = λ i j d before inside. absurd (omega (arith, inside));
   };
 }
 

@@ -35,7 +35,11 @@ const REPORT_MOST: u64 = 33_554_432;
 const MOST_FRAMES: u64 = 131_072;
 
 /// Reads what is asked for: a configuration, its images, and for a replay the stored report.
-pub fn load<S: Store>(alloc: Global, request: FileRequest<'_>, store: &mut S) -> Result<Loaded, LoadEnd>
+pub fn load<S: Store>(
+    alloc: Global,
+    request: FileRequest<'_>,
+    store: &mut S,
+) -> Result<Loaded, LoadEnd>
     ensures reads { SaysOfReads S.Store (Some (OnFiles (file_command_seen request.entry))) (ended_of result)
         store.old store.new }
     ensures cause { IfReadFailed result (λ n. Rose (S.faults store.old) (S.faults store.new)) }

@@ -263,7 +263,8 @@ fn check_frames(rt: HostRuntime) -> Result<(), Fail> {
     Ok(())
 }
 
-// Sixteen guests of 32 blocks need too many frames, whatever is asked for. A replay has read its report before.
+// Sixteen guests of 32 blocks need too many frames, whatever is asked for. A replay has read its report
+// before.
 #[test]
 fn too_many_frames(rt: HostRuntime) -> Result<(), Fail> {
     let config = sixteen_guests(rt.alloc(), 32)?;
@@ -368,7 +369,12 @@ fn work_faults(rt: HostRuntime) -> Result<(), Fail> {
     for (put, length) in [(1, 0), (4, 91)] {
         let mut store = MapStore::new(rt.alloc());
         let failing = Failing { read: 0, put };
-        let left = outcome(rt.alloc(), &["nesthv", "work", "0", "1"], &mut store, failing)?;
+        let left = outcome(
+            rt.alloc(),
+            &["nesthv", "work", "0", "1"],
+            &mut store,
+            failing,
+        )?;
         assert!(rt; left.is(4, &SMALLEST[..length], b"nesthv: write fault\n"));
     }
     Ok(())
@@ -377,7 +383,11 @@ fn work_faults(rt: HostRuntime) -> Result<(), Fail> {
 // The images of seed 0 and size 1 run as files: the same statuses and steps, and the byte 53 of each console.
 #[test]
 fn work_as_files(rt: HostRuntime) -> Result<(), Fail> {
-    for (guest, steps) in guests(rt.alloc(), 0, 1)?.as_slice().iter().zip([36, 35, 35, 35]) {
+    for (guest, steps) in guests(rt.alloc(), 0, 1)?
+        .as_slice()
+        .iter()
+        .zip([36, 35, 35, 35])
+    {
         let mut config = String::new(rt.alloc());
         config.push_str("format = 1\nquantum = 1000\nrounds = 1\n")?;
         config.push_str("[[guest]]\nname = \"a\"\nimage = \"a.bin\"\nblocks = 1\nspaces = 1\n")?;
