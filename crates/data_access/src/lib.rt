@@ -10,4 +10,4 @@ mod tests;
 pub use op_defs::{DataAccess, Purpose};
 pub use phys_mem::Mem;
 pub use places::place_for;
-pub use purposes::{complete, kind_of};
+pub use purposes::{complete, kind_of, load, store};

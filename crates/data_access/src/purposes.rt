@@ -3,8 +3,8 @@
 ghost use Rattle.std.specs.Prelude.{◌≡◌, ◌⊎◌, length};
 ghost use Rattle.arch_defs.specs.Memory.{reading_of, with_stored};
 ghost use Rattle.arch_defs.specs.Widths.{bytes_in, extended};
-ghost use Rattle.machine_defs.specs.Core.{completed, is_reserved, kind_of, stored_if};
-ghost use Rattle.machine_defs.specs.Outcomes.{sets};
+ghost use Rattle.machine_defs.specs.Core.{completed, is_reserved, kind_of, stored_if, storing};
+ghost use Rattle.machine_defs.specs.Outcomes.{passed, sets};
 ghost use Rattle.data_access.specs.Places.{IsPlaceFor};
 
 use crate::places::{read_at, write_at};
@@ -53,10 +53,7 @@ pub fn complete<M: Mem>(
     match purpose {
         Purpose::Load { signed, rd } => load(mem, state, width, signed, rd, place),
         Purpose::LoadCode { rd } => load(mem, state, width, false, rd, place),
-        Purpose::Store { value } => {
-            write_at(mem, place, width, value);
-            pass(state);
-        }
+        Purpose::Store { value } => store(mem, state, width, value, place),
         Purpose::Reserve { rd } => {
             load(mem, state, width, true, rd, place);
             state.reservation = Some((place, width.bytes()));
@@ -73,8 +70,9 @@ pub fn complete<M: Mem>(
     }
 }
 
-// A load.
-fn load<M: Mem>(mem: &M, state: &mut Virtual, width: Width, signed: bool, rd: Reg, place: u64)
+/// Completes a load at its place.
+#[inline(always)]
+pub fn load<M: Mem>(mem: &M, state: &mut Virtual, width: Width, signed: bool, rd: Reg, place: u64)
     requires backed { M.is_backed mem.now }
     requires place { IsPlaceFor (M.base mem.now) (M.bytes mem.now) width place }
     ensures { state.new ≡ sets state.old rd
@@ -82,6 +80,23 @@ fn load<M: Mem>(mem: &M, state: &mut Virtual, width: Width, signed: bool, rd: Re
 {
     let held = read_at(mem, place, width);
     set(state, rd, extend(width, signed, held));
+}
+
+/// Completes a store at its place.
+#[inline(always)]
+pub fn store<M: Mem>(mem: &mut M, state: &mut Virtual, width: Width, value: u64, place: u64)
+    requires backed { M.is_backed mem.old }
+    requires place { IsPlaceFor (M.base mem.old) (M.bytes mem.old) width place }
+    ensures state { state.new ≡ passed state.old }
+    ensures bytes { M.bytes mem.new
+        ≡ with_stored (M.base mem.old) (storing place width value) (M.bytes mem.old) }
+    ensures size { length (M.bytes mem.new) ≡ length (M.bytes mem.old) }
+    ensures base { M.base mem.new ≡ M.base mem.old }
+    ensures backed { M.is_backed mem.new }
+    ensures keeps { M.keeps mem.old mem.new }
+{
+    write_at(mem, place, width, value);
+    pass(state);
 }
 
 // Whether this place is reserved for this width.

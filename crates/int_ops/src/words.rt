@@ -10,6 +10,7 @@ use op_defs::WordOp;
 /// What an operation on the low 32 bits makes of its two operands, sign extended (Unprivileged ISA
 /// 20191213, 5.2 and 7).
 #[tactic(auto, unfolding(op_defs::specs::Arithmetic::word_alu))]
+#[inline(always)]
 pub fn word_alu(op: WordOp, a: u64, b: u64) -> u64
     ensures { result ≡ word_alu op a b }
 {

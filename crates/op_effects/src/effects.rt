@@ -174,19 +174,25 @@ fn accesses_by_hlv(address: u64, width: Width, purpose: Purpose) -> Effect
     }))
 }
 
-fn address_at(regs: &Regs, rs1: Reg, offset: u64) -> u64
+/// The address that a load, a store or a jump by register has.
+#[inline(always)]
+pub fn address_at(regs: &Regs, rs1: Reg, offset: u64) -> u64
     ensures { result ≡ address_at regs.now rs1 offset }
 {
     regs.read(rs1).wrapping_add(offset)
 }
 
-fn even(address: u64) -> u64
+/// An address with its lowest bit clear.
+#[inline(always)]
+pub fn even(address: u64) -> u64
     ensures { result ≡ even address }
 {
     address - address % 2
 }
 
-fn is_branch_taken(test: Test, a: u64, b: u64) -> bool
+/// Whether a branch is taken.
+#[inline(always)]
+pub fn is_branch_taken(test: Test, a: u64, b: u64) -> bool
     ensures { result ≡ is_branch_taken test a b }
 {
     match test {

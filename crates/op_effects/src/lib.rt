@@ -5,5 +5,5 @@ mod effects;
 #[cfg(test)]
 mod tests;
 
-pub use effects::effect_of;
+pub use effects::{address_at, effect_of, even, is_branch_taken};
 pub use op_defs::Effect;

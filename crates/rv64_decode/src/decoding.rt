@@ -15,6 +15,7 @@ use op_defs::{Op, Test};
 
 /// The instruction that a word is: exactly that of the instruction table, and none for a word outside it.
 #[tactic(auto, unfolding(op_defs::specs::Table::op_of))]
+#[inline(always)]
 pub fn decode(bits: u32) -> Option<Op>
     ensures { result ≡ op_of bits }
 {
@@ -46,6 +47,7 @@ pub fn decode(bits: u32) -> Option<Op>
     }
 }
 
+#[inline(always)]
 fn jump_by_register(bits: u32) -> Option<Op>
     ensures { result
         ≡ (if funct3 bits == 0 then Some (Jalr (rd bits) (rs1 bits) (i_immediate bits)) else None) }
@@ -62,6 +64,7 @@ fn jump_by_register(bits: u32) -> Option<Op>
 }
 
 #[tactic(auto, unfolding(op_defs::specs::Table::branch_of))]
+#[inline(always)]
 fn branch(bits: u32) -> Option<Op>
     ensures { result ≡ branch_of bits }
 {
@@ -77,6 +80,7 @@ fn branch(bits: u32) -> Option<Op>
 }
 
 #[tactic(auto, unfolding(op_defs::specs::Table::test_of))]
+#[inline(always)]
 fn test(funct3: u32) -> Option<Test>
     ensures { result ≡ test_of funct3 }
 {
@@ -92,6 +96,7 @@ fn test(funct3: u32) -> Option<Test>
 }
 
 #[tactic(auto, unfolding(op_defs::specs::Table::load_of))]
+#[inline(always)]
 fn load(bits: u32) -> Option<Op>
     ensures { result ≡ load_of bits }
 {
@@ -108,6 +113,7 @@ fn load(bits: u32) -> Option<Op>
 }
 
 #[tactic(auto, unfolding(op_defs::specs::Table::store_of))]
+#[inline(always)]
 fn store(bits: u32) -> Option<Op>
     ensures { result ≡ store_of bits }
 {
@@ -124,6 +130,7 @@ fn store(bits: u32) -> Option<Op>
 }
 
 #[tactic(auto, unfolding(op_defs::specs::Table::fence_of))]
+#[inline(always)]
 fn fence(bits: u32) -> Option<Op>
     ensures { result ≡ fence_of bits }
 {

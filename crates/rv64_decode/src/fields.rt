@@ -7,24 +7,28 @@ ghost use Rattle.op_defs.specs.Table.{width_of};
 
 use arch_defs::{Reg, Width};
 
+#[inline(always)]
 pub fn rd(word: u32) -> Reg
     ensures { result ≡ rd word }
 {
     Reg::at(word, 7)
 }
 
+#[inline(always)]
 pub fn rs1(word: u32) -> Reg
     ensures { result ≡ rs1 word }
 {
     Reg::at(word, 15)
 }
 
+#[inline(always)]
 pub fn rs2(word: u32) -> Reg
     ensures { result ≡ rs2 word }
 {
     Reg::at(word, 20)
 }
 
+#[inline(always)]
 pub fn funct3(word: u32) -> u32
     ensures value { result ≡ funct3 word }
     ensures small { result < 8 }
@@ -32,6 +36,7 @@ pub fn funct3(word: u32) -> u32
     (word >> 12) & 7
 }
 
+#[inline(always)]
 pub fn funct7(word: u32) -> u32
     ensures value { result ≡ funct7 word }
     ensures small { result < 128 }
@@ -41,6 +46,7 @@ pub fn funct7(word: u32) -> u32
 
 /// The width that the low two bits of funct3 name.
 #[tactic(auto, unfolding(op_defs::specs::Table::width_of))]
+#[inline(always)]
 pub fn width(word: u32) -> Width
     ensures { result ≡ width_of (field 12 2 word) }
 {
@@ -52,18 +58,21 @@ pub fn width(word: u32) -> Width
     }
 }
 
+#[inline(always)]
 pub fn i_immediate(word: u32) -> u64
     ensures { result ≡ i_immediate word }
 {
     extend_12((word >> 20) as u64)
 }
 
+#[inline(always)]
 pub fn s_immediate(word: u32) -> u64
     ensures { result ≡ s_immediate word }
 {
     extend_12((word >> 25) as u64 * 0x20 + ((word >> 7) & 31) as u64)
 }
 
+#[inline(always)]
 pub fn b_immediate(word: u32) -> u64
     ensures { result ≡ b_immediate word }
 {
@@ -78,6 +87,7 @@ pub fn b_immediate(word: u32) -> u64
     }
 }
 
+#[inline(always)]
 pub fn u_immediate(word: u32) -> u64
     ensures { result ≡ u_immediate word }
 {
@@ -89,6 +99,7 @@ pub fn u_immediate(word: u32) -> u64
     }
 }
 
+#[inline(always)]
 pub fn j_immediate(word: u32) -> u64
     ensures { result ≡ j_immediate word }
 {
@@ -103,6 +114,7 @@ pub fn j_immediate(word: u32) -> u64
     }
 }
 
+#[inline(always)]
 fn extend_12(value: u64) -> u64
     requires { value < 2 ^ 12 }
     ensures { result ≡ sign_extend 12 value }

@@ -8,6 +8,7 @@ use op_defs::{AluOp, Op, WordOp};
 
 /// OP-IMM.
 #[tactic(auto, unfolding(op_defs::specs::Table::immediate_arithmetic_of))]
+#[inline(always)]
 pub fn immediate(bits: u32) -> Option<Op>
     ensures { result ≡ immediate_arithmetic_of bits }
 {
@@ -31,6 +32,7 @@ pub fn immediate(bits: u32) -> Option<Op>
 }
 
 #[tactic(auto, unfolding(op_defs::specs::Table::immediate_op_of))]
+#[inline(always)]
 fn immediate_op(funct3: u32) -> AluOp
     ensures { result ≡ immediate_op_of funct3 }
 {
@@ -45,6 +47,7 @@ fn immediate_op(funct3: u32) -> AluOp
 }
 
 #[tactic(auto, unfolding(op_defs::specs::Table::shift_of))]
+#[inline(always)]
 fn shift(funct3: u32, upper: u32) -> Option<AluOp>
     ensures { result ≡ shift_of funct3 upper }
 {
@@ -59,6 +62,7 @@ fn shift(funct3: u32, upper: u32) -> Option<AluOp>
 
 /// OP.
 #[tactic(auto, unfolding(op_defs::specs::Table::register_arithmetic_of))]
+#[inline(always)]
 pub fn register(bits: u32) -> Option<Op>
     ensures { result ≡ register_arithmetic_of bits }
 {
@@ -74,6 +78,7 @@ pub fn register(bits: u32) -> Option<Op>
 }
 
 #[tactic(auto, unfolding(op_defs::specs::Table::alu_op_of))]
+#[inline(always)]
 fn alu_op(funct7: u32, funct3: u32) -> Option<AluOp>
     ensures { result ≡ alu_op_of funct7 funct3 }
 {
@@ -87,6 +92,7 @@ fn alu_op(funct7: u32, funct3: u32) -> Option<AluOp>
 }
 
 #[tactic(auto, unfolding(op_defs::specs::Table::base_op_of))]
+#[inline(always)]
 fn base_op(funct3: u32) -> AluOp
     ensures { result ≡ base_op_of funct3 }
 {
@@ -103,6 +109,7 @@ fn base_op(funct3: u32) -> AluOp
 }
 
 #[tactic(auto, unfolding(op_defs::specs::Table::multiply_op_of))]
+#[inline(always)]
 fn multiply_op(funct3: u32) -> AluOp
     ensures { result ≡ multiply_op_of funct3 }
 {
@@ -120,6 +127,7 @@ fn multiply_op(funct3: u32) -> AluOp
 
 /// OP-IMM-32.
 #[tactic(auto, unfolding(op_defs::specs::Table::word_immediate_arithmetic_of))]
+#[inline(always)]
 pub fn word_immediate(bits: u32) -> Option<Op>
     ensures { result ≡ word_immediate_arithmetic_of bits }
 {
@@ -143,6 +151,7 @@ pub fn word_immediate(bits: u32) -> Option<Op>
 }
 
 #[tactic(auto, unfolding(op_defs::specs::Table::word_shift_of))]
+#[inline(always)]
 fn word_shift(funct3: u32, funct7: u32) -> Option<WordOp>
     ensures { result ≡ word_shift_of funct3 funct7 }
 {
@@ -156,6 +165,7 @@ fn word_shift(funct3: u32, funct7: u32) -> Option<WordOp>
 
 /// OP-32.
 #[tactic(auto, unfolding(op_defs::specs::Table::word_arithmetic_of))]
+#[inline(always)]
 pub fn word(bits: u32) -> Option<Op>
     ensures { result ≡ word_arithmetic_of bits }
 {
@@ -171,6 +181,7 @@ pub fn word(bits: u32) -> Option<Op>
 }
 
 #[tactic(auto, unfolding(op_defs::specs::Table::word_op_of))]
+#[inline(always)]
 fn word_op(funct7: u32, funct3: u32) -> Option<WordOp>
     ensures { result ≡ word_op_of funct7 funct3 }
 {
@@ -184,6 +195,7 @@ fn word_op(funct7: u32, funct3: u32) -> Option<WordOp>
 }
 
 #[tactic(auto, unfolding(op_defs::specs::Table::base_word_op_of))]
+#[inline(always)]
 fn base_word_op(funct3: u32) -> Option<WordOp>
     ensures { result ≡ base_word_op_of funct3 }
 {
@@ -196,6 +208,7 @@ fn base_word_op(funct3: u32) -> Option<WordOp>
 }
 
 #[tactic(auto, unfolding(op_defs::specs::Table::multiply_word_op_of))]
+#[inline(always)]
 fn multiply_word_op(funct3: u32) -> Option<WordOp>
     ensures { result ≡ multiply_word_op_of funct3 }
 {

@@ -1,17 +1,21 @@
 -- The place of an access, or its trap to the hart.
-use Rattle.std.proofs.Common.{◌≡◌, ℕ, List, Result, Ok, Err}
+use Rattle.std.proofs.Common.{◌≡◌, ℕ, List, Some, None, Ok, Err}
 use Rattle.arch_defs.specs.declared.modes.Trap.{Trap}
 use Rattle.arch_defs.specs.declared.registers.Csrs.{Csrs}
 use Rattle.machine_defs.specs.Answers.{answer_of}
 use Rattle.machine_defs.specs.Core.{Located, Faults, Misses, At, Fails}
 use Rattle.rv64_hart.specs.Endings.{IsAnswered}
 
--- as both stages answer
-pub answered : (csrs : Csrs) (memory : List ℕ) (located : Located) (answer : Result ℕ Trap)
-    → answer ≡ answer_of csrs 0 memory located → IsAnswered csrs memory located answer
-answered csrs memory (At place) (Ok other) e = cc
-answered csrs memory (At place) (Err trap) e = absurd (cc)
-answered csrs memory (Fails (Faults own)) (Err trap) e = λ mode rest. cc
-answered csrs memory (Fails (Misses missing)) (Err trap) e = λ mode rest. cc
-answered csrs memory (Fails (Faults own)) (Ok place) e = absurd (cc)
-answered csrs memory (Fails (Misses missing)) (Ok place) e = absurd (cc)
+-- a place as both stages answer
+pub placed : (csrs : Csrs) (memory : List ℕ) (located : Located) (trap : Trap) (place : ℕ)
+    → Ok place ≡ answer_of csrs 0 memory located → IsAnswered csrs memory located trap (Some place)
+placed csrs memory (At other) trap place e = cc
+placed csrs memory (Fails (Faults own)) trap place e = absurd (cc)
+placed csrs memory (Fails (Misses missing)) trap place e = absurd (cc)
+
+-- and a trap
+pub failed : (csrs : Csrs) (memory : List ℕ) (located : Located) (trap : Trap)
+    → Err trap ≡ answer_of csrs 0 memory located → IsAnswered csrs memory located trap None
+failed csrs memory (At place) trap e = absurd (cc)
+failed csrs memory (Fails (Faults own)) trap e = λ mode rest. cc
+failed csrs memory (Fails (Misses missing)) trap e = λ mode rest. cc

@@ -10,3 +10,7 @@ pub record Counts : Type 0 where
 -- a trace has been raised, modulo 2^64, by exactly this sum
 abbrev pub IsRaisedBy : ℕ → ℕ → ℕ → Type 0
 IsRaisedBy sum old new = new % 2 ^ 64 ≡ (old + sum) % 2 ^ 64
+
+-- only the trace may be another
+abbrev pub OnlyTrace : Counts → Counts → Type 0
+OnlyTrace old new = (new.entries ≡ old.entries) × (new.taken ≡ old.taken)

@@ -1,37 +1,65 @@
--- What the functions inside a run of the hart answer.
-use Rattle.std.specs.Prelude.{ℕ, ◌≡◌, List, Option, Some, None, Bool, Result, Ok, Err}
+-- What the functions inside a run of the hart answer, in a byte each; a trap is told apart.
+use Rattle.std.specs.Prelude.{ℕ, ◌≡◌, ◌+◌, ◌%◌, ◌^◌, List, Option, Some, None, Bool, true, false, ⊤}
 use Rattle.arch_defs.specs.declared.modes.Mode.{Mode}
 use Rattle.arch_defs.specs.declared.modes.Trap.{Trap}
 use Rattle.arch_defs.specs.declared.registers.Csrs.{Csrs}
 use Rattle.arch_defs.specs.declared.registers.Virtual.{Virtual}
 use Rattle.machine_defs.specs.declared.events.Event.{Event}
+use Rattle.machine_defs.specs.declared.events.Event.TheVariants as event
 use Rattle.machine_defs.specs.Core.{Located, At, at_place}
 use Rattle.machine_defs.specs.Outcomes.{Outcome}
-use Rattle.rv64_hart.specs.Steps.{Attempt, Makes, Raises, attempt_of, HartEnd, Goes, Exits, Progress}
+use Rattle.machine_defs.specs.Runs.{pc_and_word}
+use Rattle.rv64_hart.specs.declared.endings.Ended.{Ended}
+use Rattle.rv64_hart.specs.declared.endings.Ended.TheVariants.{Plain, System, Raised}
+use Rattle.rv64_hart.specs.declared.endings.StepEnd.{StepEnd}
+use Rattle.rv64_hart.specs.declared.endings.StepEnd.TheVariants.{Continues, Ends, Left}
+use Rattle.rv64_hart.specs.Steps.{Attempt, Makes, Raises, attempt_of, Progress, enters_vs}
 
 -- where an access is made, by the answer; where it is not, whatever is to follow there, the trap that it is
 -- to the hart
-abbrev pub IsAnswered : Csrs → List ℕ → Located → Result ℕ Trap → Type 0
-IsAnswered csrs memory located (Ok place) = located ≡ At place
-IsAnswered csrs memory located (Err trap) =
+abbrev pub IsAnswered : Csrs → List ℕ → Located → Trap → Option ℕ → Type 0
+IsAnswered csrs memory located trap (Some place) = located ≡ At place
+IsAnswered csrs memory located trap None =
     (mode : Mode) (rest : ℕ → Outcome) → attempt_of csrs mode memory (at_place located rest) ≡ Raises trap
 
--- what a step asks for, by the answer and the state and memory after it
-abbrev pub attempt_by : Result Event Trap → Virtual → List ℕ → Attempt
-attempt_by (Ok event) state memory = Makes state memory event
-attempt_by (Err trap) state memory = Raises trap
+-- what a step asks for, by how its instruction ended, the trap that is told apart, the event that the step is
+-- where the instruction is a plain one, and the state and memory after it
+abbrev pub attempt_by : Ended → Trap → Event → Virtual → List ℕ → Attempt
+attempt_by Plain trap made state memory = Makes state memory made
+attempt_by System trap made state memory = Makes state memory event.System
+attempt_by Raised trap made state memory = Raises trap
 
--- the end of a step, by the answer and the state and memory after it
-abbrev pub hart_end_of : Result Event Trap → Virtual → List ℕ → HartEnd
-hart_end_of (Ok event) state memory = Goes state memory event
-hart_end_of (Err trap) state memory = Exits trap
+-- where an instruction raised a trap
+abbrev pub IfRaised : Ended → Type 0 → Type 0
+IfRaised Plain P = ⊤
+IfRaised System P = ⊤
+IfRaised Raised P = P
 
--- how far the run has come after a step, by the answer, which says whether the run ends after it
-abbrev pub counted_of : Result Bool Trap → (Bool → Progress) → Option Progress
-counted_of (Ok trapped) p = Some (p trapped)
-counted_of (Err trap) p = None
+-- what a step asks for, as far as the account wants it: the state, the memory, the trace with the step's
+-- event, and whether that entered VS by a trap; or a trap
+pub data Told : Type 0 where
+  Tells : Virtual → List ℕ → ℕ → Bool → Told
+  TellsTrap : Trap → Told
 
--- how many steps were made
-abbrev pub made_in : Result Bool Trap → ℕ
-made_in (Ok trapped) = 1
-made_in (Err trap) = 0
+abbrev pub told : ℕ → Attempt → Told
+told trace (Makes state memory made) =
+    Tells state memory ((trace + pc_and_word made) % 2 ^ 64) (enters_vs made)
+told trace (Raises trap) = TellsTrap trap
+
+-- the same by how the instruction ended, the trap that is told apart, and the state, memory and trace after it
+abbrev pub told_by : Ended → Trap → Virtual → List ℕ → ℕ → Told
+told_by Plain trap state memory trace = Tells state memory trace false
+told_by System trap state memory trace = Tells state memory trace false
+told_by Raised trap state memory trace = TellsTrap trap
+
+-- how far the run has come after a step, by how the step ended
+abbrev pub counted_of : StepEnd → (Bool → Progress) → Option Progress
+counted_of Continues p = Some (p false)
+counted_of Ends p = Some (p true)
+counted_of Left p = None
+
+-- where the step is not made
+abbrev pub IfLeft : StepEnd → Type 0 → Type 0
+IfLeft Continues P = ⊤
+IfLeft Ends P = ⊤
+IfLeft Left P = P

@@ -1,17 +1,17 @@
 // The hart: one step of it, and runs of steps.
 
-ghost use Rattle.std.specs.Prelude.{◌≡◌, ◌+◌, ◌^◌, ◌<◌, ◌≤◌, Some, false, IfErr, OnErr};
+ghost use Rattle.std.specs.Prelude.{◌≡◌, ◌+◌, ◌^◌, ◌<◌, ◌≤◌, Some, false};
 ghost use Rattle.std.specs.Borrow.{sem};
 ghost use Rattle.arch_defs.specs.Registers.{virtual_at};
-ghost use Rattle.rv64_hart.specs.Endings.{counted_of, made_in};
 ghost use Rattle.rv64_hart.specs.Loans.{LendsState};
-ghost use Rattle.rv64_hart.specs.Steps.{Exits, enters_vs, hart_step, hart_steps, one_more_step, progress, is_vs_trap, IsWhy};
+ghost use Rattle.rv64_hart.specs.Steps.{hart_steps, progress, is_vs_trap, IsWhy};
 
+use crate::endings::StepEnd;
 use crate::steps::step;
 use crate::tallies::Tally;
-use arch_defs::{HartState, Level, Mode, Trap, Virtual};
-use machine_defs::Event;
+use arch_defs::{HartState, Mode, Trap, Virtual};
 use phys_mem::PhysMem;
+use trap_delegation::interrupt_trap;
 
 /// Why the hart stopped.
 #[derive(Clone, Copy, Debug, PartialEq, Eq)]
@@ -64,7 +64,6 @@ impl Hart {
 
     /// Makes steps over machine memory until `limit` are made, the next would trap to HS, or, while
     /// watched, one entered VS by a trap. Raises the tally by one entry and by the steps made.
-    #[tactic(auto, using(crate::proofs::Runs::steps_none, crate::proofs::Runs::steps_more))]
     pub fn run(&mut self, memory: &mut PhysMem, limit: u64, watch: bool, tally: &mut Tally) -> Stop
         requires entries { tally.old.entries < 2 ^ 62 }
         requires taken { tally.old.taken + limit ≤ 2 ^ 62 }
@@ -80,66 +79,49 @@ impl Hart {
         ensures taken { tally.new.taken ≡ tally.old.taken + result.taken }
     {
         tally.enter();
-        for taken in 0..limit {
-            match counted_step(&mut self.state, memory, watch, tally) {
-                Ok(false) => {}
-                Ok(true) => {
-                    return Stop {
-                        taken: taken + 1,
-                        why: Why::VsTrap,
-                    };
-                }
-                Err(trap) => {
-                    return Stop {
-                        taken,
-                        why: Why::Exit(trap),
-                    };
-                }
-            }
-        }
-        Stop {
-            taken: limit,
-            why: Why::Limit,
-        }
+        let stop = steps(&mut self.state, memory, limit, watch, tally);
+        tally.take(stop.taken);
+        stop
     }
 }
 
-// One step, told to the tally where it is made: whether the run ends after it, or the trap that ends the run
-// before it.
-#[tactic(auto, unfolding(crate::specs::Steps::one_more_step))]
-fn counted_step(
+// The steps of a run, whose trace the tally gets.
+#[tactic(auto, using(crate::proofs::Runs::steps_none, crate::proofs::Runs::steps_more))]
+fn steps(
     state: &mut HartState,
     memory: &mut PhysMem,
+    limit: u64,
     watch: bool,
     tally: &mut Tally,
-) -> Result<bool, Trap>
-    requires { tally.old.taken < 2 ^ 62 }
-    ensures steps { one_more_step watch (progress state.old memory.old tally.old.trace false)
-        ≡ counted_of result (progress state.new memory.new tally.new.trace) }
-    ensures stops { IfErr result (λ trap. hart_step state.new memory.new ≡ Exits trap) }
-    ensures stays { OnErr result
-        ((state.new ≡ state.old) × (memory.new ≡ memory.old) × (tally.new ≡ tally.old)) }
-    ensures taken { tally.new.taken ≡ tally.old.taken + made_in result }
+) -> Stop
+    ensures steps { hart_steps watch result.taken
+        (progress state.old memory.old tally.old.trace false)
+        ≡ Some (progress state.new memory.new tally.new.trace (is_vs_trap result.why)) }
+    ensures why { IsWhy limit result.taken state.new memory.new result.why }
+    ensures within { result.taken ≤ limit }
     ensures entries { tally.new.entries ≡ tally.old.entries }
+    ensures taken { tally.new.taken ≡ tally.old.taken }
 {
-    match step(state, memory) {
-        Ok(event) => {
-            tally.count(&event);
-            Ok(watch && enters_vs(&event))
+    let mut trap = interrupt_trap(0);
+    for taken in 0..limit {
+        match step(state, memory, watch, tally, &mut trap) {
+            StepEnd::Continues => {}
+            StepEnd::Ends => {
+                return Stop {
+                    taken: taken + 1,
+                    why: Why::VsTrap,
+                };
+            }
+            StepEnd::Left => {
+                return Stop {
+                    taken,
+                    why: Why::Exit(trap),
+                };
+            }
         }
-        Err(trap) => Err(trap),
     }
-}
-
-// Whether a step entered VS by a trap.
-fn enters_vs(event: &Event) -> bool
-    ensures { result ≡ enters_vs event.now }
-{
-    matches!(
-        event,
-        Event::Trap {
-            level: Level::VS,
-            ..
-        }
-    )
+    Stop {
+        taken: limit,
+        why: Why::Limit,
+    }
 }

@@ -3,7 +3,7 @@
 #![tactic(auto)]
 
 mod accesses;
-mod events;
+mod endings;
 mod harts;
 mod laws;
 mod steps;

@@ -1,58 +1,79 @@
 // One step of the hart.
 
-ghost use Rattle.std.specs.Prelude.{◌≡◌, ℕ, List, IsTrue, OnErr};
+ghost use Rattle.std.specs.Prelude.{◌≡◌, ◌^◌, ◌<◌, ℕ, List, Some, IsTrue, false};
 ghost use Rattle.arch_defs.specs.declared.registers.Csrs.{Csrs};
-ghost use Rattle.arch_defs.specs.Interrupts.{due};
-ghost use Rattle.arch_defs.specs.Traps.{entered_at, is_virtual, target};
-ghost use Rattle.machine_defs.specs.Core.{called_from, core, executed, instruction};
+ghost use Rattle.arch_defs.specs.Interrupts.{due, interrupt_of};
+ghost use Rattle.arch_defs.specs.Traps.{entered_at, exception, is_virtual, target};
+ghost use Rattle.op_defs.specs.Meaning.{branch, jump, meaning, next};
+ghost use Rattle.op_defs.specs.Table.{is_system, op_of};
+ghost use Rattle.machine_defs.specs.declared.events.Event.{Event};
+ghost use Rattle.machine_defs.specs.Core.{called_from, core, event_of, executed, instruction};
+ghost use Rattle.machine_defs.specs.Outcomes.{sets};
 ghost use Rattle.machine_defs.specs.Privileges.{privileged};
-ghost use Rattle.rv64_hart.specs.Endings.{attempt_by, hart_end_of};
+ghost use Rattle.rv64_hart.specs.Counts.{OnlyTrace};
+ghost use Rattle.rv64_hart.specs.Endings.{IfLeft, IfRaised, attempt_by, counted_of, told, told_by};
 ghost use Rattle.rv64_hart.specs.MachineMemory.{reading_of_memory, second_of_memory};
-ghost use Rattle.rv64_hart.specs.Steps.{Raises, attempt_of, hart_step, next_attempt, trapped_to};
+ghost use Rattle.rv64_hart.specs.Steps.{Exits, Raises, attempt_of, hart_step, next_attempt, one_more_step, progress, progressed, trapped_to};
 
-use crate::accesses::{access_data, access_place, word_at};
-use crate::events::event_of;
+use crate::accesses::{access_data, access_place, load_data, store_data, word_at};
+use crate::endings::{Ended, StepEnd};
+use crate::tallies::Tally;
 use arch_defs::{
-    Access, ECALL_FROM_HS, ECALL_FROM_USER, ECALL_FROM_VS, ILLEGAL_INSTRUCTION, Level, Mode, Trap,
-    Virtual, Width,
+    Access, ECALL_FROM_HS, ECALL_FROM_USER, ECALL_FROM_VS, ILLEGAL_INSTRUCTION,
+    INSTRUCTION_MISALIGNED, Level, Mode, Reg, Trap, Virtual, Width,
 };
-use machine_defs::Event;
-use op_defs::{Effect, Privileged};
-use op_effects::effect_of;
+use int_ops::{alu, word_alu};
+use op_defs::{Effect, Op, Privileged};
+use op_effects::{address_at, effect_of, even, is_branch_taken};
 use phys_mem::PhysMem;
-use privileged_ops::{Performed, perform, refusal_code};
+use privileged_ops::{Performed, pass, perform, refusal_code, set};
 use rv64_decode::decode;
 use trap_delegation::{enter_vs, exception, interrupt_trap, pending, target};
 
-/// Makes one step, which may be a trap into VS, unless it traps to HS.
-#[tactic(auto, unfolding(crate::specs::Steps::hart_step))]
-pub fn step(state: &mut Virtual, memory: &mut PhysMem) -> Result<Event, Trap>
-    ensures ends { hart_step state.old memory.old ≡ hart_end_of result state.new memory.new }
-    ensures stays { OnErr result ((state.new ≡ state.old) × (memory.new ≡ memory.old)) }
+/// Makes one step, which may be a trap into VS, unless it traps to HS; the tally gets its trace.
+#[inline(always)]
+#[tactic(auto, using(crate::proofs::Told::goes_on, crate::proofs::Told::raises, crate::proofs::Told::trap_goes), unfolding(crate::specs::Steps::hart_step, crate::specs::Steps::one_more_step))]
+pub fn step(
+    state: &mut Virtual,
+    memory: &mut PhysMem,
+    watch: bool,
+    tally: &mut Tally,
+    trap: &mut Trap,
+) -> StepEnd
+    ensures steps { one_more_step watch (progress state.old memory.old tally.old.trace false)
+        ≡ counted_of result (progress state.new memory.new tally.new.trace) }
+    ensures exits { IfLeft result (hart_step state.new memory.new ≡ Exits trap.new) }
+    ensures stays { IfLeft result
+        ((state.new ≡ state.old) × (memory.new ≡ memory.old) × (tally.new ≡ tally.old)) }
+    ensures tally { OnlyTrace tally.old tally.new }
 {
-    match attempt(state, memory) {
-        Ok(event) => Ok(event),
-        Err(trap) => trap_to_target(state, trap),
+    let _ = tally.trace();
+    match attempt(state, memory, tally, trap) {
+        Ended::Plain | Ended::System => StepEnd::Continues,
+        Ended::Raised => trap_to_target(state, watch, trap),
     }
 }
 
 // Takes a trap into VS, and leaves one to HS.
-#[tactic(auto, using(crate::proofs::Targets::virtual_to_vs))]
-fn trap_to_target(state: &mut Virtual, trap: Trap) -> Result<Event, Trap>
-    ensures ends { (memory : List ℕ) →
-        trapped_to state.old memory trap (target state.old.csrs state.old.mode trap)
-        ≡ hart_end_of result state.new memory }
-    ensures stays { OnErr result (state.new ≡ state.old) }
+#[tactic(auto, using(crate::proofs::Targets::virtual_to_vs, crate::proofs::Told::nothing_added))]
+#[inline(never)]
+fn trap_to_target(state: &mut Virtual, watch: bool, trap: &Trap) -> StepEnd
+    ensures ends { (memory : List ℕ) (trace : ℕ) → trace < 2 ^ 64 → progressed watch trace
+        (trapped_to state.old memory trap.now (target state.old.csrs state.old.mode trap.now))
+        ≡ counted_of result (progress state.new memory trace) }
+    ensures exits { IfLeft result (target state.old.csrs state.old.mode trap.now ≡ Level.HS) }
+    ensures stays { IfLeft result (state.new ≡ state.old) }
 {
-    match target(&state.csrs, state.mode, &trap) {
+    match target(&state.csrs, state.mode, trap) {
         Level::VS => {
-            take_into_vs(state, &trap);
-            Ok(Event::Trap {
-                level: Level::VS,
-                interrupt: trap.interrupt,
-            })
+            take_into_vs(state, trap);
+            if watch {
+                StepEnd::Ends
+            } else {
+                StepEnd::Continues
+            }
         }
-        Level::HS => Err(trap),
+        Level::HS => StepEnd::Left,
     }
 }
 
@@ -65,100 +86,324 @@ fn take_into_vs(state: &mut Virtual, trap: &Trap)
 }
 
 // The due interrupt, or one instruction.
-fn attempt(state: &mut Virtual, memory: &mut PhysMem) -> Result<Event, Trap>
-    ensures ends { next_attempt state.old memory.old (due state.old.csrs state.old.mode)
-        ≡ attempt_by result state.new memory.new }
-    ensures stays { OnErr result ((state.new ≡ state.old) × (memory.new ≡ memory.old)) }
+#[inline(always)]
+fn attempt(state: &mut Virtual, memory: &mut PhysMem, tally: &mut Tally, trap: &mut Trap) -> Ended
+    ensures told { told tally.old.trace
+        (next_attempt state.old memory.old (due state.old.csrs state.old.mode))
+        ≡ told_by result trap.new state.new memory.new tally.new.trace }
+    ensures stays { IfRaised result
+        ((state.new ≡ state.old) × (memory.new ≡ memory.old) × (tally.new ≡ tally.old)) }
+    ensures tally { OnlyTrace tally.old tally.new }
 {
     match pending(&state.csrs, state.mode) {
-        Some(code) => Err(interrupt_trap(code)),
-        None => instruction(state, memory),
+        Some(code) => raise_interrupt(code, trap),
+        None => instruction(state, memory, tally, trap),
     }
 }
 
 // One instruction.
 #[tactic(auto, unfolding(machine_defs::specs::Core::core))]
-fn instruction(state: &mut Virtual, memory: &mut PhysMem) -> Result<Event, Trap>
-    ensures ends { attempt_of state.old.csrs state.old.mode memory.old
-        (core (second_of_memory state.old memory.old) (reading_of_memory memory.old) state.old)
-        ≡ attempt_by result state.new memory.new }
-    ensures stays { OnErr result ((state.new ≡ state.old) × (memory.new ≡ memory.old)) }
+#[inline(always)]
+fn instruction(
+    state: &mut Virtual,
+    memory: &mut PhysMem,
+    tally: &mut Tally,
+    trap: &mut Trap,
+) -> Ended
+    ensures told { told tally.old.trace
+        (attempt_of state.old.csrs state.old.mode memory.old
+        (core (second_of_memory state.old memory.old) (reading_of_memory memory.old) state.old))
+        ≡ told_by result trap.new state.new memory.new tally.new.trace }
+    ensures stays { IfRaised result
+        ((state.new ≡ state.old) × (memory.new ≡ memory.old) × (tally.new ≡ tally.old)) }
+    ensures tally { OnlyTrace tally.old tally.new }
 {
     let pc = state.regs.pc;
-    let place = access_place(state, memory, pc, Width::Word, Access::Fetch)?;
-    let word = word_at(memory, place);
-    decoded(state, memory, word)
+    match access_place(state, memory, pc, Width::Word, Access::Fetch, trap) {
+        Some(place) => counted(state, memory, word_at(memory, place), tally, trap),
+        None => Ended::Raised,
+    }
 }
 
-// The instruction of a word.
-fn decoded(state: &mut Virtual, memory: &mut PhysMem, word: u32) -> Result<Event, Trap>
+// The instruction of a word, of which the tally gets the trace where it is made.
+#[tactic(auto, using(crate::proofs::Told::system_told, crate::proofs::Told::is_system_told))]
+#[inline(always)]
+fn counted(
+    state: &mut Virtual,
+    memory: &mut PhysMem,
+    word: u32,
+    tally: &mut Tally,
+    trap: &mut Trap,
+) -> Ended
+    ensures told { told tally.old.trace
+        (attempt_of state.old.csrs state.old.mode memory.old
+        (instruction (second_of_memory state.old memory.old) (reading_of_memory memory.old) state.old word))
+        ≡ told_by result trap.new state.new memory.new tally.new.trace }
+    ensures stays { IfRaised result
+        ((state.new ≡ state.old) × (memory.new ≡ memory.old) × (tally.new ≡ tally.old)) }
+    ensures tally { OnlyTrace tally.old tally.new }
+{
+    let pc = state.regs.pc;
+    let _ = tally.trace();
+    match decoded(state, memory, word, trap) {
+        Ended::Plain => {
+            if is_system(word) {
+                Ended::System
+            } else {
+                tally.count(pc, word);
+                Ended::Plain
+            }
+        }
+        Ended::System => Ended::System,
+        Ended::Raised => Ended::Raised,
+    }
+}
+
+// Whether a word is of opcode SYSTEM.
+#[tactic(auto, unfolding(op_defs::specs::Table::is_system))]
+fn is_system(word: u32) -> bool
+    ensures { result ≡ is_system word }
+{
+    word & 0x7F == 0b1110011
+}
+
+// The instruction of a word: the common ones here, and each other by `rare`.
+#[inline(always)]
+fn decoded(state: &mut Virtual, memory: &mut PhysMem, word: u32, trap: &mut Trap) -> Ended
     ensures ends { attempt_of state.old.csrs state.old.mode memory.old
         (instruction (second_of_memory state.old memory.old) (reading_of_memory memory.old) state.old word)
-        ≡ attempt_by result state.new memory.new }
-    ensures stays { OnErr result ((state.new ≡ state.old) × (memory.new ≡ memory.old)) }
+        ≡ attempt_by result trap.new (event_of state.old.regs.pc word) state.new memory.new }
+    ensures stays { IfRaised result ((state.new ≡ state.old) × (memory.new ≡ memory.old)) }
+{
+    match decode(word) {
+        Some(op) => made(state, memory, word, &op, trap),
+        None => raise(state.mode, ILLEGAL_INSTRUCTION, word as u64, trap),
+    }
+}
+
+// The instruction that a word is.
+#[inline(always)]
+#[tactic(auto, unfolding(op_defs::specs::Meaning::meaning))]
+fn made(state: &mut Virtual, memory: &mut PhysMem, word: u32, op: &Op, trap: &mut Trap) -> Ended
+    requires { op_of word ≡ Some op.now }
+    ensures ends { attempt_of state.old.csrs state.old.mode memory.old
+        (executed (second_of_memory state.old memory.old) (reading_of_memory memory.old)
+        state.old word (meaning op.now state.old.regs))
+        ≡ attempt_by result trap.new (event_of state.old.regs.pc word) state.new memory.new }
+    ensures stays { IfRaised result ((state.new ≡ state.old) × (memory.new ≡ memory.old)) }
+{
+    match *op {
+        Op::Lui { rd, immediate } => sets(state, rd, immediate),
+        Op::Auipc { rd, immediate } => {
+            let value = state.regs.pc.wrapping_add(immediate);
+            sets(state, rd, value)
+        }
+        Op::AluImmediate {
+            op,
+            rd,
+            rs1,
+            immediate,
+        } => {
+            let value = alu(op, state.regs.read(rs1), immediate);
+            sets(state, rd, value)
+        }
+        Op::Alu { op, rd, rs1, rs2 } => {
+            let value = alu(op, state.regs.read(rs1), state.regs.read(rs2));
+            sets(state, rd, value)
+        }
+        Op::WordImmediate {
+            op,
+            rd,
+            rs1,
+            immediate,
+        } => {
+            let value = word_alu(op, state.regs.read(rs1), immediate);
+            sets(state, rd, value)
+        }
+        Op::Word { op, rd, rs1, rs2 } => {
+            let value = word_alu(op, state.regs.read(rs1), state.regs.read(rs2));
+            sets(state, rd, value)
+        }
+        Op::Jal { rd, offset } => {
+            let to = state.regs.pc.wrapping_add(offset);
+            jump(state, rd, to, trap)
+        }
+        Op::Jalr { rd, rs1, offset } => {
+            let to = even(address_at(&state.regs, rs1, offset));
+            jump(state, rd, to, trap)
+        }
+        Op::Branch {
+            test,
+            rs1,
+            rs2,
+            offset,
+        } => {
+            let taken = is_branch_taken(test, state.regs.read(rs1), state.regs.read(rs2));
+            let to = state.regs.pc.wrapping_add(offset);
+            branch(state, taken, to, trap)
+        }
+        Op::Load {
+            width,
+            signed,
+            rd,
+            rs1,
+            offset,
+        } => {
+            let address = address_at(&state.regs, rs1, offset);
+            load_data(state, memory, address, width, signed, rd, trap)
+        }
+        Op::Store {
+            width,
+            rs1,
+            rs2,
+            offset,
+        } => {
+            let address = address_at(&state.regs, rs1, offset);
+            let value = state.regs.read(rs2);
+            store_data(state, memory, address, width, value, trap)
+        }
+        _ => rare(state, memory, word, trap),
+    }
+}
+
+// A register is set, and pc goes on.
+#[inline(always)]
+fn sets(state: &mut Virtual, rd: Reg, value: u64) -> Ended
+    ensures state { state.new ≡ sets state.old rd value }
+    ensures plain { result ≡ Ended.Plain }
+{
+    set(state, rd, value);
+    Ended::Plain
+}
+
+// A jump, which leaves the next pc in rd.
+#[inline(always)]
+fn jump(state: &mut Virtual, rd: Reg, to: u64, trap: &mut Trap) -> Ended
+    ensures ends { (memory : List ℕ) (word : ℕ) → attempt_of state.old.csrs state.old.mode memory
+        (executed (second_of_memory state.old memory) (reading_of_memory memory) state.old word
+        (jump rd (next state.old.regs) to))
+        ≡ attempt_by result trap.new (event_of state.old.regs.pc word) state.new memory }
+    ensures stays { IfRaised result (state.new ≡ state.old) }
+{
+    if to % 4 == 0 {
+        let next = state.regs.pc.wrapping_add(4);
+        state.regs.advance(rd, next, to);
+        Ended::Plain
+    } else {
+        raise(state.mode, INSTRUCTION_MISALIGNED, to, trap)
+    }
+}
+
+// A branch.
+#[inline(always)]
+fn branch(state: &mut Virtual, taken: bool, to: u64, trap: &mut Trap) -> Ended
+    ensures ends { (memory : List ℕ) (word : ℕ) → attempt_of state.old.csrs state.old.mode memory
+        (executed (second_of_memory state.old memory) (reading_of_memory memory) state.old word
+        (branch taken (next state.old.regs) to))
+        ≡ attempt_by result trap.new (event_of state.old.regs.pc word) state.new memory }
+    ensures stays { IfRaised result (state.new ≡ state.old) }
+{
+    if !taken {
+        pass(state);
+        Ended::Plain
+    } else if to % 4 == 0 {
+        state.regs.advance(Reg::new(0), 0, to);
+        Ended::Plain
+    } else {
+        raise(state.mode, INSTRUCTION_MISALIGNED, to, trap)
+    }
+}
+
+// The instruction of a word, by what it asks for.
+#[inline(never)]
+fn rare(state: &mut Virtual, memory: &mut PhysMem, word: u32, trap: &mut Trap) -> Ended
+    ensures ends { attempt_of state.old.csrs state.old.mode memory.old
+        (instruction (second_of_memory state.old memory.old) (reading_of_memory memory.old) state.old word)
+        ≡ attempt_by result trap.new (event_of state.old.regs.pc word) state.new memory.new }
+    ensures stays { IfRaised result ((state.new ≡ state.old) × (memory.new ≡ memory.old)) }
 {
     match decode(word) {
         Some(op) => {
             let effect = effect_of(&op, &state.regs);
-            apply(state, memory, word, effect)
+            apply(state, memory, word, effect, trap)
         }
-        None => Err(exception(state.mode, ILLEGAL_INSTRUCTION, word as u64)),
+        None => raise(state.mode, ILLEGAL_INSTRUCTION, word as u64, trap),
     }
 }
 
-// Does what the instruction of this word asks for.
+// Does what an instruction asks for.
 fn apply(
     state: &mut Virtual,
     memory: &mut PhysMem,
     word: u32,
     effect: Effect,
-) -> Result<Event, Trap>
+    trap: &mut Trap,
+) -> Ended
     ensures ends { attempt_of state.old.csrs state.old.mode memory.old
         (executed (second_of_memory state.old memory.old) (reading_of_memory memory.old)
         state.old word effect)
-        ≡ attempt_by result state.new memory.new }
-    ensures stays { OnErr result ((state.new ≡ state.old) × (memory.new ≡ memory.old)) }
+        ≡ attempt_by result trap.new (event_of state.old.regs.pc word) state.new memory.new }
+    ensures stays { IfRaised result ((state.new ≡ state.old) × (memory.new ≡ memory.old)) }
 {
     match effect {
         Effect::Sets { rd, value, next } => {
-            let event = event_of(state.regs.pc, word);
             state.regs.advance(rd, value, next);
-            Ok(event)
+            Ended::Plain
         }
-        Effect::Raises { cause, tval } => Err(exception(state.mode, cause, tval)),
-        Effect::Data(wanted) => {
-            let event = event_of(state.regs.pc, word);
-            access_data(state, memory, wanted, event)
-        }
-        Effect::Calls => Err(call_trap(state.mode)),
-        Effect::Privileged(effect) => privileged(state, word, effect),
+        Effect::Raises { cause, tval } => raise(state.mode, cause, tval, trap),
+        Effect::Data(wanted) => access_data(state, memory, wanted, trap),
+        Effect::Calls => call(state.mode, trap),
+        Effect::Privileged(effect) => privileged(state, word, effect, trap),
     }
 }
 
-// The exception of ECALL by mode.
-fn call_trap(mode: Mode) -> Trap
-    ensures { (csrs : Csrs) (memory : List ℕ) →
-        attempt_of csrs mode memory (called_from mode) ≡ Raises result }
+// Raises an exception of an instruction.
+#[cold]
+#[inline(never)]
+fn raise(mode: Mode, cause: u64, tval: u64, trap: &mut Trap) -> Ended
+    ensures trap { trap.new ≡ exception mode cause tval }
+    ensures raised { result ≡ Ended.Raised }
+{
+    *trap = exception(mode, cause, tval);
+    Ended::Raised
+}
+
+// Raises an interrupt.
+#[cold]
+#[inline(never)]
+fn raise_interrupt(code: u64, trap: &mut Trap) -> Ended
+    ensures trap { trap.new ≡ interrupt_of code }
+    ensures raised { result ≡ Ended.Raised }
+{
+    *trap = interrupt_trap(code);
+    Ended::Raised
+}
+
+// ECALL, by mode.
+fn call(mode: Mode, trap: &mut Trap) -> Ended
+    ensures trap { (csrs : Csrs) (memory : List ℕ) →
+        attempt_of csrs mode memory (called_from mode) ≡ Raises trap.new }
+    ensures raised { result ≡ Ended.Raised }
 {
     let cause = match mode {
         Mode::HS => ECALL_FROM_HS,
         Mode::VS => ECALL_FROM_VS,
         Mode::U | Mode::VU => ECALL_FROM_USER,
     };
-    exception(mode, cause, 0)
+    raise(mode, cause, 0, trap)
 }
 
 // An instruction that the mode decides on.
 #[inline(never)]
-fn privileged(state: &mut Virtual, word: u32, effect: Privileged) -> Result<Event, Trap>
-    ensures ends { (memory : List ℕ) →
+fn privileged(state: &mut Virtual, word: u32, effect: Privileged, trap: &mut Trap) -> Ended
+    ensures ends { (memory : List ℕ) (made : Event) →
         attempt_of state.old.csrs state.old.mode memory (privileged state.old word effect)
-        ≡ attempt_by result state.new memory }
-    ensures stays { OnErr result (state.new ≡ state.old) }
+        ≡ attempt_by result trap.new made state.new memory }
+    ensures stays { IfRaised result (state.new ≡ state.old) }
 {
     match perform(state, effect) {
-        Performed::Done | Performed::Waits | Performed::Fenced(_) => Ok(Event::System),
-        Performed::Accesses(_) => Err(exception(state.mode, ILLEGAL_INSTRUCTION, 0)),
-        Performed::Refused(end) => Err(exception(state.mode, refusal_code(end), word as u64)),
+        Performed::Done | Performed::Waits | Performed::Fenced(_) => Ended::System,
+        Performed::Accesses(_) => raise(state.mode, ILLEGAL_INSTRUCTION, 0, trap),
+        Performed::Refused(end) => raise(state.mode, refusal_code(end), word as u64, trap),
     }
 }

@@ -1,9 +1,7 @@
 // The account of what the hart did.
 
-ghost use Rattle.std.specs.Prelude.{◌≡◌, ◌+◌, ◌%◌, ◌^◌, ◌<◌};
-ghost use Rattle.machine_defs.specs.Runs.{pc_and_word};
+ghost use Rattle.std.specs.Prelude.{◌≡◌, ◌+◌, ◌%◌, ◌^◌, ◌<◌, ◌≤◌};
 
-use machine_defs::Event;
 use std::marker::Model;
 
 /// How often the hart was entered, how many steps it made, and the sum of pc and word of the plain ones,
@@ -68,17 +66,18 @@ impl Tally {
         self.entries += 1;
     }
 
-    // The hart has made a step.
-    pub(crate) fn count(&mut self, event: &Event)
-        requires { self.old.taken < 2 ^ 62 }
-        ensures { self.new ≡ record self.old {
-          taken = self.old.taken + 1;
-          trace = (self.old.trace + pc_and_word event.now) % 2 ^ 64;
-        } }
+    // The hart has made so many steps.
+    pub(crate) fn take(&mut self, taken: u64)
+        requires { self.old.taken + taken ≤ 2 ^ 62 }
+        ensures { self.new ≡ record self.old { taken = self.old.taken + taken } }
     {
-        self.taken += 1;
-        if let Event::Plain { pc, word } = event {
-            self.trace = self.trace.wrapping_add(pc.wrapping_add(*word as u64));
-        }
+        self.taken += taken;
+    }
+
+    // The hart has made a plain step.
+    pub(crate) fn count(&mut self, pc: u64, word: u32)
+        ensures { self.new ≡ record self.old { trace = (self.old.trace + (pc + word)) % 2 ^ 64 } }
+    {
+        self.trace = self.trace.wrapping_add(pc.wrapping_add(word as u64));
     }
 }
