@@ -9,5 +9,5 @@ mod tests;
 
 pub use op_defs::{DataAccess, Purpose};
 pub use phys_mem::Mem;
-pub use places::place_for;
+pub use places::{is_aligned, place_for};
 pub use purposes::{complete, kind_of, load, store};

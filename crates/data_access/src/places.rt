@@ -12,8 +12,9 @@ use phys_mem::Mem;
 use trap_delegation::{exception, misaligned_fault};
 use two_stage_walk::translate;
 
-// Whether an address is a multiple of a width.
-fn is_aligned(address: u64, width: Width) -> bool
+/// Whether an address is a multiple of a width.
+#[inline(always)]
+pub fn is_aligned(address: u64, width: Width) -> bool
     ensures { result ≡ (address % bytes_in width == 0) }
 {
     address % width.bytes() as u64 == 0

@@ -1,10 +1,15 @@
 -- The place of an access, or its trap to the hart.
-use Rattle.std.proofs.Common.{◌≡◌, ℕ, List, Some, None, Ok, Err}
+use Rattle.std.proofs.Common.{◌≡◌, ◌%◌, ℕ, List, Some, None, Ok, Err}
 use Rattle.arch_defs.specs.declared.modes.Trap.{Trap}
 use Rattle.arch_defs.specs.declared.registers.Csrs.{Csrs}
-use Rattle.machine_defs.specs.Answers.{answer_of}
+use Rattle.arch_defs.specs.declared.modes.Access.{Access}
+use Rattle.arch_defs.specs.declared.registers.Virtual.{Virtual}
+use Rattle.arch_defs.specs.declared.widths.Width.{Width}
+use Rattle.arch_defs.specs.Widths.{bytes_in}
+use Rattle.machine_defs.specs.Answers.{answer_of, located_by_walk}
 use Rattle.machine_defs.specs.Core.{Located, Faults, Misses, At, Fails}
 use Rattle.rv64_hart.specs.Endings.{IsAnswered}
+use Rattle.rv64_hart.specs.MachineMemory.{access_over}
 
 -- a place as both stages answer
 pub placed : (csrs : Csrs) (memory : List ℕ) (located : Located) (trap : Trap) (place : ℕ)
@@ -19,3 +24,17 @@ pub failed : (csrs : Csrs) (memory : List ℕ) (located : Located) (trap : Trap)
 failed csrs memory (At place) trap e = absurd (cc)
 failed csrs memory (Fails (Faults own)) trap e = λ mode rest. cc
 failed csrs memory (Fails (Misses missing)) trap e = λ mode rest. cc
+
+-- the place of an aligned access, where both stages give it
+found : (csrs : Csrs) (memory : List ℕ) (located : Located) (place : ℕ)
+    → Ok place ≡ answer_of csrs 0 memory located → located ≡ At place
+found csrs memory (At other) place e = cc
+found csrs memory (Fails (Faults own)) place e = absurd (cc)
+found csrs memory (Fails (Misses missing)) place e = absurd (cc)
+
+pub at_place_found : (state : Virtual) (memory : List ℕ) (va : ℕ) (width : Width) (access : Access) (place : ℕ)
+    → va % bytes_in width ≡ 0
+    → Ok place ≡ answer_of state.csrs 0 memory (located_by_walk state.csrs state.mode 0 memory va access)
+    → access_over memory state va width access ≡ At place
+at_place_found state memory va width access place aligned e =
+    rw aligned (found state.csrs memory (located_by_walk state.csrs state.mode 0 memory va access) place e)

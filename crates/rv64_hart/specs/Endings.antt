@@ -4,6 +4,7 @@ use Rattle.arch_defs.specs.declared.modes.Mode.{Mode}
 use Rattle.arch_defs.specs.declared.modes.Trap.{Trap}
 use Rattle.arch_defs.specs.declared.registers.Csrs.{Csrs}
 use Rattle.arch_defs.specs.declared.registers.Virtual.{Virtual}
+use Rattle.arch_defs.specs.Interrupts.{due}
 use Rattle.machine_defs.specs.declared.events.Event.{Event}
 use Rattle.machine_defs.specs.declared.events.Event.TheVariants as event
 use Rattle.machine_defs.specs.Core.{Located, At, at_place}
@@ -28,6 +29,12 @@ abbrev pub attempt_by : Ended → Trap → Event → Virtual → List ℕ → At
 attempt_by Plain trap made state memory = Makes state memory made
 attempt_by System trap made state memory = Makes state memory event.System
 attempt_by Raised trap made state memory = Raises trap
+
+-- where an instruction was made that is none of opcode SYSTEM
+abbrev pub IfPlain : Ended → Type 0 → Type 0
+IfPlain Plain P = P
+IfPlain System P = ⊤
+IfPlain Raised P = ⊤
 
 -- where an instruction raised a trap
 abbrev pub IfRaised : Ended → Type 0 → Type 0
@@ -63,3 +70,12 @@ abbrev pub IfLeft : StepEnd → Type 0 → Type 0
 IfLeft Continues P = ⊤
 IfLeft Ends P = ⊤
 IfLeft Left P = P
+
+-- the registers and the mode by which memory is accessed stay
+abbrev pub KeepsContext : Virtual → Virtual → Type 0
+KeepsContext old new = (new.csrs ≡ old.csrs) × (new.mode ≡ old.mode)
+
+-- while it is quiet, no interrupt is due
+abbrev pub IsQuiet : Bool → Virtual → Type 0
+IsQuiet true state = due state.csrs state.mode ≡ None
+IsQuiet false state = ⊤

@@ -3,16 +3,18 @@
 ghost use Rattle.std.specs.Prelude.{◌≡◌, IfSome};
 ghost use Rattle.op_defs.specs.declared.ops.Purpose.TheVariants.{Load, Store};
 ghost use Rattle.machine_defs.specs.declared.events.Event.{Event};
-ghost use Rattle.machine_defs.specs.Core.{accessed_data, word_at};
+ghost use Rattle.machine_defs.specs.Core.{At, accessed_data, word_at};
 ghost use Rattle.data_access.specs.Places.{IsPlaceFor};
-ghost use Rattle.rv64_hart.specs.Endings.{IfRaised, IsAnswered, attempt_by};
+ghost use Rattle.translation_buffer.specs.Serving.{Serves};
+ghost use Rattle.rv64_hart.specs.Endings.{IfPlain, IfRaised, IsAnswered, KeepsContext, attempt_by};
 ghost use Rattle.rv64_hart.specs.MachineMemory.{access_over, reading_of_memory, second_of_memory};
 ghost use Rattle.rv64_hart.specs.Steps.{attempt_of};
 
 use crate::endings::Ended;
 use arch_defs::{Access, Reg, Trap, Virtual, Width};
-use data_access::{DataAccess, complete, kind_of, load, place_for, store};
+use data_access::{DataAccess, complete, is_aligned, kind_of, load, place_for, store};
 use phys_mem::PhysMem;
+use translation_buffer::Buffer;
 use two_stage_walk::memory_is_whole;
 
 /// The instruction word at a place.
@@ -25,9 +27,60 @@ pub fn word_at(memory: &PhysMem, place: u64) -> u32
 
 /// Where in memory an instruction makes an access, by both stages as memory is; where it makes none, `trap`
 /// becomes the trap of the access.
-#[tactic(auto, using(crate::proofs::Places::placed, crate::proofs::Places::failed))]
 #[inline(always)]
 pub fn access_place(
+    state: &Virtual,
+    memory: &PhysMem,
+    buffer: &mut Buffer,
+    va: u64,
+    width: Width,
+    access: Access,
+    trap: &mut Trap,
+) -> Option<u64>
+    requires serves { Serves buffer.old state.now.csrs state.now.mode memory.now }
+    ensures located { IsAnswered state.now.csrs memory.now
+        (access_over memory.now state.now va width access) trap.new result }
+    ensures place { IfSome result (λ place. IsPlaceFor 0 memory.now width place) }
+    ensures serves { Serves buffer.new state.now.csrs state.now.mode memory.now }
+{
+    match kept_place(state, memory, buffer, va, width, access) {
+        Some(place) => Some(place),
+        None => place_or_raise(state, memory, va, width, access, trap),
+    }
+}
+
+// Where an access is made, by the buffer.
+#[inline(always)]
+#[tactic(auto, using(crate::proofs::Places::at_place_found, data_access::proofs::Fitting::fits_at))]
+fn kept_place(
+    state: &Virtual,
+    memory: &PhysMem,
+    buffer: &mut Buffer,
+    va: u64,
+    width: Width,
+    access: Access,
+) -> Option<u64>
+    requires serves { Serves buffer.old state.now.csrs state.now.mode memory.now }
+    ensures located { IfSome result
+        (λ place. access_over memory.now state.now va width access ≡ At place) }
+    ensures place { IfSome result (λ place. IsPlaceFor 0 memory.now width place) }
+    ensures serves { Serves buffer.new state.now.csrs state.now.mode memory.now }
+{
+    memory_is_whole(memory);
+    if !is_aligned(va, width) {
+        return None;
+    }
+    match buffer.place(memory, &state.csrs, state.mode, va, access) {
+        Some(place) => Some(place),
+        None => None,
+    }
+}
+
+// The same with no buffer.
+#[cold]
+#[inline(never)]
+#[tactic(auto, using(crate::proofs::Places::placed, crate::proofs::Places::failed))]
+fn place_or_raise(
     state: &Virtual,
     memory: &PhysMem,
     va: u64,
@@ -49,23 +102,37 @@ pub fn access_place(
     }
 }
 
-/// An instruction's access to data.
+/// An instruction's access to data. What is kept is opened for a store also where nothing is stored, by LR
+/// and an SC that fails.
 pub fn access_data(
     state: &mut Virtual,
     memory: &mut PhysMem,
+    buffer: &mut Buffer,
     wanted: DataAccess,
     trap: &mut Trap,
 ) -> Ended
+    requires serves { Serves buffer.old state.old.csrs state.old.mode memory.old }
     ensures ends { (event : Event) → attempt_of state.old.csrs state.old.mode memory.old
         (accessed_data (second_of_memory state.old memory.old) (reading_of_memory memory.old)
         state.old event wanted)
         ≡ attempt_by result trap.new event state.new memory.new }
     ensures stays { IfRaised result ((state.new ≡ state.old) × (memory.new ≡ memory.old)) }
+    ensures serves { Serves buffer.new state.new.csrs state.new.mode memory.new }
+    ensures plain { IfPlain result (KeepsContext state.old state.new) }
 {
     let access = kind_of(wanted.purpose);
-    match access_place(state, memory, wanted.address, wanted.width, access, trap) {
-        Some(place) => {
-            complete(memory, state, wanted.width, wanted.purpose, place);
+    match access_place(
+        state,
+        memory,
+        buffer,
+        wanted.address,
+        wanted.width,
+        access,
+        trap,
+    ) {
+        Some(at) => {
+            buffer.open(at);
+            complete(memory, state, wanted.width, wanted.purpose, at);
             Ended::Plain
         }
         None => Ended::Raised,
@@ -77,19 +144,23 @@ pub fn access_data(
 pub fn load_data(
     state: &mut Virtual,
     memory: &PhysMem,
+    buffer: &mut Buffer,
     address: u64,
     width: Width,
     signed: bool,
     rd: Reg,
     trap: &mut Trap,
 ) -> Ended
+    requires serves { Serves buffer.old state.old.csrs state.old.mode memory.now }
     ensures ends { (event : Event) → attempt_of state.old.csrs state.old.mode memory.now
         (accessed_data (second_of_memory state.old memory.now) (reading_of_memory memory.now)
         state.old event (record { address = address; width = width; purpose = Load signed rd }))
         ≡ attempt_by result trap.new event state.new memory.now }
     ensures stays { IfRaised result (state.new ≡ state.old) }
+    ensures serves { Serves buffer.new state.new.csrs state.new.mode memory.now }
+    ensures plain { IfPlain result (KeepsContext state.old state.new) }
 {
-    match access_place(state, memory, address, width, Access::Load, trap) {
+    match access_place(state, memory, buffer, address, width, Access::Load, trap) {
         Some(place) => {
             load(memory, state, width, signed, rd, place);
             Ended::Plain
@@ -103,19 +174,24 @@ pub fn load_data(
 pub fn store_data(
     state: &mut Virtual,
     memory: &mut PhysMem,
+    buffer: &mut Buffer,
     address: u64,
     width: Width,
     value: u64,
     trap: &mut Trap,
 ) -> Ended
+    requires serves { Serves buffer.old state.old.csrs state.old.mode memory.old }
     ensures ends { (event : Event) → attempt_of state.old.csrs state.old.mode memory.old
         (accessed_data (second_of_memory state.old memory.old) (reading_of_memory memory.old)
         state.old event (record { address = address; width = width; purpose = Store value }))
         ≡ attempt_by result trap.new event state.new memory.new }
     ensures stays { IfRaised result ((state.new ≡ state.old) × (memory.new ≡ memory.old)) }
+    ensures serves { Serves buffer.new state.new.csrs state.new.mode memory.new }
+    ensures plain { IfPlain result (KeepsContext state.old state.new) }
 {
-    match access_place(state, memory, address, width, Access::Store, trap) {
+    match access_place(state, memory, buffer, address, width, Access::Store, trap) {
         Some(place) => {
+            buffer.open(place);
             store(memory, state, width, value, place);
             Ended::Plain
         }

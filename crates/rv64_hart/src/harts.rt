@@ -3,6 +3,7 @@
 ghost use Rattle.std.specs.Prelude.{◌≡◌, ◌+◌, ◌^◌, ◌<◌, ◌≤◌, Some, false};
 ghost use Rattle.std.specs.Borrow.{sem};
 ghost use Rattle.arch_defs.specs.Registers.{virtual_at};
+ghost use Rattle.translation_buffer.specs.Serving.{Serves};
 ghost use Rattle.rv64_hart.specs.Loans.{LendsState};
 ghost use Rattle.rv64_hart.specs.Steps.{hart_steps, progress, is_vs_trap, IsWhy};
 
@@ -11,6 +12,7 @@ use crate::steps::step;
 use crate::tallies::Tally;
 use arch_defs::{HartState, Mode, Trap, Virtual};
 use phys_mem::PhysMem;
+use translation_buffer::Buffer;
 use trap_delegation::interrupt_trap;
 
 /// Why the hart stopped.
@@ -31,10 +33,12 @@ pub struct Stop {
     pub why: Why,
 }
 
-/// The hart. Both stages of its translation walk their tables in machine memory as it is.
+/// The hart. Both stages of its translation walk their tables in machine memory as it is: what it keeps of
+/// walks is dropped where a store may change it.
 #[derive(Debug, Drop)]
 pub struct Hart {
     state: HartState,
+    buffer: Buffer,
 }
 
 impl Hart {
@@ -42,9 +46,9 @@ impl Hart {
     pub fn new() -> Hart
         ensures { result.state ≡ virtual_at Mode.VS 0 }
     {
-        Hart {
-            state: Virtual::starting_at(Mode::VS, 0),
-        }
+        let state = Virtual::starting_at(Mode::VS, 0);
+        let buffer = Buffer::new(&state.csrs, state.mode);
+        Hart { state, buffer }
     }
 
     /// What the hart has, lent.
@@ -60,6 +64,13 @@ impl Hart {
         ensures value { result.now ≡ self.old.state }
     {
         &mut self.state
+    }
+
+    /// How many walks by both stages the hart has made since it was made; it stays at 2^64-1.
+    pub fn walks(&self) -> u64
+        ensures { result ≡ self.now.buffer.walks }
+    {
+        self.buffer.walks()
     }
 
     /// Makes steps over machine memory until `limit` are made, the next would trap to HS, or, while
@@ -79,7 +90,15 @@ impl Hart {
         ensures taken { tally.new.taken ≡ tally.old.taken + result.taken }
     {
         tally.enter();
-        let stop = steps(&mut self.state, memory, limit, watch, tally);
+        self.buffer.restart(&self.state.csrs, self.state.mode);
+        let stop = steps(
+            &mut self.state,
+            memory,
+            &mut self.buffer,
+            limit,
+            watch,
+            tally,
+        );
         tally.take(stop.taken);
         stop
     }
@@ -90,10 +109,12 @@ impl Hart {
 fn steps(
     state: &mut HartState,
     memory: &mut PhysMem,
+    buffer: &mut Buffer,
     limit: u64,
     watch: bool,
     tally: &mut Tally,
 ) -> Stop
+    requires serves { Serves buffer.old state.old.csrs state.old.mode memory.old }
     ensures steps { hart_steps watch result.taken
         (progress state.old memory.old tally.old.trace false)
         ≡ Some (progress state.new memory.new tally.new.trace (is_vs_trap result.why)) }
@@ -103,8 +124,9 @@ fn steps(
     ensures taken { tally.new.taken ≡ tally.old.taken }
 {
     let mut trap = interrupt_trap(0);
+    let mut quiet = false;
     for taken in 0..limit {
-        match step(state, memory, watch, tally, &mut trap) {
+        match step(state, memory, buffer, watch, &mut quiet, tally, &mut trap) {
             StepEnd::Continues => {}
             StepEnd::Ends => {
                 return Stop {

@@ -13,6 +13,8 @@ mod test_programs;
 #[cfg(test)]
 mod tests;
 #[cfg(test)]
+mod tests_buffer;
+#[cfg(test)]
 mod tests_control;
 #[cfg(test)]
 mod tests_host_table;

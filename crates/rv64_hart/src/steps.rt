@@ -1,6 +1,7 @@
 // One step of the hart.
 
 ghost use Rattle.std.specs.Prelude.{◌≡◌, ◌^◌, ◌<◌, ℕ, List, Some, IsTrue, false};
+ghost use Rattle.arch_defs.specs.declared.modes.Mode.{Mode};
 ghost use Rattle.arch_defs.specs.declared.registers.Csrs.{Csrs};
 ghost use Rattle.arch_defs.specs.Interrupts.{due, interrupt_of};
 ghost use Rattle.arch_defs.specs.Traps.{entered_at, exception, is_virtual, target};
@@ -10,8 +11,9 @@ ghost use Rattle.machine_defs.specs.declared.events.Event.{Event};
 ghost use Rattle.machine_defs.specs.Core.{called_from, core, event_of, executed, instruction};
 ghost use Rattle.machine_defs.specs.Outcomes.{sets};
 ghost use Rattle.machine_defs.specs.Privileges.{privileged};
+ghost use Rattle.translation_buffer.specs.Serving.{Serves};
 ghost use Rattle.rv64_hart.specs.Counts.{OnlyTrace};
-ghost use Rattle.rv64_hart.specs.Endings.{IfLeft, IfRaised, attempt_by, counted_of, told, told_by};
+ghost use Rattle.rv64_hart.specs.Endings.{IfLeft, IfPlain, IfRaised, IsQuiet, KeepsContext, attempt_by, counted_of, told, told_by};
 ghost use Rattle.rv64_hart.specs.MachineMemory.{reading_of_memory, second_of_memory};
 ghost use Rattle.rv64_hart.specs.Steps.{Exits, Raises, attempt_of, hart_step, next_attempt, one_more_step, progress, progressed, trapped_to};
 
@@ -28,6 +30,7 @@ use op_effects::{address_at, effect_of, even, is_branch_taken};
 use phys_mem::PhysMem;
 use privileged_ops::{Performed, pass, perform, refusal_code, set};
 use rv64_decode::decode;
+use translation_buffer::Buffer;
 use trap_delegation::{enter_vs, exception, interrupt_trap, pending, target};
 
 /// Makes one step, which may be a trap into VS, unless it traps to HS; the tally gets its trace.
@@ -36,37 +39,49 @@ use trap_delegation::{enter_vs, exception, interrupt_trap, pending, target};
 pub fn step(
     state: &mut Virtual,
     memory: &mut PhysMem,
+    buffer: &mut Buffer,
     watch: bool,
+    quiet: &mut bool,
     tally: &mut Tally,
     trap: &mut Trap,
 ) -> StepEnd
+    requires serves { Serves buffer.old state.old.csrs state.old.mode memory.old }
+    requires quiet { IsQuiet quiet.old state.old }
     ensures steps { one_more_step watch (progress state.old memory.old tally.old.trace false)
         ≡ counted_of result (progress state.new memory.new tally.new.trace) }
     ensures exits { IfLeft result (hart_step state.new memory.new ≡ Exits trap.new) }
     ensures stays { IfLeft result
         ((state.new ≡ state.old) × (memory.new ≡ memory.old) × (tally.new ≡ tally.old)) }
     ensures tally { OnlyTrace tally.old tally.new }
+    ensures serves { Serves buffer.new state.new.csrs state.new.mode memory.new }
+    ensures quiet { IsQuiet quiet.new state.new }
 {
     let _ = tally.trace();
-    match attempt(state, memory, tally, trap) {
+    match attempt(state, memory, buffer, quiet, tally, trap) {
         Ended::Plain | Ended::System => StepEnd::Continues,
-        Ended::Raised => trap_to_target(state, watch, trap),
+        Ended::Raised => {
+            *quiet = false;
+            trap_to_target(state, buffer, watch, trap)
+        }
     }
 }
 
 // Takes a trap into VS, and leaves one to HS.
 #[tactic(auto, using(crate::proofs::Targets::virtual_to_vs, crate::proofs::Told::nothing_added))]
 #[inline(never)]
-fn trap_to_target(state: &mut Virtual, watch: bool, trap: &Trap) -> StepEnd
+fn trap_to_target(state: &mut Virtual, buffer: &mut Buffer, watch: bool, trap: &Trap) -> StepEnd
     ensures ends { (memory : List ℕ) (trace : ℕ) → trace < 2 ^ 64 → progressed watch trace
         (trapped_to state.old memory trap.now (target state.old.csrs state.old.mode trap.now))
         ≡ counted_of result (progress state.new memory trace) }
     ensures exits { IfLeft result (target state.old.csrs state.old.mode trap.now ≡ Level.HS) }
     ensures stays { IfLeft result (state.new ≡ state.old) }
+    ensures serves { (memory : List ℕ) → Serves buffer.old state.old.csrs state.old.mode memory
+        → Serves buffer.new state.new.csrs state.new.mode memory }
 {
     match target(&state.csrs, state.mode, trap) {
         Level::VS => {
             take_into_vs(state, trap);
+            follow(state, buffer);
             if watch {
                 StepEnd::Ends
             } else {
@@ -85,19 +100,66 @@ fn take_into_vs(state: &mut Virtual, trap: &Trap)
     state.mode = enter_vs(&mut state.csrs, &mut state.regs, state.mode, trap);
 }
 
+// Has what is kept go on for the registers and the mode as they are.
+fn follow(state: &Virtual, buffer: &mut Buffer)
+    ensures { (before : Csrs) (mode_before : Mode) (memory : List ℕ)
+        → Serves buffer.old before mode_before memory
+        → Serves buffer.new state.now.csrs state.now.mode memory }
+{
+    buffer.follow(&state.csrs, state.mode);
+}
+
 // The due interrupt, or one instruction.
+#[tactic(auto, using(crate::proofs::Kept::quiet_kept))]
 #[inline(always)]
-fn attempt(state: &mut Virtual, memory: &mut PhysMem, tally: &mut Tally, trap: &mut Trap) -> Ended
+fn attempt(
+    state: &mut Virtual,
+    memory: &mut PhysMem,
+    buffer: &mut Buffer,
+    quiet: &mut bool,
+    tally: &mut Tally,
+    trap: &mut Trap,
+) -> Ended
+    requires serves { Serves buffer.old state.old.csrs state.old.mode memory.old }
+    requires quiet { IsQuiet quiet.old state.old }
     ensures told { told tally.old.trace
         (next_attempt state.old memory.old (due state.old.csrs state.old.mode))
         ≡ told_by result trap.new state.new memory.new tally.new.trace }
     ensures stays { IfRaised result
         ((state.new ≡ state.old) × (memory.new ≡ memory.old) × (tally.new ≡ tally.old)) }
     ensures tally { OnlyTrace tally.old tally.new }
+    ensures serves { Serves buffer.new state.new.csrs state.new.mode memory.new }
+    ensures quiet { IsQuiet quiet.new state.new }
 {
-    match pending(&state.csrs, state.mode) {
+    match due_now(state, quiet) {
         Some(code) => raise_interrupt(code, trap),
-        None => instruction(state, memory, tally, trap),
+        None => match instruction(state, memory, buffer, tally, trap) {
+            Ended::Plain => Ended::Plain,
+            Ended::System => {
+                *quiet = false;
+                Ended::System
+            }
+            Ended::Raised => Ended::Raised,
+        },
+    }
+}
+
+// The interrupt that is due. While it is quiet, none is.
+#[inline(always)]
+fn due_now(state: &Virtual, quiet: &mut bool) -> Option<u64>
+    requires quiet { IsQuiet quiet.old state.now }
+    ensures due { result ≡ due state.now.csrs state.now.mode }
+    ensures quiet { IsQuiet quiet.new state.now }
+{
+    if *quiet {
+        return None;
+    }
+    match pending(&state.csrs, state.mode) {
+        Some(code) => Some(code),
+        None => {
+            *quiet = true;
+            None
+        }
     }
 }
 
@@ -107,9 +169,11 @@ fn attempt(state: &mut Virtual, memory: &mut PhysMem, tally: &mut Tally, trap: &
 fn instruction(
     state: &mut Virtual,
     memory: &mut PhysMem,
+    buffer: &mut Buffer,
     tally: &mut Tally,
     trap: &mut Trap,
 ) -> Ended
+    requires serves { Serves buffer.old state.old.csrs state.old.mode memory.old }
     ensures told { told tally.old.trace
         (attempt_of state.old.csrs state.old.mode memory.old
         (core (second_of_memory state.old memory.old) (reading_of_memory memory.old) state.old))
@@ -117,10 +181,12 @@ fn instruction(
     ensures stays { IfRaised result
         ((state.new ≡ state.old) × (memory.new ≡ memory.old) × (tally.new ≡ tally.old)) }
     ensures tally { OnlyTrace tally.old tally.new }
+    ensures serves { Serves buffer.new state.new.csrs state.new.mode memory.new }
+    ensures plain { IfPlain result (KeepsContext state.old state.new) }
 {
     let pc = state.regs.pc;
-    match access_place(state, memory, pc, Width::Word, Access::Fetch, trap) {
-        Some(place) => counted(state, memory, word_at(memory, place), tally, trap),
+    match access_place(state, memory, buffer, pc, Width::Word, Access::Fetch, trap) {
+        Some(place) => counted(state, memory, buffer, word_at(memory, place), tally, trap),
         None => Ended::Raised,
     }
 }
@@ -131,10 +197,12 @@ fn instruction(
 fn counted(
     state: &mut Virtual,
     memory: &mut PhysMem,
+    buffer: &mut Buffer,
     word: u32,
     tally: &mut Tally,
     trap: &mut Trap,
 ) -> Ended
+    requires serves { Serves buffer.old state.old.csrs state.old.mode memory.old }
     ensures told { told tally.old.trace
         (attempt_of state.old.csrs state.old.mode memory.old
         (instruction (second_of_memory state.old memory.old) (reading_of_memory memory.old) state.old word))
@@ -142,10 +210,12 @@ fn counted(
     ensures stays { IfRaised result
         ((state.new ≡ state.old) × (memory.new ≡ memory.old) × (tally.new ≡ tally.old)) }
     ensures tally { OnlyTrace tally.old tally.new }
+    ensures serves { Serves buffer.new state.new.csrs state.new.mode memory.new }
+    ensures plain { IfPlain result (KeepsContext state.old state.new) }
 {
     let pc = state.regs.pc;
     let _ = tally.trace();
-    match decoded(state, memory, word, trap) {
+    match decoded(state, memory, buffer, word, trap) {
         Ended::Plain => {
             if is_system(word) {
                 Ended::System
@@ -169,14 +239,23 @@ fn is_system(word: u32) -> bool
 
 // The instruction of a word: the common ones here, and each other by `rare`.
 #[inline(always)]
-fn decoded(state: &mut Virtual, memory: &mut PhysMem, word: u32, trap: &mut Trap) -> Ended
+fn decoded(
+    state: &mut Virtual,
+    memory: &mut PhysMem,
+    buffer: &mut Buffer,
+    word: u32,
+    trap: &mut Trap,
+) -> Ended
+    requires serves { Serves buffer.old state.old.csrs state.old.mode memory.old }
     ensures ends { attempt_of state.old.csrs state.old.mode memory.old
         (instruction (second_of_memory state.old memory.old) (reading_of_memory memory.old) state.old word)
         ≡ attempt_by result trap.new (event_of state.old.regs.pc word) state.new memory.new }
     ensures stays { IfRaised result ((state.new ≡ state.old) × (memory.new ≡ memory.old)) }
+    ensures serves { Serves buffer.new state.new.csrs state.new.mode memory.new }
+    ensures plain { IfPlain result (KeepsContext state.old state.new) }
 {
     match decode(word) {
-        Some(op) => made(state, memory, word, &op, trap),
+        Some(op) => made(state, memory, buffer, word, &op, trap),
         None => raise(state.mode, ILLEGAL_INSTRUCTION, word as u64, trap),
     }
 }
@@ -184,13 +263,23 @@ fn decoded(state: &mut Virtual, memory: &mut PhysMem, word: u32, trap: &mut Trap
 // The instruction that a word is.
 #[inline(always)]
 #[tactic(auto, unfolding(op_defs::specs::Meaning::meaning))]
-fn made(state: &mut Virtual, memory: &mut PhysMem, word: u32, op: &Op, trap: &mut Trap) -> Ended
-    requires { op_of word ≡ Some op.now }
+fn made(
+    state: &mut Virtual,
+    memory: &mut PhysMem,
+    buffer: &mut Buffer,
+    word: u32,
+    op: &Op,
+    trap: &mut Trap,
+) -> Ended
+    requires op { op_of word ≡ Some op.now }
+    requires serves { Serves buffer.old state.old.csrs state.old.mode memory.old }
     ensures ends { attempt_of state.old.csrs state.old.mode memory.old
         (executed (second_of_memory state.old memory.old) (reading_of_memory memory.old)
         state.old word (meaning op.now state.old.regs))
         ≡ attempt_by result trap.new (event_of state.old.regs.pc word) state.new memory.new }
     ensures stays { IfRaised result ((state.new ≡ state.old) × (memory.new ≡ memory.old)) }
+    ensures serves { Serves buffer.new state.new.csrs state.new.mode memory.new }
+    ensures plain { IfPlain result (KeepsContext state.old state.new) }
 {
     match *op {
         Op::Lui { rd, immediate } => sets(state, rd, immediate),
@@ -250,7 +339,7 @@ fn made(state: &mut Virtual, memory: &mut PhysMem, word: u32, op: &Op, trap: &mu
             offset,
         } => {
             let address = address_at(&state.regs, rs1, offset);
-            load_data(state, memory, address, width, signed, rd, trap)
+            load_data(state, memory, buffer, address, width, signed, rd, trap)
         }
         Op::Store {
             width,
@@ -260,9 +349,9 @@ fn made(state: &mut Virtual, memory: &mut PhysMem, word: u32, op: &Op, trap: &mu
         } => {
             let address = address_at(&state.regs, rs1, offset);
             let value = state.regs.read(rs2);
-            store_data(state, memory, address, width, value, trap)
+            store_data(state, memory, buffer, address, width, value, trap)
         }
-        _ => rare(state, memory, word, trap),
+        _ => rare(state, memory, buffer, word, trap),
     }
 }
 
@@ -284,6 +373,7 @@ fn jump(state: &mut Virtual, rd: Reg, to: u64, trap: &mut Trap) -> Ended
         (jump rd (next state.old.regs) to))
         ≡ attempt_by result trap.new (event_of state.old.regs.pc word) state.new memory }
     ensures stays { IfRaised result (state.new ≡ state.old) }
+    ensures keeps { KeepsContext state.old state.new }
 {
     if to % 4 == 0 {
         let next = state.regs.pc.wrapping_add(4);
@@ -302,6 +392,7 @@ fn branch(state: &mut Virtual, taken: bool, to: u64, trap: &mut Trap) -> Ended
         (branch taken (next state.old.regs) to))
         ≡ attempt_by result trap.new (event_of state.old.regs.pc word) state.new memory }
     ensures stays { IfRaised result (state.new ≡ state.old) }
+    ensures keeps { KeepsContext state.old state.new }
 {
     if !taken {
         pass(state);
@@ -316,16 +407,25 @@ fn branch(state: &mut Virtual, taken: bool, to: u64, trap: &mut Trap) -> Ended
 
 // The instruction of a word, by what it asks for.
 #[inline(never)]
-fn rare(state: &mut Virtual, memory: &mut PhysMem, word: u32, trap: &mut Trap) -> Ended
+fn rare(
+    state: &mut Virtual,
+    memory: &mut PhysMem,
+    buffer: &mut Buffer,
+    word: u32,
+    trap: &mut Trap,
+) -> Ended
+    requires serves { Serves buffer.old state.old.csrs state.old.mode memory.old }
     ensures ends { attempt_of state.old.csrs state.old.mode memory.old
         (instruction (second_of_memory state.old memory.old) (reading_of_memory memory.old) state.old word)
         ≡ attempt_by result trap.new (event_of state.old.regs.pc word) state.new memory.new }
     ensures stays { IfRaised result ((state.new ≡ state.old) × (memory.new ≡ memory.old)) }
+    ensures serves { Serves buffer.new state.new.csrs state.new.mode memory.new }
+    ensures plain { IfPlain result (KeepsContext state.old state.new) }
 {
     match decode(word) {
         Some(op) => {
             let effect = effect_of(&op, &state.regs);
-            apply(state, memory, word, effect, trap)
+            apply(state, memory, buffer, word, effect, trap)
         }
         None => raise(state.mode, ILLEGAL_INSTRUCTION, word as u64, trap),
     }
@@ -335,15 +435,19 @@ fn rare(state: &mut Virtual, memory: &mut PhysMem, word: u32, trap: &mut Trap) -
 fn apply(
     state: &mut Virtual,
     memory: &mut PhysMem,
+    buffer: &mut Buffer,
     word: u32,
     effect: Effect,
     trap: &mut Trap,
 ) -> Ended
+    requires serves { Serves buffer.old state.old.csrs state.old.mode memory.old }
     ensures ends { attempt_of state.old.csrs state.old.mode memory.old
         (executed (second_of_memory state.old memory.old) (reading_of_memory memory.old)
         state.old word effect)
         ≡ attempt_by result trap.new (event_of state.old.regs.pc word) state.new memory.new }
     ensures stays { IfRaised result ((state.new ≡ state.old) × (memory.new ≡ memory.old)) }
+    ensures serves { Serves buffer.new state.new.csrs state.new.mode memory.new }
+    ensures plain { IfPlain result (KeepsContext state.old state.new) }
 {
     match effect {
         Effect::Sets { rd, value, next } => {
@@ -351,9 +455,13 @@ fn apply(
             Ended::Plain
         }
         Effect::Raises { cause, tval } => raise(state.mode, cause, tval, trap),
-        Effect::Data(wanted) => access_data(state, memory, wanted, trap),
+        Effect::Data(wanted) => access_data(state, memory, buffer, wanted, trap),
         Effect::Calls => call(state.mode, trap),
-        Effect::Privileged(effect) => privileged(state, word, effect, trap),
+        Effect::Privileged(effect) => {
+            let ended = privileged(state, word, effect, trap);
+            follow(state, buffer);
+            ended
+        }
     }
 }
 
@@ -400,6 +508,7 @@ fn privileged(state: &mut Virtual, word: u32, effect: Privileged, trap: &mut Tra
         attempt_of state.old.csrs state.old.mode memory (privileged state.old word effect)
         ≡ attempt_by result trap.new made state.new memory }
     ensures stays { IfRaised result (state.new ≡ state.old) }
+    ensures plain { IfPlain result (KeepsContext state.old state.new) }
 {
     match perform(state, effect) {
         Performed::Done | Performed::Waits | Performed::Fenced(_) => Ended::System,
