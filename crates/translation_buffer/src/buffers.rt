@@ -98,7 +98,7 @@ impl Buffer {
             → AllStand frames memory context self.new.slots }
         ensures read { (frame : ℕ) → holds self.new.read frame ≡ false }
     {
-        self.slots = Slots::none();
+        self.slots.clear();
         self.read.clear();
     }
 

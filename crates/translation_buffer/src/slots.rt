@@ -56,6 +56,16 @@ fn no_slots() -> [Slot; 16]
     [Slot::none(); 16]
 }
 
+// Keeps no translation at each of these places.
+#[inline]
+#[tactic(auto, using(crate::proofs::KeptSlots::all_none))]
+fn clear(slots: &mut [Slot])
+    ensures { (frames : Frames) (memory : List ℕ) (context : Context) (kind : Access)
+        → All (Stands frames memory context kind) slots.new }
+{
+    slots.fill(Slot::none());
+}
+
 impl Slots {
     /// Where no translation is kept.
     #[tactic(auto, using(crate::proofs::KeptSlots::no_slot_stands))]
@@ -69,6 +79,18 @@ impl Slots {
             loads: no_slots(),
             stores: no_slots(),
         }
+    }
+
+    /// Keeps no translation.
+    #[tactic(auto, using(crate::proofs::KeptSlots::no_slot_stands))]
+    #[inline]
+    pub fn clear(&mut self)
+        ensures { (frames : Frames) (memory : List ℕ) (context : Context)
+            → AllStand frames memory context self.new }
+    {
+        clear(&mut self.fetches);
+        clear(&mut self.loads);
+        clear(&mut self.stores);
     }
 
     /// The slot of an address for a kind of access.
