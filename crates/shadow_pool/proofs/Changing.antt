@@ -1,6 +1,6 @@
 -- What entering, a fill and a fence leave of a pool's tables.
 use Rattle.std.proofs.Common.{◌≡◌, ℕ, zero, suc, ◌+◌, ◌-◌, ◌*◌, ◌<◌, ◌≤◌, List, [], ◌∷◌, ◌++◌, Some, None, length, get_or, map, set, take, drop, refl, sym, ap, subst, ◌∙◌, arith, length-set, append-nil}
-use Rattle.std.specs.List.{position, remove}
+use Rattle.std.specs.List.{cons_option, position, remove}
 use Rattle.std.proofs.lemmas.List.{drop_all, take_all}
 use Rattle.std.proofs.lemmas.List.Edits.{length-remove, map_over_more}
 use Rattle.std.proofs.lemmas.List.Quantifiers.{position-Some}
@@ -13,7 +13,8 @@ use Rattle.arch_defs.specs.Spaces.{Space, entered, fenced, filled_in}
 use Rattle.arch_defs.specs.CachedEntries.{CanFill, filled}
 use Rattle.shadow_space.specs.Shadows.{Shadow, Tidy, own_frames, root_of}
 use Rattle.shadow_pool.specs.declared.slots.Slot.{Slot}
-use Rattle.shadow_pool.specs.Slots.{ArePooled, AreTidy, fenced_slot, front_root, has_key, most_of, part_of, spaces_in, table_frames_for}
+use Rattle.shadow_pool.specs.Slots.{ArePooled, AreTidy, fenced_slot, front_root, has_key, most_of, part_of, space_if, spaces_in, table_frames_for, with_frames}
+use Rattle.shadow_space.specs.declared.frames.TableFrames.{TableFrames}
 use Rattle.shadow_pool.proofs.Entering.{entered_found, entered_new}
 use Rattle.shadow_pool.proofs.Filling.{fenced_spaces, filled_spaces, no_position}
 use Rattle.shadow_pool.proofs.Fronting.{IsKept, kept_pooled, last_moved, moved_count, moved_slots, new_slots}
@@ -26,7 +27,7 @@ pub record IsChanged (slots : List Slot) (old : List ℕ) (spaces : List Space) 
   pub tidy : AreTidy after new
   pub only : Only (table_frames_for (part_of slots) (length slots)) old new
 
-like_with : (was after : Shadow) (entries : List Entry) → after ≡ record was { entries = entries } → IsLike was after
+like_with : (was after : Shadow) (entries : List Entry) → after ≡ record was { entries = entries; frames = after.frames } → IsLike was after
 like_with was after entries is = record { part = ap (λ s. s.part) is; index = ap (λ s. s.index) is; most = ap (λ s. s.most) is }
 
 -- a value of hgatp whose space is there is entered
@@ -48,11 +49,11 @@ found_entered (slot ∷ others) after old key i are tidy at moved =
 
 -- and one whose space is new
 pub new_entered : (slots after : List Slot) (old new : List ℕ) (key : GuestRoot) (was first : Slot) → ArePooled slots → AreTidy slots old → position (has_key key) slots ≡ None
-    → was ≡ get_or slots (length slots - 1) was → first.key ≡ Some key → first.space ≡ record (get_or slots (length slots - 1) was).space { entries = [] } → Tidy first.space new
+    → was ≡ get_or slots (length slots - 1) was → first.key ≡ Some key → first.space ≡ record (get_or slots (length slots - 1) was).space { entries = []; frames = first.space.frames } → Tidy first.space new
     → Only (own_frames (get_or slots (length slots - 1) was).space) old new → ((d : Slot) → after ≡ get_or (set slots (length slots - 1) first) (length slots - 1) d ∷ remove (set slots (length slots - 1) first) (length slots - 1))
     → IsChanged slots old (entered (length slots) key (spaces_in slots)) after new
 new_entered slots after old new key was first are tidy no_one read is made_space first_tidy made_only moved =
-    let space = made_space ∙ ap (λ slot. record slot.space { entries = [] }) (sym read) in
+    let space = made_space ∙ ap (λ slot. record slot.space { entries = []; frames = first.space.frames }) (sym read) in
     let only = subst (λ slot. Only (own_frames slot.space) old new) (sym read) made_only in
     let last = length slots - 1 in
     let some = are.some in
@@ -87,19 +88,19 @@ root_kept (slot ∷ slots) zero was after inside read like =
 root_kept (slot ∷ slots) (suc i) was after inside read like = refl
 
 pub filled_root : (slots : List Slot) (key : GuestRoot) (entry : Entry) (i : ℕ) (was after : Slot) → position (has_key key) slots ≡ Some i → was ≡ get_or slots i was
-    → after.space ≡ record (get_or slots i was).space { entries = filled (get_or slots i was).space.most (get_or slots i was).space.entries entry } → front_root (set slots i after) ≡ front_root slots
+    → after.space ≡ record (get_or slots i was).space { entries = filled (get_or slots i was).space.most (get_or slots i was).space.entries entry; frames = after.space.frames } → front_root (set slots i after) ≡ front_root slots
 filled_root slots key entry i was after at read made_space =
-    let space = made_space ∙ ap (λ slot. record slot.space { entries = filled slot.space.most slot.space.entries entry }) (sym read) in
+    let space = made_space ∙ ap (λ slot. record slot.space { entries = filled slot.space.most slot.space.entries entry; frames = after.space.frames }) (sym read) in
     root_kept slots i was after (position-Some (has_key key) slots i was at).0 read (like_with was.space after.space (filled was.space.most was.space.entries entry) space)
 
 -- an entry is filled
 pub one_filled : (slots : List Slot) (old new : List ℕ) (key : GuestRoot) (entry : Entry) (i : ℕ) (was after : Slot) → ArePooled slots → AreTidy slots old → position (has_key key) slots ≡ Some i
     → was ≡ get_or slots i was → after.key ≡ (get_or slots i was).key
-    → after.space ≡ record (get_or slots i was).space { entries = filled (get_or slots i was).space.most (get_or slots i was).space.entries entry } → Tidy after.space new
+    → after.space ≡ record (get_or slots i was).space { entries = filled (get_or slots i was).space.most (get_or slots i was).space.entries entry; frames = after.space.frames } → Tidy after.space new
     → Only (own_frames (get_or slots i was).space) old new → IsChanged slots old (filled_in (most_of slots) key entry (spaces_in slots)) (set slots i after) new
 one_filled slots old new key entry i was after are tidy at read made_key made_space is_tidy made_only =
     let same = made_key ∙ ap (λ slot. slot.key) (sym read) in
-    let space = made_space ∙ ap (λ slot. record slot.space { entries = filled slot.space.most slot.space.entries entry }) (sym read) in
+    let space = made_space ∙ ap (λ slot. record slot.space { entries = filled slot.space.most slot.space.entries entry; frames = after.space.frames }) (sym read) in
     let only = subst (λ slot. Only (own_frames slot.space) old new) (sym read) made_only in
     let there = position-Some (has_key key) slots i was at in
     let inside = there.0 in
@@ -119,9 +120,37 @@ pub can_fill : (slots : List Slot) (i : ℕ) (was : Slot) (entry : Entry) → Ar
 can_fill slots i was entry are inside read can =
     subst (λ part. CanFill part.blocks entry) (sym (ap (λ slot. slot.space.part) read ∙ (are.each i was inside).part)) can
 
+-- a table without what it keeps of its frames
+abbrev pub no_frames : TableFrames
+no_frames = record { counts = []; free = []; left = 0; places = [] }
+
+abbrev pub bare : Slot → Slot
+bare slot = with_frames no_frames slot
+
+bare_spaces : (slots : List Slot) → spaces_in (map bare slots) ≡ spaces_in slots
+bare_spaces [] = refl
+bare_spaces (slot ∷ slots) = ap (cons_option (space_if slot.key slot.space.entries)) (bare_spaces slots)
+
+bare_length : (slots : List Slot) → length (map bare slots) ≡ length slots
+bare_length [] = refl
+bare_length (slot ∷ slots) = ap suc (bare_length slots)
+
+bare_set : (slots : List Slot) (i : ℕ) (slot : Slot) → map bare (set slots i slot) ≡ set (map bare slots) i (bare slot)
+bare_set [] i slot = refl
+bare_set (x ∷ slots) zero slot = refl
+bare_set (x ∷ slots) (suc i) slot = ap (λ xs. bare x ∷ xs) (bare_set slots i slot)
+
+bare_read : (slots : List Slot) (i : ℕ) (was : Slot) → was ≡ get_or slots i was → bare was ≡ get_or (map bare slots) i (bare was)
+bare_read slots i was read = ap bare read ∙ by slots i
+  where
+    by : (xs : List Slot) (i : ℕ) → bare (get_or xs i was) ≡ get_or (map bare xs) i (bare was)
+    by [] i = refl
+    by (x ∷ xs) zero = refl
+    by (x ∷ xs) (suc i) = by xs i
+
 -- so many tables have been fenced
 pub record IsFencing (fence : Fence) (slots : List Slot) (old : List ℕ) (i : ℕ) (after : List Slot) (new : List ℕ) : Type 0 where
-  pub has : after ≡ map (fenced_slot fence) (take i slots) ++ drop i slots
+  pub has : map bare after ≡ map (fenced_slot fence) (take i (map bare slots)) ++ drop i (map bare slots)
   pub root : front_root after ≡ front_root slots
   pub kept : IsKept slots after
   pub tidy : AreTidy after new
@@ -132,9 +161,9 @@ none_fenced fence slots memory are tidy =
     record { has = refl; root = refl; kept = kept_pooled slots slots are refl; tidy = tidy; only = only_none (table_frames_for (part_of slots) (length slots)) memory }
 
 pub one_fenced : (fence : Fence) (slots between : List Slot) (old memory new : List ℕ) (i : ℕ) (was after : Slot) → IsFencing fence slots old i between memory → i < length slots
-    → was ≡ get_or between i was → after ≡ fenced_slot fence (get_or between i was) → Tidy after.space new → Only (own_frames (get_or between i was).space) memory new → IsFencing fence slots old (i + 1) (set between i after) new
+    → was ≡ get_or between i was → after ≡ with_frames after.space.frames (fenced_slot fence (get_or between i was)) → Tidy after.space new → Only (own_frames (get_or between i was).space) memory new → IsFencing fence slots old (i + 1) (set between i after) new
 one_fenced fence slots between old memory new i was after f inside read made is_tidy made_only =
-    let is = made ∙ ap (fenced_slot fence) (sym read) in
+    let is = made ∙ ap (λ slot. with_frames after.space.frames (fenced_slot fence slot)) (sym read) in
     let only = subst (λ slot. Only (own_frames slot.space) memory new) (sym read) made_only in
     let kept = f.kept in
     let count = kept.count in
@@ -144,7 +173,8 @@ one_fenced fence slots between old memory new i was after f inside read made is_
     let less = one_only (part_of between) (most_of between) between kept.pooled memory new i was inside' read only in
     record {
       root = root_kept between i was after inside' read like ∙ f.root;
-      has = ap (set between i) is ∙ map_over_more (fenced_slot fence) slots between i was inside f.has read;
+      has = bare_set between i after ∙ ap (set (map bare between) i) (ap bare is)
+          ∙ map_over_more (fenced_slot fence) (map bare slots) (map bare between) i (bare was) (omega (arith, inside, bare_length slots)) f.has (bare_read between i was read);
       kept = record { pooled = next.pooled; part = next.part ∙ kept.part; most = next.most ∙ kept.most; count = next.count ∙ count };
       tidy = one_tidy (part_of between) (most_of between) between kept.pooled memory new i was after inside' read f.tidy is_tidy only;
       only = only_both (table_frames_for (part_of slots) (length slots)) old memory new f.only
@@ -154,9 +184,12 @@ one_fenced fence slots between old memory new i was after f inside read made is_
 pub all_fenced : (fence : Fence) (slots after : List Slot) (old new : List ℕ) (i : ℕ) → length slots ≤ i → IsFencing fence slots old i after new → IsChanged slots old (fenced fence (spaces_in slots)) after new
 all_fenced fence slots after old new i all f =
     record {
-      has = ap spaces_in (f.has ∙ ap (λ xs. map (fenced_slot fence) (take i slots) ++ xs) (drop_all i slots all) ∙ append-nil (map (fenced_slot fence) (take i slots))
-          ∙ ap (map (fenced_slot fence)) (take_all i slots all)) ∙ fenced_spaces fence slots;
+      has = sym (bare_spaces after) ∙ ap spaces_in (f.has ∙ ap (λ xs. map (fenced_slot fence) (take i (map bare slots)) ++ xs) (drop_all i (map bare slots) few) ∙ append-nil (map (fenced_slot fence) (take i (map bare slots)))
+          ∙ ap (map (fenced_slot fence)) (take_all i (map bare slots) few)) ∙ fenced_spaces fence (map bare slots) ∙ ap (fenced fence) (bare_spaces slots);
       kept = f.kept;
       tidy = f.tidy;
       only = f.only;
     }
+  where
+    few : length (map bare slots) ≤ i
+    few = omega (arith, all, bare_length slots)

@@ -7,7 +7,7 @@ use Rattle.arch_defs.specs.declared.registers.GuestRoot.{GuestRoot}
 use Rattle.arch_defs.specs.CachedEntries.{cut_by}
 use Rattle.shadow_space.specs.Shadows.{Shadow}
 use Rattle.shadow_pool.specs.declared.slots.Slot.{Slot}
-use Rattle.shadow_pool.specs.Slots.{fenced_slot, left_for}
+use Rattle.shadow_pool.specs.Slots.{fenced_slot, left_for, with_frames}
 use Rattle.arch_defs.specs.Roots.{vmid_of}
 use Rattle.arch_defs.specs.Spaces.{names, names_page, names_vmid, unnamed_by}
 
@@ -40,24 +40,25 @@ with_entries : (fence : Fence) (slot : Slot) (key : GuestRoot) (es : List Entry)
 with_entries fence slot key es is left = sym (ap (λ es. record slot { space = record slot.space { entries = es } }) (ap (λ key. left_for fence key slot.space.entries) is ∙ left))
 
 -- a slot of another VMID, one that is wiped, and one that is cut
-pub unnamed : (fence : Fence) (slot : Slot) (key : GuestRoot) (vmid : ℕ) (named : Bool) → slot.key ≡ Some key → vmid ≡ vmid_of key → named ≡ names_vmid fence.vmid vmid → named ≡ false → slot ≡ fenced_slot fence slot
+pub unnamed : (fence : Fence) (slot : Slot) (key : GuestRoot) (vmid : ℕ) (named : Bool) → slot.key ≡ Some key → vmid ≡ vmid_of key → named ≡ names_vmid fence.vmid vmid → named ≡ false → slot ≡ with_frames slot.space.frames (fenced_slot fence slot)
 unnamed fence slot key vmid named is same has not_named =
-    with_entries fence slot key slot.space.entries is (other_vmid fence key slot.space.entries (ap (names_vmid fence.vmid) (sym same) ∙ sym has ∙ not_named))
+    ap (with_frames slot.space.frames) (with_entries fence slot key slot.space.entries is (other_vmid fence key slot.space.entries (ap (names_vmid fence.vmid) (sym same) ∙ sym has ∙ not_named)))
 
-same_shadow : (a b : Shadow) → a.part ≡ b.part → a.index ≡ b.index → a.most ≡ b.most → a.entries ≡ b.entries → a ≡ b
-same_shadow a b part index most entries = λ i. record { part = part i; index = index i; most = most i; entries = entries i }
+same_shadow : (a b : Shadow) → a.part ≡ b.part → a.index ≡ b.index → a.most ≡ b.most → a.entries ≡ b.entries → a.frames ≡ b.frames → a ≡ b
+same_shadow a b part index most entries frames = λ i. record { part = part i; index = index i; most = most i; entries = entries i; frames = frames i }
 
 by_fields : (fence : Fence) (slot : Slot) (key : GuestRoot) (after : Shadow) (es : List Entry) → slot.key ≡ Some key → unnamed_by fence (vmid_of key) slot.space.entries ≡ es
-    → after.part ≡ slot.space.part → after.index ≡ slot.space.index → after.most ≡ slot.space.most → after.entries ≡ es → record { key = slot.key; space = after } ≡ fenced_slot fence slot
+    → after.part ≡ slot.space.part → after.index ≡ slot.space.index → after.most ≡ slot.space.most → after.entries ≡ es → record { key = slot.key; space = after } ≡ with_frames after.frames (fenced_slot fence slot)
 by_fields fence slot key after es is left part index most entries =
-    ap (λ space. record slot { space = space }) (same_shadow after (record slot.space { entries = es }) part index most entries) ∙ with_entries fence slot key es is left
+    ap (λ space. record slot { space = space }) (same_shadow after (record slot.space { entries = es; frames = after.frames }) part index most entries refl)
+    ∙ ap (with_frames after.frames) (with_entries fence slot key es is left)
 
 pub wiped : (fence : Fence) (slot : Slot) (key : GuestRoot) (vmid : ℕ) (named : Bool) (after : Shadow) → slot.key ≡ Some key → vmid ≡ vmid_of key → named ≡ names_vmid fence.vmid vmid → named ≡ true → fence.page ≡ None
-    → after.part ≡ slot.space.part → after.index ≡ slot.space.index → after.most ≡ slot.space.most → after.entries ≡ [] → record { key = slot.key; space = after } ≡ fenced_slot fence slot
+    → after.part ≡ slot.space.part → after.index ≡ slot.space.index → after.most ≡ slot.space.most → after.entries ≡ [] → record { key = slot.key; space = after } ≡ with_frames after.frames (fenced_slot fence slot)
 wiped fence slot key vmid named after is same has is_named page part index most entries =
     by_fields fence slot key after [] is (every_page fence key slot.space.entries (ap (names_vmid fence.vmid) (sym same) ∙ sym has ∙ is_named) page) part index most entries
 
 pub cut : (fence : Fence) (slot : Slot) (key : GuestRoot) (vmid : ℕ) (named : Bool) (after : Shadow) (page : ℕ) → slot.key ≡ Some key → vmid ≡ vmid_of key → named ≡ names_vmid fence.vmid vmid → named ≡ true → fence.page ≡ Some page
-    → after.part ≡ slot.space.part → after.index ≡ slot.space.index → after.most ≡ slot.space.most → after.entries ≡ cut_by page slot.space.entries → record { key = slot.key; space = after } ≡ fenced_slot fence slot
+    → after.part ≡ slot.space.part → after.index ≡ slot.space.index → after.most ≡ slot.space.most → after.entries ≡ cut_by page slot.space.entries → record { key = slot.key; space = after } ≡ with_frames after.frames (fenced_slot fence slot)
 cut fence slot key vmid named after page is same has is_named names part index most entries =
     by_fields fence slot key after (cut_by page slot.space.entries) is (one_page fence key slot.space.entries page (ap (names_vmid fence.vmid) (sym same) ∙ sym has ∙ is_named) names) part index most entries

@@ -7,6 +7,7 @@ use Rattle.arch_defs.specs.Frames.{Frames, LieIn, joined, within}
 use Rattle.arch_defs.specs.Layouts.{Layout, NamesEachOnce, space_frames, tables_for}
 use Rattle.arch_defs.specs.Roots.{is_root, vmid_of}
 use Rattle.arch_defs.specs.Spaces.{Space, unnamed_by}
+use Rattle.shadow_space.specs.declared.frames.TableFrames.{TableFrames}
 use Rattle.shadow_space.specs.Folding.{Folded}
 use Rattle.shadow_space.specs.Shadows.{AreZeros, Tidy, root_of}
 use Rattle.shadow_pool.specs.declared.slots.Slot.{Slot}
@@ -129,3 +130,7 @@ left_for fence (Some key) entries = unnamed_by fence (vmid_of key) entries
 abbrev pub fenced_slot : Fence → Slot → Slot
 fenced_slot fence slot =
     record slot { space = record slot.space { entries = left_for fence slot.key slot.space.entries } }
+
+-- a table with these of its frames kept
+abbrev pub with_frames : TableFrames → Slot → Slot
+with_frames frames slot = record slot { space = record slot.space { frames = frames } }

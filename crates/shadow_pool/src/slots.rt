@@ -4,7 +4,7 @@ ghost use Rattle.std.specs.Prelude.{◌≡◌, [], Some};
 ghost use Rattle.arch_defs.specs.Frames.{Only};
 ghost use Rattle.arch_defs.specs.CachedEntries.{CanFill, filled};
 ghost use Rattle.shadow_space.specs.Shadows.{Tidy, own_frames};
-ghost use Rattle.shadow_pool.specs.Slots.{fenced_slot, has_key};
+ghost use Rattle.shadow_pool.specs.Slots.{fenced_slot, has_key, with_frames};
 ghost use Rattle.arch_defs.specs.Spaces.{names_vmid};
 
 use arch_defs::{Entry, Fence, GuestRoot};
@@ -43,7 +43,10 @@ impl Slot {
     pub fn renew(&mut self, mem: &mut PhysMem, key: GuestRoot)
         requires { Tidy self.old.space mem.old }
         ensures key { self.new.key ≡ Some key }
-        ensures space { self.new.space ≡ record self.old.space { entries = [] } }
+        ensures space { self.new.space ≡ record self.old.space {
+          entries = [];
+          frames = self.new.space.frames;
+        } }
         ensures tidy { Tidy self.new.space mem.new }
         ensures only { Only (own_frames self.old.space) mem.old mem.new }
     {
@@ -58,6 +61,7 @@ impl Slot {
         ensures key { self.new.key ≡ self.old.key }
         ensures space { self.new.space ≡ record self.old.space {
           entries = filled self.old.space.most self.old.space.entries entry;
+          frames = self.new.space.frames;
         } }
         ensures tidy { Tidy self.new.space mem.new }
         ensures only { Only (own_frames self.old.space) mem.old mem.new }
@@ -69,7 +73,7 @@ impl Slot {
     #[tactic(auto, using(crate::proofs::Fencing::unnamed))]
     pub fn fence(&mut self, mem: &mut PhysMem, fence: &Fence)
         requires { Tidy self.old.space mem.old }
-        ensures slot { self.new ≡ fenced_slot fence.now self.old }
+        ensures slot { self.new ≡ with_frames self.new.space.frames (fenced_slot fence.now self.old) }
         ensures tidy { Tidy self.new.space mem.new }
         ensures only { Only (own_frames self.old.space) mem.old mem.new }
     {

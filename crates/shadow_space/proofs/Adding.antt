@@ -29,7 +29,7 @@ low_slots tables tree x h k sound holds low = other_slots tables x other
         let e : 2 ≡ h = cc in omega arith
 
 -- a table is an entry of one table
-one_slot : (tables : Tables) (tree : Tree) (x y h t t' s s' : ℕ) → IsTree tables tree → tree.content x ≡ Table (suc h) t → tree.content y ≡ Table (suc h) t'
+pub one_slot : (tables : Tables) (tree : Tree) (x y h t t' s s' : ℕ) → IsTree tables tree → tree.content x ≡ Table (suc h) t → tree.content y ≡ Table (suc h) t'
     → s < slots tables x → s' < slots tables y → 512 * t + s ≡ 512 * t' + s' → (x ≡ y) × (s ≡ s')
 one_slot tables tree x y h t t' s s' sound holds holds' small small' same = by (sound.proper x (suc h) t holds) (sound.proper y (suc h) t' holds')
   where
@@ -112,7 +112,7 @@ module _ (tables : Tables) (tree tree' : Tree) (f h k : ℕ) (sound : IsTree tab
       proper x h' k' holds (inr other) = sound.proper x h' k' (sym (added.contents x other) ∙ holds)
 
 -- a new table has what the tree says of it where it was not: nothing
-same_level : (tree tree' : Tree) (leaf : ℕ → ℕ) (f h k s : ℕ) → IsAdded tree tree' f h k → entry_of tree' leaf (Table h k) s ≡ entry_of tree leaf (Table h k) s
+pub same_level : (tree tree' : Tree) (leaf : ℕ → ℕ) (f h k s : ℕ) → IsAdded tree tree' f h k → entry_of tree' leaf (Table h k) s ≡ entry_of tree leaf (Table h k) s
 same_level tree tree' leaf f zero k s added = refl
 same_level tree tree' leaf f (suc h) k s added = ap pointer_of (added.places h (512 * k + s) (λ e. omega (arith, e.0)))
 

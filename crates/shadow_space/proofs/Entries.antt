@@ -8,7 +8,7 @@ use Rattle.arch_defs.specs.declared.walks.WalkEnd.TheVariants.{Leaf, PageFault}
 use Rattle.arch_defs.specs.declared.walks.Next.TheVariants.{Ends, Below}
 use Rattle.arch_defs.specs.Bits.{bit}
 use Rattle.arch_defs.specs.TableEntries.{pte_of, entry_next, needs_dirty}
-use Rattle.shadow_space.specs.Shadows.{flag}
+use Rattle.shadow_space.specs.Leaves.{flag}
 use Rattle.shadow_space.specs.Trees.{pointer_to}
 
 -- the word 0 maps nothing

@@ -6,7 +6,7 @@ use Rattle.std.proofs.lemmas.List.{get_or-take, get_or_default, length-take, tak
 use Rattle.std.proofs.lemmas.List.Elements.{All-tail}
 use Rattle.arch_defs.specs.declared.cached.Entry.{Entry}
 use Rattle.arch_defs.specs.CachedEntries.{HasOtherPage, entry_at}
-use Rattle.shadow_space.specs.Shadows.{leaf_if, leaf_word, leaves}
+use Rattle.shadow_space.specs.Leaves.{leaf_if, leaf_word, leaves}
 
 -- another page has the entry that it had
 entry_there : (xs : List Entry) (e : Entry) (page : ℕ) → page ≢ e.page → entry_at page (xs ++ e ∷ []) ≡ entry_at page xs
@@ -20,21 +20,10 @@ entry_here (x ∷ xs) e others =
     let other : (x.page == e.page) ≡ false = ne_eqb x.page e.page (others 0 x (omega arith)) in
     rw other (entry_here xs e (All-tail (λ x. HasOtherPage x e) x xs others))
 
--- the entries before one are of other pages
-before_differ : (xs : List Entry) (i : ℕ) (e : Entry) → AllPairs HasOtherPage xs → i < length xs → e ≡ get_or xs i e → All (λ x. HasOtherPage x e) (take i xs)
-before_differ xs i e pages h is k d below =
-    let before : k < i = omega (arith, length-take i xs, below) in
-    let first : get_or xs k e ≡ get_or (take i xs) k d = get_or_default xs k e d (omega arith) ∙ sym (get_or-take i xs k d before) in
-    subst (λ x. HasOtherPage x e) first (subst (λ y. HasOtherPage (get_or xs k e) y) (sym is) (pages k i e before h))
-
-pub taken_more : (xs : List Entry) (i : ℕ) (e : Entry) → i < length xs → e ≡ get_or xs i e → take (i + 1) xs ≡ take i xs ++ e ∷ []
-taken_more xs i e h is = take_more xs i e h ∙ ap (λ x. take i xs ++ x ∷ []) (sym is)
-
 -- so of leaves
-pub leaf_here : (blocks : List ℕ) (xs : List Entry) (i : ℕ) (e : Entry) → AllPairs HasOtherPage xs → i < length xs → e ≡ get_or xs i e
-    → leaves blocks (take i xs ++ e ∷ []) e.page ≡ leaf_word blocks e
+pub leaf_here : (blocks : List ℕ) (xs : List Entry) (e : Entry) → All (λ x. HasOtherPage x e) xs → leaves blocks (xs ++ e ∷ []) e.page ≡ leaf_word blocks e
 unfolding leaves
-leaf_here blocks xs i e pages h is = ap (leaf_if blocks) (entry_here (take i xs) e (before_differ xs i e pages h is))
+leaf_here blocks xs e others = ap (leaf_if blocks) (entry_here xs e others)
 
 pub leaf_there : (blocks : List ℕ) (xs : List Entry) (e : Entry) (page : ℕ) → page ≢ e.page → leaves blocks (xs ++ e ∷ []) page ≡ leaves blocks xs page
 unfolding leaves

@@ -20,7 +20,8 @@ use Rattle.arch_defs.proofs.RamBlocks.{host_place_along, place_named}
 use Rattle.arch_defs.specs.CachedEntries.{CanFill, entry_at, leaf_of, place_by, second_by}
 use Rattle.shadow_space.specs.Folding.{ReadsIn, leaf_end}
 use Rattle.shadow_space.specs.Laws.{EntriesGiveRam, GivesEntries, MissesAreGuestPageFaults}
-use Rattle.shadow_space.specs.Shadows.{Shadow, Tidy, frame_of_ram, own_frames, root_of}
+use Rattle.shadow_space.specs.Leaves.{frame_of_ram}
+use Rattle.shadow_space.specs.Shadows.{Shadow, Tidy, own_frames, root_of}
 use Rattle.shadow_space.proofs.Finding.{found_has}
 use Rattle.shadow_space.proofs.Tidying.{folded, root_aligned, tables_placed, tidy_parts}
 

@@ -9,7 +9,7 @@ use Rattle.arch_defs.specs.declared.modes.Access.{Access}
 use Rattle.arch_defs.specs.declared.walks.Shape.TheVariants.{Sv39x4}
 use Rattle.arch_defs.specs.declared.walks.Next.TheVariants.{Ends}
 use Rattle.arch_defs.specs.Frames.{Apart, LieIn, Only, Same, within}
-use Rattle.arch_defs.specs.Layouts.{Layout, NamesEachOnce}
+use Rattle.arch_defs.specs.Layouts.{Layout, NamesEachOnce, space_frames}
 use Rattle.arch_defs.specs.Memory.{block_size, load, ram_base}
 use Rattle.arch_defs.specs.TableEntries.{pte_of, entry_next}
 use Rattle.arch_defs.specs.Walk.{EntryReading, path, walk}
@@ -19,16 +19,17 @@ use Rattle.shadow_space.specs.declared.writing.Tables.{Tables}
 use Rattle.arch_defs.specs.CachedEntries.{CanFill, HasOtherPage, cut_by, entry_at, filled}
 use Rattle.shadow_space.specs.Folding.{LastIs, LieWithin, ReadsIn, leaf_end, leaf_parts}
 use Rattle.shadow_space.specs.Laws.{TidyIsFolded, TidyLasts}
-use Rattle.shadow_space.specs.Shadows.{AreZeros, HasSmallNumbers, HasTables, IsShadow, IsTidy, Shadow, Stands, Tidy, frame_of_ram, leaf_if, leaf_word, leaves, own_frames, root_of, tables_in}
-use Rattle.shadow_space.specs.Trees.{Build, IsOwn, RootIsApart, built, frames_of}
-use Rattle.shadow_space.specs.Words.{doubleword_at}
-use Rattle.shadow_space.proofs.Clearing.{zeros_stand}
-use Rattle.shadow_space.proofs.Doublewords.{word_kept}
+use Rattle.shadow_space.specs.declared.frames.TableFrames.{TableFrames}
+use Rattle.shadow_space.specs.Held.{HoldsList, IsCounted, IsKept, Stands, held_in, number_of}
+use Rattle.shadow_space.specs.Leaves.{frame_of_ram, leaf_if, leaf_word, leaves}
+use Rattle.shadow_space.specs.Shadows.{AreZeros, HasSmallNumbers, IsShadow, IsTidy, Shadow, Tidy, own_frames, root_of, tables_in}
+use Rattle.shadow_space.specs.Trees.{HasTables, IsOwn, RootIsApart, frames_of}
+use Rattle.table_words.specs.Words.{doubleword_at}
+use Rattle.table_words.proofs.Words.{same_frame, word_kept}
+use Rattle.shadow_space.proofs.Starting.{zeros_stand}
 use Rattle.shadow_space.proofs.Entries.{leaf_ends, nothing_says, parts_of}
 use Rattle.shadow_space.proofs.Finding.{found_has}
 use Rattle.shadow_space.proofs.Following.{Reads, folds, inside_root, last_is}
-use Rattle.shadow_space.proofs.Inserting.{own_small}
-use Rattle.shadow_space.proofs.Lists.{cut_few, cut_fill, cut_pages, filled_few, filled_fill, filled_pages}
 use Rattle.shadow_space.proofs.Slots.{own_frame}
 
 -- two ranges that are apart come one after the other
@@ -82,49 +83,54 @@ tables_placed space size is lies =
     let spaces = small.spaces in
     record { lies = lies; root = omega (arith, root, index, spaces); others = omega (arith, end, table) }
 
-pub tables_room : (space : Shadow) → IsShadow space → 2 * length space.entries ≤ 2 * space.part.entries
-tables_room space is = omega (arith, is.few, is.room)
-
 pub root_aligned : (part : Layout) (index : ℕ) → NamesEachOnce part → (part.first_root + 4 * (1 + index)) % 4 ≡ 0
 root_aligned part index once = omega (arith, once.aligned)
 
--- a space with other entries
-pub shadow_with : (space : Shadow) (entries : List Entry) → IsShadow space → length entries ≤ space.most → All (CanFill space.part.blocks) entries → AllPairs HasOtherPage entries
-    → IsShadow (record space { entries = entries })
-shadow_with space entries is few fill pages = record { once = is.once; small = is.small; index = is.index; most = is.most; room = is.room; few = few; fill = fill; pages = pages }
-
-pub tidy_from : (space : Shadow) (memory : List ℕ) → IsShadow space → LieIn (own_frames space) (length memory)
-    → Stands (tables_in space.part space.index) (built (tables_in space.part space.index) space.entries) (leaves space.part.blocks space.entries) memory → Tidy space memory
-unfolding Tidy
-tidy_from space memory is lies stands = record { is = is; lies = lies; stands = stands }
+-- a frame of the tables has a small number
+pub own_small : (tables : Tables) (f size : ℕ) → HasTables tables size → IsOwn tables f → f < 2 ^ 44
+own_small tables f size placed (inl is) = omega (arith, is, placed.root)
+own_small tables f size placed (inr range) = omega (arith, range.1, placed.others)
 
 pub tidy_parts : (space : Shadow) (memory : List ℕ) → Tidy space memory → IsTidy space memory
 unfolding Tidy
 tidy_parts space memory tidy = tidy
 
--- zeros are tidy without entries
-pub tidy_zeros : (space : Shadow) (memory : List ℕ) → IsShadow space → space.entries ≡ [] → LieIn (own_frames space) (length memory) → AreZeros (own_frames space) memory → Tidy space memory
-tidy_zeros space memory is none lies zeros =
-    tidy_from space memory is lies
-    (subst (λ es. Stands (tables_in space.part space.index) (built (tables_in space.part space.index) es) (leaves space.part.blocks es) memory) (sym none)
-    (zeros_stand (tables_in space.part space.index) space.part.blocks memory (tables_apart space is) zeros))
+pub tidy_from : (space : Shadow) (memory : List ℕ) → IsTidy space memory → Tidy space memory
+unfolding Tidy
+tidy_from space memory tidy = tidy
 
 -- a space stays tidy where its frames stay
-stands_kept : (tables : Tables) (b : Build) (leaf : ℕ → ℕ) (old new : List ℕ) → Same (frames_of tables) old new → Stands tables b leaf old → Stands tables b leaf new
-stands_kept tables b leaf old new same stands = record {
+stands_kept : (tables : Tables) (number : ℕ → ℕ → ℕ) (leaf : ℕ → ℕ) (entries : List Entry) (frames : TableFrames) (old new : List ℕ)
+    → Same (frames_of tables) old new → Stands tables number leaf entries (held_in frames old) → Stands tables number leaf entries (held_in frames new)
+stands_kept tables number leaf entries frames old new same stands = record {
+  tree = stands.tree;
   sound = stands.sound;
   says = record {
     words = λ f s own slot. word_kept (frames_of tables) old new (512 * f + s) same (own_frame tables f s own slot) ∙ stands.says.words f s own slot;
     nothing = stands.says.nothing;
   };
-  unused = stands.unused;
+  counted = stands.counted;
+  index = stands.index;
 }
 
 pub lasts : TidyLasts
 lasts space old new same tidy =
     let parts = tidy_parts space old tidy in
-    tidy_from space new parts.is (subst (λ n. LieIn (own_frames space) n) (sym same.size) parts.lies)
-    (stands_kept (tables_in space.part space.index) (built (tables_in space.part space.index) space.entries) (leaves space.part.blocks space.entries) old new same parts.stands)
+    let holds = parts.holds in
+    tidy_from space new (record {
+      is = parts.is;
+      lies = subst (λ n. LieIn (own_frames space) n) (sym same.size) parts.lies;
+      holds = record {
+        placed = subst (λ n. HasTables (tables_in space.part space.index) n) (sym same.size) holds.placed;
+        count = holds.count;
+        bound = holds.bound;
+        few = holds.few;
+        fill = holds.fill;
+        pages = holds.pages;
+        kept = holds.kept;
+        stands = stands_kept (tables_in space.part space.index) (number_of space.entries) (leaves space.part.blocks space.entries) space.entries space.frames old new same holds.stands;
+      };
+    })
 
 -- what is read in its frames
 turned : (f s : ℕ) → 8 * (512 * f + s) ≡ 4096 * f + 8 * s
@@ -192,8 +198,8 @@ module _ (space : Shadow) (memory : List ℕ) (tidy : IsTidy space memory) where
       by : (va < 2 ^ 41) ⊎ (2 ^ 41 ≤ va) → walk reading (root_of space) Sv39x4 va access ≡ leaf_end space.part.blocks access (entry_at (va / 4096) space.entries)
       by (inl low) =
           walk_starts reading (root_of space) Sv39x4 va access (lt-ltb va (2 ^ 41) low)
-          ∙ folds (tables_in space.part space.index) (built (tables_in space.part space.index) space.entries).tree (doubleword_at memory) (leaves space.part.blocks space.entries)
-          tidy.stands.sound tidy.stands.says small_frames reading (reads_words (tables_in space.part space.index) memory reading reads) va access
+          ∙ folds (tables_in space.part space.index) tidy.holds.stands.tree (doubleword_at memory) (leaves space.part.blocks space.entries)
+          tidy.holds.stands.sound tidy.holds.stands.says small_frames reading (reads_words (tables_in space.part space.index) memory reading reads) va access
           (leaf_end space.part.blocks access (entry_at (va / 4096) space.entries)) (leaf_end_of (va / 4096) access) low
       by (inr high) =
           walk_refused reading (root_of space) Sv39x4 va access (le-ltb va (2 ^ 41) high)
@@ -217,8 +223,8 @@ module _ (space : Shadow) (memory : List ℕ) (tidy : IsTidy space memory) where
       let low : va < 2 ^ 41 = low_page va (omega (arith, page, filled.1)) in
       let has = leaf_has (va / 4096) e found in
       rw (lt-ltb va (2 ^ 41) low)
-      (last_is (tables_in space.part space.index) (built (tables_in space.part space.index) space.entries).tree (doubleword_at memory) (leaves space.part.blocks space.entries)
-      tidy.stands.sound tidy.stands.says small_frames reading (reads_words (tables_in space.part space.index) memory reading reads) va access
+      (last_is (tables_in space.part space.index) tidy.holds.stands.tree (doubleword_at memory) (leaves space.part.blocks space.entries)
+      tidy.holds.stands.sound tidy.holds.stands.says small_frames reading (reads_words (tables_in space.part space.index) memory reading reads) va access
       (leaf_parts space.part.blocks e) has.0 has.1 low)
 
   insides : (reading : EntryReading) (va : ℕ) (access : Access) → ReadsIn (own_frames space) memory reading
@@ -229,19 +235,58 @@ module _ (space : Shadow) (memory : List ℕ) (tidy : IsTidy space memory) where
       by : (va < 2 ^ 41) ⊎ (2 ^ 41 ≤ va) → LieWithin (own_frames space) (path reading (root_of space) Sv39x4 va access)
       by (inl low) =
           rw (lt-ltb va (2 ^ 41) low)
-          (inside_root (tables_in space.part space.index) (built (tables_in space.part space.index) space.entries).tree (doubleword_at memory) (leaves space.part.blocks space.entries)
-          tidy.stands.sound tidy.stands.says small_frames reading (reads_words (tables_in space.part space.index) memory reading reads) va access low)
+          (inside_root (tables_in space.part space.index) tidy.holds.stands.tree (doubleword_at memory) (leaves space.part.blocks space.entries)
+          tidy.holds.stands.sound tidy.holds.stands.says small_frames reading (reads_words (tables_in space.part space.index) memory reading reads) va access low)
       by (inr high) = rw (le-ltb va (2 ^ 41) high) tt
 
 pub folded : TidyIsFolded
 folded space memory tidy =
     record { walks = walks space memory (tidy_parts space memory tidy); leaf = leaf_last space memory (tidy_parts space memory tidy); inside = insides space memory (tidy_parts space memory tidy) }
 
--- a new space
-pub new_shadow : (part : Layout) (index most : ℕ) (entries : List Entry) → NamesEachOnce part → HasSmallNumbers part → index < part.spaces → most ≤ 256 → most ≤ part.entries → entries ≡ []
-    → IsShadow (record { part = part; index = index; most = most; entries = entries })
-new_shadow part index most entries once small own few room none =
-    subst (λ es. IsShadow (record { part = part; index = index; most = most; entries = es })) (sym none) (record {
+-- a tidy space, by its fields
+pub held_by_fields : (space shown : Shadow) (tables : Tables) (memory : List ℕ) → space ≡ shown → tables ≡ tables_in space.part space.index → Tidy shown memory
+    → HoldsList tables space.part.blocks space.most space.entries space.frames memory
+held_by_fields space shown tables memory seen same tidy =
+    subst (λ t. HoldsList t space.part.blocks space.most space.entries space.frames memory) (sym same)
+    (tidy_parts space memory (subst (λ s. Tidy s memory) (sym seen) tidy)).holds
+
+pub can_by_fields : (space shown : Shadow) (e : Entry) → space ≡ shown → CanFill shown.part.blocks e → CanFill space.part.blocks e
+can_by_fields space shown e seen can = subst (λ s. CanFill s.part.blocks e) (sym seen) can
+
+pub only_by_fields : (space shown : Shadow) (tables : Tables) (old new : List ℕ) → space ≡ shown → tables ≡ tables_in space.part space.index → Only (frames_of tables) old new → Only (own_frames shown) old new
+only_by_fields space shown tables old new seen same only = subst (λ s. Only (own_frames s) old new) seen (subst (λ t. Only (frames_of t) old new) same only)
+
+-- a space with another list, in its tables
+module _ (space : Shadow) (part : Layout) (most : ℕ) (entries : List Entry) (frames : TableFrames) (tables : Tables) (memory : List ℕ) (is : IsShadow space)
+    (part_is : part ≡ space.part) (most_is : most ≡ space.most) (same : tables ≡ tables_in space.part space.index) (holds : HoldsList tables part.blocks most entries frames memory) where
+  bounded : (part' : Layout) (most' : ℕ) → part' ≡ space.part → most' ≡ space.most → length entries ≤ most' → All (CanFill part'.blocks) entries → AllPairs HasOtherPage entries
+      → IsShadow (record { part = part'; index = space.index; most = most'; entries = entries; frames = frames })
+  bounded part' most' part_is' most_is' few fill pages =
+      subst (λ p. length entries ≤ most' → All (CanFill p.blocks) entries → IsShadow (record { part = p; index = space.index; most = most'; entries = entries; frames = frames })) (sym part_is')
+      (subst (λ m. length entries ≤ m → All (CanFill space.part.blocks) entries → IsShadow (record { part = space.part; index = space.index; most = m; entries = entries; frames = frames })) (sym most_is')
+      (λ few' fill'. record { once = is.once; small = is.small; index = is.index; most = is.most; room = is.room; few = few'; fill = fill'; pages = pages }))
+      few fill
+
+  pub shadow_kept : IsShadow (record { part = part; index = space.index; most = most; entries = entries; frames = frames })
+  shadow_kept = bounded part most part_is most_is holds.few holds.fill holds.pages
+
+  pub tidy_kept : Tidy (record { part = part; index = space.index; most = most; entries = entries; frames = frames }) memory
+  tidy_kept = tidy_from (record { part = part; index = space.index; most = most; entries = entries; frames = frames }) memory (record { is = shadow_kept; lies = placed.lies; holds = there })
+    where
+      tables_is : tables ≡ tables_in part space.index
+      tables_is = same ∙ ap (λ p. tables_in p space.index) (sym part_is)
+
+      there : HoldsList (tables_in part space.index) part.blocks most entries frames memory
+      there = subst (λ t. HoldsList t part.blocks most entries frames memory) tables_is holds
+
+      placed : HasTables (tables_in part space.index) (length memory)
+      placed = there.placed
+
+-- zeros are tidy for a new space
+pub new_shadow : (part : Layout) (index most : ℕ) (entries : List Entry) (frames : TableFrames) → NamesEachOnce part → HasSmallNumbers part → index < part.spaces → most ≤ 256 → most ≤ part.entries → entries ≡ []
+    → IsShadow (record { part = part; index = index; most = most; entries = entries; frames = frames })
+new_shadow part index most entries frames once small own few room none =
+    subst (λ es. IsShadow (record { part = part; index = index; most = most; entries = es; frames = frames })) (sym none) (record {
       once = once;
       small = small;
       index = own;
@@ -252,39 +297,25 @@ new_shadow part index most entries once small own few room none =
       pages = λ i j d before h. absurd (omega (arith, h));
     })
 
--- the tables that were written are those of the space, by its fields or as it is seen
-pub placed_by_fields : (space shown : Shadow) (tables : Tables) (size : ℕ) → space ≡ shown → IsShadow space → LieIn (own_frames shown) size → tables ≡ tables_in space.part space.index → HasTables tables size
-placed_by_fields space shown tables size seen is lies same =
-    subst (λ t. HasTables t size) (sym same) (tables_placed space size is (subst (λ s. LieIn (own_frames s) size) (sym seen) lies))
-
-pub apart_by_fields : (space : Shadow) (tables : Tables) → IsShadow space → tables ≡ tables_in space.part space.index → RootIsApart tables
-apart_by_fields space tables is same = subst RootIsApart (sym same) (tables_apart space is)
-
-pub tidy_written : (space shown : Shadow) (tables : Tables) (entries : List Entry) (old new : List ℕ) → space ≡ shown → IsShadow space → LieIn (own_frames shown) (length old)
-    → tables ≡ tables_in space.part space.index → entries ≡ space.entries → Stands tables (built tables entries) (leaves space.part.blocks entries) new → Only (frames_of tables) old new → Tidy shown new
-tidy_written space shown tables entries old new seen is lies same all stands only =
-    subst (λ s. Tidy s new) seen
-    (tidy_from space new is (subst (λ n. LieIn (own_frames space) n) (sym only.size) (subst (λ s. LieIn (own_frames s) (length old)) (sym seen) lies))
-    (subst (λ t. Stands t (built t space.entries) (leaves space.part.blocks space.entries) new) same
-    (subst (λ es. Stands tables (built tables es) (leaves space.part.blocks es) new) all stands)))
-
-pub lies_by_fields : (space shown : Shadow) (memory : List ℕ) → space ≡ shown → Tidy shown memory → LieIn (own_frames space) (length memory)
-lies_by_fields space shown memory seen tidy = subst (λ s. LieIn (own_frames s) (length memory)) (sym seen) (tidy_parts shown memory tidy).lies
-
--- a space after a fill and after a cut
-pub shadow_filled : (space shown : Shadow) (list entries : List Entry) (e : Entry) → space ≡ shown → IsShadow space → CanFill shown.part.blocks e → list ≡ space.entries → entries ≡ filled space.most list e
-    → IsShadow (record space { entries = entries })
-shadow_filled space shown list entries e seen is can same made =
-    let fill : CanFill space.part.blocks e = subst (λ s. CanFill s.part.blocks e) (sym seen) can in
-    let whole : entries ≡ filled space.most space.entries e = made ∙ ap (λ es. filled space.most es e) same in
-    subst (λ es. IsShadow (record space { entries = es })) (sym whole)
-    (shadow_with space (filled space.most space.entries e) is (filled_few space.most space.entries e)
-    (filled_fill space.part.blocks space.most space.entries e is.fill fill) (filled_pages space.most space.entries e is.pages))
-
-pub shadow_cut : (space : Shadow) (list entries : List Entry) (page : ℕ) → IsShadow space → list ≡ space.entries → entries ≡ cut_by page list → IsShadow (record space { entries = entries })
-shadow_cut space list entries page is same made =
-    let whole : entries ≡ cut_by page space.entries = made ∙ ap (cut_by page) same in
-    let few = is.few in
-    subst (λ es. IsShadow (record space { entries = es })) (sym whole)
-    (shadow_with space (cut_by page space.entries) is (omega (arith, cut_few page space.entries, few))
-    (cut_fill space.part.blocks page space.entries is.fill) (cut_pages page space.entries is.pages))
+pub tidy_zeros : (part : Layout) (index most : ℕ) (entries : List Entry) (frames : TableFrames) (memory : List ℕ) → NamesEachOnce part → HasSmallNumbers part → index < part.spaces → most ≤ 256 → most ≤ part.entries
+    → entries ≡ [] → IsKept frames (2 * most) 0 → LieIn (space_frames part index) (length memory) → AreZeros (space_frames part index) memory
+    → Tidy (record { part = part; index = index; most = most; entries = entries; frames = frames }) memory
+tidy_zeros part index most entries frames memory once small own few room none kept lies zeros =
+    subst (λ es. Tidy (record { part = part; index = index; most = most; entries = es; frames = frames }) memory) (sym none)
+    (tidy_from (record { part = part; index = index; most = most; entries = []; frames = frames }) memory (record {
+      is = is;
+      lies = lies;
+      holds = record {
+        placed = tables_placed (record { part = part; index = index; most = most; entries = []; frames = frames }) (length memory) is lies;
+        count = omega (arith, room);
+        bound = few;
+        few = omega arith;
+        fill = All-nil (CanFill part.blocks);
+        pages = λ i j d before h. absurd (omega (arith, h));
+        kept = kept;
+        stands = zeros_stand (tables_in part index) part.blocks memory frames (tables_apart (record { part = part; index = index; most = most; entries = []; frames = frames }) is) zeros;
+      };
+    }))
+  where
+    is : IsShadow (record { part = part; index = index; most = most; entries = []; frames = frames })
+    is = new_shadow part index most [] frames once small own few room refl

@@ -11,7 +11,8 @@ use Rattle.arch_defs.specs.Memory.{load}
 use Rattle.arch_defs.specs.TableEntries.{needs_dirty, pte_of}
 use Rattle.arch_defs.specs.Walk.{EntryReading, Met, path, walk}
 use Rattle.arch_defs.specs.CachedEntries.{entry_at}
-use Rattle.shadow_space.specs.Shadows.{Shadow, frame_of_ram, own_frames, root_of}
+use Rattle.shadow_space.specs.Leaves.{frame_of_ram}
+use Rattle.shadow_space.specs.Shadows.{Shadow, own_frames, root_of}
 
 -- a reading of places gives the aligned doublewords of memory in these frames
 abbrev pub ReadsIn : Frames → List ℕ → EntryReading → Type 0

@@ -1,9 +1,8 @@
 -- The tables of a space as a tree: which table a frame holds, and which frame holds a table. A table of the
 -- shape Sv39x4 is named by its level and by the part of page numbers that all its pages share (Privileged
 -- Architecture 20211203, 8.5.1).
-use Rattle.std.specs.Prelude.{ℕ, zero, suc, ◌≡◌, ◌+◌, ◌*◌, ◌/◌, ◌<◌, ◌≤◌, ◌⊎◌, ◌&&◌, ◌==◌, List, [], ◌∷◌, Option, Some, None, if◌then◌else◌}
-use Rattle.arch_defs.specs.declared.cached.Entry.{Entry}
-use Rattle.arch_defs.specs.Frames.{Frames, joined, within}
+use Rattle.std.specs.Prelude.{ℕ, zero, suc, ◌≡◌, ◌+◌, ◌*◌, ◌/◌, ◌<◌, ◌≤◌, ◌^◌, ◌⊎◌, ◌==◌, Option, Some, None, if◌then◌else◌}
+use Rattle.arch_defs.specs.Frames.{Frames, LieIn, joined, within}
 use Rattle.shadow_space.specs.declared.writing.Tables.{Tables}
 
 -- all frames of these tables
@@ -23,11 +22,20 @@ RootIsApart tables = (tables.root + 4 ≤ tables.first) ⊎ (tables.first + tabl
 abbrev pub slots : Tables → ℕ → ℕ
 slots tables frame = if frame == tables.root then 2048 else 512
 
+-- the level of the root
+abbrev pub top : ℕ
+top = 2
+
 -- what a frame holds: nothing, or the table of a level h with a prefix k, which is that of the pages whose
 -- number divided by 512 ^ (h + 1) is k
 pub data Content : Type 0 where
   Free : Content
   Table : ℕ → ℕ → Content
+
+-- that number of a page
+abbrev pub prefix : ℕ → ℕ → ℕ
+prefix zero page = page / 512
+prefix (suc h) page = prefix h page / 512
 
 -- what each frame holds, and the frame of each table, by level and prefix
 pub record Tree : Type 0 where
@@ -48,58 +56,24 @@ entry_of tree leaf Free s = 0
 entry_of tree leaf (Table zero k) s = leaf (512 * k + s)
 entry_of tree leaf (Table (suc h) k) s = pointer_of (tree.place h (512 * k + s))
 
--- the root is the table of level 2; each table has one frame, and each frame at most one table
+-- the root is the table of the highest level; each table has one frame, and each frame at most one table
 pub record IsTree (tables : Tables) (tree : Tree) : Type 0 where
   pub apart : RootIsApart tables
-  pub root : tree.content tables.root ≡ Table 2 0
+  pub root : tree.content tables.root ≡ Table top 0
   pub back : (frame h k : ℕ) → tree.content frame ≡ Table h k → tree.place h k ≡ Some frame
   pub forth : (frame h k : ℕ) → tree.place h k ≡ Some frame → tree.content frame ≡ Table h k
   pub own : (frame h k : ℕ) → tree.place h k ≡ Some frame → IsOwn tables frame
-  pub proper : (frame h k : ℕ) → tree.content frame ≡ Table h k → (h < 2) ⊎ ((h ≡ 2) × (k ≡ 0))
+  pub proper : (frame h k : ℕ) → tree.content frame ≡ Table h k → (h < top) ⊎ ((h ≡ top) × (k ≡ 0))
 
 -- doublewords of memory are the entries of the tree's tables. Where a page has no table, it has no leaf
 pub record Says (word : ℕ → ℕ) (tables : Tables) (tree : Tree) (leaf : ℕ → ℕ) : Type 0 where
   pub words : (frame s : ℕ) → IsOwn tables frame → s < slots tables frame
       → word (512 * frame + s) ≡ entry_of tree leaf (tree.content frame) s
-  pub nothing : (h k s : ℕ) → h < 2 → tree.place h k ≡ None → s < 512
+  pub nothing : (h k s : ℕ) → h < top → tree.place h k ≡ None → s < 512
       → entry_of tree leaf (Table h k) s ≡ 0
 
--- a tree with one more table
-abbrev pub with_place : Tree → ℕ → ℕ → ℕ → Tree
-with_place tree frame h k = record {
-  content = λ f. if f == frame then Table h k else tree.content f;
-  place = λ h' k'. if h' == h && k' == k then Some frame else tree.place h' k';
-}
-
--- the root alone
-abbrev pub root_alone : Tables → Tree
-root_alone tables = record {
-  content = λ f. if f == tables.root then Table 2 0 else Free;
-  place = λ h k. if h == 2 && k == 0 then Some tables.root else None;
-}
-
--- a tree, and how many of the other frames are in it, from the first on
-pub record Build : Type 0 where
-  pub tree : Tree
-  pub used : ℕ
-
-abbrev pub with_table_if : Tables → ℕ → ℕ → Build → Option ℕ → Build
-with_table_if tables h k b (Some frame) = b
-with_table_if tables h k b None =
-    record { tree = with_place b.tree (tables.first + b.used) h k; used = b.used + 1 }
-
--- with a table, in the next frame if it is new
-unfoldable pub with_table : Tables → ℕ → ℕ → Build → Build
-with_table tables h k b = with_table_if tables h k b (b.tree.place h k)
-
--- with the tables of a page
-unfoldable pub with_page : Tables → ℕ → Build → Build
-with_page tables page b = with_table tables 0 (page / 512) (with_table tables 1 (page / 262144) b)
-
--- with those of the pages of these entries, and the tree of them alone
-unfoldable pub built_on : Tables → Build → List Entry → Build
-built_on tables b [] = b
-built_on tables b (e ∷ es) = built_on tables (with_page tables e.page b) es
-
-abbrev pub built : Tables → List Entry → Build
-built tables entries = built_on tables (record { tree = root_alone tables; used = 0 }) entries
+-- the tables lie in memory of so many bytes, and a pointer has room for the number of each frame
+pub record HasTables (tables : Tables) (size : ℕ) : Type 0 where
+  pub lies : LieIn (frames_of tables) size
+  pub root : tables.root + 4 < 2 ^ 44
+  pub others : tables.first + tables.count < 2 ^ 44

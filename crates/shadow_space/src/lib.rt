@@ -1,6 +1,8 @@
 // A space of cached second-stage translations, folded into one table.
 #![tactic(auto)]
 
+mod cached;
+mod frames;
 mod laws;
 mod listing;
 mod spaces;
@@ -9,7 +11,7 @@ mod tests;
 mod writing;
 
 pub use arch_defs::{Entry, Part};
+pub use frames::MOST_ENTRIES;
 pub use laws::{gives_entries, spaces_are_apart, tidy_is_folded, tidy_lasts, untouched_are_zeros};
-pub use listing::MOST_ENTRIES;
 pub use phys_mem::PhysMem;
 pub use spaces::Space;

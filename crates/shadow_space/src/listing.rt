@@ -1,16 +1,15 @@
 // Lists of cached translations, of a fixed size.
 
-ghost use Rattle.std.specs.Prelude.{◌≡◌, ◌≤◌, ◌<◌, [], ◌∷◌, ◌++◌, length};
+ghost use Rattle.std.specs.Prelude.{◌≡◌, ◌≢◌, ◌≤◌, ◌<◌, [], ◌∷◌, ◌++◌, length, remove, slice_index_or, IfNone, IfSome};
 ghost use Rattle.std.specs.List.{All};
-ghost use Rattle.arch_defs.specs.CachedEntries.{HasLevel, cut_by, filled, newest, without};
+ghost use Rattle.arch_defs.specs.declared.cached.Entry.{Entry};
+ghost use Rattle.arch_defs.specs.CachedEntries.{HasLevel, holds};
 ghost use Rattle.arch_defs.specs.Walk.{most_level};
 ghost use Rattle.arch_defs.specs.TableEntries.{span};
 
+use crate::frames::MOST_ENTRIES;
 use arch_defs::Entry;
 use std::marker::Model;
-
-/// The most entries of a space.
-pub const MOST_ENTRIES: usize = 256;
 
 // What stands in a slot without an entry.
 const NO_ENTRY: Entry = Entry {
@@ -51,17 +50,35 @@ impl EntryList {
         }
     }
 
-    /// These entries.
-    pub fn of(entries: &[Entry]) -> EntryList
-        requires { length entries.now ≤ 256 }
-        ensures { result ≡ entries.now }
+    /// How many there are.
+    pub fn len(&self) -> usize
+        ensures value { result ≡ length self.now }
+        ensures few { result ≤ 256 }
     {
-        let mut slots = [NO_ENTRY; MOST_ENTRIES];
-        slots[..entries.len()].copy_from_slice(entries);
-        EntryList {
-            slots,
-            count: entries.len(),
+        self.as_slice().len()
+    }
+
+    /// Entry i.
+    pub fn at(&self, i: usize) -> Entry
+        requires { i < length self.now }
+        ensures { result ≡ slice_index_or self.now i result }
+    {
+        self.as_slice()[i]
+    }
+
+    /// The place of the entry of a page, if there is one.
+    pub fn place_of(&self, page: u64) -> Option<usize>
+        ensures found { IfSome result (λ i. (i < length self.now)
+            × ((d : Entry) → (slice_index_or self.now i d).page ≡ page)) }
+        ensures absent { IfNone result (All (λ e. e.page ≢ page) self.now) }
+    {
+        let entries = self.as_slice();
+        for i in 0..entries.len() {
+            if entries[i].page == page {
+                return Some(i);
+            }
         }
+        None
     }
 
     /// The entries.
@@ -80,47 +97,15 @@ impl EntryList {
         self.slots[self.count] = entry;
         self.count += 1;
     }
-}
 
-// The entries of other pages.
-fn without(page: u64, entries: &[Entry]) -> EntryList
-    requires { length entries.now ≤ 256 }
-    ensures { result ≡ without page entries.now }
-{
-    let mut others = EntryList::new();
-    for entry in entries {
-        if entry.page != page {
-            others.push(*entry);
-        }
+    /// Takes entry i out; those behind it move up.
+    pub fn remove(&mut self, i: usize)
+        requires { i < length self.old }
+        ensures { self.new ≡ remove self.old i }
+    {
+        self.slots.copy_within(i + 1..self.count, i);
+        self.count -= 1;
     }
-    others
-}
-
-// The last entries, at most so many.
-fn newest(most: usize, entries: &[Entry]) -> &[Entry]
-    ensures { result.now ≡ newest most entries.now }
-{
-    if entries.len() <= most {
-        entries
-    } else {
-        &entries[entries.len() - most..]
-    }
-}
-
-/// The list of at most so many entries after a fill of this one.
-#[tactic(auto, using(crate::proofs::Lists::filled_pushes), unfolding(arch_defs::specs::CachedEntries::filled))]
-pub fn filled(most: usize, entries: &[Entry], entry: Entry) -> EntryList
-    requires few { most ≤ 256 }
-    requires fits { length entries.now ≤ most }
-    ensures { result ≡ filled most entries.now entry }
-{
-    if most == 0 {
-        return EntryList::new();
-    }
-    let others = without(entry.page, entries);
-    let mut list = EntryList::of(newest(most - 1, others.as_slice()));
-    list.push(entry);
-    list
 }
 
 // The pages that a leaf of this level maps.
@@ -136,19 +121,11 @@ fn span(level: u8) -> u64
     }
 }
 
-/// The list without the entries whose leaf's span holds a page.
-#[tactic(auto, unfolding(arch_defs::specs::CachedEntries::cut_by))]
-pub fn cut(page: u64, entries: &[Entry]) -> EntryList
-    requires few { length entries.now ≤ 256 }
-    requires levels { All HasLevel entries.now }
-    ensures { result ≡ cut_by page entries.now }
+/// Whether the span of an entry's leaf holds a page.
+pub fn holds(entry: &Entry, page: u64) -> bool
+    requires { HasLevel entry.now }
+    ensures { result ≡ holds page entry.now }
 {
-    let mut others = EntryList::new();
-    for entry in entries {
-        let span = span(entry.level);
-        if entry.page / span != page / span {
-            others.push(*entry);
-        }
-    }
-    others
+    let span = span(entry.level);
+    entry.page / span == page / span
 }

@@ -1,14 +1,18 @@
 // A space.
 
-ghost use Rattle.std.specs.Prelude.{◌≡◌, ℕ, ◌+◌, ◌%◌, ◌<◌, ◌≤◌, ◌^◌, [], List, length};
+ghost use Rattle.std.specs.Prelude.{◌≡◌, ℕ, ◌+◌, ◌-◌, ◌*◌, ◌%◌, ◌<◌, ◌≤◌, ◌^◌, [], List, length};
 ghost use Rattle.arch_defs.specs.Frames.{LieIn, Only};
 ghost use Rattle.arch_defs.specs.Layouts.{NamesEachOnce, space_frames};
 ghost use Rattle.arch_defs.specs.CachedEntries.{CanFill, cut_by, filled};
 ghost use Rattle.shadow_space.specs.Folding.{Folded};
+ghost use Rattle.shadow_space.specs.Reaching.{FreeAreZeros};
 ghost use Rattle.shadow_space.specs.Shadows.{AreZeros, HasSmallNumbers, Tidy, own_frames, root_of, tables_in};
+ghost use Rattle.table_words.specs.Words.{changed};
 
-use crate::listing::{EntryList, cut, filled};
-use crate::writing::{Tables, rebuild};
+use crate::cached::CachedTable;
+use crate::frames::TableFrames;
+use crate::listing::EntryList;
+use crate::writing::Tables;
 use arch_defs::{Entry, Part, TABLES_PER_ENTRY};
 use phys_mem::PhysMem;
 use std::marker::Model;
@@ -20,10 +24,8 @@ use std::marker::Model;
 /// space.
 #[derive(Drop)]
 pub struct Space {
-    part: Part,
     index: u64,
-    most: usize,
-    entries: EntryList,
+    table: CachedTable,
 }
 
 impl Model for Space {
@@ -31,13 +33,20 @@ impl Model for Space {
 
     ghost Value = { Shadow };
 
-    ghost view = { λ s. record { part = s.part; index = s.index; most = s.most; entries = s.entries } };
+    ghost view = { λ s. record {
+      part = s.table.part;
+      index = s.index;
+      most = s.table.most;
+      entries = s.table.entries;
+      frames = s.table.frames;
+    } };
 
     ghost invariant = { λ s. IsShadow (record {
-      part = s.part;
+      part = s.table.part;
       index = s.index;
-      most = s.most;
-      entries = s.entries;
+      most = s.table.most;
+      entries = s.table.entries;
+      frames = s.table.frames;
     }) };
 }
 
@@ -56,10 +65,13 @@ impl Space {
     {
         numbers_of(part);
         Space {
-            part: *part,
             index: i,
-            most: entries as usize,
-            entries: EntryList::new(),
+            table: CachedTable {
+                part: *part,
+                most: entries as usize,
+                entries: EntryList::new(),
+                frames: TableFrames::new(2 * entries as usize),
+            },
         }
     }
 
@@ -69,14 +81,14 @@ impl Space {
         ensures aligned { result % 4 ≡ 0 }
         ensures small { result < 2 ^ 44 }
     {
-        tables_of(&self.part, self.index).root
+        tables_of(&self.table.part, self.index).root
     }
 
     /// The entries, the oldest first.
     pub fn entries(&self) -> &[Entry]
         ensures { result.now ≡ self.now.entries }
     {
-        self.entries.as_slice()
+        self.table.entries.as_slice()
     }
 
     /// Adds an entry, as the newest. An entry of the same page is dropped, and else, where there are as many
@@ -91,9 +103,11 @@ impl Space {
         ensures tidy { Tidy self.new mem.new }
         ensures folded { Folded self.new mem.new }
         ensures only { Only (own_frames self.old) mem.old mem.new }
+        ensures changed { changed mem.old mem.new ≤ 6 }
+        ensures zeros { FreeAreZeros self.new mem.new }
     {
-        self.entries = filled(self.most, self.entries.as_slice(), entry);
-        self.write(mem);
+        let tables = tables_of(&self.table.part, self.index);
+        self.table.fill(mem, &tables, entry);
     }
 
     /// Drops the entries whose leaf's span holds a guest physical page.
@@ -106,9 +120,12 @@ impl Space {
         ensures tidy { Tidy self.new mem.new }
         ensures folded { Folded self.new mem.new }
         ensures only { Only (own_frames self.old) mem.old mem.new }
+        ensures changed { changed mem.old mem.new
+            ≤ 3 * (length self.old.entries - length self.new.entries) }
+        ensures zeros { FreeAreZeros self.new mem.new }
     {
-        self.entries = cut(page, self.entries.as_slice());
-        self.write(mem);
+        let tables = tables_of(&self.table.part, self.index);
+        self.table.cut(mem, &tables, page);
     }
 
     /// Drops all entries.
@@ -121,20 +138,12 @@ impl Space {
         ensures tidy { Tidy self.new mem.new }
         ensures folded { Folded self.new mem.new }
         ensures only { Only (own_frames self.old) mem.old mem.new }
+        ensures changed { changed mem.old mem.new
+            ≤ 3 * (length self.old.entries - length self.new.entries) }
+        ensures zeros { FreeAreZeros self.new mem.new }
     {
-        self.entries = EntryList::new();
-        self.write(mem);
-    }
-
-    // Writes the table of the entries.
-    fn write(&self, mem: &mut PhysMem)
-        requires { LieIn (own_frames self.now) (length mem.old) }
-        ensures tidy { Tidy self.now mem.new }
-        ensures folded { Folded self.now mem.new }
-        ensures only { Only (own_frames self.now) mem.old mem.new }
-    {
-        let tables = tables_of(&self.part, self.index);
-        rebuild(mem, &self.part, &tables, self.entries.as_slice());
+        let tables = tables_of(&self.table.part, self.index);
+        self.table.wipe(mem, &tables);
     }
 }
 

@@ -1,8 +1,15 @@
-use Rattle.shadow_space.proofs.Tidying.{lies_by_fields, shadow_cut}
+use Rattle.shadow_space.proofs.Reaching.{unreached}
+use Rattle.shadow_space.proofs.Tidying.{folded, held_by_fields, tidy_kept}
 use Rattle.shadow_space.proofs.spaces.Space.cut.Goals as goal
 
-pub invariant_of-self : goal.invariant_of-self
-invariant_of-self c = shadow_cut (record { part = c.self.inside.part; index = c.self.inside.index; most = c.self.inside.most; entries = c.self.inside.entries }) c.as_slice.result.now c.cut-self-inside.result c.args.page c.self.invariant c.as_slice.ensures.value c.cut-self-inside.ensures
+pub cut-requires : goal.cut-requires
+cut-requires c = held_by_fields (record { part = c.self.inside.table.part; index = c.self.inside.index; most = c.self.inside.table.most; entries = c.self.inside.table.entries; frames = c.self.inside.table.frames }) c.args.self.now c.tables_of-tables.result c.args.mem.now c.self.view_is c.tables_of-tables.ensures.value c.requires.tidy
 
-pub write-requires : goal.write-requires
-write-requires c = lies_by_fields (record { part = c.self.inside.part; index = c.self.inside.index; most = c.self.inside.most; entries = c.self.inside.entries }) c.args.self.now c.args.mem.now c.self.view_is c.requires.tidy
+pub returns-clause-tidy : goal.returns-clause-tidy
+returns-clause-tidy c = tidy_kept (record { part = c.self.inside.table.part; index = c.self.inside.index; most = c.self.inside.table.most; entries = c.self.inside.table.entries; frames = c.self.inside.table.frames }) c.cut.new.self.part c.cut.new.self.most c.cut.new.self.entries c.cut.new.self.frames c.tables_of-tables.result c.cut.new.mem c.self.invariant c.cut.ensures.keeps.part c.cut.ensures.keeps.most c.tables_of-tables.ensures.value c.cut.ensures.holds
+
+pub returns-clause-folded : goal.returns-clause-folded
+returns-clause-folded c = folded (record { part = c.cut.new.self.part; index = c.self.inside.index; most = c.cut.new.self.most; entries = c.cut.new.self.entries; frames = c.cut.new.self.frames }) c.cut.new.mem (tidy_kept (record { part = c.self.inside.table.part; index = c.self.inside.index; most = c.self.inside.table.most; entries = c.self.inside.table.entries; frames = c.self.inside.table.frames }) c.cut.new.self.part c.cut.new.self.most c.cut.new.self.entries c.cut.new.self.frames c.tables_of-tables.result c.cut.new.mem c.self.invariant c.cut.ensures.keeps.part c.cut.ensures.keeps.most c.tables_of-tables.ensures.value c.cut.ensures.holds)
+
+pub returns-clause-zeros : goal.returns-clause-zeros
+returns-clause-zeros c = unreached (record { part = c.cut.new.self.part; index = c.self.inside.index; most = c.cut.new.self.most; entries = c.cut.new.self.entries; frames = c.cut.new.self.frames }) c.cut.new.mem (tidy_kept (record { part = c.self.inside.table.part; index = c.self.inside.index; most = c.self.inside.table.most; entries = c.self.inside.table.entries; frames = c.self.inside.table.frames }) c.cut.new.self.part c.cut.new.self.most c.cut.new.self.entries c.cut.new.self.frames c.tables_of-tables.result c.cut.new.mem c.self.invariant c.cut.ensures.keeps.part c.cut.ensures.keeps.most c.tables_of-tables.ensures.value c.cut.ensures.holds)

@@ -1,0 +1,135 @@
+// A list of cached translations, and the tables in which it stands.
+
+ghost use Rattle.std.specs.Prelude.{◌≡◌, ◌+◌, ◌-◌, ◌*◌, ◌<◌, ◌≤◌, [], ◌∷◌, ◌++◌, length, remove, slice_index_or};
+ghost use Rattle.std.specs.List.{All};
+ghost use Rattle.arch_defs.specs.CachedEntries.{CanFill, HasOtherPage, cut_by, filled};
+ghost use Rattle.arch_defs.specs.Frames.{Only};
+ghost use Rattle.shadow_space.specs.Held.{Holds, KeepsBounds};
+ghost use Rattle.shadow_space.specs.Trees.{frames_of};
+ghost use Rattle.table_words.specs.Words.{changed};
+
+use crate::frames::TableFrames;
+use crate::listing::{EntryList, holds};
+use crate::writing::{Tables, enter_table, leaf_word, leave_table};
+use arch_defs::{Entry, Part};
+use phys_mem::PhysMem;
+use table_words::{doubleword_at, set_word};
+
+/// Entries, at most so many, with leaves in the blocks of a part, and the frames of their tables.
+#[derive(Drop)]
+pub struct CachedTable {
+    pub part: Part,
+    pub most: usize,
+    pub entries: EntryList,
+    pub frames: TableFrames,
+}
+
+impl CachedTable {
+    // Takes entry i out.
+    fn take_out(&mut self, mem: &mut PhysMem, tables: &Tables, i: usize)
+        requires holds { Holds tables.now self.old mem.old }
+        requires index { i < length self.old.entries }
+        ensures entries { self.new.entries ≡ remove self.old.entries i }
+        ensures keeps { KeepsBounds self.old self.new }
+        ensures holds { Holds tables.now self.new mem.new }
+        ensures only { Only (frames_of tables.now) mem.old mem.new }
+        ensures changed { changed mem.old mem.new ≤ 3 }
+    {
+        let page = self.entries.at(i).page;
+        let low = tables.first + self.frames.place(i);
+        self.frames.drop_place(i, self.entries.len());
+        self.entries.remove(i);
+        set_word(mem, 512 * low + page % 512, 0);
+        let root = 512 * tables.root + page / 262_144;
+        let middle = doubleword_at(mem, root) / 1024;
+        let slot = 512 * middle + page / 512 % 512;
+        leave_table(&mut self.frames, mem, tables.first, slot, low);
+        leave_table(&mut self.frames, mem, tables.first, root, middle);
+    }
+
+    // Puts an entry behind the others, of which none has its page.
+    fn put(&mut self, mem: &mut PhysMem, tables: &Tables, entry: Entry)
+        requires holds { Holds tables.now self.old mem.old }
+        requires room { length self.old.entries < self.old.most }
+        requires entry { CanFill self.old.part.blocks entry }
+        requires others { All (λ e. HasOtherPage e entry) self.old.entries }
+        ensures entries { self.new.entries ≡ self.old.entries ++ entry ∷ [] }
+        ensures keeps { KeepsBounds self.old self.new }
+        ensures holds { Holds tables.now self.new mem.new }
+        ensures only { Only (frames_of tables.now) mem.old mem.new }
+        ensures changed { changed mem.old mem.new ≤ 3 }
+    {
+        let page = entry.page;
+        let leaf = leaf_word(&self.part, &entry);
+        let root = 512 * tables.root + page / 262_144;
+        let middle = enter_table(&mut self.frames, mem, tables.first, root);
+        let slot = 512 * middle + page / 512 % 512;
+        let low = enter_table(&mut self.frames, mem, tables.first, slot);
+        set_word(mem, 512 * low + page % 512, leaf);
+        self.frames
+            .set_place(self.entries.len(), low - tables.first);
+        self.entries.push(entry);
+    }
+
+    /// Fills an entry: as the newest, in place of an entry of the same page, or else, where there are as many
+    /// as there may be, of the oldest.
+    pub fn fill(&mut self, mem: &mut PhysMem, tables: &Tables, entry: Entry)
+        requires holds { Holds tables.now self.old mem.old }
+        requires entry { CanFill self.old.part.blocks entry }
+        ensures entries { self.new.entries ≡ filled self.old.most self.old.entries entry }
+        ensures keeps { KeepsBounds self.old self.new }
+        ensures holds { Holds tables.now self.new mem.new }
+        ensures only { Only (frames_of tables.now) mem.old mem.new }
+        ensures changed { changed mem.old mem.new ≤ 6 }
+    {
+        match self.entries.place_of(entry.page) {
+            Some(i) => {
+                self.take_out(mem, tables, i);
+                self.put(mem, tables, entry);
+            }
+            None if self.entries.len() < self.most => self.put(mem, tables, entry),
+            None if self.most > 0 => {
+                self.take_out(mem, tables, 0);
+                self.put(mem, tables, entry);
+            }
+            None => (),
+        }
+    }
+
+    /// Drops the entries whose leaf's span holds a page.
+    pub fn cut(&mut self, mem: &mut PhysMem, tables: &Tables, page: u64)
+        requires { Holds tables.now self.old mem.old }
+        ensures entries { self.new.entries ≡ cut_by page self.old.entries }
+        ensures keeps { KeepsBounds self.old self.new }
+        ensures holds { Holds tables.now self.new mem.new }
+        ensures only { Only (frames_of tables.now) mem.old mem.new }
+        ensures changed { changed mem.old mem.new
+            ≤ 3 * (length self.old.entries - length self.new.entries) }
+    {
+        let mut i = self.entries.len();
+        while i > 0 {
+            i -= 1;
+            if !holds(&self.entries.at(i), page) {
+                continue;
+            }
+            self.take_out(mem, tables, i);
+        }
+    }
+
+    /// Drops all entries.
+    pub fn wipe(&mut self, mem: &mut PhysMem, tables: &Tables)
+        requires { Holds tables.now self.old mem.old }
+        ensures entries { self.new.entries ≡ [] }
+        ensures keeps { KeepsBounds self.old self.new }
+        ensures holds { Holds tables.now self.new mem.new }
+        ensures only { Only (frames_of tables.now) mem.old mem.new }
+        ensures changed { changed mem.old mem.new
+            ≤ 3 * (length self.old.entries - length self.new.entries) }
+    {
+        let mut i = self.entries.len();
+        while i > 0 {
+            i -= 1;
+            self.take_out(mem, tables, i);
+        }
+    }
+}

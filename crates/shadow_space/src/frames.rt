@@ -1,0 +1,135 @@
+// The frames of a space's tables: which are free, and how many entries each of the others has.
+
+ghost use Rattle.std.specs.Prelude.{◌≡◌, ℕ, ◌+◌, ◌-◌, ◌<◌, ◌≤◌, length, slice_index, slice_set};
+ghost use Rattle.shadow_space.specs.Held.{HasMovedUp, IsKept, closed, fewer, more, next_free, opened};
+
+/// The most entries of a space.
+pub const MOST_ENTRIES: usize = 256;
+
+/// The most tables of a space below its root.
+pub const MOST_TABLES: usize = 2 * MOST_ENTRIES;
+
+/// The frames for tables below the root, by their numbers from the first one on. The count of each is of the
+/// entries of the space's list that its table is for; without a table it is zero, and the frame is free. The
+/// first `left` of `free` are the free ones. `places` has for each entry of the list the frame of its leaf.
+#[derive(Drop)]
+pub struct TableFrames {
+    pub counts: [u16; 512],
+    pub free: [u16; 512],
+    pub left: usize,
+    pub places: [u16; 256],
+}
+
+impl TableFrames {
+    /// So many free frames.
+    pub fn new(count: usize) -> TableFrames
+        requires { count ≤ 512 }
+        ensures { IsKept result count 0 }
+    {
+        let counts = no_counts();
+        let free = numbers(count);
+        let places = no_places();
+        TableFrames {
+            counts,
+            free,
+            left: count,
+            places,
+        }
+    }
+
+    /// One more entry in the table of a frame.
+    pub fn more(&mut self, j: usize)
+        requires inside { j < 512 }
+        requires few { slice_index self.old.counts j < 65535 }
+        ensures { self.new ≡ more self.old j }
+    {
+        self.counts[j] += 1;
+    }
+
+    /// Takes the last free frame for a table with one entry, and answers its number.
+    pub fn open(&mut self) -> u64
+        requires some { 0 < self.old.left }
+        requires most { self.old.left ≤ 512 }
+        requires inside { next_free self.old < 512 }
+        ensures number { result ≡ next_free self.old }
+        ensures frames { self.new ≡ opened self.old }
+    {
+        let j = self.free[self.left - 1];
+        self.counts[j as usize] = 1;
+        self.left -= 1;
+        j as u64
+    }
+
+    /// One entry less in the table of a frame, which has more than one.
+    pub fn fewer(&mut self, j: usize)
+        requires inside { j < 512 }
+        requires some { 0 < slice_index self.old.counts j }
+        ensures { self.new ≡ fewer self.old j }
+    {
+        self.counts[j] -= 1;
+    }
+
+    /// Gives back the frame of a table whose last entry goes.
+    pub fn close(&mut self, j: usize)
+        requires inside { j < 512 }
+        requires room { self.old.left < 512 }
+        ensures { self.new ≡ closed self.old j }
+    {
+        self.counts[j] = 0;
+        self.free[self.left] = j as u16;
+        self.left += 1;
+    }
+
+    /// The frame of the leaf of entry i.
+    pub fn place(&self, i: usize) -> u64
+        requires { i < 256 }
+        ensures { result ≡ slice_index self.now.places i }
+    {
+        self.places[i] as u64
+    }
+
+    /// Sets the frame of the leaf of entry i.
+    pub fn set_place(&mut self, i: usize, j: u64)
+        requires inside { i < 256 }
+        requires small { j < 512 }
+        ensures { self.new ≡ record self.old { places = slice_set self.old.places i j } }
+    {
+        self.places[i] = j as u16;
+    }
+
+    /// Forgets the frame of entry i of so many; those behind it move up.
+    pub fn drop_place(&mut self, i: usize, count: usize)
+        requires inside { i < count }
+        requires few { count ≤ 256 }
+        ensures rest { self.new ≡ record self.old { places = self.new.places } }
+        ensures places { HasMovedUp self.old.places self.new.places i count }
+    {
+        self.places.copy_within(i + 1..count, i);
+    }
+}
+
+fn no_counts() -> [u16; 512]
+    ensures size { length result ≡ 512 }
+    ensures zeros { (i : ℕ) → slice_index result i ≡ 0 }
+{
+    [0; 512]
+}
+
+fn no_places() -> [u16; 256]
+    ensures { length result ≡ 256 }
+{
+    [0; 256]
+}
+
+// The numbers below this one, the greatest first.
+fn numbers(count: usize) -> [u16; 512]
+    requires { count ≤ 512 }
+    ensures size { length result ≡ 512 }
+    ensures numbers { (i : ℕ) → i < count → slice_index result i ≡ count - (i + 1) }
+{
+    let mut numbers = [0u16; 512];
+    for i in 0..count {
+        numbers[i] = (count - 1 - i) as u16;
+    }
+    numbers
+}
