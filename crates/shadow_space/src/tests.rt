@@ -135,6 +135,40 @@ fn filled(space: &mut Space, mem: &mut PhysMem, entry: Entry) -> bool
     true
 }
 
+// Fills the first page of each of so many spans of 262,144 pages, with the frames from 80000 on.
+fn fill_spans(space: &mut Space, mem: &mut PhysMem, count: u64)
+    requires tidy { Tidy space.old mem.old }
+    requires blocks { length space.old.part.blocks ≡ 2 }
+    requires few { count ≤ 2048 }
+    ensures tidy { Tidy space.new mem.new }
+    ensures blocks { length space.new.part.blocks ≡ 2 }
+{
+    for i in 0..count {
+        filled(space, mem, entry(0x4_0000 * i, 0x8_0000 + i, 0));
+    }
+}
+
+// The doublewords of memory.
+fn words_of(alloc: Global, mem: &PhysMem) -> Result<Vec<u64>, NoMemory> {
+    let count = mem.size() / 8;
+    let mut words = Vec::with_capacity(alloc, count as usize)?;
+    for i in 0..count {
+        words.push(mem.load(8 * i, 8))?;
+    }
+    Ok(words)
+}
+
+// How many doublewords of memory differ from these.
+fn differing(mem: &PhysMem, before: &[u64]) -> u64 {
+    let mut differing = 0;
+    for i in 0..mem.size() / 8 {
+        if before.get(i as usize) != Some(&mem.load(8 * i, 8)) {
+            differing += 1;
+        }
+    }
+    differing
+}
+
 // The frame that the leaf of a page names, if there is a leaf.
 fn frame_of(mem: &PhysMem, page: u64) -> Option<u64>
     requires { page < 2 ^ 29 }
@@ -283,4 +317,26 @@ fn a_clean_page(rt: HostRuntime) {
     };
     assert_eq!(rt; end, WalkEnd::Leaf(leaf));
     assert_eq!(rt; MOST_ENTRIES, 256);
+}
+
+// Sixteen pages, each in tables of its own, are as many as there may be. The next page has no table with
+// another one: its leaf and the pointers to its two tables are written, and those of page 0 are cleared.
+#[test]
+fn a_fill_writes_six_doublewords(rt: HostRuntime) {
+    let part = part(16);
+    let made = empty_space(rt.alloc(), &part, 41, 16).expect(&rt, "memory");
+    let Machine { mut mem, mut space } = made.expect(&rt, "room");
+    fill_spans(&mut space, &mut mem, 16);
+    assert_eq!(rt; frame_of(&mem, 0), Some(2560));
+    assert_eq!(rt; frame_of(&mem, 0x3C_0000), Some(2575));
+    let before = words_of(rt.alloc(), &mem).expect(&rt, "memory");
+    assert_eq!(rt; differing(&mem, &before), 0);
+    assert_eq!(rt;
+        filled(&mut space, &mut mem, entry(0x40_0201, 0x8_0010, 0)),
+        true
+    );
+    assert_eq!(rt; frame_of(&mem, 0), None);
+    assert_eq!(rt; frame_of(&mem, 0x4_0000), Some(2561));
+    assert_eq!(rt; frame_of(&mem, 0x40_0201), Some(2576));
+    assert_eq!(rt; differing(&mem, &before), 6);
 }
