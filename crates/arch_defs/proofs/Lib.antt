@@ -1,5 +1,6 @@
 pub mod FrameSets
 pub mod Images
+pub mod HgatpValues
 pub mod Naming
 pub mod Pastes
 pub mod RamBlocks

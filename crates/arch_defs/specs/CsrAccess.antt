@@ -19,8 +19,8 @@ use Rattle.arch_defs.specs.declared.csr_names.Register.TheVariants.{Supervisor, 
 use Rattle.arch_defs.specs.declared.csr_names.CsrEnd.{CsrEnd}
 use Rattle.arch_defs.specs.declared.csr_names.CsrEnd.TheVariants.{Illegal, Virtual}
 use Rattle.arch_defs.specs.CsrNames.{register_of}
-use Rattle.arch_defs.specs.Bits.{bit}
-use Rattle.arch_defs.specs.CsrBits.{bit_number, sstatus_bits, sstatus_of, hstatus_bits, hstatus_of, sip_bits, supervisor_interrupts, hip_bits, virtual_interrupts, delegated, delegated_become, tvec_bits, epc_bits, hedeleg_bits, satp_bits, supervisor_root_of, hgatp_bits, guest_root_of}
+use Rattle.arch_defs.specs.Bits.{bit, bit_number}
+use Rattle.arch_defs.specs.CsrBits.{sstatus_bits, sstatus_of, hstatus_bits, hstatus_of, sip_bits, supervisor_interrupts, hip_bits, virtual_interrupts, delegated, delegated_become, tvec_bits, epc_bits, hedeleg_bits, satp_bits, supervisor_root_of, hgatp_bits, guest_root_of}
 
 -- what a supervisor register shows: sstatus 4.1.1, stvec 4.1.2, sscratch 4.1.6, sepc 4.1.7, scause 4.1.8,
 -- stval 4.1.9, satp 4.1.11; vsstatus 8.2.11, vstvec 8.2.13, vsscratch 8.2.14, vsepc 8.2.15, vscause 8.2.16,

@@ -10,13 +10,8 @@ use Rattle.arch_defs.specs.declared.registers.SupervisorMode.TheVariants as supe
 use Rattle.arch_defs.specs.declared.registers.GuestRoot.{GuestRoot}
 use Rattle.arch_defs.specs.declared.registers.GuestRoot.TheVariants as guest_root
 use Rattle.arch_defs.specs.declared.registers.GuestMode.TheVariants as guest_mode
-use Rattle.arch_defs.specs.Bits.{bit, field}
+use Rattle.arch_defs.specs.Bits.{bit, bit_number, field}
 use Rattle.arch_defs.specs.Roots.{guest_mode_number, supervisor_mode_number}
-
--- the number that has bit i where it is set
-abbrev pub bit_number : ℕ → Bool → ℕ
-bit_number i true = 2 ^ i
-bit_number i false = 0
 
 -- UXL or VSXL, bits 33:32: 2, which is a width of 64 bits (4.1.1.1, 8.2.1)
 abbrev pub width_64 : ℕ

@@ -13,6 +13,10 @@ pub record Layout : Type 0 where
   pub spaces : ℕ
   pub entries : ℕ
 
+-- a part without frames
+unfoldable pub no_part : Layout
+no_part = record { blocks = []; first_root = 0; first_table = 0; spaces = 0; entries = 0 }
+
 -- the frames of its roots, four each (Privileged Architecture 20211203, 8.5.1): the host table's, and one for
 -- each space
 abbrev pub root_frames : Layout → Frames

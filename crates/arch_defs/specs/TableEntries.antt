@@ -1,5 +1,5 @@
 -- What a page-table entry says (Privileged Architecture 20211203, 4.3.1, 4.3.2 and 4.4.1).
-use Rattle.std.specs.Prelude.{ℕ, ◌*◌, ◌%◌, ◌^◌, Bool, true, false, not, ◌&&◌, ◌||◌, ◌==◌, if◌then◌else◌}
+use Rattle.std.specs.Prelude.{ℕ, ◌+◌, ◌*◌, ◌%◌, ◌^◌, Bool, true, false, not, ◌&&◌, ◌||◌, ◌==◌, if◌then◌else◌}
 use Rattle.arch_defs.specs.declared.modes.Access.{Access}
 use Rattle.arch_defs.specs.declared.modes.Access.TheVariants.{Fetch, Load, Store, ExecLoad, Implicit}
 use Rattle.arch_defs.specs.declared.walks.Pte.{Pte}
@@ -7,7 +7,7 @@ use Rattle.arch_defs.specs.declared.walks.LeafPte.{LeafPte}
 use Rattle.arch_defs.specs.declared.walks.WalkEnd.TheVariants.{Leaf, PageFault}
 use Rattle.arch_defs.specs.declared.walks.Next.{Next}
 use Rattle.arch_defs.specs.declared.walks.Next.TheVariants.{Ends, Below}
-use Rattle.arch_defs.specs.Bits.{bit, field}
+use Rattle.arch_defs.specs.Bits.{bit, bit_number, field}
 
 -- an entry's word in named parts: V 0, R 1, W 2, X 3, U 4, A 6, D 7, the physical page number 53:10, reserved
 -- 63:54 (4.4.1)
@@ -22,6 +22,41 @@ pte_of word = record {
   d = bit 7 word;
   reserved = field 54 10 word;
   frame = field 10 44 word;
+}
+
+-- the word of an entry in these parts, with G 5 and RSW 9:8 clear (own)
+unfoldable pub pte_word : Pte → ℕ
+pte_word e =
+    bit_number 0 e.v + bit_number 1 e.r + bit_number 2 e.w + bit_number 3 e.x + bit_number 4 e.u
+    + bit_number 6 e.a + bit_number 7 e.d + e.frame * 2 ^ 10 + e.reserved * 2 ^ 54
+
+-- a pointer to the table of a frame has V alone (4.3.1)
+abbrev pub pointer_to : ℕ → Pte
+pointer_to frame = record {
+  v = true;
+  r = false;
+  w = false;
+  x = false;
+  u = false;
+  a = false;
+  d = false;
+  reserved = 0;
+  frame = frame;
+}
+
+-- a leaf of user pages with these rights: V, U and A are set, and D as W, so that the walker finds all that
+-- it needs (own)
+abbrev pub leaf_to : ℕ → Bool → Bool → Bool → Pte
+leaf_to frame r w x = record {
+  v = true;
+  r = r;
+  w = w;
+  x = x;
+  u = true;
+  a = true;
+  d = w;
+  reserved = 0;
+  frame = frame;
 }
 
 -- what each entry needs, whatever it is: V, no W without R, no reserved bit (4.3.2, step 3)

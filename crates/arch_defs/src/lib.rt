@@ -3,6 +3,7 @@
 
 mod cached;
 mod csr_names;
+mod keys;
 mod laws;
 mod levels;
 mod modes;
@@ -19,6 +20,7 @@ mod widths;
 
 pub use cached::{Entry, Fence};
 pub use csr_names::{CsrEnd, EnableCsr, HypervisorCsr, InterruptCsr, Register, SupervisorCsr};
+pub use keys::Key;
 pub use laws::{frames_apart_stay, ram_is_its_blocks};
 pub use levels::{
     Level, SUPERVISOR_EXTERNAL, SUPERVISOR_SOFTWARE, SUPERVISOR_TIMER, VS_EXTERNAL, VS_SOFTWARE,

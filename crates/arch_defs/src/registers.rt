@@ -2,6 +2,7 @@
 
 ghost use Rattle.std.specs.Prelude.{◌≡◌, ◌<◌};
 ghost use Rattle.arch_defs.specs.Bits.{field};
+ghost use Rattle.arch_defs.specs.CsrBits.{guest_root_of, hgatp_bits};
 ghost use Rattle.arch_defs.specs.Roots.{guest_mode_number, guest_shape, is_root, is_table, supervisor_mode_number, supervisor_shape, vmid_of};
 ghost use Rattle.arch_defs.specs.Registers.{read, advanced, clear_interrupts, csrs_at_reset, supervisor_at_reset, clear_supervisor_status, clear_hypervisor_status, regs_at, virtual_at};
 
@@ -245,6 +246,36 @@ impl GuestRoot {
         ensures { result ≡ is_table self }
     {
         matches!(self, GuestRoot::Table { .. })
+    }
+
+    /// hgatp as a number (Privileged Architecture 20211203, 8.2.10).
+    #[tactic(auto, unfolding(crate::specs::CsrBits::hgatp_bits))]
+    pub fn bits(self) -> u64
+        ensures { result ≡ hgatp_bits self }
+    {
+        match self {
+            GuestRoot::Bare => 0,
+            GuestRoot::Table { mode, vmid, ppn } => {
+                mode.number() * 0x1000_0000_0000_0000
+                    + (vmid & 0x7F) * 0x1000_0000_0000
+                    + ((ppn >> 2) & 0x3FF_FFFF_FFFF) * 4
+            }
+        }
+    }
+
+    /// hgatp after a write of this number: a MODE other than 8 is Bare.
+    #[tactic(auto, unfolding(crate::specs::CsrBits::guest_root_of))]
+    pub fn of(value: u64) -> GuestRoot
+        ensures { result ≡ guest_root_of value }
+    {
+        match value >> 60 {
+            8 => GuestRoot::Table {
+                mode: GuestMode::Sv39x4,
+                vmid: (value >> 44) & 0x7F,
+                ppn: ((value >> 2) & 0x3FF_FFFF_FFFF) * 4,
+            },
+            _ => GuestRoot::Bare,
+        }
     }
 
     /// Its VMID, 0 under Bare.

@@ -6,7 +6,7 @@ use Rattle.std.specs.Char.{is_ascii_digit}
 use Rattle.std.specs.List.{list_all}
 use Rattle.std.specs.Str.Parse.{ParsesUnsigned, digits_value}
 use Rattle.std.proofs.lemmas.Str.Parse.{IsDigitsTest, numerals_by_value, parse_digits, tells_all_ascii_digits}
-use Rattle.command_line.specs.Commands.{is_numeral, within}
+use Rattle.command_line.specs.Commands.{is_numeral, if_within}
 
 both_first : (a b : Bool) → (a && b) ≡ true → a ≡ true
 both_first true b h = refl
@@ -23,7 +23,7 @@ list_tells = record {
   parts = λ c rest h.
       let one : is_ascii_digit c ≡ true = both_first (is_ascii_digit c) (list_all is_ascii_digit rest) h in
       ((digit_least c one, digit_most c one), both_second (is_ascii_digit c) (list_all is_ascii_digit rest) h);
-  more = λ c rest within h. rw (is_digit c within.0 within.1) h;
+  more = λ c rest inside h. rw (is_digit c inside.0 inside.1) h;
 }
   where
     digit_least : (c : ℕ) → is_ascii_digit c ≡ true → 48 ≤ c
@@ -87,7 +87,7 @@ too_large digits word r e parses is numeral less =
     let here = rw is at told in
     here (parts.some, less)
 
-above : (least most n : ℕ) → most < n → within least most n ≡ None
+above : (least most n : ℕ) → most < n → if_within least most n ≡ None
 above least most n more = by (nat_le least n) (nat_le n most) (not_le n most more)
   where
     not_le : (n most : ℕ) → most < n → nat_le n most ≡ false
@@ -99,7 +99,7 @@ above least most n more = by (nat_le least n) (nat_le n most) (not_le n most mor
     by false b h = refl
 
 pub number_past : {E : Type 0} (digits least most : ℕ) (word : List ℕ) (r : Result ℕ E) (e : E) → ParsesUnsigned 64 10 word r → r ≡ Err e → is_numeral digits word ≡ true
-    → most < 2 ^ 64 → within least most (digits_value 10 word) ≡ None
+    → most < 2 ^ 64 → if_within least most (digits_value 10 word) ≡ None
 number_past digits least most word r e parses is numeral small =
     let v = digits_value 10 word in
     above least most v (by (cases_lt v (2 ^ 64)))

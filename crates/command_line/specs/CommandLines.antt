@@ -16,7 +16,9 @@ two_words name first second = (with_rule (with_rule (new_app name) (word_rule fi
 
 -- the program without its commands
 abbrev pub bare_app : App
-bare_app = record (new_app (codes "nesthv")) { top = record (new_app (codes "nesthv")).top { subcommand_required = true } }
+bare_app = record (new_app (codes "nesthv")) {
+  top = record (new_app (codes "nesthv")).top { subcommand_required = true };
+}
 
 -- with the commands on files, and with the last one
 abbrev pub files_app : App

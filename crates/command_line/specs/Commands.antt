@@ -26,20 +26,20 @@ abbrev pub is_numeral : ℕ → List ℕ → Bool
 is_numeral digits word = nat_le 1 (length word) && nat_le (length word) digits && list_all is_ascii_digit word
 
 -- a number, where it is within these bounds
-abbrev pub within : ℕ → ℕ → ℕ → Option ℕ
-within least most n = if nat_le least n && nat_le n most then Some n else None
+abbrev pub if_within : ℕ → ℕ → ℕ → Option ℕ
+if_within least most n = if nat_le least n && nat_le n most then Some n else None
 
 -- the number of a word of 1 to so many digits, of which the first may be zeros, where it is within these
 -- bounds (own)
-unfoldable pub number_of : ℕ → ℕ → ℕ → List ℕ → Option ℕ
-number_of digits least most word =
-    if is_numeral digits word then within least most (digits_value 10 word) else None
+unfoldable pub bounded_number : ℕ → ℕ → ℕ → List ℕ → Option ℕ
+bounded_number digits least most word =
+    if is_numeral digits word then if_within least most (digits_value 10 word) else None
 
 abbrev pub seed_of : List ℕ → Option ℕ
-seed_of word = number_of 10 0 (2 ^ 31 - 1) word
+seed_of word = bounded_number 10 0 (2 ^ 31 - 1) word
 
 abbrev pub size_of : List ℕ → Option ℕ
-size_of word = number_of 5 1 10000 word
+size_of word = bounded_number 5 1 10000 word
 
 -- a run of generated guests, where these words are a seed and a size
 abbrev pub work_of : List ℕ → List ℕ → Option Command

@@ -6,7 +6,7 @@ ghost use Rattle.std.specs.List.{list_all};
 ghost use Rattle.clap.specs.Words.{app_of, fault_of, first_of, found_of, rows_of, shape_of, subcommand_of, subcommand_rows_of, with_subcommand, new_app};
 ghost use Rattle.clap.specs.declared.builder.command.Command.TheViews.{out-Command};
 ghost use Rattle.command_line.specs.CommandLines.{bare_app, files_app, nesthv_app, one_word, two_words};
-ghost use Rattle.command_line.specs.Commands.{OnFiles, command_of, asked_by, is_numeral, is_plain, number_of, within, work_of};
+ghost use Rattle.command_line.specs.Commands.{OnFiles, command_of, asked_by, is_numeral, is_plain, bounded_number, if_within, work_of};
 ghost use Rattle.command_line.specs.CommandLines.{command_by, file_command_by};
 ghost use Rattle.command_line.specs.Seen.{command_seen, file_command_seen, IsRequest};
 
@@ -193,9 +193,9 @@ fn work_request<'a>(seed: &str, size: &str) -> Option<Request<'a>>
 }
 
 // The number of a word of 1 to so many digits, where it is within these bounds.
-#[tactic(auto, unfolding(crate::specs::Commands::number_of), using(crate::proofs::Numbers::numbers))]
+#[tactic(auto, unfolding(crate::specs::Commands::bounded_number), using(crate::proofs::Numbers::numbers))]
 fn number_of(word: &str, digits: usize, least: u64, most: u64) -> Option<u64>
-    ensures number { result ≡ number_of digits least most word.now }
+    ensures number { result ≡ bounded_number digits least most word.now }
     ensures bounds { IfSome result (λ n. (least ≤ n) × (n ≤ most)) }
 {
     if !is_numeral(word, digits) {
@@ -224,7 +224,7 @@ fn are_digits(word: &str) -> bool
 
 // A number, where it is within these bounds.
 fn within(number: u64, least: u64, most: u64) -> Option<u64>
-    ensures number { result ≡ within least most number }
+    ensures number { result ≡ if_within least most number }
     ensures bounds { IfSome result (λ n. (least ≤ n) × (n ≤ most)) }
 {
     if least <= number && number <= most {

@@ -1,8 +1,7 @@
 -- The registers of interrupts that show or change only some of their bits.
 use Rattle.std.specs.Prelude.{bit_and, ◌&&◌, Bool, true, false}
 use Rattle.std.proofs.Common.{cond, ◌≡◌, ℕ, ◌+◌, ◌*◌, ◌/◌, ◌%◌, ◌^◌, ◌<◌, arith}
-use Rattle.arch_defs.specs.Bits.{bit}
-use Rattle.arch_defs.specs.CsrBits.{bit_number}
+use Rattle.arch_defs.specs.Bits.{bit, bit_number}
 use Rattle.csr_file.specs.Laws.{merged}
 use Rattle.csr_file.proofs.Masks.{masked, under, flag, replaced}
 

@@ -2,8 +2,7 @@
 use Rattle.std.specs.Prelude.{bit_and, Bool, true, false}
 use Rattle.std.proofs.Common.{◌≡◌, ℕ, zero, suc, ◌+◌, ◌-◌, ◌*◌, ◌/◌, ◌%◌, ◌^◌, ◌<◌, ◌≤◌, refl, ap, arith}
 use Rattle.std.proofs.lemmas.Nat.{and_block, and-not, and_comm, and_le_r, pow-add, shr-shr}
-use Rattle.arch_defs.specs.Bits.{bit}
-use Rattle.arch_defs.specs.CsrBits.{bit_number}
+use Rattle.arch_defs.specs.Bits.{bit, bit_number}
 use Rattle.csr_file.specs.Laws.{merged}
 
 -- the bits of a number, from bit i on, at which a mask has ones

@@ -14,8 +14,8 @@ use Rattle.arch_defs.specs.declared.csr_names.EnableCsr.TheVariants.{Scounteren,
 use Rattle.arch_defs.specs.declared.csr_names.HypervisorCsr.{HypervisorCsr}
 use Rattle.arch_defs.specs.declared.csr_names.HypervisorCsr.TheVariants.{Hstatus, Hedeleg, Htimedelta, Hgeie, Hgeip, Htval, Htinst, Hgatp}
 use Rattle.arch_defs.specs.declared.csr_names.Register.TheVariants.{Supervisor, VirtualSupervisor, Interrupt, Enable, Hypervisor, Time, GuestTime}
-use Rattle.arch_defs.specs.Bits.{bit}
-use Rattle.arch_defs.specs.CsrBits.{bit_number, sstatus_bits, sstatus_of, hstatus_bits, hstatus_of, sip_bits, supervisor_interrupts, hip_bits, virtual_interrupts, delegated, delegated_become, tvec_bits, epc_bits, hedeleg_bits}
+use Rattle.arch_defs.specs.Bits.{bit, bit_number}
+use Rattle.arch_defs.specs.CsrBits.{sstatus_bits, sstatus_of, hstatus_bits, hstatus_of, sip_bits, supervisor_interrupts, hip_bits, virtual_interrupts, delegated, delegated_become, tvec_bits, epc_bits, hedeleg_bits}
 use Rattle.arch_defs.specs.CsrAccess.{supervisor_shown, supervisor_written, interrupts_shown, interrupts_written, enable_shown, enable_written, hypervisor_shown, hypervisor_written, shown, written}
 use Rattle.csr_file.specs.Laws.{merged, all_bits, supervisor_mask, interrupts_mask, enable_mask, hypervisor_mask, ReadsBack, SatpReadsBack, VsatpReadsBack, HgatpReadsBack}
 use Rattle.csr_file.proofs.Masks.{masked, under, flag, flag_most, replaced}

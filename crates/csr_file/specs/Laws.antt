@@ -16,8 +16,8 @@ use Rattle.arch_defs.specs.declared.csr_names.Register.{Register}
 use Rattle.arch_defs.specs.declared.csr_names.Register.TheVariants.{Supervisor, VirtualSupervisor, Interrupt, Enable, Hypervisor, Time, GuestTime}
 use Rattle.arch_defs.specs.declared.csr_names.CsrEnd.{CsrEnd}
 use Rattle.arch_defs.specs.declared.csr_names.CsrEnd.TheVariants.{Illegal}
-use Rattle.arch_defs.specs.Bits.{field}
-use Rattle.arch_defs.specs.CsrBits.{bit_number, sip_bits}
+use Rattle.arch_defs.specs.Bits.{bit_number, field}
+use Rattle.arch_defs.specs.CsrBits.{sip_bits}
 use Rattle.arch_defs.specs.CsrAccess.{named_to_write, shown, written, read_csr, write_csr}
 
 -- a number in which the bits of a mask are those of another

@@ -1,12 +1,12 @@
 // The other registers of the hypervisor extension, and those of one bit, as numbers.
 
 ghost use Rattle.std.specs.Prelude.{◌≡◌};
-ghost use Rattle.arch_defs.specs.Bits.{bit};
-ghost use Rattle.arch_defs.specs.CsrBits.{bit_number, hstatus_bits, hstatus_of, hedeleg_bits, hgatp_bits, guest_root_of};
+ghost use Rattle.arch_defs.specs.Bits.{bit, bit_number};
+ghost use Rattle.arch_defs.specs.CsrBits.{hstatus_bits, hstatus_of, hedeleg_bits};
 ghost use Rattle.arch_defs.specs.CsrAccess.{enable_shown, enable_written, hypervisor_shown, hypervisor_written};
 
 use crate::supervisors::WIDTH_64;
-use arch_defs::{Csrs, EnableCsr, GuestMode, GuestRoot, HypervisorCsr, HypervisorStatus};
+use arch_defs::{Csrs, EnableCsr, GuestRoot, HypervisorCsr, HypervisorStatus};
 
 #[tactic(auto, unfolding(arch_defs::specs::CsrBits::hstatus_bits))]
 fn hstatus_bits(status: HypervisorStatus) -> u64
@@ -43,35 +43,6 @@ pub fn hedeleg_bits(value: u64) -> u64
     ensures { result ≡ hedeleg_bits value }
 {
     (value & 0x1FF) + ((value >> 12) & 3) * 0x1000 + ((value >> 15) & 1) * 0x8000
-}
-
-#[tactic(auto, unfolding(arch_defs::specs::CsrBits::hgatp_bits))]
-fn hgatp_bits(root: GuestRoot) -> u64
-    ensures { result ≡ hgatp_bits root }
-{
-    match root {
-        GuestRoot::Bare => 0,
-        GuestRoot::Table { mode, vmid, ppn } => {
-            mode.number() * 0x1000_0000_0000_0000
-                + (vmid & 0x7F) * 0x1000_0000_0000
-                + ((ppn >> 2) & 0x3FF_FFFF_FFFF) * 4
-        }
-    }
-}
-
-/// The root after a write: a MODE other than 8 is Bare.
-#[tactic(auto, unfolding(arch_defs::specs::CsrBits::guest_root_of))]
-fn guest_root_of(value: u64) -> GuestRoot
-    ensures { result ≡ guest_root_of value }
-{
-    match value >> 60 {
-        8 => GuestRoot::Table {
-            mode: GuestMode::Sv39x4,
-            vmid: (value >> 44) & 0x7F,
-            ppn: ((value >> 2) & 0x3FF_FFFF_FFFF) * 4,
-        },
-        _ => GuestRoot::Bare,
-    }
 }
 
 /// What a register of one bit shows: TM is bit 1, FIOM bit 0.
@@ -112,7 +83,7 @@ pub fn hypervisor_shown(csrs: &Csrs, register: HypervisorCsr) -> u64
         HypervisorCsr::Hgeie | HypervisorCsr::Hgeip => 0,
         HypervisorCsr::Htval => csrs.htval,
         HypervisorCsr::Htinst => csrs.htinst,
-        HypervisorCsr::Hgatp => hgatp_bits(csrs.hgatp),
+        HypervisorCsr::Hgatp => csrs.hgatp.bits(),
     }
 }
 
@@ -128,6 +99,6 @@ pub fn write_hypervisor(csrs: &mut Csrs, register: HypervisorCsr, value: u64)
         HypervisorCsr::Hgeie | HypervisorCsr::Hgeip => {}
         HypervisorCsr::Htval => csrs.htval = value,
         HypervisorCsr::Htinst => csrs.htinst = value,
-        HypervisorCsr::Hgatp => csrs.hgatp = guest_root_of(value),
+        HypervisorCsr::Hgatp => csrs.hgatp = GuestRoot::of(value),
     }
 }

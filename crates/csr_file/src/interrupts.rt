@@ -1,8 +1,8 @@
 // The registers of interrupts, as numbers.
 
 ghost use Rattle.std.specs.Prelude.{◌≡◌, if◌then◌else◌};
-ghost use Rattle.arch_defs.specs.Bits.{bit};
-ghost use Rattle.arch_defs.specs.CsrBits.{bit_number, sip_bits, supervisor_interrupts, hip_bits, virtual_interrupts, delegated, delegated_become};
+ghost use Rattle.arch_defs.specs.Bits.{bit, bit_number};
+ghost use Rattle.arch_defs.specs.CsrBits.{sip_bits, supervisor_interrupts, hip_bits, virtual_interrupts, delegated, delegated_become};
 ghost use Rattle.arch_defs.specs.CsrAccess.{interrupts_shown, interrupts_written};
 
 use arch_defs::{Csrs, InterruptCsr, Interrupts};

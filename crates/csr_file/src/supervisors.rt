@@ -1,7 +1,8 @@
 // The registers of which HS and VS each have a copy, as numbers.
 
 ghost use Rattle.std.specs.Prelude.{◌≡◌};
-ghost use Rattle.arch_defs.specs.CsrBits.{bit_number, sstatus_bits, sstatus_of, tvec_bits, epc_bits, satp_bits, supervisor_root_of};
+ghost use Rattle.arch_defs.specs.Bits.{bit_number};
+ghost use Rattle.arch_defs.specs.CsrBits.{sstatus_bits, sstatus_of, tvec_bits, epc_bits, satp_bits, supervisor_root_of};
 ghost use Rattle.arch_defs.specs.CsrAccess.{supervisor_shown, supervisor_written};
 
 use arch_defs::{SupervisorCsr, SupervisorCsrs, SupervisorMode, SupervisorRoot, SupervisorStatus};

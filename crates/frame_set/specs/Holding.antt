@@ -5,8 +5,8 @@ use Rattle.arch_defs.specs.Bits.{bit}
 use Rattle.frame_set.specs.declared.sets.FrameSet.{FrameSet}
 
 -- the mark of a frame is set: the bit of its number modulo 4,096 in words of 64 bits
-abbrev pub is_marked : List ℕ → ℕ → Bool
-is_marked marks frame = bit (frame % 64) (slice_index marks (frame % 4096 / 64))
+abbrev pub has_mark : List ℕ → ℕ → Bool
+has_mark marks frame = bit (frame % 64) (slice_index marks (frame % 4096 / 64))
 
 -- the upper part of a frame's number
 abbrev pub upper_of : ℕ → ℕ
@@ -17,5 +17,5 @@ abbrev pub is_upper : List ℕ → ℕ → Bool
 is_upper uppers frame =
     let upper = slice_index uppers (frame % 4096) in upper == upper_of frame || upper == 255
 
-unfoldable pub holds : FrameSet → Frames
-holds set frame = is_marked set.marks frame && is_upper set.uppers frame
+unfoldable pub has_frame : FrameSet → Frames
+has_frame set frame = has_mark set.marks frame && is_upper set.uppers frame

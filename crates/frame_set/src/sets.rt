@@ -2,7 +2,7 @@
 
 ghost use Rattle.std.specs.Prelude.{◌≡◌, ℕ, ◌%◌, ◌^◌, true, false, replicate};
 ghost use Rattle.arch_defs.specs.Frames.{Within};
-ghost use Rattle.frame_set.specs.Holding.{holds, is_marked, upper_of};
+ghost use Rattle.frame_set.specs.Holding.{has_frame, has_mark, upper_of};
 
 // How many marks there are: a frame's is that of its number modulo this.
 const MARKS: u64 = 4096;
@@ -47,7 +47,7 @@ impl FrameSet {
     /// The set that holds no frame.
     #[tactic(auto, using(crate::proofs::Holding::none_held))]
     pub fn new() -> FrameSet
-        ensures { (frame : ℕ) → holds result frame ≡ false }
+        ensures { (frame : ℕ) → has_frame result frame ≡ false }
     {
         FrameSet {
             marks: no_marks(),
@@ -59,7 +59,7 @@ impl FrameSet {
     #[inline]
     #[tactic(auto, using(crate::proofs::Holding::none_held))]
     pub fn clear(&mut self)
-        ensures { (frame : ℕ) → holds self.new frame ≡ false }
+        ensures { (frame : ℕ) → has_frame self.new frame ≡ false }
     {
         self.marks = no_marks();
     }
@@ -67,16 +67,16 @@ impl FrameSet {
     // Whether the mark of a frame is set.
     #[inline]
     fn is_marked(&self, frame: u64) -> bool
-        ensures { result ≡ is_marked self.now.marks frame }
+        ensures { result ≡ has_mark self.now.marks frame }
     {
         (self.marks[(frame % MARKS / 64) as usize] >> (frame % 64)) & 1 == 1
     }
 
     /// Whether it holds a frame.
     #[inline]
-    #[tactic(auto, unfolding(crate::specs::Holding::holds))]
+    #[tactic(auto, unfolding(crate::specs::Holding::has_frame))]
     pub fn holds(&self, frame: u64) -> bool
-        ensures { result ≡ holds self.now frame }
+        ensures { result ≡ has_frame self.now frame }
     {
         if !self.is_marked(frame) {
             return false;
@@ -88,8 +88,8 @@ impl FrameSet {
     /// Adds a frame.
     #[tactic(auto, using(crate::proofs::Holding::adding))]
     pub fn add(&mut self, frame: u64)
-        ensures more { Within (holds self.old) (holds self.new) }
-        ensures added { holds self.new frame ≡ true }
+        ensures more { Within (has_frame self.old) (has_frame self.new) }
+        ensures added { has_frame self.new frame ≡ true }
     {
         let at = (frame % MARKS) as usize;
         if !self.is_marked(frame) {

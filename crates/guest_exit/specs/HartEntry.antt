@@ -106,8 +106,8 @@ pub record Stops (part : Layout) (pool : Pooled) (before after : Machine) (memor
   pub why : IsStopped part pool before after memory limit stop.taken stop.why
 
 -- the hart has made so many steps for a guest, from what it has for it, with V = 0 none but the last a trap
--- into VS. What it has then is the guest's: what is saved of it and, after such a trap, what that leaves to the
--- host
+-- into VS. What it has then is the guest's: what is saved of it and, after such a trap, what that leaves to
+-- the host
 pub record HartMakes (n : ℕ) (before after : Guest) (memory : List ℕ) (trace : ℕ) (made : Progress)
     : Type 0 where
   pub steps : hart_steps (is_watched before.virt) n (progress (loaded_for before) memory trace false)

@@ -78,7 +78,8 @@ impl Guest {
             (λ moment. self.old.clock.time + taken ≤ moment) }
         requires clock { self.old.clock.time + taken ≤ 2 ^ 63 }
         requires steps { self.old.steps + taken ≤ 2 ^ 61 }
-        ensures platform { GivesSteps self.old.part (platform_of self.old) hart.now trapped taken (platform_of self.new) }
+        ensures platform { GivesSteps self.old.part (platform_of self.old) hart.now trapped taken
+            (platform_of self.new) }
         ensures current { with_pending_lines (platform_of self.new) ≡ platform_of self.new }
         ensures made { self.new.steps ≡ self.old.steps + taken }
         ensures clock { self.new.clock.time ≡ self.old.clock.time + taken }

@@ -28,7 +28,8 @@ pub fn enter(
     requires can { CanEnter guest.old memory.old limit }
     requires room { HasRoomForEntry limit tally.old }
 
-    ensures run { MakesSteps result.taken (machine_of guest.old memory.old) (machine_of guest.new memory.new) }
+    ensures run { MakesSteps result.taken (machine_of guest.old memory.old)
+        (machine_of guest.new memory.new) }
     ensures why { Stops guest.old.part guest.old.pool (machine_of guest.old memory.old)
         (machine_of guest.new memory.new) memory.new limit result }
     ensures hart { HartMakes result.taken guest.old guest.new memory.old tally.old.trace

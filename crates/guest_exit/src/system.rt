@@ -8,7 +8,7 @@ ghost use Rattle.arch_defs.specs.WalkedEntries.{folds};
 ghost use Rattle.machine_defs.specs.Runs.{left_by};
 ghost use Rattle.machine_defs.specs.Tries.{apply_outcome};
 ghost use Rattle.rv64_asm.specs.Fitting.{fits};
-ghost use Rattle.hcsr_emulation.specs.Ends.{IfRaised, IsCsrOrSret};
+ghost use Rattle.hcsr_emulation.specs.Ends.{IfAccessRaised, IsCsrOrSret};
 ghost use Rattle.hlv_hsv.specs.Ends.{IsAccessed, IsHlvOp};
 ghost use Rattle.guest_exit.specs.ExitCases.{decided_end};
 ghost use Rattle.guest_exit.specs.HartExit.{CanGoOn, HoldsTables, IsDecidedOp, IsFenced, IsFinished, IsTold, IsWaitOrFence, KeepsOutside};
@@ -27,8 +27,8 @@ use two_stage_walk::ram_is_whole;
 
 /// Makes an instruction on which the mode decides, where it is allowed: an instruction on a register; an
 /// SRET, which may enter a guest of the guest; an HLV, HLVX or HSV, which makes its access to the guest's
-/// RAM; a WFI, which waits; or a fence, which drops cached translations. Where the mode does not allow it, its
-/// exception is taken.
+/// RAM; a WFI, which waits; or a fence, which drops cached translations. Where the mode does not allow it,
+/// its exception is taken.
 pub fn emulate(guest: &mut Guest, memory: &mut PhysMem, op: Op) -> Handled
     requires can { CanGoOn guest.old memory.old }
     requires op { IsDecidedOp op }
@@ -176,7 +176,7 @@ fn access_in(memory: &mut PhysMem, part: &Part, virt: &mut Virtual, op: Op) -> A
     requires op { IsHlvOp op }
     ensures ends { IsAccessed op ram_base (ram_of part.now.blocks memory.old) virt.old
         result virt.new (ram_of part.now.blocks memory.new) }
-    ensures stays { IfRaised result ((virt.new ≡ virt.old) × (memory.new ≡ memory.old)) }
+    ensures stays { IfAccessRaised result ((virt.new ≡ virt.old) × (memory.new ≡ memory.old)) }
     ensures only { Only (in_blocks part.now.blocks) memory.old memory.new }
 {
     let mut ram = Ram::new(memory, part);

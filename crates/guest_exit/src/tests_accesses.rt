@@ -45,8 +45,8 @@ fn accessing(alloc: Global, mode: Mode, address: u64) -> Result<Guest, NoMemory>
 }
 
 // The table's root at 80001000: entry 0 maps 0 to RAM's gigabyte as a page of U that can be read and written
-// (V, R, W, U, A and D: 0xD7), entry 2 maps that gigabyte to itself as one that can be executed alone (V, X and
-// A, 49).
+// (V, R, W, U, A and D: 0xD7), entry 2 maps that gigabyte to itself as one that can be executed alone (V, X
+// and A, 49).
 fn image(alloc: Global, word: u32) -> Result<Vec<u8>, NoMemory> {
     let mut bytes = Vec::new(alloc);
     bytes.extend_from_slice(&word.to_le_bytes())?;

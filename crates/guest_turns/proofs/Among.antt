@@ -4,13 +4,13 @@ use Rattle.std.proofs.lemmas.Bool.{cases_eq}
 use Rattle.std.proofs.lemmas.List.{ext_get_or, get_or-map, get_or-set_other, get_or-set_same, get_or_default, length-map, length-set}
 use Rattle.std.proofs.Math.Seq.{map-set_same}
 use Rattle.arch_defs.specs.Frames.{Apart, Only, Same}
-use Rattle.arch_defs.specs.Layouts.{named_by}
+use Rattle.arch_defs.specs.Layouts.{named_by, no_part}
 use Rattle.arch_defs.proofs.FrameSets.{kept}
 use Rattle.machine_defs.specs.Machine.{Machine}
 use Rattle.machine_defs.specs.Runs.{run}
 use Rattle.guest_exit.specs.declared.guests.Guest.{Guest}
 use Rattle.guest_exit.specs.View.{changed_by, machine_of}
-use Rattle.guest_turns.specs.Hosted.{Hosted, machine_at, no_machine, no_part, part_at}
+use Rattle.guest_turns.specs.Hosted.{Hosted, machine_at, no_machine, part_at}
 use Rattle.guest_turns.specs.Hosting.{AreHosted, HasRun, IsHosted, parts_of}
 use Rattle.guest_turns.specs.TurnLists.{updated}
 use Rattle.guest_turns.proofs.Placing.{hosted_kept, machine_kept, only_in_part}

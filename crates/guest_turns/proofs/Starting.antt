@@ -4,7 +4,7 @@ use Rattle.std.specs.List.{All}
 use Rattle.std.proofs.lemmas.Bool.{cases_eq}
 use Rattle.std.proofs.lemmas.List.{ext_get_or, get_or-map, get_or_append_left, get_or_default, get_or_push, length-map, length_push}
 use Rattle.arch_defs.specs.Frames.{Frames, LieIn, Only, Same, Within, in_blocks}
-use Rattle.arch_defs.specs.Layouts.{Layout, NamesEachOnce, host_frames, in_tables, named_by}
+use Rattle.arch_defs.specs.Layouts.{Layout, NamesEachOnce, host_frames, in_tables, named_by, no_part}
 use Rattle.arch_defs.specs.Memory.{block_size, loaded, zeros}
 use Rattle.arch_defs.specs.Needs.{IsNeed}
 use Rattle.arch_defs.specs.Ram.{ram_of}
@@ -32,7 +32,7 @@ use Rattle.shadow_space.specs.Shadows.{AreZeros}
 use Rattle.shadow_space.proofs.Clearing.{zeros_at}
 use Rattle.guest_exit.specs.declared.guests.Guest.{Guest}
 use Rattle.guest_exit.specs.View.{machine_of, platform_of}
-use Rattle.guest_turns.specs.Hosted.{no_machine, no_part}
+use Rattle.guest_turns.specs.Hosted.{no_machine}
 use Rattle.guest_turns.specs.Hosting.{AreAtStart, AreHosted, AreLaidOut, IsAtStart, IsHosted, parts_of, space_tables}
 use Rattle.guest_turns.specs.Limits.{IsBootable, frames_for, needs_of}
 use Rattle.machine_defs.specs.GuestNeeds.{need_of}

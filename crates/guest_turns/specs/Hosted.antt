@@ -3,7 +3,7 @@
 use Rattle.std.specs.Prelude.{ℕ, List, [], get_or}
 use Rattle.arch_defs.specs.declared.modes.Mode.TheVariants.{HS}
 use Rattle.arch_defs.specs.Clocks.{times_at_start}
-use Rattle.arch_defs.specs.Layouts.{Layout}
+use Rattle.arch_defs.specs.Layouts.{Layout, no_part}
 use Rattle.arch_defs.specs.Registers.{virtual_at}
 use Rattle.machine_defs.specs.declared.guests.Status.TheVariants.{Stopped}
 use Rattle.machine_defs.specs.Machine.{Machine}
@@ -13,7 +13,7 @@ pub record Hosted : Type 0 where
   pub parts : List Layout
   pub memory : List ℕ
 
--- a machine without memory that has stopped, and a part without blocks: those of a guest that there is not
+-- a machine without memory that has stopped: that of a guest that there is not
 unfoldable pub no_machine : Machine
 no_machine = record {
   platform = record {
@@ -28,9 +28,6 @@ no_machine = record {
   space_room = 0;
   entry_room = 0;
 }
-
-unfoldable pub no_part : Layout
-no_part = record { blocks = []; first_root = 0; first_table = 0; spaces = 0; entries = 0 }
 
 -- the machine of a guest by its number, and its part
 abbrev pub machine_at : List Machine → ℕ → Machine

@@ -16,7 +16,7 @@ use Rattle.machine_defs.specs.Outcomes.{Outcome, Done, Trapped}
 use Rattle.machine_defs.specs.Privileges.{combined, csr_accessed, csr_changed, csr_shown, decided, privileged, refusal, value_or_zero}
 use Rattle.hcsr_emulation.specs.declared.emulation.Emulated.{Emulated}
 use Rattle.hcsr_emulation.specs.declared.emulation.Emulated.TheVariants as emulated
-use Rattle.hcsr_emulation.specs.Ends.{IsCsrOrSret, is_decided, outcome_of}
+use Rattle.hcsr_emulation.specs.Ends.{IsCsrOrSret, is_decided, emulated_outcome}
 
 -- an instruction was made, or traps
 abbrev pub EndsAtOnce : Outcome → Type 0
@@ -59,7 +59,7 @@ kind_decided op.Sret kind = refl
 kind_decided other kind = absurd kind
 
 -- so they end in no other way
-pub ends_else : (answer : Emulated) (state : Virtual) → EndsAtOnce (outcome_of answer state) → (answer ≡ emulated.Done → ⊥)
+pub ends_else : (answer : Emulated) (state : Virtual) → EndsAtOnce (emulated_outcome answer state) → (answer ≡ emulated.Done → ⊥)
     → ((trap : Trap) → answer ≡ emulated.Raise trap → ⊥) → ⊥
 ends_else emulated.Done state once done raises = done refl
 ends_else (emulated.Raise trap) state once done raises = raises trap refl

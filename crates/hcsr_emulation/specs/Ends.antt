@@ -40,20 +40,20 @@ EndsSo o before end = (second : SecondStage) (reading : Reading)
     → decoded second reading before (encoded o) (Some o) ≡ end
 
 -- how it ended, by the answer of `emulate` and the state after it
-abbrev pub outcome_of : Emulated → Virtual → Outcome
-outcome_of emulated.Done state = outcome.Done state None System
-outcome_of emulated.Waits state = outcome.Waits state
-outcome_of (emulated.Fenced fence) state = outcome.Fenced state fence
-outcome_of (emulated.Accesses access) state = outcome.Accesses access
-outcome_of (emulated.Raise trap) state = outcome.Trapped trap
+abbrev pub emulated_outcome : Emulated → Virtual → Outcome
+emulated_outcome emulated.Done state = outcome.Done state None System
+emulated_outcome emulated.Waits state = outcome.Waits state
+emulated_outcome (emulated.Fenced fence) state = outcome.Fenced state fence
+emulated_outcome (emulated.Accesses access) state = outcome.Accesses access
+emulated_outcome (emulated.Raise trap) state = outcome.Trapped trap
 
 -- where it was not made
-abbrev pub IfNotMade : Emulated → Type 0 → Type 0
-IfNotMade emulated.Done P = ⊤
-IfNotMade emulated.Waits P = ⊤
-IfNotMade (emulated.Fenced fence) P = ⊤
-IfNotMade (emulated.Accesses access) P = P
-IfNotMade (emulated.Raise trap) P = P
+abbrev pub IfNotEmulated : Emulated → Type 0 → Type 0
+IfNotEmulated emulated.Done P = ⊤
+IfNotEmulated emulated.Waits P = ⊤
+IfNotEmulated (emulated.Fenced fence) P = ⊤
+IfNotEmulated (emulated.Accesses access) P = P
+IfNotEmulated (emulated.Raise trap) P = P
 
 -- how it ended, by the answer of `access`
 abbrev pub accessed_outcome : Accessed → Virtual → Outcome
@@ -61,6 +61,6 @@ accessed_outcome Done state = outcome.Done state None System
 accessed_outcome (Raise trap) state = outcome.Trapped trap
 
 -- where the instruction trapped
-abbrev pub IfRaised : Accessed → Type 0 → Type 0
-IfRaised Done P = ⊤
-IfRaised (Raise trap) P = P
+abbrev pub IfAccessRaised : Accessed → Type 0 → Type 0
+IfAccessRaised Done P = ⊤
+IfAccessRaised (Raise trap) P = P

@@ -5,7 +5,7 @@ ghost use Rattle.arch_defs.specs.Traps.{exception};
 ghost use Rattle.machine_defs.specs.Privileges.{privileged, refusal_code};
 ghost use Rattle.rv64_asm.specs.Fitting.{fits};
 ghost use Rattle.rv64_asm.specs.Words.{encoded};
-ghost use Rattle.hcsr_emulation.specs.Ends.{EndsSo, IfNotMade, is_decided, outcome_of};
+ghost use Rattle.hcsr_emulation.specs.Ends.{EndsSo, IfNotEmulated, is_decided, emulated_outcome};
 
 use arch_defs::{CsrEnd, Fence, Trap, Virtual};
 use op_defs::{DataAccess, Effect, Op, Privileged};
@@ -34,8 +34,8 @@ pub enum Emulated {
 pub fn emulate(state: &mut Virtual, op: Op) -> Emulated
     requires decided { is_decided op ≡ true }
     requires fits { fits op ≡ true }
-    ensures ends { EndsSo op state.old (outcome_of result state.new) }
-    ensures stays { IfNotMade result (state.new ≡ state.old) }
+    ensures ends { EndsSo op state.old (emulated_outcome result state.new) }
+    ensures stays { IfNotEmulated result (state.new ≡ state.old) }
 {
     match effect_of(&op, &state.regs) {
         Effect::Privileged(effect) => make(state, op, effect),
@@ -46,8 +46,8 @@ pub fn emulate(state: &mut Virtual, op: Op) -> Emulated
 // Makes what the instruction asks for.
 fn make(state: &mut Virtual, op: Op, effect: Privileged) -> Emulated
     requires fits { fits op ≡ true }
-    ensures ends { privileged state.old (encoded op) effect ≡ outcome_of result state.new }
-    ensures stays { IfNotMade result (state.new ≡ state.old) }
+    ensures ends { privileged state.old (encoded op) effect ≡ emulated_outcome result state.new }
+    ensures stays { IfNotEmulated result (state.new ≡ state.old) }
 {
     match perform(state, effect) {
         Performed::Done => Emulated::Done,

@@ -3,7 +3,7 @@
 
 ghost use Rattle.std.specs.Prelude.{◌≡◌, true};
 ghost use Rattle.rv64_asm.specs.Fitting.{fits};
-ghost use Rattle.hcsr_emulation.specs.Ends.{EndsSo, IfRaised, IsCsrOrSret, accessed_outcome};
+ghost use Rattle.hcsr_emulation.specs.Ends.{EndsSo, IfAccessRaised, IsCsrOrSret, accessed_outcome};
 
 use crate::emulation::{Emulated, emulate};
 use arch_defs::{Trap, Virtual};
@@ -24,7 +24,7 @@ pub fn access(state: &mut Virtual, op: Op) -> Accessed
     requires kind { IsCsrOrSret op }
     requires fits { fits op ≡ true }
     ensures ends { EndsSo op state.old (accessed_outcome result state.new) }
-    ensures stays { IfRaised result (state.new ≡ state.old) }
+    ensures stays { IfAccessRaised result (state.new ≡ state.old) }
 {
     match emulate(state, op) {
         Emulated::Done => Accessed::Done,

@@ -14,7 +14,7 @@ use Rattle.machine_defs.specs.Outcomes.{Outcome, Accesses, Trapped}
 use Rattle.machine_defs.specs.Privileges.{decided, privileged, refusal}
 use Rattle.hcsr_emulation.specs.declared.emulation.Emulated.{Emulated}
 use Rattle.hcsr_emulation.specs.declared.emulation.Emulated.TheVariants as emulated
-use Rattle.hcsr_emulation.specs.Ends.{is_decided, outcome_of}
+use Rattle.hcsr_emulation.specs.Ends.{is_decided, emulated_outcome}
 use Rattle.hlv_hsv.specs.Ends.{IsHlvOrHsv}
 
 -- an instruction is to make an access, or traps
@@ -47,7 +47,7 @@ kind_decided (op.GuestStore width rs1 rs2) kind = refl
 kind_decided other kind = absurd kind
 
 -- so they end in no other way
-pub ends_else : (answer : Emulated) (state : Virtual) → AccessesOrTraps (outcome_of answer state) → ((wanted : DataAccess) → answer ≡ emulated.Accesses wanted → ⊥)
+pub ends_else : (answer : Emulated) (state : Virtual) → AccessesOrTraps (emulated_outcome answer state) → ((wanted : DataAccess) → answer ≡ emulated.Accesses wanted → ⊥)
     → ((trap : Trap) → answer ≡ emulated.Raise trap → ⊥) → ⊥
 ends_else emulated.Done state once accesses raises = once
 ends_else (emulated.Raise trap) state once accesses raises = raises trap refl

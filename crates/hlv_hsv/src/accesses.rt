@@ -3,7 +3,7 @@
 ghost use Rattle.std.specs.Prelude.{◌≡◌, ◌⊎◌, length};
 ghost use Rattle.machine_defs.specs.HlvAccesses.{hlv_mode, hlv_outcome};
 ghost use Rattle.two_stage_walk.specs.Places.{IsWhole};
-ghost use Rattle.hcsr_emulation.specs.Ends.{IfRaised};
+ghost use Rattle.hcsr_emulation.specs.Ends.{IfAccessRaised};
 ghost use Rattle.hlv_hsv.specs.Ends.{EndsAs, IsAccessed, IsHlvOp};
 
 use arch_defs::{Csrs, Mode, Virtual};
@@ -34,7 +34,7 @@ pub fn access<M: Mem>(mem: &mut M, state: &mut Virtual, op: Op) -> Accessed
     requires op { IsHlvOp op }
     ensures ends { IsAccessed op (M.base mem.old) (M.bytes mem.old) state.old
         result state.new (M.bytes mem.new) }
-    ensures stays { IfRaised result ((state.new ≡ state.old) × (mem.new ≡ mem.old)) }
+    ensures stays { IfAccessRaised result ((state.new ≡ state.old) × (mem.new ≡ mem.old)) }
     ensures layout { (M.base mem.new ≡ M.base mem.old)
         × (length (M.bytes mem.new) ≡ length (M.bytes mem.old)) }
     ensures backed { M.is_backed mem.new }
@@ -55,7 +55,7 @@ fn make<M: Mem>(mem: &mut M, state: &mut Virtual, wanted: DataAccess) -> Accesse
     ensures ends { EndsAs (M.base mem.old) (M.bytes mem.old)
         (hlv_outcome (M.base mem.old) (M.bytes mem.old) state.old wanted)
         result state.new (M.bytes mem.new) }
-    ensures stays { IfRaised result ((state.new ≡ state.old) × (mem.new ≡ mem.old)) }
+    ensures stays { IfAccessRaised result ((state.new ≡ state.old) × (mem.new ≡ mem.old)) }
     ensures layout { (M.base mem.new ≡ M.base mem.old)
         × (length (M.bytes mem.new) ≡ length (M.bytes mem.old)) }
     ensures backed { M.is_backed mem.new }

@@ -27,7 +27,7 @@ use Rattle.machine_defs.specs.Fills.{after_fills, missing_entry, missing_entry_u
 use Rattle.machine_defs.specs.Privileges.{privileged, refusal}
 use Rattle.machine_defs.specs.Runs.{run, step}
 use Rattle.machine_defs.specs.Tries.{fence_under, try_under}
-use Rattle.machine_laws.specs.ShortRuns.{FencedFaults, FencedFaultsFreely, HasFaulted, MayDropStale, MayUseStale, StaleIsUsed, csrs_before, hfence_gvma, nop, stale_entry, stale_machine, stale_root}
+use Rattle.machine_laws.specs.ShortRuns.{FencedFaults, FencedFaultsFreely, HasFaulted, MayDropStale, MayUseStale, StaleIsUsed, csrs_before, fence_bytes, nop, stale_entry, stale_machine, stale_root}
 
 pub stale_is_used : StaleIsUsed
 unfolding run step try_under after_fills missing_entry missing_entry_under core due due_for_hs due_for_vs first_stage op_of system_of system_op_of fence_op_of immediate_arithmetic_of immediate_op_of alu meaning privileged refusal fenced entered returned second_by guest_root_of csrs_before stale_machine stale_root stale_entry entry_by_walk second_walk walk path path_from end_of target entered_hs is_system permits_second
@@ -79,9 +79,9 @@ emptied fence is (c ∷ cs) unnamed =
     let one : is_named fence c.vmid c.entry ≡ false = All-head (λ c. is_named fence c.vmid c.entry ≡ false) c cs unnamed in
     let never : true ≡ false = sym (ap (λ o. is_named o c.vmid c.entry) is) ∙ one in absurd cc
 
-after_fence : (g : FreeMachine) → FreeStep (free_of (stale_machine hfence_gvma)) g → g ≡ dropped (free_of (stale_machine hfence_gvma))
+after_fence : (g : FreeMachine) → FreeStep (free_of (stale_machine fence_bytes)) g → g ≡ dropped (free_of (stale_machine fence_bytes))
 unfolding run step try_under after_fills missing_entry missing_entry_under core due due_for_hs due_for_vs first_stage op_of system_of system_op_of fence_op_of immediate_arithmetic_of immediate_op_of alu meaning privileged refusal fenced entered returned second_by guest_root_of csrs_before stale_machine stale_root stale_entry entry_by_walk second_walk walk path path_from end_of target entered_hs is_system permits_second fence_under
-after_fence g s = let f = free_of (stale_machine hfence_gvma) in
+after_fence g s = let f = free_of (stale_machine fence_bytes) in
     let same : s.second ≡ now f = flat_steps f g s refl in
     let by = steps_by f g s (now f) same in
     let fence : fence_under s.second (uncached f) ≡ all_named = ap (λ second. fence_under second (uncached f)) same in
@@ -90,7 +90,7 @@ after_fence g s = let f = free_of (stale_machine hfence_gvma) in
 
 -- so after the SRET only walks of now are cached: no register that they depend on has changed, nor RAM
 abbrev fenced_end : FreeMachine
-fenced_end = dropped (free_of (stale_machine hfence_gvma))
+fenced_end = dropped (free_of (stale_machine fence_bytes))
 
 abbrev entered_end : FreeMachine
 entered_end = dropped fenced_end

@@ -21,8 +21,8 @@ abbrev pub code_after : List ℕ → List ℕ
 code_after first = first ++ (0x73 ∷ 0 ∷ 0x20 ∷ 0x10 ∷ 0x93 ∷ 0 ∷ 0x10 ∷ 0 ∷ [])
 
 -- HFENCE.GVMA x0, x0, and NOP
-abbrev pub hfence_gvma : List ℕ
-hfence_gvma = 0x73 ∷ 0 ∷ 0 ∷ 0x62 ∷ []
+abbrev pub fence_bytes : List ℕ
+fence_bytes = 0x73 ∷ 0 ∷ 0 ∷ 0x62 ∷ []
 
 abbrev pub nop : List ℕ
 nop = 0x13 ∷ 0 ∷ 0 ∷ 0 ∷ []
@@ -74,7 +74,7 @@ abbrev pub StaleIsUsed : Type 0
 StaleIsUsed = HasExecuted (run (stale_machine nop) 3).platform
 
 abbrev pub FencedFaults : Type 0
-FencedFaults = HasFaulted (run (stale_machine hfence_gvma) 3).platform
+FencedFaults = HasFaulted (run (stale_machine fence_bytes) 3).platform
 
 -- a free machine may use the translation or drop it where it made no fence, and else cannot use it
 abbrev pub MayUseStale : Type 0
@@ -84,4 +84,5 @@ abbrev pub MayDropStale : Type 0
 MayDropStale = (end : FreeMachine) × FreeRun 3 (free_of (stale_machine nop)) end × HasFaulted end.platform
 
 abbrev pub FencedFaultsFreely : Type 0
-FencedFaultsFreely = (end : FreeMachine) → FreeRun 3 (free_of (stale_machine hfence_gvma)) end → HasFaulted end.platform
+FencedFaultsFreely =
+    (end : FreeMachine) → FreeRun 3 (free_of (stale_machine fence_bytes)) end → HasFaulted end.platform

@@ -11,7 +11,7 @@ use Rattle.rv64_hart.specs.Counts.{Counts}
 use Rattle.nesthv_top.specs.declared.ends.Ended.TheVariants as ended
 use Rattle.nesthv_top.specs.declared.ends.Job.{Job}
 use Rattle.nesthv_top.specs.declared.ends.RunEnd.TheVariants.{WriteFault}
-use Rattle.nesthv_top.specs.Endings.{GrewBy, IsCounted, SaysOfAccount}
+use Rattle.nesthv_top.specs.Endings.{GrewBy, CountsIfRun, SaysOfAccount}
 use Rattle.nesthv_top.specs.Plans.{Plan, config_name, entries_of, plan_in, planned, run_of, steps_of, work_plan}
 use Rattle.nesthv_top.specs.Runnings.{CountsTurns, IsAccountFor}
 use Rattle.nesthv_top.specs.Seen.{IsJob, plan_seen}
@@ -35,7 +35,7 @@ pub ran : (told : Option Files) (command : Command) (plan : Plan) (old new : Cou
     → ((config : List ℕ) → Some command ≡ Some (OnFiles (Check config)) → ⊥) → GrewBy (2 ^ 61) (2 ^ 52) old new → CountsTurns plan old new
     → SaysOfAccount told (Some command) ended.Done old new
 ran told command plan old new plan_is no_check bound grew = record {
-  run = λ f t. subst (λ plan. IsCounted plan ended.Done old new) (sym (plan_is f t)) (record { taken = grew.taken_least; trace = grew.trace });
+  run = λ f t. subst (λ plan. CountsIfRun plan ended.Done old new) (sym (plan_is f t)) (record { taken = grew.taken_least; trace = grew.trace });
   idle = tt;
   check = λ check. absurd (no_check check.0 check.1);
   entries = grew.entries_grow;

@@ -166,10 +166,10 @@ pub record CountsRun (plan : Plan) (old new : Counts) : Type 0 where
   pub taken : old.taken + plain_count (events_of plan) ≤ new.taken
   pub trace : IsRaisedBy (trace_of (events_of plan)) old.trace new.trace
 
-abbrev pub IsCounted : Option Plan → Ended → Counts → Counts → Type 0
-IsCounted plan Done old new = IfSome plan (λ p. CountsRun p old new)
-IsCounted plan Differs old new = IfSome plan (λ p. CountsRun p old new)
-IsCounted plan other old new = ⊤
+abbrev pub CountsIfRun : Option Plan → Ended → Counts → Counts → Type 0
+CountsIfRun plan Done old new = IfSome plan (λ p. CountsRun p old new)
+CountsIfRun plan Differs old new = IfSome plan (λ p. CountsRun p old new)
+CountsIfRun plan other old new = ⊤
 
 abbrev pub IsCheck : Option Command → Type 0
 IsCheck command = (config : List ℕ) × (command ≡ Some (OnFiles (Check config)))
@@ -182,7 +182,7 @@ pub record GrewBy (entries steps : ℕ) (old new : Counts) : Type 0 where
 -- what an end says of the account of the hart, which a check leaves as it was
 pub record SaysOfAccount (told : Option Files) (command : Option Command) (ended : Ended)
     (old new : Counts) : Type 0 where
-  pub run : IfTold told (λ files. IsCounted (run_of files command) ended old new)
+  pub run : IfTold told (λ files. CountsIfRun (run_of files command) ended old new)
   pub idle : IsIdle ended old new
   pub check : IsCheck command → new ≡ old
   pub entries : old.entries ≤ new.entries

@@ -94,8 +94,8 @@ const UNDELEGATED: [u32; 16] = [
     0x0000_0073, // ecall
 ];
 
-// The trace has pc and word of an addi, an auipc and an addi before the trap, which is the eighth step: the jal,
-// which would add its own, is not made. The next such step is the addi at 8000002C, the tenth.
+// The trace has pc and word of an addi, an auipc and an addi before the trap, which is the eighth step: the
+// jal, which would add its own, is not made. The next such step is the addi at 8000002C, the tenth.
 #[test]
 fn undelegated_vssi(rt: HostRuntime) -> Result<(), Fail> {
     let image = image(rt.alloc(), &UNDELEGATED, 0)?;

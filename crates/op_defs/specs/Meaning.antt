@@ -97,8 +97,10 @@ meaning (op.Jal rd offset) regs = jump rd (next regs) (add64 regs.pc offset)
 meaning (op.Jalr rd rs1 offset) regs = jump rd (next regs) (even (address_at regs rs1 offset))
 meaning (op.Branch test rs1 rs2 offset) regs =
     branch (is_branch_taken test (read regs rs1) (read regs rs2)) (next regs) (add64 regs.pc offset)
-meaning (op.Load width signed rd rs1 offset) regs = accesses (address_at regs rs1 offset) width (Load signed rd)
-meaning (op.Store width rs1 rs2 offset) regs = accesses (address_at regs rs1 offset) width (Store (read regs rs2))
+meaning (op.Load width signed rd rs1 offset) regs =
+    accesses (address_at regs rs1 offset) width (Load signed rd)
+meaning (op.Store width rs1 rs2 offset) regs =
+    accesses (address_at regs rs1 offset) width (Store (read regs rs2))
 meaning (op.AluImmediate o rd rs1 immediate) regs = Sets rd (alu o (read regs rs1) immediate) (next regs)
 meaning (op.Alu o rd rs1 rs2) regs = Sets rd (alu o (read regs rs1) (read regs rs2)) (next regs)
 meaning (op.WordImmediate o rd rs1 immediate) regs =

@@ -7,11 +7,11 @@ use Rattle.op_defs.specs.declared.ops.Purpose.{Purpose}
 use Rattle.op_defs.specs.declared.ops.Purpose.TheVariants.{Load, LoadCode, Store, Reserve, StoreReserved, Modify}
 use Rattle.machine_defs.specs.Core.{completed, is_reserved, stored_if}
 use Rattle.data_access.specs.Places.{IsPlaceFor}
-use Rattle.frame_set.specs.Holding.{holds}
+use Rattle.frame_set.specs.Holding.{has_frame}
 use Rattle.translation_buffer.specs.declared.buffers.Buffer.{Buffer}
 use Rattle.translation_buffer.specs.Serving.{Serves}
 use Rattle.translation_buffer.proofs.Stored.{serves_completed}
-use Rattle.rv64_hart.specs.Endings.{IsQuiet, KeepsContext}
+use Rattle.rv64_hart.specs.Endings.{NoneDueIfQuiet, KeepsContext}
 
 pub keeps_completed : (reading : Reading) (state : Virtual) (width : Width) (purpose : Purpose) (place : ℕ)
     → KeepsContext state (completed reading state width purpose place).state
@@ -31,13 +31,13 @@ pub keeps_after : (reading : Reading) (state new : Virtual) (width : Width) (pur
 keeps_after reading state new width purpose place s = rw s (keeps_completed reading state width purpose place)
 
 -- no interrupt comes to be due by a plain instruction
-pub quiet_kept : (quiet : Bool) (old new : Virtual) → KeepsContext old new → IsQuiet quiet old → IsQuiet quiet new
+pub quiet_kept : (quiet : Bool) (old new : Virtual) → KeepsContext old new → NoneDueIfQuiet quiet old → NoneDueIfQuiet quiet new
 quiet_kept true old new (csrs, mode) none = rw (csrs, mode) none
 quiet_kept false old new keeps none = tt
 
 -- at a place in no frame that was read
 pub serves_after : (buffer : Buffer) (state new : Virtual) (memory other : List ℕ) (width : Width) (purpose : Purpose) (place : ℕ)
-    → Serves buffer state.csrs state.mode memory → holds buffer.read (place / 4096) ≡ false → IsPlaceFor 0 memory width place
+    → Serves buffer state.csrs state.mode memory → has_frame buffer.read (place / 4096) ≡ false → IsPlaceFor 0 memory width place
     → new ≡ (completed (reading_of 0 memory) state width purpose place).state
     → other ≡ with_stored 0 (completed (reading_of 0 memory) state width purpose place).stored memory
     → Serves buffer new.csrs new.mode other

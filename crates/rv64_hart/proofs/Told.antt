@@ -6,7 +6,7 @@ use Rattle.arch_defs.specs.Traps.{target}
 use Rattle.op_defs.specs.Table.{is_system}
 use Rattle.machine_defs.specs.declared.events.Event.TheVariants.{System}
 use Rattle.machine_defs.specs.Core.{event_of}
-use Rattle.rv64_hart.specs.Endings.{Tells, TellsTrap, told}
+use Rattle.rv64_hart.specs.Endings.{Tells, TellsTrap, told_of}
 use Rattle.rv64_hart.specs.Steps.{Attempt, Makes, Raises, Progress, end_by, progress, progressed, trapped_to}
 
 -- a step that adds nothing to the trace
@@ -15,30 +15,30 @@ nothing_added trace h = omega arith
 
 -- an instruction of opcode SYSTEM
 pub system_told : (trace : ℕ) (attempt : Attempt) (state : Virtual) (memory : List ℕ) → trace < 2 ^ 64
-    → attempt ≡ Makes state memory System → told trace attempt ≡ Tells state memory trace false
+    → attempt ≡ Makes state memory System → told_of trace attempt ≡ Tells state memory trace false
 system_told trace attempt state memory h e = rw e (ap (λ n. Tells state memory n false) (nothing_added trace h))
 
 pub is_system_told : (trace : ℕ) (attempt : Attempt) (state : Virtual) (memory : List ℕ) (pc word : ℕ)
     → trace < 2 ^ 64 → is_system word ≡ true → attempt ≡ Makes state memory (event_of pc word)
-    → told trace attempt ≡ Tells state memory trace false
+    → told_of trace attempt ≡ Tells state memory trace false
 is_system_told trace attempt state memory pc word h s e =
     system_told trace attempt state memory h (e ∙ rw s refl)
 
 -- one that is made
 pub goes_on : (watch : Bool) (trace : ℕ) (old : Virtual) (before : List ℕ) (attempt : Attempt)
-    (state : Virtual) (memory : List ℕ) (after : ℕ) → told trace attempt ≡ Tells state memory after false
+    (state : Virtual) (memory : List ℕ) (after : ℕ) → told_of trace attempt ≡ Tells state memory after false
     → progressed watch trace (end_by old before attempt) ≡ Some (progress state memory after false)
 goes_on true trace old before (Makes s m made) state memory after e = cc
 goes_on false trace old before (Makes s m made) state memory after e = cc
 goes_on watch trace old before (Raises trap) state memory after e = absurd (cc)
 
 -- one that raises a trap
-pub raises : (trace : ℕ) (attempt : Attempt) (trap : Trap) → told trace attempt ≡ TellsTrap trap → attempt ≡ Raises trap
+pub raises : (trace : ℕ) (attempt : Attempt) (trap : Trap) → told_of trace attempt ≡ TellsTrap trap → attempt ≡ Raises trap
 raises trace (Makes s m made) trap e = absurd (cc)
 raises trace (Raises own) trap e = cc
 
 pub trap_goes : (watch : Bool) (trace : ℕ) (old : Virtual) (before : List ℕ) (attempt : Attempt) (trap : Trap)
-    (r : Option Progress) → told trace attempt ≡ TellsTrap trap
+    (r : Option Progress) → told_of trace attempt ≡ TellsTrap trap
     → progressed watch trace (trapped_to old before trap (target old.csrs old.mode trap)) ≡ r
     → progressed watch trace (end_by old before attempt) ≡ r
 trap_goes watch trace old before attempt trap r e p = rw (raises trace attempt trap e) p

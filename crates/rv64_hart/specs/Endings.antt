@@ -48,12 +48,13 @@ pub data Told : Type 0 where
   Tells : Virtual → List ℕ → ℕ → Bool → Told
   TellsTrap : Trap → Told
 
-abbrev pub told : ℕ → Attempt → Told
-told trace (Makes state memory made) =
+abbrev pub told_of : ℕ → Attempt → Told
+told_of trace (Makes state memory made) =
     Tells state memory ((trace + pc_and_word made) % 2 ^ 64) (enters_vs made)
-told trace (Raises trap) = TellsTrap trap
+told_of trace (Raises trap) = TellsTrap trap
 
--- the same by how the instruction ended, the trap that is told apart, and the state, memory and trace after it
+-- the same by how the instruction ended, the trap that is told apart, and the state, memory and trace after
+-- it
 abbrev pub told_by : Ended → Trap → Virtual → List ℕ → ℕ → Told
 told_by Plain trap state memory trace = Tells state memory trace false
 told_by System trap state memory trace = Tells state memory trace false
@@ -76,6 +77,6 @@ abbrev pub KeepsContext : Virtual → Virtual → Type 0
 KeepsContext old new = (new.csrs ≡ old.csrs) × (new.mode ≡ old.mode)
 
 -- while it is quiet, no interrupt is due
-abbrev pub IsQuiet : Bool → Virtual → Type 0
-IsQuiet true state = due state.csrs state.mode ≡ None
-IsQuiet false state = ⊤
+abbrev pub NoneDueIfQuiet : Bool → Virtual → Type 0
+NoneDueIfQuiet true state = due state.csrs state.mode ≡ None
+NoneDueIfQuiet false state = ⊤

@@ -6,9 +6,9 @@ use Rattle.rv64_hart.specs.declared.harts.Hart.{Hart}
 use Rattle.rv64_hart.specs.contracts.harts.Hart.{the_row}
 
 -- the hart with another state
-abbrev pub with_state : Hart → Virtual → Hart
-with_state hart state = record hart { state = state }
+abbrev pub hart_with_state : Hart → Virtual → Hart
+hart_with_state hart state = record hart { state = state }
 
 -- the hart ends with the state that was last written
 abbrev pub LendsState : MutBor Hart → MutBor Virtual → Fml
-LendsState hart lent = Lends the_row state_row hart lent (with_state hart.now)
+LendsState hart lent = Lends the_row state_row hart lent (hart_with_state hart.now)

@@ -13,7 +13,7 @@ ghost use Rattle.machine_defs.specs.Outcomes.{sets};
 ghost use Rattle.machine_defs.specs.Privileges.{privileged};
 ghost use Rattle.translation_buffer.specs.Serving.{Serves};
 ghost use Rattle.rv64_hart.specs.Counts.{OnlyTrace};
-ghost use Rattle.rv64_hart.specs.Endings.{IfLeft, IfPlain, IfRaised, IsQuiet, KeepsContext, attempt_by, counted_of, told, told_by};
+ghost use Rattle.rv64_hart.specs.Endings.{IfLeft, IfPlain, IfRaised, NoneDueIfQuiet, KeepsContext, attempt_by, counted_of, told_by, told_of};
 ghost use Rattle.rv64_hart.specs.MachineMemory.{reading_of_memory, second_of_memory};
 ghost use Rattle.rv64_hart.specs.Steps.{Exits, Raises, attempt_of, hart_step, next_attempt, one_more_step, progress, progressed, trapped_to};
 
@@ -46,7 +46,7 @@ pub fn step(
     trap: &mut Trap,
 ) -> StepEnd
     requires serves { Serves buffer.old state.old.csrs state.old.mode memory.old }
-    requires quiet { IsQuiet quiet.old state.old }
+    requires quiet { NoneDueIfQuiet quiet.old state.old }
     ensures steps { one_more_step watch (progress state.old memory.old tally.old.trace false)
         ≡ counted_of result (progress state.new memory.new tally.new.trace) }
     ensures exits { IfLeft result (hart_step state.new memory.new ≡ Exits trap.new) }
@@ -54,7 +54,7 @@ pub fn step(
         ((state.new ≡ state.old) × (memory.new ≡ memory.old) × (tally.new ≡ tally.old)) }
     ensures tally { OnlyTrace tally.old tally.new }
     ensures serves { Serves buffer.new state.new.csrs state.new.mode memory.new }
-    ensures quiet { IsQuiet quiet.new state.new }
+    ensures quiet { NoneDueIfQuiet quiet.new state.new }
 {
     let _ = tally.trace();
     match attempt(state, memory, buffer, quiet, tally, trap) {
@@ -121,15 +121,15 @@ fn attempt(
     trap: &mut Trap,
 ) -> Ended
     requires serves { Serves buffer.old state.old.csrs state.old.mode memory.old }
-    requires quiet { IsQuiet quiet.old state.old }
-    ensures told { told tally.old.trace
+    requires quiet { NoneDueIfQuiet quiet.old state.old }
+    ensures told { told_of tally.old.trace
         (next_attempt state.old memory.old (due state.old.csrs state.old.mode))
         ≡ told_by result trap.new state.new memory.new tally.new.trace }
     ensures stays { IfRaised result
         ((state.new ≡ state.old) × (memory.new ≡ memory.old) × (tally.new ≡ tally.old)) }
     ensures tally { OnlyTrace tally.old tally.new }
     ensures serves { Serves buffer.new state.new.csrs state.new.mode memory.new }
-    ensures quiet { IsQuiet quiet.new state.new }
+    ensures quiet { NoneDueIfQuiet quiet.new state.new }
 {
     match due_now(state, quiet) {
         Some(code) => raise_interrupt(code, trap),
@@ -147,9 +147,9 @@ fn attempt(
 // The interrupt that is due. While it is quiet, none is.
 #[inline(always)]
 fn due_now(state: &Virtual, quiet: &mut bool) -> Option<u64>
-    requires quiet { IsQuiet quiet.old state.now }
+    requires quiet { NoneDueIfQuiet quiet.old state.now }
     ensures due { result ≡ due state.now.csrs state.now.mode }
-    ensures quiet { IsQuiet quiet.new state.now }
+    ensures quiet { NoneDueIfQuiet quiet.new state.now }
 {
     if *quiet {
         return None;
@@ -174,7 +174,7 @@ fn instruction(
     trap: &mut Trap,
 ) -> Ended
     requires serves { Serves buffer.old state.old.csrs state.old.mode memory.old }
-    ensures told { told tally.old.trace
+    ensures told { told_of tally.old.trace
         (attempt_of state.old.csrs state.old.mode memory.old
         (core (second_of_memory state.old memory.old) (reading_of_memory memory.old) state.old))
         ≡ told_by result trap.new state.new memory.new tally.new.trace }
@@ -203,7 +203,7 @@ fn counted(
     trap: &mut Trap,
 ) -> Ended
     requires serves { Serves buffer.old state.old.csrs state.old.mode memory.old }
-    ensures told { told tally.old.trace
+    ensures told { told_of tally.old.trace
         (attempt_of state.old.csrs state.old.mode memory.old
         (instruction (second_of_memory state.old memory.old) (reading_of_memory memory.old) state.old word))
         ≡ told_by result trap.new state.new memory.new tally.new.trace }

@@ -13,8 +13,8 @@ use std::alloc::Global;
 use std::process::Abort;
 use std::test::Fail;
 
-// Memory is of 24 frames: code, data, a table of each level of the first stage, others of level 1 and level 0,
-// other data, and another root; from frame 12 on the same of the second stage, whose root is of four.
+// Memory is of 24 frames: code, data, a table of each level of the first stage, others of level 1 and level
+// 0, other data, and another root; from frame 12 on the same of the second stage, whose root is of four.
 const FRAMES: u64 = 24;
 
 const OTHER: u64 = 0x1122_3344_5566_7788;
@@ -232,7 +232,8 @@ fn memory_for(alloc: Global, case: &Case) -> Result<PhysMem, NoMemory> {
     Ok(memory)
 }
 
-// SRET goes on, and a trap of the program is taken, at the instruction after it, by a leaf of 1 GiB of its own.
+// SRET goes on, and a trap of the program is taken, at the instruction after it, by a leaf of 1 GiB of its
+// own.
 fn started(case: &Case) -> HartState {
     let mut state = Virtual::starting_at(Mode::VS, CODE);
     match case.walks {

@@ -4,7 +4,7 @@ use Rattle.std.specs.List.{All, AllPairs, filter_map, slice_index_or}
 use Rattle.arch_defs.specs.declared.cached.Entry.{Entry}
 use Rattle.arch_defs.specs.declared.registers.GuestRoot.{GuestRoot}
 use Rattle.arch_defs.specs.Frames.{Frames, LieIn, joined, within}
-use Rattle.arch_defs.specs.Layouts.{Layout, NamesEachOnce, space_frames, tables_for}
+use Rattle.arch_defs.specs.Layouts.{Layout, NamesEachOnce, no_part, space_frames, tables_for}
 use Rattle.arch_defs.specs.Roots.{is_root, vmid_of}
 use Rattle.arch_defs.specs.Spaces.{Space, unnamed_by}
 use Rattle.shadow_space.specs.declared.frames.TableFrames.{TableFrames}
@@ -67,10 +67,6 @@ pub record AreSlots (part : Layout) (most : ℕ) (slots : List Slot) : Type 0 wh
   pub once : NamesEachOnce part
   pub each : All (IsSlot part most (length slots)) slots
   pub order : AllPairs ComesBefore slots
-
--- a part without frames: that of no tables
-unfoldable pub no_part : Layout
-no_part = record { blocks = []; first_root = 0; first_table = 0; spaces = 0; entries = 0 }
 
 -- the part that tables are of, and room for how many entries each has: as the first of them
 abbrev pub part_of : List Slot → Layout

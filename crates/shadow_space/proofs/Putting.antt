@@ -12,7 +12,7 @@ use Rattle.arch_defs.specs.Frames.{Only}
 use Rattle.arch_defs.proofs.FrameSets.{only_both}
 use Rattle.shadow_space.specs.declared.frames.TableFrames.{TableFrames}
 use Rattle.shadow_space.specs.declared.writing.Tables.{Tables}
-use Rattle.shadow_space.specs.Held.{HasFree, Held, HoldsList, IsCounting, IsKept, Stands, entered, entered_frame, held_in, number_of}
+use Rattle.shadow_space.specs.Held.{HasFree, Held, HoldsList, IsCounting, IsKept, Stands, table_entered, entered_frame, held_in, number_of}
 use Rattle.shadow_space.specs.Leaves.{leaf_word, leaves}
 use Rattle.shadow_space.specs.Trees.{HasTables, IsOwn, Table, frames_of, prefix, slots}
 use Rattle.shadow_space.proofs.Adding.{low_slots}
@@ -60,13 +60,13 @@ module _ (tables : Tables) (blocks : List ℕ) (most : ℕ) (entries : List Entr
       can_open tables (number_of entries) (leaves blocks entries) entries (held_in frames memory) (2 * most) (2 * length entries) 1 (e.page / 512 / 512) 0 (e.page / 262144) tables.root
       holds.placed holds.count holds.kept holds.stands (omega arith) holds.stands.sound.root root_slot (top_part e.page page_small) fewer
 
-  pub has_middle : (frames1 : TableFrames) (m1 : List ℕ) (middle : ℕ) → held_in frames1 m1 ≡ entered tables.first (512 * tables.root + e.page / 262144) (held_in frames memory)
+  pub has_middle : (frames1 : TableFrames) (m1 : List ℕ) (middle : ℕ) → held_in frames1 m1 ≡ table_entered tables.first (512 * tables.root + e.page / 262144) (held_in frames memory)
       → middle ≡ entered_frame tables.first (512 * tables.root + e.page / 262144) (held_in frames memory)
       → HasEntered tables (mixed (number_of entries) (number_of (entries ++ e ∷ []))) (leaves blocks entries) entries (held_in frames memory) (held_in frames1 m1) (2 * most) (2 * length entries) 1 (e.page / 512 / 512) middle
   has_middle frames1 m1 middle is middle_is =
       subst (λ held. HasEntered tables (mixed (number_of entries) (number_of (entries ++ e ∷ []))) (leaves blocks entries) entries (held_in frames memory) held (2 * most) (2 * length entries) 1 (e.page / 512 / 512) middle) (sym is)
       (subst (λ f. HasEntered tables (mixed (number_of entries) (number_of (entries ++ e ∷ []))) (leaves blocks entries) entries (held_in frames memory)
-      (entered tables.first (512 * tables.root + e.page / 262144) (held_in frames memory)) (2 * most) (2 * length entries) 1 (e.page / 512 / 512) f) (sym middle_is)
+      (table_entered tables.first (512 * tables.root + e.page / 262144) (held_in frames memory)) (2 * most) (2 * length entries) 1 (e.page / 512 / 512) f) (sym middle_is)
       (enters tables (number_of entries) (leaves blocks entries) entries (held_in frames memory) (2 * most) (2 * length entries) 1 (e.page / 512 / 512) 0 (e.page / 262144) tables.root
       holds.placed holds.count holds.kept holds.stands (omega arith) holds.stands.sound.root root_slot (top_part e.page page_small)
       (mixed (number_of entries) (number_of (entries ++ e ∷ []))) (more_high (number_of entries) (number_of (entries ++ e ∷ [])) e.page one_more) fewer))
@@ -102,13 +102,13 @@ module _ (tables : Tables) (blocks : List ℕ) (most : ℕ) (entries : List Entr
         can_open tables (mixed (number_of entries) (number_of (entries ++ e ∷ []))) (leaves blocks entries) entries (held_in frames1 m1) (2 * most) (2 * length entries + 1) 0 (e.page / 512) (e.page / 512 / 512) (e.page / 512 % 512) middle
         placed1 holds.count first.kept first.stands (omega arith) middle_holds middle_slot (middle_part e.page) (omega (arith, room))
 
-    pub has_low : (frames2 : TableFrames) (m2 : List ℕ) (low : ℕ) → held_in frames2 m2 ≡ entered tables.first (512 * middle + e.page / 512 % 512) (held_in frames1 m1)
+    pub has_low : (frames2 : TableFrames) (m2 : List ℕ) (low : ℕ) → held_in frames2 m2 ≡ table_entered tables.first (512 * middle + e.page / 512 % 512) (held_in frames1 m1)
         → low ≡ entered_frame tables.first (512 * middle + e.page / 512 % 512) (held_in frames1 m1)
         → HasEntered tables (number_of (entries ++ e ∷ [])) (leaves blocks entries) entries (held_in frames1 m1) (held_in frames2 m2) (2 * most) (2 * length entries + 1) 0 (e.page / 512) low
     has_low frames2 m2 low is low_is =
         subst (λ held. HasEntered tables (number_of (entries ++ e ∷ [])) (leaves blocks entries) entries (held_in frames1 m1) held (2 * most) (2 * length entries + 1) 0 (e.page / 512) low) (sym is)
         (subst (λ f. HasEntered tables (number_of (entries ++ e ∷ [])) (leaves blocks entries) entries (held_in frames1 m1)
-        (entered tables.first (512 * middle + e.page / 512 % 512) (held_in frames1 m1)) (2 * most) (2 * length entries + 1) 0 (e.page / 512) f) (sym low_is)
+        (table_entered tables.first (512 * middle + e.page / 512 % 512) (held_in frames1 m1)) (2 * most) (2 * length entries + 1) 0 (e.page / 512) f) (sym low_is)
         (enters tables (mixed (number_of entries) (number_of (entries ++ e ∷ []))) (leaves blocks entries) entries (held_in frames1 m1) (2 * most) (2 * length entries + 1) 0 (e.page / 512) (e.page / 512 / 512) (e.page / 512 % 512) middle
         placed1 holds.count first.kept first.stands (omega arith) middle_holds middle_slot (middle_part e.page)
         (number_of (entries ++ e ∷ [])) (more_low (number_of entries) (number_of (entries ++ e ∷ [])) e.page one_more) (omega (arith, room))))

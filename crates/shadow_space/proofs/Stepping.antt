@@ -8,7 +8,7 @@ use Rattle.arch_defs.specs.Frames.{Only}
 use Rattle.arch_defs.proofs.FrameSets.{only_none}
 use Rattle.shadow_space.specs.declared.frames.TableFrames.{TableFrames}
 use Rattle.shadow_space.specs.declared.writing.Tables.{Tables}
-use Rattle.shadow_space.specs.Held.{HasFree, Held, IsCounted, IsCounting, IsKept, Stands, closed, departed, entered, entered_frame, fewer, more, next_free, opened}
+use Rattle.shadow_space.specs.Held.{HasFree, Held, IsCounted, IsCounting, IsKept, Stands, closed, departed, table_entered, entered_frame, fewer, more, next_free, opened}
 use Rattle.shadow_space.specs.Trees.{Free, HasTables, IsOwn, IsTree, Table, Tree, entry_of, frames_of, pointer_of, pointer_to, prefix, slots}
 use Rattle.shadow_space.proofs.Adding.{IsAdded, added_says, added_sound, low_slots, same_pair}
 use Rattle.shadow_space.proofs.Counting.{counted_few, counted_inside, has_free, kept_closed, kept_fewer, kept_more, kept_opened, left_few, left_fewer}
@@ -147,8 +147,8 @@ module _ (tables : Tables) (number : ℕ → ℕ → ℕ) (leaf : ℕ → ℕ) (
   module _ (number' : ℕ → ℕ → ℕ) (counts : IsMore number number' h k) where
     -- where there is a table
     entered_some : (f : ℕ) → stands.tree.place h k ≡ Some f
-        → HasEntered tables number' leaf entries held (entered tables.first (512 * parent + s) held) count total h k (entered_frame tables.first (512 * parent + s) held)
-    unfolding entered entered_frame
+        → HasEntered tables number' leaf entries held (table_entered tables.first (512 * parent + s) held) count total h k (entered_frame tables.first (512 * parent + s) held)
+    unfolding table_entered entered_frame
     entered_some f place =
         let word : doubleword_at held.memory (512 * parent + s) ≡ pointer_to f = entry_is ∙ ap pointer_of place in
         let some : (doubleword_at held.memory (512 * parent + s) == 0) ≡ false = ne_eqb (doubleword_at held.memory (512 * parent + s)) 0 (λ e. omega (arith, e, word)) in
@@ -245,8 +245,8 @@ module _ (tables : Tables) (number : ℕ → ℕ → ℕ) (leaf : ℕ → ℕ) (
               added.contents (tables.first + j) (λ e. other (omega (arith, e)))
               ∙ stands.counted.free j own (sym (get_or-set_other held.frames.counts (next_free held.frames) j 1 0 other) ∙ zeros)
 
-      entered_none : HasEntered tables number' leaf entries held (entered tables.first (512 * parent + s) held) count total h k (entered_frame tables.first (512 * parent + s) held)
-      unfolding entered entered_frame
+      entered_none : HasEntered tables number' leaf entries held (table_entered tables.first (512 * parent + s) held) count total h k (entered_frame tables.first (512 * parent + s) held)
+      unfolding table_entered entered_frame
       entered_none =
           let word : doubleword_at held.memory (512 * parent + s) ≡ 0 = entry_is ∙ ap pointer_of place in
           rw (eq-eqb (doubleword_at held.memory (512 * parent + s)) 0 word) (record {
@@ -266,10 +266,10 @@ module _ (tables : Tables) (number : ℕ → ℕ → ℕ) (leaf : ℕ → ℕ) (
             only = only_word (frames_of tables) held.memory (512 * parent + s) (pointer_to (tables.first + next_free held.frames)) room (own_frame tables parent s parent_own slot);
           })
 
-    pub enters : total < count → HasEntered tables number' leaf entries held (entered tables.first (512 * parent + s) held) count total h k (entered_frame tables.first (512 * parent + s) held)
+    pub enters : total < count → HasEntered tables number' leaf entries held (table_entered tables.first (512 * parent + s) held) count total h k (entered_frame tables.first (512 * parent + s) held)
     enters some = by (stands.tree.place h k) refl
       where
         by : (o : Option ℕ) → stands.tree.place h k ≡ o
-            → HasEntered tables number' leaf entries held (entered tables.first (512 * parent + s) held) count total h k (entered_frame tables.first (512 * parent + s) held)
+            → HasEntered tables number' leaf entries held (table_entered tables.first (512 * parent + s) held) count total h k (entered_frame tables.first (512 * parent + s) held)
         by (Some f) place = entered_some f place
         by None place = entered_none place some

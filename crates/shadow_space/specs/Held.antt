@@ -55,8 +55,8 @@ pub record IsCounting (frames : TableFrames) (first frame : ℕ) : Type 0 where
 
 -- with one more entry in the table that doubleword i points to. Where it points to none, a free frame becomes
 -- it
-unfoldable pub entered : ℕ → ℕ → Held → Held
-entered first i held =
+unfoldable pub table_entered : ℕ → ℕ → Held → Held
+table_entered first i held =
     if doubleword_at held.memory i == 0
     then record {
       frames = opened held.frames;
@@ -123,8 +123,8 @@ unfoldable pub number_of : List Entry → ℕ → ℕ → ℕ
 number_of entries h k = count_by (λ e. prefix h e.page == k) entries
 
 -- the list, its tables in memory, and what is kept of them. A list of n entries is in n tables of each level
-pub record HoldsList (tables : Tables) (blocks : List ℕ) (most : ℕ) (entries : List Entry) (frames : TableFrames)
-    (memory : List ℕ) : Type 0 where
+pub record HoldsList (tables : Tables) (blocks : List ℕ) (most : ℕ) (entries : List Entry)
+    (frames : TableFrames) (memory : List ℕ) : Type 0 where
   pub placed : HasTables tables (length memory)
   pub count : top * most ≤ tables.count
   pub bound : most ≤ 256

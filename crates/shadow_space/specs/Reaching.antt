@@ -6,12 +6,14 @@ use Rattle.table_words.specs.Words.{doubleword_at}
 
 -- an entry of the table in a frame, which has so many, points to another frame
 abbrev pub PointsTo : List ℕ → ℕ → ℕ → ℕ → Type 0
-PointsTo memory frame slots to = (s : ℕ) × (s < slots) × (doubleword_at memory (512 * frame + s) ≡ pointer_to to)
+PointsTo memory frame slots to =
+    (s : ℕ) × (s < slots) × (doubleword_at memory (512 * frame + s) ≡ pointer_to to)
 
 -- the root points to a frame, or to one that points to it
 abbrev pub IsReached : List ℕ → ℕ → ℕ → Type 0
 IsReached memory root to =
-    PointsTo memory root 2048 to ⊎ ((frame : ℕ) × PointsTo memory root 2048 frame × PointsTo memory frame 512 to)
+    PointsTo memory root 2048 to
+    ⊎ ((frame : ℕ) × PointsTo memory root 2048 frame × PointsTo memory frame 512 to)
 
 -- the frames for a space's tables that its root does not reach are zeros
 pub record FreeAreZeros (space : Shadow) (memory : List ℕ) : Type 0 where

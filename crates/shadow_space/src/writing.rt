@@ -2,7 +2,7 @@
 
 ghost use Rattle.std.specs.Prelude.{◌≡◌, ◌≢◌, ◌+◌, ◌-◌, ◌*◌, ◌/◌, ◌<◌, ◌≤◌, ◌^◌, length, slice_index};
 ghost use Rattle.arch_defs.specs.CachedEntries.{CanFill};
-ghost use Rattle.shadow_space.specs.Held.{HasFree, IsCounting, departed, entered, entered_frame, held_in};
+ghost use Rattle.shadow_space.specs.Held.{HasFree, IsCounting, departed, table_entered, entered_frame, held_in};
 ghost use Rattle.shadow_space.specs.Leaves.{flag, leaf_word};
 ghost use Rattle.table_words.specs.Words.{changed, doubleword_at};
 
@@ -54,13 +54,14 @@ pub fn leaf_word(part: &Part, entry: &Entry) -> u64
 
 // One more entry in the table that doubleword i points to. Where it points to none, a free frame becomes it.
 // Tells the frame of the table.
-#[tactic(auto, unfolding(crate::specs::Held::entered, crate::specs::Held::entered_frame))]
+#[tactic(auto, unfolding(crate::specs::Held::table_entered, crate::specs::Held::entered_frame))]
 pub fn enter_table(frames: &mut TableFrames, mem: &mut PhysMem, first: u64, i: u64) -> u64
     requires inside { 8 * i + 8 ≤ length mem.old }
     requires small { i < 2 ^ 60 }
-    requires some { doubleword_at mem.old i ≢ 0 → IsCounting frames.old first (doubleword_at mem.old i / 1024) }
+    requires some { doubleword_at mem.old i ≢ 0
+        → IsCounting frames.old first (doubleword_at mem.old i / 1024) }
     requires none { doubleword_at mem.old i ≡ 0 → HasFree frames.old first }
-    ensures held { held_in frames.new mem.new ≡ entered first i (held_in frames.old mem.old) }
+    ensures held { held_in frames.new mem.new ≡ table_entered first i (held_in frames.old mem.old) }
     ensures frame { result ≡ entered_frame first i (held_in frames.old mem.old) }
     ensures changed { changed mem.old mem.new ≤ 1 }
 {

@@ -4,7 +4,7 @@ ghost use Rattle.std.specs.Prelude.{◌≡◌, ℕ, ◌^◌, ◌%◌, ◌<◌, R
 ghost use Rattle.arch_defs.specs.declared.modes.Trap.{Trap};
 ghost use Rattle.arch_defs.specs.Frames.{Frames, Within};
 ghost use Rattle.arch_defs.specs.Walk.{levels, met_in, next_of, path, walk};
-ghost use Rattle.frame_set.specs.Holding.{holds};
+ghost use Rattle.frame_set.specs.Holding.{has_frame};
 ghost use Rattle.stage_walk.specs.Ends.{EndFits, NextFits};
 ghost use Rattle.stage_walk.specs.Reads.{Each};
 
@@ -30,8 +30,9 @@ pub trait NotingFetch {
         requires aligned { place % 8 ≡ 0 }
         requires backed { is_backed self.now }
         ensures word { result ≡ reading self.now place }
-        ensures more { Within (holds read.old) (holds read.new) }
-        ensures noted { (frames : Frames) → Within (holds read.new) frames → reads self.now frames place };
+        ensures more { Within (has_frame read.old) (has_frame read.new) }
+        ensures noted { (frames : Frames) → Within (has_frame read.new) frames
+            → reads self.now frames place };
 }
 
 // What the entry for an address in the table of a frame says to the walk.
@@ -51,8 +52,8 @@ fn visit_noted<N: NotingFetch>(
     requires backed { N.is_backed fetch.now }
     ensures next { result ≡ next_of access (met_in (N.reading fetch.now) shape va level table) }
     ensures fits { NextFits (levels shape) result }
-    ensures more { Within (holds read.old) (holds read.new) }
-    ensures noted { (frames : Frames) → Within (holds read.new) frames
+    ensures more { Within (has_frame read.old) (has_frame read.new) }
+    ensures noted { (frames : Frames) → Within (has_frame read.new) frames
         → N.reads fetch.now frames (met_in (N.reading fetch.now) shape va level table).place }
 {
     let place = place_of(shape, level, table, va);
@@ -78,8 +79,8 @@ pub fn walk_noted<N: NotingFetch>(
     requires backed { N.is_backed fetch.now }
     ensures end { result ≡ walk (N.reading fetch.now) root shape va access }
     ensures fits { EndFits (levels shape) result }
-    ensures more { Within (holds read.old) (holds read.new) }
-    ensures noted { (frames : Frames) → Within (holds read.new) frames
+    ensures more { Within (has_frame read.old) (has_frame read.new) }
+    ensures noted { (frames : Frames) → Within (has_frame read.new) frames
         → Each (N.reads fetch.now frames) (path (N.reading fetch.now) root shape va access) }
 {
     if !is_canonical(shape, va) {

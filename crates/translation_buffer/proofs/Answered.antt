@@ -27,7 +27,7 @@ use Rattle.machine_defs.specs.Core.{located_at, located_by}
 use Rattle.two_stage_walk.specs.Places.{IsPlaceOf}
 use Rattle.two_stage_walk.specs.Reads.{placed_by}
 use Rattle.translation_buffer.specs.declared.contexts.Context.{Context}
-use Rattle.translation_buffer.specs.Places.{context_of, found_in, place_in, second_in}
+use Rattle.translation_buffer.specs.Places.{context_of, found_in, translated_place, second_in}
 use Rattle.translation_buffer.proofs.KeptPlaces.{second_keeps}
 use Rattle.translation_buffer.proofs.OnePage.{found_near, same_passes, same_some}
 
@@ -39,14 +39,14 @@ answer_at csrs mode memory va place access PageFaults is = absurd cc
 answer_at csrs mode memory va place access (MissesEntry at) is = absurd cc
 
 pub answered : (csrs : Csrs) (mode : Mode) (memory : List ℕ) (va place : ℕ) (access : Access)
-    → place_in (context_of csrs mode) (privilege_of csrs mode) memory va access ≡ Some place
+    → translated_place (context_of csrs mode) (privilege_of csrs mode) memory va access ≡ Some place
     → Ok place ≡ answer_of csrs 0 memory (located_by_walk csrs mode 0 memory va access)
 unfolding first_stage
 answered csrs mode memory va place access is =
     answer_at csrs mode memory va place access (found_in (context_of csrs mode) (privilege_of csrs mode) memory va access) is
 
 pub answered_if : (csrs : Csrs) (mode : Mode) (memory : List ℕ) (va : ℕ) (access : Access) (found : Option ℕ)
-    → found ≡ place_in (context_of csrs mode) (privilege_of csrs mode) memory va access
+    → found ≡ translated_place (context_of csrs mode) (privilege_of csrs mode) memory va access
     → IfSome found (λ place. Ok place ≡ answer_of csrs 0 memory (located_by_walk csrs mode 0 memory va access))
 answered_if csrs mode memory va access (Some place) is = answered csrs mode memory va place access (sym is)
 answered_if csrs mode memory va access None is = tt
@@ -90,7 +90,7 @@ offset_of : (a address : ℕ) → 4096 * (address / 4096) + a % 4096 ≡ address
 offset_of a address is = omega (arith, is)
 
 pub placed_inside : (context : Context) (who : Privilege) (memory : List ℕ) (va place : ℕ) (access : Access) → length memory % 4096 ≡ 0
-    → place_in context who memory va access ≡ Some place → IsPlaceOf 0 memory va place
+    → translated_place context who memory va access ≡ Some place → IsPlaceOf 0 memory va place
 placed_inside context who memory va place access whole is = by (found_in context who memory va access) refl is
   where
     by : (found : Found) → found_in context who memory va access ≡ found → placed_by (second_in context memory) access found ≡ Some place → IsPlaceOf 0 memory va place

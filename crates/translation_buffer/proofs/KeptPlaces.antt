@@ -28,7 +28,7 @@ use Rattle.stage_walk.proofs.Chains.{walks_alike}
 use Rattle.two_stage_walk.specs.Reads.{EntryReads, FirstReads, SecondReads, placed_by}
 use Rattle.translation_buffer.specs.declared.contexts.Context.{Context}
 use Rattle.translation_buffer.specs.Laws.{TranslationsStay}
-use Rattle.translation_buffer.specs.Places.{Reads, found_in, place_in, second_in}
+use Rattle.translation_buffer.specs.Places.{Reads, found_in, translated_place, second_in}
 use Rattle.translation_buffer.proofs.OnePage.{found_near, offset_under, second_near}
 
 -- readings that agree where something holds of a multiple of 8 agree on entries of which it holds
@@ -144,7 +144,7 @@ translations_stay frames context who memory other va near place access size read
     kept = first_kept frames memory other context.mxr context.second who va access context.first size same reads.first
 
     by : (found : Found) → found_in context who memory va access ≡ found → placed_by (second_in context memory) access found ≡ Some place
-        → place_in context who other near access ≡ Some (4096 * (place / 4096) + near % 4096)
+        → translated_place context who other near access ≡ Some (4096 * (place / 4096) + near % 4096)
     by (Passes address) at placed =
         let whole : length other % 4096 ≡ 0 = rw same.size size in
         let then' : second_in context other address access ≡ Some place = second_kept frames memory other context.mxr context.second address access same (reads.last address at) ∙ placed in

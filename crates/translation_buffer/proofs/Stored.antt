@@ -15,18 +15,18 @@ use Rattle.arch_defs.proofs.FrameSets.{kept, only_pasted}
 use Rattle.op_defs.specs.declared.ops.Purpose.{Purpose}
 use Rattle.op_defs.specs.declared.ops.Purpose.TheVariants.{Load, LoadCode, Store, Reserve, StoreReserved, Modify}
 use Rattle.machine_defs.specs.Core.{completed, is_reserved, stored_if, storing}
-use Rattle.frame_set.specs.Holding.{holds}
+use Rattle.frame_set.specs.Holding.{has_frame}
 use Rattle.translation_buffer.specs.declared.buffers.Buffer.{Buffer}
 use Rattle.translation_buffer.specs.Serving.{Serves}
 use Rattle.translation_buffer.proofs.KeptSlots.{all_same}
 
 -- where only other frames changed
 pub serves_only : (buffer : Buffer) (csrs : Csrs) (mode : Mode) (memory other : List ℕ) (changed : Frames) → Serves buffer csrs mode memory
-    → Apart (holds buffer.read) changed → Only changed memory other → Serves buffer csrs mode other
+    → Apart (has_frame buffer.read) changed → Only changed memory other → Serves buffer csrs mode other
 serves_only buffer csrs mode memory other changed serves apart only = record {
   context = serves.context;
   who = serves.who;
-  slots = all_same (holds buffer.read) memory other buffer.context buffer.slots (kept (holds buffer.read) changed memory other apart only) serves.slots;
+  slots = all_same (has_frame buffer.read) memory other buffer.context buffer.slots (kept (has_frame buffer.read) changed memory other apart only) serves.slots;
 }
 
 -- one frame
@@ -41,9 +41,9 @@ in_frame : (place n at : ℕ) → place % 4096 + n ≤ 4096 → place ≤ at →
 in_frame place n at one from to = omega (arith, one, from, to)
 
 pub serves_pasted : (buffer : Buffer) (csrs : Csrs) (mode : Mode) (memory : List ℕ) (place : ℕ) (piece : List ℕ) → Serves buffer csrs mode memory
-    → holds buffer.read (place / 4096) ≡ false → place % 4096 + length piece ≤ 4096 → place + length piece ≤ length memory → Serves buffer csrs mode (pasted memory place piece)
+    → has_frame buffer.read (place / 4096) ≡ false → place % 4096 + length piece ≤ 4096 → place + length piece ≤ length memory → Serves buffer csrs mode (pasted memory place piece)
 serves_pasted buffer csrs mode memory place piece serves free one inside =
-    serves_only buffer csrs mode memory (pasted memory place piece) (λ f. f == place / 4096) serves (one_apart (holds buffer.read) (place / 4096) free)
+    serves_only buffer csrs mode memory (pasted memory place piece) (λ f. f == place / 4096) serves (one_apart (has_frame buffer.read) (place / 4096) free)
     (only_pasted (λ f. f == place / 4096) memory place piece inside (λ at from to. eq-eqb (at / 4096) (place / 4096) (in_frame place (length piece) at one from to)))
 
 -- the store of an instruction
@@ -60,7 +60,7 @@ no_start : (a b : ℕ) → a ≤ 0 + b → a ≤ b
 no_start a b less = omega (arith, less)
 
 pub serves_stored : (buffer : Buffer) (csrs : Csrs) (mode : Mode) (memory : List ℕ) (width : Width) (place value : ℕ) → Serves buffer csrs mode memory
-    → holds buffer.read (place / 4096) ≡ false → place % bytes_in width ≡ 0 → place + bytes_in width ≤ 0 + length memory
+    → has_frame buffer.read (place / 4096) ≡ false → place % bytes_in width ≡ 0 → place + bytes_in width ≤ 0 + length memory
     → Serves buffer csrs mode (with_stored 0 (storing place width value) memory)
 serves_stored buffer csrs mode memory width place value serves free aligned inside =
     let size : length (little_bytes (bytes_in width) value) ≡ bytes_in width = length-bytes_low_first 0 (bytes_in width) value in
@@ -71,7 +71,7 @@ serves_stored buffer csrs mode memory width place value serves free aligned insi
 
 -- and of an instruction with any purpose
 pub serves_completed : (buffer : Buffer) (csrs : Csrs) (mode : Mode) (memory : List ℕ) (reading : Reading) (state : Virtual) (width : Width) (purpose : Purpose) (place : ℕ) → Serves buffer csrs mode memory
-    → holds buffer.read (place / 4096) ≡ false → place % bytes_in width ≡ 0 → place + bytes_in width ≤ 0 + length memory
+    → has_frame buffer.read (place / 4096) ≡ false → place % bytes_in width ≡ 0 → place + bytes_in width ≤ 0 + length memory
     → Serves buffer csrs mode (with_stored 0 (completed reading state width purpose place).stored memory)
 serves_completed buffer csrs mode memory reading state width (Load signed rd) place serves free aligned inside = serves
 serves_completed buffer csrs mode memory reading state width (LoadCode rd) place serves free aligned inside = serves
@@ -86,7 +86,7 @@ serves_completed buffer csrs mode memory reading state width (Modify op operand 
 
 -- a doubleword
 pub serves_doubleword : (buffer : Buffer) (csrs : Csrs) (mode : Mode) (memory : List ℕ) (place value : ℕ) → Serves buffer csrs mode memory
-    → holds buffer.read (place / 4096) ≡ false → place % 8 ≡ 0 → place < length memory → length memory % 4096 ≡ 0
+    → has_frame buffer.read (place / 4096) ≡ false → place % 8 ≡ 0 → place < length memory → length memory % 4096 ≡ 0
     → Serves buffer csrs mode (pasted memory place (little_bytes 8 value))
 serves_doubleword buffer csrs mode memory place value serves free aligned inside whole =
     let size : length (little_bytes 8 value) ≡ 8 = length-bytes_low_first 0 8 value in

@@ -14,8 +14,8 @@ use Rattle.arch_defs.specs.declared.walks.Found.TheVariants.{Passes}
 use Rattle.std.specs.Prelude.{◌≡◌}
 use Rattle.translation_buffer.specs.declared.contexts.Context.{Context}
 
--- what the translations of a mode are made under: the roots of both stages, and sstatus.MXR, which counts in the
--- second stage too (Privileged Architecture 20211203, 8.5.1)
+-- what the translations of a mode are made under: the roots of both stages, and sstatus.MXR, which counts in
+-- the second stage too (Privileged Architecture 20211203, 8.5.1)
 abbrev pub context_of : Csrs → Mode → Context
 context_of csrs mode = record {
   first = (supervisor_of csrs mode).atp;
@@ -30,10 +30,10 @@ abbrev pub found_in : Context → Privilege → List ℕ → ℕ → Access → 
 found_in context who memory va access =
     found_under (second_in context memory) (reading_of 0 memory) who va access context.first
 
--- the place of an access at a virtual address, if both stages give one. Translations are kept for this function
--- of memory alone
-abbrev pub place_in : Context → Privilege → List ℕ → ℕ → Access → Option ℕ
-place_in context who memory va access =
+-- the place of an access at a virtual address, if both stages give one. Translations are kept for this
+-- function of memory alone
+abbrev pub translated_place : Context → Privilege → List ℕ → ℕ → Access → Option ℕ
+translated_place context who memory va access =
     placed_by (second_in context memory) access (found_in context who memory va access)
 
 -- all entries that it reads lie in these frames

@@ -8,12 +8,12 @@ use Rattle.arch_defs.specs.declared.registers.Csrs.{Csrs}
 use Rattle.arch_defs.specs.declared.walks.Privilege.{Privilege}
 use Rattle.arch_defs.specs.Frames.{Frames, Same}
 use Rattle.arch_defs.specs.Translation.{privilege_of}
-use Rattle.frame_set.specs.Holding.{holds}
+use Rattle.frame_set.specs.Holding.{has_frame}
 use Rattle.translation_buffer.specs.declared.buffers.Buffer.{Buffer}
 use Rattle.translation_buffer.specs.declared.contexts.Context.{Context}
 use Rattle.translation_buffer.specs.declared.slots.Slot.{Slot}
 use Rattle.translation_buffer.specs.declared.slots.Slots.{Slots}
-use Rattle.translation_buffer.specs.Places.{context_of, place_in}
+use Rattle.translation_buffer.specs.Places.{context_of, translated_place}
 
 -- for whom an access is made, above the 52 bits of a page's number
 abbrev pub bit_of : Bool → ℕ
@@ -27,11 +27,13 @@ who_bits who = 2 ^ 52 * (bit_of who.user + 2 * bit_of who.sum + 4 * bit_of who.m
 abbrev pub tag_of : Privilege → ℕ → ℕ
 tag_of who va = who_bits who + va / 4096
 
--- a slot says, in each memory in which these frames are the same, where each address with its tag has its place
-pub record Stands (frames : Frames) (memory : List ℕ) (context : Context) (kind : Access) (slot : Slot)
+-- a slot says, in each memory in which these frames are the same, where each address with its tag has its
+-- place
+pub record GivesPlaces (frames : Frames) (memory : List ℕ) (context : Context) (kind : Access) (slot : Slot)
     : Type 0 where
   pub place : (other : List ℕ) (who : Privilege) (va : ℕ) → Same frames memory other → va < 2 ^ 64
-      → slot.tag ≡ tag_of who va → place_in context who other va kind ≡ Some (4096 * slot.frame + va % 4096)
+      → slot.tag ≡ tag_of who va
+      → translated_place context who other va kind ≡ Some (4096 * slot.frame + va % 4096)
 
 -- the slots of a kind of access; there are none for HLVX and for entries
 abbrev pub slots_of : Slots → Access → List Slot
@@ -43,11 +45,11 @@ slots_of slots Implicit = []
 
 abbrev pub AllStand : Frames → List ℕ → Context → Slots → Type 0
 AllStand frames memory context slots =
-    (kind : Access) → All (Stands frames memory context kind) (slots_of slots kind)
+    (kind : Access) → All (GivesPlaces frames memory context kind) (slots_of slots kind)
 
--- a buffer serves the accesses of a mode: it is for its roots and for whom it accesses, and all slots stand by the
--- frames that were read
+-- a buffer serves the accesses of a mode: it is for its roots and for whom it accesses, and all slots stand
+-- by the frames that were read
 pub record Serves (buffer : Buffer) (csrs : Csrs) (mode : Mode) (memory : List ℕ) : Type 0 where
   pub context : buffer.context ≡ context_of csrs mode
   pub who : buffer.who ≡ who_bits (privilege_of csrs mode)
-  pub slots : AllStand (holds buffer.read) memory buffer.context buffer.slots
+  pub slots : AllStand (has_frame buffer.read) memory buffer.context buffer.slots

@@ -6,10 +6,10 @@ ghost use Rattle.arch_defs.specs.declared.registers.Csrs.{Csrs};
 ghost use Rattle.arch_defs.specs.Frames.{Frames, Within};
 ghost use Rattle.arch_defs.specs.Translation.{privilege_of};
 ghost use Rattle.machine_defs.specs.Answers.{answer_of, located_by_walk};
-ghost use Rattle.frame_set.specs.Holding.{holds};
+ghost use Rattle.frame_set.specs.Holding.{has_frame};
 ghost use Rattle.two_stage_walk.specs.Places.{IsPlaceOf};
-ghost use Rattle.translation_buffer.specs.Places.{Reads, context_of, place_in};
-ghost use Rattle.translation_buffer.specs.Serving.{AllStand, Serves, Stands, bit_of, tag_of, who_bits};
+ghost use Rattle.translation_buffer.specs.Places.{Reads, context_of, translated_place};
+ghost use Rattle.translation_buffer.specs.Serving.{AllStand, Serves, GivesPlaces, bit_of, tag_of, who_bits};
 
 use crate::contexts::Context;
 use crate::slots::{Slot, Slots};
@@ -53,10 +53,10 @@ fn place_noted(
     access: Access,
     read: &mut FrameSet,
 ) -> Option<u64>
-    ensures place { result ≡ place_in context.now who memory.now va access }
+    ensures place { result ≡ translated_place context.now who memory.now va access }
     ensures inside { IfSome result (λ place. IsPlaceOf 0 memory.now va place) }
-    ensures more { Within (holds read.old) (holds read.new) }
-    ensures noted { (frames : Frames) → Within (holds read.new) frames
+    ensures more { Within (has_frame read.old) (has_frame read.new) }
+    ensures noted { (frames : Frames) → Within (has_frame read.new) frames
         → Reads frames context.now who memory.now va access }
 {
     memory_is_whole(memory);
@@ -96,7 +96,7 @@ impl Buffer {
         ensures who { self.new.who ≡ self.old.who }
         ensures slots { (frames : Frames) (memory : List ℕ) (context : Context)
             → AllStand frames memory context self.new.slots }
-        ensures read { (frame : ℕ) → holds self.new.read frame ≡ false }
+        ensures read { (frame : ℕ) → has_frame self.new.read frame ≡ false }
     {
         self.slots.clear();
         self.read.clear();
@@ -128,7 +128,7 @@ impl Buffer {
     /// more.
     #[inline]
     pub fn open(&mut self, place: u64)
-        ensures apart { holds self.new.read (place / 4096) ≡ false }
+        ensures apart { has_frame self.new.read (place / 4096) ≡ false }
         ensures serves { (csrs : Csrs) (mode : Mode) (memory : List ℕ)
             → Serves self.old csrs mode memory → Serves self.new csrs mode memory }
     {
@@ -142,7 +142,7 @@ impl Buffer {
     pub fn find(&self, va: u64, access: Access) -> Option<u64>
         ensures { (csrs : Csrs) (mode : Mode) (memory : List ℕ) → Serves self.now csrs mode memory
             → IfSome result (λ place.
-            place_in (context_of csrs mode) (privilege_of csrs mode) memory va access ≡ Some place) }
+            translated_place (context_of csrs mode) (privilege_of csrs mode) memory va access ≡ Some place) }
     {
         let slot = self.slots.slot(va, access);
         if slot.tag == self.who.wrapping_add(va / 4096) {
@@ -164,7 +164,7 @@ impl Buffer {
     ) -> Option<u64>
         requires serves { Serves self.old csrs.now mode memory.now }
         ensures place { result
-            ≡ place_in (context_of csrs.now mode) (privilege_of csrs.now mode) memory.now va access }
+            ≡ translated_place (context_of csrs.now mode) (privilege_of csrs.now mode) memory.now va access }
         ensures inside { IfSome result (λ place. IsPlaceOf 0 memory.now va place) }
         ensures serves { Serves self.new csrs.now mode memory.now }
     {

@@ -5,7 +5,7 @@ ghost use Rattle.std.specs.List.{All};
 ghost use Rattle.arch_defs.specs.declared.modes.Access.{Access};
 ghost use Rattle.arch_defs.specs.Frames.{Frames};
 ghost use Rattle.translation_buffer.specs.declared.contexts.Context.{Context};
-ghost use Rattle.translation_buffer.specs.Serving.{AllStand, Stands};
+ghost use Rattle.translation_buffer.specs.Serving.{AllStand, GivesPlaces};
 
 use arch_defs::Access;
 
@@ -51,7 +51,7 @@ pub struct Slots {
 #[tactic(auto, using(crate::proofs::KeptSlots::all_none))]
 fn no_slots() -> [Slot; 16]
     ensures { (frames : Frames) (memory : List ℕ) (context : Context) (kind : Access)
-        → All (Stands frames memory context kind) result }
+        → All (GivesPlaces frames memory context kind) result }
 {
     [Slot::none(); 16]
 }
@@ -61,7 +61,7 @@ fn no_slots() -> [Slot; 16]
 #[tactic(auto, using(crate::proofs::KeptSlots::all_none))]
 fn clear(slots: &mut [Slot])
     ensures { (frames : Frames) (memory : List ℕ) (context : Context) (kind : Access)
-        → All (Stands frames memory context kind) slots.new }
+        → All (GivesPlaces frames memory context kind) slots.new }
 {
     slots.fill(Slot::none());
 }
@@ -97,7 +97,7 @@ impl Slots {
     #[inline]
     pub fn slot(&self, va: u64, access: Access) -> Slot
         ensures { (frames : Frames) (memory : List ℕ) (context : Context)
-            → AllStand frames memory context self.now → Stands frames memory context access result }
+            → AllStand frames memory context self.now → GivesPlaces frames memory context access result }
     {
         let at = (va / 4096 % 16) as usize;
         match access {
@@ -111,7 +111,7 @@ impl Slots {
     /// Keeps a slot for an address and a kind of access.
     pub fn keep(&mut self, va: u64, access: Access, slot: Slot)
         ensures { (frames : Frames) (memory : List ℕ) (context : Context)
-            → Stands frames memory context access slot → AllStand frames memory context self.old
+            → GivesPlaces frames memory context access slot → AllStand frames memory context self.old
             → AllStand frames memory context self.new }
     {
         let at = (va / 4096 % 16) as usize;

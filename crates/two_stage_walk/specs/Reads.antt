@@ -26,7 +26,8 @@ placed_by second access (MissesEntry place) = None
 abbrev pub SecondReads : Frames → ℕ → List ℕ → ℕ → Access → GuestRoot → Type 0
 SecondReads frames base bytes address kind guest.Bare = Unit {0}
 SecondReads frames base bytes address kind (guest.Table mode vmid ppn) =
-    Each (LiesIn frames) (path (memory_words base bytes) (guest_root_frame ppn) (guest_shape mode) address kind)
+    Each (LiesIn frames)
+    (path (memory_words base bytes) (guest_root_frame ppn) (guest_shape mode) address kind)
 
 -- so do those read for the first-stage entry at a guest physical address, and this entry itself
 pub record EntryReads (base : ℕ) (bytes : List ℕ) (mxr : Bool) (root : GuestRoot) (frames : Frames) (at : ℕ)

@@ -9,13 +9,13 @@ use Rattle.rv64_asm.specs.Plans.{ImagePlan, IsImage, byte_at, size}
 use Rattle.work_images.specs.Numbers.{number}
 use Rattle.work_images.specs.Commands.{commands_from, list_bytes}
 use Rattle.work_images.specs.Program.{image_plan}
-use Rattle.work_images.specs.Guests.{guest, guest_name, guest_with, guests, image_from, image_of}
+use Rattle.work_images.specs.Guests.{guest, guest_name, guest_with, guests, image_from, image_bytes}
 use Rattle.work_images.proofs.Drawing.{length_list}
 use Rattle.work_images.proofs.Parts.{size_is}
 
 -- an image has one list of bytes
-pub image_is : (plan : ImagePlan) (image : List ℕ) → IsImage plan image → image ≡ image_of plan
-unfolding image_of
+pub image_is : (plan : ImagePlan) (image : List ℕ) → IsImage plan image → image ≡ image_bytes plan
+unfolding image_bytes
 image_is plan image h = ext_get_or 0 image (map (byte_at plan) (range_with_len 0 (size plan)))
     (h.ends ∙ sym (length-map-range_with_len (byte_at plan) 0 (size plan)))
     (λ i below. let here : i < size plan = omega (arith, h.ends) in
@@ -32,7 +32,7 @@ one_guest_more seed count g y image made before after e f h k l =
     ∙ sym (map-range_with_len_more (guest seed count) 0 g g (omega arith))
 
 pub image_length : (seed count g : ℕ) → length (guest seed count g).image ≡ 131072 + 32 * count + 8
-unfolding image_of
+unfolding image_bytes
 image_length seed count g =
     let commands = list_bytes (commands_from (number seed (4 * (count * g))) count) in
     let n : length commands ≡ 32 * count + 8 = length_list (number seed (4 * (count * g))) count in

@@ -14,8 +14,8 @@ abbrev pub mapping : ℕ → ℕ
 mapping page = if page == 15 then 0 else (0x8000A + page) * 0x400 + 0xD7
 
 -- the command by what is drawn for it: the index of the entry to store and its page, whether to fence the
--- page that this entry maps, where 0 is yes, and which page the nested guest is to read. A fence has the guest
--- physical address divided by 4; entry 0 maps the nested guest's code, and is left as it is
+-- page that this entry maps, where 0 is yes, and which page the nested guest is to read. A fence has the
+-- guest physical address divided by 4; entry 0 maps the nested guest's code, and is left as it is
 abbrev pub command : ℕ → ℕ → ℕ → ℕ → Command
 command slot page fenced read = record {
   address = slot_address slot;

@@ -8,12 +8,12 @@ use Rattle.work_images.specs.Commands.{commands_from, list_bytes}
 use Rattle.work_images.specs.Program.{image_plan}
 
 -- the bytes of an image
-unfoldable pub image_of : ImagePlan → List ℕ
-image_of plan = map (byte_at plan) (range_with_len 0 (size plan))
+unfoldable pub image_bytes : ImagePlan → List ℕ
+image_bytes plan = map (byte_at plan) (range_with_len 0 (size plan))
 
 -- the image of so many commands that are drawn from a number on
 abbrev pub image_from : ℕ → ℕ → List ℕ
-image_from x count = image_of (image_plan (list_bytes (commands_from x count)))
+image_from x count = image_bytes (image_plan (list_bytes (commands_from x count)))
 
 -- `g` and a digit
 abbrev pub guest_name : ℕ → List ℕ

@@ -29,9 +29,9 @@ with_line plan (line.DoubleAt place value) = with_piece plan (piece_of place (li
 with_line plan (line.ByteAt place value) = with_piece plan (piece_of place (value ∷ []))
 
 -- an image with more lines
-unfoldable pub with_lines : ImagePlan → List Line → ImagePlan
-with_lines plan [] = plan
-with_lines plan (line ∷ rest) = with_lines (with_line plan line) rest
+unfoldable pub with_all_lines : ImagePlan → List Line → ImagePlan
+with_all_lines plan [] = plan
+with_all_lines plan (line ∷ rest) = with_all_lines (with_line plan line) rest
 
 -- whether a line can be added: an op's fields fit, one that is aimed at a label can be, the label is not set
 -- yet, what is placed ends at 2 ^ 26 at most

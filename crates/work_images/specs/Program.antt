@@ -7,7 +7,7 @@ use Rattle.work_images.specs.declared.lines.Line.{Line}
 use Rattle.work_images.specs.declared.lines.Line.TheVariants as line
 use Rattle.work_images.specs.Instructions.{auipc, lui, addi, add, ld, lbu, sd, csrrw, csrrs, beq, jal}
 use Rattle.work_images.specs.Instructions.{hfence_gvma, ecall, sret, sstatus, stvec, sepc, scause, vsatp, hstatus, hgatp}
-use Rattle.work_images.specs.Lines.{with_lines, piece_of}
+use Rattle.work_images.specs.Lines.{with_all_lines, piece_of}
 
 -- x8 is where the image begins, x9 the next command. hgatp and vsatp come from the image, traps go to place
 -- 0x60; SPP and SPV are set, so that SRET enters the nested guest in VS
@@ -65,8 +65,8 @@ handler =
     ∷ []
 
 -- a table entry that names the page or the next table at an address, with its low bits
-abbrev pub entry_at : ℕ → ℕ → ℕ
-entry_at address bits = address / 2 ^ 12 * 2 ^ 10 + bits
+abbrev pub entry_for : ℕ → ℕ → ℕ
+entry_for address bits = address / 2 ^ 12 * 2 ^ 10 + bits
 
 -- the nested guest, which reads the byte that x11 points to and traps; hgatp (Sv39x4, VMID 1, the root's page
 -- number), vsatp (Bare), and the table: root, next level, last level with one page of code (V, R, X, U, A)
@@ -76,9 +76,9 @@ nested =
     ∷ line.OpAt 0x1004 ecall
     ∷ line.DoubleAt 0x400 (8 * 2 ^ 60 + 1 * 2 ^ 44 + 0x80004)
     ∷ line.DoubleAt 0x408 0
-    ∷ line.DoubleAt 0x4000 (entry_at 0x80008000 0b00000001)
-    ∷ line.DoubleAt 0x8000 (entry_at 0x80009000 0b00000001)
-    ∷ line.DoubleAt 0x9000 (entry_at 0x80001000 0b01011011)
+    ∷ line.DoubleAt 0x4000 (entry_for 0x80008000 0b00000001)
+    ∷ line.DoubleAt 0x8000 (entry_for 0x80009000 0b00000001)
+    ∷ line.DoubleAt 0x9000 (entry_for 0x80001000 0b01011011)
     ∷ []
 
 -- the 15 pages of data, each with a letter
@@ -93,4 +93,4 @@ program = setup ++ serving ++ handler ++ nested ++ letters
 
 -- the whole image: the program, and from place 0x20000 on the bytes of its commands
 unfoldable pub image_plan : List ℕ → ImagePlan
-image_plan commands = with_piece (with_lines empty_plan program) (piece_of 0x20000 commands)
+image_plan commands = with_piece (with_all_lines empty_plan program) (piece_of 0x20000 commands)

@@ -1,7 +1,7 @@
 // A program line by line.
 
 ghost use Rattle.std.specs.Prelude.{◌≡◌, true, OnOk};
-ghost use Rattle.work_images.specs.Lines.{can_add, can_add_all, id_of, with_line, with_lines};
+ghost use Rattle.work_images.specs.Lines.{can_add, can_add_all, id_of, with_line, with_all_lines};
 
 use no_memory::NoMemory;
 use op_defs::Op;
@@ -66,7 +66,7 @@ impl Line {
 /// Adds lines to an image, in order.
 pub fn add_all(image: &mut Image, lines: &[Line]) -> Result<(), NoMemory>
     requires { can_add_all image.old lines.now ≡ true }
-    ensures { OnOk result (image.new ≡ with_lines image.old lines.now) }
+    ensures { OnOk result (image.new ≡ with_all_lines image.old lines.now) }
 {
     for line in lines {
         line.add(image)?;

@@ -2,9 +2,9 @@
 
 ghost use Rattle.std.specs.Prelude.{◌≡◌, ◌≤◌, length, IfOk, OnOk};
 ghost use Rattle.rv64_asm.specs.Plans.{empty_plan};
-ghost use Rattle.work_images.specs.Lines.{with_lines};
+ghost use Rattle.work_images.specs.Lines.{with_all_lines};
 ghost use Rattle.work_images.specs.Program.{handler, image_plan, letters, nested, program, serving, setup};
-ghost use Rattle.work_images.specs.Guests.{image_of};
+ghost use Rattle.work_images.specs.Guests.{image_bytes};
 
 use crate::instructions::{
     add, addi, auipc, beq, csrrs, csrrw, hfence_gvma, jal, lbu, ld, lui, sd,
@@ -107,7 +107,7 @@ fn nested() -> [Line; 7]
 
 // Adds a letter to each page of data.
 fn add_letters(image: &mut Image) -> Result<(), NoMemory>
-    ensures { OnOk result (image.new ≡ with_lines image.old letters) }
+    ensures { OnOk result (image.new ≡ with_all_lines image.old letters) }
 {
     for page in 0..15u8 {
         Line::ByteAt(0xA000 + 0x1000 * page as u64, 65 + page).add(image)?;
@@ -118,7 +118,7 @@ fn add_letters(image: &mut Image) -> Result<(), NoMemory>
 // The program, without commands.
 fn add_program(image: &mut Image) -> Result<(), NoMemory>
     requires { image.old ≡ empty_plan }
-    ensures { OnOk result (image.new ≡ with_lines image.old program) }
+    ensures { OnOk result (image.new ≡ with_all_lines image.old program) }
 {
     add_all(image, &setup())?;
     add_all(image, &serving())?;
@@ -131,7 +131,7 @@ fn add_program(image: &mut Image) -> Result<(), NoMemory>
 /// The image with these bytes of commands.
 pub fn image_with(alloc: Global, commands: &[u8]) -> Result<Vec<u8>, NoMemory>
     requires { length commands.now ≤ 320008 }
-    ensures { IfOk result (λ v. v.items ≡ image_of (image_plan commands.now)) }
+    ensures { IfOk result (λ v. v.items ≡ image_bytes (image_plan commands.now)) }
 {
     let mut image = Image::new(alloc);
     add_program(&mut image)?;

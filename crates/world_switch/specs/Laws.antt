@@ -164,8 +164,8 @@ abbrev pub NestedTrapsAlike : Type 0
 NestedTrapsAlike = (root : GuestRoot) (v : Virtual) (trap : Trap) → is_virtual v.mode ≡ true
     → TakesAlike root v trap trap
 
--- what the guest that has this part has after it was saved from the hart: what the same hart gives it with its
--- reservation, if it has one, at the guest's own address
+-- what the guest that has this part has after it was saved from the hart: what the same hart gives it with
+-- its reservation, if it has one, at the guest's own address
 abbrev pub Saves : Layout → Virtual → Virtual → Virtual → Type 0
 Saves part hart before after =
     (own : Virtual) → ReservesWithin (in_ram part.blocks) own.reservation

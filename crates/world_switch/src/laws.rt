@@ -29,8 +29,8 @@ pub fn instructions_alike()
     ensures time { TimeIsLeft }
 {}
 
-/// Each trap that the hart delegates is one that the guest takes, at the level for which the hart's VS stands:
-/// HS with V = 0, and VS with V = 1.
+/// Each trap that the hart delegates is one that the guest takes, at the level for which the hart's VS
+/// stands: HS with V = 0, and VS with V = 1.
 pub fn traps_alike()
     ensures exceptions { ExceptionsAlike }
     ensures interrupts { InterruptsAlike }

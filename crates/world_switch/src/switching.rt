@@ -20,9 +20,9 @@ use trap_delegation::is_virtual;
 /// that a guest with V = 1 can delegate.
 const OWN_EXCEPTIONS: u64 = 0xB1FF;
 
-/// Sets what the hart has for the guest that has this part: its VS and VU stand for the guest's HS and U with
-/// V = 0, and for its VS and VU with V = 1, under the table whose root begins at the frame `root`. The guest's
-/// reservation is at its place in machine memory.
+/// Sets what the hart has for the guest that has this part: its VS and VU stand for the guest's HS and U
+/// with V = 0, and for its VS and VU with V = 1, under the table whose root begins at the frame `root`. The
+/// guest's reservation is at its place in machine memory.
 pub fn load(virt: &Virtual, part: &Part, root: u64, hart: &mut HartState)
     requires held { ReservesWithin (in_ram part.now.blocks) virt.now.reservation }
     ensures has { hart.new ≡ hart_state_in part.now (table_from root) virt.now }
@@ -45,7 +45,8 @@ pub fn to_guest_hs(virt: &Virtual, part: &Part, root: u64, hart: &mut HartState)
     set_others(virt, part, hart);
 }
 
-/// Sets what the hart has for a guest with V = 1: its VS stands for the guest's VS, its VU for the guest's VU.
+/// Sets what the hart has for a guest with V = 1: its VS stands for the guest's VS, its VU for the guest's
+/// VU.
 pub fn to_nested(virt: &Virtual, part: &Part, root: u64, hart: &mut HartState)
     requires nested { is_virtual virt.now.mode ≡ true }
     requires held { ReservesWithin (in_ram part.now.blocks) virt.now.reservation }

@@ -1,7 +1,7 @@
 use Rattle.std.proofs.Common.{◌≡◌, ℕ, ◌^◌, ◌<◌, ◌≤◌}
 use Rattle.arch_defs.specs.Frames.{Frames, Within}
 use Rattle.arch_defs.specs.Walk.{levels, path, path_from, walk}
-use Rattle.frame_set.specs.Holding.{holds}
+use Rattle.frame_set.specs.Holding.{has_frame}
 use Rattle.stage_walk.specs.ByLevels.{walk_from}
 use Rattle.stage_walk.specs.Reads.{Each}
 use Rattle.stage_walk.proofs.NotedWalks.{Goes}
@@ -13,8 +13,8 @@ invariant-loop-level g l = record {
       ≡ walk_from (g.N.NotingFetch.reading l.fn.fetch) l.shape l.va l.access l.level l.table;
   level : l.level ≤ levels l.shape;
   table : l.table < 2 ^ 44;
-  more : Within (holds l.fn.read) (holds l.read);
-  noted : Goes (g.N.NotingFetch.reads l.fn.fetch) (g.N.NotingFetch.reading l.fn.fetch) l.shape l.va l.access (holds l.read) l.fn.root l.level l.table;
+  more : Within (has_frame l.fn.read) (has_frame l.read);
+  noted : Goes (g.N.NotingFetch.reads l.fn.fetch) (g.N.NotingFetch.reading l.fn.fetch) l.shape l.va l.access (has_frame l.read) l.fn.root l.level l.table;
 }
 
 abbrev pub decreases-loop-level : goal.decreases-loop-level

@@ -1,0 +1,52 @@
+// The keys of spaces: values of hgatp, as numbers.
+
+ghost use Rattle.std.specs.Prelude.{◌≡◌};
+ghost use Rattle.arch_defs.specs.CsrBits.{guest_root_of, hgatp_bits};
+ghost use Rattle.arch_defs.specs.Roots.{is_root, vmid_of};
+
+use crate::registers::GuestRoot;
+use std::marker::Model;
+
+/// A value that hgatp can hold (Privileged Architecture 20211203, 8.2.10). Contracts see it as the root that
+/// it names.
+#[derive(Clone, Copy, Debug, PartialEq, Eq)]
+pub struct Key(u64);
+
+impl Model for Key {
+    ghost use Rattle.std.specs.Prelude.{◌≡◌};
+    ghost use Rattle.arch_defs.specs.declared.registers.GuestRoot.{GuestRoot};
+    ghost use Rattle.arch_defs.specs.CsrBits.{guest_root_of, hgatp_bits};
+
+    ghost Value = { GuestRoot };
+
+    ghost view = { λ k. guest_root_of k.0 };
+
+    ghost invariant = { λ k. hgatp_bits (guest_root_of k.0) ≡ k.0 };
+
+    ghost inverse = { λ root. record { 0 = hgatp_bits root } };
+}
+
+impl Key {
+    /// The value that hgatp holds after a write of `root`.
+    #[tactic(auto, using(crate::proofs::HgatpValues::written_once))]
+    pub fn of(root: GuestRoot) -> Key
+        ensures { result ≡ guest_root_of (hgatp_bits root) }
+    {
+        Key(root.bits())
+    }
+
+    /// Whether `other` is the same value: MODE, VMID and PPN.
+    #[tactic(auto, using(crate::proofs::HgatpValues::same_number))]
+    pub fn is_key(self, other: Key) -> bool
+        ensures { result ≡ is_root self other }
+    {
+        self.0 == other.0
+    }
+
+    /// Its VMID, 0 under Bare.
+    pub fn vmid(self) -> u64
+        ensures { result ≡ vmid_of self }
+    {
+        GuestRoot::of(self.0).vmid()
+    }
+}
