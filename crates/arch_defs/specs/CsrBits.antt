@@ -1,6 +1,6 @@
 -- The control and status registers as numbers: what a read shows, and how a write takes a number apart
 -- (Privileged Architecture 20211203). Bits that are not named read zero and ignore writes.
-use Rattle.std.specs.Prelude.{ℕ, ◌+◌, ◌*◌, ◌%◌, ◌^◌, Bool, true, false, ◌&&◌, ◌==◌, if◌then◌else◌}
+use Rattle.std.specs.Prelude.{ℕ, ◌+◌, ◌*◌, ◌%◌, ◌^◌, ◌&&◌, ◌==◌, if◌then◌else◌}
 use Rattle.arch_defs.specs.declared.registers.SupervisorStatus.{SupervisorStatus}
 use Rattle.arch_defs.specs.declared.registers.HypervisorStatus.{HypervisorStatus}
 use Rattle.arch_defs.specs.declared.registers.Interrupts.{Interrupts}

@@ -1,11 +1,11 @@
 -- What `parse` makes of a word of decimal digits.
-use Rattle.std.proofs.Common.{cond, ◌&&◌, ◌≡◌, ◌∙◌, ℕ, zero, suc, ◌^◌, ◌<◌, ◌≤◌, ◌==◌, Bool, true, false, List, [], ◌∷◌, Option, Some, None, Result, Ok, Err, length, nat_le, refl, ap, sym, arith}
+use Rattle.std.proofs.Common.{cond, ◌&&◌, ◌≡◌, ◌∙◌, ℕ, zero, suc, ◌^◌, ◌<◌, ◌≤◌, ◌==◌, Bool, true, false, List, Some, None, Result, Ok, Err, length, nat_le, refl, sym, arith}
 use Rattle.std.proofs.Common.{◌⊎◌, inl, inr}
 use Rattle.std.proofs.lemmas.Bool.{cases_lt}
 use Rattle.std.specs.Char.{is_ascii_digit}
 use Rattle.std.specs.List.{list_all}
 use Rattle.std.specs.Str.Parse.{ParsesUnsigned, digits_value}
-use Rattle.std.proofs.lemmas.Str.Parse.{IsDigitsTest, numerals_by_value, parse_digits, tells_all_ascii_digits}
+use Rattle.std.proofs.lemmas.Str.Parse.{IsDigitsTest, numerals_by_value, parse_digits}
 use Rattle.command_line.specs.Commands.{is_numeral, if_within}
 
 both_first : (a b : Bool) → (a && b) ≡ true → a ≡ true

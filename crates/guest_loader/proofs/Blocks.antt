@@ -1,5 +1,5 @@
 -- Block after block of a guest's RAM.
-use Rattle.std.proofs.Common.{◌≡◌, ℕ, ◌+◌, ◌-◌, ◌*◌, ◌/◌, ◌%◌, ◌<◌, ◌≤◌, true, List, [], ◌++◌, length, slice_index, take, drop, refl, sym, ap, subst, ◌∙◌, arith, length-append, length-drop}
+use Rattle.std.proofs.Common.{◌≡◌, ℕ, ◌+◌, ◌-◌, ◌*◌, ◌/◌, ◌%◌, ◌<◌, ◌≤◌, List, [], ◌++◌, length, slice_index, take, drop, refl, sym, ap, subst, ◌∙◌, arith, length-append, length-drop}
 use Rattle.std.proofs.lemmas.Nat.{div-mul-add, mod-mul-add, row_fits}
 use Rattle.std.proofs.lemmas.List.{length-take-le, take_all, drop_all, append-nil}
 use Rattle.arch_defs.specs.Memory.{block_size, loaded, pasted, zeros}

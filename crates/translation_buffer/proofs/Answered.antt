@@ -1,5 +1,5 @@
 -- The place of an access is the answer of the walks of now, and lies in memory.
-use Rattle.std.proofs.Common.{cond, ◌≡◌, ℕ, ◌+◌, ◌*◌, ◌/◌, ◌%◌, ◌^◌, ◌<◌, ◌≤◌, ◌∙◌, Bool, true, false, List, Option, Some, None, Ok, Err, length, refl, ap, sym, subst, arith}
+use Rattle.std.proofs.Common.{cond, ◌≡◌, ℕ, ◌+◌, ◌*◌, ◌/◌, ◌%◌, ◌<◌, ◌≤◌, ◌∙◌, Bool, true, false, List, Option, Some, None, Ok, length, refl, sym, subst, arith}
 use Rattle.std.specs.Prelude.{IfSome, nat_le, nat_lt, ◌&&◌, not}
 use Rattle.std.proofs.lemmas.Bool.{and_parts, leb-true, ltb-true}
 use Rattle.arch_defs.specs.declared.modes.Access.{Access}
@@ -12,7 +12,6 @@ use Rattle.arch_defs.specs.declared.second_walks.SecondWalkEnd.TheVariants.{Gues
 use Rattle.arch_defs.specs.declared.second_walks.SecondWalkEnd.TheVariants as walk_end
 use Rattle.arch_defs.specs.declared.walks.Found.{Found}
 use Rattle.arch_defs.specs.declared.walks.Found.TheVariants.{Passes, PageFaults, MissesEntry}
-use Rattle.arch_defs.specs.declared.walks.LeafPte.{LeafPte}
 use Rattle.arch_defs.specs.declared.walks.Privilege.{Privilege}
 use Rattle.arch_defs.specs.declared.walks.WalkEnd.{WalkEnd}
 use Rattle.arch_defs.specs.declared.walks.WalkEnd.TheVariants.{Leaf, PageFault, FetchEnd}
@@ -23,7 +22,7 @@ use Rattle.arch_defs.specs.SecondStage.{guest_root_frame, has_frame_of, memory_w
 use Rattle.arch_defs.specs.Translation.{first_stage, privilege_of}
 use Rattle.arch_defs.specs.Walk.{leaf_address, walk}
 use Rattle.machine_defs.specs.Answers.{answer_of, located_by_walk}
-use Rattle.machine_defs.specs.Core.{located_at, located_by}
+use Rattle.machine_defs.specs.Core.{located_by}
 use Rattle.two_stage_walk.specs.Places.{IsPlaceOf}
 use Rattle.two_stage_walk.specs.Reads.{placed_by}
 use Rattle.translation_buffer.specs.declared.contexts.Context.{Context}

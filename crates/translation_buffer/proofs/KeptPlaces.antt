@@ -1,6 +1,6 @@
 -- A place stays while the frames are the same that were read for it.
-use Rattle.std.proofs.Common.{cond, ◌≡◌, ℕ, zero, suc, ◌+◌, ◌-◌, ◌*◌, ◌/◌, ◌%◌, ◌^◌, ◌<◌, ◌≤◌, ◌∙◌, Bool, true, false, List, [], ◌∷◌, Option, Some, None, Result, Ok, Err, refl, ap, sym, subst, arith}
-use Rattle.std.specs.Prelude.{nat_le, nat_lt, ◌&&◌, not, length}
+use Rattle.std.proofs.Common.{cond, ◌≡◌, ℕ, zero, suc, ◌+◌, ◌-◌, ◌*◌, ◌/◌, ◌%◌, ◌^◌, ◌<◌, ◌≤◌, ◌∙◌, Bool, true, false, List, [], Option, Some, None, Ok, refl, ap, sym, arith}
+use Rattle.std.specs.Prelude.{length}
 use Rattle.arch_defs.specs.declared.modes.Access.{Access}
 use Rattle.arch_defs.specs.declared.modes.Access.TheVariants.{Implicit}
 use Rattle.arch_defs.specs.declared.registers.GuestRoot.{GuestRoot}
@@ -16,20 +16,19 @@ use Rattle.arch_defs.specs.declared.walks.Shape.{Shape}
 use Rattle.arch_defs.specs.declared.walks.WalkEnd.{WalkEnd}
 use Rattle.arch_defs.specs.declared.walks.WalkEnd.TheVariants.{Leaf, PageFault, FetchEnd}
 use Rattle.arch_defs.specs.Frames.{Frames, Same}
-use Rattle.arch_defs.specs.Memory.{Reading, SecondStage, bare, load, reading_of}
+use Rattle.arch_defs.specs.Memory.{bare, load, reading_of}
 use Rattle.arch_defs.specs.Roots.{guest_shape, supervisor_shape}
-use Rattle.arch_defs.specs.SecondStage.{guest_root_frame, has_bytes, memory_words, place_under, second_end, second_under, second_walk, walked}
-use Rattle.arch_defs.specs.Translation.{entry_word_at, entry_words_through, found_by, found_under, unread}
+use Rattle.arch_defs.specs.SecondStage.{guest_root_frame, memory_words, place_under, second_end, second_under, second_walk, walked}
+use Rattle.arch_defs.specs.Translation.{entry_word_at, entry_words_through, found_by, found_under}
 use Rattle.arch_defs.specs.Walk.{EntryReading, index, is_canonical, later, levels, met_in, next_of, path, path_from, place_of, walk}
 use Rattle.arch_defs.proofs.FrameSets.{load_kept}
 use Rattle.stage_walk.specs.Laws.{SameOn}
 use Rattle.stage_walk.specs.Reads.{Each, LiesIn}
 use Rattle.stage_walk.proofs.Chains.{walks_alike}
 use Rattle.two_stage_walk.specs.Reads.{EntryReads, FirstReads, SecondReads, placed_by}
-use Rattle.translation_buffer.specs.declared.contexts.Context.{Context}
 use Rattle.translation_buffer.specs.Laws.{TranslationsStay}
-use Rattle.translation_buffer.specs.Places.{Reads, found_in, translated_place, second_in}
-use Rattle.translation_buffer.proofs.OnePage.{found_near, offset_under, second_near}
+use Rattle.translation_buffer.specs.Places.{found_in, translated_place, second_in}
+use Rattle.translation_buffer.proofs.OnePage.{found_near, second_near}
 
 -- readings that agree where something holds of a multiple of 8 agree on entries of which it holds
 eighth : (table part : ℕ) → (4096 * table + 8 * part) % 8 ≡ 0

@@ -1,5 +1,5 @@
 -- Slots stand in other memories, by more frames, and where they are kept.
-use Rattle.std.proofs.Common.{◌≡◌, ℕ, ◌+◌, ◌-◌, ◌*◌, ◌/◌, ◌%◌, ◌^◌, ◌<◌, ◌≤◌, ◌∙◌, Bool, true, false, List, [], Some, length, get_or, set, replicate, refl, ap, sym, subst, arith}
+use Rattle.std.proofs.Common.{◌≡◌, ℕ, ◌+◌, ◌-◌, ◌*◌, ◌/◌, ◌%◌, ◌^◌, ◌<◌, ◌≤◌, ◌∙◌, Bool, true, false, List, Some, length, get_or, set, replicate, refl, ap, sym, subst, arith}
 use Rattle.std.specs.List.{All}
 use Rattle.std.proofs.lemmas.List.{get_or-replicate, length-replicate}
 use Rattle.std.proofs.lemmas.List.Elements.{All-set}
@@ -8,9 +8,9 @@ use Rattle.arch_defs.specs.declared.modes.Access.TheVariants.{Fetch, Load, Store
 use Rattle.arch_defs.specs.declared.modes.Mode.{Mode}
 use Rattle.arch_defs.specs.declared.registers.Csrs.{Csrs}
 use Rattle.arch_defs.specs.declared.walks.Privilege.{Privilege}
-use Rattle.arch_defs.specs.Frames.{Apart, Frames, Only, Same, Within}
+use Rattle.arch_defs.specs.Frames.{Frames, Same, Within}
 use Rattle.arch_defs.specs.Translation.{privilege_of}
-use Rattle.arch_defs.proofs.FrameSets.{kept, same_both, same_fewer, same_none}
+use Rattle.arch_defs.proofs.FrameSets.{same_both, same_fewer, same_none}
 use Rattle.frame_set.specs.Holding.{has_frame}
 use Rattle.translation_buffer.specs.declared.buffers.Buffer.{Buffer}
 use Rattle.translation_buffer.specs.declared.contexts.Context.{Context}

@@ -1,5 +1,5 @@
 -- The addresses of one page have their places in one frame.
-use Rattle.std.proofs.Common.{cond, ◌≡◌, ℕ, zero, suc, ◌+◌, ◌*◌, ◌/◌, ◌%◌, ◌^◌, ◌<◌, ◌∙◌, Bool, true, false, List, [], ◌∷◌, Option, Some, None, refl, ap, sym, arith}
+use Rattle.std.proofs.Common.{cond, ◌≡◌, ℕ, zero, suc, ◌+◌, ◌*◌, ◌/◌, ◌%◌, ◌^◌, ◌<◌, ◌∙◌, Bool, true, false, List, [], ◌∷◌, Some, None, refl, ap, sym, arith}
 use Rattle.std.specs.Prelude.{nat_le, nat_lt, ◌&&◌, not, length}
 use Rattle.std.proofs.lemmas.Bool.{le-leb, lt-ltb, ltb-true}
 use Rattle.std.proofs.lemmas.Nat.{mod-pow-add, pow-add}
@@ -11,8 +11,7 @@ use Rattle.arch_defs.specs.declared.registers.SupervisorRoot.{SupervisorRoot}
 use Rattle.arch_defs.specs.declared.registers.SupervisorRoot.TheVariants as supervisor
 use Rattle.arch_defs.specs.declared.second_walks.SecondWalkEnd.TheVariants.{GuestPageFault, AccessFault}
 use Rattle.arch_defs.specs.declared.second_walks.SecondWalkEnd.TheVariants as walk_end
-use Rattle.arch_defs.specs.declared.walks.Found.{Found}
-use Rattle.arch_defs.specs.declared.walks.Found.TheVariants.{Passes, PageFaults, MissesEntry}
+use Rattle.arch_defs.specs.declared.walks.Found.TheVariants.{Passes, PageFaults}
 use Rattle.arch_defs.specs.declared.walks.LeafPte.{LeafPte}
 use Rattle.arch_defs.specs.declared.walks.Next.{Next}
 use Rattle.arch_defs.specs.declared.walks.Next.TheVariants.{Ends, Below}

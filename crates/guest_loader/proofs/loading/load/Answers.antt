@@ -1,5 +1,4 @@
 use Rattle.std.proofs.Common.{◌≡◌, ◌<◌, ap, length, subst, arith}
-use Rattle.arch_defs.specs.Frames.{LieIn, in_blocks}
 use Rattle.guest_loader.specs.Progress.{IsLoadedUpTo}
 use Rattle.guest_loader.proofs.Blocks.{loaded_none, loaded_more, loaded_all}
 use Rattle.guest_loader.proofs.loading.load.Goals as goal
