@@ -1,11 +1,10 @@
 -- The spaces of cached second-stage translations of a guest, the most recently entered first, each for a
 -- whole value of hgatp (own, within what Privileged Architecture 20211203, 8.3.2 and 8.5, permits).
-use Rattle.std.specs.Prelude.{ℕ, ◌==◌, Bool, true, not, ◌&&◌, List, [], ◌∷◌, Option, Some, None, filter, find, map, take, if◌then◌else◌}
-use Rattle.std.specs.List.{list_any}
+use Rattle.std.specs.Prelude.{ℕ, ◌==◌, Bool, true, not, ◌&&◌, List, [], ◌∷◌, Option, Some, None, filter, find, map, take}
 use Rattle.arch_defs.specs.declared.cached.Entry.{Entry}
 use Rattle.arch_defs.specs.declared.cached.Fence.{Fence}
 use Rattle.arch_defs.specs.declared.registers.GuestRoot.{GuestRoot}
-use Rattle.arch_defs.specs.CachedEntries.{filled, holds}
+use Rattle.arch_defs.specs.CachedEntries.{holds}
 use Rattle.arch_defs.specs.Roots.{is_root, vmid_of}
 
 -- the space of a value of hgatp: its cached translations, oldest first
@@ -22,10 +21,6 @@ front (s ∷ ss) = s.entries
 abbrev pub is_for : GuestRoot → Space → Bool
 is_for key space = is_root space.key key
 
--- there is a space for a value of hgatp
-abbrev pub has_space : GuestRoot → List Space → Bool
-has_space key spaces = list_any (is_for key) spaces
-
 -- the space for a value of hgatp, or an empty one where there is none
 abbrev pub found_or_empty : GuestRoot → Option Space → Space
 found_or_empty key (Some space) = space
@@ -36,13 +31,6 @@ found_or_empty key None = record { key = key; entries = [] }
 unfoldable pub entered : ℕ → GuestRoot → List Space → List Space
 entered most key spaces =
     take most (found_or_empty key (find (is_for key) spaces) ∷ filter (λ s. not (is_for key s)) spaces)
-
--- after a fill of the space for a value of hgatp
-abbrev pub filled_if : ℕ → GuestRoot → Entry → Space → Space
-filled_if most key entry s = if is_for key s then record s { entries = filled most s.entries entry } else s
-
-unfoldable pub filled_in : ℕ → GuestRoot → Entry → List Space → List Space
-filled_in most key entry spaces = map (filled_if most key entry) spaces
 
 -- whether a fence names a VMID: any, where it names none (8.3.2)
 abbrev pub names_vmid : Option ℕ → ℕ → Bool
