@@ -1,4 +1,5 @@
 pub mod Chains
+pub mod EntryWords
 pub mod Fitting
 pub mod Flag
 pub mod Leaves

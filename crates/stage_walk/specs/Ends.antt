@@ -1,11 +1,18 @@
--- The numbers in a walk's end.
+-- The numbers in an entry's parts, and in a walk's end.
 use Rattle.std.specs.Prelude.{ℕ, ◌≡◌, ◌%◌, ◌^◌, ◌<◌}
+use Rattle.arch_defs.specs.declared.walks.Pte.{Pte}
 use Rattle.arch_defs.specs.declared.walks.LeafPte.{LeafPte}
 use Rattle.arch_defs.specs.declared.walks.WalkEnd.{WalkEnd}
 use Rattle.arch_defs.specs.declared.walks.WalkEnd.TheVariants.{Leaf, PageFault, FetchEnd}
 use Rattle.arch_defs.specs.declared.walks.Next.{Next}
 use Rattle.arch_defs.specs.declared.walks.Next.TheVariants.{Ends, Below}
 use Rattle.arch_defs.specs.TableEntries.{span}
+
+-- an entry has 44 bits for the physical page number, and 10 reserved bits (Privileged Architecture 20211203,
+-- 4.4.1)
+pub record PteFits (e : Pte) : Type 0 where
+  pub frame : e.frame < 2 ^ 44
+  pub reserved : e.reserved < 2 ^ 10
 
 -- a leaf's frame is a physical page number and the first of its page, and its level is one of so many
 pub record LeafFits (levels : ℕ) (leaf : LeafPte) : Type 0 where

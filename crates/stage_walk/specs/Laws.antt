@@ -1,16 +1,45 @@
 -- Laws of the table walk.
-use Rattle.std.specs.Prelude.{ℕ, ◌≡◌, ◌≢◌, ◌+◌, ◌-◌, ◌*◌, ◌/◌, ◌%◌, ◌^◌, ◌<◌, ◌≤◌, true, List, [], ◌∷◌, Result, Ok, Err, if◌then◌else◌}
+use Rattle.std.specs.Prelude.{ℕ, ◌≡◌, ◌≢◌, ◌+◌, ◌-◌, ◌*◌, ◌/◌, ◌%◌, ◌^◌, ◌<◌, ◌≤◌, Bool, true, not, ◌&&◌, ◌||◌, List, [], ◌∷◌, Result, Ok, Err, if◌then◌else◌}
 use Rattle.arch_defs.specs.declared.modes.Access.{Access}
 use Rattle.arch_defs.specs.declared.modes.Trap.{Trap}
 use Rattle.arch_defs.specs.declared.walks.Shape.{Shape}
+use Rattle.arch_defs.specs.declared.walks.Pte.{Pte}
 use Rattle.arch_defs.specs.declared.walks.LeafPte.{LeafPte}
 use Rattle.arch_defs.specs.declared.walks.WalkEnd.TheVariants.{Leaf, PageFault}
 use Rattle.arch_defs.specs.declared.walks.Next.{Next}
 use Rattle.arch_defs.specs.declared.walks.Next.TheVariants.{Ends, Below}
 use Rattle.arch_defs.specs.Bits.{field}
-use Rattle.arch_defs.specs.TableEntries.{pte_of, is_valid}
+use Rattle.arch_defs.specs.TableEntries.{pte_of, pte_word, pointer_to, leaf_to, is_valid, is_aligned, needs_dirty, entry_next}
 use Rattle.arch_defs.specs.Walk.{EntryReading, levels, table_size, is_canonical, place_of, Met, met_in, next_of, path, walk, leaf_address}
 use Rattle.stage_walk.specs.ByLevels.{walk_from}
+use Rattle.stage_walk.specs.Ends.{PteFits}
+
+-- an entry's word has 64 bits, and reads back as the entry; with V it is not 0
+abbrev pub WordsFit : Type 0
+WordsFit = (e : Pte) → PteFits e → pte_word e < 2 ^ 64
+
+abbrev pub WordsReadBack : Type 0
+WordsReadBack = (e : Pte) → PteFits e → pte_of (pte_word e) ≡ e
+
+abbrev pub WordsWithVAreNotZero : Type 0
+WordsWithVAreNotZero = (e : Pte) → e.v ≡ true → pte_word e ≢ 0
+
+-- the word 0 maps nothing
+abbrev pub ZeroMapsNothing : Type 0
+ZeroMapsNothing = (level : ℕ) (access : Access) → entry_next level access (pte_of 0) ≡ Ends PageFault
+
+-- a pointer's word leads below, but at the last level
+abbrev pub PointersLeadBelow : Type 0
+PointersLeadBelow = (level frame : ℕ) (access : Access) → frame < 2 ^ 44
+    → entry_next (level + 1) access (pte_of (pte_word (pointer_to frame))) ≡ Below frame
+
+-- a leaf's word gives its frame with its rights, but for a store that it does not permit
+abbrev pub LeavesGiveRights : Type 0
+LeavesGiveRights = (level frame : ℕ) (r w x : Bool) (access : Access)
+    → frame < 2 ^ 44 → is_aligned level frame ≡ true → (r || x) ≡ true → (w ≡ true → r ≡ true)
+    → entry_next level access (pte_of (pte_word (leaf_to frame r w x)))
+    ≡ Ends (if needs_dirty access && not w then PageFault
+    else Leaf (record { frame = frame; level = level; r = r; w = w; x = x; u = true }))
 
 -- another reading gives at the place of each entry met what was read there
 abbrev pub SameOn : EntryReading → List Met → Type 0

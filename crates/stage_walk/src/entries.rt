@@ -1,10 +1,10 @@
-// Entries: their bits, in named parts, and what they say to a walk.
+// Entries: their words, their named parts, and what they say to a walk.
 
-ghost use Rattle.std.specs.Prelude.{⊤, ◌≡◌, ◌+◌, ◌<◌, ◌^◌, ◌==◌, [], ◌∷◌, codes};
+ghost use Rattle.std.specs.Prelude.{⊤, ◌≡◌, ◌+◌, ◌<◌, ◌^◌, ◌==◌, [], ◌∷◌, codes, if◌then◌else◌};
 ghost use Rattle.std.specs.Int.RustNames.{bit_and};
-ghost use Rattle.arch_defs.specs.TableEntries.{pte_of, is_valid, is_leaf, is_aligned, is_marked, needs_dirty, leaf_next, pointer_next, entry_next};
+ghost use Rattle.arch_defs.specs.TableEntries.{pte_of, pte_word, pointer_to, leaf_to, is_valid, is_leaf, is_aligned, is_marked, needs_dirty, leaf_next, pointer_next, entry_next};
 ghost use Rattle.arch_defs.specs.Walk.{most_levels};
-ghost use Rattle.stage_walk.specs.Ends.{NextFits};
+ghost use Rattle.stage_walk.specs.Ends.{NextFits, PteFits};
 
 use arch_defs::{Access, LeafPte, Next, Pte, WalkEnd};
 use bitflags::{Flag, Flags, bitflag_items};
@@ -53,7 +53,7 @@ impl Flags for EntryBits {
 #[tactic(auto, using(crate::proofs::Flag::flags), unfolding(arch_defs::specs::TableEntries::pte_of))]
 pub fn pte_of(word: u64) -> Pte
     ensures value { result ≡ pte_of word }
-    ensures frame { result.frame < 2 ^ 44 }
+    ensures fits { PteFits result }
 {
     let bits = EntryBits::from_bits_retain(word);
     Pte {
@@ -66,6 +66,67 @@ pub fn pte_of(word: u64) -> Pte
         d: bits.contains(EntryBits::D),
         reserved: word >> 54,
         frame: (word >> 10) % 0x1000_0000_0000,
+    }
+}
+
+// The bits of a flag where it is wanted.
+fn bits_if(wanted: bool, flag: EntryBits) -> u64
+    ensures { result ≡ (if wanted then flag.0 else 0) }
+{
+    if wanted { flag.bits() } else { 0 }
+}
+
+/// The word of an entry in these parts. Bits that have no part, G and RSW, are clear.
+#[tactic(auto, unfolding(arch_defs::specs::TableEntries::pte_word))]
+pub fn pte_word(entry: &Pte) -> u64
+    requires { PteFits entry.now }
+    ensures { result ≡ pte_word entry.now }
+{
+    let flags = bits_if(entry.v, EntryBits::V)
+        + bits_if(entry.r, EntryBits::R)
+        + bits_if(entry.w, EntryBits::W)
+        + bits_if(entry.x, EntryBits::X)
+        + bits_if(entry.u, EntryBits::U)
+        + bits_if(entry.a, EntryBits::A)
+        + bits_if(entry.d, EntryBits::D);
+    flags + entry.frame * 0x400 + entry.reserved * 0x40_0000_0000_0000
+}
+
+/// A pointer to the table of a frame.
+pub fn pointer_to(frame: u64) -> Pte
+    requires { frame < 2 ^ 44 }
+    ensures value { result ≡ pointer_to frame }
+    ensures fits { PteFits result }
+{
+    Pte {
+        v: true,
+        r: false,
+        w: false,
+        x: false,
+        u: false,
+        a: false,
+        d: false,
+        reserved: 0,
+        frame,
+    }
+}
+
+/// A leaf of user pages with these rights, in which the walker finds all that it needs.
+pub fn leaf_to(frame: u64, r: bool, w: bool, x: bool) -> Pte
+    requires { frame < 2 ^ 44 }
+    ensures value { result ≡ leaf_to frame r w x }
+    ensures fits { PteFits result }
+{
+    Pte {
+        v: true,
+        r,
+        w,
+        x,
+        u: true,
+        a: true,
+        d: w,
+        reserved: 0,
+        frame,
     }
 }
 

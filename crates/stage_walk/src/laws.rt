@@ -1,6 +1,21 @@
 // Laws of the table walk.
 
-ghost use Rattle.stage_walk.specs.Laws.{PathsAlike, WalksAlike, PathIsLinked, LinkedIsPath, EndsByLevels, LiesInTable, PlacesAligned, EntriesValid, LeafAddress};
+ghost use Rattle.stage_walk.specs.Laws.{WordsFit, WordsReadBack, WordsWithVAreNotZero, ZeroMapsNothing, PointersLeadBelow, LeavesGiveRights, PathsAlike, WalksAlike, PathIsLinked, LinkedIsPath, EndsByLevels, LiesInTable, PlacesAligned, EntriesValid, LeafAddress};
+
+/// The word of an entry has 64 bits, and reads back as the entry. With V it is not 0.
+pub fn words_read_back()
+    ensures fit { WordsFit }
+    ensures parts { WordsReadBack }
+    ensures set { WordsWithVAreNotZero }
+{}
+
+/// To a walk the word 0 maps nothing, a pointer's leads to the table below, and a leaf's gives its frame
+/// with its rights.
+pub fn words_say()
+    ensures nothing { ZeroMapsNothing }
+    ensures below { PointersLeadBelow }
+    ensures rights { LeavesGiveRights }
+{}
 
 /// A walk depends on the entries that it met alone: a reading that agrees on their places meets the
 /// same ones, and ends alike.

@@ -11,11 +11,12 @@ mod places;
 mod tests;
 mod walking;
 
-pub use arch_defs::{LeafPte, Privilege, Shape, WalkEnd};
+pub use arch_defs::{LeafPte, Privilege, Pte, Shape, WalkEnd};
+pub use entries::{leaf_to, pointer_to, pte_of, pte_word};
 pub use fetching::Fetch;
 pub use laws::{
     entries_are_valid, entries_met_are_linked, leaf_has_the_standard_address,
-    walks_depend_on_entries_met, walks_end_by_levels,
+    walks_depend_on_entries_met, walks_end_by_levels, words_read_back, words_say,
 };
 pub use noting::{NotingFetch, walk_noted};
 pub use permissions::{permits_first, permits_second};

@@ -1,6 +1,9 @@
 ghost use Rattle.std.specs.Prelude.{◌==◌, Ok, Err, if◌then◌else◌};
 
-use crate::{Fetch, LeafPte, Privilege, Shape, WalkEnd, permits_first, permits_second, walk};
+use crate::{
+    Fetch, LeafPte, Privilege, Shape, WalkEnd, leaf_to, permits_first, permits_second, pointer_to,
+    pte_of, pte_word, walk,
+};
 use arch_defs::{Access, Trap};
 
 /// A leaf with frame 40000 (hexadecimal), the first of a page of each level, and V, R, W, X, A and D.
@@ -178,6 +181,37 @@ fn leaves(rt: HostRuntime) {
                 "at level {level}"
             );
         }
+    }
+}
+
+// The words of a pointer to frame 20 and of leaves to frame 40000. Each bit with a name, the highest frame
+// and the reserved bits stay where a word is read and written again; G and the bits for software are lost
+// (4.3.1 and 4.4.1).
+#[test]
+fn words(rt: HostRuntime) {
+    assert_eq!(rt; pte_word(&pointer_to(0x20)), 0x8001);
+    for (r, w, x, word) in [
+        (true, true, true, 0x1000_00DF),
+        (true, false, false, 0x1000_0053),
+        (true, true, false, 0x1000_00D7),
+        (false, false, true, 0x1000_0059),
+    ] {
+        assert_eq!(rt; pte_word(&leaf_to(0x4_0000, r, w, x)), word);
+    }
+    for (word, again) in [
+        (0x01, 0x01),
+        (0x02, 0x02),
+        (0x04, 0x04),
+        (0x08, 0x08),
+        (0x10, 0x10),
+        (0x20, 0),
+        (0x40, 0x40),
+        (0x80, 0x80),
+        (0x300, 0),
+        (0x003F_FFFF_FFFF_FC00, 0x003F_FFFF_FFFF_FC00),
+        (0xFFC0_0000_0000_0000, 0xFFC0_0000_0000_0000),
+    ] {
+        assert_eq!(rt; pte_word(&pte_of(word)), again);
     }
 }
 

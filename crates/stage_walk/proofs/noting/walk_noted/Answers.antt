@@ -1,6 +1,6 @@
-use Rattle.std.proofs.Common.{rules, ◌≡◌, ◌+◌, ◌-◌, ◌<◌, ◌≤◌, ◌^◌, true, false, ap, sym, subst, ◌∙◌, arith}
+use Rattle.std.proofs.Common.{rules, ◌≡◌, ◌+◌, ◌-◌, true, false, ap, sym, subst, ◌∙◌, arith}
 use Rattle.arch_defs.specs.declared.walks.Next.TheVariants.{Ends, Below}
-use Rattle.arch_defs.specs.Walk.{is_canonical, levels, met_in, next_of}
+use Rattle.arch_defs.specs.Walk.{is_canonical, met_in, next_of}
 use Rattle.frame_set.specs.Holding.{has_frame}
 use Rattle.stage_walk.specs.ByLevels.{walk_from}
 use Rattle.stage_walk.proofs.Levels.{from_below, walk_starts}

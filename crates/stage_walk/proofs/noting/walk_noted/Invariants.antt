@@ -1,9 +1,8 @@
-use Rattle.std.proofs.Common.{◌≡◌, ℕ, ◌^◌, ◌<◌, ◌≤◌}
-use Rattle.arch_defs.specs.Frames.{Frames, Within}
-use Rattle.arch_defs.specs.Walk.{levels, path, path_from, walk}
+use Rattle.std.proofs.Common.{◌≡◌, ◌^◌, ◌<◌, ◌≤◌}
+use Rattle.arch_defs.specs.Frames.{Within}
+use Rattle.arch_defs.specs.Walk.{levels, walk}
 use Rattle.frame_set.specs.Holding.{has_frame}
 use Rattle.stage_walk.specs.ByLevels.{walk_from}
-use Rattle.stage_walk.specs.Reads.{Each}
 use Rattle.stage_walk.proofs.NotedWalks.{Goes}
 use Rattle.stage_walk.proofs.noting.walk_noted.Given as goal
 
