@@ -6,7 +6,7 @@ console=0
 folder=$(mktemp -d)
 trap 'rm -rf "$folder"' EXIT
 
-# put IMAGE OFFSET WIDTH NUMBER...: writes numbers of so many bytes each, little endian, from this offset of an image
+# put IMAGE OFFSET WIDTH NUMBER...: writes numbers of WIDTH bytes each, little endian, from this offset of an image
 # on; what is left out is zero
 put() {
     local image=$1 offset=$2 width=$3 number i bytes=
@@ -19,8 +19,8 @@ put() {
     printf %b "$bytes" | dd of="$folder/$image.bin" bs=1 seek=$((offset)) conv=notrunc status=none
 }
 
-# configure IMAGE GUESTS QUANTUM SPACES ENTRIES: so many guests with this image, for all of the steps in all, in turns
-# of so many; at most 2^20 turns. Each has a console of `console` bytes. `made` is how many steps they make
+# configure IMAGE GUESTS QUANTUM SPACES ENTRIES: GUESTS guests with this image, which make `steps` steps together, in
+# turns of QUANTUM steps; at most 2^20 turns. Each has a console of `console` bytes. `made` is how many steps they make
 configure() {
     local guest rounds=$((steps / ($2 * $3)))
     if ((rounds * $2 > 1048576)); then

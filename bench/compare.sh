@@ -28,7 +28,7 @@ else
     echo "no ${QEMU:-qemu-system-riscv64} here: the program alone"
 fi
 
-# image NAME ROUNDS: the image `run.bin` is that of bench/programs, to make so many rounds
+# image NAME ROUNDS: the image `run.bin` is that of bench/programs, to make ROUNDS rounds
 image() {
     cp "bench/programs/$1.bin" "$folder/run.bin"
     put run 8 8 "$2"
@@ -120,7 +120,8 @@ compared() {
     row "$1"
 }
 
-# alone NAME GUESTS QUANTUM: the loop of bench/steps.sh, under the program alone: so many guests, in turns of so many
+# alone NAME GUESTS QUANTUM: the loop of bench/steps.sh, under the program alone: GUESTS guests, in turns of QUANTUM
+# steps
 alone() {
     local machines=(nesthv) i
     declare -gA best=()

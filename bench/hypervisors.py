@@ -11,9 +11,9 @@ and HSV, and enters VS, VU and U. Its trap handler puts on the console what trap
 registers, and goes on with the next deed.
 """
 # Usage: bench/hypervisors.py [--first SEED] [--count N] [--steps N] [--jobs N] [--program PATH] [--keep FOLDER]
-#   --first SEED, --count N  the images of so many seeds from this one on; 0 and 10,000 if left out
+#   --first SEED, --count N  the images of N seeds from SEED on; 0 and 10,000 if left out
 #   --steps N                the steps of each guest in each run; 12,000 if left out
-#   --jobs N                 so many at once; as many as there are processors if left out
+#   --jobs N                 N at once; as many as there are processors if left out
 #   --program PATH           this program in place of the proved one (tools/program)
 #   --keep FOLDER            writes the files of each run that differs there
 # 10,000 images take some minutes on four processors.
@@ -416,7 +416,7 @@ class Maker:
 
 
 def turns_of(chance, steps, guests):
-    """Turns of random lengths with so many steps for each guest, in random order."""
+    """Turns of random lengths with `steps` steps for each guest, in random order."""
     left = [steps] * guests
     turns = []
     while any(left):

@@ -1,5 +1,5 @@
-/* The instruction 0x0000006F (jal zero, 0) interpreted so many times, in plain C, for comparison: fetch with its
-   bounds, decode of ADDI, LUI and JAL, and the count of steps. */
+/* The instruction 0x0000006F (jal zero, 0) interpreted as often as the argument says, in plain C, for comparison:
+   fetch with its bounds, decode of ADDI, LUI and JAL, and the count of steps. */
 #include <stdint.h>
 #include <stdio.h>
 #include <stdlib.h>

@@ -1,6 +1,6 @@
 #!/usr/bin/env bash
 # Refuses each allocation, read and write of the program in turn, and lets each read and write move one byte alone: of
-# `run` on row first_bytes, of `replay` on its report, of `check` on it, and of `work 0 1`. It prints a line for each
+# `run` on examples/first, of `replay` on its report, of `check` on it, and of `work 0 1`. It prints a line for each
 # answer that is not the one that the contract has, and at the end how many calls were refused; it ends with status 1
 # where there was such a line.
 #   an allocation: status 5, its line, and nothing on the output; or as if nothing was refused
@@ -90,7 +90,7 @@ swept() {
     said "$name: $kind: more than 100000 calls"
 }
 
-# tried NAME READS WORDS..: each kind of call, of a command that makes so many reads
+# tried NAME READS WORDS..: each kind of call, of a command that makes READS reads
 tried() {
     local name=$1 kinds
     reads=$2

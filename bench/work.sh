@@ -1,8 +1,8 @@
 #!/usr/bin/env bash
 # Runs the generated guests of seed 1, of size 1,000 and of size 10,000, and prints for each the seconds, the steps a
-# second and the most memory, by GNU time; then how many times as long the larger takes, with ten times the commands.
-# It ends with status 1 where two runs differ, or where size 10,000 gives other steps and sums than another program
-# has given.
+# second and the most memory, by GNU time (apt-get install time); then how many times as long the larger takes, with
+# ten times the commands. It ends with status 1 where two runs differ, or where size 10,000 gives other steps and sums
+# than another program has given.
 # Usage: bench/work.sh
 # It takes the proved program (bench/common.sh).
 set -eu

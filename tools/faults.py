@@ -1,7 +1,12 @@
 """Says in words what the program's line of a status means: which key, which range, which line of the file."""
 import os
 import re
-import tomllib
+import sys
+
+try:
+    import tomllib
+except ModuleNotFoundError:
+    sys.exit("this needs Python 3.11 or later, and python3 is " + sys.version.split()[0])
 
 BLOCK = 2097152
 FRAMES = 131072

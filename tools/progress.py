@@ -32,7 +32,7 @@ def turns_of(sums, most):
 
 
 def capped(document, most):
-    """The text of this configuration, in which each guest makes at most so many steps."""
+    """The text of this configuration, in which each guest makes at most `most` steps."""
     lines = ["format = 1", f"turns = {turns_of(sums_of(document), most)}"]
     for guest in document["guest"]:
         lines.append("[[guest]]")
