@@ -1,7 +1,7 @@
 -- The second stage by a host table.
 use Rattle.std.specs.Prelude.{◌&&◌, nat_le, nat_lt}
-use Rattle.std.proofs.Common.{◌∙◌, cond, ◌≡◌, ℕ, ◌+◌, ◌-◌, ◌*◌, ◌/◌, ◌%◌, ◌<◌, ◌≤◌, ◌^◌, Bool, true, false, ◌⊎◌, inl, inr, List, Some, None, length, slice_index, refl, ap, arith}
-use Rattle.std.proofs.lemmas.Bool.{cases_lt, le-leb}
+use Rattle.std.proofs.Common.{cond, ◌≡◌, ℕ, ◌+◌, ◌-◌, ◌*◌, ◌/◌, ◌%◌, ◌<◌, ◌≤◌, ◌^◌, Bool, true, false, ◌⊎◌, inl, inr, List, Some, None, length, slice_index, refl, ap, arith}
+use Rattle.std.proofs.lemmas.Bool.{cases_lt}
 use Rattle.std.proofs.lemmas.List.{get_or_past}
 use Rattle.arch_defs.specs.declared.modes.Access.{Access}
 use Rattle.arch_defs.specs.declared.modes.Access.TheVariants.{Fetch, Load, Store, ExecLoad, Implicit}
@@ -9,16 +9,18 @@ use Rattle.arch_defs.specs.declared.walks.LeafPte.{LeafPte}
 use Rattle.arch_defs.specs.declared.walks.WalkEnd.TheVariants.{Leaf, PageFault}
 use Rattle.arch_defs.specs.Frames.{Apart, LieIn, Only, Same, Within, in_blocks, within}
 use Rattle.arch_defs.specs.Layouts.{Layout, NamesEachOnce, host_frames, in_tables, named_by, root_frames, table_frames}
-use Rattle.arch_defs.specs.Memory.{load, block_size, ram_base}
+use Rattle.arch_defs.specs.Memory.{block_size, ram_base}
 use Rattle.arch_defs.specs.Permits.{permits_second}
 use Rattle.arch_defs.specs.Ram.{SlicesLieIn, host_place}
-use Rattle.arch_defs.specs.SecondStage.{guest_root_frame, has_bytes, memory_words, place_under, second_end, second_walk}
-use Rattle.arch_defs.proofs.FrameSets.{apart_sym, in_range, joined_within, kept, left_within, load_kept, right_within, within_apart}
+use Rattle.arch_defs.specs.SecondStage.{memory_words, place_under, second_end, second_walk}
+use Rattle.arch_defs.proofs.FrameSets.{apart_sym, joined_within, kept, left_within, right_within, same_fewer, within_apart}
 use Rattle.arch_defs.proofs.RamBlocks.{blocks_lie_in}
 use Rattle.arch_defs.proofs.Rooms.{first_lies}
 use Rattle.host_tables.specs.HostTable.{IsHostTable, block_leaf_word, root_word}
-use Rattle.host_tables.specs.Walks.{IsHeld, GivesRam, ReadsIn}
-use Rattle.host_tables.proofs.Entries.{root_in, root_room, table_in, table_room}
+use Rattle.host_tables.specs.Walks.{IsHeld, GivesRam}
+use Rattle.table_words.specs.Entries.{ReadsIn}
+use Rattle.table_words.proofs.Readings.{has, memory_reads, root_frame}
+use Rattle.host_tables.proofs.Entries.{entries_stay, root_in, root_room, table_in, table_room}
 use Rattle.host_tables.proofs.Walking.{block_below, walks_to_ram}
 
 -- the host table's frames are of the part's tables
@@ -35,25 +37,8 @@ host_in_part part frame is = right_within (in_blocks part.blocks) (in_tables par
 none_before : (n : ℕ) → 0 + n ≡ n
 none_before n = omega arith
 
-from_zero : (n : ℕ) → n - 0 ≡ n
-from_zero n = omega arith
-
-entry_inside : (place size : ℕ) → place / 4096 * 4096 + 4096 ≤ size → place % 8 ≡ 0 → place + 8 ≤ size
-entry_inside place size lies eighth = omega (arith, lies, eighth)
-
-has : (memory : List ℕ) (place n : ℕ) → place + n ≤ length memory → has_bytes 0 memory place n ≡ true
-has memory place n h =
-    let low : nat_le 0 place ≡ true = le-leb 0 place (omega arith) in
-    let high : nat_le (place + n) (0 + length memory) ≡ true = le-leb (place + n) (0 + length memory) (omega (arith, h)) in
-    rw (low, high) refl
-
 reads : (part : Layout) (memory : List ℕ) → LieIn (named_by part) (length memory) → ReadsIn (host_frames part) memory (memory_words 0 memory)
-reads part memory lie place is eighth =
-    rw (has memory place 8 (entry_inside place (length memory) (lie (place / 4096) (host_in_part part (place / 4096) is)) eighth), from_zero place) refl
-
--- the root is where hgatp's page says
-root_frame : (page : ℕ) → page % 4 ≡ 0 → page < 2 ^ 44 → guest_root_frame page ≡ page
-root_frame page aligned small = omega (arith, aligned, small)
+reads part memory lie = memory_reads (host_frames part) memory (λ frame is. lie frame (host_in_part part frame is))
 
 -- each access is permitted under a leaf with all permissions
 abbrev full : ℕ → LeafPte
@@ -126,28 +111,13 @@ gives_ram part once memory mxr vmid address access held =
     rw (root, walked) (end_by memory mxr part.blocks address access lie _ refl)
 
 -- the host table stays where the bytes of its frames do
-root_at : (first i at : ℕ) → i < 2048 → first * 4096 + 8 * i ≤ at → at < first * 4096 + 8 * i + 8 → (first ≤ at / 4096) × (at / 4096 < first + 4)
-root_at first i at h from to = (omega (arith, from), omega (arith, h, to))
-
-table_at : (first i at : ℕ) → i < 512 → first * 4096 + 8 * i ≤ at → at < first * 4096 + 8 * i + 8 → (first ≤ at / 4096) × (at / 4096 < first + 1)
-table_at first i at h from to = (omega (arith, from), omega (arith, h, to))
-
 pub table_stays : (part : Layout) (old new : List ℕ) → Same (host_frames part) old new → IsHostTable part old → IsHostTable part new
-table_stays part old new same table = record { root = record { each = root }; leaves = record { each = leaves } }
-  where
-    root : (i : ℕ) → i < 2048 → load new (part.first_root * 4096 + 8 * i) 8 ≡ root_word part.first_table i
-    root i h =
-        load_kept (host_frames part) old new (part.first_root * 4096 + 8 * i) 8 same (λ at from to.
-        let there = root_at part.first_root i at h from to in
-        left_within (within part.first_root 4) (within part.first_table 1) (at / 4096) (in_range part.first_root 4 (at / 4096) there.0 there.1))
-        ∙ table.root.each i h
-
-    leaves : (i : ℕ) → i < 512 → load new (part.first_table * 4096 + 8 * i) 8 ≡ block_leaf_word part.blocks i
-    leaves i h =
-        load_kept (host_frames part) old new (part.first_table * 4096 + 8 * i) 8 same (λ at from to.
-        let there = table_at part.first_table i at h from to in
-        right_within (within part.first_root 4) (within part.first_table 1) (at / 4096) (in_range part.first_table 1 (at / 4096) there.0 there.1))
-        ∙ table.leaves.each i h
+table_stays part old new same table = record {
+  root = entries_stay part.first_root 4 2048 (root_word part.first_table) old new (omega arith)
+      (same_fewer (within part.first_root 4) (host_frames part) old new (left_within (within part.first_root 4) (within part.first_table 1)) same) table.root;
+  leaves = entries_stay part.first_table 1 512 (block_leaf_word part.blocks) old new (omega arith)
+      (same_fewer (within part.first_table 1) (host_frames part) old new (right_within (within part.first_root 4) (within part.first_table 1)) same) table.leaves;
+}
 
 -- and so the part is held as before
 pub held_stays : (part : Layout) (old new : List ℕ) → Same (host_frames part) old new → IsHeld part old → IsHeld part new

@@ -1,4 +1,3 @@
 pub mod Entries
 pub mod Held
 pub mod Walking
-pub mod Words

@@ -1,20 +1,24 @@
 -- The walk of a host table.
-use Rattle.std.proofs.Common.{◌≡◌, ℕ, ◌+◌, ◌-◌, ◌*◌, ◌/◌, ◌%◌, ◌<◌, ◌≤◌, ◌^◌, ◌⊎◌, inl, inr, true, nat_le, nat_lt, List, Ok, length, slice_index, refl, sym, ap, subst, ◌∙◌, arith}
+use Rattle.std.proofs.Common.{◌≡◌, ℕ, ◌+◌, ◌-◌, ◌*◌, ◌/◌, ◌%◌, ◌<◌, ◌≤◌, ◌^◌, ◌⊎◌, inl, inr, true, false, nat_le, nat_lt, List, Ok, length, slice_index, refl, sym, ap, subst, ◌∙◌, arith}
 use Rattle.std.proofs.lemmas.Bool.{cases_lt, eq-eqb, ne_eqb, and_from, and_left, and_right, le-leb, lt-leb, lt-ltb, le-ltb}
 use Rattle.arch_defs.specs.declared.modes.Access.{Access}
 use Rattle.arch_defs.specs.declared.walks.Shape.TheVariants.{Sv39x4}
+use Rattle.arch_defs.specs.declared.walks.Next.TheVariants.{Ends}
 use Rattle.arch_defs.specs.declared.walks.WalkEnd.TheVariants.{Leaf, PageFault}
-use Rattle.arch_defs.specs.TableEntries.{pte_of, entry_next}
+use Rattle.arch_defs.specs.TableEntries.{pte_of, entry_next, needs_dirty}
 use Rattle.arch_defs.specs.Frames.{within}
 use Rattle.arch_defs.specs.Layouts.{Layout, host_frames}
-use Rattle.arch_defs.specs.Memory.{ram_base, block_size, load}
+use Rattle.arch_defs.specs.Memory.{ram_base, block_size}
 use Rattle.arch_defs.specs.Walk.{EntryReading, place_of, met_in, next_of, read_next, walk}
 use Rattle.stage_walk.specs.ByLevels.{walk_from}
-use Rattle.arch_defs.proofs.FrameSets.{in_range, left_within, right_within}
+use Rattle.arch_defs.proofs.FrameSets.{left_within, right_within}
 use Rattle.stage_walk.proofs.Levels.{walk_starts, walk_refused, from_ends, from_below}
-use Rattle.host_tables.specs.HostTable.{IsHostTable, root_word, block_leaf_word}
-use Rattle.host_tables.specs.Walks.{ReadsIn, host_walk, WalksToRam}
-use Rattle.host_tables.proofs.Words.{nothing_says, pointer_says, leaf_says}
+use Rattle.host_tables.specs.HostTable.{IsHostTable, root_word, block_leaf, block_leaf_word}
+use Rattle.host_tables.specs.Walks.{host_walk, WalksToRam}
+use Rattle.host_tables.proofs.Entries.{entry_in}
+use Rattle.stage_walk.proofs.EntryWords.{leaf_gives_rights, pointer_leads_below, zero_maps_nothing}
+use Rattle.table_words.specs.Entries.{ReadsIn}
+use Rattle.table_words.proofs.Readings.{entry_read}
 
 -- the indexes of an address
 root_index : (va : ℕ) → va / 2 ^ 30 % 2 ^ 11 < 2048
@@ -38,34 +42,30 @@ block_below offset count h = omega arith
 block_above : (offset count : ℕ) → count * 2097152 ≤ offset → count ≤ offset / 2097152
 block_above offset count h = omega arith
 
--- the places of entries lie in the table's frames
-root_place : (frame i : ℕ) → i < 2048 → (frame ≤ (4096 * frame + 8 * i) / 4096) × ((4096 * frame + 8 * i) / 4096 < frame + 4)
-root_place frame i h = (omega arith, omega arith)
-
-leaf_place : (frame i : ℕ) → i < 512 → (frame ≤ (4096 * frame + 8 * i) / 4096) × ((4096 * frame + 8 * i) / 4096 < frame + 1)
-leaf_place frame i h = (omega arith, omega arith)
-
-turned : (frame i : ℕ) → 4096 * frame + 8 * i ≡ frame * 4096 + 8 * i
-turned frame i = omega arith
-
--- what is read of them
+-- what is read of the table
 root_read : (part : Layout) (memory : List ℕ) (reading : EntryReading) (i : ℕ) → IsHostTable part memory → ReadsIn (host_frames part) memory reading → i < 2048
     → reading (4096 * part.first_root + 8 * i) ≡ Ok (root_word part.first_table i)
 root_read part memory reading i table reads h =
-    let there = root_place part.first_root i h in
-    let eighth : (4096 * part.first_root + 8 * i) % 8 ≡ 0 = omega arith in
-    reads (4096 * part.first_root + 8 * i)
-    (left_within (within part.first_root 4) (within part.first_table 1) ((4096 * part.first_root + 8 * i) / 4096) (in_range part.first_root 4 ((4096 * part.first_root + 8 * i) / 4096) there.0 there.1)) eighth
-    ∙ ap (λ n. Ok n) (ap (λ p. load memory p 8) (turned part.first_root i) ∙ table.root.each i h)
+    entry_read (host_frames part) memory reading part.first_root i reads
+    (left_within (within part.first_root 4) (within part.first_table 1) ((512 * part.first_root + i) / 512) (entry_in part.first_root 4 i (omega (arith, h))))
+    ∙ ap (λ n. Ok n) (table.root.each i h)
 
 leaf_read : (part : Layout) (memory : List ℕ) (reading : EntryReading) (i : ℕ) → IsHostTable part memory → ReadsIn (host_frames part) memory reading → i < 512
     → reading (4096 * part.first_table + 8 * i) ≡ Ok (block_leaf_word part.blocks i)
 leaf_read part memory reading i table reads h =
-    let there = leaf_place part.first_table i h in
-    let eighth : (4096 * part.first_table + 8 * i) % 8 ≡ 0 = omega arith in
-    reads (4096 * part.first_table + 8 * i)
-    (right_within (within part.first_root 4) (within part.first_table 1) ((4096 * part.first_table + 8 * i) / 4096) (in_range part.first_table 1 ((4096 * part.first_table + 8 * i) / 4096) there.0 there.1)) eighth
-    ∙ ap (λ n. Ok n) (ap (λ p. load memory p 8) (turned part.first_table i) ∙ table.leaves.each i h)
+    entry_read (host_frames part) memory reading part.first_table i reads
+    (right_within (within part.first_root 4) (within part.first_table 1) ((512 * part.first_table + i) / 512) (entry_in part.first_table 1 i (omega (arith, h))))
+    ∙ ap (λ n. Ok n) (table.leaves.each i h)
+
+-- what a block's leaf says
+whole : (block : ℕ) → block * 512 % 512 ≡ 0
+whole block = omega arith
+
+leaf_says : (block : ℕ) (access : Access) → block < 2 ^ 32
+    → entry_next 1 access (pte_of (block_leaf block)) ≡ Ends (Leaf (record { frame = block * 512; level = 1; r = true; w = true; x = true; u = true }))
+leaf_says block access small =
+    leaf_gives_rights 1 (block * 512) true true true access (omega (arith, small)) (rw (whole block) refl) refl (λ h. refl)
+    ∙ rw (and_right (needs_dirty access) false refl) refl
 
 -- what the entries of an address say
 root_next : (part : Layout) (memory : List ℕ) (reading : EntryReading) (va : ℕ) (access : Access) → IsHostTable part memory → ReadsIn (host_frames part) memory reading
@@ -83,7 +83,7 @@ away : (part : Layout) (memory : List ℕ) (reading : EntryReading) (va : ℕ) (
     → (va / 2 ^ 30 % 2 ^ 11 ≡ 2 → ⊥) → walk_from reading Sv39x4 va access 3 part.first_root ≡ PageFault
 away part memory reading va access table reads other =
     from_ends reading Sv39x4 va access 3 2 part.first_root PageFault refl
-    (root_next part memory reading va access table reads ∙ rw (ne_eqb (va / 2 ^ 30 % 2 ^ 11) 2 other) (nothing_says 2 access))
+    (root_next part memory reading va access table reads ∙ rw (ne_eqb (va / 2 ^ 30 % 2 ^ 11) 2 other) (zero_maps_nothing 2 access))
 
 -- and in it the leaf of the block
 there : (part : Layout) (memory : List ℕ) (reading : EntryReading) (va : ℕ) (access : Access) → IsHostTable part memory → ReadsIn (host_frames part) memory reading
@@ -91,7 +91,7 @@ there : (part : Layout) (memory : List ℕ) (reading : EntryReading) (va : ℕ) 
     → walk_from reading Sv39x4 va access 3 part.first_root ≡ walk_from reading Sv39x4 va access 2 part.first_table
 there part memory reading va access table reads small ram =
     from_below reading Sv39x4 va access 3 2 part.first_root part.first_table refl
-    (root_next part memory reading va access table reads ∙ rw (eq-eqb (va / 2 ^ 30 % 2 ^ 11) 2 ram) (pointer_says 2 part.first_table access small))
+    (root_next part memory reading va access table reads ∙ rw (eq-eqb (va / 2 ^ 30 % 2 ^ 11) 2 ram) (pointer_leads_below 1 part.first_table access (omega (arith, small))))
 
 mapped : (part : Layout) (memory : List ℕ) (reading : EntryReading) (va : ℕ) (access : Access) → IsHostTable part memory → ReadsIn (host_frames part) memory reading
     → ((i : ℕ) → slice_index part.blocks i < 2 ^ 32) → va / 2 ^ 21 % 2 ^ 9 < length part.blocks
@@ -108,7 +108,7 @@ unmapped : (part : Layout) (memory : List ℕ) (reading : EntryReading) (va : �
 unmapped part memory reading va access table reads outside =
     from_ends reading Sv39x4 va access 2 1 part.first_table PageFault refl
     (leaf_next_of part memory reading va access table reads
-    ∙ rw (le-ltb (va / 2 ^ 21 % 2 ^ 9) (length part.blocks) outside) (nothing_says 1 access))
+    ∙ rw (le-ltb (va / 2 ^ 21 % 2 ^ 9) (length part.blocks) outside) (zero_maps_nothing 1 access))
 
 -- the law, by where the address is
 in_ram : (blocks : List ℕ) (va : ℕ) → 2147483648 ≤ va → va < 2147483648 + length blocks * 2097152

@@ -1,26 +1,25 @@
 -- The host's table of a guest, entry by entry: Sv39x4 with leaves of 2 MiB (Privileged Architecture 20211203,
 -- 8.5.1). RAM begins at 0x80000000, which is entry 2 of the root; the one table below it maps the 1 GiB from
 -- there on.
-use Rattle.std.specs.Prelude.{ℕ, ◌≡◌, ◌+◌, ◌*◌, ◌/◌, ◌<◌, ◌==◌, List, Option, length, slice_index, nat_lt, option_map, if◌then◌else◌}
+use Rattle.std.specs.Prelude.{ℕ, ◌≡◌, ◌+◌, ◌*◌, ◌/◌, ◌<◌, ◌==◌, true, List, Option, length, slice_index, nat_lt, option_map, if◌then◌else◌}
 use Rattle.arch_defs.specs.Frames.{Only, within}
 use Rattle.arch_defs.specs.Layouts.{Layout}
-use Rattle.arch_defs.specs.Memory.{load}
 use Rattle.arch_defs.specs.Ram.{host_answer}
+use Rattle.arch_defs.specs.TableEntries.{leaf_to, pte_word}
+use Rattle.table_words.specs.Entries.{pointer_word}
+use Rattle.table_words.specs.Words.{doubleword_at}
 
 -- so many entries from the start of a frame on
 pub record HasEntries (frame count : ℕ) (entry : ℕ → ℕ) (memory : List ℕ) : Type 0 where
-  pub each : (i : ℕ) → i < count → load memory (frame * 4096 + 8 * i) 8 ≡ entry i
+  pub each : (i : ℕ) → i < count → doubleword_at memory (512 * frame + i) ≡ entry i
 
--- a pointer has V alone, and a leaf all of V, R, W, X, U, A and D; the frame's number begins at bit 10
--- (4.4.1)
-abbrev pub pointer_to : ℕ → ℕ
-pointer_to table = table * 1024 + 0x01
-
-abbrev pub block_leaf : ℕ → ℕ
-block_leaf block = block * 524288 + 0xDF
-
+-- the root has one pointer
 abbrev pub root_word : ℕ → ℕ → ℕ
-root_word table i = if i == 2 then pointer_to table else 0
+root_word table i = if i == 2 then pointer_word table else 0
+
+-- and the table a leaf with all rights for each block, at the block's first frame
+abbrev pub block_leaf : ℕ → ℕ
+block_leaf block = pte_word (leaf_to (block * 512) true true true)
 
 abbrev pub block_leaf_word : List ℕ → ℕ → ℕ
 block_leaf_word blocks i = if nat_lt i (length blocks) then block_leaf (slice_index blocks i) else 0

@@ -1,23 +1,19 @@
 -- What the walk of a host table gives.
-use Rattle.std.specs.Prelude.{ℕ, ◌≡◌, ◌+◌, ◌-◌, ◌*◌, ◌/◌, ◌%◌, ◌≤◌, ◌^◌, ◌&&◌, Bool, true, List, Ok, length, slice_index, nat_le, nat_lt, if◌then◌else◌}
+use Rattle.std.specs.Prelude.{ℕ, ◌≡◌, ◌+◌, ◌-◌, ◌*◌, ◌/◌, ◌≤◌, ◌^◌, ◌&&◌, Bool, true, List, length, slice_index, nat_le, nat_lt, if◌then◌else◌}
 use Rattle.arch_defs.specs.declared.modes.Access.{Access}
 use Rattle.arch_defs.specs.declared.registers.GuestMode.TheVariants as mode
 use Rattle.arch_defs.specs.declared.registers.GuestRoot.TheVariants as root
 use Rattle.arch_defs.specs.declared.walks.Shape.TheVariants.{Sv39x4}
 use Rattle.arch_defs.specs.declared.walks.WalkEnd.{WalkEnd}
 use Rattle.arch_defs.specs.declared.walks.WalkEnd.TheVariants.{Leaf, PageFault}
-use Rattle.arch_defs.specs.Frames.{Frames, LieIn}
+use Rattle.arch_defs.specs.Frames.{LieIn}
 use Rattle.arch_defs.specs.Layouts.{Layout, host_frames, named_by}
-use Rattle.arch_defs.specs.Memory.{ram_base, block_size, load}
+use Rattle.arch_defs.specs.Memory.{ram_base, block_size}
 use Rattle.arch_defs.specs.Ram.{host_answer}
 use Rattle.arch_defs.specs.SecondStage.{second_under}
 use Rattle.arch_defs.specs.Walk.{EntryReading, walk}
 use Rattle.host_tables.specs.HostTable.{IsHostTable}
-
--- a reading of places gives the aligned doublewords of memory in these frames
-abbrev pub ReadsIn : Frames → List ℕ → EntryReading → Type 0
-ReadsIn frames memory reading =
-    (place : ℕ) → frames (place / 4096) ≡ true → place % 8 ≡ 0 → reading place ≡ Ok (load memory place 8)
+use Rattle.table_words.specs.Entries.{ReadsIn}
 
 -- in RAM a leaf of 2 MiB with all permissions, which names the block, and no leaf elsewhere
 abbrev pub host_walk : List ℕ → ℕ → WalkEnd

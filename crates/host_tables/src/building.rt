@@ -5,17 +5,13 @@ ghost use Rattle.arch_defs.specs.Frames.{LieIn, Only, within};
 ghost use Rattle.arch_defs.specs.Layouts.{host_frames, named_by};
 ghost use Rattle.host_tables.specs.HostTable.{HasEntries, IsHostTable, block_leaf_word, host_frame, root_word};
 
-use arch_defs::{FRAME_SIZE, Part};
+use arch_defs::{BLOCK_FRAMES, FRAME_SIZE, Part};
 use phys_mem::{PhysMem, RAM_BASE};
+use stage_walk::{leaf_to, pointer_to, pte_word};
+use table_words::set_word;
 
 // An entry that maps nothing.
 const NO_ENTRY: u64 = 0;
-
-// V.
-const POINTER: u64 = 0x01;
-
-// V, R, W, X, U, A and D.
-const FULL_LEAF: u64 = 0xDF;
 
 // The root's entry that maps the 1 GiB from the start of RAM on.
 const RAM_ENTRY: u64 = 2;
@@ -52,7 +48,7 @@ fn write_root(mem: &mut PhysMem, root: u64, table: u64)
     ensures only { Only (within root 4) mem.old mem.new }
 {
     for i in 0..2048u64 {
-        mem.store(root * FRAME_SIZE + 8 * i, 8, root_word(table, i));
+        set_word(mem, 512 * root + i, root_word(table, i));
     }
 }
 
@@ -65,11 +61,7 @@ fn write_leaves(mem: &mut PhysMem, part: &Part, blocks: u64)
 {
     let table = part.host_table();
     for i in 0..512u64 {
-        mem.store(
-            table * FRAME_SIZE + 8 * i,
-            8,
-            block_leaf_word(part, blocks, i),
-        );
+        set_word(mem, 512 * table + i, block_leaf_word(part, blocks, i));
     }
 }
 
@@ -78,7 +70,7 @@ fn root_word(table: u64, i: u64) -> u64
     ensures { result ≡ root_word table i }
 {
     if i == RAM_ENTRY {
-        table * 1024 + POINTER
+        pte_word(&pointer_to(table))
     } else {
         NO_ENTRY
     }
@@ -89,7 +81,8 @@ fn block_leaf_word(part: &Part, blocks: u64, i: u64) -> u64
     ensures { result ≡ block_leaf_word part.now.blocks i }
 {
     if i < blocks {
-        part.blocks()[i as usize] as u64 * 524_288 + FULL_LEAF
+        let block = part.blocks()[i as usize] as u64;
+        pte_word(&leaf_to(block * BLOCK_FRAMES, true, true, true))
     } else {
         NO_ENTRY
     }

@@ -1,7 +1,8 @@
 -- A tree with one more table.
 use Rattle.std.proofs.Common.{◌≡◌, ◌≢◌, ℕ, zero, suc, ◌+◌, ◌*◌, ◌<◌, ◌⊎◌, inl, inr, Some, None, refl, sym, ap, subst, ◌∙◌, arith}
 use Rattle.shadow_space.specs.declared.writing.Tables.{Tables}
-use Rattle.shadow_space.specs.Trees.{Content, Free, Table, IsOwn, IsTree, Says, Tree, entry_of, pointer_of, pointer_to, slots}
+use Rattle.shadow_space.specs.Trees.{Content, Free, Table, IsOwn, IsTree, Says, Tree, entry_of, pointer_of, slots}
+use Rattle.table_words.specs.Entries.{pointer_word}
 use Rattle.shadow_space.proofs.Slots.{other_slots, same_or, same_place}
 
 pub same_pair : (h k h' k' : ℕ) → ((h' ≡ h) × (k' ≡ k)) ⊎ ((h' ≡ h) × (k' ≡ k) → ⊥)
@@ -120,7 +121,7 @@ same_level tree tree' leaf f (suc h) k s added = ap pointer_of (added.places h (
 module _ (tables : Tables) (tree tree' : Tree) (word word' leaf : ℕ → ℕ) (f h k parent t s : ℕ) (sound : IsTree tables tree) (says : Says word tables tree leaf)
     (added : IsAdded tree tree' f h k) (free : tree.content f ≡ Free) (none : tree.place h k ≡ None) (low : h < 2) (own : IsOwn tables f)
     (above : tree.content parent ≡ Table (suc h) t) (slot : s < slots tables parent) (is : 512 * t + s ≡ k)
-    (here : word' (512 * parent + s) ≡ pointer_to f) (there : (i : ℕ) → i ≢ 512 * parent + s → word' i ≡ word i) where
+    (here : word' (512 * parent + s) ≡ pointer_word f) (there : (i : ℕ) → i ≢ 512 * parent + s → word' i ≡ word i) where
   parent_own : IsOwn tables parent
   parent_own = sound.own parent (suc h) t (sound.back parent (suc h) t above)
 

@@ -9,7 +9,7 @@ use Rattle.arch_defs.proofs.FrameSets.{only_none}
 use Rattle.shadow_space.specs.declared.frames.TableFrames.{TableFrames}
 use Rattle.shadow_space.specs.declared.writing.Tables.{Tables}
 use Rattle.shadow_space.specs.Held.{HasFree, Held, IsCounted, IsCounting, IsKept, Stands, closed, departed, table_entered, entered_frame, fewer, more, next_free, opened}
-use Rattle.shadow_space.specs.Trees.{Free, HasTables, IsOwn, IsTree, Table, Tree, entry_of, frames_of, pointer_of, pointer_to, prefix, slots}
+use Rattle.shadow_space.specs.Trees.{Free, HasTables, IsOwn, IsTree, Table, Tree, entry_of, frames_of, pointer_of, prefix, slots}
 use Rattle.shadow_space.proofs.Adding.{IsAdded, added_says, added_sound, low_slots, same_pair}
 use Rattle.shadow_space.proofs.Counting.{counted_few, counted_inside, has_free, kept_closed, kept_fewer, kept_more, kept_opened, left_few, left_fewer}
 use Rattle.shadow_space.proofs.Placing.{place_added, place_removed, removed_free, removed_none, with_place, without_place}

@@ -13,9 +13,11 @@ use Rattle.stage_walk.specs.ByLevels.{walk_from}
 use Rattle.stage_walk.proofs.Levels.{from_below, from_ends}
 use Rattle.shadow_space.specs.declared.writing.Tables.{Tables}
 use Rattle.shadow_space.specs.Folding.{LastIs, LieWithin}
-use Rattle.shadow_space.specs.Trees.{Content, IsOwn, IsTree, Says, Table, Tree, entry_of, frames_of, pointer_of, pointer_to, slots}
+use Rattle.shadow_space.specs.Trees.{Content, IsOwn, IsTree, Says, Table, Tree, entry_of, frames_of, pointer_of, slots}
 use Rattle.shadow_space.proofs.Adding.{low_slots}
-use Rattle.shadow_space.proofs.Entries.{nothing_says, pointer_says}
+use Rattle.stage_walk.proofs.EntryWords.{zero_maps_nothing, pointer_leads_below}
+use Rattle.table_words.specs.Entries.{pointer_word}
+use Rattle.table_words.proofs.Pointers.{pointer_some}
 use Rattle.shadow_space.proofs.Slots.{own_frame, root_slots}
 
 -- the indexes of an address
@@ -31,9 +33,6 @@ last_whole va = omega arith
 -- the frame of an entry's place
 place_frame : (f s : ℕ) → (512 * f + s) / 512 ≡ (4096 * f + 8 * s) / 4096
 place_frame f s = omega arith
-
-no_pointer : (f : ℕ) → pointer_to f ≡ 0 → ⊥
-no_pointer f is = omega (arith, is)
 
 -- what a table's entry reads as
 pub record Reads (tables : Tables) (word : ℕ → ℕ) (reading : EntryReading) : Type 0 where
@@ -79,8 +78,8 @@ module _ (tables : Tables) (tree : Tree) (word leaf : ℕ → ℕ) (sound : IsTr
       (read_as f (va / 2 ^ 12 % 2 ^ 9) (Table 0 (va / 2 ^ 21)) (low_own f 0 (va / 2 ^ 21) here) (low_slot f 0 (va / 2 ^ 21) (va / 2 ^ 12 % 2 ^ 9) here (omega arith) (omega arith)) (sound.forth f 0 (va / 2 ^ 21) here)
       ∙ ap (λ n. Ok (leaf n)) (last_whole va))
 
-  below : (level f h k : ℕ) → tree.place h k ≡ Some f → entry_next (level + 1) access (pte_of (pointer_to f)) ≡ Below f
-  below level f h k here = pointer_says level f access (small f (low_own f h k here))
+  below : (level f h k : ℕ) → tree.place h k ≡ Some f → entry_next (level + 1) access (pte_of (pointer_word f)) ≡ Below f
+  below level f h k here = pointer_leads_below level f access (small f (low_own f h k here))
 
   -- without a table there is no leaf
   no_leaf : tree.place 0 (va / 2 ^ 21) ≡ None → leaf (va / 4096) ≡ 0
@@ -94,25 +93,25 @@ module _ (tables : Tables) (tree : Tree) (word leaf : ℕ → ℕ) (sound : IsTr
 
       by : (o : Option ℕ) → tree.place 0 (va / 2 ^ 21) ≡ o → tree.place 0 (va / 2 ^ 21) ≡ None
       by None is = is
-      by (Some f) is = absurd (no_pointer f (ap pointer_of (sym is) ∙ zeros))
+      by (Some f) is = absurd (pointer_some f (ap pointer_of (sym is) ∙ zeros))
 
   module _ (end : WalkEnd) (ends : entry_next 0 access (pte_of (leaf (va / 4096))) ≡ Ends end) where
     nothing_ends : leaf (va / 4096) ≡ 0 → PageFault ≡ end
     nothing_ends none =
-        let zero_ends : Ends PageFault ≡ Ends end = sym (nothing_says 0 access) ∙ ap (λ n. entry_next 0 access (pte_of n)) (sym none) ∙ ends in cc
+        let zero_ends : Ends PageFault ≡ Ends end = sym (zero_maps_nothing 0 access) ∙ ap (λ n. entry_next 0 access (pte_of n)) (sym none) ∙ ends in cc
 
     from_last : (f : ℕ) → tree.place 0 (va / 2 ^ 21) ≡ Some f → walk_from reading Sv39x4 va access 1 f ≡ end
     from_last f here = from_ends reading Sv39x4 va access 1 0 f end refl (last_next f here ∙ ends)
 
     from_middle : (f : ℕ) → tree.place 1 (va / 2 ^ 30) ≡ Some f → (o : Option ℕ) → tree.place 0 (va / 2 ^ 21) ≡ o → walk_from reading Sv39x4 va access 2 f ≡ end
     from_middle f here None place =
-        from_ends reading Sv39x4 va access 2 1 f PageFault refl (middle_next f here None place ∙ nothing_says 1 access) ∙ nothing_ends (no_leaf place)
+        from_ends reading Sv39x4 va access 2 1 f PageFault refl (middle_next f here None place ∙ zero_maps_nothing 1 access) ∙ nothing_ends (no_leaf place)
     from_middle f here (Some g) place =
         from_below reading Sv39x4 va access 2 1 f g refl (middle_next f here (Some g) place ∙ below 0 g 0 (va / 2 ^ 21) place) ∙ from_last g place
 
     from_root : va < 2 ^ 41 → (o : Option ℕ) → tree.place 1 (va / 2 ^ 30) ≡ o → walk_from reading Sv39x4 va access 3 tables.root ≡ end
     from_root low None place =
-        from_ends reading Sv39x4 va access 3 2 tables.root PageFault refl (root_next low None place ∙ nothing_says 2 access) ∙ nothing_ends (no_leaf (no_table place))
+        from_ends reading Sv39x4 va access 3 2 tables.root PageFault refl (root_next low None place ∙ zero_maps_nothing 2 access) ∙ nothing_ends (no_leaf (no_table place))
     from_root low (Some f) place =
         from_below reading Sv39x4 va access 3 2 tables.root f refl (root_next low (Some f) place ∙ below 1 f 1 (va / 2 ^ 30) place) ∙ from_middle f place (tree.place 0 (va / 2 ^ 21)) refl
 
@@ -137,7 +136,7 @@ module _ (tables : Tables) (tree : Tree) (word leaf : ℕ → ℕ) (sound : IsTr
     where
       by : (o : Option ℕ) → tree.place 0 (va / 2 ^ 21) ≡ o → LieWithin (frames_of tables) (later (path_from reading Sv39x4 va access 1) (next_of access (met_in reading Sv39x4 va 1 f)))
       by None place =
-          subst (λ n. LieWithin (frames_of tables) (later (path_from reading Sv39x4 va access 1) n)) (sym (middle_next f here None place ∙ nothing_says 1 access)) tt
+          subst (λ n. LieWithin (frames_of tables) (later (path_from reading Sv39x4 va access 1) n)) (sym (middle_next f here None place ∙ zero_maps_nothing 1 access)) tt
       by (Some g) place =
           subst (λ n. LieWithin (frames_of tables) (later (path_from reading Sv39x4 va access 1) n)) (sym (middle_next f here (Some g) place ∙ below 0 g 0 (va / 2 ^ 21) place)) (inside_last g place)
 
@@ -147,7 +146,7 @@ module _ (tables : Tables) (tree : Tree) (word leaf : ℕ → ℕ) (sound : IsTr
     where
       by : (o : Option ℕ) → tree.place 1 (va / 2 ^ 30) ≡ o → LieWithin (frames_of tables) (later (path_from reading Sv39x4 va access 2) (next_of access (met_in reading Sv39x4 va 2 tables.root)))
       by None place =
-          subst (λ n. LieWithin (frames_of tables) (later (path_from reading Sv39x4 va access 2) n)) (sym (root_next low None place ∙ nothing_says 2 access)) tt
+          subst (λ n. LieWithin (frames_of tables) (later (path_from reading Sv39x4 va access 2) n)) (sym (root_next low None place ∙ zero_maps_nothing 2 access)) tt
       by (Some f) place =
           subst (λ n. LieWithin (frames_of tables) (later (path_from reading Sv39x4 va access 2) n)) (sym (root_next low (Some f) place ∙ below 1 f 1 (va / 2 ^ 30) place))
           (inside_middle f place (tree.place 0 (va / 2 ^ 21)) refl)

@@ -10,41 +10,21 @@ use Rattle.arch_defs.specs.declared.modes.Access.TheVariants.{Fetch, Load, Store
 use Rattle.arch_defs.specs.declared.walks.LeafPte.{LeafPte}
 use Rattle.arch_defs.specs.declared.walks.Shape.TheVariants.{Sv39x4}
 use Rattle.arch_defs.specs.declared.walks.WalkEnd.TheVariants.{Leaf, PageFault}
-use Rattle.arch_defs.specs.Frames.{Frames, LieIn, in_blocks}
+use Rattle.arch_defs.specs.Frames.{LieIn, in_blocks}
 use Rattle.arch_defs.specs.Memory.{block_size, ram_base}
 use Rattle.arch_defs.specs.Permits.{permits_second}
 use Rattle.arch_defs.specs.Ram.{host_place}
-use Rattle.arch_defs.specs.SecondStage.{guest_root_frame, has_bytes, memory_words, place_under, second_end, second_walk}
+use Rattle.arch_defs.specs.SecondStage.{memory_words, place_under, second_end, second_walk}
 use Rattle.arch_defs.specs.Walk.{leaf_address}
 use Rattle.arch_defs.proofs.RamBlocks.{host_place_along, place_named}
 use Rattle.arch_defs.specs.CachedEntries.{CanFill, entry_at, leaf_of, place_by, second_by}
-use Rattle.shadow_space.specs.Folding.{ReadsIn, leaf_end}
+use Rattle.shadow_space.specs.Folding.{leaf_end}
+use Rattle.table_words.proofs.Readings.{has, memory_reads, root_frame}
 use Rattle.shadow_space.specs.Laws.{EntriesGiveRam, GivesEntries, MissesAreGuestPageFaults}
 use Rattle.shadow_space.specs.Leaves.{frame_of_ram}
 use Rattle.shadow_space.specs.Shadows.{Shadow, Tidy, own_frames, root_of}
 use Rattle.shadow_space.proofs.Finding.{found_has}
 use Rattle.shadow_space.proofs.Tidying.{folded, root_aligned, tables_placed, tidy_parts}
-
--- its entries are read as memory has them
-from_zero : (n : ℕ) → n - 0 ≡ n
-from_zero n = omega arith
-
-entry_inside : (place size : ℕ) → place / 4096 * 4096 + 4096 ≤ size → place % 8 ≡ 0 → place + 8 ≤ size
-entry_inside place size lies eighth = omega (arith, lies, eighth)
-
-has : (memory : List ℕ) (place n : ℕ) → place + n ≤ length memory → has_bytes 0 memory place n ≡ true
-has memory place n h =
-    let low : nat_le 0 place ≡ true = le-leb 0 place (omega arith) in
-    let high : nat_le (place + n) (0 + length memory) ≡ true = le-leb (place + n) (0 + length memory) (omega (arith, h)) in
-    rw (low, high) refl
-
-reads : (frames : Frames) (memory : List ℕ) → LieIn frames (length memory) → ReadsIn frames memory (memory_words 0 memory)
-reads frames memory lie place is eighth =
-    rw (has memory place 8 (entry_inside place (length memory) (lie (place / 4096) is) eighth), from_zero place) refl
-
--- the root is where hgatp's page says
-root_frame : (page : ℕ) → page % 4 ≡ 0 → page < 2 ^ 44 → guest_root_frame page ≡ page
-root_frame page aligned small = omega (arith, aligned, small)
 
 -- the walk's end for an entry
 pub walk_is : (space : Shadow) (memory : List ℕ) (mxr : Bool) (address : ℕ) (access : Access) → Tidy space memory
@@ -55,7 +35,7 @@ walk_is space memory mxr address access tidy =
     let placed = tables_placed space (length memory) parts.is parts.lies in
     let small = placed.root in
     let root = root_frame (root_of space) (root_aligned space.part space.index parts.is.once) (omega (arith, small)) in
-    let walked = (folded space memory tidy).walks (memory_words 0 memory) address access (reads (own_frames space) memory parts.lies) in
+    let walked = (folded space memory tidy).walks (memory_words 0 memory) address access (memory_reads (own_frames space) memory parts.lies) in
     rw (root, walked) refl
 
 -- the place of a page's byte under its leaf

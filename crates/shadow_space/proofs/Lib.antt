@@ -4,7 +4,6 @@ pub mod Counting
 pub mod Departing
 pub mod Dropping
 pub mod Editing
-pub mod Entries
 pub mod Finding
 pub mod Following
 pub mod Giving

@@ -1,7 +1,6 @@
 -- An entry is put into the tables.
-use Rattle.std.proofs.Common.{◌≡◌, ◌≢◌, ℕ, zero, suc, ◌+◌, ◌-◌, ◌*◌, ◌/◌, ◌%◌, ◌<◌, ◌≤◌, ◌^◌, ◌⊎◌, inl, inr, cond, ◌==◌, List, [], ◌∷◌, ◌++◌, length, get_or, slice_index, slice_set, Option, Some, None, refl, sym, ap, subst, ◌∙◌, arith, length-append, length-set}
-use Rattle.std.specs.Prelude.{slice_index_or}
-use Rattle.std.specs.List.{All, AllPairs}
+use Rattle.std.proofs.Common.{◌≡◌, ◌≢◌, ℕ, ◌+◌, ◌-◌, ◌*◌, ◌/◌, ◌%◌, ◌<◌, ◌≤◌, ◌^◌, ◌⊎◌, inl, inr, cond, ◌==◌, List, [], ◌∷◌, ◌++◌, length, get_or, slice_index, slice_set, Some, refl, sym, ap, subst, ◌∙◌, arith, length-append, length-set}
+use Rattle.std.specs.List.{All}
 use Rattle.std.proofs.lemmas.Bool.{cases_lt}
 use Rattle.std.proofs.lemmas.List.{get_or-set_same, get_or-set_other, get_or_append_left, get_or-append_right}
 use Rattle.std.proofs.lemmas.List.Elements.{All-append, All-cons, All-nil}
@@ -12,7 +11,7 @@ use Rattle.arch_defs.specs.Frames.{Only}
 use Rattle.arch_defs.proofs.FrameSets.{only_both}
 use Rattle.shadow_space.specs.declared.frames.TableFrames.{TableFrames}
 use Rattle.shadow_space.specs.declared.writing.Tables.{Tables}
-use Rattle.shadow_space.specs.Held.{HasFree, Held, HoldsList, IsCounting, IsKept, Stands, table_entered, entered_frame, held_in, number_of}
+use Rattle.shadow_space.specs.Held.{HasFree, Held, HoldsList, IsCounting, table_entered, entered_frame, held_in, number_of}
 use Rattle.shadow_space.specs.Leaves.{leaf_word, leaves}
 use Rattle.shadow_space.specs.Trees.{HasTables, IsOwn, Table, frames_of, prefix, slots}
 use Rattle.shadow_space.proofs.Adding.{low_slots}
@@ -24,6 +23,7 @@ use Rattle.shadow_space.proofs.Slots.{own_frame, own_room, root_slots}
 use Rattle.shadow_space.proofs.Stepping.{HasEntered, can_open, enters, low_range, some_counts}
 use Rattle.shadow_space.proofs.TakingOut.{middle_part, top_part}
 use Rattle.shadow_space.proofs.Tidying.{own_small}
+use Rattle.table_words.specs.Entries.{named_frame}
 use Rattle.table_words.specs.Words.{doubleword_at, with_word}
 use Rattle.table_words.proofs.Words.{only_word, word_here, word_there}
 
@@ -50,7 +50,7 @@ module _ (tables : Tables) (blocks : List ℕ) (most : ℕ) (entries : List Entr
   few_words : 2 * length entries + 1 < 65535
   few_words = omega (arith, room, holds.bound)
 
-  pub root_counts : doubleword_at memory (512 * tables.root + e.page / 262144) ≢ 0 → IsCounting frames tables.first (doubleword_at memory (512 * tables.root + e.page / 262144) / 1024)
+  pub root_counts : doubleword_at memory (512 * tables.root + e.page / 262144) ≢ 0 → IsCounting frames tables.first (named_frame (doubleword_at memory (512 * tables.root + e.page / 262144)))
   root_counts =
       some_counts tables (number_of entries) (leaves blocks entries) entries (held_in frames memory) (2 * most) (2 * length entries) 1 (e.page / 512 / 512) 0 (e.page / 262144) tables.root
       holds.placed holds.count holds.kept holds.stands (omega arith) holds.stands.sound.root root_slot (top_part e.page page_small) (omega (arith, few_words))
@@ -92,7 +92,7 @@ module _ (tables : Tables) (blocks : List ℕ) (most : ℕ) (entries : List Entr
     pub slot_room : 8 * (512 * middle + e.page / 512 % 512) + 8 ≤ length m1
     slot_room = own_room tables (length m1) middle (e.page / 512 % 512) placed1.lies middle_own middle_slot
 
-    pub slot_counts : doubleword_at m1 (512 * middle + e.page / 512 % 512) ≢ 0 → IsCounting frames1 tables.first (doubleword_at m1 (512 * middle + e.page / 512 % 512) / 1024)
+    pub slot_counts : doubleword_at m1 (512 * middle + e.page / 512 % 512) ≢ 0 → IsCounting frames1 tables.first (named_frame (doubleword_at m1 (512 * middle + e.page / 512 % 512)))
     slot_counts =
         some_counts tables (mixed (number_of entries) (number_of (entries ++ e ∷ []))) (leaves blocks entries) entries (held_in frames1 m1) (2 * most) (2 * length entries + 1) 0 (e.page / 512) (e.page / 512 / 512) (e.page / 512 % 512) middle
         placed1 holds.count first.kept first.stands (omega arith) middle_holds middle_slot (middle_part e.page) few_words

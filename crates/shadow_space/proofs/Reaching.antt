@@ -1,21 +1,20 @@
 -- The frames that the root does not reach.
-use Rattle.std.proofs.Common.{◌≡◌, ◌≢◌, ℕ, zero, suc, ◌+◌, ◌*◌, ◌/◌, ◌%◌, ◌<◌, ◌≤◌, ◌^◌, ◌⊎◌, inl, inr, cond, ◌==◌, List, [], ◌∷◌, Option, Some, None, refl, sym, ap, subst, ◌∙◌, arith}
+use Rattle.std.proofs.Common.{◌≡◌, ◌≢◌, ℕ, zero, suc, ◌+◌, ◌*◌, ◌/◌, ◌%◌, ◌<◌, ◌≤◌, ◌^◌, ◌⊎◌, inl, inr, cond, ◌==◌, List, [], ◌∷◌, Option, Some, None, refl, sym, ap, ◌∙◌, arith}
 use Rattle.std.specs.List.{All}
 use Rattle.std.proofs.lemmas.Bool.{ne_eqb}
 use Rattle.std.proofs.lemmas.List.Elements.{All-head, All-tail}
 use Rattle.arch_defs.specs.declared.cached.Entry.{Entry}
 use Rattle.arch_defs.specs.CachedEntries.{CanFill}
-use Rattle.shadow_space.specs.declared.writing.Tables.{Tables}
-use Rattle.shadow_space.specs.Held.{Held, HoldsList, Stands, number_of}
+use Rattle.shadow_space.specs.Held.{number_of}
 use Rattle.shadow_space.specs.Leaves.{leaves}
 use Rattle.shadow_space.specs.Reaching.{FreeAreZeros, IsReached, PointsTo}
 use Rattle.shadow_space.specs.Shadows.{IsTidy, Shadow, Tidy, root_of, tables_in}
-use Rattle.shadow_space.specs.Trees.{Content, Free, IsOwn, Table, entry_of, pointer_of, prefix, slots}
+use Rattle.shadow_space.specs.Trees.{Content, Free, Table, entry_of, pointer_of, slots}
 use Rattle.shadow_space.proofs.Adding.{low_slots}
 use Rattle.shadow_space.proofs.Numbers.{no_number_of, number_cons}
 use Rattle.shadow_space.proofs.Slots.{other_slots, other_than_root, root_slots, same_or}
-use Rattle.shadow_space.proofs.TakingOut.{no_pointer}
 use Rattle.shadow_space.proofs.Tidying.{tidy_parts}
+use Rattle.table_words.proofs.Pointers.{pointer_some}
 use Rattle.table_words.specs.Words.{doubleword_at}
 
 -- an entry's page has a small number, and so has its table
@@ -64,7 +63,7 @@ module _ (space : Shadow) (memory : List ℕ) (tidy : IsTidy space memory) where
       by : (o : Option ℕ) → tidy.holds.stands.tree.place 1 (k / 512) ≡ o → IsReached memory (root_of space) frame
       by None none =
           let zeros = tidy.holds.stands.says.nothing 1 (k / 512) (k % 512) (omega arith) none (omega arith) in
-          absurd (no_pointer frame (ap pointer_of (sym there) ∙ zeros))
+          absurd (pointer_some frame (ap pointer_of (sym there) ∙ zeros))
       by (Some g) is =
           let holds = tidy.holds.stands.sound.forth g 1 (k / 512) is in
           let fits : k % 512 < slots (tables_in space.part space.index) g = omega (arith, low_slots (tables_in space.part space.index) tidy.holds.stands.tree g 1 (k / 512) tidy.holds.stands.sound holds (omega arith)) in

@@ -1,20 +1,20 @@
 -- One more entry in a table.
-use Rattle.std.proofs.Common.{◌≡◌, ◌≢◌, ℕ, zero, suc, ◌+◌, ◌-◌, ◌*◌, ◌/◌, ◌%◌, ◌<◌, ◌≤◌, ◌^◌, ◌⊎◌, inl, inr, false, ◌==◌, List, length, get_or, slice_index, slice_set, Option, Some, None, if◌then◌else◌, refl, sym, ap, subst, ◌∙◌, arith}
+use Rattle.std.proofs.Common.{◌≡◌, ◌≢◌, ℕ, suc, ◌+◌, ◌-◌, ◌*◌, ◌<◌, ◌≤◌, ◌^◌, ◌⊎◌, inl, inr, false, ◌==◌, List, length, slice_index, slice_set, Option, Some, None, refl, sym, ap, subst, ◌∙◌, arith}
 use Rattle.std.specs.Prelude.{slice_index_or}
-use Rattle.std.proofs.lemmas.Bool.{cases_lt, eq-eqb, ne_eqb}
+use Rattle.std.proofs.lemmas.Bool.{eq-eqb, ne_eqb}
 use Rattle.std.proofs.lemmas.List.{get_or-set_same, get_or-set_other}
 use Rattle.arch_defs.specs.declared.cached.Entry.{Entry}
 use Rattle.arch_defs.specs.Frames.{Only}
 use Rattle.arch_defs.proofs.FrameSets.{only_none}
-use Rattle.shadow_space.specs.declared.frames.TableFrames.{TableFrames}
 use Rattle.shadow_space.specs.declared.writing.Tables.{Tables}
-use Rattle.shadow_space.specs.Held.{HasFree, Held, IsCounted, IsCounting, IsKept, Stands, closed, departed, table_entered, entered_frame, fewer, more, next_free, opened}
-use Rattle.shadow_space.specs.Trees.{Free, HasTables, IsOwn, IsTree, Table, Tree, entry_of, frames_of, pointer_of, pointer_to, prefix, slots}
-use Rattle.shadow_space.proofs.Adding.{IsAdded, added_says, added_sound, low_slots, same_pair}
-use Rattle.shadow_space.proofs.Counting.{counted_few, counted_inside, has_free, kept_closed, kept_fewer, kept_more, kept_opened, left_few, left_fewer}
-use Rattle.shadow_space.proofs.Placing.{place_added, place_removed, removed_free, removed_none, with_place, without_place}
-use Rattle.shadow_space.proofs.Removing.{removed_says, removed_sound}
+use Rattle.shadow_space.specs.Held.{HasFree, Held, IsCounted, IsCounting, IsKept, Stands, table_entered, entered_frame, next_free}
+use Rattle.shadow_space.specs.Trees.{Free, HasTables, IsOwn, IsTree, Table, Tree, entry_of, frames_of, pointer_of, prefix, slots}
+use Rattle.shadow_space.proofs.Adding.{IsAdded, added_says, added_sound, same_pair}
+use Rattle.shadow_space.proofs.Counting.{counted_few, counted_inside, has_free, kept_more, kept_opened, left_few}
+use Rattle.shadow_space.proofs.Placing.{place_added, with_place}
 use Rattle.shadow_space.proofs.Slots.{own_frame, own_room, same_or}
+use Rattle.table_words.specs.Entries.{named_frame, pointer_word}
+use Rattle.table_words.proofs.Pointers.{pointer_names, pointer_small, pointer_some}
 use Rattle.table_words.specs.Words.{doubleword_at, with_word}
 use Rattle.table_words.proofs.Words.{only_word, word_here, word_there}
 
@@ -28,12 +28,6 @@ pub record HasEntered (tables : Tables) (number' : ℕ → ℕ → ℕ) (leaf : 
   pub place : stands.tree.place h k ≡ Some frame
   pub kept : IsKept new.frames count (total + 1)
   pub only : Only (frames_of tables) old.memory new.memory
-
-pointer_small : (f : ℕ) → f < 2 ^ 44 → f * 1024 + 1 < 2 ^ 64
-pointer_small f h = omega arith
-
-pointer_frame : (f : ℕ) → (f * 1024 + 1) / 1024 ≡ f
-pointer_frame f = omega arith
 
 pub word_small : (f s size : ℕ) → f < 2 ^ 44 → s < 2048 → 512 * f + s < 2 ^ 60
 word_small f s size h h' = omega arith
@@ -114,7 +108,11 @@ module _ (tables : Tables) (number : ℕ → ℕ → ℕ) (leaf : ℕ → ℕ) (
       ∙ ap (λ c. entry_of stands.tree leaf c s) above
       ∙ ap (λ n. pointer_of (stands.tree.place h n)) is
 
-  -- the frame of a table has a count
+  -- the frame of a table has a small number
+  table_small : (f : ℕ) → stands.tree.place h k ≡ Some f → f < 2 ^ 44
+  table_small f place = let range = low_range tables stands.tree f h k stands.sound place low in omega (arith, range.1, placed.others)
+
+  -- and a count
   pub frame_counts : (f : ℕ) → stands.tree.place h k ≡ Some f → total < 65535 → IsCounting held.frames tables.first f
   frame_counts f place small =
       let range = low_range tables stands.tree f h k stands.sound place low in
@@ -125,12 +123,12 @@ module _ (tables : Tables) (number : ℕ → ℕ → ℕ) (leaf : ℕ → ℕ) (
         room = omega (arith, counted_few held.frames count total (f - tables.first) kept, small);
       }
 
-  pub some_counts : total < 65535 → doubleword_at held.memory (512 * parent + s) ≢ 0 → IsCounting held.frames tables.first (doubleword_at held.memory (512 * parent + s) / 1024)
+  pub some_counts : total < 65535 → doubleword_at held.memory (512 * parent + s) ≢ 0 → IsCounting held.frames tables.first (named_frame (doubleword_at held.memory (512 * parent + s)))
   some_counts small some = by (stands.tree.place h k) refl
     where
-      by : (o : Option ℕ) → stands.tree.place h k ≡ o → IsCounting held.frames tables.first (doubleword_at held.memory (512 * parent + s) / 1024)
+      by : (o : Option ℕ) → stands.tree.place h k ≡ o → IsCounting held.frames tables.first (named_frame (doubleword_at held.memory (512 * parent + s)))
       by None place = absurd (some (entry_is ∙ ap pointer_of place))
-      by (Some f) place = subst (IsCounting held.frames tables.first) (sym (ap (λ n. n / 1024) (entry_is ∙ ap pointer_of place) ∙ pointer_frame f)) (frame_counts f place small)
+      by (Some f) place = subst (IsCounting held.frames tables.first) (sym (ap named_frame (entry_is ∙ ap pointer_of place) ∙ pointer_names f (table_small f place))) (frame_counts f place small)
 
   -- what is free
   pub can_open : total < count → HasFree held.frames tables.first
@@ -150,9 +148,9 @@ module _ (tables : Tables) (number : ℕ → ℕ → ℕ) (leaf : ℕ → ℕ) (
         → HasEntered tables number' leaf entries held (table_entered tables.first (512 * parent + s) held) count total h k (entered_frame tables.first (512 * parent + s) held)
     unfolding table_entered entered_frame
     entered_some f place =
-        let word : doubleword_at held.memory (512 * parent + s) ≡ pointer_to f = entry_is ∙ ap pointer_of place in
-        let some : (doubleword_at held.memory (512 * parent + s) == 0) ≡ false = ne_eqb (doubleword_at held.memory (512 * parent + s)) 0 (λ e. omega (arith, e, word)) in
-        let frame : doubleword_at held.memory (512 * parent + s) / 1024 ≡ f = ap (λ n. n / 1024) word ∙ pointer_frame f in
+        let word : doubleword_at held.memory (512 * parent + s) ≡ pointer_word f = entry_is ∙ ap pointer_of place in
+        let some : (doubleword_at held.memory (512 * parent + s) == 0) ≡ false = ne_eqb (doubleword_at held.memory (512 * parent + s)) 0 (λ e. pointer_some f (sym word ∙ e)) in
+        let frame : named_frame (doubleword_at held.memory (512 * parent + s)) ≡ f = ap named_frame word ∙ pointer_names f (table_small f place) in
         let was = stands.counted.some h k f low place in
         let inside = counted_inside held.frames count total (f - tables.first) kept (omega (arith, was.0, was.1)) in
         rw (some, frame) (record {
@@ -186,7 +184,7 @@ module _ (tables : Tables) (number : ℕ → ℕ → ℕ) (leaf : ℕ → ℕ) (
       free : stands.tree.content (tables.first + next_free held.frames) ≡ Free
       free = stands.counted.free (next_free held.frames) (omega (arith, inside, fits)) zero_is
 
-      fresh_small : (tables.first + next_free held.frames) * 1024 + 1 < 2 ^ 64
+      fresh_small : pointer_word (tables.first + next_free held.frames) < 2 ^ 64
       fresh_small = pointer_small (tables.first + next_free held.frames) (omega (arith, placed.others, inside, fits))
 
       added : IsAdded stands.tree (with_place stands.tree (tables.first + next_free held.frames) h k) (tables.first + next_free held.frames) h k
@@ -254,16 +252,16 @@ module _ (tables : Tables) (number : ℕ → ℕ → ℕ) (leaf : ℕ → ℕ) (
               tree = with_place stands.tree (tables.first + next_free held.frames) h k;
               sound = added_sound tables stands.tree (with_place stands.tree (tables.first + next_free held.frames) h k) (tables.first + next_free held.frames) h k stands.sound added free place low fresh_own;
               says = added_says tables stands.tree (with_place stands.tree (tables.first + next_free held.frames) h k) (doubleword_at held.memory)
-                  (doubleword_at (with_word held.memory (512 * parent + s) (pointer_to (tables.first + next_free held.frames)))) leaf (tables.first + next_free held.frames) h k parent t s
+                  (doubleword_at (with_word held.memory (512 * parent + s) (pointer_word (tables.first + next_free held.frames)))) leaf (tables.first + next_free held.frames) h k parent t s
                   stands.sound stands.says added free place low fresh_own above slot is
-                  (word_here held.memory (512 * parent + s) (pointer_to (tables.first + next_free held.frames)) room fresh_small)
-                  (λ i other. word_there held.memory (512 * parent + s) (pointer_to (tables.first + next_free held.frames)) i room other);
+                  (word_here held.memory (512 * parent + s) (pointer_word (tables.first + next_free held.frames)) room fresh_small)
+                  (λ i other. word_there held.memory (512 * parent + s) (pointer_word (tables.first + next_free held.frames)) i room other);
               counted = counted';
               index = λ i e h'. added.places 0 (prefix 0 (slice_index_or entries i e).page) (other_place 0 (prefix 0 (slice_index_or entries i e).page) _ (stands.index i e h')) ∙ stands.index i e h';
             };
             place = added.place;
             kept = kept_opened held.frames count total kept (has_free held.frames count total kept some);
-            only = only_word (frames_of tables) held.memory (512 * parent + s) (pointer_to (tables.first + next_free held.frames)) room (own_frame tables parent s parent_own slot);
+            only = only_word (frames_of tables) held.memory (512 * parent + s) (pointer_word (tables.first + next_free held.frames)) room (own_frame tables parent s parent_own slot);
           })
 
     pub enters : total < count → HasEntered tables number' leaf entries held (table_entered tables.first (512 * parent + s) held) count total h k (entered_frame tables.first (512 * parent + s) held)

@@ -1,7 +1,5 @@
 -- An entry is taken out of the tables.
-use Rattle.std.proofs.Common.{◌≡◌, ◌≢◌, ℕ, zero, suc, ◌+◌, ◌-◌, ◌*◌, ◌/◌, ◌%◌, ◌<◌, ◌≤◌, ◌^◌, ◌⊎◌, inl, inr, cond, ◌==◌, List, length, get_or, remove, slice_index, Option, Some, None, refl, sym, ap, subst, ◌∙◌, arith}
-use Rattle.std.specs.Prelude.{slice_index_or}
-use Rattle.std.specs.List.{All, AllPairs}
+use Rattle.std.proofs.Common.{◌≡◌, ℕ, ◌+◌, ◌-◌, ◌*◌, ◌/◌, ◌%◌, ◌<◌, ◌≤◌, ◌^◌, ◌⊎◌, inl, inr, cond, ◌==◌, List, length, get_or, remove, slice_index, Option, Some, None, refl, sym, ap, subst, ◌∙◌, arith}
 use Rattle.std.proofs.lemmas.Bool.{cases_lt}
 use Rattle.std.proofs.lemmas.List.Edits.{get_or-remove_above, get_or-remove_below, length-remove}
 use Rattle.std.proofs.lemmas.List.Quantifiers.{all_pairs_remove}
@@ -13,16 +11,18 @@ use Rattle.shadow_space.specs.declared.frames.TableFrames.{TableFrames}
 use Rattle.shadow_space.specs.declared.writing.Tables.{Tables}
 use Rattle.shadow_space.specs.Held.{HasMovedUp, Held, HoldsList, IsCounting, IsKept, Stands, departed, held_in, number_of}
 use Rattle.shadow_space.specs.Leaves.{leaves}
-use Rattle.shadow_space.specs.Trees.{HasTables, IsOwn, Table, Tree, entry_of, frames_of, pointer_of, pointer_to, prefix, slots}
+use Rattle.shadow_space.specs.Trees.{HasTables, IsOwn, Table, entry_of, frames_of, pointer_of, prefix, slots}
 use Rattle.shadow_space.proofs.Adding.{low_slots}
-use Rattle.shadow_space.proofs.Counting.{counted_inside, left_fewer}
+use Rattle.shadow_space.proofs.Counting.{left_fewer}
 use Rattle.shadow_space.proofs.Departing.{HasDeparted, departs}
 use Rattle.shadow_space.proofs.Editing.{all_removed, leaf_gone, leaf_other}
 use Rattle.shadow_space.proofs.Leafing.{leaf_says}
 use Rattle.shadow_space.proofs.Numbers.{mixed, more_high, more_low, no_leaves, number_remove, number_up, own_number}
 use Rattle.shadow_space.proofs.Slots.{own_frame, own_room, root_slots}
-use Rattle.shadow_space.proofs.Stepping.{entry_is, frame_counts, low_range, room, word_small}
+use Rattle.shadow_space.proofs.Stepping.{entry_is, frame_counts}
 use Rattle.shadow_space.proofs.Tidying.{own_small}
+use Rattle.table_words.specs.Entries.{named_frame}
+use Rattle.table_words.proofs.Pointers.{pointer_names, pointer_some}
 use Rattle.table_words.specs.Words.{doubleword_at, with_word}
 use Rattle.table_words.proofs.Words.{only_word, word_here, word_there}
 
@@ -32,12 +32,6 @@ middle_part page = omega arith
 pub top_part : (page : ℕ) → page < 2 ^ 29 → 512 * 0 + page / 262144 ≡ page / 512 / 512
 top_part page h = omega arith
 
-pub no_pointer : (f : ℕ) → pointer_to f ≡ 0 → ⊥
-no_pointer f is = omega (arith, is)
-
-pointer_frame : (f : ℕ) → (f * 1024 + 1) / 1024 ≡ f
-pointer_frame f = omega arith
-
 -- the table above a page's lowest one
 pub above_low : (tables : Tables) (number : ℕ → ℕ → ℕ) (leaf : ℕ → ℕ) (entries : List Entry) (held : Held) (page f : ℕ) → (stands : Stands tables number leaf entries held)
     → stands.tree.place 0 (page / 512) ≡ Some f → (o : Option ℕ) → stands.tree.place 1 (page / 512 / 512) ≡ o → (g : ℕ) × (stands.tree.place 1 (page / 512 / 512) ≡ Some g)
@@ -45,7 +39,7 @@ above_low tables number leaf entries held page f stands place (Some g) is = (g, 
 above_low tables number leaf entries held page f stands place None is =
     let zeros = stands.says.nothing 1 (page / 512 / 512) (page / 512 % 512) (omega arith) is (omega arith) in
     let there : stands.tree.place 0 (512 * (page / 512 / 512) + page / 512 % 512) ≡ Some f = ap (stands.tree.place 0) (middle_part page) ∙ place in
-    absurd (no_pointer f (ap pointer_of (sym there) ∙ zeros))
+    absurd (pointer_some f (ap pointer_of (sym there) ∙ zeros))
 
 module _ (tables : Tables) (blocks : List ℕ) (most : ℕ) (entries : List Entry) (frames : TableFrames) (memory : List ℕ) (i : ℕ) (d : Entry)
     (holds : HoldsList tables blocks most entries frames memory) (inside : i < length entries) (page place : ℕ) (page_is : page ≡ (get_or entries i d).page) (place_is : place ≡ slice_index frames.places i) where
@@ -154,13 +148,13 @@ module _ (tables : Tables) (blocks : List ℕ) (most : ℕ) (entries : List Entr
     found : (g : ℕ) × (first.stands.tree.place 1 (page / 512 / 512) ≡ Some g)
     found = above_low tables (number_of entries) (leaves blocks (remove entries i)) (remove entries i) (held_in frames1 m1) page (tables.first + place) first.stands first.low_place _ refl
 
-    middle_is : doubleword_at m1 (512 * tables.root + page / 262144) / 1024 ≡ found.0
+    middle_is : named_frame (doubleword_at m1 (512 * tables.root + page / 262144)) ≡ found.0
     middle_is =
-        ap (λ n. n / 1024)
+        ap named_frame
         (entry_is tables (number_of entries) (leaves blocks (remove entries i)) (remove entries i) (held_in frames1 m1) (2 * most) (2 * length entries) 1 (page / 512 / 512) 0
         (page / 262144) tables.root first.placed holds.count first.kept first.stands (omega arith) first.stands.sound.root root_slot (top_part page page_small)
         ∙ ap pointer_of found.1)
-        ∙ pointer_frame found.0
+        ∙ pointer_names found.0 (own_small tables found.0 (length m1) first.placed (first.stands.sound.own found.0 1 (page / 512 / 512) found.1))
 
     -- and the middle table
     pub record HasMiddle (middle : ℕ) : Type 0 where
@@ -169,7 +163,7 @@ module _ (tables : Tables) (blocks : List ℕ) (most : ℕ) (entries : List Entr
       pub small : middle < 2 ^ 44
       pub fits : 8 * (512 * middle + page / 512 % 512) + 8 ≤ length m1
 
-    pub has_middle : (middle : ℕ) → middle ≡ doubleword_at m1 (512 * tables.root + page / 262144) / 1024 → HasMiddle middle
+    pub has_middle : (middle : ℕ) → middle ≡ named_frame (doubleword_at m1 (512 * tables.root + page / 262144)) → HasMiddle middle
     has_middle middle is = record { middle_place = there; slot = slot; small = own_small tables middle (length m1) first.placed own; fits = own_room tables (length m1) middle (page / 512 % 512) first.placed.lies own slot }
       where
         there : first.stands.tree.place 1 (page / 512 / 512) ≡ Some middle

@@ -1,5 +1,5 @@
 -- Tidy spaces.
-use Rattle.std.proofs.Common.{◌≡◌, ◌≢◌, ℕ, ◌+◌, ◌-◌, ◌*◌, ◌/◌, ◌%◌, ◌<◌, ◌≤◌, ◌^◌, ◌⊎◌, inl, inr, true, List, [], Option, Some, None, Ok, length, slice_index, refl, sym, ap, subst, ◌∙◌, arith}
+use Rattle.std.proofs.Common.{◌≡◌, ◌≢◌, ℕ, ◌+◌, ◌-◌, ◌*◌, ◌/◌, ◌%◌, ◌<◌, ◌≤◌, ◌^◌, ◌⊎◌, inl, inr, true, List, [], Option, Some, None, length, slice_index, refl, sym, ap, subst, ◌∙◌, arith}
 use Rattle.std.specs.List.{All, AllPairs}
 use Rattle.std.proofs.lemmas.Bool.{both_ways, cases_lt, le-ltb, lt-ltb}
 use Rattle.std.proofs.lemmas.List.Elements.{All-nil}
@@ -10,24 +10,26 @@ use Rattle.arch_defs.specs.declared.walks.Shape.TheVariants.{Sv39x4}
 use Rattle.arch_defs.specs.declared.walks.Next.TheVariants.{Ends}
 use Rattle.arch_defs.specs.Frames.{Apart, LieIn, Only, Same, within}
 use Rattle.arch_defs.specs.Layouts.{Layout, NamesEachOnce, space_frames}
-use Rattle.arch_defs.specs.Memory.{block_size, load, ram_base}
-use Rattle.arch_defs.specs.TableEntries.{pte_of, entry_next}
+use Rattle.arch_defs.specs.Memory.{block_size, ram_base}
+use Rattle.arch_defs.specs.TableEntries.{pte_of, entry_next, is_aligned}
 use Rattle.arch_defs.specs.Walk.{EntryReading, path, walk}
 use Rattle.arch_defs.proofs.FrameSets.{in_range}
 use Rattle.stage_walk.proofs.Levels.{walk_refused, walk_starts}
 use Rattle.shadow_space.specs.declared.writing.Tables.{Tables}
-use Rattle.arch_defs.specs.CachedEntries.{CanFill, HasOtherPage, cut_by, entry_at, filled}
-use Rattle.shadow_space.specs.Folding.{LastIs, LieWithin, ReadsIn, leaf_end, leaf_parts}
+use Rattle.arch_defs.specs.CachedEntries.{CanFill, HasOtherPage, entry_at}
+use Rattle.shadow_space.specs.Folding.{LastIs, LieWithin, leaf_end}
 use Rattle.shadow_space.specs.Laws.{TidyIsFolded, TidyLasts}
 use Rattle.shadow_space.specs.declared.frames.TableFrames.{TableFrames}
-use Rattle.shadow_space.specs.Held.{HoldsList, IsCounted, IsKept, Stands, held_in, number_of}
-use Rattle.shadow_space.specs.Leaves.{frame_of_ram, leaf_if, leaf_word, leaves}
+use Rattle.shadow_space.specs.Held.{HoldsList, IsKept, Stands, held_in, number_of}
+use Rattle.shadow_space.specs.Leaves.{frame_of_ram, leaf_if, leaf_parts, leaf_word, leaves}
 use Rattle.shadow_space.specs.Shadows.{AreZeros, HasSmallNumbers, IsShadow, IsTidy, Shadow, Tidy, own_frames, root_of, tables_in}
 use Rattle.shadow_space.specs.Trees.{HasTables, IsOwn, RootIsApart, frames_of}
 use Rattle.table_words.specs.Words.{doubleword_at}
-use Rattle.table_words.proofs.Words.{same_frame, word_kept}
+use Rattle.table_words.proofs.Words.{word_kept}
 use Rattle.shadow_space.proofs.Starting.{zeros_stand}
-use Rattle.shadow_space.proofs.Entries.{leaf_ends, nothing_says, parts_of}
+use Rattle.stage_walk.proofs.EntryWords.{leaf_gives_rights, reads_back, some_with_v, zero_maps_nothing}
+use Rattle.table_words.specs.Entries.{ReadsIn}
+use Rattle.table_words.proofs.Readings.{entry_read}
 use Rattle.shadow_space.proofs.Finding.{found_has}
 use Rattle.shadow_space.proofs.Following.{Reads, folds, inside_root, last_is}
 use Rattle.shadow_space.proofs.Slots.{own_frame}
@@ -133,38 +135,32 @@ lasts space old new same tidy =
     })
 
 -- what is read in its frames
-turned : (f s : ℕ) → 8 * (512 * f + s) ≡ 4096 * f + 8 * s
-turned f s = omega arith
-
-frame_turned : (f s : ℕ) → (512 * f + s) / 512 ≡ (4096 * f + 8 * s) / 4096
-frame_turned f s = omega arith
-
-eighth : (f s : ℕ) → (4096 * f + 8 * s) % 8 ≡ 0
-eighth f s = omega arith
-
 reads_words : (tables : Tables) (memory : List ℕ) (reading : EntryReading) → ReadsIn (frames_of tables) memory reading → Reads tables (doubleword_at memory) reading
 reads_words tables memory reading reads = record {
-  each = λ f s own slot.
-      reads (4096 * f + 8 * s) (subst (λ n. frames_of tables n ≡ true) (frame_turned f s) (own_frame tables f s own slot)) (eighth f s)
-      ∙ ap (λ place. Ok (load memory place 8)) (sym (turned f s));
+  each = λ f s own slot. entry_read (frames_of tables) memory reading f s reads (own_frame tables f s own slot);
 }
 
 -- an entry's frame in machine memory has a small number
 small_place : (n off : ℕ) → n < 2 ^ 32 → (n * 2097152 + off % 2097152) / 4096 < 2 ^ 44
 small_place n off h = omega arith
 
+frame_small : (blocks : List ℕ) (e : Entry) → ((i : ℕ) → slice_index blocks i < 2 ^ 32) → frame_of_ram blocks e.frame < 2 ^ 44
+frame_small blocks e small =
+    small_place (slice_index blocks ((e.frame * 4096 - ram_base) / block_size)) (e.frame * 4096 - ram_base) (small ((e.frame * 4096 - ram_base) / block_size))
+
+every : (frame : ℕ) → is_aligned 0 frame ≡ true
+every frame = let one : frame % 1 ≡ 0 = omega arith in rw one refl
+
 -- the leaf of a page ends the walk as its entry does
 leaf_is_end : (blocks : List ℕ) (access : Access) (o : Option Entry) → ((i : ℕ) → slice_index blocks i < 2 ^ 32) → ((e : Entry) → o ≡ Some e → CanFill blocks e)
     → entry_next 0 access (pte_of (leaf_if blocks o)) ≡ Ends (leaf_end blocks access o)
-leaf_is_end blocks access None small can = nothing_says 0 access
+leaf_is_end blocks access None small can = zero_maps_nothing 0 access
 leaf_is_end blocks access (Some e) small can =
     let filled = can e refl in
-    leaf_ends (frame_of_ram blocks e.frame) e.r e.w e.x access
-    (small_place (slice_index blocks ((e.frame * 4096 - ram_base) / block_size)) (e.frame * 4096 - ram_base) (small ((e.frame * 4096 - ram_base) / block_size)))
-    filled.right filled.write
+    leaf_gives_rights 0 (frame_of_ram blocks e.frame) e.r e.w e.x access (frame_small blocks e small) (every (frame_of_ram blocks e.frame)) filled.right filled.write
 
 leaf_some : (blocks : List ℕ) (e : Entry) → leaf_word blocks e ≡ 0 → ⊥
-leaf_some blocks e zero = omega (arith, zero)
+leaf_some blocks e zero = some_with_v (leaf_parts blocks e) refl zero
 
 low_page : (va : ℕ) → va / 4096 < 2 ^ 29 → va < 2 ^ 41
 low_page va h = omega arith
@@ -210,7 +206,7 @@ module _ (space : Shadow) (memory : List ℕ) (tidy : IsTidy space memory) where
   unfolding leaves
   leaf_has page e found = (
     ap (λ o. pte_of (leaf_if space.part.blocks o)) found
-        ∙ parts_of (frame_of_ram space.part.blocks e.frame) e.r e.w e.x (small_place (slice_index space.part.blocks ((e.frame * 4096 - ram_base) / block_size)) (e.frame * 4096 - ram_base) (tidy.is.small.blocks ((e.frame * 4096 - ram_base) / block_size))),
+        ∙ reads_back (leaf_parts space.part.blocks e) (record { frame = frame_small space.part.blocks e tidy.is.small.blocks; reserved = omega arith }),
     λ zero. leaf_some space.part.blocks e (ap (leaf_if space.part.blocks) (sym found) ∙ zero),
   )
 

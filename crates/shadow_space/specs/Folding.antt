@@ -1,5 +1,5 @@
 -- The folded table: what its walk gives.
-use Rattle.std.specs.Prelude.{ℕ, ◌≡◌, ◌/◌, ◌%◌, true, not, ◌&&◌, List, [], ◌∷◌, Option, Some, None, Ok, if◌then◌else◌}
+use Rattle.std.specs.Prelude.{ℕ, ◌≡◌, ◌/◌, true, not, ◌&&◌, List, [], ◌∷◌, Option, Some, None, Ok, if◌then◌else◌}
 use Rattle.arch_defs.specs.declared.cached.Entry.{Entry}
 use Rattle.arch_defs.specs.declared.modes.Access.{Access}
 use Rattle.arch_defs.specs.declared.walks.Shape.TheVariants.{Sv39x4}
@@ -7,17 +7,12 @@ use Rattle.arch_defs.specs.declared.walks.Pte.{Pte}
 use Rattle.arch_defs.specs.declared.walks.WalkEnd.{WalkEnd}
 use Rattle.arch_defs.specs.declared.walks.WalkEnd.TheVariants.{Leaf, PageFault}
 use Rattle.arch_defs.specs.Frames.{Frames}
-use Rattle.arch_defs.specs.Memory.{load}
 use Rattle.arch_defs.specs.TableEntries.{needs_dirty, pte_of}
 use Rattle.arch_defs.specs.Walk.{EntryReading, Met, path, walk}
 use Rattle.arch_defs.specs.CachedEntries.{entry_at}
-use Rattle.shadow_space.specs.Leaves.{frame_of_ram}
+use Rattle.shadow_space.specs.Leaves.{frame_of_ram, leaf_parts}
 use Rattle.shadow_space.specs.Shadows.{Shadow, own_frames, root_of}
-
--- a reading of places gives the aligned doublewords of memory in these frames
-abbrev pub ReadsIn : Frames → List ℕ → EntryReading → Type 0
-ReadsIn frames memory reading =
-    (place : ℕ) → frames (place / 4096) ≡ true → place % 8 ≡ 0 → reading place ≡ Ok (load memory place 8)
+use Rattle.table_words.specs.Entries.{ReadsIn}
 
 -- the places of these entries lie in these frames
 abbrev pub LieWithin : Frames → List Met → Type 0
@@ -38,21 +33,6 @@ leaf_end blocks access (Some e) =
       x = e.x;
       u = true;
     })
-
--- an entry's leaf in named parts: the frame is the host's, R and X are as the entry has them, W and D both as
--- its w, and V, U and A are set
-abbrev pub leaf_parts : List ℕ → Entry → Pte
-leaf_parts blocks e = record {
-  v = true;
-  r = e.r;
-  w = e.w;
-  x = e.x;
-  u = true;
-  a = true;
-  d = e.w;
-  reserved = 0;
-  frame = frame_of_ram blocks e.frame;
-}
 
 -- the last of these entries is one of the last level, and reads so
 abbrev pub LastIs : Pte → List Met → Type 0

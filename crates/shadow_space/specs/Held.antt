@@ -1,5 +1,5 @@
 -- The frames that a space keeps for tables, and how the tables stand in memory.
-use Rattle.std.specs.Prelude.{ℕ, ◌≡◌, ◌+◌, ◌-◌, ◌*◌, ◌/◌, ◌<◌, ◌≤◌, ◌^◌, ◌==◌, not, List, Option, Some, None, length, slice_index, slice_index_or, slice_set, if◌then◌else◌}
+use Rattle.std.specs.Prelude.{ℕ, ◌≡◌, ◌+◌, ◌-◌, ◌*◌, ◌<◌, ◌≤◌, ◌^◌, ◌==◌, not, List, Some, None, length, slice_index, slice_index_or, slice_set, if◌then◌else◌}
 use Rattle.std.specs.List.{All, AllPairs, count_by, sum}
 use Rattle.arch_defs.specs.declared.cached.Entry.{Entry}
 use Rattle.shadow_space.specs.declared.cached.CachedTable.{CachedTable}
@@ -7,7 +7,8 @@ use Rattle.shadow_space.specs.declared.frames.TableFrames.{TableFrames}
 use Rattle.shadow_space.specs.declared.writing.Tables.{Tables}
 use Rattle.arch_defs.specs.CachedEntries.{CanFill, HasOtherPage}
 use Rattle.shadow_space.specs.Leaves.{leaves}
-use Rattle.shadow_space.specs.Trees.{Free, HasTables, IsTree, Says, Tree, pointer_to, prefix, top}
+use Rattle.shadow_space.specs.Trees.{Free, HasTables, IsTree, Says, Tree, prefix, top}
+use Rattle.table_words.specs.Entries.{named_frame, pointer_word}
 use Rattle.table_words.specs.Words.{doubleword_at, with_word}
 
 -- one more entry in frame j's table, the first one in that of the last free frame, one less, and the last one
@@ -60,10 +61,10 @@ table_entered first i held =
     if doubleword_at held.memory i == 0
     then record {
       frames = opened held.frames;
-      memory = with_word held.memory i (pointer_to (first + next_free held.frames));
+      memory = with_word held.memory i (pointer_word (first + next_free held.frames));
     }
     else record {
-      frames = more held.frames (doubleword_at held.memory i / 1024 - first);
+      frames = more held.frames (named_frame (doubleword_at held.memory i) - first);
       memory = held.memory;
     }
 
@@ -71,7 +72,7 @@ table_entered first i held =
 unfoldable pub entered_frame : ℕ → ℕ → Held → ℕ
 entered_frame first i held =
     if doubleword_at held.memory i == 0 then first + next_free held.frames
-    else doubleword_at held.memory i / 1024
+    else named_frame (doubleword_at held.memory i)
 
 -- with one entry less in a frame's table, which doubleword i points to. A table without entries gives its
 -- frame back

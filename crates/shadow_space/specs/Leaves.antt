@@ -1,23 +1,22 @@
 -- The leaves of a space's pages.
-use Rattle.std.specs.Prelude.{ℕ, ◌+◌, ◌-◌, ◌*◌, ◌/◌, Bool, true, false, List, Option, Some, None}
+use Rattle.std.specs.Prelude.{ℕ, ◌-◌, ◌*◌, ◌/◌, List, Option, Some, None}
 use Rattle.arch_defs.specs.declared.cached.Entry.{Entry}
+use Rattle.arch_defs.specs.declared.walks.Pte.{Pte}
 use Rattle.arch_defs.specs.CachedEntries.{entry_at}
 use Rattle.arch_defs.specs.Memory.{ram_base}
 use Rattle.arch_defs.specs.Ram.{host_place}
+use Rattle.arch_defs.specs.TableEntries.{leaf_to, pte_word}
 
 -- the frame of machine memory that a frame of RAM is
 abbrev pub frame_of_ram : List ℕ → ℕ → ℕ
 frame_of_ram blocks frame = host_place blocks (frame * 4096 - ram_base) / 4096
 
--- bits where they are wanted
-abbrev pub flag : Bool → ℕ → ℕ
-flag true bits = bits
-flag false bits = 0
+-- an entry's leaf: the frame is the host's, R and X are as the entry has them, W and D both as its w
+abbrev pub leaf_parts : List ℕ → Entry → Pte
+leaf_parts blocks e = leaf_to (frame_of_ram blocks e.frame) e.r e.w e.x
 
--- an entry's leaf: V, U and A are set, R, W and X as it permits, and D with W (4.4.1)
 abbrev pub leaf_word : List ℕ → Entry → ℕ
-leaf_word blocks e =
-    frame_of_ram blocks e.frame * 1024 + (0x51 + flag e.r 0x02 + flag e.w 0x84 + flag e.x 0x08)
+leaf_word blocks e = pte_word (leaf_parts blocks e)
 
 abbrev pub leaf_if : List ℕ → Option Entry → ℕ
 leaf_if blocks None = 0

@@ -1,13 +1,13 @@
 -- The frames of tables that a space's root does not reach.
 use Rattle.std.specs.Prelude.{ℕ, ◌≡◌, ◌+◌, ◌*◌, ◌<◌, ◌≤◌, ◌⊎◌, List}
 use Rattle.shadow_space.specs.Shadows.{Shadow, root_of, tables_in}
-use Rattle.shadow_space.specs.Trees.{pointer_to}
+use Rattle.table_words.specs.Entries.{pointer_word}
 use Rattle.table_words.specs.Words.{doubleword_at}
 
 -- an entry of the table in a frame, which has so many, points to another frame
 abbrev pub PointsTo : List ℕ → ℕ → ℕ → ℕ → Type 0
 PointsTo memory frame slots to =
-    (s : ℕ) × (s < slots) × (doubleword_at memory (512 * frame + s) ≡ pointer_to to)
+    (s : ℕ) × (s < slots) × (doubleword_at memory (512 * frame + s) ≡ pointer_word to)
 
 -- the root points to a frame, or to one that points to it
 abbrev pub IsReached : List ℕ → ℕ → ℕ → Type 0

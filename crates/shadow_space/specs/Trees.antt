@@ -4,6 +4,7 @@
 use Rattle.std.specs.Prelude.{ℕ, zero, suc, ◌≡◌, ◌+◌, ◌*◌, ◌/◌, ◌<◌, ◌≤◌, ◌^◌, ◌⊎◌, ◌==◌, Option, Some, None, if◌then◌else◌}
 use Rattle.arch_defs.specs.Frames.{Frames, LieIn, joined, within}
 use Rattle.shadow_space.specs.declared.writing.Tables.{Tables}
+use Rattle.table_words.specs.Entries.{pointer_word}
 
 -- all frames of these tables
 abbrev pub frames_of : Tables → Frames
@@ -42,13 +43,10 @@ pub record Tree : Type 0 where
   pub content : ℕ → Content
   pub place : ℕ → ℕ → Option ℕ
 
--- a pointer has V alone; the frame's number begins at bit 10 (4.4.1)
-abbrev pub pointer_to : ℕ → ℕ
-pointer_to frame = frame * 1024 + 0x01
-
+-- a pointer, where there is a table
 abbrev pub pointer_of : Option ℕ → ℕ
 pointer_of None = 0
-pointer_of (Some frame) = pointer_to frame
+pointer_of (Some frame) = pointer_word frame
 
 -- what entry s of a frame's table is: a page's leaf, or a pointer to the table below, where there is one
 abbrev pub entry_of : Tree → (ℕ → ℕ) → Content → ℕ → ℕ

@@ -13,6 +13,7 @@ use crate::listing::{EntryList, holds};
 use crate::writing::{Tables, enter_table, leaf_word, leave_table};
 use arch_defs::{Entry, Part};
 use phys_mem::PhysMem;
+use stage_walk::pte_of;
 use table_words::{doubleword_at, set_word};
 
 /// Entries, at most so many, with leaves in the blocks of a part, and the frames of their tables.
@@ -41,7 +42,8 @@ impl CachedTable {
         self.entries.remove(i);
         set_word(mem, 512 * low + page % 512, 0);
         let root = 512 * tables.root + page / 262_144;
-        let middle = doubleword_at(mem, root) / 1024;
+        let pointer = doubleword_at(mem, root);
+        let middle = pte_of(pointer).frame;
         let slot = 512 * middle + page / 512 % 512;
         leave_table(&mut self.frames, mem, tables.first, slot, low);
         leave_table(&mut self.frames, mem, tables.first, root, middle);

@@ -3,12 +3,14 @@
 ghost use Rattle.std.specs.Prelude.{◌≡◌, ◌≢◌, ◌+◌, ◌-◌, ◌*◌, ◌/◌, ◌<◌, ◌≤◌, ◌^◌, length, slice_index};
 ghost use Rattle.arch_defs.specs.CachedEntries.{CanFill};
 ghost use Rattle.shadow_space.specs.Held.{HasFree, IsCounting, departed, table_entered, entered_frame, held_in};
-ghost use Rattle.shadow_space.specs.Leaves.{flag, leaf_word};
+ghost use Rattle.shadow_space.specs.Leaves.{leaf_word};
+ghost use Rattle.table_words.specs.Entries.{named_frame};
 ghost use Rattle.table_words.specs.Words.{changed, doubleword_at};
 
 use crate::frames::TableFrames;
 use arch_defs::{Entry, FRAME_SIZE, Part};
 use phys_mem::{PhysMem, RAM_BASE};
+use stage_walk::{leaf_to, pointer_to, pte_of, pte_word};
 use table_words::{doubleword_at, set_word};
 
 /// Where a space's tables lie: its root, of four frames, and so many others from a first one on.
@@ -19,28 +21,6 @@ pub struct Tables {
     pub count: u64,
 }
 
-// V.
-const POINTER: u64 = 0x01;
-
-// V, U and A.
-const LEAF: u64 = 0x51;
-
-// R.
-const READ: u64 = 0x02;
-
-// W and D.
-const WRITE: u64 = 0x84;
-
-// X.
-const EXECUTE: u64 = 0x08;
-
-// The bits where they are wanted.
-fn flag(wanted: bool, bits: u64) -> u64
-    ensures { result ≡ flag wanted bits }
-{
-    if wanted { bits } else { 0 }
-}
-
 // The leaf that an entry is folded into.
 pub fn leaf_word(part: &Part, entry: &Entry) -> u64
     requires { CanFill part.now.blocks entry.now }
@@ -48,8 +28,7 @@ pub fn leaf_word(part: &Part, entry: &Entry) -> u64
 {
     part.names_each_once();
     let place = part.host_place(entry.frame * FRAME_SIZE - RAM_BASE);
-    let bits = LEAF + flag(entry.r, READ) + flag(entry.w, WRITE) + flag(entry.x, EXECUTE);
-    place / FRAME_SIZE * 1024 + bits
+    pte_word(&leaf_to(place / FRAME_SIZE, entry.r, entry.w, entry.x))
 }
 
 // One more entry in the table that doubleword i points to. Where it points to none, a free frame becomes it.
@@ -59,7 +38,7 @@ pub fn enter_table(frames: &mut TableFrames, mem: &mut PhysMem, first: u64, i: u
     requires inside { 8 * i + 8 ≤ length mem.old }
     requires small { i < 2 ^ 60 }
     requires some { doubleword_at mem.old i ≢ 0
-        → IsCounting frames.old first (doubleword_at mem.old i / 1024) }
+        → IsCounting frames.old first (named_frame (doubleword_at mem.old i)) }
     requires none { doubleword_at mem.old i ≡ 0 → HasFree frames.old first }
     ensures held { held_in frames.new mem.new ≡ table_entered first i (held_in frames.old mem.old) }
     ensures frame { result ≡ entered_frame first i (held_in frames.old mem.old) }
@@ -67,12 +46,12 @@ pub fn enter_table(frames: &mut TableFrames, mem: &mut PhysMem, first: u64, i: u
 {
     let pointer = doubleword_at(mem, i);
     if pointer != 0 {
-        let frame = pointer / 1024;
+        let frame = pte_of(pointer).frame;
         frames.more((frame - first) as usize);
         return frame;
     }
     let frame = first + frames.open();
-    set_word(mem, i, frame * 1024 + POINTER);
+    set_word(mem, i, pte_word(&pointer_to(frame)));
     frame
 }
 

@@ -70,6 +70,7 @@ pub fn pte_of(word: u64) -> Pte
 }
 
 // The bits of a flag where it is wanted.
+#[inline]
 fn bits_if(wanted: bool, flag: EntryBits) -> u64
     ensures { result ≡ (if wanted then flag.0 else 0) }
 {
@@ -77,6 +78,7 @@ fn bits_if(wanted: bool, flag: EntryBits) -> u64
 }
 
 /// The word of an entry in these parts. Bits that have no part, G and RSW, are clear.
+#[inline]
 #[tactic(auto, unfolding(arch_defs::specs::TableEntries::pte_word))]
 pub fn pte_word(entry: &Pte) -> u64
     requires { PteFits entry.now }
@@ -93,6 +95,7 @@ pub fn pte_word(entry: &Pte) -> u64
 }
 
 /// A pointer to the table of a frame.
+#[inline]
 pub fn pointer_to(frame: u64) -> Pte
     requires { frame < 2 ^ 44 }
     ensures value { result ≡ pointer_to frame }
@@ -112,6 +115,7 @@ pub fn pointer_to(frame: u64) -> Pte
 }
 
 /// A leaf of user pages with these rights, in which the walker finds all that it needs.
+#[inline]
 pub fn leaf_to(frame: u64, r: bool, w: bool, x: bool) -> Pte
     requires { frame < 2 ^ 44 }
     ensures value { result ≡ leaf_to frame r w x }
