@@ -18,17 +18,22 @@ use Rattle.op_defs.specs.declared.ops.Privileged.TheVariants.{Wfi, SfenceVma, Hf
 use Rattle.op_defs.specs.declared.ops.DataAccess.{DataAccess}
 use Rattle.op_defs.specs.Meaning.{fence_named, meaning}
 use Rattle.op_defs.specs.Table.{op_of}
+use Rattle.machine_defs.specs.declared.events.Event.TheVariants.{System}
 use Rattle.machine_defs.specs.Core.{decoded}
-use Rattle.machine_defs.specs.Outcomes.{Outcome, Accesses, Waits, passed}
+use Rattle.machine_defs.specs.Machine.{Machine}
+use Rattle.machine_defs.specs.Outcomes.{Outcome, Accesses, Done, Waits, passed}
 use Rattle.machine_defs.specs.Privileges as privileges
 use Rattle.machine_defs.specs.Privileges.{performed, privileged, refusal}
+use Rattle.machine_laws.specs.StorableStates.{IsStorable}
+use Rattle.machine_laws.proofs.OpWidths.{HasWidth}
+use Rattle.machine_laws.proofs.StorableRuns.{IsFine, op_fine}
 use Rattle.rv64_asm.specs.Fitting.{fits}
 use Rattle.rv64_asm.specs.Words.{encoded}
 use Rattle.rv64_asm.proofs.Decoded as coded
 use Rattle.rv64_asm.proofs.SystemOps.{op_has_one_word}
 use Rattle.hcsr_emulation.specs.Ends.{is_decided}
 use Rattle.hcsr_emulation.proofs.Decided.{asks_decided, decided_system}
-use Rattle.guest_exit.specs.ExitCases.{decided_at, decided_in, if_decided}
+use Rattle.guest_exit.specs.ExitCases.{decided_at, decided_end, decided_in, if_decided}
 use Rattle.guest_exit.specs.HartExit.{IsDecidedOp, IsWaitOrFence}
 
 -- the effect of the instruction that a word is, if the mode decides on it
@@ -142,6 +147,16 @@ wait_is_op (op.SfenceVma rs1 rs2) kind = record { decided = refl; fits = refl }
 wait_is_op (op.HfenceVvma rs1 rs2) kind = record { decided = refl; fits = refl }
 wait_is_op (op.HfenceGvma rs1 rs2) kind = record { decided = refl; fits = refl }
 wait_is_op other kind = absurd kind
+
+-- it asks for no reservation
+decided_width : (o : Op) → is_decided o ≡ true → HasWidth o
+unfolding is_decided
+decided_width (op.LoadReserved w rd rs1) e = cc
+decided_width other e = tt
+
+-- what it leaves of registers that can be stored can be stored
+pub done_storable : (m : Machine) (o : Op) (after : Virtual) → is_decided o ≡ true → IsStorable m.platform.virt → decided_end m o ≡ Done after None System → IsStorable after
+done_storable m o after decided is e = subst IsFine e (op_fine m (encoded o) o (decided_width o decided) is)
 
 -- an op on which the mode decides is one of these
 pub decided_else : (o : Op) → is_decided o ≡ true → ((csr : CsrOp) (source : CsrSource) (rd number : ℕ) → o ≡ op.Csr csr source rd number → ⊥) → (o ≡ op.Sret → ⊥)

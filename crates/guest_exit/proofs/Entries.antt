@@ -33,6 +33,8 @@ use Rattle.machine_laws.proofs.Running.{events_compose, runs_compose}
 use Rattle.machine_laws.specs.Budgets.{NeedNoFill}
 use Rattle.machine_laws.proofs.Filling.{interrupted_misses_nothing}
 use Rattle.machine_laws.proofs.Orderly.{stays_orderly}
+use Rattle.machine_laws.specs.StorableStates.{IsStorable}
+use Rattle.machine_laws.proofs.StorableRuns.{stays_storable}
 use Rattle.machine_laws.proofs.Stepping.{step_ready, try_is_event}
 use Rattle.rv64_hart.specs.declared.harts.Why.{Why}
 use Rattle.rv64_hart.specs.declared.harts.Why.TheVariants.{Limit, Exit, VsTrap}
@@ -330,6 +332,7 @@ at_next part pool m memory changed n own at only reserved there =
       entry_room = at.entry_room;
       caches = subst (λ size. All (λ s. All (IsInRam size) s.entries) m.spaces) (before ∙ sym (size_of part changed held)) at.caches;
       orderly = subst IsOrderly there (stays_orderly m n at.orderly);
+      storable = subst (λ m. IsStorable m.platform.virt) there (stays_storable m n at.storable);
     }
 
 -- a run that ended in a trap was watched

@@ -1,8 +1,9 @@
 -- A guest in machine memory, after steps of its lone machine.
-use Rattle.std.proofs.Common.{◌≡◌, ℕ, ◌*◌, ◌%◌, Option, List, length, refl, subst, sym, arith, ◌∙◌}
+use Rattle.std.proofs.Common.{◌≡◌, ℕ, ◌*◌, ◌%◌, Option, List, length, refl, ap, subst, sym, arith, ◌∙◌}
 use Rattle.std.specs.Prelude.{true, false}
 use Rattle.std.specs.List.{All}
 use Rattle.std.proofs.lemmas.List.Elements.{All-nil}
+use Rattle.arch_defs.specs.CsrBits.{guest_root_of, hgatp_bits}
 use Rattle.arch_defs.specs.Frames.{Apart, Only, Within, in_blocks}
 use Rattle.arch_defs.specs.Layouts.{Layout, NamesEachOnce, host_frames, named_by}
 use Rattle.arch_defs.specs.Spaces.{Space}
@@ -25,6 +26,8 @@ use Rattle.machine_defs.specs.Runs.{left_after, run}
 use Rattle.machine_laws.proofs.InRam.{fill_stays_in_ram, stays_in_ram, try_stays_in_ram}
 use Rattle.machine_laws.specs.Keeping.{IsOrderly}
 use Rattle.machine_laws.proofs.Orderly.{fill_stays_orderly, stays_orderly, try_stays_orderly}
+use Rattle.machine_laws.specs.StorableStates.{IsStorable}
+use Rattle.machine_laws.proofs.StorableRuns.{fill_stays_storable, stays_storable, try_stays_storable}
 use Rattle.shadow_pool.specs.Slots.{Pooled, TidyPool, pool_frames, room_of, spaces_of, table_frames_for}
 use Rattle.guest_exit.specs.declared.guests.Guest.{Guest}
 use Rattle.guest_exit.specs.HartSteps.{IsAt, changing}
@@ -49,18 +52,29 @@ whole part pool m memory at = rw (ram_size_of part pool m memory at) (whole_page
 pub reserves : (part : Layout) (pool : Pooled) (m : Machine) (memory : List ℕ) → IsAt part pool m memory → ReservesInRam m
 reserves part pool m memory at = subst (λ size. ReservesBelow size m.platform.virt.reservation) (sym (ram_size_of part pool m memory at)) at.reserved
 
+-- hgatp of a guest is a value that it can hold
+pub hgatp_is_held : (guest : Guest) (memory : List ℕ) → IsPlaced guest memory → guest_root_of (hgatp_bits guest.virt.csrs.hgatp) ≡ guest.virt.csrs.hgatp
+hgatp_is_held guest memory at = ap (λ csrs. csrs.hgatp) at.storable.csrs
+
 -- what a machine is after a step, a fill or a run
 record IsKept (before after : Machine) : Type 0 where
   ram : KeepsInRam before after
   orderly : IsOrderly after
+  storable : IsStorable after.platform.virt
 
 kept_by_try : (part : Layout) (pool : Pooled) (m : Machine) (memory : List ℕ) → IsAt part pool m memory → IsKept m (left_after m)
-kept_by_try part pool m memory at =
-    record { ram = try_stays_in_ram m (whole part pool m memory at) at.caches (reserves part pool m memory at); orderly = try_stays_orderly m at.orderly }
+kept_by_try part pool m memory at = record {
+  ram = try_stays_in_ram m (whole part pool m memory at) at.caches (reserves part pool m memory at);
+  orderly = try_stays_orderly m at.orderly;
+  storable = try_stays_storable m at.storable;
+}
 
 kept_by_run : (part : Layout) (pool : Pooled) (m : Machine) (memory : List ℕ) (k : ℕ) → IsAt part pool m memory → IsKept m (run m k)
-kept_by_run part pool m memory k at =
-    record { ram = stays_in_ram m k (whole part pool m memory at) at.caches (reserves part pool m memory at); orderly = stays_orderly m k at.orderly }
+kept_by_run part pool m memory k at = record {
+  ram = stays_in_ram m k (whole part pool m memory at) at.caches (reserves part pool m memory at);
+  orderly = stays_orderly m k at.orderly;
+  storable = stays_storable m k at.storable;
+}
 
 -- so it is in its part as before
 at_after : (part : Layout) (pool new : Pooled) (memory changed : List ℕ) (m after : Machine) → IsAt part pool m memory → Only (changing part pool) memory changed
@@ -81,6 +95,7 @@ at_after part pool new memory changed m after at only own tidy ram spaces space_
       entry_room = entry_room;
       caches = kept.ram.0;
       orderly = kept.orderly;
+      storable = kept.storable;
     }
 
 -- and so of a guest
@@ -117,12 +132,13 @@ placed_by_fill old new memory changed at fixed only tidy (e, lacks, is) =
     (subst (IsKept m) (sym is) (record {
       ram = fill_stays_in_ram m e at.caches (reserves old.part old.pool m memory at) lacks;
       orderly = fill_stays_orderly m e at.orderly lacks;
+      storable = fill_stays_storable m e at.storable;
     }))
 
 -- a guest that has entered no space is so in memory that has its host table, and zeros where its spaces' tables will be
 pub placed_new : (guest : Guest) (memory : List ℕ) → NamesEachOnce guest.part → IsHeld guest.part memory → IsNewPool guest.part guest.pool → AreZeros (pool_frames guest.pool) memory
-    → ReservesWithin (in_ram guest.part.blocks) guest.virt.reservation → folds guest.virt ≡ false → IsPlaced guest memory
-placed_new guest memory once held new zeros reserved flat =
+    → ReservesWithin (in_ram guest.part.blocks) guest.virt.reservation → folds guest.virt ≡ false → IsStorable guest.virt → IsPlaced guest memory
+placed_new guest memory once held new zeros reserved flat storable =
     let frames : table_frames_for guest.part (room_of guest.pool) ≡ pool_frames guest.pool = rw new.part refl in
     let within : Within (pool_frames guest.pool) (named_by guest.part) =
     subst (λ frames. Within frames (named_by guest.part)) frames (pool_within guest.part (room_of guest.pool) new.few) in
@@ -142,18 +158,19 @@ placed_new guest memory once held new zeros reserved flat =
         spaces = new.room;
         front = λ folding. let never : true ≡ false = sym folding ∙ flat in absurd (cc);
       };
+      storable = storable;
     }
 
 -- so it is in memory of zeros in which its host table alone has been built
 pub placed_built : (guest : Guest) (memory : List ℕ) (size : ℕ) → NamesEachOnce guest.part → IsHeld guest.part memory → IsNewPool guest.part guest.pool → Only (host_frames guest.part) (zeros size) memory
-    → ReservesWithin (in_ram guest.part.blocks) guest.virt.reservation → folds guest.virt ≡ false → IsPlaced guest memory
-placed_built guest memory size once held new only reserved flat =
+    → ReservesWithin (in_ram guest.part.blocks) guest.virt.reservation → folds guest.virt ≡ false → IsStorable guest.virt → IsPlaced guest memory
+placed_built guest memory size once held new only reserved flat storable =
     let frames : table_frames_for guest.part (room_of guest.pool) ≡ pool_frames guest.pool = rw new.part refl in
     let apart : Apart (host_frames guest.part) (pool_frames guest.pool) =
     subst (Apart (host_frames guest.part)) frames (host_apart guest.part once (room_of guest.pool) new.few) in
     placed_new guest memory once held new
     (untouched (pool_frames guest.pool) size memory
-    (kept (pool_frames guest.pool) (host_frames guest.part) (zeros size) memory (apart_sym (host_frames guest.part) (pool_frames guest.pool) apart) only)) reserved flat
+    (kept (pool_frames guest.pool) (host_frames guest.part) (zeros size) memory (apart_sym (host_frames guest.part) (pool_frames guest.pool) apart) only)) reserved flat storable
 
 -- and after any change of its blocks
 pub placed_by_blocks : (guest : Guest) (memory changed : List ℕ) → IsPlaced guest memory → Only (in_blocks guest.part.blocks) memory changed → IsPlaced guest changed
@@ -173,4 +190,5 @@ placed_by_blocks guest memory changed at only =
       entry_room = refl;
       caches = subst (λ size. All (λ (s : Space). All (IsInRam size) s.entries) (spaces_of guest.pool)) same at.caches;
       orderly = record { entries = at.orderly.entries; spaces = at.orderly.spaces; front = at.orderly.front };
+      storable = at.storable;
     }

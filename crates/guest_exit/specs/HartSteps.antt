@@ -1,8 +1,6 @@
 -- What one step of the hart is to the guest's lone machine.
 use Rattle.std.specs.Prelude.{ℕ, ◌≡◌, ◌==◌, ◌||◌, Bool, true, false, not, Option, Some, None, if◌then◌else◌, List}
 use Rattle.arch_defs.specs.declared.cached.Entry.{Entry}
-use Rattle.arch_defs.specs.declared.levels.Level.{Level}
-use Rattle.arch_defs.specs.declared.levels.Level.TheVariants as level
 use Rattle.arch_defs.specs.declared.levels.TheConstants.{VS_SOFTWARE, VS_TIMER, VS_EXTERNAL}
 use Rattle.arch_defs.specs.declared.modes.TheConstants.{VIRTUAL_INSTRUCTION}
 use Rattle.arch_defs.specs.declared.registers.Virtual.{Virtual}
@@ -27,6 +25,7 @@ use Rattle.machine_laws.specs.Renaming.{ReservesWithin, renamed}
 use Rattle.machine_laws.specs.Reservations.{CachesInRam}
 use Rattle.machine_defs.specs.Tries.{try}
 use Rattle.machine_laws.specs.Keeping.{IsOrderly}
+use Rattle.machine_laws.specs.StorableStates.{IsStorable}
 use Rattle.host_tables.specs.Walks.{IsHeld}
 use Rattle.shadow_pool.specs.Slots.{Pooled, TidyPool, front_root, pool_frames, room_of, spaces_of}
 use Rattle.rv64_hart.specs.Steps.{HartEnd, Goes, Exits, attempt_of, end_by, enters_vs, hart_step}
@@ -100,8 +99,8 @@ Follows part root m memory end = FollowsTry part root m (try m) (missing_entry m
 
 -- a machine in a part of machine memory: the part names no frame twice, and memory holds it with its host
 -- table; RAM is the bytes of its blocks; what is reserved, if anything, is a place of RAM; the spaces are
--- those of a pool of the same part, whose tables are tidy in memory, and cache frames of RAM; and while the
--- machine folds, the space of hgatp is in front
+-- those of a pool of the same part, whose tables are tidy in memory, and cache frames of RAM; while the
+-- machine folds, the space of hgatp is in front; and the registers hold what they can store
 pub record IsAt (part : Layout) (pool : Pooled) (m : Machine) (memory : List ℕ) : Type 0 where
   pub once : NamesEachOnce part
   pub held : IsHeld part memory
@@ -114,9 +113,10 @@ pub record IsAt (part : Layout) (pool : Pooled) (m : Machine) (memory : List ℕ
   pub entry_room : m.entry_room ≡ pool.most
   pub caches : CachesInRam m
   pub orderly : IsOrderly m
+  pub storable : IsStorable m.platform.virt
 
 -- a step of the hart that stands for a guest is a try of its lone machine, where no interrupt is due that the
--- host must take, and memory holds the guest's part
+-- host must take, and the machine is in the guest's part of memory
 abbrev pub StepsFollow : Type 0
 StepsFollow =
     (part : Layout) (pool : Pooled) (m : Machine) (memory : List ℕ)

@@ -49,6 +49,7 @@ pub record KeepsSpaces (before after : Guest) : Type 0 where
   pub part : after.part ≡ before.part
   pub pool : after.pool ≡ before.pool
 
--- machine memory holds the guest's part, with its host table and the tables of its spaces
+-- machine memory holds the guest's part, with its host table and the tables of its spaces, and the guest's
+-- registers hold what they can store
 abbrev pub IsPlaced : Guest → List ℕ → Type 0
 IsPlaced guest memory = IsAt guest.part guest.pool (machine_of guest memory) memory

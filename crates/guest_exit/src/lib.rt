@@ -20,6 +20,8 @@ mod tests_clock;
 mod tests_folded;
 #[cfg(test)]
 mod tests_nested;
+#[cfg(test)]
+mod tests_storable;
 mod traps;
 mod wfi;
 

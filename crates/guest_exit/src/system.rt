@@ -7,6 +7,7 @@ ghost use Rattle.arch_defs.specs.Ram.{ram_of};
 ghost use Rattle.arch_defs.specs.WalkedEntries.{folds};
 ghost use Rattle.machine_defs.specs.Runs.{left_by};
 ghost use Rattle.machine_defs.specs.Tries.{apply_outcome};
+ghost use Rattle.machine_laws.specs.StorableStates.{IsStorable};
 ghost use Rattle.rv64_asm.specs.Fitting.{fits};
 ghost use Rattle.hcsr_emulation.specs.Ends.{IfAccessRaised, IsCsrOrSret};
 ghost use Rattle.hlv_hsv.specs.Ends.{IsAccessed, IsHlvOp};
@@ -101,6 +102,7 @@ fn wait_or_fence(guest: &mut Guest, memory: &mut PhysMem, op: Op) -> Handled
 fn finish(guest: &mut Guest, memory: &mut PhysMem, nested: bool) -> Handled
     requires can { CanStep guest.old }
     requires holds { HoldsTables guest.old memory.old }
+    requires storable { IsStorable guest.old.virt }
     ensures step { IsFinished nested guest.old memory.old guest.new memory.new }
     ensures went { result ≡ Handled.Stepped }
     ensures within { KeepsOutside guest.old memory.old guest.new memory.new }
@@ -124,6 +126,7 @@ fn enters(nested: bool, after: &Virtual) -> bool
 fn enter_space(guest: &mut Guest, memory: &mut PhysMem) -> Handled
     requires can { CanStep guest.old }
     requires holds { HoldsTables guest.old memory.old }
+    requires storable { IsStorable guest.old.virt }
     requires folds { folds guest.old.virt ≡ true }
     ensures step { IsFinished false guest.old memory.old guest.new memory.new }
     ensures went { result ≡ Handled.Stepped }

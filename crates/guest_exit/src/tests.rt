@@ -8,6 +8,7 @@ ghost use Rattle.guest_exit.specs.View.{IsPlaced, platform_of};
 ghost use Rattle.guest_exit.specs.Starting.{IsNewPool};
 
 use crate::guests::folds;
+use crate::tests_storable::is_storable;
 use crate::{Console, Guest, Handled, Pool, enter, handle, interrupt, limit};
 use arch_defs::{BLOCK_SIZE, Mode, Part, Reg, Virtual};
 use host_tables::build;
@@ -63,7 +64,8 @@ fn inputs(alloc: Global, moment: u64) -> Result<Vec<(u64, u8)>, NoMemory>
     Ok(vec![in alloc; (moment, 65u8)]?)
 }
 
-// Machine memory of so many frames with the guest's host table, if that is enough.
+// Machine memory of so many frames with the guest's host table, if that is enough, and the guest's registers
+// hold what they can store.
 fn built(alloc: Global, guest: &Guest, frames: u64) -> Result<Option<PhysMem>, NoMemory>
     requires some { 1 ≤ frames }
     requires most { frames ≤ 131072 }
@@ -73,7 +75,7 @@ fn built(alloc: Global, guest: &Guest, frames: u64) -> Result<Option<PhysMem>, N
 {
     let mut memory = PhysMem::new(alloc, frames)?;
     let size = memory.size();
-    if !guest.part.lies_in(size) || folds(&guest.virt) {
+    if !guest.part.lies_in(size) || folds(&guest.virt) || !is_storable(&guest.virt) {
         return Ok(None);
     }
     build(&mut memory, &guest.part, guest.part.blocks().len() as u64);

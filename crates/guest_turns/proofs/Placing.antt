@@ -44,6 +44,7 @@ hosted_kept guest old new same hosted =
         entry_room = refl;
         caches = subst CachesInRam (sym machine) at.caches;
         orderly = subst IsOrderly (sym machine) at.orderly;
+        storable = at.storable;
       };
       clock = hosted.clock;
       current = hosted.current;

@@ -25,6 +25,8 @@ use Rattle.machine_defs.specs.Machine.{Machine, Platform, start, with_pending_li
 use Rattle.machine_laws.specs.Renaming.{ReservesWithin}
 use Rattle.machine_laws.specs.Reservations.{CachesInRam}
 use Rattle.machine_laws.proofs.InRam.{start_is_in_ram}
+use Rattle.machine_laws.specs.StorableStates.{IsStorable}
+use Rattle.machine_laws.proofs.StorableRuns.{start_is_storable}
 use Rattle.shadow_pool.specs.Slots as slots
 use Rattle.shadow_pool.specs.Slots.{TidyPool, pool_frames, room_of, spaces_of}
 use Rattle.shadow_pool.proofs.Apart.{host_apart, pool_within, ram_apart}
@@ -270,6 +272,7 @@ hosted_at_start spec part guest memory bootable at spaces once held zeros machin
     entry_room = refl;
     caches = subst CachesInRam (sym machine) (start_is_in_ram spec).0;
     orderly = subst IsOrderly (sym machine) (orderly_at_start spec bootable);
+    storable = subst (λ p. IsStorable p.virt) (sym at.platform) (start_is_storable spec);
   };
   clock = bounded guest.clock.time guest.steps (ap (λ p. p.clock.time) at.platform ∙ at_start_clock spec);
   current = ap with_pending_lines at.platform ∙ at_start_current spec ∙ sym at.platform;

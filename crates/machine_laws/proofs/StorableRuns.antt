@@ -218,10 +218,10 @@ meaning_sound (op.GuestFetch w rd rs1) regs width code = tt
 meaning_sound (op.GuestStore w rs1 rs2) regs width code = tt
 
 -- an outcome leaves such a state
-abbrev LeavesStorable : Completion → Type 0
+abbrev pub LeavesStorable : Completion → Type 0
 LeavesStorable completion = IsStorable completion.state
 
-abbrev IsFine : Outcome → Type 0
+abbrev pub IsFine : Outcome → Type 0
 IsFine o = OutcomeHas LeavesStorable IsStorable (λ wanted. ReservesNothing wanted.purpose) o
 
 shown_fine : (s : Virtual) → IsStorable s → (word rd : ℕ) (value : Result ℕ CsrEnd) → IsFine (csr_shown s word rd value)
@@ -282,6 +282,9 @@ decoded_fine : (second : SecondStage) → KeepsOffsets second → (reading : Rea
     → IsFine (decoded second reading s word o)
 decoded_fine second offsets reading s is word (Some o) width = executed_fine second offsets reading s is word (meaning o s.regs) (meaning_sound o s.regs width is.pc)
 decoded_fine second offsets reading s is word None width = tt
+
+pub op_fine : (m : Machine) (word : ℕ) (o : Op) → HasWidth o → IsStorable m.platform.virt → IsFine (decoded (second_of m) (reading_of ram_base m.ram) m.platform.virt word (Some o))
+op_fine m word o width is = decoded_fine (second_of m) (own_offsets m) (reading_of ram_base m.ram) m.platform.virt is word (Some o) width
 
 core_fine : (second : SecondStage) → KeepsOffsets second → (reading : Reading) (s : Virtual) → IsStorable s → IsFine (core second reading s)
 unfolding core

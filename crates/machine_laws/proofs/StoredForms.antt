@@ -52,14 +52,14 @@ unfolding epc_bits
 epc_code address is = (omega arith, omega arith)
 
 -- a root as it is stored
-abbrev AtpStored : SupervisorRoot → Type 0
+abbrev pub AtpStored : SupervisorRoot → Type 0
 AtpStored root = supervisor_root_of root (satp_bits root) ≡ root
 
-atp_bare : AtpStored supervisor.Bare
+pub atp_bare : AtpStored supervisor.Bare
 unfolding supervisor_root_of satp_bits
 atp_bare = refl
 
-atp_table : (mode : SupervisorMode) (asid ppn : ℕ) → asid < 2 ^ 16 → ppn < 2 ^ 44 → AtpStored (supervisor.Table mode asid ppn)
+pub atp_table : (mode : SupervisorMode) (asid ppn : ℕ) → asid < 2 ^ 16 → ppn < 2 ^ 44 → AtpStored (supervisor.Table mode asid ppn)
 unfolding supervisor_root_of satp_bits
 atp_table supervisor_mode.Sv39 asid ppn of_16 of_44 =
     let mode : field 60 4 (8 * 2 ^ 60 + asid % 2 ^ 16 * 2 ^ 44 + ppn % 2 ^ 44) ≡ 8 = omega arith in

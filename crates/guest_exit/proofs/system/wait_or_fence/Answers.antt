@@ -6,7 +6,7 @@ use Rattle.machine_defs.specs.Tries.{second_of}
 use Rattle.rv64_asm.specs.Words.{encoded}
 use Rattle.guest_exit.specs.View.{machine_of}
 use Rattle.guest_exit.proofs.Alone.{wait_made, waited_is_quiet}
-use Rattle.guest_exit.proofs.Decided.{accesses_never, wait_is_op, wait_passes}
+use Rattle.guest_exit.proofs.Decided.{accesses_never, done_storable, wait_is_op, wait_passes}
 use Rattle.guest_exit.proofs.system.wait_or_fence.Goals as goal
 
 pub emulate-requires-clause-decided : goal.emulate-requires-clause-decided
@@ -39,6 +39,11 @@ returns-in-Waits-clause-step c =
     let ends = c.in-Waits.ensures.ends (second_of m) (reading_of ram_base m.ram) in
     wait_made c.args.guest.now c.wait.new.guest c.emulate.new.state c.args.memory.now _
     (wait_passes c.args.op m.platform.virt c.emulate.new.state (encoded c.args.op) (second_of m) (reading_of ram_base m.ram) c.requires.kind ends) ends c.wait.ensures.step
+
+pub finish-requires-clause-storable : goal.finish-requires-clause-storable
+finish-requires-clause-storable c =
+    let m = machine_of c.args.guest.now c.args.memory.now in
+    done_storable m c.args.op c.emulate.new.state (wait_is_op c.args.op c.requires.kind).decided c.requires.can.placed.storable (c.in-Done.ensures.ends (second_of m) (reading_of ram_base m.ram))
 
 pub returns-in-Done-clause-step : goal.returns-in-Done-clause-step
 returns-in-Done-clause-step c =

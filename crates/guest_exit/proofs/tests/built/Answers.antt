@@ -1,4 +1,4 @@
-use Rattle.std.proofs.Common.{rules, ◌≡◌, ℕ, ◌*◌, ◌^◌, ◌≤◌, sym, arith, ◌∙◌}
+use Rattle.std.proofs.Common.{rules, ◌≡◌, ℕ, ◌*◌, ◌^◌, ◌≤◌, sym, arith, refl, ◌∙◌}
 use Rattle.arch_defs.specs.Frames.{LieIn}
 use Rattle.arch_defs.specs.Layouts.{named_by}
 use Rattle.guest_exit.proofs.Placed.{placed_built}
@@ -19,4 +19,4 @@ returns c =
       lies = rw (only.size, ← c.size-size.ensures.size) lies;
       table = c.build.ensures.table;
     })
-    c.requires.pool (rw c.in_ok-memory.ensures at only) (rw c.requires.unreserved tt) (sym c.folds.ensures ∙ c.if-folds.false)
+    c.requires.pool (rw c.in_ok-memory.ensures at only) (rw c.requires.unreserved tt) (sym c.folds.ensures ∙ c.if-folds.false) (c.if-not-is_storable.ensures refl)
