@@ -16,7 +16,7 @@ use Rattle.machine_defs.specs.Machine.{Machine, Platform, has_enabled_interrupt,
 use Rattle.machine_defs.specs.Outcomes.{Outcome, Fenced, Waits, passed}
 use Rattle.machine_defs.specs.Runs.{left_by}
 use Rattle.machine_defs.specs.Tries.{apply_outcome, committed, enters}
-use Rattle.shadow_pool.specs.Slots.{pool_frames, room_of, spaces_of}
+use Rattle.shadow_pool.specs.Slots.{KeepsPool, pool_frames, room_of, spaces_of}
 use Rattle.guest_exit.specs.declared.guests.Guest.{Guest}
 use Rattle.guest_exit.specs.declared.hart_exit.Handled.{Handled}
 use Rattle.guest_exit.specs.declared.hart_exit.Handled.TheVariants as handled
@@ -68,18 +68,18 @@ pub made_stays : (old new : Guest) (memory : List ℕ) (virt : Virtual) → ente
     → machine_of new memory ≡ left_by (machine_of old memory) (committed (machine_of old memory) virt None System)
 made_stays old new memory virt off keeps e = rw off (machine_is old new _ memory keeps e)
 
-pub made_enters : (old new : Guest) (memory changed : List ℕ) (virt : Virtual) → enters old.virt virt ≡ true → HoldsTables old memory → KeepsLayout old new
-    → platform_of new ≡ ticked (record (platform_of old) { virt = virt }) → spaces_of new.pool ≡ entered (room_of old.pool) virt.csrs.hgatp (spaces_of old.pool) → Only (pool_frames old.pool) memory changed
+pub made_enters : (old new : Guest) (memory changed : List ℕ) (virt : Virtual) → enters old.virt virt ≡ true → HoldsTables old memory → new.part ≡ old.part → KeepsPool old.pool memory new.pool changed
+    → platform_of new ≡ ticked (record (platform_of old) { virt = virt }) → spaces_of new.pool ≡ entered (room_of old.pool) virt.csrs.hgatp (spaces_of old.pool)
     → machine_of new changed ≡ left_by (machine_of old memory) (committed (machine_of old memory) virt None System)
-made_enters old new memory changed virt on at fixed e are only =
-    rw on (machine_as old new memory changed _ _ _ fixed.part e (ram_by_pool old.part old.pool memory changed at.once at.own at.tidy at.held only) are fixed.space_room fixed.entry_room)
+made_enters old new memory changed virt on at part keeps e are =
+    rw on (machine_as old new memory changed _ _ _ part e (ram_by_pool old.part old.pool memory changed at.once at.own at.tidy at.held keeps.only) are keeps.room keeps.most)
 
 -- a fence
-pub fence_made : (old new : Guest) (memory changed : List ℕ) (virt : Virtual) (fence : Fence) → HoldsTables old memory → KeepsLayout old new
-    → platform_of new ≡ ticked (record (platform_of old) { virt = virt }) → spaces_of new.pool ≡ fenced fence (spaces_of old.pool) → Only (pool_frames old.pool) memory changed
+pub fence_made : (old new : Guest) (memory changed : List ℕ) (virt : Virtual) (fence : Fence) → HoldsTables old memory → new.part ≡ old.part → KeepsPool old.pool memory new.pool changed
+    → platform_of new ≡ ticked (record (platform_of old) { virt = virt }) → spaces_of new.pool ≡ fenced fence (spaces_of old.pool)
     → machine_of new changed ≡ left_by (machine_of old memory) (apply_outcome (machine_of old memory) (Fenced virt fence))
-fence_made old new memory changed virt fence at fixed e are only =
-    machine_as old new memory changed _ _ _ fixed.part e (ram_by_pool old.part old.pool memory changed at.once at.own at.tidy at.held only) are fixed.space_room fixed.entry_room
+fence_made old new memory changed virt fence at part keeps e are =
+    machine_as old new memory changed _ _ _ part e (ram_by_pool old.part old.pool memory changed at.once at.own at.tidy at.held keeps.only) are keeps.room keeps.most
 
 -- an instruction that has left the guest its state enters a space where it sets V and the state folds
 pub sets_v : (nested folding : Bool) → (not nested && folding) ≡ true → nested ≡ false

@@ -31,7 +31,7 @@ pub fn miss(guest: &mut Guest, memory: &mut PhysMem, access: &MissingPlace) -> H
 {
     match walk_for(memory, &guest.part, &guest.virt.csrs, access) {
         Ok(entry) => {
-            guest.pool.fill(memory, guest.virt.csrs.hgatp, entry);
+            guest.pool.fill(memory, entry);
             Handled::Retry
         }
         Err(fault) => raise(guest, &fault),

@@ -19,7 +19,7 @@ ghost use Rattle.guest_exit.specs.View.{machine_of};
 use crate::guests::{Guest, folds};
 use crate::hart_exit::{Handled, raise};
 use crate::wfi::wait;
-use arch_defs::{Fence, Part, Virtual};
+use arch_defs::{Fence, Key, Part, Virtual};
 use hcsr_emulation::{Accessed, Emulated};
 use op_defs::Op;
 use phys_mem::{PhysMem, Ram};
@@ -133,7 +133,7 @@ fn enter_space(guest: &mut Guest, memory: &mut PhysMem) -> Handled
     ensures within { KeepsOutside guest.old memory.old guest.new memory.new }
     ensures told { IsTold result guest.old guest.new }
 {
-    guest.pool.enter(memory, guest.virt.csrs.hgatp);
+    guest.pool.enter(memory, Key::of(guest.virt.csrs.hgatp));
     guest.tick();
     Handled::Stepped
 }

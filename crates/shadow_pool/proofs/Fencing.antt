@@ -1,15 +1,15 @@
 -- Entries after a fence.
-use Rattle.std.proofs.Common.{◌≡◌, ℕ, true, false, Bool, not, ◌&&◌, List, [], ◌∷◌, Option, Some, None, refl, sym, ap, ◌∙◌}
+use Rattle.std.proofs.Common.{◌≡◌, ℕ, true, false, Bool, not, ◌&&◌, List, [], ◌∷◌, Option, Some, None, refl, sym, ap, subst, ◌∙◌}
 use Rattle.std.specs.List.{filter}
+use Rattle.std.specs.Option.{option_map}
 use Rattle.arch_defs.specs.declared.cached.Entry.{Entry}
 use Rattle.arch_defs.specs.declared.cached.Fence.{Fence}
 use Rattle.arch_defs.specs.declared.registers.GuestRoot.{GuestRoot}
 use Rattle.arch_defs.specs.CachedEntries.{cut_by}
-use Rattle.shadow_space.specs.Shadows.{Shadow}
 use Rattle.shadow_pool.specs.declared.slots.Slot.{Slot}
-use Rattle.shadow_pool.specs.Slots.{fenced_slot, left_for, with_frames}
+use Rattle.shadow_pool.specs.Slots.{space_if, space_of}
 use Rattle.arch_defs.specs.Roots.{vmid_of}
-use Rattle.arch_defs.specs.Spaces.{names, names_page, names_vmid, unnamed_by}
+use Rattle.arch_defs.specs.Spaces.{fenced_space, names_page, names_vmid, unnamed_by}
 
 -- a filter by what is the same for all entries
 none_named : (page : Option ℕ) (es : List Entry) → filter (λ e. not (false && names_page page e)) es ≡ es
@@ -34,31 +34,24 @@ one_page : (fence : Fence) (key : GuestRoot) (es : List Entry) (page : ℕ) → 
 unfolding cut_by
 one_page fence key es page is named = ap (λ named. left_if named fence.page es) is ∙ ap (λ page. left_if true page es) named
 
--- a slot with these entries
-with_entries : (fence : Fence) (slot : Slot) (key : GuestRoot) (es : List Entry) → slot.key ≡ Some key → unnamed_by fence (vmid_of key) slot.space.entries ≡ es
-    → record slot { space = record slot.space { entries = es } } ≡ fenced_slot fence slot
-with_entries fence slot key es is left = sym (ap (λ es. record slot { space = record slot.space { entries = es } }) (ap (λ key. left_for fence key slot.space.entries) is ∙ left))
+-- the space of a table after a fence
+fenced_to : (fence : Fence) (o : Option GuestRoot) (key : GuestRoot) (es after : List Entry) → o ≡ Some key → unnamed_by fence (vmid_of key) es ≡ after
+    → space_if o after ≡ option_map (fenced_space fence) (space_if o es)
+fenced_to fence o key es after is left =
+    subst (λ o. space_if o after ≡ option_map (fenced_space fence) (space_if o es)) (sym is) (ap (λ es. Some (record { key = key; entries = es })) (sym left))
 
--- a slot of another VMID, one that is wiped, and one that is cut
-pub unnamed : (fence : Fence) (slot : Slot) (key : GuestRoot) (vmid : ℕ) (named : Bool) → slot.key ≡ Some key → vmid ≡ vmid_of key → named ≡ names_vmid fence.vmid vmid → named ≡ false → slot ≡ with_frames slot.space.frames (fenced_slot fence slot)
+-- of another VMID, of one whose space is wiped, and of one whose space is cut
+pub unnamed : (fence : Fence) (slot : Slot) (key : GuestRoot) (vmid : ℕ) (named : Bool) → slot.key ≡ Some key → vmid ≡ vmid_of key → named ≡ names_vmid fence.vmid vmid → named ≡ false
+    → space_of slot ≡ option_map (fenced_space fence) (space_of slot)
 unnamed fence slot key vmid named is same has not_named =
-    ap (with_frames slot.space.frames) (with_entries fence slot key slot.space.entries is (other_vmid fence key slot.space.entries (ap (names_vmid fence.vmid) (sym same) ∙ sym has ∙ not_named)))
+    fenced_to fence slot.key key slot.space.entries slot.space.entries is (other_vmid fence key slot.space.entries (ap (names_vmid fence.vmid) (sym same) ∙ sym has ∙ not_named))
 
-same_shadow : (a b : Shadow) → a.part ≡ b.part → a.index ≡ b.index → a.most ≡ b.most → a.entries ≡ b.entries → a.frames ≡ b.frames → a ≡ b
-same_shadow a b part index most entries frames = λ i. record { part = part i; index = index i; most = most i; entries = entries i; frames = frames i }
+pub wiped : (fence : Fence) (slot : Slot) (key : GuestRoot) (vmid : ℕ) (named : Bool) (after : List Entry) → slot.key ≡ Some key → vmid ≡ vmid_of key → named ≡ names_vmid fence.vmid vmid → named ≡ true → fence.page ≡ None
+    → after ≡ [] → space_if slot.key after ≡ option_map (fenced_space fence) (space_of slot)
+wiped fence slot key vmid named after is same has is_named page entries =
+    fenced_to fence slot.key key slot.space.entries after is (every_page fence key slot.space.entries (ap (names_vmid fence.vmid) (sym same) ∙ sym has ∙ is_named) page ∙ sym entries)
 
-by_fields : (fence : Fence) (slot : Slot) (key : GuestRoot) (after : Shadow) (es : List Entry) → slot.key ≡ Some key → unnamed_by fence (vmid_of key) slot.space.entries ≡ es
-    → after.part ≡ slot.space.part → after.index ≡ slot.space.index → after.most ≡ slot.space.most → after.entries ≡ es → record { key = slot.key; space = after } ≡ with_frames after.frames (fenced_slot fence slot)
-by_fields fence slot key after es is left part index most entries =
-    ap (λ space. record slot { space = space }) (same_shadow after (record slot.space { entries = es; frames = after.frames }) part index most entries refl)
-    ∙ ap (with_frames after.frames) (with_entries fence slot key es is left)
-
-pub wiped : (fence : Fence) (slot : Slot) (key : GuestRoot) (vmid : ℕ) (named : Bool) (after : Shadow) → slot.key ≡ Some key → vmid ≡ vmid_of key → named ≡ names_vmid fence.vmid vmid → named ≡ true → fence.page ≡ None
-    → after.part ≡ slot.space.part → after.index ≡ slot.space.index → after.most ≡ slot.space.most → after.entries ≡ [] → record { key = slot.key; space = after } ≡ with_frames after.frames (fenced_slot fence slot)
-wiped fence slot key vmid named after is same has is_named page part index most entries =
-    by_fields fence slot key after [] is (every_page fence key slot.space.entries (ap (names_vmid fence.vmid) (sym same) ∙ sym has ∙ is_named) page) part index most entries
-
-pub cut : (fence : Fence) (slot : Slot) (key : GuestRoot) (vmid : ℕ) (named : Bool) (after : Shadow) (page : ℕ) → slot.key ≡ Some key → vmid ≡ vmid_of key → named ≡ names_vmid fence.vmid vmid → named ≡ true → fence.page ≡ Some page
-    → after.part ≡ slot.space.part → after.index ≡ slot.space.index → after.most ≡ slot.space.most → after.entries ≡ cut_by page slot.space.entries → record { key = slot.key; space = after } ≡ with_frames after.frames (fenced_slot fence slot)
-cut fence slot key vmid named after page is same has is_named names part index most entries =
-    by_fields fence slot key after (cut_by page slot.space.entries) is (one_page fence key slot.space.entries page (ap (names_vmid fence.vmid) (sym same) ∙ sym has ∙ is_named) names) part index most entries
+pub cut : (fence : Fence) (slot : Slot) (key : GuestRoot) (vmid : ℕ) (named : Bool) (after : List Entry) (page : ℕ) → slot.key ≡ Some key → vmid ≡ vmid_of key → named ≡ names_vmid fence.vmid vmid → named ≡ true → fence.page ≡ Some page
+    → after ≡ cut_by page slot.space.entries → space_if slot.key after ≡ option_map (fenced_space fence) (space_of slot)
+cut fence slot key vmid named after page is same has is_named names entries =
+    fenced_to fence slot.key key slot.space.entries after is (one_page fence key slot.space.entries page (ap (names_vmid fence.vmid) (sym same) ∙ sym has ∙ is_named) names ∙ sym entries)

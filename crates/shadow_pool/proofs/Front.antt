@@ -1,6 +1,6 @@
 -- The front space of a pool and its table.
-use Rattle.std.proofs.Common.{◌≡◌, ℕ, suc, ◌+◌, ◌-◌, ◌*◌, ◌%◌, ◌&&◌, ◌||◌, true, List, [], ◌∷◌, Option, Some, None, length, drop, get_or, nat_le, nat_lt, refl, sym, ap, subst, ◌∙◌, arith}
-use Rattle.std.specs.List.{cons_option, list_any}
+use Rattle.std.proofs.Common.{◌≡◌, ℕ, suc, ◌+◌, ◌-◌, ◌*◌, ◌%◌, ◌&&◌, true, List, [], ◌∷◌, Option, Some, None, length, get_or, nat_le, nat_lt, refl, sym, ap, subst, ◌∙◌, arith}
+use Rattle.std.specs.List.{cons_option}
 use Rattle.std.specs.Option.{option_map}
 use Rattle.arch_defs.specs.declared.cached.Entry.{Entry}
 use Rattle.arch_defs.specs.declared.registers.GuestMode.TheVariants as mode
@@ -11,21 +11,17 @@ use Rattle.arch_defs.specs.Frames.{LieIn, in_blocks}
 use Rattle.arch_defs.specs.Layouts.{Layout}
 use Rattle.arch_defs.specs.Memory.{ram_base, block_size}
 use Rattle.arch_defs.specs.Ram.{host_place}
-use Rattle.arch_defs.specs.Roots.{is_root}
 use Rattle.arch_defs.specs.SecondStage.{second_under, second_walk}
 use Rattle.arch_defs.proofs.FrameSets.{same_fewer}
-use Rattle.machine_laws.proofs.FrontSpaces.{in_front, root_is}
-use Rattle.arch_defs.specs.Spaces.{Space, entered, filled_in, has_space, is_for}
-use Rattle.machine_laws.specs.FrontSpaces.{FrontIs}
-use Rattle.arch_defs.specs.CachedEntries.{filled, second_by}
+use Rattle.arch_defs.specs.Spaces.{Space, entered}
+use Rattle.arch_defs.specs.CachedEntries.{second_by}
 use Rattle.shadow_space.specs.Shadows.{Shadow, Tidy, own_frames, root_of}
 use Rattle.shadow_space.proofs.Giving.{gives, in_ram, lacks}
 use Rattle.shadow_space.proofs.Tidying.{lasts}
 use Rattle.shadow_pool.specs.declared.slots.Slot.{Slot}
-use Rattle.shadow_pool.specs.Laws.{EnteredIsHeld, FrontGivesEntries, FrontGivesRam, FrontIsEnteredAgain, FrontIsFilled, FrontMissesAreGuestPageFaults, TidyPoolLasts}
+use Rattle.shadow_pool.specs.Laws.{FrontGivesEntries, FrontGivesRam, FrontIsEnteredAgain, FrontMissesAreGuestPageFaults, TidyPoolLasts}
 use Rattle.shadow_pool.specs.Slots.{AreSlots, AreTidy, ComesBefore, front_root, space_if, spaces_in, table_frames_for}
 use Rattle.shadow_pool.proofs.Entering.{all_spare, entered_found}
-use Rattle.shadow_pool.proofs.Filling.{first_filled}
 use Rattle.shadow_pool.proofs.Keys.{has_of}
 use Rattle.shadow_pool.proofs.Ordering.{pairs_first}
 use Rattle.shadow_pool.proofs.Tidying.{frames_within}
@@ -92,14 +88,6 @@ front_in_ram pool memory front others mxr address place access tidy is some =
     subst (λ part. ((nat_le ram_base place && nat_lt place (ram_base + length part.blocks * block_size)) ≡ true) × (place % 4096 ≡ address % 4096)) f.part_is
     (in_ram f.space memory mxr address place access f.tidy (ap (λ entries. second_by entries mxr address access) f.entries_are ∙ some))
 
--- the space that was entered is held
-pub first_held : (key : GuestRoot) (spaces : List Space) → FrontIs key spaces → has_space key spaces ≡ true
-first_held key [] is = absurd is
-first_held key (space ∷ spaces) is = ap (λ own. is_root own key || list_any (is_for key) spaces) is ∙ ap (λ same. same || list_any (is_for key) spaces) (root_is key)
-
-pub held : EnteredIsHeld
-held most key spaces some = first_held key (entered most key spaces) (in_front most key spaces some)
-
 -- it is entered once more
 once_more : (part : Layout) (most : ℕ) (slots : List Slot) (front : Space) (others : List Space) → AreSlots part most slots → spaces_in slots ≡ front ∷ others → entered (length slots) front.key (spaces_in slots) ≡ spaces_in slots
 once_more part most [] front others are is = let some = are.some in absurd (omega (arith, some))
@@ -109,18 +97,3 @@ once_more part most (slot ∷ slots) front others are is =
 
 pub again : FrontIsEnteredAgain
 again pool memory front others tidy is = once_more pool.part pool.most pool.slots front others tidy.slots is
-
--- and filled
-fills_first : (part : Layout) (most : ℕ) (slots : List Slot) (front : Space) (others : List Space) (e : Entry) → AreSlots part most slots → spaces_in slots ≡ front ∷ others
-    → filled_in most front.key e (spaces_in slots) ≡ record front { entries = filled most front.entries e } ∷ others
-fills_first part most [] front others e are is = let some = are.some in absurd (omega (arith, some))
-fills_first part most (slot ∷ slots) front others e are is =
-    let first = first_is slot (spaces_in slots) front others (λ none. all_spare slots (λ k d h. (pairs_first ComesBefore slot slots are.order k d h).spare none)) is in
-    let rest : spaces_in slots ≡ others = ap (drop 1) (sym (ap (λ o. cons_option (space_if o slot.space.entries) (spaces_in slots)) first.0) ∙ is) in
-    first_filled most front.key e slot slots (has_of front.key slot first.0) are.order
-    ∙ ap (λ o. cons_option (space_if o (filled most slot.space.entries e)) (spaces_in slots)) first.0
-    ∙ ap (λ entries. record front { entries = filled most entries e } ∷ spaces_in slots) first.1
-    ∙ ap (λ xs. record front { entries = filled most front.entries e } ∷ xs) rest
-
-pub front_filled : FrontIsFilled
-front_filled pool memory front others e tidy is = fills_first pool.part pool.most pool.slots front others e tidy.slots is

@@ -6,33 +6,35 @@ use Rattle.std.proofs.lemmas.List.Edits.{length-remove}
 use Rattle.std.proofs.lemmas.List.Elements.{All-cons, All-take}
 use Rattle.std.proofs.lemmas.List.Kept.{AllPairs-cons}
 use Rattle.arch_defs.specs.declared.registers.GuestRoot.{GuestRoot}
+use Rattle.arch_defs.specs.Frames.{Only}
 use Rattle.arch_defs.specs.Layouts.{Layout}
+use Rattle.shadow_space.specs.Shadows.{KeepsSpace}
 use Rattle.shadow_pool.specs.declared.slots.Slot.{Slot}
-use Rattle.shadow_pool.specs.Slots.{ArePooled, AreSlots, ComesBefore, IsSlot, has_key, key_is, most_of, part_of}
+use Rattle.shadow_pool.specs.Slots.{AreSlots, AreTidy, ComesBefore, IsSlot, KeepsPool, TidyPool, has_key, key_is, most_of, part_of, pool_frames, pool_of}
 use Rattle.machine_laws.proofs.FrontSpaces.{root_same}
 use Rattle.shadow_pool.proofs.Keys.{not_none, turns}
 use Rattle.shadow_pool.proofs.Ordering.{all_moved, pairs_moved, pairs_take}
-use Rattle.shadow_pool.proofs.Tidying.{IsLike}
 
 -- the part and the room of tables, from any of them
-pub record IsKept (slots new : List Slot) : Type 0 where
-  pub pooled : ArePooled new
-  pub part : part_of new ≡ part_of slots
-  pub most : most_of new ≡ most_of slots
-  pub count : length new ≡ length slots
-
 pub as_first : (part : Layout) (most : ℕ) (slots : List Slot) → AreSlots part most slots → (part_of slots ≡ part) × (most_of slots ≡ most)
 as_first part most [] are = let some = are.some in absurd (omega (arith, some))
 as_first part most (slot ∷ slots) are = let first = are.each 0 slot (omega arith) in (first.part, first.most)
 
-pub kept_pooled : (slots new : List Slot) → AreSlots (part_of slots) (most_of slots) new → length new ≡ length slots → IsKept slots new
-kept_pooled slots new are count =
-    let first = as_first (part_of slots) (most_of slots) new are in
+-- tables of the same pool, tidy after a change of memory
+pub record IsChanged (slots : List Slot) (old : List ℕ) (after : List Slot) (new : List ℕ) : Type 0 where
+  pub keeps : KeepsPool (pool_of slots) old (pool_of after) new
+  pub tidy : TidyPool (pool_of after) new
+
+pub slots_changed : (slots after : List Slot) (old new : List ℕ) → AreSlots (part_of slots) (most_of slots) after → length after ≡ length slots → AreTidy after new → Only (pool_frames (pool_of slots)) old new
+    → IsChanged slots old after new
+slots_changed slots after old new are count tidy only =
+    let first = as_first (part_of slots) (most_of slots) after are in
     record {
-      pooled = subst (λ part. AreSlots part (most_of new) new) (sym first.0) (subst (λ most. AreSlots (part_of slots) most new) (sym first.1) are);
-      part = first.0;
-      most = first.1;
-      count = count;
+      keeps = record { part = first.0; most = first.1; room = count; only = only };
+      tidy = record {
+        slots = subst (λ part. AreSlots part (most_of after) after) (sym first.0) (subst (λ most. AreSlots (part_of slots) most after) (sym first.1) are);
+        tables = tidy;
+      };
     }
 
 module _ (part : Layout) (most : ℕ) (slots : List Slot) (are : AreSlots part most slots) where
@@ -61,9 +63,9 @@ module _ (part : Layout) (most : ℕ) (slots : List Slot) (are : AreSlots part m
       ∙ ap (λ xs. first ∷ (take last (set slots last first) ++ xs)) none
       ∙ ap (λ xs. first ∷ xs) (append-nil (take last (set slots last first)) ∙ take-set slots last first)
 
-  pub new_slots : (key : GuestRoot) (was first : Slot) → was ≡ get_or slots (length slots - 1) was → IsLike was.space first.space → first.key ≡ Some key → All (λ slot. has_key key slot ≡ false) slots
+  pub new_slots : (old new : List ℕ) (key : GuestRoot) (was first : Slot) → was ≡ get_or slots (length slots - 1) was → KeepsSpace was.space old first.space new → first.key ≡ Some key → All (λ slot. has_key key slot ≡ false) slots
       → AreSlots part most (first ∷ take (length slots - 1) slots)
-  new_slots key was first read like is none = record {
+  new_slots old new key was first read keeps is none = record {
     some = omega arith;
     own = subst (λ n. n ≤ part.spaces) (sym count) are.own;
     once = are.once;
@@ -84,14 +86,14 @@ module _ (part : Layout) (most : ℕ) (slots : List Slot) (are : AreSlots part m
       is_slot : IsSlot part most (length slots) first
       is_slot =
           let one = subst (IsSlot part most (length slots)) (sym read) (are.each last was inside) in
-          record { part = like.part ∙ one.part; most = like.most ∙ one.most; index = subst (λ n. n < length slots) (sym like.index) one.index }
+          record { part = keeps.part ∙ one.part; most = keeps.most ∙ one.most; index = subst (λ n. n < length slots) (sym keeps.index) one.index }
 
       before : All (ComesBefore first) (take last slots)
       before k d h =
           let below : k < last = let few = length-take-le last slots (omega arith) in omega (arith, h, few) in
           let few : k < length slots = omega (arith, below) in
           subst (ComesBefore first) (sym (get_or-take last slots k d below)) (record {
-            index = λ same. (subst (ComesBefore (get_or slots k d)) (get_or_default slots last d was inside ∙ sym read) (are.order k last d below inside)).index (sym same ∙ like.index);
+            index = λ same. (subst (ComesBefore (get_or slots k d)) (get_or_default slots last d was inside ∙ sym read) (are.order k last d below inside)).index (sym same ∙ keeps.index);
             key = λ other has. ap (λ key. has_key key (get_or slots k d)) (sym (root_same key other (ap (key_is other) (sym is) ∙ has))) ∙ none k d few;
             spare = λ spare. absurd (not_none key first.key is spare);
           })

@@ -7,7 +7,7 @@ use Rattle.std.proofs.lemmas.List.Elements.{All-set}
 use Rattle.arch_defs.specs.Frames.{Apart, Only, Within, within}
 use Rattle.arch_defs.specs.Layouts.{Layout, space_frames, tables_for}
 use Rattle.arch_defs.proofs.FrameSets.{joined_within, kept, left_within, only_more, range_within, right_within}
-use Rattle.shadow_space.specs.Shadows.{Shadow, Tidy, own_frames}
+use Rattle.shadow_space.specs.Shadows.{KeepsSpace, Tidy, own_frames}
 use Rattle.shadow_space.proofs.Partings.{spaces_apart}
 use Rattle.shadow_space.proofs.Tidying.{folded, lasts, tables_end}
 use Rattle.shadow_pool.specs.declared.slots.Slot.{Slot}
@@ -24,12 +24,6 @@ space_within part i count own =
     (λ f is. right_within (within (part.first_root + 4) (4 * count)) (within (part.first_table + 1) (count * tables_for part.entries)) f
     (range_within (part.first_table + 1 + i * tables_for part.entries) (tables_for part.entries) (part.first_table + 1) (count * tables_for part.entries) (omega arith)
     (omega (arith, tables_end i count (tables_for part.entries) own)) f is))
-
--- a table is like another but for its entries and its value of hgatp
-pub record IsLike (a b : Shadow) : Type 0 where
-  pub part : b.part ≡ a.part
-  pub index : b.index ≡ a.index
-  pub most : b.most ≡ a.most
 
 module _ (part : Layout) (most : ℕ) (slots : List Slot) (are : AreSlots part most slots) where
   -- the frames of a table, and of all of them
@@ -75,8 +69,8 @@ module _ (part : Layout) (most : ℕ) (slots : List Slot) (are : AreSlots part m
       only_more (own_frames was.space) (table_frames_for part (length slots)) old new (subst (λ slot. Within (own_frames slot.space) (table_frames_for part (length slots))) (sym read) (frames_within i was inside)) only
 
   -- and they are still the tables of a pool, if it is for the same value of hgatp
-  pub one_written : (i : ℕ) (was after : Slot) → i < length slots → was ≡ get_or slots i was → after.key ≡ was.key → IsLike was.space after.space → AreSlots part most (set slots i after)
-  one_written i was after inside read key like = record {
+  pub one_written : (old new : List ℕ) (i : ℕ) (was after : Slot) → i < length slots → was ≡ get_or slots i was → after.key ≡ was.key → KeepsSpace was.space old after.space new → AreSlots part most (set slots i after)
+  one_written old new i was after inside read key keeps = record {
     some = subst (λ n. 1 ≤ n) (sym (length-set slots i after)) are.some;
     own = subst (λ n. n ≤ part.spaces) (sym (length-set slots i after)) are.own;
     once = are.once;
@@ -90,21 +84,21 @@ module _ (part : Layout) (most : ℕ) (slots : List Slot) (are : AreSlots part m
       is_slot : IsSlot part most (length slots) after
       is_slot =
           let one = subst (IsSlot part most (length slots)) (sym read) (are.each i was inside) in
-          record { part = like.part ∙ one.part; most = like.most ∙ one.most; index = subst (λ n. n < length slots) (sym like.index) one.index }
+          record { part = keeps.part ∙ one.part; most = keeps.most ∙ one.most; index = subst (λ n. n < length slots) (sym keeps.index) one.index }
 
       has : (other : GuestRoot) → has_key other after ≡ has_key other was
       has other = ap (key_is other) key
 
       first : (z : Slot) → ComesBefore was z → ComesBefore after z
       first z before = record {
-        index = λ equal. before.index (sym like.index ∙ equal);
+        index = λ equal. before.index (sym keeps.index ∙ equal);
         key = λ other is. before.key other (sym (has other) ∙ is);
         spare = λ none. before.spare (sym key ∙ none);
       }
 
       second : (z : Slot) → ComesBefore z was → ComesBefore z after
       second z before = record {
-        index = λ equal. before.index (equal ∙ like.index);
+        index = λ equal. before.index (equal ∙ keeps.index);
         key = λ other is. has other ∙ before.key other is;
         spare = λ none. key ∙ before.spare none;
       }

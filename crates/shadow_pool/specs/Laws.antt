@@ -1,6 +1,5 @@
 -- Laws of pools.
-use Rattle.std.specs.Prelude.{ℕ, ◌≡◌, ◌≢◌, ◌+◌, ◌-◌, ◌*◌, ◌/◌, ◌%◌, ◌≤◌, ◌^◌, ◌&&◌, Bool, true, List, ◌∷◌, Some, None, length, nat_le, nat_lt, option_map}
-use Rattle.arch_defs.specs.declared.cached.Entry.{Entry}
+use Rattle.std.specs.Prelude.{ℕ, ◌≡◌, ◌+◌, ◌-◌, ◌*◌, ◌%◌, ◌≤◌, ◌&&◌, Bool, true, List, ◌∷◌, Some, None, length, nat_le, nat_lt, option_map}
 use Rattle.arch_defs.specs.declared.second_walks.SecondWalkEnd.TheVariants.{GuestPageFault}
 use Rattle.arch_defs.specs.declared.modes.Access.{Access}
 use Rattle.arch_defs.specs.declared.registers.GuestMode.TheVariants as mode
@@ -12,9 +11,9 @@ use Rattle.arch_defs.specs.Layouts.{Layout, host_frames, named_by}
 use Rattle.arch_defs.specs.Memory.{ram_base, block_size}
 use Rattle.arch_defs.specs.Ram.{host_place}
 use Rattle.arch_defs.specs.SecondStage.{second_under, second_walk}
-use Rattle.arch_defs.specs.Spaces.{Space, entered, filled_in, has_space}
+use Rattle.arch_defs.specs.Spaces.{Space, entered}
 use Rattle.machine_laws.specs.FrontSpaces.{FrontIs}
-use Rattle.arch_defs.specs.CachedEntries.{filled, second_by}
+use Rattle.arch_defs.specs.CachedEntries.{second_by}
 use Rattle.shadow_pool.specs.Slots.{Pooled, TidyPool, front_root, pool_frames, room_of, spaces_of, table_frames_for}
 
 -- a pool stays tidy where the bytes of its own frames stay
@@ -73,15 +72,3 @@ abbrev pub FrontIsEnteredAgain : Type 0
 FrontIsEnteredAgain = (pool : Pooled) (memory : List ℕ) (front : Space) (others : List Space)
     → TidyPool pool memory → spaces_of pool ≡ front ∷ others
     → entered (room_of pool) front.key (spaces_of pool) ≡ spaces_of pool
-
--- a fill of the space in front changes no other
-abbrev pub FrontIsFilled : Type 0
-FrontIsFilled = (pool : Pooled) (memory : List ℕ) (front : Space) (others : List Space) (e : Entry)
-    → TidyPool pool memory → spaces_of pool ≡ front ∷ others
-    → filled_in pool.most front.key e (spaces_of pool)
-    ≡ record front { entries = filled pool.most front.entries e } ∷ others
-
--- it is held
-abbrev pub EnteredIsHeld : Type 0
-EnteredIsHeld = (most : ℕ) (key : GuestRoot) (spaces : List Space) → 1 ≤ most
-    → has_space key (entered most key spaces) ≡ true

@@ -3,15 +3,13 @@ use Rattle.std.specs.Prelude.{ℕ, ◌≡◌, ◌≢◌, ◌+◌, ◌*◌, ◌<�
 use Rattle.std.specs.List.{All, AllPairs, filter_map, slice_index_or}
 use Rattle.arch_defs.specs.declared.cached.Entry.{Entry}
 use Rattle.arch_defs.specs.declared.registers.GuestRoot.{GuestRoot}
-use Rattle.arch_defs.specs.Frames.{Frames, LieIn, joined, within}
+use Rattle.arch_defs.specs.Frames.{Frames, LieIn, Only, joined, within}
 use Rattle.arch_defs.specs.Layouts.{Layout, NamesEachOnce, no_part, space_frames, tables_for}
-use Rattle.arch_defs.specs.Roots.{is_root, vmid_of}
-use Rattle.arch_defs.specs.Spaces.{Space, unnamed_by}
-use Rattle.shadow_space.specs.declared.frames.TableFrames.{TableFrames}
+use Rattle.arch_defs.specs.Roots.{is_root}
+use Rattle.arch_defs.specs.Spaces.{Space}
 use Rattle.shadow_space.specs.Folding.{Folded}
 use Rattle.shadow_space.specs.Shadows.{AreZeros, Tidy, root_of}
 use Rattle.shadow_pool.specs.declared.slots.Slot.{Slot}
-use Rattle.arch_defs.specs.declared.cached.Fence.{Fence}
 
 -- whether a table is for a value of hgatp
 abbrev pub key_is : GuestRoot → Option GuestRoot → Bool
@@ -26,9 +24,12 @@ abbrev pub space_if : Option GuestRoot → List Entry → Option Space
 space_if None entries = None
 space_if (Some key) entries = Some (record { key = key; entries = entries })
 
+abbrev pub space_of : Slot → Option Space
+space_of slot = space_if slot.key slot.space.entries
+
 -- the spaces that tables have
 abbrev pub spaces_in : List Slot → List Space
-spaces_in slots = filter_map (λ slot. space_if slot.key slot.space.entries) slots
+spaces_in slots = filter_map (λ slot. space_of slot) slots
 
 -- the frame of the first table's root
 abbrev pub front_root : List Slot → ℕ
@@ -88,6 +89,10 @@ pub record Pooled : Type 0 where
   pub most : ℕ
   pub slots : List Slot
 
+-- the pool of these tables
+abbrev pub pool_of : List Slot → Pooled
+pool_of slots = record { part = part_of slots; most = most_of slots; slots = slots }
+
 -- its spaces, the most recently entered first, and how many there may be
 abbrev pub spaces_of : Pooled → List Space
 spaces_of pool = spaces_in pool.slots
@@ -104,6 +109,13 @@ pub record TidyPool (pool : Pooled) (memory : List ℕ) : Type 0 where
   pub slots : AreSlots pool.part pool.most pool.slots
   pub tables : AreTidy pool.slots memory
 
+-- what no call changes: a pool's part, its room, and memory but for the bytes of its own frames
+pub record KeepsPool (old : Pooled) (memory : List ℕ) (new : Pooled) (changed : List ℕ) : Type 0 where
+  pub part : new.part ≡ old.part
+  pub most : new.most ≡ old.most
+  pub room : room_of new ≡ room_of old
+  pub only : Only (pool_frames old) memory changed
+
 -- a new table of a part, by its number: it is tidy in memory in which its frames are zeros
 pub record IsSpare (layout : Layout) (room number : ℕ) (slot : Slot) : Type 0 where
   pub key : slot.key ≡ None
@@ -117,16 +129,3 @@ pub record IsSpare (layout : Layout) (room number : ℕ) (slot : Slot) : Type 0 
 pub record AreSpare (part : Layout) (most count : ℕ) (slots : List Slot) : Type 0 where
   pub number : length slots ≡ count
   pub each : (k : ℕ) (d : Slot) → k < length slots → IsSpare part most k (slice_index_or slots k d)
-
--- a table after a fence
-abbrev pub left_for : Fence → Option GuestRoot → List Entry → List Entry
-left_for fence None entries = entries
-left_for fence (Some key) entries = unnamed_by fence (vmid_of key) entries
-
-abbrev pub fenced_slot : Fence → Slot → Slot
-fenced_slot fence slot =
-    record slot { space = record slot.space { entries = left_for fence slot.key slot.space.entries } }
-
--- a table with these of its frames kept
-abbrev pub with_frames : TableFrames → Slot → Slot
-with_frames frames slot = record slot { space = record slot.space { frames = frames } }

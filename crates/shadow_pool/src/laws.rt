@@ -1,6 +1,6 @@
 // Laws of pools.
 
-ghost use Rattle.shadow_pool.specs.Laws.{EnteredIsHeld, EnteredIsInFront, FrontGivesEntries, FrontGivesRam, FrontIsEnteredAgain, FrontIsFilled, FrontMissesAreGuestPageFaults, HostIsApartFromSpaces, PoolLiesWithin, RamIsApartFromSpaces, TidyPoolLasts};
+ghost use Rattle.shadow_pool.specs.Laws.{EnteredIsInFront, FrontGivesEntries, FrontGivesRam, FrontIsEnteredAgain, FrontMissesAreGuestPageFaults, HostIsApartFromSpaces, PoolLiesWithin, RamIsApartFromSpaces, TidyPoolLasts};
 
 use arch_defs::Part;
 
@@ -18,13 +18,10 @@ pub fn front_gives_entries()
     ensures ram { FrontGivesRam }
 {}
 
-/// The space that was entered is in front, so it is held, and stays there when it is entered once more. A
-/// fill of the space in front changes no other.
+/// The space that was entered is in front, and no more happens when it is entered once more.
 pub fn entered_is_in_front()
     ensures front { EnteredIsInFront }
-    ensures held { EnteredIsHeld }
     ensures again { FrontIsEnteredAgain }
-    ensures filled { FrontIsFilled }
 {}
 
 /// The frames that a part has for so many spaces are frames of the part, apart from its RAM and from its host

@@ -2,13 +2,12 @@
 #![tactic(auto)]
 
 mod laws;
-mod listing;
 mod pools;
 mod slots;
 #[cfg(test)]
 mod tests;
 
-pub use arch_defs::{Entry, Fence, GuestRoot, Part};
+pub use arch_defs::{Entry, Fence, Key, Part};
 pub use laws::{entered_is_in_front, front_gives_entries, pool_is_apart, tidy_pool_lasts};
 pub use phys_mem::PhysMem;
 pub use pools::Pool;

@@ -1,15 +1,15 @@
 // A pool of spaces.
 
-ghost use Rattle.std.specs.Prelude.{◌≡◌, ◌<◌, ◌≤◌, ◌%◌, ◌^◌, ℕ, List, [], length, true, IfOk};
-ghost use Rattle.arch_defs.specs.Frames.{LieIn, Only};
+ghost use Rattle.std.specs.Prelude.{◌≡◌, ◌<◌, ◌≤◌, ◌%◌, ◌^◌, ℕ, List, [], length, IfOk};
 ghost use Rattle.arch_defs.specs.CachedEntries.{CanFill};
+ghost use Rattle.arch_defs.specs.Frames.{LieIn};
+ghost use Rattle.arch_defs.specs.Spaces.{entered, fenced};
+ghost use Rattle.machine_defs.specs.Fills.{filled_front};
 ghost use Rattle.shadow_space.specs.Shadows.{AreZeros};
-ghost use Rattle.shadow_pool.specs.Slots.{AreFolded, AreSpare, TidyPool, front_root, pool_frames, room_of, spaces_of, table_frames_for};
-ghost use Rattle.arch_defs.specs.Spaces.{entered, fenced, filled_in, has_space};
+ghost use Rattle.shadow_pool.specs.Slots.{AreFolded, AreSpare, KeepsPool, TidyPool, front_root, pool_frames, room_of, spaces_of};
 
-use crate::listing::{enter, fence, fill};
-use crate::slots::Slot;
-use arch_defs::{Entry, Fence, GuestRoot, Part};
+use crate::slots::{Slot, enter, fence, fill};
+use arch_defs::{Entry, Fence, Key, Part};
 use no_memory::NoMemory;
 use phys_mem::PhysMem;
 use shadow_space::Space;
@@ -28,15 +28,11 @@ pub struct Pool {
 }
 
 impl Model for Pool {
-    ghost use Rattle.shadow_pool.specs.Slots.{ArePooled, Pooled, most_of, part_of};
+    ghost use Rattle.shadow_pool.specs.Slots.{ArePooled, Pooled, pool_of};
 
     ghost Value = { Pooled };
 
-    ghost view = { λ p. record {
-      part = part_of p.slots.items;
-      most = most_of p.slots.items;
-      slots = p.slots.items;
-    } };
+    ghost view = { λ p. pool_of p.slots.items };
 
     ghost invariant = { λ p. ArePooled p.slots.items };
 }
@@ -64,18 +60,15 @@ impl Pool {
     /// Enters a value of hgatp, and answers the frame of the root of its space's table: the space with this
     /// whole value comes to the front. If there is none, an empty one is put there, and where there are as
     /// many as there may be, the last one is dropped.
-    pub fn enter(&mut self, mem: &mut PhysMem, key: GuestRoot) -> u64
+    pub fn enter(&mut self, mem: &mut PhysMem, key: Key) -> u64
         requires tidy { TidyPool self.old mem.old }
         ensures spaces { spaces_of self.new ≡ entered (room_of self.old) key (spaces_of self.old) }
         ensures root { result ≡ front_root self.new.slots }
         ensures aligned { result % 4 ≡ 0 }
         ensures small { result < 2 ^ 44 }
-        ensures part { self.new.part ≡ self.old.part }
-        ensures most { self.new.most ≡ self.old.most }
-        ensures room { room_of self.new ≡ room_of self.old }
+        ensures keeps { KeepsPool self.old mem.old self.new mem.new }
         ensures tidy { TidyPool self.new mem.new }
         ensures folded { AreFolded self.new.slots mem.new }
-        ensures only { Only (pool_frames self.old) mem.old mem.new }
     {
         enter(self.slots.as_mut_slice(), mem, key);
         self.root()
@@ -90,22 +83,18 @@ impl Pool {
         self.slots[0].space.root()
     }
 
-    /// Fills an entry of the space for a value of hgatp: an entry of the same page is dropped, and else,
+    /// Fills an entry of the front space, if there is one: an entry of the same page is dropped, and else,
     /// where there are as many as there may be, the oldest one.
-    pub fn fill(&mut self, mem: &mut PhysMem, key: GuestRoot, entry: Entry)
+    pub fn fill(&mut self, mem: &mut PhysMem, entry: Entry)
         requires tidy { TidyPool self.old mem.old }
-        requires held { has_space key (spaces_of self.old) ≡ true }
         requires entry { CanFill self.old.part.blocks entry }
-        ensures spaces { spaces_of self.new ≡ filled_in self.old.most key entry (spaces_of self.old) }
+        ensures spaces { spaces_of self.new ≡ filled_front self.old.most (spaces_of self.old) entry }
         ensures root { front_root self.new.slots ≡ front_root self.old.slots }
-        ensures part { self.new.part ≡ self.old.part }
-        ensures most { self.new.most ≡ self.old.most }
-        ensures room { room_of self.new ≡ room_of self.old }
+        ensures keeps { KeepsPool self.old mem.old self.new mem.new }
         ensures tidy { TidyPool self.new mem.new }
         ensures folded { AreFolded self.new.slots mem.new }
-        ensures only { Only (pool_frames self.old) mem.old mem.new }
     {
-        fill(self.slots.as_mut_slice(), mem, key, entry);
+        fill(self.slots.as_mut_slice(), mem, entry);
     }
 
     /// Makes a fence: in each space whose VMID it names, or in every one where it names none, the entries are
@@ -114,12 +103,9 @@ impl Pool {
         requires tidy { TidyPool self.old mem.old }
         ensures spaces { spaces_of self.new ≡ fenced named (spaces_of self.old) }
         ensures root { front_root self.new.slots ≡ front_root self.old.slots }
-        ensures part { self.new.part ≡ self.old.part }
-        ensures most { self.new.most ≡ self.old.most }
-        ensures room { room_of self.new ≡ room_of self.old }
+        ensures keeps { KeepsPool self.old mem.old self.new mem.new }
         ensures tidy { TidyPool self.new mem.new }
         ensures folded { AreFolded self.new.slots mem.new }
-        ensures only { Only (pool_frames self.old) mem.old mem.new }
     {
         fence(self.slots.as_mut_slice(), mem, &named);
     }

@@ -1,21 +1,126 @@
-// A table, and the value of hgatp that it is for.
+// The tables of a pool, those of the most recently entered spaces first.
 
-ghost use Rattle.std.specs.Prelude.{◌≡◌, [], Some};
-ghost use Rattle.arch_defs.specs.Frames.{Only};
-ghost use Rattle.arch_defs.specs.CachedEntries.{CanFill, filled};
-ghost use Rattle.shadow_space.specs.Shadows.{Tidy, own_frames};
-ghost use Rattle.shadow_pool.specs.Slots.{fenced_slot, has_key, with_frames};
-ghost use Rattle.arch_defs.specs.Spaces.{names_vmid};
+ghost use Rattle.std.specs.Prelude.{◌≡◌, [], ◌∷◌, ◌<◌, Some, length, option_map, remove, slice_index_or};
+ghost use Rattle.std.specs.List.{position};
+ghost use Rattle.arch_defs.specs.CachedEntries.{CanFill};
+ghost use Rattle.arch_defs.specs.Spaces.{entered, fenced, fenced_space, names_vmid};
+ghost use Rattle.machine_defs.specs.Fills.{filled_front};
+ghost use Rattle.shadow_space.specs.Shadows.{KeepsSpace, Tidy};
+ghost use Rattle.shadow_pool.specs.declared.slots.Slot.{Slot};
+ghost use Rattle.shadow_pool.specs.Slots.{AreFolded, KeepsPool, TidyPool, front_root, has_key, most_of, part_of, pool_of, space_of, spaces_in};
 
-use arch_defs::{Entry, Fence, GuestRoot};
+use arch_defs::{Entry, Fence, Key};
 use phys_mem::PhysMem;
 use shadow_space::Space;
 
 /// The table of a space, and the value of hgatp that the space is for, if it is in use.
 #[derive(Drop)]
 pub struct Slot {
-    pub key: Option<GuestRoot>,
+    pub key: Option<Key>,
     pub space: Space,
+}
+
+/// Enters a value of hgatp: the table of its space comes to the front. Where it has none, the last table
+/// becomes that of an empty one.
+pub fn enter(slots: &mut [Slot], mem: &mut PhysMem, key: Key)
+    requires { TidyPool (pool_of slots.old) mem.old }
+    ensures spaces { spaces_in slots.new ≡ entered (length slots.old) key (spaces_in slots.old) }
+    ensures keeps { KeepsPool (pool_of slots.old) mem.old (pool_of slots.new) mem.new }
+    ensures tidy { TidyPool (pool_of slots.new) mem.new }
+    ensures folded { AreFolded slots.new mem.new }
+{
+    match place_of(slots, key) {
+        Some(i) => to_front(slots, i),
+        None => {
+            let last = slots.len() - 1;
+            renew(&mut slots[last], mem, key);
+            to_front(slots, last);
+        }
+    }
+}
+
+// The place of the first table that is for a value of hgatp.
+fn place_of(slots: &[Slot], key: Key) -> Option<usize>
+    ensures { result ≡ position (has_key key) slots.now }
+{
+    slots.iter().position(|slot| has_key(slot, key))
+}
+
+// Whether a table is for a value of hgatp.
+fn has_key(slot: &Slot, key: Key) -> bool
+    ensures { result ≡ has_key key slot.now }
+{
+    match slot.key {
+        None => false,
+        Some(other) => other.is_key(key),
+    }
+}
+
+// Moves a table to the front.
+fn to_front(slots: &mut [Slot], i: usize)
+    requires { i < length slots.old }
+    ensures { (d : Slot) → slots.new ≡ slice_index_or slots.old i d ∷ remove slots.old i }
+{
+    slots[..=i].rotate_right(1);
+}
+
+// Makes a table that of an empty space for a value of hgatp.
+fn renew(slot: &mut Slot, mem: &mut PhysMem, key: Key)
+    requires { Tidy slot.old.space mem.old }
+    ensures key { slot.new.key ≡ Some key }
+    ensures entries { slot.new.space.entries ≡ [] }
+    ensures keeps { KeepsSpace slot.old.space mem.old slot.new.space mem.new }
+    ensures tidy { Tidy slot.new.space mem.new }
+{
+    slot.space.wipe(mem);
+    slot.key = Some(key);
+}
+
+/// Fills an entry of the front space, if there is one.
+#[tactic(auto, using(crate::proofs::Changing::filled_has, crate::proofs::Changing::filled_keeps, crate::proofs::Changing::filled_tidy, crate::proofs::Changing::filled_folded))]
+pub fn fill(slots: &mut [Slot], mem: &mut PhysMem, entry: Entry)
+    requires tidy { TidyPool (pool_of slots.old) mem.old }
+    requires entry { CanFill (part_of slots.old).blocks entry }
+    ensures spaces { spaces_in slots.new ≡ filled_front (most_of slots.old) (spaces_in slots.old) entry }
+    ensures root { front_root slots.new ≡ front_root slots.old }
+    ensures keeps { KeepsPool (pool_of slots.old) mem.old (pool_of slots.new) mem.new }
+    ensures tidy { TidyPool (pool_of slots.new) mem.new }
+    ensures folded { AreFolded slots.new mem.new }
+{
+    slots[0].space.fill(mem, entry);
+}
+
+/// Drops the entries that a fence names from all spaces.
+pub fn fence(slots: &mut [Slot], mem: &mut PhysMem, fence: &Fence)
+    requires { TidyPool (pool_of slots.old) mem.old }
+    ensures spaces { spaces_in slots.new ≡ fenced fence.now (spaces_in slots.old) }
+    ensures root { front_root slots.new ≡ front_root slots.old }
+    ensures keeps { KeepsPool (pool_of slots.old) mem.old (pool_of slots.new) mem.new }
+    ensures tidy { TidyPool (pool_of slots.new) mem.new }
+    ensures folded { AreFolded slots.new mem.new }
+{
+    for i in 0..slots.len() {
+        fence_one(&mut slots[i], mem, fence);
+    }
+}
+
+// Drops the entries that a fence names from the space of one table.
+#[tactic(auto, using(crate::proofs::Fencing::unnamed))]
+fn fence_one(slot: &mut Slot, mem: &mut PhysMem, fence: &Fence)
+    requires { Tidy slot.old.space mem.old }
+    ensures key { slot.new.key ≡ slot.old.key }
+    ensures space { space_of slot.new ≡ option_map (fenced_space fence.now) (space_of slot.old) }
+    ensures keeps { KeepsSpace slot.old.space mem.old slot.new.space mem.new }
+    ensures tidy { Tidy slot.new.space mem.new }
+{
+    let Some(key) = slot.key else { return };
+    if !names_vmid(fence.vmid, key.vmid()) {
+        return;
+    }
+    match fence.page {
+        None => slot.space.wipe(mem),
+        Some(page) => slot.space.cut(mem, page),
+    }
 }
 
 // Whether a fence names a VMID.
@@ -25,65 +130,5 @@ fn names_vmid(named: Option<u64>, vmid: u64) -> bool
     match named {
         None => true,
         Some(named) => named == vmid,
-    }
-}
-
-impl Slot {
-    /// Whether it is for this value of hgatp.
-    pub fn has_key(&self, key: GuestRoot) -> bool
-        ensures { result ≡ has_key key self.now }
-    {
-        match self.key {
-            None => false,
-            Some(other) => other.is_root(key),
-        }
-    }
-
-    /// Makes it an empty one for this value of hgatp.
-    pub fn renew(&mut self, mem: &mut PhysMem, key: GuestRoot)
-        requires { Tidy self.old.space mem.old }
-        ensures key { self.new.key ≡ Some key }
-        ensures space { self.new.space ≡ record self.old.space {
-          entries = [];
-          frames = self.new.space.frames;
-        } }
-        ensures tidy { Tidy self.new.space mem.new }
-        ensures only { Only (own_frames self.old.space) mem.old mem.new }
-    {
-        self.space.wipe(mem);
-        self.key = Some(key);
-    }
-
-    /// Fills an entry.
-    pub fn fill(&mut self, mem: &mut PhysMem, entry: Entry)
-        requires tidy { Tidy self.old.space mem.old }
-        requires entry { CanFill self.old.space.part.blocks entry }
-        ensures key { self.new.key ≡ self.old.key }
-        ensures space { self.new.space ≡ record self.old.space {
-          entries = filled self.old.space.most self.old.space.entries entry;
-          frames = self.new.space.frames;
-        } }
-        ensures tidy { Tidy self.new.space mem.new }
-        ensures only { Only (own_frames self.old.space) mem.old mem.new }
-    {
-        self.space.fill(mem, entry);
-    }
-
-    /// Drops the entries that a fence names.
-    #[tactic(auto, using(crate::proofs::Fencing::unnamed))]
-    pub fn fence(&mut self, mem: &mut PhysMem, fence: &Fence)
-        requires { Tidy self.old.space mem.old }
-        ensures slot { self.new ≡ with_frames self.new.space.frames (fenced_slot fence.now self.old) }
-        ensures tidy { Tidy self.new.space mem.new }
-        ensures only { Only (own_frames self.old.space) mem.old mem.new }
-    {
-        let Some(key) = self.key else { return };
-        if !names_vmid(fence.vmid, key.vmid()) {
-            return;
-        }
-        match fence.page {
-            None => self.space.wipe(mem),
-            Some(page) => self.space.cut(mem, page),
-        }
     }
 }

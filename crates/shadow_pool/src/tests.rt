@@ -5,8 +5,10 @@ ghost use Rattle.arch_defs.specs.SecondStage.{memory_words};
 ghost use Rattle.shadow_pool.specs.Slots.{TidyPool};
 
 use crate::slots::Slot;
-use crate::{Entry, Fence, GuestRoot, Part, PhysMem, Pool};
-use arch_defs::{Access, GuestMode, LOAD_ACCESS_FAULT, Shape, TABLES_PER_ENTRY, Trap, WalkEnd};
+use crate::{Entry, Fence, Key, Part, PhysMem, Pool};
+use arch_defs::{
+    Access, GuestMode, GuestRoot, LOAD_ACCESS_FAULT, Shape, TABLES_PER_ENTRY, Trap, WalkEnd,
+};
 use no_memory::NoMemory;
 use phys_mem::Mem;
 use stage_walk::{Fetch, walk};
@@ -136,7 +138,7 @@ fn filled(machine: &mut Machine, key: GuestRoot, entry: Entry) -> u64
     ensures blocks { length machine.new.pool.part.blocks ≡ 2 }
     ensures small { result < 2 ^ 44 }
 {
-    let root = machine.pool.enter(&mut machine.mem, key);
+    let root = machine.pool.enter(&mut machine.mem, Key::of(key));
     if entry.page >= 0x2000_0000 || entry.level > 2 {
         return root;
     }
@@ -144,7 +146,7 @@ fn filled(machine: &mut Machine, key: GuestRoot, entry: Entry) -> u64
         return root;
     }
     if entry.r {
-        machine.pool.fill(&mut machine.mem, key, entry);
+        machine.pool.fill(&mut machine.mem, entry);
     }
     root
 }
@@ -174,7 +176,8 @@ fn has_spaces(pool: &Pool, spaces: &[(GuestRoot, &[Entry])]) -> bool {
     for slot in pool.slots() {
         if let Some(key) = slot.key {
             match spaces.get(count) {
-                Some(&(wanted, entries)) if key == wanted && slot.space.entries() == entries => {
+                Some(&(wanted, entries))
+                    if key == Key::of(wanted) && slot.space.entries() == entries => {
                     count += 1;
                 }
                 _ => return false,
@@ -195,22 +198,22 @@ fn pool_of_two(rt: HostRuntime) {
     let first = filled(&mut machine, P, entries[0]);
     assert!(rt; has_spaces(&machine.pool, &[(P, &entries)]));
     assert_eq!(rt; frame_of(&machine.mem, first, 5), Some(2563));
-    let second = machine.pool.enter(&mut machine.mem, Q);
+    let second = machine.pool.enter(&mut machine.mem, Key::of(Q));
     assert_eq!(rt; second != first, true);
     assert_eq!(rt; machine.pool.root(), second);
     assert_eq!(rt; frame_of(&machine.mem, second, 5), None);
-    assert_eq!(rt; machine.pool.enter(&mut machine.mem, P), first);
+    assert_eq!(rt; machine.pool.enter(&mut machine.mem, Key::of(P)), first);
     assert!(rt; has_spaces(&machine.pool, &[(P, &entries), (Q, &[])]));
     assert_eq!(rt; frame_of(&machine.mem, first, 5), Some(2563));
-    let third = machine.pool.enter(&mut machine.mem, R);
+    let third = machine.pool.enter(&mut machine.mem, Key::of(R));
     assert!(rt; has_spaces(&machine.pool, &[(R, &[]), (P, &entries)]));
     assert_eq!(rt; frame_of(&machine.mem, third, 5), None);
     assert_eq!(rt; frame_of(&machine.mem, first, 5), Some(2563));
-    let fourth = machine.pool.enter(&mut machine.mem, Q);
+    let fourth = machine.pool.enter(&mut machine.mem, Key::of(Q));
     assert!(rt; has_spaces(&machine.pool, &[(Q, &[]), (R, &[])]));
     assert_eq!(rt; fourth != third, true);
     assert_eq!(rt; frame_of(&machine.mem, fourth, 5), None);
-    let fifth = machine.pool.enter(&mut machine.mem, P);
+    let fifth = machine.pool.enter(&mut machine.mem, Key::of(P));
     assert!(rt; has_spaces(&machine.pool, &[(P, &[]), (Q, &[])]));
     assert_eq!(rt; frame_of(&machine.mem, fifth, 5), None);
 }
@@ -523,7 +526,7 @@ fn make(machine: &mut Machine, number: u16, call: Call)
 {
     match call {
         Call::Enter(key) => {
-            machine.pool.enter(&mut machine.mem, key);
+            machine.pool.enter(&mut machine.mem, Key::of(key));
         }
         Call::Fill(key, page, level) => {
             filled(machine, key, entry(page, 0x8_0000 + number as u64, level));
@@ -555,7 +558,11 @@ fn gives_entries(mem: &PhysMem, slot: &Slot) -> bool {
 
 // Whether a table is for a value of hgatp, or for none under NONE, and has the entries of these calls.
 fn has_entries(slot: &Slot, rows: &[Row; 40], key: GuestRoot, numbers: [u16; 3]) -> bool {
-    let wanted = if key.is_table() { Some(key) } else { None };
+    let wanted = if key.is_table() {
+        Some(Key::of(key))
+    } else {
+        None
+    };
     if slot.key != wanted {
         return false;
     }

@@ -117,6 +117,41 @@ pub same_level : (tree tree' : Tree) (leaf : ℕ → ℕ) (f h k s : ℕ) → Is
 same_level tree tree' leaf f zero k s added = refl
 same_level tree tree' leaf f (suc h) k s added = ap pointer_of (added.places h (512 * k + s) (λ e. omega (arith, e.0)))
 
+-- where a frame gets a table or loses it, and an entry of a table says so, each other frame has the entries of
+-- the second tree
+module _ (tables : Tables) (tree tree' : Tree) (word word' leaf : ℕ → ℕ) (f h k parent t s : ℕ) (sound : IsTree tables tree) (says : Says word tables tree leaf)
+    (contents : (x : ℕ) → x ≢ f → tree'.content x ≡ tree.content x) (places : (h' k' : ℕ) → ((h' ≡ h) × (k' ≡ k) → ⊥) → tree'.place h' k' ≡ tree.place h' k')
+    (above : tree.content parent ≡ Table (suc h) t) (slot : s < slots tables parent) (is : 512 * t + s ≡ k)
+    (here : word' (512 * parent + s) ≡ pointer_of (tree'.place h k)) (there : (i : ℕ) → i ≢ 512 * parent + s → word' i ≡ word i) where
+  unchanged : (x u : ℕ) → u < slots tables x → 512 * x + u ≢ 512 * parent + s → (c : Content) → tree.content x ≡ c → entry_of tree leaf c u ≡ entry_of tree' leaf c u
+  unchanged x u small other Free holds = refl
+  unchanged x u small other (Table zero k') holds = refl
+  unchanged x u small other (Table (suc h') k') holds = ap pointer_of (sym (places h' (512 * k' + u) differs))
+    where
+      differs : (h' ≡ h) × (512 * k' + u ≡ k) → ⊥
+      differs e =
+          let same : tree.content x ≡ Table (suc h) k' = holds ∙ ap (λ n. Table (suc n) k') e.0 in
+          let one = one_slot tables tree x parent h k' t u s sound same above small slot (e.1 ∙ sym is) in
+          other (omega (arith, one.0, one.1))
+
+  pub others_say : (x u : ℕ) → IsOwn tables x → u < slots tables x → x ≢ f → word' (512 * x + u) ≡ entry_of tree' leaf (tree'.content x) u
+  others_say x u owns small old = by (same_or (512 * x + u) (512 * parent + s))
+    where
+      by : (512 * x + u ≡ 512 * parent + s) ⊎ (512 * x + u ≢ 512 * parent + s) → word' (512 * x + u) ≡ entry_of tree' leaf (tree'.content x) u
+      by (inl same) =
+          let one = same_place tables x parent u s sound.apart owns (sound.own parent (suc h) t (sound.back parent (suc h) t above)) small slot same in
+          let holds : tree'.content x ≡ Table (suc h) t = contents x old ∙ ap tree.content one.0 ∙ above in
+          let slot_is : 512 * t + u ≡ k = omega (arith, one.1, is) in
+          ap word' same
+          ∙ here
+          ∙ ap pointer_of (sym (ap (tree'.place h) slot_is))
+          ∙ ap (λ c. entry_of tree' leaf c u) (sym holds)
+      by (inr other) =
+          there (512 * x + u) other
+          ∙ says.words x u owns small
+          ∙ unchanged x u small other (tree.content x) refl
+          ∙ ap (λ c. entry_of tree' leaf c u) (sym (contents x old))
+
 -- memory with the pointer to the new table says the new tree
 module _ (tables : Tables) (tree tree' : Tree) (word word' leaf : ℕ → ℕ) (f h k parent t s : ℕ) (sound : IsTree tables tree) (says : Says word tables tree leaf)
     (added : IsAdded tree tree' f h k) (free : tree.content f ≡ Free) (none : tree.place h k ≡ None) (low : h < 2) (own : IsOwn tables f)
@@ -124,18 +159,6 @@ module _ (tables : Tables) (tree tree' : Tree) (word word' leaf : ℕ → ℕ) (
     (here : word' (512 * parent + s) ≡ pointer_word f) (there : (i : ℕ) → i ≢ 512 * parent + s → word' i ≡ word i) where
   parent_own : IsOwn tables parent
   parent_own = sound.own parent (suc h) t (sound.back parent (suc h) t above)
-
-  -- each other table's entries stay
-  unchanged : (x u : ℕ) → u < slots tables x → 512 * x + u ≢ 512 * parent + s → (c : Content) → tree.content x ≡ c → entry_of tree leaf c u ≡ entry_of tree' leaf c u
-  unchanged x u small other Free holds = refl
-  unchanged x u small other (Table zero k') holds = refl
-  unchanged x u small other (Table (suc h') k') holds = ap pointer_of (sym (added.places h' (512 * k' + u) differs))
-    where
-      differs : (h' ≡ h) × (512 * k' + u ≡ k) → ⊥
-      differs e =
-          let same : tree.content x ≡ Table (suc h) k' = holds ∙ ap (λ n. Table (suc n) k') e.0 in
-          let one = one_slot tables tree x parent h k' t u s sound same above small slot (e.1 ∙ sym is) in
-          other (omega (arith, one.0, one.1))
 
   -- the table of level h above a prefix is the parent
   above_is : (k' u : ℕ) → suc h < 2 → u < 512 → 512 * k' + u ≡ k → tree.place (suc h) k' ≡ None → ⊥
@@ -178,19 +201,8 @@ module _ (tables : Tables) (tree tree' : Tree) (word word' leaf : ℕ → ℕ) (
           ∙ sym (says.nothing h k u low none narrow)
           ∙ sym (same_level tree tree' leaf f h k u added)
           ∙ ap (λ c. entry_of tree' leaf c u) (sym holds)
-      words x u owns small (inr old) (inl same) =
-          let one = same_place tables x parent u s sound.apart owns parent_own small slot same in
-          let holds : tree'.content x ≡ Table (suc h) t = added.contents x old ∙ ap tree.content one.0 ∙ above in
-          let slot_is : 512 * t + u ≡ k = omega (arith, one.1, is) in
-          ap word' same
-          ∙ here
-          ∙ ap pointer_of (sym (ap (tree'.place h) slot_is ∙ added.place))
-          ∙ ap (λ c. entry_of tree' leaf c u) (sym holds)
-      words x u owns small (inr old) (inr other) =
-          there (512 * x + u) other
-          ∙ says.words x u owns small
-          ∙ unchanged x u small other (tree.content x) refl
-          ∙ ap (λ c. entry_of tree' leaf c u) (sym (added.contents x old))
+      words x u owns small (inr old) way =
+          others_say tables tree tree' word word' leaf f h k parent t s sound says added.contents added.places above slot is (here ∙ ap pointer_of (sym added.place)) there x u owns small old
 
       nothing : (h' k' u : ℕ) → h' < 2 → tree'.place h' k' ≡ None → u < 512 → ((h' ≡ h) × (k' ≡ k)) ⊎ ((h' ≡ h) × (k' ≡ k) → ⊥) → entry_of tree' leaf (Table h' k') u ≡ 0
       nothing h' k' u lower missing small (inl same) =

@@ -1,18 +1,17 @@
 -- One entry less in a table.
-use Rattle.std.proofs.Common.{◌≡◌, ◌≢◌, ℕ, zero, suc, ◌+◌, ◌-◌, ◌*◌, ◌/◌, ◌%◌, ◌<◌, ◌≤◌, ◌^◌, ◌⊎◌, inl, inr, false, ◌==◌, List, length, get_or, slice_index, slice_set, Option, Some, None, if◌then◌else◌, refl, sym, ap, subst, ◌∙◌, arith}
+use Rattle.std.proofs.Common.{◌≡◌, ◌≢◌, ℕ, suc, ◌+◌, ◌-◌, ◌*◌, ◌<◌, ◌≤◌, ◌⊎◌, inl, inr, List, length, slice_index, slice_set, Some, None, sym, ap, ◌∙◌, arith}
 use Rattle.std.specs.Prelude.{slice_index_or}
-use Rattle.std.proofs.lemmas.Bool.{cases_lt, eq-eqb, ne_eqb}
-use Rattle.std.proofs.lemmas.List.{get_or-set_same, get_or-set_other}
+use Rattle.std.proofs.lemmas.Bool.{eq-eqb, ne_eqb}
+use Rattle.std.proofs.lemmas.List.{get_or-set_other}
 use Rattle.arch_defs.specs.declared.cached.Entry.{Entry}
 use Rattle.arch_defs.specs.Frames.{Only}
 use Rattle.arch_defs.proofs.FrameSets.{only_none}
-use Rattle.shadow_space.specs.declared.frames.TableFrames.{TableFrames}
 use Rattle.shadow_space.specs.declared.writing.Tables.{Tables}
-use Rattle.shadow_space.specs.Held.{HasFree, Held, IsCounted, IsCounting, IsKept, Stands, closed, departed, table_entered, entered_frame, fewer, more, next_free, opened}
-use Rattle.shadow_space.specs.Trees.{Free, HasTables, IsOwn, IsTree, Table, Tree, entry_of, frames_of, pointer_of, prefix, slots}
-use Rattle.shadow_space.proofs.Adding.{IsAdded, added_says, added_sound, low_slots, same_pair}
-use Rattle.shadow_space.proofs.Counting.{counted_few, counted_inside, has_free, kept_closed, kept_fewer, kept_more, kept_opened, left_few, left_fewer}
-use Rattle.shadow_space.proofs.Placing.{place_added, place_removed, removed_free, removed_none, with_place, without_place}
+use Rattle.shadow_space.specs.Held.{Held, IsCounted, IsKept, Stands, departed}
+use Rattle.shadow_space.specs.Trees.{Free, HasTables, IsOwn, Table, entry_of, frames_of, prefix, slots}
+use Rattle.shadow_space.proofs.Adding.{IsAdded, same_pair}
+use Rattle.shadow_space.proofs.Counting.{counted_inside, kept_closed, kept_fewer}
+use Rattle.shadow_space.proofs.Placing.{place_removed, removed_free, removed_none, without_place}
 use Rattle.shadow_space.proofs.Removing.{removed_says, removed_sound}
 use Rattle.shadow_space.proofs.Slots.{own_frame, own_room, same_or}
 use Rattle.table_words.specs.Words.{doubleword_at, with_word}

@@ -1,8 +1,8 @@
 -- A tree with one more table, and with one less.
-use Rattle.std.proofs.Common.{◌≡◌, ◌≢◌, ℕ, ◌⊎◌, inl, inr, false, ◌==◌, ◌&&◌, Some, None, if◌then◌else◌, refl, sym, ap, ◌∙◌, arith}
+use Rattle.std.proofs.Common.{◌≡◌, ◌≢◌, ℕ, ◌⊎◌, inl, inr, false, ◌==◌, ◌&&◌, Some, None, if◌then◌else◌, refl, sym}
 use Rattle.std.proofs.lemmas.Bool.{and_from, and_left, and_right, eq-eqb, ne_eqb}
 use Rattle.shadow_space.specs.Trees.{Free, Table, Tree}
-use Rattle.shadow_space.proofs.Adding.{IsAdded, same_pair}
+use Rattle.shadow_space.proofs.Adding.{IsAdded}
 use Rattle.shadow_space.proofs.Slots.{same_or}
 
 abbrev pub with_place : Tree → ℕ → ℕ → ℕ → Tree

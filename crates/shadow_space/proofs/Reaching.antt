@@ -5,16 +5,19 @@ use Rattle.std.proofs.lemmas.Bool.{ne_eqb}
 use Rattle.std.proofs.lemmas.List.Elements.{All-head, All-tail}
 use Rattle.arch_defs.specs.declared.cached.Entry.{Entry}
 use Rattle.arch_defs.specs.CachedEntries.{CanFill}
-use Rattle.shadow_space.specs.Held.{number_of}
+use Rattle.shadow_space.specs.Held.{number_of, Holds, KeepsTable}
 use Rattle.shadow_space.specs.Leaves.{leaves}
 use Rattle.shadow_space.specs.Reaching.{FreeAreZeros, IsReached, PointsTo}
-use Rattle.shadow_space.specs.Shadows.{IsTidy, Shadow, Tidy, root_of, tables_in}
+use Rattle.shadow_space.specs.Shadows.{IsTidy, Shadow, Tidy, root_of, tables_in, IsShadow, shadow_of}
 use Rattle.shadow_space.specs.Trees.{Content, Free, Table, entry_of, pointer_of, slots}
 use Rattle.shadow_space.proofs.Adding.{low_slots}
 use Rattle.shadow_space.proofs.Numbers.{no_number_of, number_cons}
 use Rattle.shadow_space.proofs.Slots.{other_slots, other_than_root, root_slots, same_or}
-use Rattle.shadow_space.proofs.Tidying.{tidy_parts}
+use Rattle.shadow_space.proofs.Tidying.{tidy_parts, folded, tidy_kept}
 use Rattle.table_words.proofs.Pointers.{pointer_some}
+use Rattle.shadow_space.specs.declared.cached.CachedTable.{CachedTable}
+use Rattle.shadow_space.specs.declared.writing.Tables.{Tables}
+use Rattle.shadow_space.specs.Folding.{Folded}
 use Rattle.table_words.specs.Words.{doubleword_at}
 
 -- an entry's page has a small number, and so has its table
@@ -111,3 +114,12 @@ module _ (space : Shadow) (memory : List ℕ) (tidy : IsTidy space memory) where
 
 pub unreached : (space : Shadow) (memory : List ℕ) → Tidy space memory → FreeAreZeros space memory
 unreached space memory tidy = record { each = free space memory (tidy_parts space memory tidy) }
+
+-- so of a space with another list in its tables
+module _ (index : ℕ) (old new : CachedTable) (before memory : List ℕ) (tables : Tables) (is : IsShadow (shadow_of index old)) (same : tables ≡ tables_in old.part index)
+    (keeps : KeepsTable tables old before new memory) (holds : Holds tables new memory) where
+  pub kept_zeros : FreeAreZeros (shadow_of index new) memory
+  kept_zeros = unreached (shadow_of index new) memory (tidy_kept index old new before memory tables is same keeps holds)
+
+  pub kept_folded : Folded (shadow_of index new) memory
+  kept_folded = folded (shadow_of index new) memory (tidy_kept index old new before memory tables is same keeps holds)

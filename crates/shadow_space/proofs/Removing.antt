@@ -1,8 +1,8 @@
 -- A tree without a table that has no entry.
-use Rattle.std.proofs.Common.{◌≡◌, ◌≢◌, ℕ, zero, suc, ◌+◌, ◌*◌, ◌<◌, ◌⊎◌, inl, inr, Some, None, refl, sym, ap, subst, ◌∙◌, arith}
+use Rattle.std.proofs.Common.{◌≡◌, ◌≢◌, ℕ, zero, suc, ◌+◌, ◌*◌, ◌<◌, ◌⊎◌, inl, inr, Some, None, sym, ap, subst, ◌∙◌, arith}
 use Rattle.shadow_space.specs.declared.writing.Tables.{Tables}
-use Rattle.shadow_space.specs.Trees.{Content, Free, Table, IsOwn, IsTree, Says, Tree, entry_of, pointer_of, slots}
-use Rattle.shadow_space.proofs.Adding.{IsAdded, low_slots, one_slot, same_level, same_pair}
+use Rattle.shadow_space.specs.Trees.{Free, Table, IsOwn, IsTree, Says, Tree, entry_of, pointer_of, slots}
+use Rattle.shadow_space.proofs.Adding.{IsAdded, low_slots, others_say, same_pair}
 use Rattle.shadow_space.proofs.Slots.{same_or, same_place}
 
 -- the first tree is the second with a table in a frame
@@ -77,18 +77,6 @@ module _ (tables : Tables) (tree tree' : Tree) (word word' leaf : ℕ → ℕ) (
   parent_own : IsOwn tables parent
   parent_own = sound.own parent (suc h) t (sound.back parent (suc h) t above)
 
-  -- each other table's entries stay
-  unchanged : (x u : ℕ) → u < slots tables x → 512 * x + u ≢ 512 * parent + s → (c : Content) → tree.content x ≡ c → entry_of tree leaf c u ≡ entry_of tree' leaf c u
-  unchanged x u small other Free holds = refl
-  unchanged x u small other (Table zero k') holds = refl
-  unchanged x u small other (Table (suc h') k') holds = ap pointer_of (removed.places h' (512 * k' + u) differs)
-    where
-      differs : (h' ≡ h) × (512 * k' + u ≡ k) → ⊥
-      differs e =
-          let same : tree.content x ≡ Table (suc h) k' = holds ∙ ap (λ n. Table (suc n) k') e.0 in
-          let one = one_slot tables tree x parent h k' t u s sound same above small slot (e.1 ∙ sym is) in
-          other (omega (arith, one.0, one.1))
-
   nothing_below : (h' k' u : ℕ) → entry_of tree leaf (Table h' k') u ≡ 0 → entry_of tree' leaf (Table h' k') u ≡ 0
   nothing_below zero k' u zero_is = zero_is
   nothing_below (suc h') k' u zero_is = by (same_pair h k h' (512 * k' + u))
@@ -126,19 +114,9 @@ module _ (tables : Tables) (tree tree' : Tree) (word word' leaf : ℕ → ℕ) (
           ∙ ap (λ c. entry_of tree leaf c u) held
           ∙ empty u narrow
           ∙ ap (λ c. entry_of tree' leaf c u) (sym empty_is)
-      words x u owns small (inr old) (inl same) =
-          let one = same_place tables x parent u s sound.apart owns parent_own small slot same in
-          let holds : tree'.content x ≡ Table (suc h) t = sym (removed.contents x old) ∙ ap tree.content one.0 ∙ above in
-          let slot_is : 512 * t + u ≡ k = omega (arith, one.1, is) in
-          ap word' same
-          ∙ here
-          ∙ ap pointer_of (sym (ap (tree'.place h) slot_is ∙ none))
-          ∙ ap (λ c. entry_of tree' leaf c u) (sym holds)
-      words x u owns small (inr old) (inr other) =
-          there (512 * x + u) other
-          ∙ says.words x u owns small
-          ∙ unchanged x u small other (tree.content x) refl
-          ∙ ap (λ c. entry_of tree' leaf c u) (removed.contents x old)
+      words x u owns small (inr old) way =
+          others_say tables tree tree' word word' leaf f h k parent t s sound says (λ x other. sym (removed.contents x other)) (λ h' k' differs. sym (removed.places h' k' differs))
+          above slot is (here ∙ ap pointer_of (sym none)) there x u owns small old
 
       nothing : (h' k' u : ℕ) → h' < 2 → tree'.place h' k' ≡ None → u < 512 → ((h' ≡ h) × (k' ≡ k)) ⊎ ((h' ≡ h) × (k' ≡ k) → ⊥) → entry_of tree' leaf (Table h' k') u ≡ 0
       nothing h' k' u lower missing small (inl same) =

@@ -8,21 +8,22 @@ use Rattle.arch_defs.specs.declared.cached.Entry.{Entry}
 use Rattle.arch_defs.specs.declared.modes.Access.{Access}
 use Rattle.arch_defs.specs.declared.walks.Shape.TheVariants.{Sv39x4}
 use Rattle.arch_defs.specs.declared.walks.Next.TheVariants.{Ends}
-use Rattle.arch_defs.specs.Frames.{Apart, LieIn, Only, Same, within}
+use Rattle.arch_defs.specs.Frames.{Apart, LieIn, Same, within}
 use Rattle.arch_defs.specs.Layouts.{Layout, NamesEachOnce, space_frames}
 use Rattle.arch_defs.specs.Memory.{block_size, ram_base}
 use Rattle.arch_defs.specs.TableEntries.{pte_of, entry_next, is_aligned}
 use Rattle.arch_defs.specs.Walk.{EntryReading, path, walk}
 use Rattle.arch_defs.proofs.FrameSets.{in_range}
 use Rattle.stage_walk.proofs.Levels.{walk_refused, walk_starts}
+use Rattle.shadow_space.specs.declared.cached.CachedTable.{CachedTable}
 use Rattle.shadow_space.specs.declared.writing.Tables.{Tables}
 use Rattle.arch_defs.specs.CachedEntries.{CanFill, HasOtherPage, entry_at}
 use Rattle.shadow_space.specs.Folding.{LastIs, LieWithin, leaf_end}
 use Rattle.shadow_space.specs.Laws.{TidyIsFolded, TidyLasts}
 use Rattle.shadow_space.specs.declared.frames.TableFrames.{TableFrames}
-use Rattle.shadow_space.specs.Held.{HoldsList, IsKept, Stands, held_in, number_of}
+use Rattle.shadow_space.specs.Held.{HoldsList, IsKept, Stands, held_in, number_of, Holds, KeepsTable}
 use Rattle.shadow_space.specs.Leaves.{frame_of_ram, leaf_if, leaf_parts, leaf_word, leaves}
-use Rattle.shadow_space.specs.Shadows.{AreZeros, HasSmallNumbers, IsShadow, IsTidy, Shadow, Tidy, own_frames, root_of, tables_in}
+use Rattle.shadow_space.specs.Shadows.{AreZeros, HasSmallNumbers, IsShadow, IsTidy, Shadow, Tidy, own_frames, root_of, tables_in, shadow_of}
 use Rattle.shadow_space.specs.Trees.{HasTables, IsOwn, RootIsApart, frames_of}
 use Rattle.table_words.specs.Words.{doubleword_at}
 use Rattle.table_words.proofs.Words.{word_kept}
@@ -239,43 +240,30 @@ pub folded : TidyIsFolded
 folded space memory tidy =
     record { walks = walks space memory (tidy_parts space memory tidy); leaf = leaf_last space memory (tidy_parts space memory tidy); inside = insides space memory (tidy_parts space memory tidy) }
 
--- a tidy space, by its fields
-pub held_by_fields : (space shown : Shadow) (tables : Tables) (memory : List ℕ) → space ≡ shown → tables ≡ tables_in space.part space.index → Tidy shown memory
-    → HoldsList tables space.part.blocks space.most space.entries space.frames memory
-held_by_fields space shown tables memory seen same tidy =
-    subst (λ t. HoldsList t space.part.blocks space.most space.entries space.frames memory) (sym same)
-    (tidy_parts space memory (subst (λ s. Tidy s memory) (sym seen) tidy)).holds
+-- the list of a tidy space stands in its tables
+pub held_by : (index : ℕ) (table : CachedTable) (space : Shadow) (tables : Tables) (memory : List ℕ) → shadow_of index table ≡ space → tables ≡ tables_in table.part index → Tidy space memory
+    → Holds tables table memory
+held_by index table space tables memory seen same tidy =
+    subst (λ t. Holds t table memory) (sym same) (tidy_parts (shadow_of index table) memory (subst (λ s. Tidy s memory) (sym seen) tidy)).holds
 
-pub can_by_fields : (space shown : Shadow) (e : Entry) → space ≡ shown → CanFill shown.part.blocks e → CanFill space.part.blocks e
-can_by_fields space shown e seen can = subst (λ s. CanFill s.part.blocks e) (sym seen) can
-
-pub only_by_fields : (space shown : Shadow) (tables : Tables) (old new : List ℕ) → space ≡ shown → tables ≡ tables_in space.part space.index → Only (frames_of tables) old new → Only (own_frames shown) old new
-only_by_fields space shown tables old new seen same only = subst (λ s. Only (own_frames s) old new) seen (subst (λ t. Only (frames_of t) old new) same only)
-
--- a space with another list, in its tables
-module _ (space : Shadow) (part : Layout) (most : ℕ) (entries : List Entry) (frames : TableFrames) (tables : Tables) (memory : List ℕ) (is : IsShadow space)
-    (part_is : part ≡ space.part) (most_is : most ≡ space.most) (same : tables ≡ tables_in space.part space.index) (holds : HoldsList tables part.blocks most entries frames memory) where
-  bounded : (part' : Layout) (most' : ℕ) → part' ≡ space.part → most' ≡ space.most → length entries ≤ most' → All (CanFill part'.blocks) entries → AllPairs HasOtherPage entries
-      → IsShadow (record { part = part'; index = space.index; most = most'; entries = entries; frames = frames })
-  bounded part' most' part_is' most_is' few fill pages =
-      subst (λ p. length entries ≤ most' → All (CanFill p.blocks) entries → IsShadow (record { part = p; index = space.index; most = most'; entries = entries; frames = frames })) (sym part_is')
-      (subst (λ m. length entries ≤ m → All (CanFill space.part.blocks) entries → IsShadow (record { part = space.part; index = space.index; most = m; entries = entries; frames = frames })) (sym most_is')
+-- so it is tidy with another list in these
+module _ (index : ℕ) (old new : CachedTable) (before memory : List ℕ) (tables : Tables) (is : IsShadow (shadow_of index old)) (same : tables ≡ tables_in old.part index)
+    (keeps : KeepsTable tables old before new memory) (holds : Holds tables new memory) where
+  bounded : (part : Layout) (most : ℕ) → part ≡ old.part → most ≡ old.most → length new.entries ≤ most → All (CanFill part.blocks) new.entries → AllPairs HasOtherPage new.entries
+      → IsShadow (record { part = part; index = index; most = most; entries = new.entries; frames = new.frames })
+  bounded part most part_is most_is few fill pages =
+      subst (λ p. length new.entries ≤ most → All (CanFill p.blocks) new.entries → IsShadow (record { part = p; index = index; most = most; entries = new.entries; frames = new.frames })) (sym part_is)
+      (subst (λ m. length new.entries ≤ m → All (CanFill old.part.blocks) new.entries → IsShadow (record { part = old.part; index = index; most = m; entries = new.entries; frames = new.frames })) (sym most_is)
       (λ few' fill'. record { once = is.once; small = is.small; index = is.index; most = is.most; room = is.room; few = few'; fill = fill'; pages = pages }))
       few fill
 
-  pub shadow_kept : IsShadow (record { part = part; index = space.index; most = most; entries = entries; frames = frames })
-  shadow_kept = bounded part most part_is most_is holds.few holds.fill holds.pages
-
-  pub tidy_kept : Tidy (record { part = part; index = space.index; most = most; entries = entries; frames = frames }) memory
-  tidy_kept = tidy_from (record { part = part; index = space.index; most = most; entries = entries; frames = frames }) memory (record { is = shadow_kept; lies = placed.lies; holds = there })
+  pub tidy_kept : Tidy (shadow_of index new) memory
+  tidy_kept = tidy_from (shadow_of index new) memory (record { is = bounded new.part new.most keeps.part keeps.most holds.few holds.fill holds.pages; lies = placed.lies; holds = there })
     where
-      tables_is : tables ≡ tables_in part space.index
-      tables_is = same ∙ ap (λ p. tables_in p space.index) (sym part_is)
+      there : HoldsList (tables_in new.part index) new.part.blocks new.most new.entries new.frames memory
+      there = subst (λ t. Holds t new memory) (same ∙ ap (λ p. tables_in p index) (sym keeps.part)) holds
 
-      there : HoldsList (tables_in part space.index) part.blocks most entries frames memory
-      there = subst (λ t. HoldsList t part.blocks most entries frames memory) tables_is holds
-
-      placed : HasTables (tables_in part space.index) (length memory)
+      placed : HasTables (tables_in new.part index) (length memory)
       placed = there.placed
 
 -- zeros are tidy for a new space

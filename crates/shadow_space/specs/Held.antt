@@ -2,12 +2,13 @@
 use Rattle.std.specs.Prelude.{ℕ, ◌≡◌, ◌+◌, ◌-◌, ◌*◌, ◌<◌, ◌≤◌, ◌^◌, ◌==◌, not, List, Some, None, length, slice_index, slice_index_or, slice_set, if◌then◌else◌}
 use Rattle.std.specs.List.{All, AllPairs, count_by, sum}
 use Rattle.arch_defs.specs.declared.cached.Entry.{Entry}
+use Rattle.arch_defs.specs.Frames.{Only}
 use Rattle.shadow_space.specs.declared.cached.CachedTable.{CachedTable}
 use Rattle.shadow_space.specs.declared.frames.TableFrames.{TableFrames}
 use Rattle.shadow_space.specs.declared.writing.Tables.{Tables}
 use Rattle.arch_defs.specs.CachedEntries.{CanFill, HasOtherPage}
 use Rattle.shadow_space.specs.Leaves.{leaves}
-use Rattle.shadow_space.specs.Trees.{Free, HasTables, IsTree, Says, Tree, prefix, top}
+use Rattle.shadow_space.specs.Trees.{Free, HasTables, IsTree, Says, Tree, frames_of, prefix, top}
 use Rattle.table_words.specs.Entries.{named_frame, pointer_word}
 use Rattle.table_words.specs.Words.{doubleword_at, with_word}
 
@@ -146,7 +147,9 @@ abbrev pub Holds : Tables → CachedTable → List ℕ → Type 0
 Holds tables table memory =
     HoldsList tables table.part.blocks table.most table.entries table.frames memory
 
--- it is of the same part, with as many entries at most
-pub record KeepsBounds (old new : CachedTable) : Type 0 where
+-- what no call changes: the part of a list's tables, its room, and memory but for the bytes of their frames
+pub record KeepsTable (tables : Tables) (old : CachedTable) (memory : List ℕ) (new : CachedTable)
+    (changed : List ℕ) : Type 0 where
   pub part : new.part ≡ old.part
   pub most : new.most ≡ old.most
+  pub only : Only (frames_of tables) memory changed

@@ -2,9 +2,10 @@
 use Rattle.std.specs.Prelude.{ℕ, ◌≡◌, ◌+◌, ◌*◌, ◌/◌, ◌<◌, ◌≤◌, ◌^◌, true, List, length, slice_index}
 use Rattle.std.specs.List.{All, AllPairs}
 use Rattle.arch_defs.specs.declared.cached.Entry.{Entry}
-use Rattle.arch_defs.specs.Frames.{Frames, LieIn}
+use Rattle.arch_defs.specs.Frames.{Frames, LieIn, Only}
 use Rattle.arch_defs.specs.Layouts.{Layout, NamesEachOnce, space_frames, tables_for}
 use Rattle.arch_defs.specs.CachedEntries.{CanFill, HasOtherPage}
+use Rattle.shadow_space.specs.declared.cached.CachedTable.{CachedTable}
 use Rattle.shadow_space.specs.declared.frames.TableFrames.{TableFrames}
 use Rattle.shadow_space.specs.declared.writing.Tables.{Tables}
 use Rattle.shadow_space.specs.Held.{HoldsList}
@@ -17,6 +18,16 @@ pub record Shadow : Type 0 where
   pub most : ℕ
   pub entries : List Entry
   pub frames : TableFrames
+
+-- the space that is a list with its tables, of this number
+abbrev pub shadow_of : ℕ → CachedTable → Shadow
+shadow_of index table = record {
+  part = table.part;
+  index = index;
+  most = table.most;
+  entries = table.entries;
+  frames = table.frames;
+}
 
 -- the frame of its root
 abbrev pub root_of : Shadow → ℕ
@@ -63,6 +74,13 @@ pub record IsTidy (space : Shadow) (memory : List ℕ) : Type 0 where
 
 unfoldable pub Tidy : Shadow → List ℕ → Type 0
 Tidy space memory = IsTidy space memory
+
+-- what no call changes: a space's part, its number, its room, and memory but for the bytes of its own frames
+pub record KeepsSpace (old : Shadow) (memory : List ℕ) (new : Shadow) (changed : List ℕ) : Type 0 where
+  pub part : new.part ≡ old.part
+  pub index : new.index ≡ old.index
+  pub most : new.most ≡ old.most
+  pub only : Only (own_frames old) memory changed
 
 -- the bytes of these frames are zeros
 pub record AreZeros (frames : Frames) (memory : List ℕ) : Type 0 where

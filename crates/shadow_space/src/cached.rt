@@ -1,15 +1,14 @@
 // A list of cached translations, and the tables in which it stands.
 
-ghost use Rattle.std.specs.Prelude.{◌≡◌, ◌+◌, ◌-◌, ◌*◌, ◌<◌, ◌≤◌, [], ◌∷◌, ◌++◌, length, remove, slice_index_or};
+ghost use Rattle.std.specs.Prelude.{◌≡◌, ◌+◌, ◌-◌, ◌*◌, ◌%◌, ◌<◌, ◌≤◌, ◌^◌, [], ◌∷◌, ◌++◌, drop, filter, length, not, remove, slice_index_or};
 ghost use Rattle.std.specs.List.{All};
-ghost use Rattle.arch_defs.specs.CachedEntries.{CanFill, HasOtherPage, cut_by, filled};
-ghost use Rattle.arch_defs.specs.Frames.{Only};
-ghost use Rattle.shadow_space.specs.Held.{Holds, KeepsBounds};
-ghost use Rattle.shadow_space.specs.Trees.{frames_of};
-ghost use Rattle.table_words.specs.Words.{changed};
+ghost use Rattle.arch_defs.specs.CachedEntries.{CanFill, HasOtherPage, filled};
+ghost use Rattle.arch_defs.specs.Spaces.{names_page};
+ghost use Rattle.shadow_space.specs.Held.{Holds, KeepsTable};
+ghost use Rattle.table_words.specs.Words.{changed, with_word};
 
 use crate::frames::TableFrames;
-use crate::listing::{EntryList, holds};
+use crate::listing::{EntryList, names_page};
 use crate::writing::{Tables, enter_table, leaf_word, leave_table};
 use arch_defs::{Entry, Part};
 use phys_mem::PhysMem;
@@ -31,22 +30,33 @@ impl CachedTable {
         requires holds { Holds tables.now self.old mem.old }
         requires index { i < length self.old.entries }
         ensures entries { self.new.entries ≡ remove self.old.entries i }
-        ensures keeps { KeepsBounds self.old self.new }
+        ensures keeps { KeepsTable tables.now self.old mem.old self.new mem.new }
         ensures holds { Holds tables.now self.new mem.new }
-        ensures only { Only (frames_of tables.now) mem.old mem.new }
         ensures changed { changed mem.old mem.new ≤ 3 }
     {
         let page = self.entries.at(i).page;
         let low = tables.first + self.frames.place(i);
         self.frames.drop_place(i, self.entries.len());
         self.entries.remove(i);
-        set_word(mem, 512 * low + page % 512, 0);
+        clear_leaf(mem, low, page);
         let root = 512 * tables.root + page / 262_144;
         let pointer = doubleword_at(mem, root);
         let middle = pte_of(pointer).frame;
         let slot = 512 * middle + page / 512 % 512;
         leave_table(&mut self.frames, mem, tables.first, slot, low);
         leave_table(&mut self.frames, mem, tables.first, root, middle);
+    }
+
+    // Takes the oldest entry out.
+    fn drop_oldest(&mut self, mem: &mut PhysMem, tables: &Tables)
+        requires holds { Holds tables.now self.old mem.old }
+        requires some { 0 < length self.old.entries }
+        ensures entries { self.new.entries ≡ drop 1 self.old.entries }
+        ensures keeps { KeepsTable tables.now self.old mem.old self.new mem.new }
+        ensures holds { Holds tables.now self.new mem.new }
+        ensures changed { changed mem.old mem.new ≤ 3 }
+    {
+        self.take_out(mem, tables, 0);
     }
 
     // Puts an entry behind the others, of which none has its page.
@@ -56,9 +66,8 @@ impl CachedTable {
         requires entry { CanFill self.old.part.blocks entry }
         requires others { All (λ e. HasOtherPage e entry) self.old.entries }
         ensures entries { self.new.entries ≡ self.old.entries ++ entry ∷ [] }
-        ensures keeps { KeepsBounds self.old self.new }
+        ensures keeps { KeepsTable tables.now self.old mem.old self.new mem.new }
         ensures holds { Holds tables.now self.new mem.new }
-        ensures only { Only (frames_of tables.now) mem.old mem.new }
         ensures changed { changed mem.old mem.new ≤ 3 }
     {
         let page = entry.page;
@@ -79,9 +88,8 @@ impl CachedTable {
         requires holds { Holds tables.now self.old mem.old }
         requires entry { CanFill self.old.part.blocks entry }
         ensures entries { self.new.entries ≡ filled self.old.most self.old.entries entry }
-        ensures keeps { KeepsBounds self.old self.new }
+        ensures keeps { KeepsTable tables.now self.old mem.old self.new mem.new }
         ensures holds { Holds tables.now self.new mem.new }
-        ensures only { Only (frames_of tables.now) mem.old mem.new }
         ensures changed { changed mem.old mem.new ≤ 6 }
     {
         match self.entries.place_of(entry.page) {
@@ -91,47 +99,39 @@ impl CachedTable {
             }
             None if self.entries.len() < self.most => self.put(mem, tables, entry),
             None if self.most > 0 => {
-                self.take_out(mem, tables, 0);
+                self.drop_oldest(mem, tables);
                 self.put(mem, tables, entry);
             }
             None => (),
         }
     }
 
-    /// Drops the entries whose leaf's span holds a page.
-    pub fn cut(&mut self, mem: &mut PhysMem, tables: &Tables, page: u64)
+    /// Drops the entries that a fence names by a page, or all where it names none.
+    pub fn drop_named(&mut self, mem: &mut PhysMem, tables: &Tables, page: Option<u64>)
         requires { Holds tables.now self.old mem.old }
-        ensures entries { self.new.entries ≡ cut_by page self.old.entries }
-        ensures keeps { KeepsBounds self.old self.new }
+        ensures entries { self.new.entries ≡ filter (λ e. not (names_page page e)) self.old.entries }
+        ensures keeps { KeepsTable tables.now self.old mem.old self.new mem.new }
         ensures holds { Holds tables.now self.new mem.new }
-        ensures only { Only (frames_of tables.now) mem.old mem.new }
         ensures changed { changed mem.old mem.new
             ≤ 3 * (length self.old.entries - length self.new.entries) }
     {
         let mut i = self.entries.len();
         while i > 0 {
             i -= 1;
-            if !holds(&self.entries.at(i), page) {
+            if !names_page(page, &self.entries.at(i)) {
                 continue;
             }
             self.take_out(mem, tables, i);
         }
     }
+}
 
-    /// Drops all entries.
-    pub fn wipe(&mut self, mem: &mut PhysMem, tables: &Tables)
-        requires { Holds tables.now self.old mem.old }
-        ensures entries { self.new.entries ≡ [] }
-        ensures keeps { KeepsBounds self.old self.new }
-        ensures holds { Holds tables.now self.new mem.new }
-        ensures only { Only (frames_of tables.now) mem.old mem.new }
-        ensures changed { changed mem.old mem.new
-            ≤ 3 * (length self.old.entries - length self.new.entries) }
-    {
-        let mut i = self.entries.len();
-        while i > 0 {
-            i -= 1;
-            self.take_out(mem, tables, i);
-        }
-    }
+// Clears the leaf of a page in the lowest table of a frame.
+fn clear_leaf(mem: &mut PhysMem, frame: u64, page: u64)
+    requires inside { 8 * (512 * frame + page % 512) + 8 ≤ length mem.old }
+    requires small { frame < 2 ^ 44 }
+    ensures memory { mem.new ≡ with_word mem.old (512 * frame + page % 512) 0 }
+    ensures changed { changed mem.old mem.new ≤ 1 }
+{
+    set_word(mem, 512 * frame + page % 512, 0);
 }

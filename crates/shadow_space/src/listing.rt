@@ -4,6 +4,7 @@ ghost use Rattle.std.specs.Prelude.{◌≡◌, ◌≢◌, ◌≤◌, ◌<◌, []
 ghost use Rattle.std.specs.List.{All};
 ghost use Rattle.arch_defs.specs.declared.cached.Entry.{Entry};
 ghost use Rattle.arch_defs.specs.CachedEntries.{HasLevel, holds};
+ghost use Rattle.arch_defs.specs.Spaces.{names_page};
 ghost use Rattle.arch_defs.specs.Walk.{most_level};
 ghost use Rattle.arch_defs.specs.TableEntries.{span};
 
@@ -121,8 +122,19 @@ fn span(level: u8) -> u64
     }
 }
 
-/// Whether the span of an entry's leaf holds a page.
-pub fn holds(entry: &Entry, page: u64) -> bool
+/// Whether a fence names an entry by a page: any, where it names none.
+pub fn names_page(page: Option<u64>, entry: &Entry) -> bool
+    requires { HasLevel entry.now }
+    ensures { result ≡ names_page page entry.now }
+{
+    match page {
+        None => true,
+        Some(page) => holds(entry, page),
+    }
+}
+
+// Whether the span of an entry's leaf holds a page.
+fn holds(entry: &Entry, page: u64) -> bool
     requires { HasLevel entry.now }
     ensures { result ≡ holds page entry.now }
 {

@@ -1,12 +1,12 @@
 // A space.
 
 ghost use Rattle.std.specs.Prelude.{◌≡◌, ℕ, ◌+◌, ◌-◌, ◌*◌, ◌%◌, ◌<◌, ◌≤◌, ◌^◌, [], List, length};
-ghost use Rattle.arch_defs.specs.Frames.{LieIn, Only};
+ghost use Rattle.arch_defs.specs.Frames.{LieIn};
 ghost use Rattle.arch_defs.specs.Layouts.{NamesEachOnce, space_frames};
 ghost use Rattle.arch_defs.specs.CachedEntries.{CanFill, cut_by, filled};
 ghost use Rattle.shadow_space.specs.Folding.{Folded};
 ghost use Rattle.shadow_space.specs.Reaching.{FreeAreZeros};
-ghost use Rattle.shadow_space.specs.Shadows.{AreZeros, HasSmallNumbers, Tidy, own_frames, root_of, tables_in};
+ghost use Rattle.shadow_space.specs.Shadows.{AreZeros, HasSmallNumbers, KeepsSpace, Tidy, root_of, tables_in};
 ghost use Rattle.table_words.specs.Words.{changed};
 
 use crate::cached::CachedTable;
@@ -29,25 +29,13 @@ pub struct Space {
 }
 
 impl Model for Space {
-    ghost use Rattle.shadow_space.specs.Shadows.{IsShadow, Shadow};
+    ghost use Rattle.shadow_space.specs.Shadows.{IsShadow, Shadow, shadow_of};
 
     ghost Value = { Shadow };
 
-    ghost view = { λ s. record {
-      part = s.table.part;
-      index = s.index;
-      most = s.table.most;
-      entries = s.table.entries;
-      frames = s.table.frames;
-    } };
+    ghost view = { λ s. shadow_of s.index s.table };
 
-    ghost invariant = { λ s. IsShadow (record {
-      part = s.table.part;
-      index = s.index;
-      most = s.table.most;
-      entries = s.table.entries;
-      frames = s.table.frames;
-    }) };
+    ghost invariant = { λ s. IsShadow (shadow_of s.index s.table) };
 }
 
 impl Space {
@@ -97,12 +85,9 @@ impl Space {
         requires tidy { Tidy self.old mem.old }
         requires entry { CanFill self.old.part.blocks entry }
         ensures entries { self.new.entries ≡ filled self.old.most self.old.entries entry }
-        ensures part { self.new.part ≡ self.old.part }
-        ensures index { self.new.index ≡ self.old.index }
-        ensures most { self.new.most ≡ self.old.most }
+        ensures keeps { KeepsSpace self.old mem.old self.new mem.new }
         ensures tidy { Tidy self.new mem.new }
         ensures folded { Folded self.new mem.new }
-        ensures only { Only (own_frames self.old) mem.old mem.new }
         ensures changed { changed mem.old mem.new ≤ 6 }
         ensures zeros { FreeAreZeros self.new mem.new }
     {
@@ -114,36 +99,30 @@ impl Space {
     pub fn cut(&mut self, mem: &mut PhysMem, page: u64)
         requires tidy { Tidy self.old mem.old }
         ensures entries { self.new.entries ≡ cut_by page self.old.entries }
-        ensures part { self.new.part ≡ self.old.part }
-        ensures index { self.new.index ≡ self.old.index }
-        ensures most { self.new.most ≡ self.old.most }
+        ensures keeps { KeepsSpace self.old mem.old self.new mem.new }
         ensures tidy { Tidy self.new mem.new }
         ensures folded { Folded self.new mem.new }
-        ensures only { Only (own_frames self.old) mem.old mem.new }
         ensures changed { changed mem.old mem.new
             ≤ 3 * (length self.old.entries - length self.new.entries) }
         ensures zeros { FreeAreZeros self.new mem.new }
     {
         let tables = tables_of(&self.table.part, self.index);
-        self.table.cut(mem, &tables, page);
+        self.table.drop_named(mem, &tables, Some(page));
     }
 
     /// Drops all entries.
     pub fn wipe(&mut self, mem: &mut PhysMem)
         requires tidy { Tidy self.old mem.old }
         ensures entries { self.new.entries ≡ [] }
-        ensures part { self.new.part ≡ self.old.part }
-        ensures index { self.new.index ≡ self.old.index }
-        ensures most { self.new.most ≡ self.old.most }
+        ensures keeps { KeepsSpace self.old mem.old self.new mem.new }
         ensures tidy { Tidy self.new mem.new }
         ensures folded { Folded self.new mem.new }
-        ensures only { Only (own_frames self.old) mem.old mem.new }
         ensures changed { changed mem.old mem.new
             ≤ 3 * (length self.old.entries - length self.new.entries) }
         ensures zeros { FreeAreZeros self.new mem.new }
     {
         let tables = tables_of(&self.table.part, self.index);
-        self.table.wipe(mem, &tables);
+        self.table.drop_named(mem, &tables, None);
     }
 }
 

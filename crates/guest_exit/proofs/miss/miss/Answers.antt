@@ -12,7 +12,6 @@ returns-in-Ok-clause-makes c = record {
   step = λ went. absurd (went refl);
   fill = λ retry.
       fill_made c.args.guest.now (record c.args.guest.now { pool = c.fill.new.self }) c.args.memory.now c.fill.new.mem c.args.access.now c.in-Ok.entry
-      c.requires.placed c.requires.folds c.in-Ok.ensures.entry
-      (record { part = refl; pool = c.fill.ensures.part; entry_room = c.fill.ensures.most; space_room = c.fill.ensures.room })
-      refl c.fill.ensures.spaces (rw c.walk_for.ensures.stays at c.fill.ensures.only);
+      c.requires.placed c.in-Ok.ensures.entry
+      refl (rw c.walk_for.ensures.stays at c.fill.ensures.keeps) refl c.fill.ensures.spaces;
 }

@@ -1,6 +1,6 @@
-use Rattle.std.proofs.Common.{ap, arith, refl, subst, sym, ◌≤◌, ◌∙◌, ◌++◌, ◌∷◌, []}
+use Rattle.std.proofs.Common.{ap, arith, subst, sym, ◌∙◌, ◌++◌, ◌∷◌, []}
 use Rattle.std.specs.List.{All}
-use Rattle.arch_defs.specs.CachedEntries.{HasOtherPage, filled}
+use Rattle.arch_defs.specs.CachedEntries.{HasOtherPage}
 use Rattle.shadow_space.proofs.Dropping.{absent, found_inside, found_page, none_room, others_left}
 use Rattle.shadow_space.proofs.Editing.{all_removed, filled_found, filled_full, filled_room}
 use Rattle.table_words.proofs.Words.{changed_none, changed_then}
@@ -15,7 +15,7 @@ put-requires-in-None-clause-others c = (absent c.args.self.now.entries c.args.en
 
 pub put-requires-in-None-2-clause-others : goal.put-requires-in-None-2-clause-others
 put-requires-in-None-2-clause-others c =
-    subst (All (λ e. HasOtherPage e c.args.entry)) (sym c.take_out-in-None-2.ensures.entries) (all_removed (λ e. HasOtherPage e c.args.entry) c.args.self.now.entries 0 (omega (arith, c.len.ensures.value, c.if-len-self.false, c.if-self-gt0.true)) (absent c.args.self.now.entries c.args.entry.page c.place_of.result c.in-None.is c.place_of.ensures.absent))
+    subst (All (λ e. HasOtherPage e c.args.entry)) (sym c.drop_oldest.ensures.entries) (all_removed (λ e. HasOtherPage e c.args.entry) c.args.self.now.entries 0 (omega (arith, c.len.ensures.value, c.if-len-self.false, c.if-self-gt0.true)) (absent c.args.self.now.entries c.args.entry.page c.place_of.result c.in-None.is c.place_of.ensures.absent))
 
 pub returns-in-Some-clause-entries : goal.returns-in-Some-clause-entries
 returns-in-Some-clause-entries c =
@@ -23,18 +23,18 @@ returns-in-Some-clause-entries c =
     ∙ sym (filled_found c.args.self.now.most c.args.self.now.entries c.args.entry c.args.entry c.in-Some.i (found_inside c.args.self.now.entries c.args.entry.page c.place_of.result c.in-Some.i c.args.entry c.in-Some.is c.place_of.ensures.found) c.requires.holds.few c.requires.holds.pages (found_page c.args.self.now.entries c.args.entry.page c.place_of.result c.in-Some.i c.args.entry c.in-Some.is c.place_of.ensures.found))
 
 pub returns-in-Some-clause-changed : goal.returns-in-Some-clause-changed
-returns-in-Some-clause-changed c = omega (arith, changed_then c.args.mem.now c.take_out.new.mem c.put.new.mem c.take_out.ensures.only.size, c.take_out.ensures.changed, c.put.ensures.changed)
+returns-in-Some-clause-changed c = omega (arith, changed_then c.args.mem.now c.take_out.new.mem c.put.new.mem c.take_out.ensures.keeps.only.size, c.take_out.ensures.changed, c.put.ensures.changed)
 
 pub returns-in-None-clause-entries : goal.returns-in-None-clause-entries
 returns-in-None-clause-entries c = c.put-in-None.ensures.entries ∙ sym (filled_room c.args.self.now.most c.args.self.now.entries c.args.entry (omega (arith, c.len.ensures.value, c.if-len-self.true)) (absent c.args.self.now.entries c.args.entry.page c.place_of.result c.in-None.is c.place_of.ensures.absent))
 
 pub returns-in-None-2-clause-entries : goal.returns-in-None-2-clause-entries
 returns-in-None-2-clause-entries c =
-    c.put-in-None-2.ensures.entries ∙ ap (λ xs. xs ++ c.args.entry ∷ []) c.take_out-in-None-2.ensures.entries
+    c.put-in-None-2.ensures.entries ∙ ap (λ xs. xs ++ c.args.entry ∷ []) c.drop_oldest.ensures.entries
     ∙ sym (filled_full c.args.self.now.most c.args.self.now.entries c.args.entry (omega (arith, c.len.ensures.value, c.if-len-self.false, c.requires.holds.few)) (omega (arith, c.if-self-gt0.true)) (absent c.args.self.now.entries c.args.entry.page c.place_of.result c.in-None.is c.place_of.ensures.absent))
 
 pub returns-in-None-2-clause-changed : goal.returns-in-None-2-clause-changed
-returns-in-None-2-clause-changed c = omega (arith, changed_then c.args.mem.now c.take_out-in-None-2.new.mem c.put-in-None-2.new.mem c.take_out-in-None-2.ensures.only.size, c.take_out-in-None-2.ensures.changed, c.put-in-None-2.ensures.changed)
+returns-in-None-2-clause-changed c = omega (arith, changed_then c.args.mem.now c.drop_oldest.new.mem c.put-in-None-2.new.mem c.drop_oldest.ensures.keeps.only.size, c.drop_oldest.ensures.changed, c.put-in-None-2.ensures.changed)
 
 pub returns-in-None-3-clause-entries : goal.returns-in-None-3-clause-entries
 returns-in-None-3-clause-entries c = sym (none_room c.args.self.now.most c.args.self.now.entries c.args.entry (omega (arith, c.if-self-gt0.false)) c.requires.holds.few)

@@ -1,4 +1,4 @@
-use Rattle.std.proofs.Common.{ap, arith, slice_set, subst, sym, ◌-◌, ◌∙◌}
+use Rattle.std.proofs.Common.{ap, arith, refl, slice_set, subst, sym, ◌-◌, ◌∙◌}
 use Rattle.shadow_space.specs.Held.{HoldsList}
 use Rattle.shadow_space.proofs.Putting.{has_low, has_middle, has_put, leaf_room, low_from, low_number, low_small, middle_small, root_counts, root_free, root_room, root_small, slot_counts, slot_free, slot_room}
 use Rattle.table_words.proofs.Words.{changed_three}
@@ -72,9 +72,13 @@ pub returns-clause-holds : goal.returns-clause-holds
 returns-clause-holds c =
     subst (λ es. HoldsList c.args.tables.now c.args.self.now.part.blocks c.args.self.now.most es c.set_place.new.self c.set_word.new.mem) (sym c.push.ensures) (has_put c.args.tables.now c.args.self.now.part.blocks c.args.self.now.most c.args.self.now.entries c.args.self.now.frames c.args.mem.now c.args.entry c.requires.holds c.requires.room c.requires.entry c.requires.others c.enter_table-middle.new.frames c.enter_table-middle.new.mem c.enter_table-middle.result (has_middle c.args.tables.now c.args.self.now.part.blocks c.args.self.now.most c.args.self.now.entries c.args.self.now.frames c.args.mem.now c.args.entry c.requires.holds c.requires.room c.requires.entry c.requires.others c.enter_table-middle.new.frames c.enter_table-middle.new.mem c.enter_table-middle.result c.enter_table-middle.ensures.held c.enter_table-middle.ensures.frame) c.enter_table-low.new.frames c.enter_table-low.new.mem c.enter_table-low.result (has_low c.args.tables.now c.args.self.now.part.blocks c.args.self.now.most c.args.self.now.entries c.args.self.now.frames c.args.mem.now c.args.entry c.requires.holds c.requires.room c.requires.entry c.requires.others c.enter_table-middle.new.frames c.enter_table-middle.new.mem c.enter_table-middle.result (has_middle c.args.tables.now c.args.self.now.part.blocks c.args.self.now.most c.args.self.now.entries c.args.self.now.frames c.args.mem.now c.args.entry c.requires.holds c.requires.room c.requires.entry c.requires.others c.enter_table-middle.new.frames c.enter_table-middle.new.mem c.enter_table-middle.result c.enter_table-middle.ensures.held c.enter_table-middle.ensures.frame) c.enter_table-low.new.frames c.enter_table-low.new.mem c.enter_table-low.result c.enter_table-low.ensures.held c.enter_table-low.ensures.frame) c.set_place.new.self c.set_word.new.mem c.leaf_word-leaf.result c.leaf_word-leaf.ensures c.leaf_word-leaf.type_inv (c.set_place.ensures ∙ ap (λ i. record c.enter_table-low.new.frames { places = slice_set c.enter_table-low.new.frames.places i (c.enter_table-low.result - c.args.tables.now.first) }) c.len.ensures.value) c.set_word.ensures.memory).list
 
-pub returns-clause-only : goal.returns-clause-only
-returns-clause-only c =
-    (has_put c.args.tables.now c.args.self.now.part.blocks c.args.self.now.most c.args.self.now.entries c.args.self.now.frames c.args.mem.now c.args.entry c.requires.holds c.requires.room c.requires.entry c.requires.others c.enter_table-middle.new.frames c.enter_table-middle.new.mem c.enter_table-middle.result (has_middle c.args.tables.now c.args.self.now.part.blocks c.args.self.now.most c.args.self.now.entries c.args.self.now.frames c.args.mem.now c.args.entry c.requires.holds c.requires.room c.requires.entry c.requires.others c.enter_table-middle.new.frames c.enter_table-middle.new.mem c.enter_table-middle.result c.enter_table-middle.ensures.held c.enter_table-middle.ensures.frame) c.enter_table-low.new.frames c.enter_table-low.new.mem c.enter_table-low.result (has_low c.args.tables.now c.args.self.now.part.blocks c.args.self.now.most c.args.self.now.entries c.args.self.now.frames c.args.mem.now c.args.entry c.requires.holds c.requires.room c.requires.entry c.requires.others c.enter_table-middle.new.frames c.enter_table-middle.new.mem c.enter_table-middle.result (has_middle c.args.tables.now c.args.self.now.part.blocks c.args.self.now.most c.args.self.now.entries c.args.self.now.frames c.args.mem.now c.args.entry c.requires.holds c.requires.room c.requires.entry c.requires.others c.enter_table-middle.new.frames c.enter_table-middle.new.mem c.enter_table-middle.result c.enter_table-middle.ensures.held c.enter_table-middle.ensures.frame) c.enter_table-low.new.frames c.enter_table-low.new.mem c.enter_table-low.result c.enter_table-low.ensures.held c.enter_table-low.ensures.frame) c.set_place.new.self c.set_word.new.mem c.leaf_word-leaf.result c.leaf_word-leaf.ensures c.leaf_word-leaf.type_inv (c.set_place.ensures ∙ ap (λ i. record c.enter_table-low.new.frames { places = slice_set c.enter_table-low.new.frames.places i (c.enter_table-low.result - c.args.tables.now.first) }) c.len.ensures.value) c.set_word.ensures.memory).only
+pub returns-clause-keeps : goal.returns-clause-keeps
+returns-clause-keeps c = record {
+  part = refl;
+  most = refl;
+  only =
+      (has_put c.args.tables.now c.args.self.now.part.blocks c.args.self.now.most c.args.self.now.entries c.args.self.now.frames c.args.mem.now c.args.entry c.requires.holds c.requires.room c.requires.entry c.requires.others c.enter_table-middle.new.frames c.enter_table-middle.new.mem c.enter_table-middle.result (has_middle c.args.tables.now c.args.self.now.part.blocks c.args.self.now.most c.args.self.now.entries c.args.self.now.frames c.args.mem.now c.args.entry c.requires.holds c.requires.room c.requires.entry c.requires.others c.enter_table-middle.new.frames c.enter_table-middle.new.mem c.enter_table-middle.result c.enter_table-middle.ensures.held c.enter_table-middle.ensures.frame) c.enter_table-low.new.frames c.enter_table-low.new.mem c.enter_table-low.result (has_low c.args.tables.now c.args.self.now.part.blocks c.args.self.now.most c.args.self.now.entries c.args.self.now.frames c.args.mem.now c.args.entry c.requires.holds c.requires.room c.requires.entry c.requires.others c.enter_table-middle.new.frames c.enter_table-middle.new.mem c.enter_table-middle.result (has_middle c.args.tables.now c.args.self.now.part.blocks c.args.self.now.most c.args.self.now.entries c.args.self.now.frames c.args.mem.now c.args.entry c.requires.holds c.requires.room c.requires.entry c.requires.others c.enter_table-middle.new.frames c.enter_table-middle.new.mem c.enter_table-middle.result c.enter_table-middle.ensures.held c.enter_table-middle.ensures.frame) c.enter_table-low.new.frames c.enter_table-low.new.mem c.enter_table-low.result c.enter_table-low.ensures.held c.enter_table-low.ensures.frame) c.set_place.new.self c.set_word.new.mem c.leaf_word-leaf.result c.leaf_word-leaf.ensures c.leaf_word-leaf.type_inv (c.set_place.ensures ∙ ap (λ i. record c.enter_table-low.new.frames { places = slice_set c.enter_table-low.new.frames.places i (c.enter_table-low.result - c.args.tables.now.first) }) c.len.ensures.value) c.set_word.ensures.memory).only;
+}
 
 pub returns-clause-changed : goal.returns-clause-changed
 returns-clause-changed c =

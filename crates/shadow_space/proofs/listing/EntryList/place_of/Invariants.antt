@@ -1,4 +1,4 @@
-use Rattle.std.specs.Prelude.{ℕ, ◌≡◌, ◌≢◌, ◌<◌, slice_index_or}
+use Rattle.std.specs.Prelude.{ℕ, ◌≢◌, ◌<◌, slice_index_or}
 use Rattle.arch_defs.specs.declared.cached.Entry.{Entry}
 use Rattle.shadow_space.proofs.listing.EntryList.place_of.Given as goal
 

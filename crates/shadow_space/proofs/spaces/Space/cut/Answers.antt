@@ -1,15 +1,23 @@
-use Rattle.shadow_space.proofs.Reaching.{unreached}
-use Rattle.shadow_space.proofs.Tidying.{folded, held_by_fields, tidy_kept}
+use Rattle.std.proofs.Common.{ap, ◌∙◌}
+use Rattle.arch_defs.specs.CachedEntries.{cut_by}
+use Rattle.shadow_space.proofs.Dropping.{one_unnamed}
+use Rattle.shadow_space.proofs.Reaching.{kept_folded, kept_zeros}
+use Rattle.shadow_space.proofs.Tidying.{held_by, tidy_kept}
 use Rattle.shadow_space.proofs.spaces.Space.cut.Goals as goal
 
-pub cut-requires : goal.cut-requires
-cut-requires c = held_by_fields (record { part = c.self.inside.table.part; index = c.self.inside.index; most = c.self.inside.table.most; entries = c.self.inside.table.entries; frames = c.self.inside.table.frames }) c.args.self.now c.tables_of-tables.result c.args.mem.now c.self.view_is c.tables_of-tables.ensures.value c.requires.tidy
+pub drop_named-requires : goal.drop_named-requires
+drop_named-requires c =
+    held_by c.self.inside.index c.self.inside.table c.args.self.now c.tables_of-tables.result c.args.mem.now c.self.view_is c.tables_of-tables.ensures.value c.requires.tidy
+
+pub returns-clause-entries : goal.returns-clause-entries
+returns-clause-entries c =
+    c.drop_named.ensures.entries ∙ one_unnamed c.args.page c.self.inside.table.entries ∙ ap (λ s. cut_by c.args.page s.entries) c.self.view_is
 
 pub returns-clause-tidy : goal.returns-clause-tidy
-returns-clause-tidy c = tidy_kept (record { part = c.self.inside.table.part; index = c.self.inside.index; most = c.self.inside.table.most; entries = c.self.inside.table.entries; frames = c.self.inside.table.frames }) c.cut.new.self.part c.cut.new.self.most c.cut.new.self.entries c.cut.new.self.frames c.tables_of-tables.result c.cut.new.mem c.self.invariant c.cut.ensures.keeps.part c.cut.ensures.keeps.most c.tables_of-tables.ensures.value c.cut.ensures.holds
+returns-clause-tidy c = tidy_kept c.self.inside.index c.self.inside.table c.drop_named.new.self c.args.mem.now c.drop_named.new.mem c.tables_of-tables.result c.self.invariant c.tables_of-tables.ensures.value c.drop_named.ensures.keeps c.drop_named.ensures.holds
 
 pub returns-clause-folded : goal.returns-clause-folded
-returns-clause-folded c = folded (record { part = c.cut.new.self.part; index = c.self.inside.index; most = c.cut.new.self.most; entries = c.cut.new.self.entries; frames = c.cut.new.self.frames }) c.cut.new.mem (tidy_kept (record { part = c.self.inside.table.part; index = c.self.inside.index; most = c.self.inside.table.most; entries = c.self.inside.table.entries; frames = c.self.inside.table.frames }) c.cut.new.self.part c.cut.new.self.most c.cut.new.self.entries c.cut.new.self.frames c.tables_of-tables.result c.cut.new.mem c.self.invariant c.cut.ensures.keeps.part c.cut.ensures.keeps.most c.tables_of-tables.ensures.value c.cut.ensures.holds)
+returns-clause-folded c = kept_folded c.self.inside.index c.self.inside.table c.drop_named.new.self c.args.mem.now c.drop_named.new.mem c.tables_of-tables.result c.self.invariant c.tables_of-tables.ensures.value c.drop_named.ensures.keeps c.drop_named.ensures.holds
 
 pub returns-clause-zeros : goal.returns-clause-zeros
-returns-clause-zeros c = unreached (record { part = c.cut.new.self.part; index = c.self.inside.index; most = c.cut.new.self.most; entries = c.cut.new.self.entries; frames = c.cut.new.self.frames }) c.cut.new.mem (tidy_kept (record { part = c.self.inside.table.part; index = c.self.inside.index; most = c.self.inside.table.most; entries = c.self.inside.table.entries; frames = c.self.inside.table.frames }) c.cut.new.self.part c.cut.new.self.most c.cut.new.self.entries c.cut.new.self.frames c.tables_of-tables.result c.cut.new.mem c.self.invariant c.cut.ensures.keeps.part c.cut.ensures.keeps.most c.tables_of-tables.ensures.value c.cut.ensures.holds)
+returns-clause-zeros c = kept_zeros c.self.inside.index c.self.inside.table c.drop_named.new.self c.args.mem.now c.drop_named.new.mem c.tables_of-tables.result c.self.invariant c.tables_of-tables.ensures.value c.drop_named.ensures.keeps c.drop_named.ensures.holds

@@ -1,15 +1,21 @@
-use Rattle.shadow_space.proofs.Reaching.{unreached}
-use Rattle.shadow_space.proofs.Tidying.{folded, held_by_fields, tidy_kept}
+use Rattle.std.proofs.Common.{◌∙◌}
+use Rattle.shadow_space.proofs.Dropping.{none_unnamed}
+use Rattle.shadow_space.proofs.Reaching.{kept_folded, kept_zeros}
+use Rattle.shadow_space.proofs.Tidying.{held_by, tidy_kept}
 use Rattle.shadow_space.proofs.spaces.Space.wipe.Goals as goal
 
-pub wipe-requires : goal.wipe-requires
-wipe-requires c = held_by_fields (record { part = c.self.inside.table.part; index = c.self.inside.index; most = c.self.inside.table.most; entries = c.self.inside.table.entries; frames = c.self.inside.table.frames }) c.args.self.now c.tables_of-tables.result c.args.mem.now c.self.view_is c.tables_of-tables.ensures.value c.requires.tidy
+pub drop_named-requires : goal.drop_named-requires
+drop_named-requires c =
+    held_by c.self.inside.index c.self.inside.table c.args.self.now c.tables_of-tables.result c.args.mem.now c.self.view_is c.tables_of-tables.ensures.value c.requires.tidy
+
+pub returns-clause-entries : goal.returns-clause-entries
+returns-clause-entries c = c.drop_named.ensures.entries ∙ none_unnamed c.self.inside.table.entries
 
 pub returns-clause-tidy : goal.returns-clause-tidy
-returns-clause-tidy c = tidy_kept (record { part = c.self.inside.table.part; index = c.self.inside.index; most = c.self.inside.table.most; entries = c.self.inside.table.entries; frames = c.self.inside.table.frames }) c.wipe.new.self.part c.wipe.new.self.most c.wipe.new.self.entries c.wipe.new.self.frames c.tables_of-tables.result c.wipe.new.mem c.self.invariant c.wipe.ensures.keeps.part c.wipe.ensures.keeps.most c.tables_of-tables.ensures.value c.wipe.ensures.holds
+returns-clause-tidy c = tidy_kept c.self.inside.index c.self.inside.table c.drop_named.new.self c.args.mem.now c.drop_named.new.mem c.tables_of-tables.result c.self.invariant c.tables_of-tables.ensures.value c.drop_named.ensures.keeps c.drop_named.ensures.holds
 
 pub returns-clause-folded : goal.returns-clause-folded
-returns-clause-folded c = folded (record { part = c.wipe.new.self.part; index = c.self.inside.index; most = c.wipe.new.self.most; entries = c.wipe.new.self.entries; frames = c.wipe.new.self.frames }) c.wipe.new.mem (tidy_kept (record { part = c.self.inside.table.part; index = c.self.inside.index; most = c.self.inside.table.most; entries = c.self.inside.table.entries; frames = c.self.inside.table.frames }) c.wipe.new.self.part c.wipe.new.self.most c.wipe.new.self.entries c.wipe.new.self.frames c.tables_of-tables.result c.wipe.new.mem c.self.invariant c.wipe.ensures.keeps.part c.wipe.ensures.keeps.most c.tables_of-tables.ensures.value c.wipe.ensures.holds)
+returns-clause-folded c = kept_folded c.self.inside.index c.self.inside.table c.drop_named.new.self c.args.mem.now c.drop_named.new.mem c.tables_of-tables.result c.self.invariant c.tables_of-tables.ensures.value c.drop_named.ensures.keeps c.drop_named.ensures.holds
 
 pub returns-clause-zeros : goal.returns-clause-zeros
-returns-clause-zeros c = unreached (record { part = c.wipe.new.self.part; index = c.self.inside.index; most = c.wipe.new.self.most; entries = c.wipe.new.self.entries; frames = c.wipe.new.self.frames }) c.wipe.new.mem (tidy_kept (record { part = c.self.inside.table.part; index = c.self.inside.index; most = c.self.inside.table.most; entries = c.self.inside.table.entries; frames = c.self.inside.table.frames }) c.wipe.new.self.part c.wipe.new.self.most c.wipe.new.self.entries c.wipe.new.self.frames c.tables_of-tables.result c.wipe.new.mem c.self.invariant c.wipe.ensures.keeps.part c.wipe.ensures.keeps.most c.tables_of-tables.ensures.value c.wipe.ensures.holds)
+returns-clause-zeros c = kept_zeros c.self.inside.index c.self.inside.table c.drop_named.new.self c.args.mem.now c.drop_named.new.mem c.tables_of-tables.result c.self.invariant c.tables_of-tables.ensures.value c.drop_named.ensures.keeps c.drop_named.ensures.holds
