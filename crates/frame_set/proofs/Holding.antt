@@ -15,32 +15,35 @@ most zero h = (refl, refl)
 most (suc zero) h = (refl, refl)
 most (suc (suc n)) h = absurd (omega (arith, h))
 
-bit_kept : (w mark k : ℕ) → bit k w ≡ true → bit k (bit_or w mark) ≡ true
+pub bit_kept : (w mark k : ℕ) → bit k w ≡ true → bit k (bit_or w mark) ≡ true
 bit_kept w mark k is = eq-eqb (bit_at (bit_or w mark) k) 1
     (bit_at_or w mark k ∙ ap (λ n. max n (bit_at mark k)) (eqb-true (bit_at w k) 1 is) ∙ (most (bit_at mark k) (bit_at-lt mark k)).0)
 
-bit_set : (w mark k : ℕ) → mark ≡ 2 ^ k → bit k (bit_or w mark) ≡ true
+pub bit_set : (w mark k : ℕ) → mark ≡ 2 ^ k → bit k (bit_or w mark) ≡ true
 bit_set w mark k is = eq-eqb (bit_at (bit_or w mark) k) 1
     (bit_at_or w mark k ∙ ap (λ n. max (bit_at w k) n) (ap (λ m. bit_at m k) is ∙ bit_at-pow_same k) ∙ (most (bit_at w k) (bit_at-lt w k)).1)
 
 -- marks
 marks_kept : (marks : List ℕ) (i mark frame : ℕ) → i < length marks → has_mark marks frame ≡ true
     → has_mark (set marks i (bit_or (slice_index marks i) mark)) frame ≡ true
-marks_kept marks i mark frame inside is = by (cases_eq (frame % 4096 / 64) i)
+marks_kept marks i mark frame inside is = by (cases_eq (frame % 64) i)
   where
-    by : (frame % 4096 / 64 ≡ i) ⊎ (frame % 4096 / 64 ≢ i) → has_mark (set marks i (bit_or (slice_index marks i) mark)) frame ≡ true
-    by (inl same) = ap (bit (frame % 64)) (ap (λ j. get_or (set marks i (bit_or (slice_index marks i) mark)) j 0) same ∙ get_or-set_same marks i (bit_or (slice_index marks i) mark) 0 inside)
-        ∙ bit_kept (slice_index marks i) mark (frame % 64) (ap (λ j. bit (frame % 64) (slice_index marks j)) (sym same) ∙ is)
-    by (inr other) = ap (bit (frame % 64)) (get_or-set_other marks i (frame % 4096 / 64) (bit_or (slice_index marks i) mark) 0 other) ∙ is
+    by : (frame % 64 ≡ i) ⊎ (frame % 64 ≢ i) → has_mark (set marks i (bit_or (slice_index marks i) mark)) frame ≡ true
+    by (inl same) = ap (bit (frame / 64 % 64)) (ap (λ j. get_or (set marks i (bit_or (slice_index marks i) mark)) j 0) same ∙ get_or-set_same marks i (bit_or (slice_index marks i) mark) 0 inside)
+        ∙ bit_kept (slice_index marks i) mark (frame / 64 % 64) (ap (λ j. bit (frame / 64 % 64) (slice_index marks j)) (sym same) ∙ is)
+    by (inr other) = ap (bit (frame / 64 % 64)) (get_or-set_other marks i (frame % 64) (bit_or (slice_index marks i) mark) 0 other) ∙ is
 
-mark_set : (marks : List ℕ) (mark frame : ℕ) → length marks ≡ 64 → mark ≡ 2 ^ (frame % 64)
-    → has_mark (set marks (frame % 4096 / 64) (bit_or (slice_index marks (frame % 4096 / 64)) mark)) frame ≡ true
+mark_set : (marks : List ℕ) (mark frame : ℕ) → length marks ≡ 64 → mark ≡ 2 ^ (frame / 64 % 64)
+    → has_mark (set marks (frame % 64) (bit_or (slice_index marks (frame % 64)) mark)) frame ≡ true
 mark_set marks mark frame size is =
-    ap (bit (frame % 64)) (get_or-set_same marks (frame % 4096 / 64) (bit_or (slice_index marks (frame % 4096 / 64)) mark) 0 (omega (arith, size)))
-    ∙ bit_set (slice_index marks (frame % 4096 / 64)) mark (frame % 64) is
+    ap (bit (frame / 64 % 64)) (get_or-set_same marks (frame % 64) (bit_or (slice_index marks (frame % 64)) mark) 0 (omega (arith, size)))
+    ∙ bit_set (slice_index marks (frame % 64)) mark (frame / 64 % 64) is
 
 mark_shared : (marks : List ℕ) (a b : ℕ) → a % 4096 ≡ b % 4096 → has_mark marks a ≡ has_mark marks b
-mark_shared marks a b same = let low : a % 64 ≡ b % 64 = omega (arith, same) in rw (same, low) refl
+mark_shared marks a b same =
+    let low : a % 64 ≡ b % 64 = omega (arith, same) in
+    let high : a / 64 % 64 ≡ b / 64 % 64 = omega (arith, same) in
+    rw (low, high) refl
 
 -- upper parts
 upper_set : (uppers : List ℕ) (upper frame : ℕ) → length uppers ≡ 4096 → upper ≡ upper_of frame → is_upper (set uppers (frame % 4096) upper) frame ≡ true
@@ -68,33 +71,33 @@ several_kept uppers at frame size is = by (cases_eq (frame % 4096) at)
 pub none_held : (held : FrameSet) → held.marks ≡ replicate 64 0 → (frame : ℕ) → has_frame held frame ≡ false
 unfolding has_frame
 none_held held none frame = and_left (has_mark held.marks frame) (is_upper held.uppers frame)
-    (rw (none, get_or-replicate {A = ℕ} 64 (frame % 4096 / 64) 0 0 (omega arith), bit_at-zero (frame % 64)) refl)
+    (rw (none, get_or-replicate {A = ℕ} 64 (frame % 64) 0 0 (omega arith), bit_at-zero (frame / 64 % 64)) refl)
 
 -- a first frame at a mark
 pub first_more : (held : FrameSet) (frame upper mark other : ℕ) → length held.marks ≡ 64 → has_mark held.marks frame ≡ false → has_frame held other ≡ true
-    → has_frame (record { marks = set held.marks (frame % 4096 / 64) (bit_or (slice_index held.marks (frame % 4096 / 64)) mark); uppers = set held.uppers (frame % 4096) upper }) other ≡ true
+    → has_frame (record { marks = set held.marks (frame % 64) (bit_or (slice_index held.marks (frame % 64)) mark); uppers = set held.uppers (frame % 4096) upper; recent = held.recent }) other ≡ true
 unfolding has_frame
 first_more held frame upper mark other size free is =
     let parts = and_parts (has_mark held.marks other) (is_upper held.uppers other) is in
-    and_from _ _ (marks_kept held.marks (frame % 4096 / 64) mark other (omega (arith, size)) parts.0)
+    and_from _ _ (marks_kept held.marks (frame % 64) mark other (omega (arith, size)) parts.0)
     (upper_kept held.uppers upper (frame % 4096) other (λ same. both_ways (has_mark held.marks frame) free (sym (mark_shared held.marks other frame same) ∙ parts.0)) parts.1)
 
-pub first_added : (held : FrameSet) (frame upper mark : ℕ) → length held.marks ≡ 64 → length held.uppers ≡ 4096 → upper ≡ upper_of frame → mark ≡ 2 ^ (frame % 64)
-    → has_frame (record { marks = set held.marks (frame % 4096 / 64) (bit_or (slice_index held.marks (frame % 4096 / 64)) mark); uppers = set held.uppers (frame % 4096) upper }) frame ≡ true
+pub first_added : (held : FrameSet) (frame upper mark : ℕ) → length held.marks ≡ 64 → length held.uppers ≡ 4096 → upper ≡ upper_of frame → mark ≡ 2 ^ (frame / 64 % 64)
+    → has_frame (record { marks = set held.marks (frame % 64) (bit_or (slice_index held.marks (frame % 64)) mark); uppers = set held.uppers (frame % 4096) upper; recent = held.recent }) frame ≡ true
 unfolding has_frame
 first_added held frame upper mark marks uppers is_upper is_mark =
     and_from _ _ (mark_set held.marks mark frame marks is_mark) (upper_set held.uppers upper frame uppers is_upper)
 
 -- one more at a mark
 pub several_more : (held : FrameSet) (frame other : ℕ) → length held.uppers ≡ 4096 → has_frame held other ≡ true
-    → has_frame (record { marks = held.marks; uppers = set held.uppers (frame % 4096) 255 }) other ≡ true
+    → has_frame (record { marks = held.marks; uppers = set held.uppers (frame % 4096) 255; recent = held.recent }) other ≡ true
 unfolding has_frame
 several_more held frame other size is =
     let parts = and_parts (has_mark held.marks other) (is_upper held.uppers other) is in
     and_from _ _ parts.0 (several_kept held.uppers (frame % 4096) other size parts.1)
 
 pub several_added : (held : FrameSet) (frame : ℕ) → length held.uppers ≡ 4096 → has_mark held.marks frame ≡ true
-    → has_frame (record { marks = held.marks; uppers = set held.uppers (frame % 4096) 255 }) frame ≡ true
+    → has_frame (record { marks = held.marks; uppers = set held.uppers (frame % 4096) 255; recent = held.recent }) frame ≡ true
 unfolding has_frame
 several_added held frame size marked = and_from _ _ marked (by (255 == upper_of frame))
   where

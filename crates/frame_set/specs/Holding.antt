@@ -4,9 +4,9 @@ use Rattle.arch_defs.specs.Frames.{Frames}
 use Rattle.arch_defs.specs.Bits.{bit}
 use Rattle.frame_set.specs.declared.sets.FrameSet.{FrameSet}
 
--- the mark of a frame is set: the bit of its number modulo 4,096 in words of 64 bits
+-- the mark of a frame is set: one for its number modulo 4,096, in the word for its number modulo 64
 abbrev pub has_mark : List ℕ → ℕ → Bool
-has_mark marks frame = bit (frame % 64) (slice_index marks (frame % 4096 / 64))
+has_mark marks frame = bit (frame / 64 % 64) (slice_index marks (frame % 64))
 
 -- the upper part of a frame's number
 abbrev pub upper_of : ℕ → ℕ
@@ -19,3 +19,11 @@ is_upper uppers frame =
 
 unfoldable pub has_frame : FrameSet → Frames
 has_frame set frame = has_mark set.marks frame && is_upper set.uppers frame
+
+-- the frames of the set whose bit is set in a word: the bit of their number modulo 64
+unfoldable pub has_among : FrameSet → ℕ → Frames
+has_among set bits frame = has_frame set frame && bit (frame % 64) bits
+
+-- those whose bit the set has for the frames that were added since `begin`
+abbrev pub has_recent : FrameSet → Frames
+has_recent set = has_among set set.recent

@@ -1,8 +1,8 @@
 // A set of frames of machine memory. It may hold more frames than were added to it.
 
-ghost use Rattle.std.specs.Prelude.{◌≡◌, ℕ, ◌%◌, ◌^◌, true, false, replicate};
+ghost use Rattle.std.specs.Prelude.{◌≡◌, ◌≢◌, ℕ, ◌/◌, ◌%◌, ◌^◌, true, false, replicate};
 ghost use Rattle.arch_defs.specs.Frames.{Within};
-ghost use Rattle.frame_set.specs.Holding.{has_frame, has_mark, upper_of};
+ghost use Rattle.frame_set.specs.Holding.{has_frame, has_mark, has_recent, upper_of};
 
 // How many marks there are: a frame's is that of its number modulo this.
 const MARKS: u64 = 4096;
@@ -11,11 +11,13 @@ const MARKS: u64 = 4096;
 const SEVERAL: u8 = 255;
 
 /// A set of frames: a mark for the low 12 bits of each frame's number, and at each mark the upper part of
-/// the frame that set it. To empty it, only the marks are cleared.
+/// the frame that set it. To empty it, only the marks are cleared. `recent` has the bits of the frames that
+/// were added since the last `begin`; a frame's bit is that of its number modulo 64.
 #[derive(Clone, Copy, Debug, PartialEq, Eq)]
 pub struct FrameSet {
     marks: [u64; 64],
     uppers: [u8; 4096],
+    recent: u64,
 }
 
 // The upper part of a frame's number.
@@ -36,11 +38,11 @@ fn no_marks() -> [u64; 64]
     [0; 64]
 }
 
-// The bit of a frame in the word of its mark.
-fn mark_of(frame: u64) -> u64
-    ensures { result ≡ 2 ^ (frame % 64) }
+// The word of which this bit alone is set, counted modulo 64.
+fn bit_at(place: u64) -> u64
+    ensures { result ≡ 2 ^ (place % 64) }
 {
-    1 << (frame % 64)
+    1 << (place % 64)
 }
 
 impl FrameSet {
@@ -52,6 +54,7 @@ impl FrameSet {
         FrameSet {
             marks: no_marks(),
             uppers: [0; 4096],
+            recent: 0,
         }
     }
 
@@ -69,7 +72,7 @@ impl FrameSet {
     fn is_marked(&self, frame: u64) -> bool
         ensures { result ≡ has_mark self.now.marks frame }
     {
-        (self.marks[(frame % MARKS / 64) as usize] >> (frame % 64)) & 1 == 1
+        (self.marks[(frame % 64) as usize] >> (frame / 64 % 64)) & 1 == 1
     }
 
     /// Whether it holds a frame.
@@ -85,18 +88,60 @@ impl FrameSet {
         upper == upper_of(frame) || upper == SEVERAL
     }
 
-    /// Adds a frame.
+    // Holds a frame from now on.
+    #[inline]
     #[tactic(auto, using(crate::proofs::Holding::adding))]
+    fn hold(&mut self, frame: u64)
+        ensures more { Within (has_frame self.old) (has_frame self.new) }
+        ensures held { has_frame self.new frame ≡ true }
+        ensures recent { self.new.recent ≡ self.old.recent }
+    {
+        let at = (frame % 64) as usize;
+        if !self.is_marked(frame) {
+            self.marks[at] |= bit_at(frame / 64);
+            self.uppers[(frame % MARKS) as usize] = upper_of(frame);
+        } else if self.uppers[(frame % MARKS) as usize] != upper_of(frame) {
+            self.uppers[(frame % MARKS) as usize] = SEVERAL;
+        }
+    }
+
+    /// Adds a frame.
+    #[tactic(auto, using(crate::proofs::Recent::noting))]
     pub fn add(&mut self, frame: u64)
         ensures more { Within (has_frame self.old) (has_frame self.new) }
-        ensures added { has_frame self.new frame ≡ true }
+        ensures recent { Within (has_recent self.old) (has_recent self.new) }
+        ensures added { has_recent self.new frame ≡ true }
     {
-        let at = (frame % MARKS) as usize;
-        if !self.is_marked(frame) {
-            self.marks[at / 64] |= mark_of(frame);
-            self.uppers[at] = upper_of(frame);
-        } else if self.uppers[at] != upper_of(frame) {
-            self.uppers[at] = SEVERAL;
-        }
+        self.hold(frame);
+        self.recent |= bit_at(frame);
+    }
+
+    /// From here on counts anew which frames were added.
+    #[inline]
+    #[tactic(auto, using(crate::proofs::Recent::beginning))]
+    pub fn begin(&mut self)
+        ensures same { (frame : ℕ) → has_frame self.new frame ≡ has_frame self.old frame }
+        ensures none { (frame : ℕ) → has_recent self.new frame ≡ false }
+    {
+        self.recent = 0;
+    }
+
+    /// The bits of the frames that were added since the last `begin`.
+    #[inline]
+    pub fn recent(&self) -> u64
+        ensures { result ≡ self.now.recent }
+    {
+        self.recent
+    }
+
+    /// Takes out each frame that has this frame's bit.
+    #[inline]
+    #[tactic(auto, using(crate::proofs::Removing::removing))]
+    pub fn remove(&mut self, frame: u64)
+        ensures removed { (other : ℕ) → other % 64 ≡ frame % 64 → has_frame self.new other ≡ false }
+        ensures others { (other : ℕ) → other % 64 ≢ frame % 64
+            → has_frame self.new other ≡ has_frame self.old other }
+    {
+        self.marks[(frame % 64) as usize] = 0;
     }
 }

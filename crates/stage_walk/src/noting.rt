@@ -4,7 +4,7 @@ ghost use Rattle.std.specs.Prelude.{◌≡◌, ℕ, ◌^◌, ◌%◌, ◌<◌, R
 ghost use Rattle.arch_defs.specs.declared.modes.Trap.{Trap};
 ghost use Rattle.arch_defs.specs.Frames.{Frames, Within};
 ghost use Rattle.arch_defs.specs.Walk.{levels, met_in, next_of, path, walk};
-ghost use Rattle.frame_set.specs.Holding.{has_frame};
+ghost use Rattle.frame_set.specs.Holding.{has_frame, has_recent};
 ghost use Rattle.stage_walk.specs.Ends.{EndFits, NextFits};
 ghost use Rattle.stage_walk.specs.Reads.{Each};
 
@@ -31,7 +31,8 @@ pub trait NotingFetch {
         requires backed { is_backed self.now }
         ensures word { result ≡ reading self.now place }
         ensures more { Within (has_frame read.old) (has_frame read.new) }
-        ensures noted { (frames : Frames) → Within (has_frame read.new) frames
+        ensures recent { Within (has_recent read.old) (has_recent read.new) }
+        ensures noted { (frames : Frames) → Within (has_recent read.new) frames
             → reads self.now frames place };
 }
 
@@ -53,7 +54,8 @@ fn visit_noted<N: NotingFetch>(
     ensures next { result ≡ next_of access (met_in (N.reading fetch.now) shape va level table) }
     ensures fits { NextFits (levels shape) result }
     ensures more { Within (has_frame read.old) (has_frame read.new) }
-    ensures noted { (frames : Frames) → Within (has_frame read.new) frames
+    ensures recent { Within (has_recent read.old) (has_recent read.new) }
+    ensures noted { (frames : Frames) → Within (has_recent read.new) frames
         → N.reads fetch.now frames (met_in (N.reading fetch.now) shape va level table).place }
 {
     let place = place_of(shape, level, table, va);
@@ -80,7 +82,8 @@ pub fn walk_noted<N: NotingFetch>(
     ensures end { result ≡ walk (N.reading fetch.now) root shape va access }
     ensures fits { EndFits (levels shape) result }
     ensures more { Within (has_frame read.old) (has_frame read.new) }
-    ensures noted { (frames : Frames) → Within (has_frame read.new) frames
+    ensures recent { Within (has_recent read.old) (has_recent read.new) }
+    ensures noted { (frames : Frames) → Within (has_recent read.new) frames
         → Each (N.reads fetch.now frames) (path (N.reading fetch.now) root shape va access) }
 {
     if !is_canonical(shape, va) {

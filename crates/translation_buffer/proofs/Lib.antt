@@ -1,4 +1,6 @@
 pub mod Answered
+pub mod ClearedSlots
+pub mod DroppedSlots
 pub mod KeptPlaces
 pub mod KeptSlots
 pub mod OnePage

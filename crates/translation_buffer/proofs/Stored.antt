@@ -26,7 +26,7 @@ pub serves_only : (buffer : Buffer) (csrs : Csrs) (mode : Mode) (memory other : 
 serves_only buffer csrs mode memory other changed serves apart only = record {
   context = serves.context;
   who = serves.who;
-  slots = all_same (has_frame buffer.read) memory other buffer.context buffer.slots (kept (has_frame buffer.read) changed memory other apart only) serves.slots;
+  slots = all_same buffer.read memory other buffer.context buffer.slots (kept (has_frame buffer.read) changed memory other apart only) serves.slots;
 }
 
 -- one frame

@@ -7,8 +7,10 @@ use Rattle.arch_defs.specs.declared.modes.Mode.{Mode}
 use Rattle.arch_defs.specs.declared.registers.Csrs.{Csrs}
 use Rattle.arch_defs.specs.declared.walks.Privilege.{Privilege}
 use Rattle.arch_defs.specs.Frames.{Frames, Same}
+use Rattle.arch_defs.specs.Bits.{bit}
 use Rattle.arch_defs.specs.Translation.{privilege_of}
-use Rattle.frame_set.specs.Holding.{has_frame}
+use Rattle.frame_set.specs.declared.sets.FrameSet.{FrameSet}
+use Rattle.frame_set.specs.Holding.{has_among}
 use Rattle.translation_buffer.specs.declared.buffers.Buffer.{Buffer}
 use Rattle.translation_buffer.specs.declared.contexts.Context.{Context}
 use Rattle.translation_buffer.specs.declared.slots.Slot.{Slot}
@@ -43,13 +45,24 @@ slots_of slots Store = slots.stores
 slots_of slots ExecLoad = []
 slots_of slots Implicit = []
 
-abbrev pub AllStand : Frames → List ℕ → Context → Slots → Type 0
-AllStand frames memory context slots =
-    (kind : Access) → All (GivesPlaces frames memory context kind) (slots_of slots kind)
+-- a slot stands by the frames of a set whose bits it has
+abbrev pub SlotStands : FrameSet → List ℕ → Context → Access → Slot → Type 0
+SlotStands read memory context kind slot = GivesPlaces (has_among read slot.bits) memory context kind slot
+
+abbrev pub AllStand : FrameSet → List ℕ → Context → Slots → Type 0
+AllStand read memory context slots =
+    (kind : Access) → All (SlotStands read memory context kind) (slots_of slots kind)
+
+-- no slot has the bit of a frame
+abbrev pub LacksBit : ℕ → Slot → Type 0
+LacksBit frame slot = bit (frame % 64) slot.bits ≡ false
+
+abbrev pub AllLackBit : ℕ → Slots → Type 0
+AllLackBit frame slots = (kind : Access) → All (LacksBit frame) (slots_of slots kind)
 
 -- a buffer serves the accesses of a mode: it is for its roots and for whom it accesses, and all slots stand
--- by the frames that were read
+-- by those of the frames that were read whose bits they have
 pub record Serves (buffer : Buffer) (csrs : Csrs) (mode : Mode) (memory : List ℕ) : Type 0 where
   pub context : buffer.context ≡ context_of csrs mode
   pub who : buffer.who ≡ who_bits (privilege_of csrs mode)
-  pub slots : AllStand (has_frame buffer.read) memory buffer.context buffer.slots
+  pub slots : AllStand buffer.read memory buffer.context buffer.slots

@@ -6,7 +6,8 @@ ghost use Rattle.arch_defs.specs.declared.registers.Csrs.{Csrs};
 ghost use Rattle.arch_defs.specs.Frames.{Frames, Within};
 ghost use Rattle.arch_defs.specs.Translation.{privilege_of};
 ghost use Rattle.machine_defs.specs.Answers.{answer_of, located_by_walk};
-ghost use Rattle.frame_set.specs.Holding.{has_frame};
+ghost use Rattle.frame_set.specs.declared.sets.FrameSet.{FrameSet};
+ghost use Rattle.frame_set.specs.Holding.{has_frame, has_recent};
 ghost use Rattle.two_stage_walk.specs.Places.{IsPlaceOf};
 ghost use Rattle.translation_buffer.specs.Places.{Reads, context_of, translated_place};
 ghost use Rattle.translation_buffer.specs.Serving.{AllStand, Serves, GivesPlaces, bit_of, tag_of, who_bits};
@@ -56,7 +57,7 @@ fn place_noted(
     ensures place { result ≡ translated_place context.now who memory.now va access }
     ensures inside { IfSome result (λ place. IsPlaceOf 0 memory.now va place) }
     ensures more { Within (has_frame read.old) (has_frame read.new) }
-    ensures noted { (frames : Frames) → Within (has_frame read.new) frames
+    ensures noted { (frames : Frames) → Within (has_recent read.new) frames
         → Reads frames context.now who memory.now va access }
 {
     memory_is_whole(memory);
@@ -94,8 +95,8 @@ impl Buffer {
     fn clear(&mut self)
         ensures context { self.new.context ≡ self.old.context }
         ensures who { self.new.who ≡ self.old.who }
-        ensures slots { (frames : Frames) (memory : List ℕ) (context : Context)
-            → AllStand frames memory context self.new.slots }
+        ensures slots { (read : FrameSet) (memory : List ℕ) (context : Context)
+            → AllStand read memory context self.new.slots }
         ensures read { (frame : ℕ) → has_frame self.new.read frame ≡ false }
     {
         self.slots.clear();
@@ -124,8 +125,19 @@ impl Buffer {
         }
     }
 
-    /// Goes before a store at a place: where an entry that was read may lie in its frame, keeps nothing
-    /// more.
+    // Drops the translations for which a frame may have been read.
+    #[inline(never)]
+    fn drop_read(&mut self, frame: u64)
+        ensures apart { has_frame self.new.read frame ≡ false }
+        ensures serves { (csrs : Csrs) (mode : Mode) (memory : List ℕ)
+            → Serves self.old csrs mode memory → Serves self.new csrs mode memory }
+    {
+        self.slots.drop_read(frame);
+        self.read.remove(frame);
+    }
+
+    /// Goes before a store at a place: drops the translations for which an entry in its frame may have been
+    /// read.
     #[inline]
     pub fn open(&mut self, place: u64)
         ensures apart { has_frame self.new.read (place / 4096) ≡ false }
@@ -133,7 +145,7 @@ impl Buffer {
             → Serves self.old csrs mode memory → Serves self.new csrs mode memory }
     {
         if self.read.holds(place / 4096) {
-            self.clear();
+            self.drop_read(place / 4096);
         }
     }
 
@@ -171,12 +183,14 @@ impl Buffer {
         self.walks = self.walks.saturating_add(1);
         let who = privilege_of(csrs, mode);
         let context = self.context;
+        self.read.begin();
         match place_noted(memory, &context, who, va, access, &mut self.read) {
             Some(place) => {
                 let _ = memory.size();
                 let slot = Slot {
                     tag: self.who.wrapping_add(va / 4096),
                     frame: (place / 4096) as u32,
+                    bits: self.read.recent(),
                 };
                 self.slots.keep(va, access, slot);
                 Some(place)

@@ -1,32 +1,45 @@
 // Kept translations, by the kind of access.
 
-ghost use Rattle.std.specs.Prelude.{◌≡◌, ℕ, ◌+◌, ◌*◌, ◌-◌, ◌%◌, ◌^◌, List};
+ghost use Rattle.std.specs.Prelude.{◌≡◌, ◌≢◌, ℕ, ◌+◌, ◌*◌, ◌-◌, ◌%◌, ◌<◌, ◌^◌, List, length, get_or};
 ghost use Rattle.std.specs.List.{All};
 ghost use Rattle.arch_defs.specs.declared.modes.Access.{Access};
-ghost use Rattle.arch_defs.specs.Frames.{Frames};
+ghost use Rattle.arch_defs.specs.Bits.{bit};
+ghost use Rattle.frame_set.specs.declared.sets.FrameSet.{FrameSet};
 ghost use Rattle.translation_buffer.specs.declared.contexts.Context.{Context};
-ghost use Rattle.translation_buffer.specs.Serving.{AllStand, GivesPlaces};
+ghost use Rattle.translation_buffer.specs.Serving.{AllLackBit, AllStand, LacksBit, SlotStands};
 
 use arch_defs::Access;
 
-/// A kept translation: the tag of a page, and the frame of its places. Where none is kept, the tag is one
-/// that no page has.
+/// A kept translation: the tag of a page, the frame of its places, and the bits of the frames that were read
+/// for it; a frame's bit is that of its number modulo 64. Where none is kept, the tag is one that no page
+/// has.
 #[derive(Clone, Copy, Debug, PartialEq, Eq)]
 pub struct Slot {
     pub tag: u64,
     pub frame: u32,
+    pub bits: u64,
 }
 
 impl Slot {
     /// No translation.
     #[inline]
     pub fn none() -> Slot
-        ensures { result.tag ≡ 2 ^ 64 - 1 }
+        ensures tag { result.tag ≡ 2 ^ 64 - 1 }
+        ensures bits { result.bits ≡ 0 }
     {
         Slot {
             tag: u64::MAX,
             frame: 0,
+            bits: 0,
         }
+    }
+
+    // Whether it has the bit of a frame.
+    #[inline]
+    fn has_bit(self, frame: u64) -> bool
+        ensures { result ≡ bit (frame % 64) self.bits }
+    {
+        (self.bits >> (frame % 64)) & 1 == 1
     }
 
     /// The place of an address of the page.
@@ -50,20 +63,53 @@ pub struct Slots {
 #[inline]
 #[tactic(auto, using(crate::proofs::KeptSlots::all_none))]
 fn no_slots() -> [Slot; 16]
-    ensures { (frames : Frames) (memory : List ℕ) (context : Context) (kind : Access)
-        → All (GivesPlaces frames memory context kind) result }
+    ensures { (read : FrameSet) (memory : List ℕ) (context : Context) (kind : Access)
+        → All (SlotStands read memory context kind) result }
 {
     [Slot::none(); 16]
 }
 
 // Keeps no translation at each of these places.
 #[inline]
-#[tactic(auto, using(crate::proofs::KeptSlots::all_none))]
+#[tactic(auto, using(crate::proofs::ClearedSlots::clearing))]
 fn clear(slots: &mut [Slot])
-    ensures { (frames : Frames) (memory : List ℕ) (context : Context) (kind : Access)
-        → All (GivesPlaces frames memory context kind) slots.new }
+    ensures { (read : FrameSet) (memory : List ℕ) (context : Context) (kind : Access)
+        → All (SlotStands read memory context kind) slots.new }
 {
-    slots.fill(Slot::none());
+    for at in 0..slots.len() {
+        slots[at].tag = u64::MAX;
+    }
+}
+
+// Drops a translation that has the bit of a frame.
+#[inline]
+#[tactic(auto, using(crate::proofs::DroppedSlots::dropping))]
+fn drop_at(slots: &mut [Slot], at: usize, frame: u64)
+    requires inside { at < length slots.old }
+    ensures stand { (read : FrameSet) (memory : List ℕ) (context : Context) (kind : Access)
+        → All (SlotStands read memory context kind) slots.old
+        → All (SlotStands read memory context kind) slots.new }
+    ensures lacks { (other : Slot) → LacksBit frame (get_or slots.new at other) }
+    ensures others { (place : ℕ) (other : Slot) → place ≢ at
+        → get_or slots.new place other ≡ get_or slots.old place other }
+    ensures size { length slots.new ≡ length slots.old }
+{
+    if slots[at].has_bit(frame) {
+        slots[at] = Slot::none();
+    }
+}
+
+// Drops the translations that have the bit of a frame.
+#[inline]
+fn drop_each(slots: &mut [Slot], frame: u64)
+    ensures stand { (read : FrameSet) (memory : List ℕ) (context : Context) (kind : Access)
+        → All (SlotStands read memory context kind) slots.old
+        → All (SlotStands read memory context kind) slots.new }
+    ensures lack { All (LacksBit frame) slots.new }
+{
+    for at in 0..slots.len() {
+        drop_at(slots, at, frame);
+    }
 }
 
 impl Slots {
@@ -71,8 +117,8 @@ impl Slots {
     #[tactic(auto, using(crate::proofs::KeptSlots::no_slot_stands))]
     #[inline]
     pub fn none() -> Slots
-        ensures { (frames : Frames) (memory : List ℕ) (context : Context)
-            → AllStand frames memory context result }
+        ensures { (read : FrameSet) (memory : List ℕ) (context : Context)
+            → AllStand read memory context result }
     {
         Slots {
             fetches: no_slots(),
@@ -85,19 +131,31 @@ impl Slots {
     #[tactic(auto, using(crate::proofs::KeptSlots::no_slot_stands))]
     #[inline]
     pub fn clear(&mut self)
-        ensures { (frames : Frames) (memory : List ℕ) (context : Context)
-            → AllStand frames memory context self.new }
+        ensures { (read : FrameSet) (memory : List ℕ) (context : Context)
+            → AllStand read memory context self.new }
     {
         clear(&mut self.fetches);
         clear(&mut self.loads);
         clear(&mut self.stores);
     }
 
+    /// Drops the translations that have the bit of a frame.
+    #[tactic(auto, using(crate::proofs::DroppedSlots::all_kinds))]
+    pub fn drop_read(&mut self, frame: u64)
+        ensures stand { (read : FrameSet) (memory : List ℕ) (context : Context)
+            → AllStand read memory context self.old → AllStand read memory context self.new }
+        ensures lack { AllLackBit frame self.new }
+    {
+        drop_each(&mut self.fetches, frame);
+        drop_each(&mut self.loads, frame);
+        drop_each(&mut self.stores, frame);
+    }
+
     /// The slot of an address for a kind of access.
     #[inline]
     pub fn slot(&self, va: u64, access: Access) -> Slot
-        ensures { (frames : Frames) (memory : List ℕ) (context : Context)
-            → AllStand frames memory context self.now → GivesPlaces frames memory context access result }
+        ensures { (read : FrameSet) (memory : List ℕ) (context : Context)
+            → AllStand read memory context self.now → SlotStands read memory context access result }
     {
         let at = (va / 4096 % 16) as usize;
         match access {
@@ -110,9 +168,9 @@ impl Slots {
 
     /// Keeps a slot for an address and a kind of access.
     pub fn keep(&mut self, va: u64, access: Access, slot: Slot)
-        ensures { (frames : Frames) (memory : List ℕ) (context : Context)
-            → GivesPlaces frames memory context access slot → AllStand frames memory context self.old
-            → AllStand frames memory context self.new }
+        ensures { (read : FrameSet) (memory : List ℕ) (context : Context)
+            → SlotStands read memory context access slot → AllStand read memory context self.old
+            → AllStand read memory context self.new }
     {
         let at = (va / 4096 % 16) as usize;
         match access {

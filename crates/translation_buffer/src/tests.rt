@@ -14,7 +14,7 @@ use std::test::Fail;
 // Memory of sixteen frames from 0 on. The root of hgatp's table is frames 4 to 7; its entry 0 names the table
 // of level 1 in frame 8, whose entry 0 names that of level 0 in frame 9. vsatp's tables are at the guest
 // pages 8, 9 and 10, which lie in the frames C, D and E.
-static TABLES: [(u64, u64); 14] = [
+static TABLES: [(u64, u64); 15] = [
     (0x4000, 0x2001),
     (0x8000, 0x2401),
     // Guest pages 3, 6 and 7: frame A, frame B only to be executed, and frame B with D clear.
@@ -25,6 +25,8 @@ static TABLES: [(u64, u64); 14] = [
     (0x9048, 0x34DF),
     (0x9050, 0x38DF),
     (0xC000, 0x2401),
+    // From 4000_0000 on a leaf of 1 GiB: guest page 3 at 4000_3000 too.
+    (0xC008, 0xCF),
     (0xD000, 0x2801),
     // Pages 1 to 4 of the first stage: guest page 3, guest pages 3 and 6 only to be executed, and guest page
     // 3 for the user.
@@ -208,6 +210,25 @@ fn stores_to_data(rt: HostRuntime) -> Result<(), Fail> {
     store(&mut t, 0xF000, 5);
     assert_eq!(rt; access(&mut t, 0x1010, Access::Load), Ok(0xA010));
     assert_eq!(rt; t.buffer.walks(), 1);
+    Ok(())
+}
+
+// A store to a table drops the translations that were read by it, and keeps the others.
+#[test]
+fn stores_drop_what_was_read(rt: HostRuntime) -> Result<(), Fail> {
+    let mut t = start(rt.alloc(), Mode::VS)?;
+    assert_eq!(rt; access(&mut t, 0x1008, Access::Load), Ok(0xA008));
+    assert_eq!(rt; access(&mut t, 0x4000_3008, Access::Load), Ok(0xA008));
+    assert_eq!(rt; t.buffer.walks(), 2);
+    store(&mut t, 0xE008, 0x1CCF);
+    assert_eq!(rt; access(&mut t, 0x4000_3010, Access::Load), Ok(0xA010));
+    assert_eq!(rt; t.buffer.walks(), 2);
+    assert_eq!(rt; access(&mut t, 0x1008, Access::Load), Ok(0xB008));
+    assert_eq!(rt; t.buffer.walks(), 3);
+    store(&mut t, 0xC010, 0);
+    assert_eq!(rt; access(&mut t, 0x4000_3008, Access::Load), Ok(0xA008));
+    assert_eq!(rt; access(&mut t, 0x1008, Access::Load), Ok(0xB008));
+    assert_eq!(rt; t.buffer.walks(), 5);
     Ok(())
 }
 

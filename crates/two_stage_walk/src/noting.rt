@@ -6,7 +6,7 @@ ghost use Rattle.arch_defs.specs.Memory.{reading_of};
 ghost use Rattle.arch_defs.specs.SecondStage.{guest_root_frame, memory_words, second_under, second_walk, walked};
 ghost use Rattle.arch_defs.specs.Translation.{entry_words_through, found_by, found_under, unread};
 ghost use Rattle.arch_defs.specs.Walk.{path, walk};
-ghost use Rattle.frame_set.specs.Holding.{has_frame};
+ghost use Rattle.frame_set.specs.Holding.{has_frame, has_recent};
 ghost use Rattle.stage_walk.specs.Reads.{Each, LiesIn};
 ghost use Rattle.two_stage_walk.specs.Places.{IsPlaceOf, IsWhole, KeepsOffset, LeafIn};
 ghost use Rattle.two_stage_walk.specs.Reads.{EntryReads, FirstReads, SecondReads};
@@ -57,7 +57,8 @@ fn walked_noted<M: Mem>(
     ensures place { result ≡ walked (M.base mem.now) (M.bytes mem.now) mxr shape ppn address kind }
     ensures inside { IfSome result (λ place. IsPlaceOf (M.base mem.now) (M.bytes mem.now) address place) }
     ensures more { Within (has_frame read.old) (has_frame read.new) }
-    ensures noted { (frames : Frames) → Within (has_frame read.new) frames → Each (LiesIn frames)
+    ensures recent { Within (has_recent read.old) (has_recent read.new) }
+    ensures noted { (frames : Frames) → Within (has_recent read.new) frames → Each (LiesIn frames)
         (path (memory_words (M.base mem.now) (M.bytes mem.now)) (guest_root_frame ppn) shape address kind) }
 {
     let root = ppn / 4 % 0x400_0000_0000 * 4;
@@ -84,7 +85,8 @@ pub fn second_noted<M: Mem>(
     ensures place { result ≡ second_under (M.base mem.now) (M.bytes mem.now) mxr root address kind }
     ensures inside { IfSome result (λ place. IsPlaceOf (M.base mem.now) (M.bytes mem.now) address place) }
     ensures more { Within (has_frame read.old) (has_frame read.new) }
-    ensures noted { (frames : Frames) → Within (has_frame read.new) frames
+    ensures recent { Within (has_recent read.old) (has_recent read.new) }
+    ensures noted { (frames : Frames) → Within (has_recent read.new) frames
         → SecondReads frames (M.base mem.now) (M.bytes mem.now) address kind root }
 {
     match root {
@@ -141,7 +143,8 @@ pub fn first_noted<M: Mem>(
         (reading_of (M.base mem.now) (M.bytes mem.now)) privilege va access root }
     ensures offset { KeepsOffset va result }
     ensures more { Within (has_frame read.old) (has_frame read.new) }
-    ensures noted { (frames : Frames) → Within (has_frame read.new) frames
+    ensures recent { Within (has_recent read.old) (has_recent read.new) }
+    ensures noted { (frames : Frames) → Within (has_recent read.new) frames
         → FirstReads frames (M.base mem.now) (M.bytes mem.now) mxr second va access root }
 {
     match root {

@@ -1,7 +1,7 @@
 use Rattle.std.proofs.Common.{rules, ◌≡◌, ◌+◌, ◌-◌, true, false, ap, sym, subst, ◌∙◌, arith}
 use Rattle.arch_defs.specs.declared.walks.Next.TheVariants.{Ends, Below}
 use Rattle.arch_defs.specs.Walk.{is_canonical, met_in, next_of}
-use Rattle.frame_set.specs.Holding.{has_frame}
+use Rattle.frame_set.specs.Holding.{has_recent}
 use Rattle.stage_walk.specs.ByLevels.{walk_from}
 use Rattle.stage_walk.proofs.Levels.{from_below, walk_starts}
 use Rattle.stage_walk.proofs.NotedWalks.{Goes, goes_below, goes_end, goes_none, goes_out, goes_start}
@@ -21,18 +21,19 @@ loop-level-init g c =
       level = omega (arith, c.levels-level.ensures.value);
       table = c.requires.root;
       more = λ frame named. named;
+      recent = λ frame named. named;
       noted = subst
-          (λ n. Goes (g.N.NotingFetch.reads c.args.fetch.now) (g.N.NotingFetch.reading c.args.fetch.now) c.args.shape c.args.va c.args.access (has_frame c.args.read.now) c.args.root n c.args.root)
+          (λ n. Goes (g.N.NotingFetch.reads c.args.fetch.now) (g.N.NotingFetch.reading c.args.fetch.now) c.args.shape c.args.va c.args.access (has_recent c.args.read.now) c.args.root n c.args.root)
           (sym c.levels-level.ensures.value)
-          (goes_start (g.N.NotingFetch.reads c.args.fetch.now) (g.N.NotingFetch.reading c.args.fetch.now) c.args.shape c.args.va c.args.access (has_frame c.args.read.now) c.args.root right);
+          (goes_start (g.N.NotingFetch.reads c.args.fetch.now) (g.N.NotingFetch.reading c.args.fetch.now) c.args.shape c.args.va c.args.access (has_recent c.args.read.now) c.args.root right);
     }
 
 pub returns-in-Ends-clause-noted : goal.returns-in-Ends-clause-noted
 returns-in-Ends-clause-noted g c =
     let says : next_of c.args.access (met_in (g.N.NotingFetch.reading c.args.fetch.now) c.args.shape c.args.va (c.loop-level.level - 1) c.loop-level.table) ≡ Ends c.in-Ends.end = search rules in
-    goes_end (g.N.NotingFetch.reads c.args.fetch.now) (g.N.NotingFetch.reading c.args.fetch.now) c.args.shape c.args.va c.args.access (has_frame c.loop-level.read) (has_frame c.visit_noted.new.read)
+    goes_end (g.N.NotingFetch.reads c.args.fetch.now) (g.N.NotingFetch.reading c.args.fetch.now) c.args.shape c.args.va c.args.access (has_recent c.loop-level.read) (has_recent c.visit_noted.new.read)
     c.args.root c.loop-level.level (c.loop-level.level - 1) c.loop-level.table c.in-Ends.end (omega (arith, c.loop-level-test.true)) says
-    c.visit_noted.ensures.more c.visit_noted.ensures.noted c.loop-level.invariant.noted
+    c.visit_noted.ensures.recent c.visit_noted.ensures.noted c.loop-level.invariant.noted
 
 pub loop-level-preserved : goal.loop-level-preserved
 loop-level-preserved g c =
@@ -44,12 +45,13 @@ loop-level-preserved g c =
       level = omega (arith, c.loop-level.invariant.level);
       table = c.in-Below.ensures.fits;
       more = λ frame named. c.visit_noted.ensures.more frame (c.loop-level.invariant.more frame named);
-      noted = goes_below (g.N.NotingFetch.reads c.args.fetch.now) (g.N.NotingFetch.reading c.args.fetch.now) c.args.shape c.args.va c.args.access (has_frame c.loop-level.read)
-          (has_frame c.visit_noted.new.read) c.args.root c.loop-level.level (c.loop-level.level - 1) c.loop-level.table c.in-Below.frame one says
-          c.visit_noted.ensures.more c.visit_noted.ensures.noted c.loop-level.invariant.noted;
+      recent = λ frame named. c.visit_noted.ensures.recent frame (c.loop-level.invariant.recent frame named);
+      noted = goes_below (g.N.NotingFetch.reads c.args.fetch.now) (g.N.NotingFetch.reading c.args.fetch.now) c.args.shape c.args.va c.args.access (has_recent c.loop-level.read)
+          (has_recent c.visit_noted.new.read) c.args.root c.loop-level.level (c.loop-level.level - 1) c.loop-level.table c.in-Below.frame one says
+          c.visit_noted.ensures.recent c.visit_noted.ensures.noted c.loop-level.invariant.noted;
     }
 
 pub returns-clause-noted : goal.returns-clause-noted
 returns-clause-noted g c =
-    goes_out (g.N.NotingFetch.reads c.args.fetch.now) (g.N.NotingFetch.reading c.args.fetch.now) c.args.shape c.args.va c.args.access (has_frame c.loop-level.read)
+    goes_out (g.N.NotingFetch.reads c.args.fetch.now) (g.N.NotingFetch.reading c.args.fetch.now) c.args.shape c.args.va c.args.access (has_recent c.loop-level.read)
     c.args.root c.loop-level.level c.loop-level.table (omega (arith, c.loop-level-test.false)) c.loop-level.invariant.noted

@@ -9,7 +9,7 @@ pub returns-in-Passes-clause-noted : goal.returns-in-Passes-clause-noted
 returns-in-Passes-clause-noted c =
     let says : found_in c.args.context.now c.args.who c.args.memory.now c.args.va c.args.access ≡ Passes c.in-Passes.address = search rules in
     λ frames fewer. record {
-      first = c.first_noted-found.ensures.noted frames (λ frame named. fewer frame (c.second_noted.ensures.more frame named));
+      first = c.first_noted-found.ensures.noted frames (λ frame named. fewer frame (c.second_noted.ensures.recent frame named));
       last = λ address is. subst (λ a. SecondReads frames 0 c.args.memory.now a c.args.access c.args.context.now.second)
           (same_passes c.in-Passes.address address (sym says ∙ is)) (c.second_noted.ensures.noted frames fewer);
     }

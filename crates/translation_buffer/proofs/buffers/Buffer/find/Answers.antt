@@ -1,5 +1,4 @@
 use Rattle.std.proofs.Common.{rules, ◌≡◌, ◌+◌, ◌/◌, ◌%◌, ◌^◌, ◌<◌, Some, ap, sym, ◌∙◌}
-use Rattle.frame_set.specs.Holding.{has_frame}
 use Rattle.translation_buffer.proofs.KeptSlots.{served}
 use Rattle.translation_buffer.proofs.buffers.Buffer.find.Goals as goal
 
@@ -9,5 +8,5 @@ returns-then-slot-self c =
     let tag : c.slot-slot.result.tag ≡ (c.args.self.now.who + c.args.va / 4096) % 2 ^ 64 = search rules in
     λ csrs mode memory serves.
     served c.args.self.now csrs mode memory c.args.va c.args.access c.slot-slot.result serves
-    (c.slot-slot.ensures (has_frame c.args.self.now.read) memory c.args.self.now.context serves.slots) small tag
+    (c.slot-slot.ensures c.args.self.now.read memory c.args.self.now.context serves.slots) small tag
     ∙ ap Some (sym c.place.ensures)

@@ -1,0 +1,43 @@
+-- The frames that were added since `begin`.
+use Rattle.std.proofs.Common.{◌≡◌, ℕ, ◌%◌, ◌^◌, Bool, true, false, ◌&&◌, bit_or, refl}
+use Rattle.std.proofs.lemmas.Bool.{and_from, and_parts}
+use Rattle.std.proofs.lemmas.Nat.Bits.{bit_at-zero}
+use Rattle.arch_defs.specs.Bits.{bit}
+use Rattle.arch_defs.specs.Frames.{Within}
+use Rattle.frame_set.specs.declared.sets.FrameSet.{FrameSet}
+use Rattle.frame_set.specs.Holding.{has_among, has_frame, has_recent}
+use Rattle.frame_set.proofs.Holding.{bit_kept, bit_set}
+
+-- the bits change nothing of what is held
+pub held_more : (old held : FrameSet) (recent : ℕ) → Within (has_frame old) (has_frame held) → Within (has_frame old) (has_frame (record held { recent = recent }))
+unfolding has_frame
+held_more old held recent more frame named = more frame named
+
+pub recent_more : (old held : FrameSet) (mark : ℕ) → Within (has_frame old) (has_frame held) → held.recent ≡ old.recent
+    → Within (has_recent old) (has_recent (record held { recent = bit_or held.recent mark }))
+unfolding has_among has_frame
+recent_more old held mark more same frame named =
+    let parts = and_parts (has_frame old frame) (bit (frame % 64) old.recent) named in
+    and_from _ _ (more frame parts.0) (rw same (bit_kept old.recent mark (frame % 64) parts.1))
+
+pub recent_added : (held : FrameSet) (mark frame : ℕ) → has_frame held frame ≡ true → mark ≡ 2 ^ (frame % 64)
+    → has_recent (record held { recent = bit_or held.recent mark }) frame ≡ true
+unfolding has_among has_frame
+recent_added held mark frame has is = and_from _ _ has (bit_set held.recent mark (frame % 64) is)
+
+pub ruleset noting = (held_more, recent_more, recent_added)
+
+-- after `begin`
+pub begun_same : (held : FrameSet) (frame : ℕ) → has_frame (record held { recent = 0 }) frame ≡ has_frame held frame
+unfolding has_frame
+begun_same held frame = refl
+
+none_with : (has : Bool) → (has && false) ≡ false
+none_with true = refl
+none_with false = refl
+
+pub begun_none : (held : FrameSet) (frame : ℕ) → has_recent (record held { recent = 0 }) frame ≡ false
+unfolding has_among
+begun_none held frame = rw (bit_at-zero (frame % 64)) (none_with (has_frame (record held { recent = 0 }) frame))
+
+pub ruleset beginning = (begun_same, begun_none)
