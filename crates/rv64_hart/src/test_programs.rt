@@ -1,12 +1,11 @@
-// Programs of RV64I, M and A on the hart. The words beside a line of assembly are those of GNU as 2.40
-// (Debian's binutils-riscv64-linux-gnu); what they do was worked out by hand from the text of the standard
+// Programs of RV64I, M and A on the hart. What they do was worked out by hand from the text of the standard
 // (Unprivileged ISA 20191213, 2, 5 and 8; Privileged Architecture 20211203, 8.6.1).
 
 ghost use Rattle.std.specs.Prelude.{◌≡◌, ◌≤◌, ◌⊎◌};
 
 use crate::{Hart, PhysMem, Stop, Tally, Why};
 use arch_defs::{HartState, Mode, Trap, Virtual};
-use phys_mem::NoMemory;
+use sample_programs::{LineFault, words};
 use std::alloc::Global;
 use std::process::Abort;
 use std::test::Fail;
@@ -25,7 +24,7 @@ pub const HELD: u64 = 0xFEDC_BA98_7654_3210;
 // after it.
 pub struct Row {
     pub name: &'static str,
-    pub code: &'static [u32],
+    pub code: &'static [&'static str],
     pub given: &'static [(usize, u64)],
     pub taken: u64,
     pub exit: (u64, u64),
@@ -74,17 +73,29 @@ pub fn doubleword(memory: &PhysMem, at: u64) -> u64 {
     }
 }
 
+// Puts a program from an address on.
+pub fn put_program(
+    alloc: Global,
+    memory: &mut PhysMem,
+    at: u64,
+    code: &[&str],
+) -> Result<(), LineFault> {
+    let mut at = at;
+    let program = words(alloc, code)?;
+    for &word in program.as_slice() {
+        put(memory, at, 4, word as u64);
+        at = at.wrapping_add(4);
+    }
+    Ok(())
+}
+
 // Memory of so many frames with a program in it.
-pub fn loaded(alloc: Global, frames: u64, code: &[u32]) -> Result<PhysMem, NoMemory>
+pub fn loaded(alloc: Global, frames: u64, code: &[&str]) -> Result<PhysMem, LineFault>
     requires some { 1 ≤ frames }
     requires most { frames ≤ 131072 }
 {
     let mut memory = PhysMem::new(alloc, frames)?;
-    let mut at = 0u64;
-    for &word in code {
-        put(&mut memory, at, 4, word as u64);
-        at = at.wrapping_add(4);
-    }
+    put_program(alloc, &mut memory, 0, code)?;
     put(&mut memory, 0x1000, 8, HELD);
     Ok(memory)
 }

@@ -1,6 +1,6 @@
 ghost use Rattle.std.specs.Prelude.{◌≤◌};
 
-use crate::test_programs::START;
+use crate::test_programs::{START, loaded};
 use crate::{Hart, PhysMem, Stop, Tally, Why};
 use arch_defs::{Reg, Trap};
 use phys_mem::NoMemory;
@@ -101,14 +101,14 @@ fn runs_a_program(rt: HostRuntime) -> Result<(), Fail> {
 // Codes of the Privileged Architecture, 8.6.1; gva is set where stval gets an address (8.6).
 #[test]
 fn exits_before_what_traps(rt: HostRuntime) -> Result<(), Fail> {
-    for (word, pc, cause, tval, gva) in [
-        (0x0000_0073, START, 10, 0, false), // ecall
-        (0x0000_0000, START, 2, 0, false), // no instruction
-        (0x0000_0073, 0x1000, 1, 0x1000, true), // past the one frame
-        (0x0000_0073, LAST_WORD, 1, LAST_WORD, true), // at the end of the addresses
-        (0x0020_006F, START, 0, START + 2, true), // jal x0, +2
+    for (line, pc, cause, tval, gva) in [
+        ("ecall", START, 10, 0, false),
+        (".word 0", START, 2, 0, false), // no instruction
+        ("ecall", 0x1000, 1, 0x1000, true), // past the one frame
+        ("ecall", LAST_WORD, 1, LAST_WORD, true), // at the end of the addresses
+        ("jal x0, .+2", START, 0, START + 2, true),
     ] {
-        let mut memory = memory_of(rt.alloc(), 1, &[word])?;
+        let mut memory = loaded(rt.alloc(), 1, &[line])?;
         let mut hart = hart_at(pc);
         let mut tally = Tally::new();
         let stop = hart.run(&mut memory, 3, false, &mut tally);

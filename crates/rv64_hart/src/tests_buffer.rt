@@ -1,14 +1,14 @@
 // Stores that touch tables which the hart has walked, and changes of what it walks by, each between two
 // accesses to one page: in one run, and in runs of one step. What each access gives was worked out from the
 // text of the standard (Privileged Architecture 20211203, 4.3.2 and 8.5): each walk reads the tables as they
-// are. Entries by hand from the format of 4.4.1; the words are those of GNU as 2.40.
+// are. Entries by hand from the format of 4.4.1.
 
 ghost use Rattle.std.specs.Prelude.{◌≤◌};
 
-use crate::test_programs::{HELD, doubleword, put, trap};
+use crate::test_programs::{HELD, doubleword, loaded, put, put_program, trap};
 use crate::{Hart, PhysMem, Stop, Tally, Why};
 use arch_defs::{GuestMode, GuestRoot, HartState, Mode, SupervisorMode, SupervisorRoot, Virtual};
-use phys_mem::NoMemory;
+use sample_programs::LineFault;
 use std::alloc::Global;
 use std::process::Abort;
 use std::test::Fail;
@@ -25,27 +25,27 @@ const CODE: u64 = 0x8000_0000;
 // Index 5 at level 2, 6 at level 1 and 7 at level 0.
 const ADDRESS: u64 = 0x1_40C0_7000;
 
-const LOAD: u32 = 0x0004_B283; // ld x5, 0(x9)
+const LOAD: &str = "ld x5, 0(x9)";
 
-const AGAIN: u32 = 0x0004_B503; // ld x10, 0(x9)
+const AGAIN: &str = "ld x10, 0(x9)";
 
-const STORE: u32 = 0x0063_B023; // sd x6, 0(x7)
+const STORE: &str = "sd x6, 0(x7)";
 
-const RESERVE: u32 = 0x1003_B5AF; // lr.d x11, (x7)
+const RESERVE: &str = "lr.d x11, (x7)";
 
-const STORE_RESERVED: u32 = 0x1863_B62F; // sc.d x12, x6, (x7)
+const STORE_RESERVED: &str = "sc.d x12, x6, (x7)";
 
-const SWAP: u32 = 0x0863_B62F; // amoswap.d x12, x6, (x7)
+const SWAP: &str = "amoswap.d x12, x6, (x7)";
 
-const SATP: u32 = 0x1803_1073; // csrrw x0, satp, x6
+const SATP: &str = "csrrw x0, satp, x6";
 
-const CLEAR_STATUS: u32 = 0x1003_3073; // csrrc x0, sstatus, x6
+const CLEAR_STATUS: &str = "csrrc x0, sstatus, x6";
 
-const SRET: u32 = 0x1020_0073;
+const SRET: &str = "sret";
 
-const ECALL: u32 = 0x0000_0073;
+const ECALL: &str = "ecall";
 
-const EBREAK: u32 = 0x0010_0073;
+const EBREAK: &str = "ebreak";
 
 // A case: how the hart begins, the entries that differ, a program, x6 and x7, what the first load gives, and
 // what the second gives, or else the page at which it faults.
@@ -53,7 +53,7 @@ struct Case {
     name: &'static str,
     walks: Walks,
     entries: &'static [(u64, u64)],
-    code: &'static [u32],
+    code: &'static [&'static str],
     x6: u64,
     x7: u64,
     first: u64,
@@ -138,7 +138,7 @@ static CASES: [Case; 15] = [
         name: "a page that is its own table",
         entries: &[(0x4038, 0x10CF), (0x7038, OTHER)],
         // ld x5, 0x38(x9); sd x6, 0x38(x9); ld x10, 0x38(x9)
-        code: &[0x0384_B283, 0x0264_BC23, 0x0384_B503, EBREAK],
+        code: &["ld x5, 56(x9)", "sd x6, 56(x9)", "ld x10, 56(x9)", EBREAK],
         x6: 0x1CCF,
         first: 0x10CF,
         ..CASE
@@ -216,7 +216,7 @@ static TABLES: [(u64, u64); 20] = [
     (0xC018, 0),
 ];
 
-fn memory_for(alloc: Global, case: &Case) -> Result<PhysMem, NoMemory> {
+fn memory_for(alloc: Global, case: &Case) -> Result<PhysMem, LineFault> {
     let mut memory = PhysMem::new(alloc, FRAMES)?;
     for &(at, word) in &TABLES {
         put(&mut memory, at, 8, word);
@@ -224,11 +224,7 @@ fn memory_for(alloc: Global, case: &Case) -> Result<PhysMem, NoMemory> {
     for &(at, word) in case.entries {
         put(&mut memory, at, 8, word);
     }
-    let mut at = 0u64;
-    for &word in case.code {
-        put(&mut memory, at, 4, word as u64);
-        at = at.wrapping_add(4);
-    }
+    put_program(alloc, &mut memory, 0, case.code)?;
     Ok(memory)
 }
 
@@ -322,11 +318,9 @@ fn tables_change(rt: HostRuntime) -> Result<(), Fail> {
     Ok(())
 }
 
-// jal x0, 0.
 #[test]
 fn one_walk_a_run(rt: HostRuntime) -> Result<(), Fail> {
-    let mut memory = PhysMem::new(rt.alloc(), 1)?;
-    put(&mut memory, 0, 4, 0x6F);
+    let mut memory = loaded(rt.alloc(), 1, &["j .+0"])?;
     let mut hart = Hart::new();
     let stop = hart.run(&mut memory, 10_000, false, &mut Tally::new());
     let why = Why::Limit;

@@ -2,12 +2,12 @@
 // text of the standard (Privileged Architecture 20211203, 8.2.2, 8.2.8, 8.5 and 8.6); entries by hand from
 // the format of 4.4.1: the physical page number from bit 10 on, D A G U X W R V in bits 7 to 0.
 
-use crate::test_programs::{HELD, doubleword, put, trap};
+use crate::test_programs::{HELD, doubleword, put, put_program, trap};
 use crate::{Hart, PhysMem, Stop, Tally, Why};
 use arch_defs::{
     GuestMode, GuestRoot, HartState, Mode, SupervisorMode, SupervisorRoot, Trap, Virtual,
 };
-use phys_mem::NoMemory;
+use sample_programs::LineFault;
 use std::alloc::Global;
 use std::process::Abort;
 use std::test::Fail;
@@ -33,30 +33,26 @@ static TABLES: [(u64, u64); 5] = [
     (0x20_2010, 0x3000_00CF),
 ];
 
-const LOAD: u32 = 0x0004_B283; // ld x5, 0(x9)
+const LOAD: &str = "ld x5, 0(x9)";
 
-const STORE: u32 = 0x0064_B023; // sd x6, 0(x9)
+const STORE: &str = "sd x6, 0(x9)";
 
-const RESERVE: u32 = 0x1004_B2AF; // lr.d x5, (x9)
+const RESERVE: &str = "lr.d x5, (x9)";
 
-const ADD: u32 = 0x0064_B2AF; // amoadd.d x5, x6, (x9)
+const ADD: &str = "amoadd.d x5, x6, (x9)";
 
-const JUMP: u32 = 0x0004_8067; // jalr x0, 0(x9)
+const JUMP: &str = "jalr x0, 0(x9)";
 
-const EBREAK: u32 = 0x0010_0073;
+const EBREAK: &str = "ebreak";
 
 // Memory with the tables, the doubleword, and a program in the guest's first frame.
-fn memory_for(alloc: Global, code: &[u32]) -> Result<PhysMem, NoMemory> {
+fn memory_for(alloc: Global, code: &[&str]) -> Result<PhysMem, LineFault> {
     let mut memory = PhysMem::new(alloc, FRAMES)?;
     for &(at, word) in &TABLES {
         put(&mut memory, at, 8, word);
     }
     put(&mut memory, BLOCK + 0x1000, 8, HELD);
-    let mut at = BLOCK;
-    for &word in code {
-        put(&mut memory, at, 4, word as u64);
-        at = at.wrapping_add(4);
-    }
+    put_program(alloc, &mut memory, BLOCK, code)?;
     Ok(memory)
 }
 
@@ -94,15 +90,7 @@ fn guest_page_fault(cause: u64, tval: u64, tval2: u64, implicit: bool) -> Trap {
 #[test]
 fn places_are_of_the_block(rt: HostRuntime) -> Result<(), Fail> {
     for (has_table, x9, end) in [(false, RAM + 0x1000, RAM + 12), (true, 0x1000, 12)] {
-        let mut memory = memory_for(
-            rt.alloc(),
-            &[
-                LOAD,
-                0x1004_B32F, // lr.d x6, (x9)
-                0x0074_B423, // sd x7, 8(x9)
-                EBREAK,
-            ],
-        )?;
+        let mut memory = memory_for(rt.alloc(), &[LOAD, "lr.d x6, (x9)", "sd x7, 8(x9)", EBREAK])?;
         let mut hart = Hart::new();
         *hart.state_mut() = state_for(has_table, x9);
         let stop = hart.run(&mut memory, 100, false, &mut Tally::new());
@@ -122,7 +110,7 @@ fn places_are_of_the_block(rt: HostRuntime) -> Result<(), Fail> {
 fn check(
     rt: &impl Abort,
     alloc: Global,
-    code: u32,
+    code: &str,
     state: HartState,
     fault: Trap,
 ) -> Result<(), Fail> {
@@ -132,9 +120,9 @@ fn check(
     let stop = hart.run(&mut memory, 100, true, &mut Tally::new());
     let why = Why::Exit(fault);
     let taken = if code == JUMP { 1 } else { 0 };
-    assert_eq!(rt; stop, Stop { taken, why }, "{code:X}");
-    assert_eq!(rt; hart.state().regs.x, state.regs.x, "{code:X}");
-    assert_eq!(rt; doubleword(&memory, BLOCK + 0x1000), HELD, "{code:X}");
+    assert_eq!(rt; stop, Stop { taken, why }, "{code}");
+    assert_eq!(rt; hart.state().regs.x, state.regs.x, "{code}");
+    assert_eq!(rt; doubleword(&memory, BLOCK + 0x1000), HELD, "{code}");
     Ok(())
 }
 

@@ -8,18 +8,18 @@ static ACCESSES: [Row; 7] = [
     Row {
         name: "loads by width and sign",
         code: &[
-            0x0004_0283, // lb x5, 0(x8)
-            0x0074_0303, // lb x6, 7(x8)
-            0x0074_4383, // lbu x7, 7(x8)
-            0x0004_1483, // lh x9, 0(x8)
-            0x0064_1503, // lh x10, 6(x8)
-            0x0064_5583, // lhu x11, 6(x8)
-            0x0004_2603, // lw x12, 0(x8)
-            0x0044_2683, // lw x13, 4(x8)
-            0x0044_6703, // lwu x14, 4(x8)
-            0x0004_3783, // ld x15, 0(x8)
-            0x0074_0003, // lb x0, 7(x8)
-            0x0010_0073, // ebreak
+            "lb x5, 0(x8)",
+            "lb x6, 7(x8)",
+            "lbu x7, 7(x8)",
+            "lh x9, 0(x8)",
+            "lh x10, 6(x8)",
+            "lhu x11, 6(x8)",
+            "lw x12, 0(x8)",
+            "lw x13, 4(x8)",
+            "lwu x14, 4(x8)",
+            "ld x15, 0(x8)",
+            "lb x0, 7(x8)",
+            "ebreak",
         ],
         taken: 11,
         exit: (3, START + 0x2C),
@@ -41,17 +41,17 @@ static ACCESSES: [Row; 7] = [
     Row {
         name: "stores by width",
         code: &[
-            0x0054_00A3, // sb x5, 1(x8)
-            0x0004_3303, // ld x6, 0(x8)
-            0x0054_1123, // sh x5, 2(x8)
-            0x0004_3383, // ld x7, 0(x8)
-            0x0054_2223, // sw x5, 4(x8)
-            0x0004_3483, // ld x9, 0(x8)
-            0x0054_3423, // sd x5, 8(x8)
-            0x0084_3503, // ld x10, 8(x8)
-            0x0084_4583, // lbu x11, 8(x8)
-            0x00F4_4603, // lbu x12, 15(x8)
-            0x0010_0073, // ebreak
+            "sb x5, 1(x8)",
+            "ld x6, 0(x8)",
+            "sh x5, 2(x8)",
+            "ld x7, 0(x8)",
+            "sw x5, 4(x8)",
+            "ld x9, 0(x8)",
+            "sd x5, 8(x8)",
+            "ld x10, 8(x8)",
+            "lbu x11, 8(x8)",
+            "lbu x12, 15(x8)",
+            "ebreak",
         ],
         given: &[(5, 0x1122_3344_5566_7788)],
         taken: 10,
@@ -69,10 +69,7 @@ static ACCESSES: [Row; 7] = [
     },
     Row {
         name: "a store of a doubleword over the held one",
-        code: &[
-            0x0054_3023, // sd x5, 0(x8)
-            0x0010_0073, // ebreak
-        ],
+        code: &["sd x5, 0(x8)", "ebreak"],
         given: &[(5, 0x1122_3344_5566_7788)],
         taken: 1,
         exit: (3, START + 4),
@@ -81,12 +78,7 @@ static ACCESSES: [Row; 7] = [
     },
     Row {
         name: "offsets below the register",
-        code: &[
-            0xFF84_A283, // lw x5, -8(x9)
-            0xFFC4_A303, // lw x6, -4(x9)
-            0xFE04_8C23, // sb x0, -8(x9)
-            0x0010_0073, // ebreak
-        ],
+        code: &["lw x5, -8(x9)", "lw x6, -4(x9)", "sb x0, -8(x9)", "ebreak"],
         given: &[(9, START + 0x1008)],
         taken: 3,
         exit: (3, START + 0xC),
@@ -96,11 +88,7 @@ static ACCESSES: [Row; 7] = [
     },
     Row {
         name: "the last bytes of memory",
-        code: &[
-            0xFE54_BC23, // sd x5, -8(x9)
-            0xFFF4_C303, // lbu x6, -1(x9)
-            0x0010_0073, // ebreak
-        ],
+        code: &["sd x5, -8(x9)", "lbu x6, -1(x9)", "ebreak"],
         given: &[(5, 0x1122_3344_5566_7788), (9, START + 0x2000)],
         taken: 2,
         exit: (3, START + 8),
@@ -109,10 +97,7 @@ static ACCESSES: [Row; 7] = [
     },
     Row {
         name: "a load into its own base register",
-        code: &[
-            0x0004_3403, // ld x8, 0(x8)
-            0x0010_0073, // ebreak
-        ],
+        code: &["ld x8, 0(x8)", "ebreak"],
         taken: 1,
         exit: (3, START + 4),
         gives: &[(8, 0xFEDC_BA98_7654_3210)],
@@ -120,12 +105,7 @@ static ACCESSES: [Row; 7] = [
     },
     Row {
         name: "FENCE and FENCE.I go on",
-        code: &[
-            0x0FF0_000F, // fence
-            0x0000_100F, // fence.i
-            0x0010_0293, // addi x5, x0, 1
-            0x0010_0073, // ebreak
-        ],
+        code: &["fence", "fence.i", "addi x5, x0, 1", "ebreak"],
         taken: 3,
         exit: (3, START + 0xC),
         gives: &[(5, 1), (0, 0)],
@@ -138,10 +118,10 @@ static RESERVATIONS: [Row; 15] = [
     Row {
         name: "LR and SC at one word, and SC again",
         code: &[
-            0x1004_22AF, // lr.w x5, (x8)
-            0x1874_232F, // sc.w x6, x7, (x8)
-            0x18A4_24AF, // sc.w x9, x10, (x8)
-            0x0010_0073, // ebreak
+            "lr.w x5, (x8)",
+            "sc.w x6, x7, (x8)",
+            "sc.w x9, x10, (x8)",
+            "ebreak",
         ],
         given: &[(6, 9), (7, 0xDEAD_BEEF_1122_3344), (9, 9), (10, 5)],
         taken: 3,
@@ -153,10 +133,10 @@ static RESERVATIONS: [Row; 15] = [
     Row {
         name: "SC.D after LR.W fails and ends the reservation",
         code: &[
-            0x1004_22AF, // lr.w x5, (x8)
-            0x1874_332F, // sc.d x6, x7, (x8)
-            0x1874_24AF, // sc.w x9, x7, (x8)
-            0x0010_0073, // ebreak
+            "lr.w x5, (x8)",
+            "sc.d x6, x7, (x8)",
+            "sc.w x9, x7, (x8)",
+            "ebreak",
         ],
         given: &[(6, 9), (7, 0x1122_3344_5566_7788), (9, 9)],
         taken: 3,
@@ -166,11 +146,7 @@ static RESERVATIONS: [Row; 15] = [
     },
     Row {
         name: "SC.W after LR.D fails",
-        code: &[
-            0x1004_32AF, // lr.d x5, (x8)
-            0x1874_232F, // sc.w x6, x7, (x8)
-            0x0010_0073, // ebreak
-        ],
+        code: &["lr.d x5, (x8)", "sc.w x6, x7, (x8)", "ebreak"],
         given: &[(6, 9), (7, 0x1122_3344_5566_7788)],
         taken: 2,
         exit: (3, START + 8),
@@ -179,11 +155,7 @@ static RESERVATIONS: [Row; 15] = [
     },
     Row {
         name: "SC without LR",
-        code: &[
-            0x1874_232F, // sc.w x6, x7, (x8)
-            0x1874_34AF, // sc.d x9, x7, (x8)
-            0x0010_0073, // ebreak
-        ],
+        code: &["sc.w x6, x7, (x8)", "sc.d x9, x7, (x8)", "ebreak"],
         given: &[(6, 9), (7, 0x1122_3344_5566_7788), (9, 9)],
         taken: 2,
         exit: (3, START + 8),
@@ -193,12 +165,12 @@ static RESERVATIONS: [Row; 15] = [
     Row {
         name: "a store between LR and SC leaves the reservation",
         code: &[
-            0x1004_32AF, // lr.d x5, (x8)
-            0x0074_3023, // sd x7, 0(x8)
-            0x0004_3503, // ld x10, 0(x8)
-            0x0074_35AF, // amoadd.d x11, x7, (x8)
-            0x1894_332F, // sc.d x6, x9, (x8)
-            0x0010_0073, // ebreak
+            "lr.d x5, (x8)",
+            "sd x7, 0(x8)",
+            "ld x10, 0(x8)",
+            "amoadd.d x11, x7, (x8)",
+            "sc.d x6, x9, (x8)",
+            "ebreak",
         ],
         given: &[(6, 9), (7, 0x1122_3344_5566_7788), (9, 77)],
         taken: 5,
@@ -215,10 +187,10 @@ static RESERVATIONS: [Row; 15] = [
     Row {
         name: "SC at another place fails",
         code: &[
-            0x1004_22AF, // lr.w x5, (x8)
-            0x1874_A32F, // sc.w x6, x7, (x9)
-            0x1874_252F, // sc.w x10, x7, (x8)
-            0x0010_0073, // ebreak
+            "lr.w x5, (x8)",
+            "sc.w x6, x7, (x9)",
+            "sc.w x10, x7, (x8)",
+            "ebreak",
         ],
         given: &[
             (6, 9),
@@ -233,10 +205,7 @@ static RESERVATIONS: [Row; 15] = [
     },
     Row {
         name: "LR.W extends the sign, and reserves",
-        code: &[
-            0x1004_A2AF, // lr.w x5, (x9)
-            0x0010_0073, // ebreak
-        ],
+        code: &["lr.w x5, (x9)", "ebreak"],
         given: &[(9, START + 0x1004)],
         taken: 1,
         exit: (3, START + 4),
@@ -246,11 +215,7 @@ static RESERVATIONS: [Row; 15] = [
     },
     Row {
         name: "a second LR takes the place of the first",
-        code: &[
-            0x1004_22AF, // lr.w x5, (x8)
-            0x1004_B32F, // lr.d x6, (x9)
-            0x0010_0073, // ebreak
-        ],
+        code: &["lr.w x5, (x8)", "lr.d x6, (x9)", "ebreak"],
         given: &[(9, START + 0x1008)],
         taken: 2,
         exit: (3, START + 8),
@@ -260,10 +225,7 @@ static RESERVATIONS: [Row; 15] = [
     },
     Row {
         name: "LR into x0 reserves too",
-        code: &[
-            0x1004_302F, // lr.d x0, (x8)
-            0x0010_0073, // ebreak
-        ],
+        code: &["lr.d x0, (x8)", "ebreak"],
         taken: 1,
         exit: (3, START + 4),
         gives: &[(0, 0)],
@@ -273,10 +235,10 @@ static RESERVATIONS: [Row; 15] = [
     Row {
         name: "SC into x0, made and not made",
         code: &[
-            0x1004_302F, // lr.d x0, (x8)
-            0x1874_302F, // sc.d x0, x7, (x8)
-            0x1894_302F, // sc.d x0, x9, (x8)
-            0x0010_0073, // ebreak
+            "lr.d x0, (x8)",
+            "sc.d x0, x7, (x8)",
+            "sc.d x0, x9, (x8)",
+            "ebreak",
         ],
         given: &[(7, 0x1122_3344_5566_7788), (9, 5)],
         taken: 3,
@@ -288,10 +250,10 @@ static RESERVATIONS: [Row; 15] = [
     Row {
         name: "SC into the register that it stores",
         code: &[
-            0x1004_342F, // lr.d x8, (x8)
-            0x0004_8413, // addi x8, x9, 0
-            0x1874_33AF, // sc.d x7, x7, (x8)
-            0x0010_0073, // ebreak
+            "lr.d x8, (x8)",
+            "addi x8, x9, 0",
+            "sc.d x7, x7, (x8)",
+            "ebreak",
         ],
         given: &[(7, 0x1122_3344_5566_7788), (9, START + 0x1000)],
         taken: 3,
@@ -302,10 +264,7 @@ static RESERVATIONS: [Row; 15] = [
     },
     Row {
         name: "an SC that traps keeps the reservation",
-        code: &[
-            0x1004_22AF, // lr.w x5, (x8)
-            0x1874_A32F, // sc.w x6, x7, (x9)
-        ],
+        code: &["lr.w x5, (x8)", "sc.w x6, x7, (x9)"],
         given: &[(6, 9), (9, START + 0x1002)],
         taken: 1,
         exit: (6, START + 0x1002),
@@ -315,10 +274,7 @@ static RESERVATIONS: [Row; 15] = [
     },
     Row {
         name: "an SC outside memory keeps the reservation",
-        code: &[
-            0x1004_32AF, // lr.d x5, (x8)
-            0x1874_B32F, // sc.d x6, x7, (x9)
-        ],
+        code: &["lr.d x5, (x8)", "sc.d x6, x7, (x9)"],
         given: &[(6, 9), (9, START + 0x2000)],
         taken: 1,
         exit: (7, START + 0x2000),
@@ -329,12 +285,12 @@ static RESERVATIONS: [Row; 15] = [
     Row {
         name: "reservations apart, with LR",
         code: &[
-            0x0000_0297, // auipc x5, 0
-            0x1002_A32F, // lr.w x6, (x5)
-            0x1802_A52F, // sc.w x10, x0, (x5)
-            0x0305_0513, // addi x10, x10, 48
-            0x0010_0893, // addi x17, x0, 1
-            0x0000_0073, // ecall
+            "auipc x5, 0",
+            "lr.w x6, (x5)",
+            "sc.w x10, x0, (x5)",
+            "addi x10, x10, 48",
+            "addi x17, x0, 1",
+            "ecall",
         ],
         given: &[(10, 9)],
         taken: 5,
@@ -345,11 +301,11 @@ static RESERVATIONS: [Row; 15] = [
     Row {
         name: "reservations apart, without LR",
         code: &[
-            0x0000_0297, // auipc x5, 0
-            0x1802_A52F, // sc.w x10, x0, (x5)
-            0x0305_0513, // addi x10, x10, 48
-            0x0010_0893, // addi x17, x0, 1
-            0x0000_0073, // ecall
+            "auipc x5, 0",
+            "sc.w x10, x0, (x5)",
+            "addi x10, x10, 48",
+            "addi x17, x0, 1",
+            "ecall",
         ],
         given: &[(10, 9)],
         taken: 4,
@@ -363,11 +319,7 @@ static RESERVATIONS: [Row; 15] = [
 static ATOMICS: [Row; 9] = [
     Row {
         name: "AMOADD.W with a dirty upper half",
-        code: &[
-            0x0064_22AF, // amoadd.w x5, x6, (x8)
-            0x0064_A3AF, // amoadd.w x7, x6, (x9)
-            0x0010_0073, // ebreak
-        ],
+        code: &["amoadd.w x5, x6, (x8)", "amoadd.w x7, x6, (x9)", "ebreak"],
         given: &[(6, 0xDEAD_BEEF_0000_0001), (9, START + 0x1004)],
         taken: 2,
         exit: (3, START + 8),
@@ -377,10 +329,7 @@ static ATOMICS: [Row; 9] = [
     },
     Row {
         name: "AMOADD.W wraps in its word",
-        code: &[
-            0x0064_22AF, // amoadd.w x5, x6, (x8)
-            0x0010_0073, // ebreak
-        ],
+        code: &["amoadd.w x5, x6, (x8)", "ebreak"],
         given: &[(6, 0x89AB_CDF0)],
         taken: 1,
         exit: (3, START + 4),
@@ -391,10 +340,10 @@ static ATOMICS: [Row; 9] = [
     Row {
         name: "AMOMIN.W and AMOMAX.W are signed",
         code: &[
-            0x8064_A2AF, // amomin.w x5, x6, (x9)
-            0xA064_A3AF, // amomax.w x7, x6, (x9)
-            0x0044_2503, // lw x10, 4(x8)
-            0x0010_0073, // ebreak
+            "amomin.w x5, x6, (x9)",
+            "amomax.w x7, x6, (x9)",
+            "lw x10, 4(x8)",
+            "ebreak",
         ],
         given: &[(6, 0xDEAD_BEEF_0000_0001), (9, START + 0x1004)],
         taken: 3,
@@ -410,10 +359,10 @@ static ATOMICS: [Row; 9] = [
     Row {
         name: "AMOMAXU.W and AMOMINU.W are not",
         code: &[
-            0xE064_A2AF, // amomaxu.w x5, x6, (x9)
-            0xC064_A3AF, // amominu.w x7, x6, (x9)
-            0x0044_2503, // lw x10, 4(x8)
-            0x0010_0073, // ebreak
+            "amomaxu.w x5, x6, (x9)",
+            "amominu.w x7, x6, (x9)",
+            "lw x10, 4(x8)",
+            "ebreak",
         ],
         given: &[(6, 0xDEAD_BEEF_0000_0001), (9, START + 0x1004)],
         taken: 3,
@@ -428,11 +377,7 @@ static ATOMICS: [Row; 9] = [
     },
     Row {
         name: "AMOMIN.D and AMOMAX.D",
-        code: &[
-            0x8064_32AF, // amomin.d x5, x6, (x8)
-            0xA064_33AF, // amomax.d x7, x6, (x8)
-            0x0010_0073, // ebreak
-        ],
+        code: &["amomin.d x5, x6, (x8)", "amomax.d x7, x6, (x8)", "ebreak"],
         given: &[(6, 1)],
         taken: 2,
         exit: (3, START + 8),
@@ -442,11 +387,7 @@ static ATOMICS: [Row; 9] = [
     },
     Row {
         name: "AMOMAXU.D and AMOMINU.D",
-        code: &[
-            0xE064_32AF, // amomaxu.d x5, x6, (x8)
-            0xC064_33AF, // amominu.d x7, x6, (x8)
-            0x0010_0073, // ebreak
-        ],
+        code: &["amomaxu.d x5, x6, (x8)", "amominu.d x7, x6, (x8)", "ebreak"],
         given: &[(6, 1)],
         taken: 2,
         exit: (3, START + 8),
@@ -457,10 +398,10 @@ static ATOMICS: [Row; 9] = [
     Row {
         name: "AMOXOR.D, AMOAND.D and AMOOR.D",
         code: &[
-            0x2064_32AF, // amoxor.d x5, x6, (x8)
-            0x6094_33AF, // amoand.d x7, x9, (x8)
-            0x40B4_352F, // amoor.d x10, x11, (x8)
-            0x0010_0073, // ebreak
+            "amoxor.d x5, x6, (x8)",
+            "amoand.d x7, x9, (x8)",
+            "amoor.d x10, x11, (x8)",
+            "ebreak",
         ],
         given: &[
             (6, 0xFFFF_FFFF_FFFF_FFFF),
@@ -479,10 +420,7 @@ static ATOMICS: [Row; 9] = [
     },
     Row {
         name: "AMOSWAP into x0 stores too",
-        code: &[
-            0x0864_302F, // amoswap.d x0, x6, (x8)
-            0x0010_0073, // ebreak
-        ],
+        code: &["amoswap.d x0, x6, (x8)", "ebreak"],
         given: &[(6, 0x1122_3344_5566_7788)],
         taken: 1,
         exit: (3, START + 4),
@@ -492,11 +430,7 @@ static ATOMICS: [Row; 9] = [
     },
     Row {
         name: "AMOADD into its operand, and AMOSWAP into its address",
-        code: &[
-            0x0064_332F, // amoadd.d x6, x6, (x8)
-            0x0864_242F, // amoswap.w x8, x6, (x8)
-            0x0010_0073, // ebreak
-        ],
+        code: &["amoadd.d x6, x6, (x8)", "amoswap.w x8, x6, (x8)", "ebreak"],
         given: &[(6, 1)],
         taken: 2,
         exit: (3, START + 8),

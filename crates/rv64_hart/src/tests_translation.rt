@@ -2,10 +2,10 @@
 // Architecture 20211203, 4.1.1, 4.3.1, 4.3.2 and 4.4), with V = 1 from 8.2.11 and 8.6.1; entries by hand from
 // the format of 4.4.1: the physical page number from bit 10 on, D A G U X W R V in bits 7 to 0.
 
-use crate::test_programs::{DATA, HELD, doubleword, put, trap};
+use crate::test_programs::{DATA, HELD, doubleword, put, put_program, trap};
 use crate::{Hart, PhysMem, Stop, Tally, Why};
 use arch_defs::{Mode, SupervisorMode, SupervisorRoot, Virtual};
-use phys_mem::NoMemory;
+use sample_programs::LineFault;
 use std::alloc::Global;
 use std::process::Abort;
 use std::test::Fail;
@@ -39,13 +39,13 @@ const SMALL: u64 = 0x0400;
 
 const LARGE: u64 = 0;
 
-const LOAD: u32 = 0x0004_B283; // ld x5, 0(x9)
+const LOAD: &str = "ld x5, 0(x9)";
 
-const STORE: u32 = 0x0064_B023; // sd x6, 0(x9)
+const STORE: &str = "sd x6, 0(x9)";
 
-const JUMP: u32 = 0x0084_8067; // jalr x0, 8(x9)
+const JUMP: &str = "jalr x0, 8(x9)";
 
-const EBREAK: u32 = 0x0010_0073;
+const EBREAK: &str = "ebreak";
 
 // As whom an access is made: the mode, vsstatus.SUM, vsstatus.MXR and sstatus.MXR.
 type Accessor = (Mode, bool, bool, bool);
@@ -92,15 +92,14 @@ fn hart_for(accessor: Accessor, address: u64) -> Hart {
 fn memory_for(
     alloc: Global,
     mode: Mode,
-    code: u32,
+    code: &str,
     entries: &[(u64, u64)],
-) -> Result<PhysMem, NoMemory> {
+) -> Result<PhysMem, LineFault> {
     let mut memory = PhysMem::new(alloc, FRAMES)?;
-    put(&mut memory, 0, 4, code as u64);
-    put(&mut memory, 4, 4, EBREAK as u64);
+    put_program(alloc, &mut memory, 0, &[code, EBREAK])?;
     for frame in [0x1000, 0x7000] {
         put(&mut memory, frame, 8, HELD);
-        put(&mut memory, frame ^ 8, 4, EBREAK as u64);
+        put_program(alloc, &mut memory, frame ^ 8, &[EBREAK])?;
     }
     let bits = if mode == Mode::VU { 0xDF } else { 0xCF };
     put(&mut memory, CODE_ENTRY, 8, LARGE | bits);
@@ -118,7 +117,7 @@ fn check_one(
     accessor: Accessor,
     entries: &[(u64, u64)],
     address: u64,
-    access: (u32, u64),
+    access: (&str, u64),
 ) -> Result<(), Fail> {
     let (code, cause) = access;
     let (mode, _, _, _) = accessor;
@@ -301,11 +300,11 @@ fn walks(rt: HostRuntime) -> Result<(), Fail> {
 #[test]
 fn misaligned_comes_first(rt: HostRuntime) -> Result<(), Fail> {
     for (code, offset, cause) in [
-        (0x0014_A283, 1, 4), // lw x5, 1(x9)
-        (0x0054_A123, 2, 6), // sw x5, 2(x9)
-        (0x1004_B2AF, 0, 13), // lr.d x5, (x9)
-        (0x1864_B2AF, 0, 15), // sc.d x5, x6, (x9)
-        (0x0064_B2AF, 0, 15), // amoadd.d x5, x6, (x9)
+        ("lw x5, 1(x9)", 1, 4),
+        ("sw x5, 2(x9)", 2, 6),
+        ("lr.d x5, (x9)", 0, 13),
+        ("sc.d x5, x6, (x9)", 0, 15),
+        ("amoadd.d x5, x6, (x9)", 0, 15),
     ] {
         let mut memory = memory_for(rt.alloc(), Mode::VS, code, &[])?;
         let mut hart = hart_for(SUPERVISOR, ADDRESS);
@@ -326,7 +325,7 @@ fn places_are_physical(rt: HostRuntime) -> Result<(), Fail> {
     assert_eq!(rt; doubleword(&memory, 0x1010), 0x1122_3344_5566_7788);
     assert_eq!(rt; doubleword(&memory, 0x7010), 0);
 
-    let mut memory = memory_for(rt.alloc(), Mode::VS, 0x1004_B2AF, &entries)?; // lr.d x5, (x9)
+    let mut memory = memory_for(rt.alloc(), Mode::VS, "lr.d x5, (x9)", &entries)?;
     let mut hart = hart_for(SUPERVISOR, ADDRESS);
     hart.run(&mut memory, 1, false, &mut Tally::new());
     assert_eq!(rt; hart.state().reservation, Some((DATA, 8)));

@@ -3,20 +3,20 @@
 
 ghost use Rattle.std.specs.Prelude.{◌≤◌};
 
-use crate::test_programs::{START, loaded, put, trap};
+use crate::test_programs::{START, loaded, put_program, trap};
 use crate::{Hart, PhysMem, Stop, Tally, Why};
 use arch_defs::{HartState, Interrupts, Mode, SupervisorStatus, Trap, Virtual};
 use std::test::Fail;
 
 const HANDLER: u64 = START + 0x100;
 
-const ADDI: u32 = 0x0012_8293; // addi x5, x5, 1
+const ADDI: &str = "addi x5, x5, 1";
 
-const EBREAK: u32 = 0x0010_0073;
+const EBREAK: &str = "ebreak";
 
-const ECALL: u32 = 0x0000_0073;
+const ECALL: &str = "ecall";
 
-const LOAD: u32 = 0x0004_B283; // ld x5, 0(x9)
+const LOAD: &str = "ld x5, 0(x9)";
 
 const TIMER: Interrupts = Interrupts {
     software: false,
@@ -70,10 +70,10 @@ fn delegated_exceptions(rt: HostRuntime) -> Result<(), Fail> {
     for (code, hedeleg, mode, sie, cause, tval) in [
         (LOAD, 0x0020, Mode::VS, true, 5, 0x9000_0000), // past memory
         (LOAD, 0x0020, Mode::VU, false, 5, 0x9000_0000),
-        (0x0014_A283, 0x0010, Mode::VS, false, 4, 0x9000_0001), // lw x5, 1(x9)
+        ("lw x5, 1(x9)", 0x0010, Mode::VS, false, 4, 0x9000_0001),
         (ECALL, 0x0100, Mode::VU, true, 8, 0),
         (EBREAK, 0x0008, Mode::VS, true, 3, START),
-        (0x0000_0000, 0x0004, Mode::VU, true, 2, 0),
+        (".word 0", 0x0004, Mode::VU, true, 2, 0),
     ] {
         let mut memory = loaded(rt.alloc(), 2, &[code])?;
         let mut state = state_in(mode);
@@ -96,14 +96,14 @@ fn delegated_exceptions(rt: HostRuntime) -> Result<(), Fail> {
     Ok(())
 }
 
-// The same code without hedeleg, and codes that it never has: ECALL from VS, 10, and the virtual instruction,
-// 22, of CSRRS x5, hstatus.
+// The same code without hedeleg, and codes that it never has: ECALL from VS, 10, and a virtual instruction,
+// 22.
 #[test]
 fn exceptions_to_hs(rt: HostRuntime) -> Result<(), Fail> {
     for (code, hedeleg, cause, tval) in [
         (LOAD, 0xB1DF, 5, 0x9000_0000),
         (ECALL, 0xB1FF, 10, 0),
-        (0x6000_22F3, 0xB1FF, 22, 0x6000_22F3),
+        ("csrrs x5, hstatus, x0", 0xB1FF, 22, 0x6000_22F3),
     ] {
         let mut memory = loaded(rt.alloc(), 2, &[code])?;
         let mut state = state_in(Mode::VS);
@@ -129,7 +129,7 @@ fn watched_runs_end_in_vs(rt: HostRuntime) -> Result<(), Fail> {
         (false, 4, 4, Why::Limit, HANDLER + 4, 0x0037_88BD),
     ] {
         let mut memory = loaded(rt.alloc(), 2, &[ADDI, ADDI, ECALL])?;
-        put(&mut memory, 0x100, 4, ADDI as u64);
+        put_program(rt.alloc(), &mut memory, HANDLER, &[ADDI])?;
         let mut state = state_in(Mode::VU);
         state.csrs.hedeleg = 0x100;
         let mut hart = Hart::new();
@@ -152,7 +152,7 @@ fn interrupts_to_vs(rt: HostRuntime) -> Result<(), Fail> {
         (Mode::VS, true, HANDLER, HANDLER),
         (Mode::VU, false, HANDLER + 1, HANDLER + 20),
     ] {
-        let mut memory = loaded(rt.alloc(), 2, &[0])?;
+        let mut memory = loaded(rt.alloc(), 2, &[".word 0"])?;
         let mut state = interrupted(mode, TIMER, sie);
         state.csrs.vs.tvec = tvec;
         let (stop, after) = run_from(state, &mut memory, 1, true);
@@ -208,13 +208,13 @@ fn registers_in_vs(rt: HostRuntime) -> Result<(), Fail> {
         rt.alloc(),
         2,
         &[
-            0x1403_12F3, // csrrw x5, sscratch, x6
-            0x1402_A3F3, // csrrs x7, sscratch, x5
-            0x1400_2473, // csrrs x8, sscratch, x0
-            0x1404_D4F3, // csrrwi x9, sscratch, 9
-            0x1000_2573, // csrrs x10, sstatus, x0
-            0xC010_25F3, // csrrs x11, time, x0
-            0xC010_1073, // csrrw x0, time, x0
+            "csrrw x5, sscratch, x6",
+            "csrrs x7, sscratch, x5",
+            "csrrs x8, sscratch, x0",
+            "csrrwi x9, sscratch, 9",
+            "csrrs x10, sstatus, x0",
+            "csrrs x11, time, x0",
+            "csrrw x0, time, x0",
         ],
     )?;
     let mut state = state_in(Mode::VS);
@@ -245,7 +245,7 @@ fn returns_from_vs(rt: HostRuntime) -> Result<(), Fail> {
         (true, false, Mode::VS),
         (true, true, Mode::VS),
     ] {
-        let mut memory = loaded(rt.alloc(), 2, &[0x1020_0073])?; // sret
+        let mut memory = loaded(rt.alloc(), 2, &["sret"])?;
         let mut state = state_in(Mode::VS);
         state.csrs.vs.epc = HANDLER;
         state.csrs.vs.status = status(false, true, spp);
@@ -265,23 +265,23 @@ fn returns_from_vs(rt: HostRuntime) -> Result<(), Fail> {
     Ok(())
 }
 
-// WFI, SFENCE.VMA, HFENCE.VVMA, HFENCE.GVMA and HLV.W, by mode and by VTW and VTVM: made, or the code of the
-// exception.
+// WFI, SFENCE.VMA, HFENCE.VVMA, HFENCE.GVMA and HLV.W, by mode and by VTW and VTVM: made, or the code and
+// the value of the exception.
 #[test]
 fn waits_and_fences(rt: HostRuntime) -> Result<(), Fail> {
-    for (code, mode, traps, cause) in [
-        (0x1050_0073u32, Mode::VS, false, 0),
-        (0x1050_0073, Mode::VS, true, 22),
-        (0x1050_0073, Mode::VU, false, 22),
-        (0x1200_0073, Mode::VS, false, 0),
-        (0x1200_0073, Mode::VS, true, 22),
-        (0x1200_0073, Mode::VU, false, 22),
-        (0x2200_0073, Mode::VS, false, 22),
-        (0x6200_0073, Mode::VS, false, 22),
-        (0x6200_0073, Mode::VU, false, 22),
-        (0x6803_42F3, Mode::VS, false, 22),
+    for (line, mode, traps, cause, tval) in [
+        ("wfi", Mode::VS, false, 0, 0),
+        ("wfi", Mode::VS, true, 22, 0x1050_0073),
+        ("wfi", Mode::VU, false, 22, 0x1050_0073),
+        ("sfence.vma x0, x0", Mode::VS, false, 0, 0),
+        ("sfence.vma x0, x0", Mode::VS, true, 22, 0x1200_0073),
+        ("sfence.vma x0, x0", Mode::VU, false, 22, 0x1200_0073),
+        ("hfence.vvma x0, x0", Mode::VS, false, 22, 0x2200_0073),
+        ("hfence.gvma x0, x0", Mode::VS, false, 22, 0x6200_0073),
+        ("hfence.gvma x0, x0", Mode::VU, false, 22, 0x6200_0073),
+        ("hlv.w x5, (x6)", Mode::VS, false, 22, 0x6803_42F3),
     ] {
-        let mut memory = loaded(rt.alloc(), 2, &[code])?;
+        let mut memory = loaded(rt.alloc(), 2, &[line])?;
         let mut state = state_in(mode);
         state.csrs.hstatus.vtw = traps;
         state.csrs.hstatus.vtvm = traps;
@@ -291,7 +291,7 @@ fn waits_and_fences(rt: HostRuntime) -> Result<(), Fail> {
             assert_eq!(rt; stop, Stop { taken: 1, why });
             assert_eq!(rt; after.regs.pc, START + 4);
         } else {
-            let why = Why::Exit(trap(cause, code as u64));
+            let why = Why::Exit(trap(cause, tval));
             assert_eq!(rt; stop, Stop { taken: 0, why });
             assert_eq!(rt; after, state);
         }

@@ -1,0 +1,11 @@
+// Programs of tests, as lines of assembly.
+#![tactic(auto)]
+
+mod line;
+mod names;
+mod ops;
+mod programs;
+#[cfg(test)]
+mod tests;
+
+pub use programs::{LineFault, words};
