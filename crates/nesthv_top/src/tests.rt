@@ -2,6 +2,7 @@ use crate::{nesthv, program};
 use no_memory::NoMemory;
 use outside::{Asked, CleanSink, ListSink, MapStore, Word};
 use rv64_hart::Tally;
+use sample_programs::{LineFault, words};
 use std::alloc::Global;
 use std::test::Fail;
 
@@ -67,38 +68,34 @@ const SQUARES: [u32; 22] = [
 ];
 
 /// Sets stvec to `HANDLER`. What is tried stands behind it, at 0x8000000C.
-const SETS_HANDLER: [u32; 3] = [
-    0x0000_0297, // auipc t0, 0
-    0x0402_8293, // addi t0, t0, 64
-    0x1052_9073, // csrrw zero, stvec, t0
-];
+const SETS_HANDLER: [&str; 3] = ["auipc t0, 0", "addi t0, t0, 64", "csrrw zero, stvec, t0"];
 
 /// Where the handler stands in an image.
 const HANDLER_AT: usize = 64;
 
 /// Puts scause as a digit, a space, and stval as sixteen hexadecimal digits, and stops: 10 + 16 * 11 steps.
-const HANDLER: [u32; 21] = [
-    0x0010_0893, // addi a7, zero, 1
-    0x1420_2573, // csrrs a0, scause, zero
-    0x0305_0513, // addi a0, a0, 48
-    0x0000_0073, // ecall
-    0x0200_0513, // addi a0, zero, 32
-    0x0000_0073, // ecall
-    0x1430_2473, // csrrs s0, stval, zero
-    0x0400_0493, // addi s1, zero, 64
-    0xFFC4_8493, // addi s1, s1, -4
-    0x0094_5533, // srl a0, s0, s1
-    0x00F5_7513, // andi a0, a0, 15
-    0x0065_0293, // addi t0, a0, 6
-    0x0042_D293, // srli t0, t0, 4
-    0x0032_9313, // slli t1, t0, 3
-    0x4053_0333, // sub t1, t1, t0
-    0x0065_0533, // add a0, a0, t1
-    0x0305_0513, // addi a0, a0, 48
-    0x0000_0073, // ecall
-    0xFC04_9CE3, // bne s1, zero, -40
-    0x0080_0893, // addi a7, zero, 8
-    0x0000_0073, // ecall
+const HANDLER: [&str; 21] = [
+    "addi a7, zero, 1",
+    "csrrs a0, scause, zero",
+    "addi a0, a0, 48",
+    "ecall",
+    "addi a0, zero, 32",
+    "ecall",
+    "csrrs s0, stval, zero",
+    "addi s1, zero, 64",
+    "digit: addi s1, s1, -4",
+    "srl a0, s0, s1",
+    "andi a0, a0, 15",
+    "addi t0, a0, 6",
+    "srli t0, t0, 4",
+    "slli t1, t0, 3",
+    "sub t1, t1, t0",
+    "add a0, a0, t1",
+    "addi a0, a0, 48",
+    "ecall",
+    "bnez s1, digit",
+    "addi a7, zero, 8",
+    "ecall",
 ];
 
 /// The bytes of a block of RAM.
@@ -186,6 +183,20 @@ pub fn append_at(bytes: &mut Vec<u8>, doublewords: &[(usize, u64)]) -> Result<()
         bytes.extend_from_slice(&value.to_le_bytes())?;
     }
     Ok(())
+}
+
+/// Appends the instructions of these lines.
+pub fn append_lines(bytes: &mut Vec<u8>, lines: &[&str]) -> Result<(), LineFault> {
+    let program = words(*bytes.allocator(), lines)?;
+    append(bytes, program.as_slice())?;
+    Ok(())
+}
+
+/// The bytes of the instructions of these lines.
+pub fn assembled(alloc: Global, lines: &[&str]) -> Result<Vec<u8>, LineFault> {
+    let mut bytes = Vec::new(alloc);
+    append_lines(&mut bytes, lines)?;
+    Ok(bytes)
 }
 
 /// The bytes of these instructions, and zeros after them up to this length.
@@ -333,27 +344,7 @@ pub fn is_reported(alloc: Global, case: Case<'_>, report: &str) -> Result<bool, 
 
 /// Images, each with its length if zeros come after the instructions, and the report of one turn of 10,000
 /// steps.
-const IMAGES: [(&[u32], usize, &str); 7] = [
-    // jal zero, 0
-    (&[0x0000_006F], 0, "guest a running steps 10000 bytes 0\n\n"),
-    // hfence.gvma zero, zero; wfi
-    (
-        &[0x6200_0073, 0x1050_0073],
-        0,
-        "guest a waiting steps 1 bytes 0\n\n",
-    ),
-    // hfence.vvma zero, zero; csrrs a0, hstatus, zero; csrrw zero, vsstatus, a0; hfence.gvma zero, zero; wfi
-    (
-        &[
-            0x2200_0073,
-            0x6000_2573,
-            0x2005_1073,
-            0x6200_0073,
-            0x1050_0073,
-        ],
-        0,
-        "guest a waiting steps 4 bytes 0\n\n",
-    ),
+const IMAGES: [(&[u32], usize, &str); 4] = [
     (&PUTS_A, BLOCK, "guest a stopped steps 5 bytes 1\nA\n"),
     (
         &SQUARES,
@@ -364,102 +355,135 @@ const IMAGES: [(&[u32], usize, &str); 7] = [
     (&DOES_NOT_RESERVE, 0, "guest a stopped steps 7 bytes 1\n1\n"),
 ];
 
+/// Programs that put nothing, each with the report of such a turn.
+const SILENT: [(&[&str], &str); 3] = [
+    (&["j .+0"], "guest a running steps 10000 bytes 0\n\n"),
+    (
+        &["hfence.gvma zero, zero", "wfi"],
+        "guest a waiting steps 1 bytes 0\n\n",
+    ),
+    (
+        &[
+            "hfence.vvma zero, zero",
+            "csrr a0, hstatus",
+            "csrw vsstatus, a0",
+            "hfence.gvma zero, zero",
+            "wfi",
+        ],
+        "guest a waiting steps 4 bytes 0\n\n",
+    ),
+];
+
+/// Whether one turn of 10,000 steps of an image ends with this report.
+fn is_reported_of_turn(alloc: Global, image: &[u8], report: &str) -> Result<bool, NoMemory> {
+    let case = Case {
+        image,
+        quantum: 10_000,
+        rounds: 1,
+        console: 100,
+        inputs: "",
+    };
+    is_reported(alloc, case, report)
+}
+
 #[test]
 fn reports_of_images(rt: HostRuntime) -> Result<(), Fail> {
     for (words, length, report) in IMAGES {
         let image = image(rt.alloc(), words, length)?;
-        let case = Case {
-            image: image.as_slice(),
-            quantum: 10_000,
-            rounds: 1,
-            console: 100,
-            inputs: "",
-        };
-        assert!(rt; is_reported(rt.alloc(), case, report)?, "{report}");
+        assert!(rt;
+            is_reported_of_turn(rt.alloc(), image.as_slice(), report)?,
+            "{report}"
+        );
+    }
+    for (lines, report) in SILENT {
+        let image = assembled(rt.alloc(), lines)?;
+        assert!(rt;
+            is_reported_of_turn(rt.alloc(), image.as_slice(), report)?,
+            "{report}"
+        );
     }
     Ok(())
 }
 
 /// Instructions that trap behind `SETS_HANDLER`, each with its report: the three steps before them, those
 /// that they make, the trap, and the 186 steps of the handler, which puts code and value.
-const TRAPS: [(&[u32], &str); 12] = [
-    // lui t0, 1; the word 0 is illegal
+const TRAPS: [(&[&str], &str); 12] = [
+    // The word 0 is illegal.
     (
-        &[0x0000_12B7, 0],
+        &["lui t0, 1", ".word 0"],
         "guest a stopped steps 191 bytes 18\n2 0000000000000000\n",
     ),
-    // no instruction at all
+    // No instruction at all.
     (
         &[],
         "guest a stopped steps 190 bytes 18\n2 0000000000000000\n",
     ),
-    // jal zero, 2, which is misaligned
+    // Misaligned.
     (
-        &[0x0020_006F],
+        &["j .+2"],
         "guest a stopped steps 190 bytes 18\n0 000000008000000E\n",
     ),
-    // jal zero, -16, out of memory: the jump is made, and the fetch traps
+    // Out of memory: the jump is made, and the fetch traps.
     (
-        &[0xFF1F_F06F],
+        &["j .-16"],
         "guest a stopped steps 191 bytes 18\n1 000000007FFFFFFC\n",
     ),
-    // ebreak
     (
-        &[0x0010_0073],
+        &["ebreak"],
         "guest a stopped steps 190 bytes 18\n3 000000008000000C\n",
     ),
-    // lw zero, 2(zero), which is misaligned
+    // Misaligned.
     (
-        &[0x0020_2003],
+        &["lw zero, 2(zero)"],
         "guest a stopped steps 190 bytes 18\n4 0000000000000002\n",
     ),
-    // lw zero, 0(zero), where there is no memory
+    // There is no memory.
     (
-        &[0x0000_2003],
+        &["lw zero, 0(zero)"],
         "guest a stopped steps 190 bytes 18\n5 0000000000000000\n",
     ),
-    // sw zero, 2(zero), which is misaligned
+    // Misaligned.
     (
-        &[0x0000_2123],
+        &["sw zero, 2(zero)"],
         "guest a stopped steps 190 bytes 18\n6 0000000000000002\n",
     ),
-    // sw zero, 0(zero), where there is no memory
+    // There is no memory.
     (
-        &[0x0000_2023],
+        &["sw zero, 0(zero)"],
         "guest a stopped steps 190 bytes 18\n7 0000000000000000\n",
     ),
-    // csrrs a0, cycle, zero, which is unlisted
+    // Unlisted.
     (
-        &[0xC000_2573],
+        &["csrr a0, cycle"],
         "guest a stopped steps 190 bytes 18\n2 00000000C0002573\n",
     ),
-    // csrrw zero, time, zero, which is read-only
+    // Read-only.
     (
-        &[0xC010_1073],
+        &["csrw time, zero"],
         "guest a stopped steps 190 bytes 18\n2 00000000C0101073\n",
     ),
-    // mret, which is not in the table
+    // MRET is not in the table.
     (
-        &[0x3020_0073],
+        &[".word 0x30200073"],
         "guest a stopped steps 190 bytes 18\n2 0000000030200073\n",
     ),
 ];
 
 /// The handler, and these instructions behind those that set it.
-fn trapping_image(alloc: Global, words: &[u32]) -> Result<Vec<u8>, NoMemory> {
-    let mut bytes = image(alloc, &SETS_HANDLER, 0)?;
-    append(&mut bytes, words)?;
+fn trapping_image(alloc: Global, lines: &[&str]) -> Result<Vec<u8>, LineFault> {
+    let mut bytes = assembled(alloc, &SETS_HANDLER)?;
+    append_lines(&mut bytes, lines)?;
     if bytes.len() < HANDLER_AT {
         bytes.resize(HANDLER_AT, 0)?;
     }
-    append(&mut bytes, &HANDLER)?;
+    append_lines(&mut bytes, &HANDLER)?;
     Ok(bytes)
 }
 
 #[test]
 fn reports_of_traps(rt: HostRuntime) -> Result<(), Fail> {
-    for (words, report) in TRAPS {
-        let image = trapping_image(rt.alloc(), words)?;
+    for (lines, report) in TRAPS {
+        let image = trapping_image(rt.alloc(), lines)?;
         assert!(rt;
             is_reported_of_bytes(rt.alloc(), image.as_slice(), report)?,
             "{report}"
@@ -612,23 +636,23 @@ fn configurations_refused(rt: HostRuntime) -> Result<(), Fail> {
 
 /// Under Sv39, puts the byte of a page, stores another entry for the page, puts the byte
 /// that the page then has, and stops.
-const SUPERVISOR: [u32; 16] = [
-    0x0000_0417, // auipc s0, 0
-    0x4004_3283, // ld t0, 0x400(s0)
-    0x1802_9073, // csrrw zero, satp, t0
-    0x0000_14B7, // lui s1, 1
-    0x0000_63B7, // lui t2, 6
-    0x0083_83B3, // add t2, t2, s0
-    0x0004_C503, // lbu a0, 0(s1)
-    0x0010_0893, // addi a7, zero, 1
-    0x0000_0073, // ecall
-    0x4084_3303, // ld t1, 0x408(s0)
-    0x0063_B423, // sd t1, 8(t2)
-    0x0004_C503, // lbu a0, 0(s1)
-    0x0010_0893, // addi a7, zero, 1
-    0x0000_0073, // ecall
-    0x0080_0893, // addi a7, zero, 8
-    0x0000_0073, // ecall
+const SUPERVISOR: [&str; 16] = [
+    "auipc s0, 0",
+    "ld t0, 0x400(s0)",
+    "csrrw zero, satp, t0",
+    "lui s1, 1",
+    "lui t2, 6",
+    "add t2, t2, s0",
+    "lbu a0, 0(s1)",
+    "addi a7, zero, 1",
+    "ecall",
+    "ld t1, 0x408(s0)",
+    "sd t1, 8(t2)",
+    "lbu a0, 0(s1)",
+    "addi a7, zero, 1",
+    "ecall",
+    "addi a7, zero, 8",
+    "ecall",
 ];
 
 /// What stands behind these instructions, each doubleword at its offset.
@@ -644,25 +668,25 @@ const TABLES: [(usize, u64); 8] = [
 ];
 
 /// Lets the software interrupt come in a loop, and puts its code as a digit.
-const INTERRUPTED: [u32; 13] = [
-    0x0000_0317, // auipc t1, 0
-    0x01C3_0313, // addi t1, t1, 28
-    0x1053_1073, // csrrw zero, stvec, t1
-    0x1041_6073, // csrrsi zero, sie, 2
-    0x1441_6073, // csrrsi zero, sip, 2
-    0x1001_6073, // csrrsi zero, sstatus, 2
-    0x0000_006F, // jal zero, 0
-    0x1420_2573, // csrrs a0, scause, zero
-    0x0305_0513, // addi a0, a0, 48
-    0x0010_0893, // addi a7, zero, 1
-    0x0000_0073, // ecall
-    0x0080_0893, // addi a7, zero, 8
-    0x0000_0073, // ecall
+const INTERRUPTED: [&str; 13] = [
+    "auipc t1, 0",
+    "addi t1, t1, 28",
+    "csrrw zero, stvec, t1",
+    "csrrsi zero, sie, 2",
+    "csrrsi zero, sip, 2",
+    "csrrsi zero, sstatus, 2",
+    "jal zero, .+0",
+    "csrrs a0, scause, zero",
+    "addi a0, a0, 48",
+    "addi a7, zero, 1",
+    "ecall",
+    "addi a7, zero, 8",
+    "ecall",
 ];
 
 /// The instructions and the tables.
-pub fn supervisor_image(alloc: Global) -> Result<Vec<u8>, NoMemory> {
-    let mut bytes = image(alloc, &SUPERVISOR, 0)?;
+pub fn supervisor_image(alloc: Global) -> Result<Vec<u8>, LineFault> {
+    let mut bytes = assembled(alloc, &SUPERVISOR)?;
     append_at(&mut bytes, &TABLES)?;
     Ok(bytes)
 }
@@ -718,7 +742,7 @@ fn a_stored_entry_is_seen(rt: HostRuntime) -> Result<(), Fail> {
 
 #[test]
 fn software_interrupt(rt: HostRuntime) -> Result<(), Fail> {
-    let image = image(rt.alloc(), &INTERRUPTED, 0)?;
+    let image = assembled(rt.alloc(), &INTERRUPTED)?;
     let report = "guest a stopped steps 13 bytes 1\n1\n";
     assert!(rt; is_reported_of_bytes(rt.alloc(), image.as_slice(), report)?);
     Ok(())

@@ -3,101 +3,97 @@
 
 ghost use Rattle.std.specs.Prelude.{◌≤◌};
 
-use crate::tests::{append, append_at};
+use crate::tests::{append_at, append_lines};
 use crate::tests_rooms::{Room, SMALL, traced};
 use no_memory::NoMemory;
+use sample_programs::LineFault;
 use std::alloc::Global;
 use std::test::Fail;
 
 /// For each command it sets hgatp, vsatp and sstatus, stores a doubleword, makes a fence, and runs the nested
 /// guest from a routine on with a pointer in a1. Of a call of the nested guest it puts a0, and of another
 /// trap the code plus 64, the page of htval, and htinst without its last twelve bits.
-const HYPERVISOR: [u32; 48] = [
-    0x0000_0417, // _start: auipc s0, 0
-    0x0704_0313, // addi t1, s0, 112
-    0x1053_1073, // csrw stvec, t1
-    0x0002_04B7, // lui s1, 0x20
-    0x0084_84B3, // add s1, s1, s0
-    0x0004_B303, // next: ld t1, 0(s1)
-    0x0A03_0063, // beqz t1, stop
-    0x6803_1073, // csrw hgatp, t1
-    0x0084_B303, // ld t1, 8(s1)
-    0x2803_1073, // csrw vsatp, t1
-    0x0104_B303, // ld t1, 16(s1)
-    0x1003_1073, // csrw sstatus, t1
-    0x0184_B303, // ld t1, 24(s1)
-    0x0204_B383, // ld t2, 32(s1)
-    0x0073_3023, // sd t2, 0(t1)
-    0x0284_A303, // lw t1, 40(s1)
-    0x0464_2823, // sw t1, 80(s0)
-    0x0000_100F, // fence.i
-    0x0304_B303, // ld t1, 48(s1)
-    0x0384_B383, // ld t2, 56(s1)
-    0x0000_0000, // .word 0
-    0x0404_B303, // ld t1, 64(s1)
-    0x1413_1073, // csrw sepc, t1
-    0x0484_B583, // ld a1, 72(s1)
-    0x0504_8493, // addi s1, s1, 80
-    0x0800_0313, // li t1, 0x80
-    0x6003_1073, // csrw hstatus, t1
-    0x1020_0073, // sret
-    0x1420_2373, // traps: csrr t1, scause
-    0x0010_0893, // li a7, 1
-    0xFF83_0393, // addi t2, t1, -8
-    0x0203_8A63, // beqz t2, byte
-    0xFF63_0393, // addi t2, t1, -10
-    0x0203_8663, // beqz t2, byte
-    0x0403_0513, // addi a0, t1, '@'
-    0x0000_0073, // ecall
-    0x6430_2573, // csrr a0, htval
-    0x00A5_5513, // srli a0, a0, 10
-    0x00F5_7513, // andi a0, a0, 15
-    0x0305_0513, // addi a0, a0, '0'
-    0x0000_0073, // ecall
-    0x64A0_2573, // csrr a0, htinst
-    0x00C5_5513, // srli a0, a0, 12
-    0x0305_0513, // addi a0, a0, '0'
-    0x0000_0073, // byte: ecall
-    0xF61F_F06F, // j next
-    0x0080_0893, // stop: li a7, 8
-    0x0000_0073, // ecall
+const HYPERVISOR: [&str; 48] = [
+    "auipc s0, 0",
+    "addi t1, s0, 112",
+    "csrw stvec, t1",
+    "lui s1, 0x20",
+    "add s1, s1, s0",
+    "next: ld t1, 0(s1)",
+    "beqz t1, stop",
+    "csrw hgatp, t1",
+    "ld t1, 8(s1)",
+    "csrw vsatp, t1",
+    "ld t1, 16(s1)",
+    "csrw sstatus, t1",
+    "ld t1, 24(s1)",
+    "ld t2, 32(s1)",
+    "sd t2, 0(t1)",
+    "lw t1, 40(s1)",
+    "sw t1, 80(s0)",
+    "fence.i",
+    "ld t1, 48(s1)",
+    "ld t2, 56(s1)",
+    ".word 0",
+    "ld t1, 64(s1)",
+    "csrw sepc, t1",
+    "ld a1, 72(s1)",
+    "addi s1, s1, 80",
+    "li t1, 0x80",
+    "csrw hstatus, t1",
+    "sret",
+    "traps: csrr t1, scause",
+    "li a7, 1",
+    "addi t2, t1, -8",
+    "beqz t2, byte",
+    "addi t2, t1, -10",
+    "beqz t2, byte",
+    "addi a0, t1, '@'",
+    "ecall",
+    "csrr a0, htval",
+    "srli a0, a0, 10",
+    "andi a0, a0, 15",
+    "addi a0, a0, '0'",
+    "ecall",
+    "csrr a0, htinst",
+    "srli a0, a0, 12",
+    "addi a0, a0, '0'",
+    "byte: ecall",
+    "j next",
+    "stop: li a7, 8",
+    "ecall",
 ];
 
 /// The routines of the nested guest, in page 0 of its physical addresses.
-const NESTED: [u32; 24] = [
-    0x0005_C503, // load: lbu a0, 0(a1)
-    0x0000_0073, // ecall
-    0x0000_0000, // .word 0
-    0x0000_0000, // .word 0
-    0x0530_0613, // store: li a2, 'S'
-    0x00C5_8023, // sb a2, 0(a1)
-    0x0730_0513, // li a0, 's'
-    0x0000_0073, // ecall
-    0x0005_8067, // execute: jr a1
-    0x0000_0000, // .word 0
-    0x0000_0000, // .word 0
-    0x0000_0000, // .word 0
-    0x0010_0613, // add: li a2, 1
-    0x00C5_A52F, // amoadd.w a0, a2, (a1)
-    0x0000_0073, // ecall
-    0x0000_0000, // .word 0
-    0x1005_A52F, // conditional: lr.w a0, (a1)
-    0x1805_A52F, // sc.w a0, zero, (a1)
-    0x0305_0513, // addi a0, a0, '0'
-    0x0000_0073, // ecall
-    0x1805_A52F, // alone: sc.w a0, zero, (a1)
-    0x0305_0513, // addi a0, a0, '0'
-    0x0000_0073, // ecall
-    0x0000_0000, // .word 0
+const NESTED: [&str; 24] = [
+    "load: lbu a0, 0(a1)",
+    "ecall",
+    ".word 0",
+    ".word 0",
+    "store: li a2, 'S'",
+    "sb a2, 0(a1)",
+    "li a0, 's'",
+    "ecall",
+    "execute: jr a1",
+    ".word 0",
+    ".word 0",
+    ".word 0",
+    "add: li a2, 1",
+    "amoadd.w a0, a2, (a1)",
+    "ecall",
+    ".word 0",
+    "conditional: lr.w a0, (a1)",
+    "sc.w a0, zero, (a1)",
+    "addi a0, a0, '0'",
+    "ecall",
+    "alone: sc.w a0, zero, (a1)",
+    "addi a0, a0, '0'",
+    "ecall",
+    ".word 0",
 ];
 
 /// A page of code, whose first byte is the letter c.
-const CODE: [u32; 4] = [
-    0x0000_0463, // code: beqz zero, 1f
-    0x0000_0013, // nop
-    0x0580_0513, // 1:  li a0, 'X'
-    0x0000_0073, // ecall
-];
+const CODE: [&str; 4] = ["beqz zero, letter", "nop", "letter: li a0, 'X'", "ecall"];
 
 const LOAD: u64 = 0;
 
@@ -227,13 +223,13 @@ fn append_letters(bytes: &mut Vec<u8>, at: usize, first: u64) -> Result<(), NoMe
 /// The image of the hypervisor with these commands. The capital letters stand in the pages from 80030000 on,
 /// and the small ones in those from 80040000 on. The tables of the nested guest are there twice, from
 /// 80010000 and from 80018000 on.
-fn commanded(alloc: Global, commands: &[Command]) -> Result<Vec<u8>, NoMemory> {
+fn commanded(alloc: Global, commands: &[Command]) -> Result<Vec<u8>, LineFault> {
     let mut bytes = Vec::new(alloc);
-    append(&mut bytes, &HYPERVISOR)?;
+    append_lines(&mut bytes, &HYPERVISOR)?;
     bytes.resize(0x1000, 0)?;
-    append(&mut bytes, &NESTED)?;
+    append_lines(&mut bytes, &NESTED)?;
     bytes.resize(0x2000, 0)?;
-    append(&mut bytes, &CODE)?;
+    append_lines(&mut bytes, &CODE)?;
     append_at(&mut bytes, &TABLES)?;
     append_own(&mut bytes, 0x1_0000)?;
     append_own(&mut bytes, 0x1_8000)?;
@@ -265,7 +261,7 @@ fn are_reported(
     room: Room,
     commands: &[Command],
     steps: u64,
-) -> Result<bool, NoMemory> {
+) -> Result<bool, LineFault> {
     let mut text = String::new(alloc);
     for &(_, _, _, _, put) in commands {
         text.push_str(put)?;

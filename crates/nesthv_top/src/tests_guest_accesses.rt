@@ -1,7 +1,7 @@
 // Guests that access memory as VS or VU, by HLV, HLVX and HSV.
 
-use crate::tests::{append_at, image, is_reported_with};
-use no_memory::NoMemory;
+use crate::tests::{append_at, assembled, is_reported_with};
+use sample_programs::LineFault;
 use std::alloc::Global;
 use std::test::Fail;
 
@@ -9,69 +9,69 @@ use std::test::Fail;
 /// that has left as seven bytes: scause plus 48, a0, the bits GVA and SPV of hstatus, the page of htval, the
 /// last digit of the page of stval, the page of htinst, and the byte of RAM at 8000D000. Before it a0 is `.`,
 /// a2 is `S`, and that byte is `A`. EBREAK, code 3, stands behind it.
-const ACCESSES: [u32; 62] = [
-    0x0000_0417, // auipc s0, 0
-    0x0804_0313, // addi t1, s0, 128
-    0x1053_1073, // csrw stvec, t1
-    0x0000_E4B7, // lui s1, 14
-    0x0084_84B3, // add s1, s1, s0
-    0x0000_D937, // lui s2, 13
-    0x0089_0933, // add s2, s2, s0
-    0x0004_B303, // next: ld t1, 0(s1)
-    0x6803_1073, // csrw hgatp, t1
-    0x0084_B303, // ld t1, 8(s1)
-    0x2803_1073, // csrw vsatp, t1
-    0x0104_B303, // ld t1, 16(s1)
-    0x1003_1073, // csrw sstatus, t1
-    0x0184_B303, // ld t1, 24(s1)
-    0x6003_1073, // csrw hstatus, t1
-    0x0204_B303, // ld t1, 32(s1)
-    0x2003_1073, // csrw vsstatus, t1
-    0x0284_B583, // ld a1, 40(s1)
-    0x0304_A303, // lw t1, 48(s1)
-    0x0A03_0263, // beqz t1, stop
-    0x0384_8493, // addi s1, s1, 56
-    0x0664_2C23, // sw t1, 120(s0)
-    0x0000_100F, // fence.i
-    0x0410_0513, // li a0, 'A'
-    0x00A9_0023, // sb a0, 0(s2)
-    0x0784_0313, // addi t1, s0, 120
-    0x1413_1073, // csrw sepc, t1
-    0x02E0_0513, // li a0, '.'
-    0x0530_0613, // li a2, 'S'
-    0x1020_0073, // sret
-    0x0000_0000, // .word 0
-    0x0010_0073, // ebreak
-    0x0005_0693, // mv a3, a0
-    0x1420_2573, // csrr a0, scause
-    0x0305_0513, // addi a0, a0, 48
-    0x0010_0893, // li a7, 1
-    0x0000_0073, // ecall
-    0x0006_8513, // mv a0, a3
-    0x0000_0073, // ecall
-    0x6000_2573, // csrr a0, hstatus
-    0x0065_5513, // srli a0, a0, 6
-    0x0035_7513, // andi a0, a0, 3
-    0x0305_0513, // addi a0, a0, 48
-    0x0000_0073, // ecall
-    0x6430_2573, // csrr a0, htval
-    0x00A5_5513, // srli a0, a0, 10
-    0x0305_0513, // addi a0, a0, 48
-    0x0000_0073, // ecall
-    0x1430_2573, // csrr a0, stval
-    0x00C5_5513, // srli a0, a0, 12
-    0x00F5_7513, // andi a0, a0, 15
-    0x0305_0513, // addi a0, a0, 48
-    0x0000_0073, // ecall
-    0x64A0_2573, // csrr a0, htinst
-    0x00C5_5513, // srli a0, a0, 12
-    0x0305_0513, // addi a0, a0, 48
-    0x0000_0073, // ecall
-    0x0009_4503, // lbu a0, 0(s2)
-    0x0000_0073, // ecall
-    0xF31F_F06F, // j next
-    0x0080_0893, // stop: li a7, 8
-    0x0000_0073, // ecall
+const ACCESSES: [&str; 62] = [
+    "auipc s0, 0",
+    "addi t1, s0, 128",
+    "csrw stvec, t1",
+    "lui s1, 14",
+    "add s1, s1, s0",
+    "lui s2, 13",
+    "add s2, s2, s0",
+    "next: ld t1, 0(s1)",
+    "csrw hgatp, t1",
+    "ld t1, 8(s1)",
+    "csrw vsatp, t1",
+    "ld t1, 16(s1)",
+    "csrw sstatus, t1",
+    "ld t1, 24(s1)",
+    "csrw hstatus, t1",
+    "ld t1, 32(s1)",
+    "csrw vsstatus, t1",
+    "ld a1, 40(s1)",
+    "lw t1, 48(s1)",
+    "beqz t1, stop",
+    "addi s1, s1, 56",
+    "sw t1, 120(s0)",
+    "fence.i",
+    "li a0, 'A'",
+    "sb a0, 0(s2)",
+    "addi t1, s0, 120",
+    "csrw sepc, t1",
+    "li a0, '.'",
+    "li a2, 'S'",
+    "sret",
+    ".word 0",
+    "ebreak",
+    "mv a3, a0",
+    "csrr a0, scause",
+    "addi a0, a0, 48",
+    "li a7, 1",
+    "ecall",
+    "mv a0, a3",
+    "ecall",
+    "csrr a0, hstatus",
+    "srli a0, a0, 6",
+    "andi a0, a0, 3",
+    "addi a0, a0, 48",
+    "ecall",
+    "csrr a0, htval",
+    "srli a0, a0, 10",
+    "addi a0, a0, 48",
+    "ecall",
+    "csrr a0, stval",
+    "srli a0, a0, 12",
+    "andi a0, a0, 15",
+    "addi a0, a0, 48",
+    "ecall",
+    "csrr a0, htinst",
+    "srli a0, a0, 12",
+    "addi a0, a0, 48",
+    "ecall",
+    "lbu a0, 0(s2)",
+    "ecall",
+    "j next",
+    "stop: li a7, 8",
+    "ecall",
 ];
 
 /// The tables behind it. Those of hgatp are at 4000, 8000 and 9000, and those of vsatp at A000, B000 and
@@ -155,8 +155,8 @@ const HSV_D: u64 = 0x6EC5_C073;
 /// hgatp and vsatp; sstatus, hstatus and vsstatus; the address, the instruction, and what is put of it.
 type Command = ([u64; 2], [u64; 3], u64, u64, &'static str);
 
-fn accesses(alloc: Global, commands: &[Command]) -> Result<Vec<u8>, NoMemory> {
-    let mut bytes = image(alloc, &ACCESSES, 0)?;
+fn accesses(alloc: Global, commands: &[Command]) -> Result<Vec<u8>, LineFault> {
+    let mut bytes = assembled(alloc, &ACCESSES)?;
     append_at(&mut bytes, &TABLES)?;
     for &(tables, registers, address, word, _) in commands {
         append_at(&mut bytes, &[(COMMANDS_AT, tables[0]), (0, tables[1])])?;
@@ -170,14 +170,14 @@ fn accesses(alloc: Global, commands: &[Command]) -> Result<Vec<u8>, NoMemory> {
 
 /// Whether a guest with these commands puts what they say, under this header. Its steps are 7 before the
 /// commands, 52 for each that traps, 53 for each that is made, and 15 after them.
-fn are_reported(alloc: Global, commands: &[Command], header: &str) -> Result<bool, NoMemory> {
+fn are_reported(alloc: Global, commands: &[Command], header: &str) -> Result<bool, LineFault> {
     let mut report = String::from_str(alloc, header)?;
     for &(_, _, _, _, text) in commands {
         report.push_str(text)?;
     }
     report.push_str("\n")?;
     let image = accesses(alloc, commands)?;
-    is_reported_with(alloc, image.as_slice(), "", 1000, report.as_str())
+    Ok(is_reported_with(alloc, image.as_slice(), "", 1000, report.as_str())?)
 }
 
 // In HS, with vsatp's table alone.

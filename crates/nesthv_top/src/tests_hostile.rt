@@ -1,7 +1,7 @@
 // Images of noise, and hypervisors whose tables are wrong.
 
 use crate::nesthv;
-use crate::tests::{PUTS_A, RUN, append_at, image, sink, words_of};
+use crate::tests::{PUTS_A, RUN, append_at, assembled, image, sink, words_of};
 use crate::tests_nested::{COMMANDED, HGATP};
 use crate::tests_rooms::{Account, Room, SMALL};
 use arch_defs::Reg;
@@ -396,56 +396,56 @@ fn last_roots(rt: HostRuntime) -> Result<(), Fail> {
 }
 
 /// Enters a nested guest eighteen times, under the VMIDs 1 to 9 in turn.
-const NINE_WORLDS: [u32; 28] = [
-    0x0000_0417, // auipc s0, 0
-    0x4004_3903, // ld s2, 0x400(s0)
-    0x0544_0293, // addi t0, s0, 0x54
-    0x1052_9073, // csrw stvec, t0
-    0x0120_0993, // li s3, 18
-    0x0000_0493, // li s1, 0
-    0x0014_8493, // addi s1, s1, 1
-    0x00A0_0293, // li t0, 10
-    0x0054_9463, // bne s1, t0, run
-    0x0010_0493, // li s1, 1
-    0x02C4_9293, // slli t0, s1, 44
-    0x0122_E2B3, // or t0, t0, s2
-    0x6802_9073, // csrw 0x680, t0
-    0x1410_1073, // csrw sepc, zero
-    0x1000_0293, // li t0, 0x100
-    0x1002_A073, // csrs sstatus, t0
-    0x0800_0293, // li t0, 0x80
-    0x6002_A073, // csrs 0x600, t0
-    0x1020_0073, // sret
-    0x0000_0013, // nop
-    0x0000_0013, // nop
-    0x0005_0513, // addi a0, a0, 0
-    0x0010_0893, // li a7, 1
-    0x0000_0073, // ecall
-    0xFFF9_8993, // addi s3, s3, -1
-    0xFA09_9AE3, // bnez s3, next
-    0x0080_0893, // li a7, 8
-    0x0000_0073, // ecall
+const NINE_WORLDS: [&str; 28] = [
+    "auipc s0, 0",
+    "ld s2, 0x400(s0)",
+    "addi t0, s0, 0x54",
+    "csrw stvec, t0",
+    "li s3, 18",
+    "li s1, 0",
+    "next: addi s1, s1, 1",
+    "li t0, 10",
+    "bne s1, t0, run",
+    "li s1, 1",
+    "run: slli t0, s1, 44",
+    "or t0, t0, s2",
+    "csrw hgatp, t0",
+    "csrw sepc, zero",
+    "li t0, 0x100",
+    "csrs sstatus, t0",
+    "li t0, 0x80",
+    "csrs hstatus, t0",
+    "sret",
+    "nop",
+    "nop",
+    "addi a0, a0, 0",
+    "li a7, 1",
+    "ecall",
+    "addi s3, s3, -1",
+    "bnez s3, next",
+    "li a7, 8",
+    "ecall",
 ];
 
 /// Fences all and enters a nested guest, without an end.
-const FENCES: [u32; 17] = [
-    0x0000_0417, // auipc s0, 0
-    0x4004_3283, // ld t0, 0x400(s0)
-    0x6802_9073, // csrw 0x680, t0
-    0x0284_0293, // addi t0, s0, 0x28
-    0x1052_9073, // csrw stvec, t0
-    0x1000_0293, // li t0, 0x100
-    0x1002_A073, // csrs sstatus, t0
-    0x0800_0293, // li t0, 0x80
-    0x6002_A073, // csrs 0x600, t0
-    0x0000_0013, // nop
-    0x6200_0073, // hfence.gvma zero, zero
-    0x1410_1073, // csrw sepc, zero
-    0x1000_0293, // li t0, 0x100
-    0x1002_A073, // csrs sstatus, t0
-    0x0800_0293, // li t0, 0x80
-    0x6002_A073, // csrs 0x600, t0
-    0x1020_0073, // sret
+const FENCES: [&str; 17] = [
+    "auipc s0, 0",
+    "ld t0, 0x400(s0)",
+    "csrw hgatp, t0",
+    "addi t0, s0, 0x28",
+    "csrw stvec, t0",
+    "li t0, 0x100",
+    "csrs sstatus, t0",
+    "li t0, 0x80",
+    "csrs hstatus, t0",
+    "nop",
+    "hfence.gvma zero, zero",
+    "csrw sepc, zero",
+    "li t0, 0x100",
+    "csrs sstatus, t0",
+    "li t0, 0x80",
+    "csrs hstatus, t0",
+    "sret",
 ];
 
 /// What stands behind `NINE_WORLDS`: the nested guest, which loads from its pages 16 to 1, and a table that
@@ -481,7 +481,7 @@ const SIXTEEN_PAGES: [(usize, u64); 24] = [
 /// fences without an end.
 #[test]
 fn full_pools_and_fences(rt: HostRuntime) -> Result<(), Fail> {
-    let mut worlds = image(rt.alloc(), &NINE_WORLDS, 0)?;
+    let mut worlds = assembled(rt.alloc(), &NINE_WORLDS)?;
     append_at(&mut worlds, &SIXTEEN_PAGES)?;
     let section = "guest a stopped steps 1233 bytes 18\nAAAAAAAAAAAAAAAAAA\n";
     for (entries, fills) in [(16, 324), (17, 306)] {
@@ -499,7 +499,7 @@ fn full_pools_and_fences(rt: HostRuntime) -> Result<(), Fail> {
             "{entries}"
         );
     }
-    let mut fences = image(rt.alloc(), &FENCES, 0)?;
+    let mut fences = assembled(rt.alloc(), &FENCES)?;
     append_at(
         &mut fences,
         &[

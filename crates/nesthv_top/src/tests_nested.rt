@@ -1,6 +1,6 @@
 // Guests that are hypervisors, with no second-stage table.
 
-use crate::tests::{append_at, image, is_reported_of_bytes, trace_after, trace_of};
+use crate::tests::{append_at, assembled, image, is_reported_of_bytes, trace_after, trace_of};
 use std::test::Fail;
 
 /// A hypervisor that runs a nested guest for each of its commands, and puts the byte that the guest has read,
@@ -121,35 +121,35 @@ fn undelegated_vssi(rt: HostRuntime) -> Result<(), Fail> {
 
 /// Reserves in HS and stores in VS, then reserves in VS and stores in HS, and puts 0 for each store that was
 /// made.
-const SWITCHED: [u32; 22] = [
-    0x0000_0297, // auipc x5, 0
-    0x0382_8313, // addi x6, x5, 56
-    0x1053_1073, // csrrw x0, stvec, x6
-    0x02C2_8313, // addi x6, x5, 44
-    0x1413_1073, // csrrw x0, sepc, x6
-    0x1000_0313, // addi x6, x0, 0x100
-    0x1003_2073, // csrrs x0, sstatus, x6
-    0x0800_0313, // addi x6, x0, 0x80
-    0x6003_2073, // csrrs x0, 0x600, x6
-    0x1002_A3AF, // lr.w x7, (x5)
-    0x1020_0073, // sret
-    0x1802_A52F, // sc.w x10, x0, (x5)
-    0x1002_A3AF, // lr.w x7, (x5)
-    0x0000_0073, // ecall
-    0x1802_A5AF, // sc.w x11, x0, (x5)
-    0x0305_0513, // addi x10, x10, 48
-    0x0010_0893, // addi x17, x0, 1
-    0x0000_0073, // ecall
-    0x0305_8513, // addi x10, x11, 48
-    0x0000_0073, // ecall
-    0x0080_0893, // addi x17, x0, 8
-    0x0000_0073, // ecall
+const SWITCHED: [&str; 22] = [
+    "auipc x5, 0",
+    "addi x6, x5, 56",
+    "csrrw x0, stvec, x6",
+    "addi x6, x5, 44",
+    "csrrw x0, sepc, x6",
+    "addi x6, x0, 0x100",
+    "csrrs x0, sstatus, x6",
+    "addi x6, x0, 0x80",
+    "csrrs x0, hstatus, x6",
+    "lr.w x7, (x5)",
+    "sret",
+    "sc.w x10, x0, (x5)",
+    "lr.w x7, (x5)",
+    "ecall",
+    "sc.w x11, x0, (x5)",
+    "addi x10, x10, 48",
+    "addi x17, x0, 1",
+    "ecall",
+    "addi x10, x11, 48",
+    "ecall",
+    "addi x17, x0, 8",
+    "ecall",
 ];
 
 // Neither an SRET nor a trap ends a reservation: 11 steps before VS, 3 in it, and 8 after it.
 #[test]
 fn reservations_across_worlds(rt: HostRuntime) -> Result<(), Fail> {
-    let image = image(rt.alloc(), &SWITCHED, 0)?;
+    let image = assembled(rt.alloc(), &SWITCHED)?;
     let report = "guest a stopped steps 22 bytes 2\n00\n";
     assert!(rt; is_reported_of_bytes(rt.alloc(), image.as_slice(), report)?);
     Ok(())

@@ -1,7 +1,10 @@
 // Guests with a timer and inputs, and guests that wait.
 
-use crate::tests::{Case, append, image, is_reported, is_reported_of_bytes, is_reported_with};
-use no_memory::NoMemory;
+use crate::tests::{
+    Case, append, append_lines, assembled, image, is_reported, is_reported_of_bytes,
+    is_reported_with,
+};
+use sample_programs::LineFault;
 use std::alloc::Global;
 use std::test::Fail;
 
@@ -87,24 +90,15 @@ fn input_interrupts(rt: HostRuntime) -> Result<(), Fail> {
 }
 
 /// Reads an input, and puts its byte plus 66; `A` where none has come.
-const GETS: [u32; 5] = [
-    0x0020_0893, // li a7, 2
-    0x0000_0073, // ecall
-    0x0425_0513, // addi a0, a0, 66
-    0x0010_0893, // li a7, 1
-    0x0000_0073, // ecall
-];
+const GETS: [&str; 5] = ["li a7, 2", "ecall", "addi a0, a0, 66", "li a7, 1", "ecall"];
 
-const STOPS: [u32; 2] = [
-    0x0080_0893, // li a7, 8
-    0x0000_0073, // ecall
-];
+const STOPS: [&str; 2] = ["li a7, 8", "ecall"];
 
 // 2^64 - 1 and 66 are 65.
 #[test]
 fn get_without_input(rt: HostRuntime) -> Result<(), Fail> {
-    let mut image = image(rt.alloc(), &GETS, 0)?;
-    append(&mut image, &STOPS)?;
+    let mut image = assembled(rt.alloc(), &GETS)?;
+    append_lines(&mut image, &STOPS)?;
     let report = "guest a stopped steps 7 bytes 1\nA\n";
     assert!(rt; is_reported_of_bytes(rt.alloc(), image.as_slice(), report)?);
     Ok(())
@@ -114,11 +108,11 @@ fn get_without_input(rt: HostRuntime) -> Result<(), Fail> {
 // call, and others one later than that.
 #[test]
 fn inputs_come_at_their_moments(rt: HostRuntime) -> Result<(), Fail> {
-    let mut image = image(rt.alloc(), &GETS, 0)?;
-    append(&mut image, &GETS)?;
-    append(&mut image, &GETS)?;
-    append(&mut image, &GETS)?;
-    append(&mut image, &STOPS)?;
+    let mut image = assembled(rt.alloc(), &GETS)?;
+    append_lines(&mut image, &GETS)?;
+    append_lines(&mut image, &GETS)?;
+    append_lines(&mut image, &GETS)?;
+    append_lines(&mut image, &STOPS)?;
     for (inputs, report) in [
         ("input = []\n", "guest a stopped steps 22 bytes 4\nAAAA\n"),
         (
@@ -148,20 +142,20 @@ fn inputs_come_at_their_moments(rt: HostRuntime) -> Result<(), Fail> {
 
 /// Puts `x` and a byte for which the console has no room, and makes the call whose number is its input plus
 /// 3.
-const GETS_AT_A_FULL_CONSOLE: [u32; 8] = [
-    0x0780_0513, // li a0, 120
-    0x0010_0893, // li a7, 1
-    0x0000_0073, // ecall
-    0x0000_0073, // ecall
-    0x0020_0893, // li a7, 2
-    0x0000_0073, // ecall
-    0x0035_0893, // addi a7, a0, 3
-    0x0000_0073, // ecall
+const GETS_AT_A_FULL_CONSOLE: [&str; 8] = [
+    "li a0, 120",
+    "li a7, 1",
+    "ecall",
+    "ecall",
+    "li a7, 2",
+    "ecall",
+    "addi a7, a0, 3",
+    "ecall",
 ];
 
 #[test]
 fn get_at_a_full_console(rt: HostRuntime) -> Result<(), Fail> {
-    let image = image(rt.alloc(), &GETS_AT_A_FULL_CONSOLE, 0)?;
+    let image = assembled(rt.alloc(), &GETS_AT_A_FULL_CONSOLE)?;
     let inputs = "input = [[0, 5]]\n";
     let report = "guest a stopped steps 8 bytes 1\nx\n";
     assert!(rt; is_reported_with(rt.alloc(), image.as_slice(), inputs, 1, report)?);
@@ -169,86 +163,80 @@ fn get_at_a_full_console(rt: HostRuntime) -> Result<(), Fail> {
 }
 
 /// Sets the handler, and lets the timer interrupt. The test puts an instruction behind it that sets a0.
-const BEFORE_MOMENT: [u32; 6] = [
-    0x0000_0297, // auipc t0, 0
-    0x02C2_8293, // addi t0, t0, 44
-    0x1052_9073, // csrw stvec, t0
-    0x0200_0313, // li t1, 32
-    0x1043_1073, // csrw sie, t1
-    0x1001_6073, // csrsi sstatus, 2
+const BEFORE_MOMENT: [&str; 6] = [
+    "auipc t0, 0",
+    "addi t0, t0, 44",
+    "csrw stvec, t0",
+    "li t1, 32",
+    "csrw sie, t1",
+    "csrsi sstatus, 2",
 ];
 
 /// Sets the timer to a0, counts in a loop of two steps until it interrupts, and puts the count as a digit.
-const COUNTS_UNTIL_TIMER: [u32; 10] = [
-    0x0000_0893, // li a7, 0
-    0x0000_0073, // ecall
-    0x0013_8393, // count: addi t2, t2, 1
-    0xFFDF_F06F, // j count
-    0x0075_0533, // add a0, a0, t2
-    0x0305_0513, // addi a0, a0, 48
-    0x0010_0893, // li a7, 1
-    0x0000_0073, // ecall
-    0x0080_0893, // li a7, 8
-    0x0000_0073, // ecall
+const COUNTS_UNTIL_TIMER: [&str; 10] = [
+    "li a7, 0",
+    "ecall",
+    "count: addi t2, t2, 1",
+    "j count",
+    "add a0, a0, t2",
+    "addi a0, a0, 48",
+    "li a7, 1",
+    "ecall",
+    "li a7, 8",
+    "ecall",
 ];
 
 // The clock is 9 after the call, so the step behind it is the interrupt where the timer is in the past, or at
 // that step. Each later moment gives the loop one step more.
 #[test]
 fn timer_interrupts(rt: HostRuntime) -> Result<(), Fail> {
-    for (moment, report) in [
-        // li a0, and 0, 8, 9, 10, 11, 12
-        (0x0000_0513, "guest a stopped steps 16 bytes 1\n0\n"),
-        (0x0080_0513, "guest a stopped steps 16 bytes 1\n0\n"),
-        (0x0090_0513, "guest a stopped steps 16 bytes 1\n0\n"),
-        (0x00A0_0513, "guest a stopped steps 17 bytes 1\n1\n"),
-        (0x00B0_0513, "guest a stopped steps 18 bytes 1\n1\n"),
-        (0x00C0_0513, "guest a stopped steps 19 bytes 1\n2\n"),
+    for (line, report) in [
+        ("li a0, 0", "guest a stopped steps 16 bytes 1\n0\n"),
+        ("li a0, 8", "guest a stopped steps 16 bytes 1\n0\n"),
+        ("li a0, 9", "guest a stopped steps 16 bytes 1\n0\n"),
+        ("li a0, 10", "guest a stopped steps 17 bytes 1\n1\n"),
+        ("li a0, 11", "guest a stopped steps 18 bytes 1\n1\n"),
+        ("li a0, 12", "guest a stopped steps 19 bytes 1\n2\n"),
     ] {
-        let mut image = image(rt.alloc(), &BEFORE_MOMENT, 0)?;
-        append(&mut image, &[moment])?;
-        append(&mut image, &COUNTS_UNTIL_TIMER)?;
+        let mut image = assembled(rt.alloc(), &BEFORE_MOMENT)?;
+        append_lines(&mut image, &[line])?;
+        append_lines(&mut image, &COUNTS_UNTIL_TIMER)?;
         assert!(rt;
             is_reported_of_bytes(rt.alloc(), image.as_slice(), report)?,
-            "{moment:X}"
+            "{line}"
         );
     }
     Ok(())
 }
 
 /// Sets a0 to 2^62. The test puts an instruction behind it that adds to it.
-const FAR_TIMER: [u32; 2] = [
-    0x0010_0513, // li a0, 1
-    0x03E5_1513, // slli a0, a0, 62
-];
+const FAR_TIMER: [&str; 2] = ["li a0, 1", "slli a0, a0, 62"];
 
 /// Sets the timer to a0, waits for it, and puts the highest byte of the time.
-const WAITS_FOR_FAR_TIMER: [u32; 11] = [
-    0x0000_0893, // li a7, 0
-    0x0000_0073, // ecall
-    0x0200_0293, // li t0, 32
-    0x1042_9073, // csrw sie, t0
-    0x1050_0073, // wfi
-    0xC010_2573, // csrr a0, time
-    0x0385_5513, // srli a0, a0, 56
-    0x0010_0893, // li a7, 1
-    0x0000_0073, // ecall
-    0x0080_0893, // li a7, 8
-    0x0000_0073, // ecall
+const WAITS_FOR_FAR_TIMER: [&str; 11] = [
+    "li a7, 0",
+    "ecall",
+    "li t0, 32",
+    "csrw sie, t0",
+    "wfi",
+    "csrr a0, time",
+    "srli a0, a0, 56",
+    "li a7, 1",
+    "ecall",
+    "li a7, 8",
+    "ecall",
 ];
 
 // A wait for 2^62 never ends, and one for 2^62 - 1 does, at that moment: its highest byte is 3F, `?`.
 #[test]
 fn timer_far_off(rt: HostRuntime) -> Result<(), Fail> {
-    for (addi, report) in [
-        // addi a0, a0, 0
-        (0x0005_0513, "guest a waiting steps 7 bytes 0\n\n"),
-        // addi a0, a0, -1
-        (0xFFF5_0513, "guest a stopped steps 14 bytes 1\n?\n"),
+    for (line, report) in [
+        ("addi a0, a0, 0", "guest a waiting steps 7 bytes 0\n\n"),
+        ("addi a0, a0, -1", "guest a stopped steps 14 bytes 1\n?\n"),
     ] {
-        let mut image = image(rt.alloc(), &FAR_TIMER, 0)?;
-        append(&mut image, &[addi])?;
-        append(&mut image, &WAITS_FOR_FAR_TIMER)?;
+        let mut image = assembled(rt.alloc(), &FAR_TIMER)?;
+        append_lines(&mut image, &[line])?;
+        append_lines(&mut image, &WAITS_FOR_FAR_TIMER)?;
         assert!(rt;
             is_reported_of_bytes(rt.alloc(), image.as_slice(), report)?,
             "{report}"
@@ -258,84 +246,83 @@ fn timer_far_off(rt: HostRuntime) -> Result<(), Fail> {
 }
 
 /// Reads sip where the timer is due, and where it is ahead again, and puts both plus 48.
-const SETS_AHEAD: [u32; 14] = [
-    0x0000_0513, // li a0, 0
-    0x0000_0893, // li a7, 0
-    0x0000_0073, // ecall
-    0x1440_2473, // csrr s0, sip
-    0x3E80_0513, // li a0, 1000
-    0x0000_0073, // ecall
-    0x1440_24F3, // csrr s1, sip
-    0x0304_0513, // addi a0, s0, 48
-    0x0010_0893, // li a7, 1
-    0x0000_0073, // ecall
-    0x0304_8513, // addi a0, s1, 48
-    0x0000_0073, // ecall
-    0x0080_0893, // li a7, 8
-    0x0000_0073, // ecall
+const SETS_AHEAD: [&str; 14] = [
+    "li a0, 0",
+    "li a7, 0",
+    "ecall",
+    "csrr s0, sip",
+    "li a0, 1000",
+    "ecall",
+    "csrr s1, sip",
+    "addi a0, s0, 48",
+    "li a7, 1",
+    "ecall",
+    "addi a0, s1, 48",
+    "ecall",
+    "li a7, 8",
+    "ecall",
 ];
 
 #[test]
 fn timer_set_ahead_is_not_pending(rt: HostRuntime) -> Result<(), Fail> {
-    let image = image(rt.alloc(), &SETS_AHEAD, 0)?;
+    let image = assembled(rt.alloc(), &SETS_AHEAD)?;
     let report = "guest a stopped steps 14 bytes 2\nP0\n";
     assert!(rt; is_reported_of_bytes(rt.alloc(), image.as_slice(), report)?);
     Ok(())
 }
 
 /// Waits, and puts how much later it is behind the wait than before it, as a digit.
-const WAITS: [u32; 9] = [
-    0xC010_2473, // csrr s0, time
-    0x1050_0073, // wfi
-    0xC010_24F3, // csrr s1, time
-    0x4084_8533, // sub a0, s1, s0
-    0x0305_0513, // addi a0, a0, 48
-    0x0010_0893, // li a7, 1
-    0x0000_0073, // ecall
-    0x0080_0893, // li a7, 8
-    0x0000_0073, // ecall
+const WAITS: [&str; 9] = [
+    "csrr s0, time",
+    "wfi",
+    "csrr s1, time",
+    "sub a0, s1, s0",
+    "addi a0, a0, 48",
+    "li a7, 1",
+    "ecall",
+    "li a7, 8",
+    "ecall",
 ];
 
 /// What is done before `WAITS` while SIE is clear, and the report.
-const PENDING: [(&[u32], &str); 8] = [
-    // li a0, 0; li a7, 0; ecall; li t0, 32; csrw sie, t0: the timer is due and enabled
+const PENDING: [(&[&str], &str); 8] = [
+    // The timer is due and enabled.
     (
-        &[
-            0x0000_0513,
-            0x0000_0893,
-            0x0000_0073,
-            0x0200_0293,
-            0x1042_9073,
-        ],
+        &["li a0, 0", "li a7, 0", "ecall", "li t0, 32", "csrw sie, t0"],
         "guest a stopped steps 14 bytes 1\n2\n",
     ),
-    // li a0, 0; li a7, 0; ecall: it is due, and not enabled
+    // It is due, and not enabled.
     (
-        &[0x0000_0513, 0x0000_0893, 0x0000_0073],
+        &["li a0, 0", "li a7, 0", "ecall"],
         "guest a waiting steps 4 bytes 0\n\n",
     ),
-    // csrsi sie, 2; csrsi sip, 2: the software interrupt
+    // The software interrupt.
     (
-        &[0x1041_6073, 0x1441_6073],
+        &["csrsi sie, 2", "csrsi sip, 2"],
         "guest a stopped steps 11 bytes 1\n2\n",
     ),
-    // csrsi sip, 2: it is not enabled
-    (&[0x1441_6073], "guest a waiting steps 2 bytes 0\n\n"),
-    // csrsi sie, 2: it is not pending
-    (&[0x1041_6073], "guest a waiting steps 2 bytes 0\n\n"),
-    // li t0, 4; csrw hvip, t0; csrw hie, t0: the software interrupt of VS
+    // It is not enabled.
+    (&["csrsi sip, 2"], "guest a waiting steps 2 bytes 0\n\n"),
+    // It is not pending.
+    (&["csrsi sie, 2"], "guest a waiting steps 2 bytes 0\n\n"),
+    // The software interrupt of VS.
     (
-        &[0x0040_0293, 0x6452_9073, 0x6042_9073],
+        &["li t0, 4", "csrw hvip, t0", "csrw hie, t0"],
         "guest a stopped steps 12 bytes 1\n2\n",
     ),
-    // li t0, 4; csrw hideleg, t0; csrw hvip, t0; csrw hie, t0: it is delegated
+    // It is delegated.
     (
-        &[0x0040_0293, 0x6032_9073, 0x6452_9073, 0x6042_9073],
+        &[
+            "li t0, 4",
+            "csrw hideleg, t0",
+            "csrw hvip, t0",
+            "csrw hie, t0",
+        ],
         "guest a stopped steps 13 bytes 1\n2\n",
     ),
-    // li t0, 4; csrw hvip, t0: it is not enabled
+    // It is not enabled.
     (
-        &[0x0040_0293, 0x6452_9073],
+        &["li t0, 4", "csrw hvip, t0"],
         "guest a waiting steps 3 bytes 0\n\n",
     ),
 ];
@@ -344,8 +331,8 @@ const PENDING: [(&[u32], &str); 8] = [
 #[test]
 fn waits_unless_an_enabled_interrupt_is_pending(rt: HostRuntime) -> Result<(), Fail> {
     for (before, report) in PENDING {
-        let mut image = image(rt.alloc(), before, 0)?;
-        append(&mut image, &WAITS)?;
+        let mut image = assembled(rt.alloc(), before)?;
+        append_lines(&mut image, &WAITS)?;
         assert!(rt;
             is_reported_of_bytes(rt.alloc(), image.as_slice(), report)?,
             "{report}"
@@ -355,19 +342,19 @@ fn waits_unless_an_enabled_interrupt_is_pending(rt: HostRuntime) -> Result<(), F
 }
 
 /// Waits for an input or for the timer at 700, and puts the time after that, less 400.
-const WAITS_FOR_BOTH: [u32; 12] = [
-    0x2BC0_0513, // li a0, 700
-    0x0000_0893, // li a7, 0
-    0x0000_0073, // ecall
-    0x2200_0293, // li t0, 544
-    0x1042_9073, // csrw sie, t0
-    0x1050_0073, // wfi
-    0xC010_2573, // csrr a0, time
-    0xE705_0513, // addi a0, a0, -400
-    0x0010_0893, // li a7, 1
-    0x0000_0073, // ecall
-    0x0080_0893, // li a7, 8
-    0x0000_0073, // ecall
+const WAITS_FOR_BOTH: [&str; 12] = [
+    "li a0, 700",
+    "li a7, 0",
+    "ecall",
+    "li t0, 544",
+    "csrw sie, t0",
+    "wfi",
+    "csrr a0, time",
+    "addi a0, a0, -400",
+    "li a7, 1",
+    "ecall",
+    "li a7, 8",
+    "ecall",
 ];
 
 // The wait begins at clock 5. It ends at the earlier moment: 500 gives 100, which is `d`, and 700 gives 300,
@@ -375,7 +362,7 @@ const WAITS_FOR_BOTH: [u32; 12] = [
 // is 118, `v`.
 #[test]
 fn waits_for_the_earlier_moment(rt: HostRuntime) -> Result<(), Fail> {
-    let image = image(rt.alloc(), &WAITS_FOR_BOTH, 0)?;
+    let image = assembled(rt.alloc(), &WAITS_FOR_BOTH)?;
     for (inputs, report) in [
         ("", "guest a stopped steps 12 bytes 1\n,\n"),
         (
@@ -409,51 +396,51 @@ fn waits_for_the_earlier_moment(rt: HostRuntime) -> Result<(), Fail> {
 
 /// Sets registers to the words at 160, the timer to 1000, and goes by SRET to what is tried, which stands
 /// behind this at clock 21.
-const GOES_TO_TRIED: [u32; 21] = [
-    0x0000_0297, // auipc t0, 0
-    0x05C2_8313, // addi t1, t0, 92
-    0x1053_1073, // csrw stvec, t1
-    0x0542_8313, // addi t1, t0, 84
-    0x1413_1073, // csrw sepc, t1
-    0x0A02_A303, // lw t1, 160(t0)
-    0x1003_1073, // csrw sstatus, t1
-    0x0A42_A303, // lw t1, 164(t0)
-    0x6003_1073, // csrw hstatus, t1
-    0x0A82_A303, // lw t1, 168(t0)
-    0x1043_1073, // csrw sie, t1
-    0x0AC2_A303, // lw t1, 172(t0)
-    0x1063_1073, // csrw scounteren, t1
-    0x0B02_A303, // lw t1, 176(t0)
-    0x6063_1073, // csrw hcounteren, t1
-    0x0B42_A303, // lw t1, 180(t0)
-    0x6053_1073, // csrw htimedelta, t1
-    0x3E80_0513, // li a0, 1000
-    0x0000_0893, // li a7, 0
-    0x0000_0073, // ecall
-    0x1020_0073, // sret
+const GOES_TO_TRIED: [&str; 21] = [
+    "auipc t0, 0",
+    "addi t1, t0, 92",
+    "csrw stvec, t1",
+    "addi t1, t0, 84",
+    "csrw sepc, t1",
+    "lw t1, 160(t0)",
+    "csrw sstatus, t1",
+    "lw t1, 164(t0)",
+    "csrw hstatus, t1",
+    "lw t1, 168(t0)",
+    "csrw sie, t1",
+    "lw t1, 172(t0)",
+    "csrw scounteren, t1",
+    "lw t1, 176(t0)",
+    "csrw hcounteren, t1",
+    "lw t1, 180(t0)",
+    "csrw htimedelta, t1",
+    "li a0, 1000",
+    "li a7, 0",
+    "ecall",
+    "sret",
 ];
 
 /// Traps, and puts scause plus 48, stval with the bit of 64 set, and, as letters from `A` on, the time of its
 /// ninth step and a0 before the trap, each modulo 16.
-const TELLS: [u32; 18] = [
-    0x0010_0073, // ebreak
-    0x0005_0413, // mv s0, a0
-    0x1420_2573, // csrr a0, scause
-    0x0305_0513, // addi a0, a0, 48
-    0x0010_0893, // li a7, 1
-    0x0000_0073, // ecall
-    0x1430_2573, // csrr a0, stval
-    0x0405_6513, // ori a0, a0, 64
-    0x0000_0073, // ecall
-    0xC010_2573, // csrr a0, time
-    0x00F5_7513, // andi a0, a0, 15
-    0x0415_0513, // addi a0, a0, 65
-    0x0000_0073, // ecall
-    0x00F4_7513, // andi a0, s0, 15
-    0x0415_0513, // addi a0, a0, 65
-    0x0000_0073, // ecall
-    0x0080_0893, // li a7, 8
-    0x0000_0073, // ecall
+const TELLS: [&str; 18] = [
+    "ebreak",
+    "mv s0, a0",
+    "csrr a0, scause",
+    "addi a0, a0, 48",
+    "li a7, 1",
+    "ecall",
+    "csrr a0, stval",
+    "ori a0, a0, 64",
+    "ecall",
+    "csrr a0, time",
+    "andi a0, a0, 15",
+    "addi a0, a0, 65",
+    "ecall",
+    "andi a0, s0, 15",
+    "addi a0, a0, 65",
+    "ecall",
+    "li a7, 8",
+    "ecall",
 ];
 
 // sstatus: SRET goes to the supervisor's mode, and SIE is set then.
@@ -478,15 +465,15 @@ const ILLEGAL: &str = "guest a stopped steps 39 bytes 4\n2sOA\n";
 const VIRTUAL: &str = "guest a stopped steps 39 bytes 4\nFsOA\n";
 
 /// What is tried, the words of sstatus, hstatus, sie, scounteren, hcounteren and htimedelta, and the report.
-type Tried = (u32, [u32; 6], &'static str);
+type Tried = (&'static str, [u32; 6], &'static str);
 
-fn is_tried(alloc: Global, tried: Tried) -> Result<bool, NoMemory> {
-    let (word, registers, report) = tried;
-    let mut image = image(alloc, &GOES_TO_TRIED, 0)?;
-    append(&mut image, &[word])?;
-    append(&mut image, &TELLS)?;
+fn is_tried(alloc: Global, tried: Tried) -> Result<bool, LineFault> {
+    let (line, registers, report) = tried;
+    let mut image = assembled(alloc, &GOES_TO_TRIED)?;
+    append_lines(&mut image, &[line])?;
+    append_lines(&mut image, &TELLS)?;
     append(&mut image, &registers)?;
-    is_reported_of_bytes(alloc, image.as_slice(), report)
+    Ok(is_reported_of_bytes(alloc, image.as_slice(), report)?)
 }
 
 // A wait up to clock 1000 is followed by EBREAK at that clock, or, where the timer's interrupt is taken, by
@@ -494,33 +481,33 @@ fn is_tried(alloc: Global, tried: Tried) -> Result<bool, NoMemory> {
 const SLEEPS: [Tried; 8] = [
     // In HS, with SIE clear and set.
     (
-        WFI,
+        "wfi",
         [SPP, 0, STI, 0, 0, 0],
         "guest a stopped steps 40 bytes 4\n3XBA\n",
     ),
     (
-        WFI,
+        "wfi",
         [SPP + SPIE, 0, STI, 0, 0, 0],
         "guest a stopped steps 40 bytes 4\n5@BA\n",
     ),
     // In U.
-    (WFI, [0, 0, STI, 0, 0, 0], ILLEGAL),
+    ("wfi", [0, 0, STI, 0, 0, 0], ILLEGAL),
     // In VS, with VTW clear and set. HS takes its interrupts whatever SIE is.
     (
-        WFI,
+        "wfi",
         [SPP, SPV, STI, 0, 0, 0],
         "guest a stopped steps 40 bytes 4\n5@BA\n",
     ),
-    (WFI, [SPP, SPV + VTW, STI, 0, 0, 0], VIRTUAL),
+    ("wfi", [SPP, SPV + VTW, STI, 0, 0, 0], VIRTUAL),
     // In VS with nothing enabled.
     (
-        WFI,
+        "wfi",
         [SPP, SPV, 0, 0, 0, 0],
         "guest a waiting steps 21 bytes 0\n\n",
     ),
     // In VU.
-    (WFI, [0, SPV, STI, 0, 0, 0], VIRTUAL),
-    (WFI, [0, SPV + VTW, STI, 0, 0, 0], VIRTUAL),
+    ("wfi", [0, SPV, STI, 0, 0, 0], VIRTUAL),
+    ("wfi", [0, SPV + VTW, STI, 0, 0, 0], VIRTUAL),
 ];
 
 #[test]
@@ -531,8 +518,7 @@ fn waits_by_modes(rt: HostRuntime) -> Result<(), Fail> {
     Ok(())
 }
 
-// csrr a0, time
-const READS_TIME: u32 = 0xC010_2573;
+const READS_TIME: &str = "csrr a0, time";
 
 // The time is 21, and 24 where htimedelta is 3; modulo 16 they are `F` and `I`.
 const TIMES: [Tried; 11] = [

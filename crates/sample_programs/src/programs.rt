@@ -5,7 +5,7 @@ ghost use Rattle.std.specs.Prelude.{◌≡◌, length, IfOk, vec_len};
 use crate::line::Line;
 use crate::ops::word_of;
 use no_memory::NoMemory;
-use std::alloc::Global;
+use std::alloc::{AllocError, AllocFailed, Global};
 use thiserror::Error;
 
 /// Why a program has no words.
@@ -19,7 +19,19 @@ pub enum LineFault {
 }
 
 impl From<NoMemory> for LineFault {
-    fn from(_e: NoMemory) -> LineFault {
+    fn from(_: NoMemory) -> LineFault {
+        LineFault::NoMemory
+    }
+}
+
+impl From<AllocError> for LineFault {
+    fn from(_: AllocError) -> LineFault {
+        LineFault::NoMemory
+    }
+}
+
+impl<T: Drop> From<AllocFailed<T>> for LineFault {
+    fn from(_: AllocFailed<T>) -> LineFault {
         LineFault::NoMemory
     }
 }
@@ -29,16 +41,12 @@ impl From<NoMemory> for LineFault {
 pub fn words(alloc: Global, lines: &[&str]) -> Result<Vec<u32>, LineFault>
     ensures { IfOk result (λ words. vec_len words ≡ length lines.now) }
 {
-    let Ok(mut words) = Vec::with_capacity(alloc, lines.len()) else {
-        return Err(LineFault::NoMemory);
-    };
+    let mut words = Vec::with_capacity(alloc, lines.len())?;
     for index in 0..lines.len() {
         let Some(word) = word(lines, index) else {
             return Err(LineFault::NoWord(index));
         };
-        if words.push(word).is_err() {
-            return Err(LineFault::NoMemory);
-        }
+        words.push(word)?;
     }
     Ok(words)
 }
