@@ -15,6 +15,7 @@ use host_tables::build;
 use machine_defs::Status;
 use phys_mem::{NoMemory, PhysMem, RAM_BASE};
 use rv64_hart::{Hart, Stop, Tally, Why};
+use sample_programs::{LineFault, words};
 use std::alloc::Global;
 use std::test::Fail;
 use virtual_timer::Clock;
@@ -123,15 +124,26 @@ pub fn placed(
     }
 }
 
-// One step of the guest on an image of this word.
-pub fn one(alloc: Global, guest: &mut Guest, word: u32) -> Result<By, NoMemory>
+// The bytes of these lines.
+pub fn assembled(alloc: Global, lines: &[&str]) -> Result<Vec<u8>, LineFault> {
+    let mut bytes = Vec::new(alloc);
+    let program = words(alloc, lines)?;
+    for word in program.as_slice() {
+        bytes.extend_from_slice(&word.to_le_bytes())?;
+    }
+    Ok(bytes)
+}
+
+// One step of the guest on an image of this line.
+pub fn one(alloc: Global, guest: &mut Guest, line: &str) -> Result<By, LineFault>
     requires running { guest.old.status ≡ Running }
     requires clock { guest.old.clock.time ≤ 2 ^ 62 }
     requires steps { guest.old.steps ≡ 0 }
     requires unreserved { guest.old.virt.reservation ≡ None }
     requires pool { IsNewPool guest.old.part guest.old.pool }
 {
-    one_on(alloc, guest, &word.to_le_bytes())
+    let image = assembled(alloc, &[line])?;
+    Ok(one_on(alloc, guest, image.as_slice())?)
 }
 
 // One step of the guest on this image.
@@ -176,7 +188,7 @@ pub fn one_in(guest: &mut Guest, memory: &mut PhysMem) -> By
 #[test]
 fn the_hart_makes_a_plain_step(rt: HostRuntime) -> Result<(), Fail> {
     let mut guest = guest(rt.alloc(), Mode::U)?;
-    assert_eq!(rt; one(rt.alloc(), &mut guest, 0x0070_0293)?, By::Hart); // addi x5, x0, 7
+    assert_eq!(rt; one(rt.alloc(), &mut guest, "addi x5, x0, 7")?, By::Hart);
     assert_eq!(rt; guest.virt.regs.read(Reg::new(5)), 7);
     assert_eq!(rt; guest.virt.regs.pc, 0x8000_0004);
     assert_eq!(rt; guest.virt.mode, Mode::U);
@@ -198,7 +210,7 @@ fn the_hart_takes_a_trap(rt: HostRuntime) -> Result<(), Fail> {
     guest.virt.csrs.htinst = 0x3000;
     guest.virt.csrs.hs.tvec = 0x8000_0100;
     guest.virt.csrs.hs.status.sie = true;
-    assert_eq!(rt; one(rt.alloc(), &mut guest, 0)?, By::HartByTrap);
+    assert_eq!(rt; one(rt.alloc(), &mut guest, ".word 0")?, By::HartByTrap);
     let csrs = guest.virt.csrs;
     assert_eq!(rt;
         (csrs.hstatus.spv, csrs.hstatus.spvp, csrs.hstatus.gva),
@@ -223,22 +235,22 @@ fn the_hart_takes_a_trap(rt: HostRuntime) -> Result<(), Fail> {
 // In U each of these is an illegal instruction, with the word in stval.
 #[test]
 fn the_host_refuses_in_user_mode(rt: HostRuntime) -> Result<(), Fail> {
-    for word in [
-        0x1020_0073, // sret
-        0x1050_0073, // wfi
-        0x1200_0073, // sfence.vma
-        0x1000_2573, // csrrs x10, sstatus, x0
-        0x6000_2573, // csrrs x10, hstatus, x0
-        0xC010_2573, // csrrs x10, time, x0
-        0x6200_0073, // hfence.gvma
-        0x6000_4573, // hlv.b x10, (x0)
+    for (line, word) in [
+        ("sret", 0x1020_0073),
+        ("wfi", 0x1050_0073),
+        ("sfence.vma x0, x0", 0x1200_0073),
+        ("csrrs x10, sstatus, x0", 0x1000_2573),
+        ("csrrs x10, hstatus, x0", 0x6000_2573),
+        ("csrrs x10, time, x0", 0xC010_2573),
+        ("hfence.gvma x0, x0", 0x6200_0073),
+        ("hlv.b x10, (x0)", 0x6000_4573),
     ] {
         let mut guest = guest(rt.alloc(), Mode::U)?;
         guest.virt.csrs.hs.tvec = 0x8000_0100;
-        let by = one(rt.alloc(), &mut guest, word)?;
-        assert_eq!(rt; by, By::Host(Handled::Stepped), "{word:#x}");
+        let by = one(rt.alloc(), &mut guest, line)?;
+        assert_eq!(rt; by, By::Host(Handled::Stepped), "{line}");
         let csrs = guest.virt.csrs;
-        assert_eq!(rt; (csrs.hs.cause, csrs.hs.tval), (2, word as u64));
+        assert_eq!(rt; (csrs.hs.cause, csrs.hs.tval), (2, word));
         assert_eq!(rt; csrs.hs.status.spp, false);
         assert_eq!(rt;
             (guest.virt.regs.pc, guest.virt.mode),
@@ -253,21 +265,21 @@ fn the_host_refuses_in_user_mode(rt: HostRuntime) -> Result<(), Fail> {
 // table has no place for them.
 #[test]
 fn accesses_outside_ram(rt: HostRuntime) -> Result<(), Fail> {
-    for (word, cause, tval) in [
-        (0x0002_B503, 5, 0x8020_0000), // ld x10, 0(x5)
-        (0x0052_B023, 7, 0x8020_0000), // sd x5, 0(x5)
-        (0xFF82_B503, 0, 0), // ld x10, -8(x5), the last place of RAM
+    for (line, cause, tval) in [
+        ("ld x10, 0(x5)", 5, 0x8020_0000),
+        ("sd x5, 0(x5)", 7, 0x8020_0000),
+        ("ld x10, -8(x5)", 0, 0), // the last place of RAM
     ] {
         let mut guest = guest(rt.alloc(), Mode::HS)?;
         guest.virt.regs.advance(Reg::new(5), 0x8020_0000, RAM_BASE);
         guest.virt.csrs.hs.tvec = 0x8000_0100;
-        let by = one(rt.alloc(), &mut guest, word)?;
+        let by = one(rt.alloc(), &mut guest, line)?;
         let made = if cause == 0 {
             By::Hart
         } else {
             By::Host(Handled::Stepped)
         };
-        assert_eq!(rt; by, made, "{word:#x}");
+        assert_eq!(rt; by, made, "{line}");
         let csrs = guest.virt.csrs;
         assert_eq!(rt; (csrs.hs.cause, csrs.hs.tval), (cause, tval));
         assert_eq!(rt; (csrs.htval, csrs.hstatus.gva), (0, false));
@@ -275,7 +287,10 @@ fn accesses_outside_ram(rt: HostRuntime) -> Result<(), Fail> {
     }
     let mut guest = guest(rt.alloc(), Mode::HS)?;
     guest.virt.regs.pc = 0x7FFF_FFFC;
-    assert_eq!(rt; one(rt.alloc(), &mut guest, 0)?, By::Host(Handled::Stepped));
+    assert_eq!(rt;
+        one(rt.alloc(), &mut guest, ".word 0")?,
+        By::Host(Handled::Stepped)
+    );
     let csrs = guest.virt.csrs;
     assert_eq!(rt; (csrs.hs.cause, csrs.hs.tval), (1, 0x7FFF_FFFC));
     Ok(())
@@ -287,7 +302,7 @@ fn the_host_makes_sret(rt: HostRuntime) -> Result<(), Fail> {
     guest.virt.csrs.hs.epc = 0x8000_0040;
     guest.virt.csrs.hs.status.spie = true;
     assert_eq!(rt;
-        one(rt.alloc(), &mut guest, 0x1020_0073)?,
+        one(rt.alloc(), &mut guest, "sret")?,
         By::Host(Handled::Stepped)
     );
     assert_eq!(rt;
@@ -309,12 +324,15 @@ fn interrupts(rt: HostRuntime) -> Result<(), Fail> {
     guest.virt.csrs.hie.software = true;
     guest.virt.csrs.hs.status.sie = true;
     guest.virt.csrs.hs.tvec = 0x8000_0101;
-    assert_eq!(rt; one(rt.alloc(), &mut guest, 0)?, By::HostByInterrupt);
+    assert_eq!(rt;
+        one(rt.alloc(), &mut guest, ".word 0")?,
+        By::HostByInterrupt
+    );
     assert_eq!(rt; guest.virt.csrs.hs.cause, 0x8000_0000_0000_0002);
     assert_eq!(rt; guest.virt.regs.pc, 0x8000_0108);
     assert_eq!(rt; (guest.clock.now(), guest.steps), (1, 1));
     let mut guest = guest_with_software_interrupt(rt.alloc())?;
-    assert_eq!(rt; one(rt.alloc(), &mut guest, 0)?, By::HartByTrap);
+    assert_eq!(rt; one(rt.alloc(), &mut guest, ".word 0")?, By::HartByTrap);
     assert_eq!(rt; guest.virt.csrs.hs.cause, 0x8000_0000_0000_0001);
     assert_eq!(rt; guest.virt.regs.pc, 0x8000_0104);
     assert_eq!(rt; guest.virt.csrs.hs.epc, 0x8000_0000);
@@ -362,9 +380,12 @@ pub fn entered(
     Ok(Some(enter(guest, &mut Hart::new(), &mut memory, limit, tally)))
 }
 
-// Three times x5 += 1, and a jump back: 00128293, 00128293, 00128293, FF5FF06F (jal x0, -12).
-const COUNTS: [u8; 16] = [
-    0x93, 0x82, 0x12, 0x00, 0x93, 0x82, 0x12, 0x00, 0x93, 0x82, 0x12, 0x00, 0x6F, 0xF0, 0x5F, 0xFF,
+// Three times x5 += 1, and a jump back.
+const COUNTS: [&str; 4] = [
+    "count: addi x5, x5, 1",
+    "addi x5, x5, 1",
+    "addi x5, x5, 1",
+    "j count",
 ];
 
 // One entry makes ten steps: 3 + 3 additions and 2 jumps, and 2 additions.
@@ -372,7 +393,8 @@ const COUNTS: [u8; 16] = [
 fn an_entry_of_many_steps(rt: HostRuntime) -> Result<(), Fail> {
     let mut guest = guest(rt.alloc(), Mode::U)?;
     let mut tally = Tally::new();
-    let stop = entered(rt.alloc(), &mut guest, &COUNTS, 10, &mut tally)?;
+    let image = assembled(rt.alloc(), &COUNTS)?;
+    let stop = entered(rt.alloc(), &mut guest, image.as_slice(), 10, &mut tally)?;
     assert_eq!(rt;
         stop,
         Some(Stop {
@@ -407,7 +429,8 @@ fn entries_end_before_what_the_clock_changes(rt: HostRuntime) -> Result<(), Fail
         guest.virt.csrs.hvip.software = waits;
         guest.virt.csrs.hie.software = waits;
         let mut tally = Tally::new();
-        let stop = entered(rt.alloc(), &mut guest, &COUNTS, 10, &mut tally)?;
+        let image = assembled(rt.alloc(), &COUNTS)?;
+        let stop = entered(rt.alloc(), &mut guest, image.as_slice(), 10, &mut tally)?;
         assert_eq!(rt;
             stop,
             Some(Stop {

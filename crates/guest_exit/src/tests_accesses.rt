@@ -5,26 +5,27 @@ ghost use Rattle.arch_defs.specs.Clocks.{times_at_start};
 ghost use Rattle.machine_defs.specs.declared.guests.Status.TheVariants.{Running};
 ghost use Rattle.guest_exit.specs.Starting.{IsNewPool};
 
-use crate::tests::{By, FRAMES, guest, one_in, one_on, placed};
+use crate::tests::{By, FRAMES, assembled, guest, one_in, one_on, placed};
 use crate::{Guest, Handled};
 use arch_defs::{GuestMode, GuestRoot, Mode, Reg, SupervisorMode, SupervisorRoot};
 use phys_mem::{NoMemory, RAM_BASE};
+use sample_programs::LineFault;
 use std::alloc::Global;
 use std::test::Fail;
 
 const STEPPED: By = By::Host(Handled::Stepped);
 
-const HLV_B: u32 = 0x6002_C573; // hlv.b x10, (x5)
+const HLV_B: &str = "hlv.b x10, (x5)";
 
-const HLV_W: u32 = 0x6802_C573; // hlv.w x10, (x5)
+const HLV_W: &str = "hlv.w x10, (x5)";
 
-const HLV_D: u32 = 0x6C02_C573; // hlv.d x10, (x5)
+const HLV_D: &str = "hlv.d x10, (x5)";
 
-const HLVX_WU: u32 = 0x6832_C573; // hlvx.wu x10, (x5)
+const HLVX_WU: &str = "hlvx.wu x10, (x5)";
 
-const HSV_B: u32 = 0x6262_C073; // hsv.b x6, (x5)
+const HSV_B: &str = "hsv.b x6, (x5)";
 
-const HSV_D: u32 = 0x6E62_C073; // hsv.d x6, (x5)
+const HSV_D: &str = "hsv.d x6, (x5)";
 
 const HANDLER: u64 = 0x8000_0100;
 
@@ -47,9 +48,8 @@ fn accessing(alloc: Global, mode: Mode, address: u64) -> Result<Guest, NoMemory>
 // The table's root at 80001000: entry 0 maps 0 to RAM's gigabyte as a page of U that can be read and written
 // (V, R, W, U, A and D: 0xD7), entry 2 maps that gigabyte to itself as one that can be executed alone (V, X
 // and A, 49).
-fn image(alloc: Global, word: u32) -> Result<Vec<u8>, NoMemory> {
-    let mut bytes = Vec::new(alloc);
-    bytes.extend_from_slice(&word.to_le_bytes())?;
+fn image(alloc: Global, line: &str) -> Result<Vec<u8>, LineFault> {
+    let mut bytes = assembled(alloc, &[line])?;
     bytes.resize(0x1000, 0)?;
     for entry in [0x2000_00D7_u64, 0, 0x2000_0049] {
         bytes.extend_from_slice(&entry.to_le_bytes())?;
@@ -67,11 +67,11 @@ const TABLE: SupervisorRoot = SupervisorRoot::Table {
 #[test]
 fn loads_in_hs_and_u(rt: HostRuntime) -> Result<(), Fail> {
     for mode in [Mode::HS, Mode::U] {
-        for (word, value) in [(HLV_B, 0x49), (HLV_W, 0x2000_0049), (HLV_D, 0x2000_0049)] {
+        for (line, value) in [(HLV_B, 0x49), (HLV_W, 0x2000_0049), (HLV_D, 0x2000_0049)] {
             let mut guest = accessing(rt.alloc(), mode, 0x8000_1010)?;
-            let image = image(rt.alloc(), word)?;
+            let image = image(rt.alloc(), line)?;
             let by = one_on(rt.alloc(), &mut guest, image.as_slice())?;
-            assert_eq!(rt; by, STEPPED, "{word:#x}");
+            assert_eq!(rt; by, STEPPED, "{line}");
             assert_eq!(rt; guest.virt.regs.read(Reg::new(10)), value);
             assert_eq!(rt; (guest.virt.mode, guest.virt.regs.pc), (mode, 0x8000_0004));
             assert_eq!(rt; (guest.clock.now(), guest.steps), (1, 1));
@@ -83,16 +83,16 @@ fn loads_in_hs_and_u(rt: HostRuntime) -> Result<(), Fail> {
 // An HSV writes its bytes and no others, at the place in machine memory of the guest's block 1.
 #[test]
 fn stores(rt: HostRuntime) -> Result<(), Fail> {
-    for (word, left) in [
+    for (line, left) in [
         (HSV_B, 0x0000_0000_2000_0088),
         (HSV_D, 0x1122_3344_5566_7788),
     ] {
         let mut guest = accessing(rt.alloc(), Mode::HS, 0x8000_1010)?;
-        let image = image(rt.alloc(), word)?;
+        let image = image(rt.alloc(), line)?;
         guest.set_pending_lines();
         let found = placed(rt.alloc(), &guest, image.as_slice(), FRAMES)?;
         let mut memory = found.expect(&rt, "memory");
-        assert_eq!(rt; one_in(&mut guest, &mut memory), STEPPED, "{word:#x}");
+        assert_eq!(rt; one_in(&mut guest, &mut memory), STEPPED, "{line}");
         if memory.size() >= 0x20_1018 {
             assert_eq!(rt; memory.load(0x20_1010, 8), left);
             assert_eq!(rt; memory.load(0x20_1008, 8), 0);
@@ -142,7 +142,7 @@ fn privilege_of_spvp(rt: HostRuntime) -> Result<(), Fail> {
 // A page that can be executed alone is read by HLVX, and by HLV with MXR (8.3.1, 8.5).
 #[test]
 fn a_page_to_be_executed_alone(rt: HostRuntime) -> Result<(), Fail> {
-    for (word, hs, vs, allowed) in [
+    for (line, hs, vs, allowed) in [
         (HLVX_WU, false, false, true),
         (HLV_W, false, false, false),
         (HLV_W, true, false, true),
@@ -153,7 +153,7 @@ fn a_page_to_be_executed_alone(rt: HostRuntime) -> Result<(), Fail> {
         guest.virt.csrs.hstatus.spvp = true;
         guest.virt.csrs.hs.status.mxr = hs;
         guest.virt.csrs.vs.status.mxr = vs;
-        let image = image(rt.alloc(), word)?;
+        let image = image(rt.alloc(), line)?;
         assert_eq!(rt; one_on(rt.alloc(), &mut guest, image.as_slice())?, STEPPED);
         let value = if allowed { 0x2000_0049 } else { 0 };
         assert_eq!(rt; guest.virt.regs.read(Reg::new(10)), value);
@@ -171,7 +171,7 @@ fn traps_with_gva(rt: HostRuntime) -> Result<(), Fail> {
         vmid: 1,
         ppn: 0x8_0004,
     };
-    for (word, address, hgatp, cause, htval) in [
+    for (line, address, hgatp, cause, htval) in [
         (HLV_W, 0x8000_1012, root, 4, 0),
         (HSV_D, 0x8000_1014, root, 6, 0),
         (HLV_D, 0, GuestRoot::Bare, 5, 0),
@@ -183,9 +183,9 @@ fn traps_with_gva(rt: HostRuntime) -> Result<(), Fail> {
         for mode in [Mode::HS, Mode::U] {
             let mut guest = accessing(rt.alloc(), mode, address)?;
             guest.virt.csrs.hgatp = hgatp;
-            let image = image(rt.alloc(), word)?;
+            let image = image(rt.alloc(), line)?;
             let by = one_on(rt.alloc(), &mut guest, image.as_slice())?;
-            assert_eq!(rt; by, STEPPED, "{word:#x}");
+            assert_eq!(rt; by, STEPPED, "{line}");
             let csrs = guest.virt.csrs;
             assert_eq!(rt; (csrs.hs.cause, csrs.hs.tval), (cause, address));
             assert_eq!(rt;

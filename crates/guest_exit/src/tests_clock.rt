@@ -14,13 +14,13 @@ use std::test::Fail;
 
 const STEPPED: By = By::Host(Handled::Stepped);
 
-const ADDI: u32 = 0x0070_0293; // addi x5, x0, 7
+const ADDI: &str = "addi x5, x0, 7";
 
-const ECALL: u32 = 0x0000_0073;
+const ECALL: &str = "ecall";
 
-const WFI: u32 = 0x1050_0073;
+const WFI: &str = "wfi";
 
-const READ_TIME: u32 = 0xC010_2573; // csrrs x10, time, x0
+const READ_TIME: &str = "csrrs x10, time, x0";
 
 const INTERRUPT: u64 = 0x8000_0000_0000_0000;
 
@@ -264,7 +264,7 @@ fn wfi_is_refused(rt: HostRuntime) -> Result<(), Fail> {
         guest.virt.csrs.hstatus.vtw = mode == Mode::VS;
         assert_eq!(rt; one(rt.alloc(), &mut guest, WFI)?, STEPPED);
         let hs = guest.virt.csrs.hs;
-        assert_eq!(rt; (hs.cause, hs.tval), (cause, WFI as u64));
+        assert_eq!(rt; (hs.cause, hs.tval), (cause, 0x1050_0073));
         assert_eq!(rt; (guest.clock.now(), guest.steps), (6, 1));
     }
     Ok(())

@@ -7,11 +7,12 @@ ghost use Rattle.arch_defs.specs.Clocks.{times_at_start};
 ghost use Rattle.machine_defs.specs.declared.guests.Status.TheVariants.{Running};
 ghost use Rattle.guest_exit.specs.Starting.{IsNewPool};
 
-use crate::tests::{By, FRAMES, guest, one_in, placed};
+use crate::tests::{By, FRAMES, assembled, guest, one_in, placed};
 use crate::{Guest, Handled};
 use arch_defs::{GuestMode, GuestRoot, Mode, Reg, Regs, SupervisorMode, SupervisorRoot};
 use machine_defs::Status;
 use phys_mem::{NoMemory, RAM_BASE};
+use sample_programs::LineFault;
 use std::alloc::Global;
 use std::test::Fail;
 
@@ -44,22 +45,22 @@ const OTHER: u64 = 0x2000_2CD7;
 
 const SLOT: u64 = 0x8000_9008;
 
-// What the nested guest does: ld x10, 0(x5); ecall; ld x11, 0(x5); sd x10, 0(x5).
-const NESTED: [u32; 4] = [0x0002_B503, 0x0000_0073, 0x0002_B583, 0x00A2_B023];
+// What the nested guest does.
+const NESTED: [&str; 4] = ["ld x10, 0(x5)", "ecall", "ld x11, 0(x5)", "sd x10, 0(x5)"];
 
-// An image: SRET, and at 100 a handler that stores x7 in the slot at x6, goes on at x28 after this word, and
-// makes an SRET: sd x7, 0(x6); csrrw x0, sepc, x28.
-fn image(alloc: Global, word: u32, leaf: u64) -> Result<Vec<u8>, NoMemory> {
-    let mut bytes = Vec::new(alloc);
-    bytes.extend_from_slice(&0x1020_0073_u32.to_le_bytes())?;
+// An image: SRET, and at 100 a handler that stores x7 in the slot at x6, goes on at x28 after this line, and
+// makes an SRET.
+fn image(alloc: Global, line: &str, leaf: u64) -> Result<Vec<u8>, LineFault> {
+    let mut bytes = assembled(alloc, &["sret"])?;
     bytes.resize(0x100, 0)?;
-    for word in [0x0073_3023, 0x141E_1073, word, 0x1020_0073] {
-        bytes.extend_from_slice(&word.to_le_bytes())?;
-    }
+    let handler = assembled(
+        alloc,
+        &["sd x7, 0(x6)", "csrrw x0, sepc, x28", line, "sret"],
+    )?;
+    bytes.extend_from_slice(handler.as_slice())?;
     bytes.resize(0x1000, 0)?;
-    for word in NESTED {
-        bytes.extend_from_slice(&word.to_le_bytes())?;
-    }
+    let nested = assembled(alloc, &NESTED)?;
+    bytes.extend_from_slice(nested.as_slice())?;
     bytes.resize(0x4000, 0)?;
     bytes.extend_from_slice(&0x2000_2001_u64.to_le_bytes())?;
     bytes.resize(0x8000, 0)?;
@@ -124,7 +125,7 @@ fn tries(alloc: Global, guest: &mut Guest, image: &[u8], count: usize) -> Result
 #[test]
 fn misses_are_no_steps(rt: HostRuntime) -> Result<(), Fail> {
     let mut guest = hypervisor(rt.alloc(), 0, 0x1000)?;
-    let image = image(rt.alloc(), 0x13, DATA)?;
+    let image = image(rt.alloc(), "nop", DATA)?;
     let made = tries(rt.alloc(), &mut guest, image.as_slice(), 4)?;
     assert_eq!(rt;
         made.as_slice(),
@@ -140,13 +141,13 @@ fn misses_are_no_steps(rt: HostRuntime) -> Result<(), Fail> {
 // sees that after a fence of all, or of the page, and else the old one.
 #[test]
 fn an_entry_stays_until_its_fence(rt: HostRuntime) -> Result<(), Fail> {
-    for (word, by, misses, value) in [
-        (0x6200_0073, STEPPED, 2, 0x42), // hfence.gvma
-        (0x6204_8073, STEPPED, 1, 0x42), // hfence.gvma x9, x0
-        (0x0000_0013, By::Hart, 0, 0x41), // addi x0, x0, 0
+    for (line, by, misses, value) in [
+        ("hfence.gvma x0, x0", STEPPED, 2, 0x42),
+        ("hfence.gvma x9, x0", STEPPED, 1, 0x42),
+        ("nop", By::Hart, 0, 0x41),
     ] {
         let mut guest = hypervisor(rt.alloc(), 0, 0x1000)?;
-        let image = image(rt.alloc(), word, DATA)?;
+        let image = image(rt.alloc(), line, DATA)?;
         let made = tries(rt.alloc(), &mut guest, image.as_slice(), 10 + misses)?;
         let made = made.as_slice();
         assert_eq!(rt; made.len(), 10 + misses);
@@ -191,7 +192,7 @@ fn faults_of_the_walk(rt: HostRuntime) -> Result<(), Fail> {
         (0x3000, 0, 0, 1, 0),
     ] {
         let mut guest = hypervisor(rt.alloc(), pc, x5)?;
-        let image = image(rt.alloc(), 0x13, DATA)?;
+        let image = image(rt.alloc(), "nop", DATA)?;
         let made = tries(rt.alloc(), &mut guest, image.as_slice(), 2 + misses)?;
         let made = made.as_slice();
         assert_eq!(rt; made.len(), 2 + misses);
@@ -221,7 +222,7 @@ fn faults_of_the_walk(rt: HostRuntime) -> Result<(), Fail> {
 #[test]
 fn a_clean_page(rt: HostRuntime) -> Result<(), Fail> {
     let mut guest = hypervisor(rt.alloc(), 8, 0x1000)?;
-    let image = image(rt.alloc(), 0x13, CLEAN)?;
+    let image = image(rt.alloc(), "nop", CLEAN)?;
     let made = tries(rt.alloc(), &mut guest, image.as_slice(), 5)?;
     let wanted = [STEPPED, RETRY, RETRY, By::Hart, STEPPED];
     assert_eq!(rt; made.as_slice(), wanted.as_slice());
@@ -251,7 +252,7 @@ fn implicit_reads(rt: HostRuntime) -> Result<(), Fail> {
             asid: 0,
             ppn: page,
         };
-        let image = image(rt.alloc(), 0x13, DATA)?;
+        let image = image(rt.alloc(), "nop", DATA)?;
         let made = tries(rt.alloc(), &mut guest, image.as_slice(), 2 + misses)?;
         let wanted = if misses == 1 { RETRY } else { STEPPED };
         let made = made.as_slice();

@@ -5,12 +5,13 @@ ghost use Rattle.arch_defs.specs.Clocks.{times_at_start};
 ghost use Rattle.machine_defs.specs.declared.guests.Status.TheVariants.{Running};
 ghost use Rattle.guest_exit.specs.Starting.{IsNewPool};
 
-use crate::tests::{By, entered, guest, one, one_on};
+use crate::tests::{By, assembled, entered, guest, one, one_on};
 use crate::{Guest, Handled};
 use arch_defs::{GuestMode, GuestRoot, Interrupts, Mode, Reg, SupervisorMode, SupervisorRoot};
 use machine_defs::Status;
 use phys_mem::{NoMemory, RAM_BASE};
 use rv64_hart::{Stop, Tally, Why};
+use sample_programs::LineFault;
 use std::alloc::Global;
 use std::test::Fail;
 
@@ -76,13 +77,13 @@ fn taken_by_vs(guest: &Guest) -> (u64, u64, u64) {
 // What the hart makes with V = 1 is done to the registers of VS; those of HS and htimedelta stay.
 #[test]
 fn the_hart_makes_steps_of_vs(rt: HostRuntime) -> Result<(), Fail> {
-    for (mode, word) in [
-        (Mode::VS, 0x0070_0293), // addi x5, x0, 7
-        (Mode::VU, 0x0070_0293),
-        (Mode::VS, 0x1402_9073), // csrrw x0, sscratch, x5
-        (Mode::VS, 0x1060_1073), // csrrw x0, scounteren, x0
-        (Mode::VS, 0x1802_9073), // csrrw x0, satp, x5
-        (Mode::VS, 0x1200_0073), // sfence.vma
+    for (mode, line) in [
+        (Mode::VS, "addi x5, x0, 7"),
+        (Mode::VU, "addi x5, x0, 7"),
+        (Mode::VS, "csrrw x0, sscratch, x5"),
+        (Mode::VS, "csrrw x0, scounteren, x0"),
+        (Mode::VS, "csrrw x0, satp, x5"),
+        (Mode::VS, "sfence.vma x0, x0"),
     ] {
         let mut guest = nested(rt.alloc(), mode, 0)?;
         guest
@@ -90,11 +91,14 @@ fn the_hart_makes_steps_of_vs(rt: HostRuntime) -> Result<(), Fail> {
             .regs
             .advance(Reg::new(5), 0x8000_0000_0000_0003, RAM_BASE);
         let before = guest.virt.csrs;
-        assert_eq!(rt; one(rt.alloc(), &mut guest, word)?, By::Hart, "{word:#x}");
+        assert_eq!(rt; one(rt.alloc(), &mut guest, line)?, By::Hart, "{line}");
         assert_eq!(rt; (guest.virt.mode, guest.virt.regs.pc), (mode, 0x8000_0004));
         let csrs = guest.virt.csrs;
-        assert_eq!(rt; csrs.vs.scratch != 0, word == 0x1402_9073);
-        assert_eq!(rt; csrs.vs.atp != SupervisorRoot::Bare, word == 0x1802_9073);
+        assert_eq!(rt; csrs.vs.scratch != 0, line == "csrrw x0, sscratch, x5");
+        assert_eq!(rt;
+            csrs.vs.atp != SupervisorRoot::Bare,
+            line == "csrrw x0, satp, x5"
+        );
         assert_eq!(rt; (csrs.hs, csrs.hstatus), (before.hs, before.hstatus));
         assert_eq!(rt; (csrs.htimedelta, csrs.time), (1234, 1));
     }
@@ -106,24 +110,24 @@ fn the_hart_makes_steps_of_vs(rt: HostRuntime) -> Result<(), Fail> {
 // 8.6.2).
 #[test]
 fn exceptions(rt: HostRuntime) -> Result<(), Fail> {
-    for (mode, word, code, bit, tval, gva) in [
-        (Mode::VS, 0x0000_0000, 2, 0x4, 0, false),
-        (Mode::VU, 0x0000_0000, 2, 0x4, 0, false),
-        (Mode::VS, 0xC010_1073, 2, 0x4, 0xC010_1073, false), // csrrw x0, time, x0
-        (Mode::VU, 0xC010_1073, 2, 0x4, 0xC010_1073, false),
-        (Mode::VS, 0x0010_0073, 3, 0x8, RAM_BASE, true), // ebreak
-        (Mode::VU, 0x0000_0073, 8, 0x100, 0, false), // ecall
-        (Mode::VS, 0x0010_3503, 4, 0x10, 1, true), // ld x10, 1(x0)
-        (Mode::VS, 0x0000_30A3, 6, 0x40, 1, true), // sd x0, 1(x0)
-        (Mode::VS, 0x0000_3503, 5, 0x20, 0, true), // ld x10, 0(x0)
-        (Mode::VU, 0x0000_3503, 5, 0x20, 0, true),
-        (Mode::VS, 0x0000_3023, 7, 0x80, 0, true), // sd x0, 0(x0)
+    for (mode, line, code, bit, tval, gva) in [
+        (Mode::VS, ".word 0", 2, 0x4, 0, false),
+        (Mode::VU, ".word 0", 2, 0x4, 0, false),
+        (Mode::VS, "csrrw x0, time, x0", 2, 0x4, 0xC010_1073, false),
+        (Mode::VU, "csrrw x0, time, x0", 2, 0x4, 0xC010_1073, false),
+        (Mode::VS, "ebreak", 3, 0x8, RAM_BASE, true),
+        (Mode::VU, "ecall", 8, 0x100, 0, false),
+        (Mode::VS, "ld x10, 1(x0)", 4, 0x10, 1, true),
+        (Mode::VS, "sd x0, 1(x0)", 6, 0x40, 1, true),
+        (Mode::VS, "ld x10, 0(x0)", 5, 0x20, 0, true),
+        (Mode::VU, "ld x10, 0(x0)", 5, 0x20, 0, true),
+        (Mode::VS, "sd x0, 0(x0)", 7, 0x80, 0, true),
     ] {
         for delegated in [false, true] {
             let hedeleg = if delegated { bit } else { 0xB1FF & !bit };
             let mut guest = nested(rt.alloc(), mode, hedeleg)?;
             let before = guest.virt.csrs;
-            let by = one(rt.alloc(), &mut guest, word)?;
+            let by = one(rt.alloc(), &mut guest, line)?;
             let regs = guest.virt.regs;
             if delegated {
                 assert_eq!(rt;
@@ -164,7 +168,7 @@ fn exceptions(rt: HostRuntime) -> Result<(), Fail> {
 fn calls_and_fetches(rt: HostRuntime) -> Result<(), Fail> {
     let mut guest = nested(rt.alloc(), Mode::VS, 0xB1FF)?;
     guest.virt.regs.advance(Reg::new(17), 8, RAM_BASE);
-    assert_eq!(rt; one(rt.alloc(), &mut guest, 0x0000_0073)?, STEPPED);
+    assert_eq!(rt; one(rt.alloc(), &mut guest, "ecall")?, STEPPED);
     assert_eq!(rt;
         (guest.status, guest.virt.mode),
         (Status::Running, Mode::HS)
@@ -174,13 +178,13 @@ fn calls_and_fetches(rt: HostRuntime) -> Result<(), Fail> {
     for mode in [Mode::VS, Mode::VU] {
         let mut guest = nested(rt.alloc(), mode, 0)?;
         guest.virt.regs.pc = 0;
-        assert_eq!(rt; one(rt.alloc(), &mut guest, 0)?, STEPPED);
+        assert_eq!(rt; one(rt.alloc(), &mut guest, ".word 0")?, STEPPED);
         assert_eq!(rt; taken_by_hs(&guest), (1, 0, 0));
         assert_eq!(rt; previous(&guest), (true, mode == Mode::VS, true));
         assert_eq!(rt; (guest.virt.mode, guest.virt.csrs.htval), (Mode::HS, 0));
         let mut guest = nested(rt.alloc(), mode, 2)?;
         guest.virt.regs.pc = 0;
-        assert_eq!(rt; one(rt.alloc(), &mut guest, 0)?, STEPPED);
+        assert_eq!(rt; one(rt.alloc(), &mut guest, ".word 0")?, STEPPED);
         assert_eq!(rt; taken_by_vs(&guest), (1, 0, 0));
         assert_eq!(rt; previous(&guest), (false, false, false));
         assert_eq!(rt; (guest.virt.mode, guest.virt.csrs.htval), (Mode::VS, 0x400));
@@ -193,33 +197,33 @@ fn calls_and_fetches(rt: HostRuntime) -> Result<(), Fail> {
 // it.
 #[test]
 fn virtual_instructions(rt: HostRuntime) -> Result<(), Fail> {
-    for (word, in_vs) in [
-        (0x6000_2573, true), // csrrs x10, hstatus, x0
-        (0x2000_1073, true), // csrrw x0, vsstatus, x0
-        (0xE120_2573, true), // csrrs x10, hgeip, x0
-        (0xC010_2573, true), // csrrs x10, time, x0
-        (0x2200_0073, true), // hfence.vvma
-        (0x6200_0073, true), // hfence.gvma
-        (0x6000_4573, true), // hlv.b x10, (x0)
-        (0x6200_4073, true), // hsv.b x0, (x0)
-        (0x1050_0073, true), // wfi
-        (0x1020_0073, true), // sret
-        (0x1200_0073, true), // sfence.vma
-        (0x1800_2573, true), // csrrs x10, satp, x0
-        (0x1000_2573, false), // csrrs x10, sstatus, x0
-        (0x1400_1073, false), // csrrw x0, sscratch, x0
+    for (line, word, in_vs) in [
+        ("csrrs x10, hstatus, x0", 0x6000_2573, true),
+        ("csrrw x0, vsstatus, x0", 0x2000_1073, true),
+        ("csrrs x10, hgeip, x0", 0xE120_2573, true),
+        ("csrrs x10, time, x0", 0xC010_2573, true),
+        ("hfence.vvma x0, x0", 0x2200_0073, true),
+        ("hfence.gvma x0, x0", 0x6200_0073, true),
+        ("hlv.b x10, (x0)", 0x6000_4573, true),
+        ("hsv.b x0, (x0)", 0x6200_4073, true),
+        ("wfi", 0x1050_0073, true),
+        ("sret", 0x1020_0073, true),
+        ("sfence.vma x0, x0", 0x1200_0073, true),
+        ("csrrs x10, satp, x0", 0x1800_2573, true),
+        ("csrrs x10, sstatus, x0", 0x1000_2573, false),
+        ("csrrw x0, sscratch, x0", 0x1400_1073, false),
     ] {
         for mode in [Mode::VS, Mode::VU] {
             let mut guest = nested(rt.alloc(), mode, 0xB1FF)?;
             guest.virt.csrs.hstatus.vtvm = true;
             guest.virt.csrs.hstatus.vtw = true;
             guest.virt.csrs.hstatus.vtsr = true;
-            let by = one(rt.alloc(), &mut guest, word)?;
+            let by = one(rt.alloc(), &mut guest, line)?;
             if mode == Mode::VS && !in_vs {
-                assert_eq!(rt; by, By::Hart, "{word:#x}");
+                assert_eq!(rt; by, By::Hart, "{line}");
             } else {
-                assert_eq!(rt; by, STEPPED, "{word:#x}");
-                assert_eq!(rt; taken_by_hs(&guest), (22, word as u64, RAM_BASE));
+                assert_eq!(rt; by, STEPPED, "{line}");
+                assert_eq!(rt; taken_by_hs(&guest), (22, word, RAM_BASE));
                 assert_eq!(rt; previous(&guest), (true, mode == Mode::VS, false));
                 assert_eq!(rt;
                     (guest.virt.mode, guest.virt.regs.pc),
@@ -240,7 +244,10 @@ fn time_in_vs(rt: HostRuntime) -> Result<(), Fail> {
         guest.virt.csrs.hcounteren_tm = true;
         guest.virt.csrs.scounteren_tm = true;
         guest.clock.advance(5);
-        assert_eq!(rt; one(rt.alloc(), &mut guest, 0xC010_2573)?, STEPPED);
+        assert_eq!(rt;
+            one(rt.alloc(), &mut guest, "csrrs x10, time, x0")?,
+            STEPPED
+        );
         assert_eq!(rt; guest.virt.regs.read(Reg::new(10)), 1239);
         assert_eq!(rt; (guest.virt.mode, guest.virt.regs.pc), (mode, 0x8000_0004));
         assert_eq!(rt; (guest.clock.now(), guest.virt.csrs.time), (6, 6));
@@ -264,7 +271,7 @@ fn returns(rt: HostRuntime) -> Result<(), Fail> {
         guest.virt.csrs.vs.epc = 0x8000_0080;
         guest.virt.csrs.hs.status.spp = spp;
         guest.virt.csrs.vs.status.spp = spp;
-        let by = one(rt.alloc(), &mut guest, 0x1020_0073)?;
+        let by = one(rt.alloc(), &mut guest, "sret")?;
         assert_eq!(rt; by, if from == Mode::HS { STEPPED } else { By::Hart });
         assert_eq!(rt; guest.virt.mode, to);
         let csrs = guest.virt.csrs;
@@ -285,14 +292,17 @@ fn returns(rt: HostRuntime) -> Result<(), Fail> {
         vmid: 1,
         ppn: 0x8_0004,
     };
-    let by = one(rt.alloc(), &mut guest, 0x1020_0073)?;
+    let by = one(rt.alloc(), &mut guest, "sret")?;
     assert_eq!(rt; by, By::Host(Handled::Stepped));
     Ok(())
 }
 
-// A call, twice x5 += 1, and a jump back to these: 00000073, 00128293, 00128293, FF9FF06F (jal x0, -8).
-const CALLS: [u8; 16] = [
-    0x73, 0x00, 0x00, 0x00, 0x93, 0x82, 0x12, 0x00, 0x93, 0x82, 0x12, 0x00, 0x6F, 0xF0, 0x9F, 0xFF,
+// A call, twice x5 += 1, and a jump back to these.
+const CALLS: [&str; 4] = [
+    "ecall",
+    "count: addi x5, x5, 1",
+    "addi x5, x5, 1",
+    "j count",
 ];
 
 // With V = 1 a trap into VS ends no entry: ten steps are the call, which VS takes, six additions and three
@@ -309,7 +319,8 @@ fn traps_within_an_entry(rt: HostRuntime) -> Result<(), Fail> {
         guest.virt.csrs.vs.tvec = RAM_BASE + 4;
         guest.virt.csrs.hstatus.gva = true;
         let mut tally = Tally::new();
-        let stop = entered(rt.alloc(), &mut guest, &CALLS, 10, &mut tally)?;
+        let image = assembled(rt.alloc(), &CALLS)?;
+        let stop = entered(rt.alloc(), &mut guest, image.as_slice(), 10, &mut tally)?;
         assert_eq!(rt; stop, Some(Stop { taken, why }));
         assert_eq!(rt; guest.virt.mode, entered_mode);
         assert_eq!(rt; guest.virt.regs.read(Reg::new(5)), added);
@@ -347,7 +358,7 @@ fn delegated_interrupts(rt: HostRuntime) -> Result<(), Fail> {
                 guest.virt.csrs.vs.status.sie = sie;
                 guest.virt.csrs.vs.tvec = VS_HANDLER | vectored as u64;
                 let status = guest.virt.csrs.hstatus;
-                let by = one(rt.alloc(), &mut guest, 0x0070_0293)?;
+                let by = one(rt.alloc(), &mut guest, "addi x5, x0, 7")?;
                 assert_eq!(rt; by, By::Hart);
                 if taken {
                     assert_eq!(rt; taken_by_vs(&guest), (INTERRUPT | code, 0, RAM_BASE));
@@ -380,7 +391,7 @@ fn interrupts_for_hs(rt: HostRuntime) -> Result<(), Fail> {
                 guest.virt.csrs.hvip = bits;
                 guest.virt.csrs.hs.status.sie = false;
                 guest.virt.csrs.hs.tvec = HS_HANDLER | vectored as u64;
-                let by = one(rt.alloc(), &mut guest, 0x0070_0293)?;
+                let by = one(rt.alloc(), &mut guest, "addi x5, x0, 7")?;
                 assert_eq!(rt; by, By::HostByInterrupt);
                 assert_eq!(rt; taken_by_hs(&guest), (INTERRUPT | code, 0, RAM_BASE));
                 assert_eq!(rt; previous(&guest), (true, mode == Mode::VS, false));
@@ -396,7 +407,7 @@ fn interrupts_for_hs(rt: HostRuntime) -> Result<(), Fail> {
     guest.virt.csrs.hie = EXTERNAL;
     guest.virt.csrs.hvip = EXTERNAL;
     assert_eq!(rt;
-        one(rt.alloc(), &mut guest, 0x0070_0293)?,
+        one(rt.alloc(), &mut guest, "addi x5, x0, 7")?,
         By::HostByInterrupt
     );
     assert_eq!(rt; taken_by_hs(&guest), (INTERRUPT | 5, 0, RAM_BASE));
@@ -406,9 +417,8 @@ fn interrupts_for_hs(rt: HostRuntime) -> Result<(), Fail> {
 
 // The table's root at 80001000: entry 0 maps 0 to RAM's gigabyte as a page of U that can be read (V, R, U and
 // A, 53), entry 2 maps that gigabyte to itself as one that can be executed alone (V, X and A, 49).
-fn image(alloc: Global, word: u32) -> Result<Vec<u8>, NoMemory> {
-    let mut bytes = Vec::new(alloc);
-    bytes.extend_from_slice(&word.to_le_bytes())?;
+fn image(alloc: Global, line: &str) -> Result<Vec<u8>, LineFault> {
+    let mut bytes = assembled(alloc, &[line])?;
     bytes.resize(0x1000, 0)?;
     for entry in [0x2000_0053_u64, 0, 0x2000_0049] {
         bytes.extend_from_slice(&entry.to_le_bytes())?;
@@ -425,8 +435,8 @@ fn rights_of_loads(rt: HostRuntime) -> Result<(), Fail> {
         asid: 0,
         ppn: 0x8_0001,
     };
-    let from_x = image(rt.alloc(), 0x0002_B503)?; // ld x10, 0(x5)
-    let from_u = image(rt.alloc(), 0x0000_3503)?; // ld x10, 0(x0)
+    let from_x = image(rt.alloc(), "ld x10, 0(x5)")?;
+    let from_u = image(rt.alloc(), "ld x10, 0(x0)")?;
     for (mode, hs, vs, allowed) in [
         (Mode::VS, false, false, false),
         (Mode::VS, true, false, true),
