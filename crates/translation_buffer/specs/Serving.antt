@@ -53,7 +53,7 @@ abbrev pub AllStand : FrameSet → List ℕ → Context → Slots → Type 0
 AllStand read memory context slots =
     (kind : Access) → All (SlotStands read memory context kind) (slots_of slots kind)
 
--- no slot has the bit of a frame
+-- a slot lacks the bit of a frame
 abbrev pub LacksBit : ℕ → Slot → Type 0
 LacksBit frame slot = bit (frame % 64) slot.bits ≡ false
 
