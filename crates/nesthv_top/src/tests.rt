@@ -39,32 +39,31 @@ pub const DOES_NOT_RESERVE: [u32; 7] = [
     0x0000_0073, // ecall
 ];
 
-/// The words of examples/squares, which prints the squares of 0 to 9, each line of squares.s beside its word
-/// (`examples/words squares`). A square of d digits takes 7 + 11 d steps, and four steps stand before and
-/// after them: 4 + 10 * 7 + 11 * 16.
-const SQUARES: [u32; 22] = [
-    0x0010_0117, // _start: auipc sp, 0x100
-    0x0000_0413, // li s0, 0
-    0x0284_05B3, // square: mul a1, s0, s0
-    0x0001_0293, // mv t0, sp
-    0x00A0_0313, // li t1, 10
-    0x0265_F3B3, // digit: remu t2, a1, t1
-    0x0265_D5B3, // divu a1, a1, t1
-    0x0303_8393, // addi t2, t2, 48
-    0xFFF2_8293, // addi t0, t0, -1
-    0x0072_8023, // sb t2, 0(t0)
-    0xFE05_96E3, // bnez a1, digit
-    0x0002_C503, // print: lbu a0, 0(t0)
-    0x0010_0893, // li a7, 1
-    0x0000_0073, // ecall
-    0x0012_8293, // addi t0, t0, 1
-    0xFE22_E8E3, // bltu t0, sp, print
-    0x00A0_0513, // li a0, 10
-    0x0000_0073, // ecall
-    0x0014_0413, // addi s0, s0, 1
-    0xFA64_4EE3, // blt s0, t1, square
-    0x0080_0893, // li a7, 8
-    0x0000_0073, // ecall
+/// The lines of examples/squares (`examples/words squares`), which prints the squares of 0 to 9. A square of
+/// d digits takes 7 + 11 d steps, and four steps stand before and after them: 4 + 10 * 7 + 11 * 16.
+const SQUARES: [&str; 22] = [
+    "_start: auipc sp, 0x100",
+    "li s0, 0",
+    "square: mul a1, s0, s0",
+    "mv t0, sp",
+    "li t1, 10",
+    "digit: remu t2, a1, t1",
+    "divu a1, a1, t1",
+    "addi t2, t2, 48",
+    "addi t0, t0, -1",
+    "sb t2, 0(t0)",
+    "bnez a1, digit",
+    "print: lbu a0, 0(t0)",
+    "li a7, 1",
+    "ecall",
+    "addi t0, t0, 1",
+    "bltu t0, sp, print",
+    "li a0, 10",
+    "ecall",
+    "addi s0, s0, 1",
+    "blt s0, t1, square",
+    "li a7, 8",
+    "ecall",
 ];
 
 /// Sets stvec to `HANDLER`. What is tried stands behind it, at 0x8000000C.
@@ -344,19 +343,18 @@ pub fn is_reported(alloc: Global, case: Case<'_>, report: &str) -> Result<bool, 
 
 /// Images, each with its length if zeros come after the instructions, and the report of one turn of 10,000
 /// steps.
-const IMAGES: [(&[u32], usize, &str); 4] = [
+const IMAGES: [(&[u32], usize, &str); 3] = [
     (&PUTS_A, BLOCK, "guest a stopped steps 5 bytes 1\nA\n"),
-    (
-        &SQUARES,
-        0,
-        "guest a stopped steps 250 bytes 26\n0\n1\n4\n9\n16\n25\n36\n49\n64\n81\n\n",
-    ),
     (&RESERVES, 0, "guest a stopped steps 8 bytes 1\n0\n"),
     (&DOES_NOT_RESERVE, 0, "guest a stopped steps 7 bytes 1\n1\n"),
 ];
 
-/// Programs that put nothing, each with the report of such a turn.
-const SILENT: [(&[&str], &str); 3] = [
+/// Programs in lines, each with the report of such a turn.
+const PROGRAMS: [(&[&str], &str); 4] = [
+    (
+        &SQUARES,
+        "guest a stopped steps 250 bytes 26\n0\n1\n4\n9\n16\n25\n36\n49\n64\n81\n\n",
+    ),
     (&["j .+0"], "guest a running steps 10000 bytes 0\n\n"),
     (
         &["hfence.gvma zero, zero", "wfi"],
@@ -395,7 +393,7 @@ fn reports_of_images(rt: HostRuntime) -> Result<(), Fail> {
             "{report}"
         );
     }
-    for (lines, report) in SILENT {
+    for (lines, report) in PROGRAMS {
         let image = assembled(rt.alloc(), lines)?;
         assert!(rt;
             is_reported_of_turn(rt.alloc(), image.as_slice(), report)?,

@@ -155,115 +155,115 @@ fn reservations_across_worlds(rt: HostRuntime) -> Result<(), Fail> {
     Ok(())
 }
 
-/// The words of examples/hypervisor_bare, each line of hypervisor_bare.s beside its first word.
-const HYPERVISOR: [u32; 100] = [
-    0x0000_0297, // _start: la t0, traps
-    0x04C2_8293,
-    0x1052_9073, // csrw stvec, t0
-    0x0010_0293, // li t0, 1
-    0x00D2_9293, // slli t0, t0, LOAD_PAGE_FAULT
-    0x6022_9073, // csrw hedeleg, t0
-    0x0400_0293, // li t0, VSTI
-    0x6032_9073, // csrw hideleg, t0
-    0x0000_0117, // la sp, saved
-    0x1581_0113,
-    0x1401_1073, // csrw sscratch, sp
-    0x0000_0297, // la t0, kernel
-    0x0882_8293,
-    0x1412_9073, // csrw sepc, t0
-    0x1000_0293, // li t0, SPP
-    0x1002_A073, // csrs sstatus, t0
-    0x0800_0293, // li t0, SPV
-    0x6002_A073, // csrs hstatus, t0
-    0x1020_0073, // sret
-    0x1401_1173, // traps: csrrw sp, sscratch, sp
-    0x0051_3023, // sd t0, 0(sp)
-    0x1420_22F3, // csrr t0, scause
-    0xFF62_8293, // addi t0, t0, -ECALL_FROM_VS
-    0x0202_8263, // beqz t0, call
-    0x00A1_3423, // sd a0, 8(sp)
-    0x0111_3823, // sd a7, 16(sp)
-    0x04B2_8513, // addi a0, t0, 'A' + ECALL_FROM_VS
-    0x0010_0893, // li a7, 1
-    0x0000_0073, // ecall
-    0x0081_3503, // ld a0, 8(sp)
-    0x0101_3883, // ld a7, 16(sp)
-    0x0200_006F, // j skip
-    0x0008_8663, // call: beqz a7, timer
-    0x0000_0073, // ecall
-    0x0140_006F, // j skip
-    0x0400_0293, // timer: li t0, VSTI
-    0x6452_B073, // csrc hvip, t0
-    0x0005_4463, // bltz a0, skip
-    0x6452_A073, // csrs hvip, t0
-    0x1410_22F3, // skip: csrr t0, sepc
-    0x0042_8293, // addi t0, t0, 4
-    0x1412_9073, // csrw sepc, t0
-    0x0001_3283, // ld t0, 0(sp)
-    0x1401_1173, // csrrw sp, sscratch, sp
-    0x1020_0073, // sret
-    0x0000_0297, // kernel: la t0, vectors + 1
-    0x0752_8293,
-    0x1052_9073, // csrw stvec, t0
-    0x0002_02B7, // li t0, 0x20001
-    0x0012_829B,
-    0x00E2_9293, // slli t0, t0, 14
-    0x2000_0337, // li t1, GIGABYTE
-    0x0CF3_031B,
-    0x0062_B823, // sd t1, 16(t0)
-    0x00C2_D293, // srli t0, t0, 12
-    0x0080_0313, // li t1, 8
-    0x03C3_1313, // slli t1, t1, 60
-    0x0062_E2B3, // or t0, t0, t1
-    0x1802_9073, // csrw satp, t0
-    0x1200_0073, // sfence.vma
-    0x0010_0893, // li a7, 1
-    0x04B0_0513, // li a0, 'K'
-    0x0000_0073, // ecall
-    0x0000_2283, // lw t0, 0(zero)
-    0x6000_22F3, // csrr t0, hstatus
-    0x0000_0000, // .word 0
-    0x0200_0293, // li t0, 0x20
-    0x1042_A073, // csrs sie, t0
-    0x1001_6073, // csrsi sstatus, 2
-    0x0000_0893, // li a7, 0
-    0x0000_0513, // li a0, 0
-    0x0000_0073, // ecall
-    0x0080_0893, // li a7, 8
-    0x0000_0073, // ecall
-    0x0300_006F, // vectors: j fault
-    0x0000_0000, // .space 16
-    0x0000_0000,
-    0x0000_0000,
-    0x0000_0000,
-    0x0000_0893, // li a7, 0
-    0xFFF0_0513, // li a0, -1
-    0x0000_0073, // ecall
-    0x0010_0893, // li a7, 1
-    0x0540_0513, // li a0, 'T'
-    0x0000_0073, // ecall
-    0x1020_0073, // sret
-    0x0010_0893, // fault: li a7, 1
-    0x0500_0513, // li a0, 'P'
-    0x0000_0073, // ecall
-    0x1410_22F3, // csrr t0, sepc
-    0x0042_8293, // addi t0, t0, 4
-    0x1412_9073, // csrw sepc, t0
-    0x1020_0073, // sret
-    0x0000_0013, // .balign 8
-    0x0000_0000, // saved: .dword 0, 0, 0
-    0x0000_0000,
-    0x0000_0000,
-    0x0000_0000,
-    0x0000_0000,
-    0x0000_0000,
+/// The lines of examples/hypervisor_bare (`examples/words hypervisor_bare`).
+const HYPERVISOR: [&str; 100] = [
+    "_start: auipc t0, 0",
+    "addi t0, t0, 76",
+    "csrw stvec, t0",
+    "li t0, 1",
+    "slli t0, t0, 13",
+    "csrw hedeleg, t0",
+    "li t0, 64",
+    "csrw hideleg, t0",
+    "auipc sp, 0",
+    "addi sp, sp, 344",
+    "csrw sscratch, sp",
+    "auipc t0, 0",
+    "addi t0, t0, 136",
+    "csrw sepc, t0",
+    "li t0, 256",
+    "csrs sstatus, t0",
+    "li t0, 128",
+    "csrs hstatus, t0",
+    "sret",
+    "traps: csrrw sp, sscratch, sp",
+    "sd t0, 0(sp)",
+    "csrr t0, scause",
+    "addi t0, t0, -10",
+    "beqz t0, call",
+    "sd a0, 8(sp)",
+    "sd a7, 16(sp)",
+    "addi a0, t0, 75",
+    "li a7, 1",
+    "ecall",
+    "ld a0, 8(sp)",
+    "ld a7, 16(sp)",
+    "j skip",
+    "call: beqz a7, timer",
+    "ecall",
+    "j skip",
+    "timer: li t0, 64",
+    "csrc hvip, t0",
+    "bltz a0, skip",
+    "csrs hvip, t0",
+    "skip: csrr t0, sepc",
+    "addi t0, t0, 4",
+    "csrw sepc, t0",
+    "ld t0, 0(sp)",
+    "csrrw sp, sscratch, sp",
+    "sret",
+    "kernel: auipc t0, 0",
+    "addi t0, t0, 117",
+    "csrw stvec, t0",
+    "lui t0, 32",
+    "addiw t0, t0, 1",
+    "slli t0, t0, 14",
+    "lui t1, 0x20000",
+    "addiw t1, t1, 207",
+    "sd t1, 16(t0)",
+    "srli t0, t0, 12",
+    "li t1, 8",
+    "slli t1, t1, 60",
+    "or t0, t0, t1",
+    "csrw satp, t0",
+    "sfence.vma zero, zero",
+    "li a7, 1",
+    "li a0, 'K'",
+    "ecall",
+    "lw t0, 0(zero)",
+    "csrr t0, hstatus",
+    ".word 0",
+    "li t0, 32",
+    "csrs sie, t0",
+    "csrsi sstatus, 2",
+    "li a7, 0",
+    "li a0, 0",
+    "ecall",
+    "li a7, 8",
+    "ecall",
+    "vectors: j fault",
+    ".word 0",
+    ".word 0",
+    ".word 0",
+    ".word 0",
+    "li a7, 0",
+    "li a0, -1",
+    "ecall",
+    "li a7, 1",
+    "li a0, 'T'",
+    "ecall",
+    "sret",
+    "fault: li a7, 1",
+    "li a0, 'P'",
+    "ecall",
+    "csrr t0, sepc",
+    "addi t0, t0, 4",
+    "csrw sepc, t0",
+    "sret",
+    "nop",
+    "saved: .word 0",
+    ".word 0",
+    ".word 0",
+    ".word 0",
+    ".word 0",
+    ".word 0",
 ];
 
 // The report that docs/guide.md explains. A forwarded call takes 14 steps of the hypervisor, and another trap
 // 19.
 #[test]
 fn a_hypervisor_runs_a_kernel(rt: HostRuntime) -> Result<(), Fail> {
-    let image = image(rt.alloc(), &HYPERVISOR, 0)?;
+    let image = assembled(rt.alloc(), &HYPERVISOR)?;
     let report = "guest a stopped steps 182 bytes 5\nKPWCT\n";
     assert!(rt; is_reported_of_bytes(rt.alloc(), image.as_slice(), report)?);
     Ok(())

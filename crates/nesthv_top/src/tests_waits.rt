@@ -571,47 +571,47 @@ fn time_by_modes(rt: HostRuntime) -> Result<(), Fail> {
     Ok(())
 }
 
-/// The words of examples/echo, each line of echo.s beside its first word.
-const ECHO: [u32; 39] = [
-    0x0000_0297, // _start: la t0, vectors + 1
-    0x03D2_8293,
-    0x1052_9073, // csrw stvec, t0
-    0x0030_0413, // li s0, 3
-    0x3E80_0493, // li s1, TICK
-    0x0004_8513, // mv a0, s1
-    0x0000_0893, // li a7, 0
-    0x0000_0073, // ecall
-    0x2200_0293, // li t0, STI | SEI
-    0x1042_9073, // csrw sie, t0
-    0x1001_6073, // csrsi sstatus, 2
-    0x1050_0073, // sleep: wfi
-    0xFE04_1EE3, // bnez s0, sleep
-    0x0080_0893, // stop: li a7, 8
-    0x0000_0073, // ecall
-    0xFF9F_F06F, // vectors: j stop
-    0x0000_0000, // .space 16
-    0x0000_0000,
-    0x0000_0000,
-    0x0000_0000,
-    0x0280_006F, // j tick
-    0x0000_0000, // .space 12
-    0x0000_0000,
-    0x0000_0000,
-    0x0020_0893, // input: li a7, 2
-    0x0000_0073, // ecall
-    0x0205_4863, // bltz a0, back
-    0x0010_0893, // li a7, 1
-    0x0000_0073, // ecall
-    0xFEDF_F06F, // j input
-    0x0010_0893, // tick: li a7, 1
-    0x02E0_0513, // li a0, '.'
-    0x0000_0073, // ecall
-    0xFFF4_0413, // addi s0, s0, -1
-    0x3E84_8493, // addi s1, s1, TICK
-    0x0004_8513, // mv a0, s1
-    0x0000_0893, // li a7, 0
-    0x0000_0073, // ecall
-    0x1020_0073, // back: sret
+/// The lines of examples/echo (`examples/words echo`).
+const ECHO: [&str; 39] = [
+    "_start: auipc t0, 0",
+    "addi t0, t0, 61",
+    "csrw stvec, t0",
+    "li s0, 3",
+    "li s1, 1000",
+    "mv a0, s1",
+    "li a7, 0",
+    "ecall",
+    "li t0, 544",
+    "csrw sie, t0",
+    "csrsi sstatus, 2",
+    "sleep: wfi",
+    "bnez s0, sleep",
+    "stop: li a7, 8",
+    "ecall",
+    "vectors: j stop",
+    ".word 0",
+    ".word 0",
+    ".word 0",
+    ".word 0",
+    "j tick",
+    ".word 0",
+    ".word 0",
+    ".word 0",
+    "input: li a7, 2",
+    "ecall",
+    "bltz a0, back",
+    "li a7, 1",
+    "ecall",
+    "j input",
+    "tick: li a7, 1",
+    "li a0, '.'",
+    "ecall",
+    "addi s0, s0, -1",
+    "addi s1, s1, 1000",
+    "mv a0, s1",
+    "li a7, 0",
+    "ecall",
+    "back: sret",
 ];
 
 // The report that docs/guide.md explains: 11 steps before the first wait. The wait and its interrupt are two
@@ -619,7 +619,7 @@ const ECHO: [u32; 39] = [
 // byte, for two bytes and then for one; the loop's branch comes five times, and two steps stop the guest.
 #[test]
 fn a_kernel_echoes(rt: HostRuntime) -> Result<(), Fail> {
-    let image = image(rt.alloc(), &ECHO, 0)?;
+    let image = assembled(rt.alloc(), &ECHO)?;
     let inputs = "input = [[100, 104], [100, 105], [2500, 33]]\n";
     let report = "guest a stopped steps 84 bytes 6\nhi..!.\n";
     assert!(rt; is_reported_with(rt.alloc(), image.as_slice(), inputs, 1000, report)?);
