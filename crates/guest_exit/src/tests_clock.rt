@@ -39,6 +39,19 @@ fn at(alloc: Global, mode: Mode, time: u64) -> Result<Guest, NoMemory>
     Ok(guest)
 }
 
+// One that enables the interrupts of its timer, which is set to 10, and of its input.
+fn enabling(alloc: Global, mode: Mode, time: u64) -> Result<Guest, NoMemory>
+    requires { time ≤ 1000 }
+    ensures { IfOk result (λ g. (g.status ≡ Running) × (g.clock.time ≡ time) × (g.steps ≡ 0)
+        × (g.virt.reservation ≡ None) × IsNewPool g.part g.pool) }
+{
+    let mut guest = at(alloc, mode, time)?;
+    guest.clock.set(10);
+    guest.virt.csrs.sie.timer = true;
+    guest.virt.csrs.sie.external = true;
+    Ok(guest)
+}
+
 // One that makes a call of this number, with 65 in a0 and 9 in a1.
 fn calling(alloc: Global, number: u64, time: u64) -> Result<Guest, NoMemory>
     requires { time ≤ 1000 }
@@ -150,16 +163,14 @@ fn interrupts_of_the_clock(rt: HostRuntime) -> Result<(), Fail> {
         (10, Mode::VS, 5),
         (20, Mode::VU, 9),
     ] {
-        let mut guest = at(rt.alloc(), mode, time)?;
-        guest.clock.set(10);
-        guest.virt.csrs.sie.timer = true;
-        guest.virt.csrs.sie.external = true;
+        let mut guest = enabling(rt.alloc(), mode, time)?;
+        let made = one(rt.alloc(), &mut guest, ADDI)?;
         let by = match (cause, mode) {
             (0, _) => By::Hart,
             (_, Mode::U) => By::HartByTrap,
             _ => By::HostByInterrupt,
         };
-        assert_eq!(rt; one(rt.alloc(), &mut guest, ADDI)?, by, "clock {time}");
+        assert_eq!(rt; made, by, "clock {time}");
         let taken = if cause == 0 { 0 } else { INTERRUPT | cause };
         assert_eq!(rt; guest.virt.csrs.hs.cause, taken);
         assert_eq!(rt; (guest.clock.now(), guest.steps), (time + 1, 1));
