@@ -1,12 +1,5 @@
 -- The inputs of a console, each a moment and a byte that is there from this moment of the clock on (own).
-use Rattle.std.specs.Prelude.{ℕ, ◌≤◌, ◌<◌, ◌^◌, Bool, false, List, [], ◌∷◌, Option, Some, None, All, length, nat_le, if◌then◌else◌}
-use Rattle.std.specs.List.Sorted.{IsNonDecreasingBy}
-
--- what a console may be given: at most 65,536 inputs, with moments below 2^62, none less than the one before
-pub record AreInputs (inputs : List (ℕ × ℕ)) : Type 0 where
-  pub count : length inputs ≤ 65536
-  pub moments : All (λ input. input.0 < 2 ^ 62) inputs
-  pub order : IsNonDecreasingBy (λ input. input.0) inputs
+use Rattle.std.specs.Prelude.{ℕ, Bool, false, List, [], ◌∷◌, Option, Some, None, nat_le, if◌then◌else◌}
 
 -- the moment of the first of the inputs that are unread
 abbrev pub next_input : List (ℕ × ℕ) → Option ℕ

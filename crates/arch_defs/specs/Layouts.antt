@@ -3,6 +3,8 @@ use Rattle.std.specs.Prelude.{ℕ, ◌≡◌, ◌+◌, ◌*◌, ◌%◌, ◌≤�
 use Rattle.std.specs.List.{list_any, list_all}
 use Rattle.arch_defs.specs.Frames.{Frames, within, in_blocks, joined, Apart}
 use Rattle.arch_defs.specs.Ram.{IsDistinct}
+use Rattle.guest_specs.specs.declared.needs.Need.{Need}
+use Rattle.guest_specs.specs.Needs.{tables_for}
 
 -- its blocks, in the order in which its RAM goes through them; the first frame of its roots, and that of its
 -- other tables; how many cached spaces it has, and at most how many entries each
@@ -21,11 +23,6 @@ no_part = record { blocks = []; first_root = 0; first_table = 0; spaces = 0; ent
 -- each space
 abbrev pub root_frames : Layout → Frames
 root_frames part = within part.first_root (4 * (1 + part.spaces))
-
--- the tables below the root of a space that may have so many entries: an entry needs at most one on each
--- level below the root's
-abbrev pub tables_for : ℕ → ℕ
-tables_for entries = 2 * entries
 
 -- the frames of its other tables: one of the host table's, and those of each space
 abbrev pub table_frames : Layout → Frames
@@ -78,3 +75,9 @@ names_each_once part =
     && blocks_are_apart part.blocks part.first_table (1 + part.spaces * tables_for part.entries))
     && ranges_are_apart part.first_root (4 * (1 + part.spaces)) part.first_table (1
     + part.spaces * tables_for part.entries)))
+
+-- a part is of the size that is needed
+pub record Meets (need : Need) (part : Layout) : Type 0 where
+  pub blocks : length part.blocks ≡ need.blocks
+  pub spaces : part.spaces ≡ need.spaces
+  pub entries : part.entries ≡ need.entries

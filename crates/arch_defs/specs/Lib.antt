@@ -12,7 +12,6 @@ pub mod Interrupts
 pub mod Layouts
 pub mod Memory
 pub mod MemoryLaws
-pub mod Needs
 pub mod Permits
 pub mod Ram
 pub mod Registers

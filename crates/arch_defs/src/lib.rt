@@ -7,19 +7,15 @@ mod keys;
 mod laws;
 mod levels;
 mod modes;
-mod needs;
 mod parts;
 mod registers;
 mod second_walks;
-#[cfg(test)]
-mod tests;
-#[cfg(test)]
-mod tests_parts;
 mod walks;
 mod widths;
 
 pub use cached::{Entry, Fence};
 pub use csr_names::{CsrEnd, EnableCsr, HypervisorCsr, InterruptCsr, Register, SupervisorCsr};
+pub use guest_specs::{Need, TABLES_PER_ENTRY};
 pub use keys::Key;
 pub use laws::{frames_apart_stay, ram_is_its_blocks};
 pub use levels::{
@@ -33,8 +29,7 @@ pub use modes::{
     LOAD_PAGE_FAULT, Mode, STORE_ACCESS_FAULT, STORE_GUEST_PAGE_FAULT, STORE_MISALIGNED,
     STORE_PAGE_FAULT, Trap, VIRTUAL_INSTRUCTION,
 };
-pub use needs::Need;
-pub use parts::{BLOCK_FRAMES, BLOCK_SIZE, FRAME_SIZE, MOST_BLOCKS, Part, TABLES_PER_ENTRY};
+pub use parts::{BLOCK_FRAMES, BLOCK_SIZE, FRAME_SIZE, MOST_BLOCKS, Part};
 pub use registers::{
     Csrs, GuestMode, GuestRoot, HartState, HypervisorStatus, Interrupts, Reg, Regs, SupervisorCsrs,
     SupervisorMode, SupervisorRoot, SupervisorStatus, Virtual,

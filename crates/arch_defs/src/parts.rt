@@ -6,6 +6,7 @@ ghost use Rattle.arch_defs.specs.Layouts.{Layout, NamesEachOnce, named_by};
 ghost use Rattle.arch_defs.specs.Memory.{block_size};
 ghost use Rattle.arch_defs.specs.Ram.{host_place};
 
+use guest_specs::TABLES_PER_ENTRY;
 use std::marker::Model;
 
 /// The bytes of a frame.
@@ -19,10 +20,6 @@ pub const BLOCK_SIZE: u64 = 2_097_152;
 
 /// The most blocks of a part.
 pub const MOST_BLOCKS: usize = 32;
-
-/// How many tables below its root a space has for each of its entries: an entry needs at most one on each
-/// level below the root's.
-pub const TABLES_PER_ENTRY: u64 = 2;
 
 /// The frames of machine memory that a guest has: its blocks, in the order in which its RAM goes through
 /// them; its roots, of four frames each, the host table's first and then one for each space; and its other

@@ -4,5 +4,3 @@
 pub use commands::{FileRequest, Request, request_of};
 
 mod commands;
-#[cfg(test)]
-mod tests;

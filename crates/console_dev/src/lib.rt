@@ -2,8 +2,6 @@
 #![tactic(auto)]
 
 mod consoles;
-#[cfg(test)]
-mod tests;
 
 pub use consoles::Console;
 pub use no_memory::NoMemory;

@@ -13,6 +13,3 @@ pub use access::{read, write};
 pub use arch_defs::CsrEnd;
 pub use hypervisors::hedeleg_bits;
 pub use laws::{illegal_as_in_hs, leaves_others, reads_back, reads_what_was_written};
-
-#[cfg(test)]
-mod tests;

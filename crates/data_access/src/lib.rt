@@ -4,8 +4,6 @@
 
 mod places;
 mod purposes;
-#[cfg(test)]
-mod tests;
 
 pub use op_defs::{DataAccess, Purpose};
 pub use phys_mem::Mem;

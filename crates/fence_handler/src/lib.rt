@@ -3,8 +3,6 @@
 
 mod laws;
 mod requests;
-#[cfg(test)]
-mod tests;
 
 pub use arch_defs::Fence;
 pub use laws::instruction_makes_fence;

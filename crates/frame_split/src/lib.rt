@@ -3,8 +3,6 @@
 
 mod faults;
 mod planning;
-#[cfg(test)]
-mod tests;
 
 pub use arch_defs::{Need, Part};
 pub use faults::PlanFault;

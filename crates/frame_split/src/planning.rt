@@ -1,8 +1,8 @@
 // The plan: all blocks first, then all roots, then all other tables, so that no frame is lost.
 
 ghost use Rattle.std.specs.Prelude.{◌≡◌, ℕ, ◌+◌, ◌*◌, ◌%◌, ◌<◌, ◌≤◌, ◌^◌, length, slice_index, IfOk, IfErr, IfSome};
-ghost use Rattle.arch_defs.specs.Layouts.{NamesEachOnce, tables_for};
-ghost use Rattle.arch_defs.specs.Needs.{IsNeed, Meets};
+ghost use Rattle.arch_defs.specs.Layouts.{NamesEachOnce, Meets};
+ghost use Rattle.guest_specs.specs.Needs.{tables_for, IsNeed};
 ghost use Rattle.frame_split.specs.Shares.{AreNeeds, Causes, IsSplit, LiesBetween, after_need, frames_of_all, blocks_of_all, roots_of_all, tables_of_all};
 
 use crate::faults::PlanFault;

@@ -20,7 +20,7 @@ use Rattle.arch_defs.specs.Traps.{is_virtual}
 use Rattle.arch_defs.proofs.FrameSets.{only_both, only_none}
 use Rattle.machine_defs.specs.declared.events.Event.{Event}
 use Rattle.machine_defs.specs.declared.events.Event.TheVariants as event
-use Rattle.machine_defs.specs.declared.guests.Status.TheVariants.{Running}
+use Rattle.guest_specs.specs.declared.statuses.Status.TheVariants.{Running}
 use Rattle.machine_laws.specs.HostPlaces.{in_ram, memory_place}
 use Rattle.machine_defs.specs.Fills.{missing_entry}
 use Rattle.machine_defs.specs.Machine.{Machine, Platform, ticked, trapped, with_lines, with_pending_lines}

@@ -8,7 +8,7 @@ use Rattle.arch_defs.specs.declared.registers.Virtual.{Virtual}
 use Rattle.arch_defs.specs.Traps.{is_virtual}
 use Rattle.arch_defs.specs.WalkedEntries.{folds}
 use Rattle.op_defs.specs.declared.ops.Op.{Op}
-use Rattle.machine_defs.specs.declared.guests.Status.TheVariants.{Running}
+use Rattle.guest_specs.specs.declared.statuses.Status.TheVariants.{Running}
 use Rattle.machine_defs.specs.Fills.{missing_entry}
 use Rattle.machine_defs.specs.Machine.{Machine, Tried, WaitsForGood, trapped}
 use Rattle.machine_defs.specs.Runs.{left_by}

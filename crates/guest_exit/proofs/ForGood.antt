@@ -5,7 +5,7 @@ use Rattle.arch_defs.specs.declared.modes.Trap.{Trap}
 use Rattle.arch_defs.specs.declared.cached.Fence.{Fence}
 use Rattle.arch_defs.specs.Registers.{a7, read}
 use Rattle.machine_defs.specs.declared.events.Event.TheVariants.{System}
-use Rattle.machine_defs.specs.declared.guests.Status.TheVariants.{Running, Waiting}
+use Rattle.guest_specs.specs.declared.statuses.Status.TheVariants.{Running, Waiting}
 use Rattle.machine_defs.specs.Machine.{Machine, Platform, Tried, Ended, WaitsForGood, stepped_to, stopped_if, trapped}
 use Rattle.machine_defs.specs.Runs.{left_after, left_by}
 use Rattle.machine_defs.specs.Tries.{try}

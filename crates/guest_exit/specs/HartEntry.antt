@@ -8,7 +8,7 @@ use Rattle.arch_defs.specs.Inputs.{has_input}
 use Rattle.arch_defs.specs.Layouts.{Layout}
 use Rattle.arch_defs.specs.Traps.{is_virtual}
 use Rattle.machine_defs.specs.declared.events.Event.TheVariants as event
-use Rattle.machine_defs.specs.declared.guests.Status.TheVariants.{Running}
+use Rattle.guest_specs.specs.declared.statuses.Status.TheVariants.{Running}
 use Rattle.machine_laws.specs.HostPlaces.{in_ram, memory_place}
 use Rattle.machine_defs.specs.Machine.{Machine, Platform, with_pending_lines}
 use Rattle.machine_defs.specs.Runs.{event_in, run}

@@ -3,7 +3,7 @@
 ghost use Rattle.std.specs.Prelude.{◌≡◌, List, Some, ℕ, false, true};
 ghost use Rattle.arch_defs.specs.Interrupts.{vs_bit};
 ghost use Rattle.arch_defs.specs.Traps.{is_virtual};
-ghost use Rattle.machine_defs.specs.declared.guests.Status.TheVariants.{Running};
+ghost use Rattle.guest_specs.specs.declared.statuses.Status.TheVariants.{Running};
 ghost use Rattle.guest_exit.specs.HartSteps.{host_takes, is_hosts};
 ghost use Rattle.guest_exit.specs.Steps.{CanStep, TakesInterrupt};
 ghost use Rattle.guest_exit.specs.View.{IsPlaced, KeepsSpaces};

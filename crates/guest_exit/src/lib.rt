@@ -10,18 +10,6 @@ mod host_interrupts;
 mod laws;
 mod miss;
 mod system;
-#[cfg(test)]
-mod tests;
-#[cfg(test)]
-mod tests_accesses;
-#[cfg(test)]
-mod tests_clock;
-#[cfg(test)]
-mod tests_folded;
-#[cfg(test)]
-mod tests_nested;
-#[cfg(test)]
-mod tests_storable;
 mod traps;
 mod wfi;
 

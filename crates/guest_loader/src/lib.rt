@@ -2,8 +2,6 @@
 #![tactic(auto)]
 
 mod loading;
-#[cfg(test)]
-mod tests;
 
 pub use arch_defs::Part;
 pub use loading::{fits, load};

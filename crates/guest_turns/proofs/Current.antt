@@ -1,7 +1,7 @@
 -- What the clock sets stays as the clock sets it, through steps, fills and runs.
 use Rattle.std.proofs.Common.{◌≡◌, ℕ, zero, suc, ap, subst, sym}
-use Rattle.machine_defs.specs.declared.guests.Status.{Status}
-use Rattle.machine_defs.specs.declared.guests.Status.TheVariants as status
+use Rattle.guest_specs.specs.declared.statuses.Status.{Status}
+use Rattle.guest_specs.specs.declared.statuses.Status.TheVariants as status
 use Rattle.machine_defs.specs.Fills.{most_fills, ready}
 use Rattle.machine_defs.specs.Machine.{Machine, Platform, Tried, Ended, WaitsForGood, with_pending_lines}
 use Rattle.machine_defs.specs.Runs.{left_by, run, step, stepped}

@@ -7,7 +7,6 @@ pub mod Placing
 pub mod Rooms
 pub mod Starting
 pub mod Steps
-pub mod TestGuests
 pub mod Tries
 pub mod TurnLists
 pub mod Turns

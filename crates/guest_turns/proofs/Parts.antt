@@ -1,6 +1,6 @@
 -- What one advance of a guest is to its lone machine: what the hart makes in an entry, and what the host makes after it.
 use Rattle.std.proofs.Common.{◌≡◌, ◌≢◌, ℕ, ◌+◌, ◌-◌, ◌<◌, ◌≤◌, List, ◌++◌, refl, ap, arith}
-use Rattle.machine_defs.specs.declared.guests.Status.TheVariants.{Running}
+use Rattle.guest_specs.specs.declared.statuses.Status.TheVariants.{Running}
 use Rattle.machine_defs.specs.Machine.{with_pending_lines}
 use Rattle.machine_defs.specs.Runs.{events, run, trace_of}
 use Rattle.machine_laws.specs.Budgets.{NeedNoFill}

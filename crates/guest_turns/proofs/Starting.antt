@@ -6,7 +6,7 @@ use Rattle.std.proofs.lemmas.List.{ext_get_or, get_or-map, get_or_append_left, g
 use Rattle.arch_defs.specs.Frames.{Frames, LieIn, Only, Same, Within, in_blocks}
 use Rattle.arch_defs.specs.Layouts.{Layout, NamesEachOnce, host_frames, in_tables, named_by, no_part}
 use Rattle.arch_defs.specs.Memory.{block_size, loaded, zeros}
-use Rattle.arch_defs.specs.Needs.{IsNeed}
+use Rattle.guest_specs.specs.Needs.{IsNeed, need_of}
 use Rattle.arch_defs.specs.Ram.{ram_of}
 use Rattle.arch_defs.specs.Spaces.{Space}
 use Rattle.arch_defs.proofs.FrameSets.{apart_sym, apart_within, kept, left_within, only_both, only_more, same_fewer}
@@ -19,7 +19,7 @@ use Rattle.frame_split.specs.Shares.{AreNeeds, IsSplit}
 use Rattle.host_tables.specs.HostTable.{IsHostTable}
 use Rattle.host_tables.specs.Walks.{IsHeld}
 use Rattle.host_tables.proofs.Held.{host_in_part, host_in_tables, table_stays}
-use Rattle.machine_defs.specs.declared.guests.GuestSpec.{GuestSpec}
+use Rattle.guest_specs.specs.declared.guests.GuestSpec.{GuestSpec}
 use Rattle.machine_laws.specs.HostPlaces.{in_ram}
 use Rattle.machine_defs.specs.Machine.{Machine, Platform, start, with_pending_lines}
 use Rattle.machine_laws.specs.Renaming.{ReservesWithin}
@@ -37,7 +37,6 @@ use Rattle.guest_exit.specs.View.{machine_of, platform_of}
 use Rattle.guest_turns.specs.Hosted.{no_machine}
 use Rattle.guest_turns.specs.Hosting.{AreAtStart, AreHosted, AreLaidOut, IsAtStart, IsHosted, parts_of, space_tables}
 use Rattle.guest_turns.specs.Limits.{IsBootable, frames_for, needs_of}
-use Rattle.machine_defs.specs.GuestNeeds.{need_of}
 use Rattle.guest_turns.proofs.Among.{machines_of}
 use Rattle.guest_turns.proofs.Placing.{part_ram_kept}
 

@@ -4,8 +4,8 @@ use Rattle.std.proofs.lemmas.Bool.{cases_lt}
 use Rattle.std.proofs.lemmas.List.Sums.{sum_by-append}
 use Rattle.machine_defs.specs.declared.events.Event.{Event}
 use Rattle.machine_defs.specs.declared.events.Event.TheVariants as event
-use Rattle.machine_defs.specs.declared.guests.Status.{Status}
-use Rattle.machine_defs.specs.declared.guests.Status.TheVariants as status
+use Rattle.guest_specs.specs.declared.statuses.Status.{Status}
+use Rattle.guest_specs.specs.declared.statuses.Status.TheVariants as status
 use Rattle.machine_defs.specs.Fills.{most_tries, needed, ready}
 use Rattle.machine_defs.specs.Machine.{Machine, Tried, Ended, WaitsForGood}
 use Rattle.machine_defs.specs.Runs.{event_in, events, events_by, instruction_count, is_instruction, is_plain_step, left_after, pc_and_word, plain_count, run, step, trace_of}

@@ -1,7 +1,7 @@
 -- Calm steps, of which one entry of the hart makes all of a turn's (own).
 use Rattle.std.specs.Prelude.{ℕ, zero, suc, ◌≡◌, ◌<◌, None}
 use Rattle.arch_defs.specs.Registers.{clear_interrupts}
-use Rattle.machine_defs.specs.declared.guests.Status.TheVariants.{Running}
+use Rattle.guest_specs.specs.declared.statuses.Status.TheVariants.{Running}
 use Rattle.machine_defs.specs.Fills.{missing_entry}
 use Rattle.machine_defs.specs.Machine.{Machine}
 use Rattle.machine_defs.specs.Runs.{event_in, plain_count, run}

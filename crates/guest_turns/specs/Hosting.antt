@@ -8,8 +8,8 @@ use Rattle.arch_defs.specs.Ram.{ram_of}
 use Rattle.machine_laws.specs.Budgets.{Goes}
 use Rattle.frame_split.specs.Shares.{ArePairwiseApart}
 use Rattle.host_tables.specs.HostTable.{IsHostTable}
-use Rattle.machine_defs.specs.declared.guests.GuestSpec.{GuestSpec}
-use Rattle.machine_defs.specs.declared.guests.Status.TheVariants.{Running}
+use Rattle.guest_specs.specs.declared.guests.GuestSpec.{GuestSpec}
+use Rattle.guest_specs.specs.declared.statuses.Status.TheVariants.{Running}
 use Rattle.machine_defs.specs.Machine.{start, with_pending_lines}
 use Rattle.machine_defs.specs.Runs.{run}
 use Rattle.shadow_pool.specs.Slots as slots

@@ -1,12 +1,12 @@
 -- What a host can boot.
 use Rattle.std.specs.Prelude.{ℕ, ◌*◌, ◌≤◌, List, length, map}
 use Rattle.std.specs.List.{All}
-use Rattle.arch_defs.specs.declared.needs.Need.{Need}
-use Rattle.arch_defs.specs.Inputs.{AreInputs}
+use Rattle.guest_specs.specs.declared.needs.Need.{Need}
+use Rattle.guest_specs.specs.Inputs.{AreInputs}
 use Rattle.arch_defs.specs.Memory.{block_size}
 use Rattle.frame_split.specs.Shares.{frames_of_all}
-use Rattle.machine_defs.specs.GuestNeeds.{need_of}
-use Rattle.machine_defs.specs.declared.guests.GuestSpec.{GuestSpec}
+use Rattle.guest_specs.specs.Needs.{need_of}
+use Rattle.guest_specs.specs.declared.guests.GuestSpec.{GuestSpec}
 
 -- a guest that is within the limits, and whose image fits (own)
 pub record IsBootable (guest : GuestSpec) : Type 0 where

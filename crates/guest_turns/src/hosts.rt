@@ -4,7 +4,7 @@ ghost use Rattle.std.specs.Prelude.{◌≡◌, ◌≢◌, ◌+◌, ◌^◌, ◌<
 ghost use Rattle.arch_defs.specs.Frames.{Only};
 ghost use Rattle.arch_defs.specs.Layouts.{named_by};
 ghost use Rattle.frame_split.specs.Shares.{IsSplit};
-ghost use Rattle.machine_defs.specs.declared.guests.Status.TheVariants.{Running};
+ghost use Rattle.guest_specs.specs.declared.statuses.Status.TheVariants.{Running};
 ghost use Rattle.machine_defs.specs.Machine.{start};
 ghost use Rattle.machine_defs.specs.Runs.{run};
 ghost use Rattle.guest_turns.specs.Account.{Accounted, HasRoomForTurn};

@@ -4,8 +4,6 @@
 mod booting;
 mod hosts;
 mod laws;
-#[cfg(test)]
-mod tests;
 mod turning;
 
 pub use hosts::Host;

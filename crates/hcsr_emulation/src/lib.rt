@@ -4,8 +4,6 @@
 
 mod emulation;
 mod registers;
-#[cfg(test)]
-mod tests;
 
 pub use emulation::{Emulated, emulate, is_decided};
 pub use op_defs::Op;

@@ -2,8 +2,6 @@
 #![tactic(auto)]
 
 mod accesses;
-#[cfg(test)]
-mod tests;
 
 pub use accesses::access;
 pub use hcsr_emulation::Accessed;

@@ -3,8 +3,6 @@
 
 mod building;
 mod laws;
-#[cfg(test)]
-mod tests;
 
 pub use arch_defs::Part;
 pub use building::{build, frame_of};

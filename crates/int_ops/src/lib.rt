@@ -3,8 +3,6 @@
 
 mod arithmetic;
 mod atomics;
-#[cfg(test)]
-mod tests;
 mod words;
 
 pub use arithmetic::alu;

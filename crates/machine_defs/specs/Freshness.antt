@@ -8,8 +8,8 @@ use Rattle.arch_defs.specs.declared.registers.GuestRoot.{GuestRoot}
 use Rattle.arch_defs.specs.Roots.{vmid_of}
 use Rattle.arch_defs.specs.Spaces.{front}
 use Rattle.arch_defs.specs.WalkedEntries.{entry_by_walk, folds}
-use Rattle.machine_defs.specs.declared.guests.Status.{Status}
-use Rattle.machine_defs.specs.declared.guests.Status.TheVariants.{Running, Waiting, Stopped}
+use Rattle.guest_specs.specs.declared.statuses.Status.{Status}
+use Rattle.guest_specs.specs.declared.statuses.Status.TheVariants.{Running, Waiting, Stopped}
 use Rattle.machine_defs.specs.Fills.{ready}
 use Rattle.machine_defs.specs.FreeMachines.{is_named}
 use Rattle.machine_defs.specs.Machine.{Machine}

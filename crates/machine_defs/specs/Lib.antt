@@ -3,7 +3,6 @@ pub mod Core
 pub mod Fills
 pub mod FreeMachines
 pub mod Freshness
-pub mod GuestNeeds
 pub mod HlvAccesses
 pub mod Machine
 pub mod Outcomes

@@ -17,9 +17,9 @@ use Rattle.arch_defs.specs.Traps.{entered_by_trap, target}
 use Rattle.arch_defs.specs.Waits.{wake_moment}
 use Rattle.machine_defs.specs.declared.events.Event.{Event}
 use Rattle.machine_defs.specs.declared.events.Event.TheVariants as event
-use Rattle.machine_defs.specs.declared.guests.GuestSpec.{GuestSpec}
-use Rattle.machine_defs.specs.declared.guests.Status.{Status}
-use Rattle.machine_defs.specs.declared.guests.Status.TheVariants as status
+use Rattle.guest_specs.specs.declared.guests.GuestSpec.{GuestSpec}
+use Rattle.guest_specs.specs.declared.statuses.Status.{Status}
+use Rattle.guest_specs.specs.declared.statuses.Status.TheVariants as status
 
 -- a machine without its RAM and its cached translations: registers, clock with its timer, console with its
 -- unread inputs, count of steps, and status. The execution environment is part of it (own)

@@ -2,9 +2,6 @@
 #![tactic(auto)]
 
 mod events;
-mod guests;
-#[cfg(test)]
-mod tests;
 
 pub use events::Event;
-pub use guests::{Bytes, GuestSpec, Inputs, Name, Status};
+pub use guest_specs::{Bytes, GuestSpec, Inputs, Name, Status};

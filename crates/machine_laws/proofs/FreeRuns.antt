@@ -25,8 +25,8 @@ use Rattle.arch_defs.specs.Traps.{is_virtual}
 use Rattle.arch_defs.specs.Waits.{wake_moment}
 use Rattle.arch_defs.specs.WalkedEntries.{folds}
 use Rattle.machine_defs.specs.declared.events.Event.TheVariants as event
-use Rattle.machine_defs.specs.declared.guests.Status.{Status}
-use Rattle.machine_defs.specs.declared.guests.Status.TheVariants.{Running, Waiting, Stopped}
+use Rattle.guest_specs.specs.declared.statuses.Status.{Status}
+use Rattle.guest_specs.specs.declared.statuses.Status.TheVariants.{Running, Waiting, Stopped}
 use Rattle.machine_defs.specs.Core.{Completion, core}
 use Rattle.machine_defs.specs.Fills.{most_fills, ready}
 use Rattle.machine_defs.specs.FreeMachines.{CachedTranslation, FreeMove, FreeStep, IsByCache, IsWalked, MayTranslate, cached_in, free_of, is_active, is_named, uncached}

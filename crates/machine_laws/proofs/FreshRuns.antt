@@ -8,8 +8,8 @@ use Rattle.arch_defs.specs.declared.cached.Fence.{Fence}
 use Rattle.arch_defs.specs.declared.registers.GuestRoot.{GuestRoot}
 use Rattle.arch_defs.specs.Roots.{vmid_of}
 use Rattle.arch_defs.specs.Spaces.{Space, front}
-use Rattle.machine_defs.specs.declared.guests.Status.{Status}
-use Rattle.machine_defs.specs.declared.guests.Status.TheVariants.{Running, Waiting, Stopped}
+use Rattle.guest_specs.specs.declared.statuses.Status.{Status}
+use Rattle.guest_specs.specs.declared.statuses.Status.TheVariants.{Running, Waiting, Stopped}
 use Rattle.machine_defs.specs.Fills.{most_fills, ready}
 use Rattle.machine_defs.specs.FreeMachines.{is_named}
 use Rattle.machine_defs.specs.Freshness.{IsFresh, fence_by_status, next_fence}

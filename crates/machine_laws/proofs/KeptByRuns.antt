@@ -1,8 +1,8 @@
 -- What fills and tries keep, steps and runs keep.
 use Rattle.std.proofs.Common.{◌≡◌, ℕ, zero, suc, Option, Some, None, refl}
 use Rattle.arch_defs.specs.declared.cached.Entry.{Entry}
-use Rattle.machine_defs.specs.declared.guests.Status.{Status}
-use Rattle.machine_defs.specs.declared.guests.Status.TheVariants.{Running, Waiting, Stopped}
+use Rattle.guest_specs.specs.declared.statuses.Status.{Status}
+use Rattle.guest_specs.specs.declared.statuses.Status.TheVariants.{Running, Waiting, Stopped}
 use Rattle.machine_defs.specs.Fills.{after_fill, after_fills, fill, missing_entry, most_fills}
 use Rattle.machine_defs.specs.Machine.{Machine}
 use Rattle.machine_defs.specs.Runs.{left_after, run, step, stepped}

@@ -1,7 +1,7 @@
 -- Laws of runs and of their events, in the forms that loops and callers need.
 use Rattle.std.proofs.Common.{◌≡◌, ◌≢◌, ℕ, zero, suc, ◌+◌, ◌-◌, ◌<◌, ◌≤◌, [], ◌++◌, refl, ap, sym, zero-add, append_assoc, arith}
-use Rattle.machine_defs.specs.declared.guests.Status.{Status}
-use Rattle.machine_defs.specs.declared.guests.Status.TheVariants.{Running, Waiting, Stopped}
+use Rattle.guest_specs.specs.declared.statuses.Status.{Status}
+use Rattle.guest_specs.specs.declared.statuses.Status.TheVariants.{Running, Waiting, Stopped}
 use Rattle.machine_defs.specs.Fills.{ready}
 use Rattle.machine_defs.specs.Machine.{Machine}
 use Rattle.machine_defs.specs.Runs.{left_after, stepped, step, run, event_in, events_by, events}

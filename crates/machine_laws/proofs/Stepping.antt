@@ -3,7 +3,7 @@ use Rattle.std.proofs.Common.{◌++◌, ◌≡◌, ℕ, zero, suc, ◌+◌, ◌-
 use Rattle.std.proofs.Math.Nat.{suc-mul}
 use Rattle.arch_defs.specs.declared.cached.Entry.{Entry}
 use Rattle.arch_defs.specs.declared.cached.Fence.{Fence}
-use Rattle.machine_defs.specs.declared.guests.Status.TheVariants as status
+use Rattle.guest_specs.specs.declared.statuses.Status.TheVariants as status
 use Rattle.machine_defs.specs.Fills.{fill, fills, most_fills, needed, ready}
 use Rattle.machine_defs.specs.Machine.{Ended, Machine, Tried, WaitsForGood}
 use Rattle.machine_defs.specs.Runs.{event_in, events, left_after, left_by, run, step}

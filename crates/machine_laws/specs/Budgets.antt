@@ -1,7 +1,7 @@
 -- How many tries the steps of a machine take, one by one: each try fills an entry or ends a step.
 use Rattle.std.specs.Prelude.{ℕ, zero, suc, ◌≡◌, ◌+◌, ◌-◌, ◌*◌, ◌<◌, ◌≤◌, ◌++◌, Some, None}
 use Rattle.arch_defs.specs.declared.cached.Entry.{Entry}
-use Rattle.machine_defs.specs.declared.guests.Status.TheVariants.{Running}
+use Rattle.guest_specs.specs.declared.statuses.Status.TheVariants.{Running}
 use Rattle.machine_defs.specs.Fills.{fill, fills, missing_entry, most_fills, most_tries, needed}
 use Rattle.machine_defs.specs.Machine.{Machine}
 use Rattle.machine_defs.specs.Runs.{event_in, events, left_after, run, step}

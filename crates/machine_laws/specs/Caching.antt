@@ -6,7 +6,7 @@ use Rattle.arch_defs.specs.Memory.{SecondStage, ram_base}
 use Rattle.arch_defs.specs.SecondStage.{second_by_walk}
 use Rattle.arch_defs.specs.Roots.{vmid_of}
 use Rattle.arch_defs.specs.Spaces.{names_vmid}
-use Rattle.machine_defs.specs.declared.guests.GuestSpec.{GuestSpec}
+use Rattle.guest_specs.specs.declared.guests.GuestSpec.{GuestSpec}
 use Rattle.machine_defs.specs.Fills.{needed}
 use Rattle.machine_defs.specs.FreeMachines.{FreeMachine, FreeStep, IsArchitectural, left_under, uncached}
 use Rattle.machine_defs.specs.Freshness.{CachesFresh, UsesFresh}

@@ -3,7 +3,7 @@ use Rattle.std.specs.Prelude.{ℕ, ◌≡◌, ◌≤◌, true, Some}
 use Rattle.arch_defs.specs.declared.cached.Entry.{Entry}
 use Rattle.machine_laws.specs.FrontSpaces.{FrontIs}
 use Rattle.arch_defs.specs.WalkedEntries.{folds}
-use Rattle.machine_defs.specs.declared.guests.GuestSpec.{GuestSpec}
+use Rattle.guest_specs.specs.declared.guests.GuestSpec.{GuestSpec}
 use Rattle.machine_defs.specs.Fills.{fill, missing_entry, needed}
 use Rattle.machine_defs.specs.Machine.{Machine, start}
 use Rattle.machine_defs.specs.Runs.{left_after, run}

@@ -16,8 +16,8 @@ use Rattle.arch_defs.specs.Spaces.{Space, fenced, front}
 use Rattle.arch_defs.specs.Walk.{leaf_address}
 use Rattle.arch_defs.specs.WalkedEntries.{entry_by_walk, folds}
 use Rattle.machine_defs.specs.declared.events.Event.{Event}
-use Rattle.machine_defs.specs.declared.guests.GuestSpec.{GuestSpec}
-use Rattle.machine_defs.specs.declared.guests.Status.TheVariants.{Running}
+use Rattle.guest_specs.specs.declared.guests.GuestSpec.{GuestSpec}
+use Rattle.guest_specs.specs.declared.statuses.Status.TheVariants.{Running}
 use Rattle.machine_defs.specs.Core.{core}
 use Rattle.machine_defs.specs.Fills.{after_fills, fill, fills, missing_entry, missing_entry_at, most_fills, needed, ready}
 use Rattle.machine_defs.specs.Machine.{Machine, Ended, start}

@@ -3,7 +3,7 @@ use Rattle.std.specs.Prelude.{ℕ, ◌≡◌, ◌+◌, ◌*◌, ◌%◌, ◌≤�
 use Rattle.std.specs.List.{All}
 use Rattle.arch_defs.specs.declared.cached.Entry.{Entry}
 use Rattle.arch_defs.specs.Memory.{ram_base}
-use Rattle.machine_defs.specs.declared.guests.GuestSpec.{GuestSpec}
+use Rattle.guest_specs.specs.declared.guests.GuestSpec.{GuestSpec}
 use Rattle.machine_defs.specs.Fills.{fill, missing_entry}
 use Rattle.machine_defs.specs.Machine.{Machine, start}
 use Rattle.machine_laws.specs.Renaming.{GivesWithin, Places, ReservesWithin}

@@ -10,7 +10,7 @@ use Rattle.arch_defs.specs.Clocks.{times_at_start}
 use Rattle.arch_defs.specs.CsrBits.{guest_root_of}
 use Rattle.arch_defs.specs.Memory.{ram_base}
 use Rattle.arch_defs.specs.Registers.{csrs_at_reset, read, virtual_at}
-use Rattle.machine_defs.specs.declared.guests.Status.TheVariants.{Running}
+use Rattle.guest_specs.specs.declared.statuses.Status.TheVariants.{Running}
 use Rattle.machine_defs.specs.Fills.{needed}
 use Rattle.machine_defs.specs.FreeMachines.{FreeMachine, FreeRun, free_of}
 use Rattle.machine_defs.specs.Machine.{Machine, Platform}

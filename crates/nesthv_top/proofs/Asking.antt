@@ -8,7 +8,7 @@ use Rattle.outside.specs.declared.stores.Store as stores
 use Rattle.outside.specs.Asks.{Ask}
 use Rattle.outside.specs.Faults.{Rose}
 use Rattle.outside.specs.Files.{Files, GivesFile}
-use Rattle.machine_defs.specs.declared.guests.GuestSpec.{GuestSpec}
+use Rattle.guest_specs.specs.declared.guests.GuestSpec.{GuestSpec}
 use Rattle.run_config.specs.declared.faults.ConfigFault.{ConfigFault}
 use Rattle.run_config.specs.declared.faults.ConfigFault.TheVariants as fault
 use Rattle.run_config.specs.Accept as config

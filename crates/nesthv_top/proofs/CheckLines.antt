@@ -2,7 +2,7 @@
 use Rattle.std.proofs.Common.{◌≡◌, ℕ, zero, suc, ◌+◌, ◌<◌, ◌≤◌, List, [], ◌∷◌, ◌++◌, length, map, take, drop, get_or, false, refl, ap, subst, sym, ◌∙◌, arith, append_assoc, add-one}
 use Rattle.std.specs.List.{All}
 use Rattle.std.proofs.lemmas.List.{append-nil, get_or-map, length-map}
-use Rattle.machine_defs.specs.declared.guests.GuestSpec.{GuestSpec}
+use Rattle.guest_specs.specs.declared.guests.GuestSpec.{GuestSpec}
 use Rattle.outside.specs.Pieces.{Appends, Puts}
 use Rattle.outside.proofs.Pieces.{appends_then, puts_stopped, puts_then}
 use Rattle.run_config.specs.declared.guests.GuestSettings.{GuestSettings}

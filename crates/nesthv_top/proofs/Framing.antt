@@ -1,9 +1,8 @@
 -- The frames of guests, one after the other.
 use Rattle.std.proofs.Common.{◌≡◌, ℕ, zero, suc, ◌+◌, ◌<◌, List, [], ◌∷◌, length, take, get_or, subst, arith, add-one}
-use Rattle.arch_defs.specs.Needs.{frames_needed}
+use Rattle.guest_specs.specs.Needs.{frames_needed, need_of}
 use Rattle.guest_turns.specs.Limits.{frames_for}
-use Rattle.machine_defs.specs.GuestNeeds.{need_of}
-use Rattle.machine_defs.specs.declared.guests.GuestSpec.{GuestSpec}
+use Rattle.guest_specs.specs.declared.guests.GuestSpec.{GuestSpec}
 
 more : (guests : List GuestSpec) (i : ℕ) (d : GuestSpec) → i < length guests
     → frames_for (take (suc i) guests) ≡ frames_for (take i guests) + frames_needed (need_of (get_or guests i d))

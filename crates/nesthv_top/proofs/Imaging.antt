@@ -4,7 +4,7 @@ use Rattle.std.proofs.Common.{cond, ◌≡◌, ℕ, zero, suc, ◌+◌, ◌-◌,
 use Rattle.std.specs.Prelude.{option_map}
 use Rattle.std.proofs.lemmas.List.{append-nil, map-append, take_all}
 use Rattle.guest_turns.specs.Limits.{IsBootable}
-use Rattle.machine_defs.specs.declared.guests.GuestSpec.{GuestSpec}
+use Rattle.guest_specs.specs.declared.guests.GuestSpec.{GuestSpec}
 use Rattle.outside.specs.Asks.{Ask}
 use Rattle.outside.specs.Files.{Files}
 use Rattle.run_config.specs.declared.faults.ConfigFault.{ConfigFault}

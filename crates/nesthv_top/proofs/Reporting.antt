@@ -5,7 +5,7 @@ use Rattle.std.proofs.lemmas.List.{get_or-map, length-map}
 use Rattle.machine_laws.specs.Caching.{GuestsAreArchitectural, GuestsUseFresh}
 use Rattle.machine_laws.specs.Laws.{FillsSufficeForGuests}
 use Rattle.machine_defs.specs.Machine.{Machine, start}
-use Rattle.machine_defs.specs.declared.guests.GuestSpec.{GuestSpec}
+use Rattle.guest_specs.specs.declared.guests.GuestSpec.{GuestSpec}
 use Rattle.machine_defs.specs.Fills.{needed}
 use Rattle.machine_defs.specs.Runs.{plain_count, trace_of}
 use Rattle.outside.specs.Pieces.{Puts}

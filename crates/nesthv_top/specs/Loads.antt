@@ -2,7 +2,7 @@
 use Rattle.std.specs.List.{All}
 use Rattle.std.specs.Prelude.{◌≡◌, ℕ, ◌-◌, ◌<◌, ◌≤◌, List, Some, None, length, take}
 use Rattle.guest_turns.specs.Limits.{IsBootable}
-use Rattle.machine_defs.specs.declared.guests.GuestSpec.{GuestSpec}
+use Rattle.guest_specs.specs.declared.guests.GuestSpec.{GuestSpec}
 use Rattle.outside.specs.Asks.{Ask}
 use Rattle.outside.specs.Files.{Files}
 use Rattle.run_config.specs.declared.guests.GuestSettings.{GuestSettings}

@@ -5,7 +5,7 @@ use Rattle.command_line.specs.Commands.{Command, FileCommand, OnFiles, Run, Repl
 use Rattle.guest_turns.specs.Hosted.{machine_at}
 use Rattle.guest_turns.specs.Limits.{frames_for}
 use Rattle.machine_defs.specs.declared.events.Event.{Event}
-use Rattle.machine_defs.specs.declared.guests.GuestSpec.{GuestSpec}
+use Rattle.guest_specs.specs.declared.guests.GuestSpec.{GuestSpec}
 use Rattle.machine_defs.specs.Fills.{missing_entry, ready}
 use Rattle.machine_defs.specs.FreeMachines.{IsArchitectural}
 use Rattle.machine_defs.specs.Freshness.{UsesFresh}

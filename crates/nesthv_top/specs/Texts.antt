@@ -1,10 +1,9 @@
 -- What a command finds, and what it writes.
 use Rattle.std.specs.Prelude.{ℕ, List, [], ◌∷◌, ◌++◌, length, codes, decimal}
-use Rattle.arch_defs.specs.Needs.{frames_needed}
+use Rattle.guest_specs.specs.Needs.{frames_needed, need_of}
 use Rattle.command_line.specs.Commands.{Command, FileCommand, OnFiles, Run, Replay, Check, Work}
 use Rattle.guest_turns.specs.Limits.{frames_for}
-use Rattle.machine_defs.specs.declared.guests.GuestSpec.{GuestSpec}
-use Rattle.machine_defs.specs.GuestNeeds.{need_of}
+use Rattle.guest_specs.specs.declared.guests.GuestSpec.{GuestSpec}
 use Rattle.outside.specs.Files.{Files}
 use Rattle.replay.specs.Comparisons.{verdict_of}
 use Rattle.replay.specs.declared.comparisons.Verdict.{Verdict}

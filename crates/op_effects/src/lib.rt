@@ -2,8 +2,6 @@
 #![tactic(auto)]
 
 mod effects;
-#[cfg(test)]
-mod tests;
 
 pub use effects::{address_at, effect_of, even, is_branch_taken};
 pub use op_defs::Effect;

@@ -23,6 +23,4 @@ mod named;
 mod sinks;
 mod std_sinks;
 mod stores;
-#[cfg(test)]
-mod tests;
 mod words;

@@ -5,8 +5,6 @@ mod accesses;
 mod memory;
 mod ram;
 mod slices;
-#[cfg(test)]
-mod tests;
 
 pub use accesses::Mem;
 pub use arch_defs::{BLOCK_SIZE, FRAME_SIZE, Part};

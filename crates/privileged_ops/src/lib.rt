@@ -5,8 +5,6 @@ mod advancing;
 mod csrs;
 mod instructions;
 mod refusals;
-#[cfg(test)]
-mod tests;
 
 pub use advancing::{pass, set};
 pub use instructions::{Performed, perform};

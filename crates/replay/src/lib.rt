@@ -4,5 +4,3 @@
 pub use comparisons::{Compare, Verdict};
 
 mod comparisons;
-#[cfg(test)]
-mod tests;

@@ -1,7 +1,7 @@
 -- The pieces of a section, each of which is one put.
 use Rattle.std.specs.Prelude.{ℕ, List, [], ◌∷◌, ◌++◌, length, codes}
-use Rattle.machine_defs.specs.declared.guests.Status.{Status}
-use Rattle.machine_defs.specs.Report.{header}
+use Rattle.guest_specs.specs.declared.statuses.Status.{Status}
+use Rattle.guest_specs.specs.Sections.{header}
 
 -- a piece, unless it is empty
 abbrev pub unless_empty : List ℕ → List (List ℕ)

@@ -6,5 +6,3 @@ pub use sections::{GuestLine, section};
 
 mod headers;
 mod sections;
-#[cfg(test)]
-mod tests;

@@ -1,7 +1,7 @@
 -- What a configuration says, and within which limits.
 use Rattle.std.specs.Prelude.{ℕ, ◌<◌, ◌≤◌, ◌^◌, List, length}
 use Rattle.std.specs.List.{All}
-use Rattle.arch_defs.specs.Inputs.{AreInputs}
+use Rattle.guest_specs.specs.Inputs.{AreInputs}
 use Rattle.run_config.specs.declared.guests.GuestSettings.{GuestSettings}
 
 -- the guests in their order, and the turns: pairs of a guest's number and a number of steps

@@ -2,7 +2,7 @@
 
 ghost use Rattle.std.specs.Prelude.{◌≡◌};
 
-use machine_defs::{Inputs, Name};
+use guest_specs::{Inputs, Name};
 use std::marker::Model;
 
 /// The name of a file, as text.

@@ -14,8 +14,6 @@ mod pairs;
 mod reading;
 mod schedules;
 mod settings;
-#[cfg(test)]
-mod tests;
 mod values;
 
 pub use configuration::Config;

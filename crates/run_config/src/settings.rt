@@ -18,7 +18,7 @@ use crate::guests::{FileName, GuestSettings};
 use crate::inputs::inputs_at;
 use crate::keys::ConfigKey;
 use crate::values::{has_length, has_only, is_name, number_within, value_at};
-use machine_defs::{Inputs, Name};
+use guest_specs::{Inputs, Name};
 use std::alloc::{AllocError, Global};
 use toml::{Table, Value};
 

@@ -16,8 +16,3 @@ pub use faults::AsmFault;
 pub use fitting::fits;
 pub use images::Image;
 pub use laws::{decoded_fits, decodes_back, system_has_one_word, system_op_has_one_word};
-
-#[cfg(test)]
-mod coding_tests;
-#[cfg(test)]
-mod image_tests;

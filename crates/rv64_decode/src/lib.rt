@@ -6,7 +6,5 @@ mod decoding;
 mod fields;
 mod registers;
 mod systems;
-#[cfg(test)]
-mod tests;
 
 pub use decoding::decode;

@@ -8,22 +8,6 @@ mod harts;
 mod laws;
 mod steps;
 mod tallies;
-#[cfg(test)]
-mod test_programs;
-#[cfg(test)]
-mod tests;
-#[cfg(test)]
-mod tests_buffer;
-#[cfg(test)]
-mod tests_control;
-#[cfg(test)]
-mod tests_host_table;
-#[cfg(test)]
-mod tests_memory;
-#[cfg(test)]
-mod tests_translation;
-#[cfg(test)]
-mod tests_traps;
 
 pub use harts::{Hart, Stop, Why};
 pub use laws::guest_page_faults_exit;

@@ -5,7 +5,5 @@ mod line;
 mod names;
 mod ops;
 mod programs;
-#[cfg(test)]
-mod tests;
 
 pub use programs::{LineFault, words};

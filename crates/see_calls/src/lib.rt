@@ -2,7 +2,5 @@
 #![tactic(auto)]
 
 mod calls;
-#[cfg(test)]
-mod tests;
 
 pub use calls::{CallEnd, call};

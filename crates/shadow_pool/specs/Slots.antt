@@ -4,7 +4,8 @@ use Rattle.std.specs.List.{All, AllPairs, filter_map, slice_index_or}
 use Rattle.arch_defs.specs.declared.cached.Entry.{Entry}
 use Rattle.arch_defs.specs.declared.registers.GuestRoot.{GuestRoot}
 use Rattle.arch_defs.specs.Frames.{Frames, LieIn, Only, joined, within}
-use Rattle.arch_defs.specs.Layouts.{Layout, NamesEachOnce, no_part, space_frames, tables_for}
+use Rattle.arch_defs.specs.Layouts.{Layout, NamesEachOnce, no_part, space_frames}
+use Rattle.guest_specs.specs.Needs.{tables_for}
 use Rattle.arch_defs.specs.Roots.{is_root}
 use Rattle.arch_defs.specs.Spaces.{Space}
 use Rattle.shadow_space.specs.Folding.{Folded}

@@ -4,8 +4,6 @@
 mod laws;
 mod pools;
 mod slots;
-#[cfg(test)]
-mod tests;
 
 pub use arch_defs::{Entry, Fence, Key, Part};
 pub use laws::{entered_is_in_front, front_gives_entries, pool_is_apart, tidy_pool_lasts};

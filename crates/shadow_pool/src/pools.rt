@@ -111,16 +111,6 @@ impl Pool {
     }
 }
 
-#[cfg(test)]
-impl Pool {
-    // The tables, those of the most recently entered spaces first.
-    pub(crate) fn slots(&self) -> &[Slot]
-        ensures { result.now ≡ self.now.slots }
-    {
-        self.slots.as_slice()
-    }
-}
-
 // The first tables of a part, for spaces that there are not yet.
 fn spare_slots(alloc: Global, part: &Part, spaces: u64, entries: u64) -> Result<Vec<Slot>, NoMemory>
     requires own { spaces ≤ part.now.spaces }

@@ -3,7 +3,8 @@ use Rattle.std.specs.Prelude.{ℕ, ◌≡◌, ◌+◌, ◌*◌, ◌/◌, ◌<◌
 use Rattle.std.specs.List.{All, AllPairs}
 use Rattle.arch_defs.specs.declared.cached.Entry.{Entry}
 use Rattle.arch_defs.specs.Frames.{Frames, LieIn, Only}
-use Rattle.arch_defs.specs.Layouts.{Layout, NamesEachOnce, space_frames, tables_for}
+use Rattle.arch_defs.specs.Layouts.{Layout, NamesEachOnce, space_frames}
+use Rattle.guest_specs.specs.Needs.{tables_for}
 use Rattle.arch_defs.specs.CachedEntries.{CanFill, HasOtherPage}
 use Rattle.shadow_space.specs.declared.cached.CachedTable.{CachedTable}
 use Rattle.shadow_space.specs.declared.frames.TableFrames.{TableFrames}

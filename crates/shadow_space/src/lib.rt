@@ -6,8 +6,6 @@ mod frames;
 mod laws;
 mod listing;
 mod spaces;
-#[cfg(test)]
-mod tests;
 mod writing;
 
 pub use arch_defs::{Entry, Part};

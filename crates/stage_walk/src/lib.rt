@@ -7,8 +7,6 @@ mod laws;
 mod noting;
 mod permissions;
 mod places;
-#[cfg(test)]
-mod tests;
 mod walking;
 
 pub use arch_defs::{LeafPte, Privilege, Pte, Shape, WalkEnd};

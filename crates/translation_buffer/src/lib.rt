@@ -5,8 +5,6 @@ mod buffers;
 mod contexts;
 mod laws;
 mod slots;
-#[cfg(test)]
-mod tests;
 
 pub use buffers::Buffer;
 pub use contexts::Context;

@@ -6,8 +6,6 @@ mod exceptions;
 mod interrupts;
 mod laws;
 mod returning;
-#[cfg(test)]
-mod tests;
 
 pub use entering::{enter_hs, enter_vs, is_virtual, target};
 pub use exceptions::{

@@ -3,8 +3,6 @@
 //! `Turns` is seen by clauses as its list of pairs of a guest's number and the steps of its turn.
 #![tactic(auto)]
 
-#[cfg(test)]
-mod tests;
 mod turns;
 
 pub use turns::Turns;

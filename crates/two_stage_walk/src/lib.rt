@@ -4,8 +4,6 @@
 mod guest_addresses;
 mod laws;
 mod noting;
-#[cfg(test)]
-mod tests;
 mod translating;
 mod traps;
 mod virtual_addresses;

@@ -3,8 +3,6 @@
 
 mod clocks;
 mod laws;
-#[cfg(test)]
-mod tests;
 mod waits;
 
 pub use clocks::{Clock, WaitEnd};

@@ -13,8 +13,3 @@ mod program;
 pub use generated::guests;
 pub use laws::image_length;
 pub use noises::noise;
-
-#[cfg(test)]
-mod tests;
-#[cfg(test)]
-mod tests_noise;

@@ -3,8 +3,6 @@
 
 mod laws;
 mod switching;
-#[cfg(test)]
-mod tests;
 
 pub use laws::{accesses_alike, instructions_alike, load_and_save, traps_alike};
 pub use switching::{fix_up, load, save, to_guest_hs, to_nested};

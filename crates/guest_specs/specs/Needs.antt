@@ -1,0 +1,24 @@
+-- What a guest needs of machine memory (own).
+use Rattle.std.specs.Prelude.{ℕ, ◌+◌, ◌*◌, ◌≤◌}
+use Rattle.guest_specs.specs.declared.guests.GuestSpec.{GuestSpec}
+use Rattle.guest_specs.specs.declared.needs.Need.{Need}
+
+-- the tables below the root of a space that may have so many entries: an entry needs at most one on each
+-- level below the root's
+abbrev pub tables_for : ℕ → ℕ
+tables_for entries = 2 * entries
+
+-- its blocks of 512 frames; the four frames of the host table's root and the one of its other table; and for
+-- each space the four frames of its root and those of its other tables
+abbrev pub frames_needed : Need → ℕ
+frames_needed need = 512 * need.blocks + 5 + need.spaces * (4 + tables_for need.entries)
+
+-- at most 32 blocks, 8 spaces, and 256 entries in each
+pub record IsNeed (need : Need) : Type 0 where
+  pub blocks : need.blocks ≤ 32
+  pub spaces : need.spaces ≤ 8
+  pub entries : need.entries ≤ 256
+
+-- what a guest needs: its RAM in blocks, and tables for so many cached spaces of at most so many entries each
+abbrev pub need_of : GuestSpec → Need
+need_of guest = record { blocks = guest.blocks; spaces = guest.spaces; entries = guest.entries }

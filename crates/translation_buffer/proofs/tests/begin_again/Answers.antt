@@ -1,4 +1,0 @@
-use Rattle.translation_buffer.proofs.tests.begin_again.Goals as goal
-
-pub returns : goal.returns
-returns c = c.restart.ensures c.put.new.memory

@@ -1,4 +1,0 @@
-use Rattle.translation_buffer.proofs.tests.enter.Goals as goal
-
-pub returns : goal.returns
-returns c = c.follow.ensures c.args.t.now.csrs c.args.t.now.mode c.args.t.now.memory c.requires
