@@ -1,9 +1,9 @@
--- A machine that caches second-stage translations as freely as the architecture allows: at any time it may
--- walk the table of hgatp and cache the translation, and drop what it has cached; each access goes by what is
--- cached for hgatp's VMID or by a walk; and what an HFENCE.GVMA names is dropped (Privileged Architecture
--- 20211203, 4.3.2, 8.2.10, 8.3.2 and 8.5). It is narrower than the architecture in four points (own): a walk
--- reads all its entries at once, and none above the leaf is cached; equal accesses of one step have equal
--- places; a fault is always that of the walk as RAM is; and HLV, HLVX and HSV go by this walk alone.
+-- A machine that caches second-stage translations freely: before each step it may walk the table of hgatp and
+-- cache the translation, and drop what it has cached; each access goes by what is cached for hgatp's VMID or
+-- by a walk; and what an HFENCE.GVMA names is dropped (Privileged Architecture 20211203, 4.3.2, 8.2.10, 8.3.2
+-- and 8.5). It is narrower than the architecture in four points (own): a walk reads all its entries at once,
+-- and none above the leaf is cached; equal accesses of one step have equal places; a fault is always that of
+-- the walk as RAM is; and HLV, HLVX and HSV go by this walk alone.
 use Rattle.std.specs.Prelude.{ℕ, zero, suc, ◌≡◌, ◌/◌, ◌⊎◌, Bool, true, false, List, [], Option, Some, None, All, Contains, flat_map, map}
 use Rattle.arch_defs.specs.declared.cached.Entry.{Entry}
 use Rattle.arch_defs.specs.declared.cached.Fence.{Fence}
@@ -20,7 +20,7 @@ use Rattle.arch_defs.specs.Roots.{vmid_of}
 use Rattle.arch_defs.specs.Spaces.{Space, names}
 use Rattle.arch_defs.specs.Traps.{is_virtual}
 use Rattle.arch_defs.specs.Walk.{leaf_address}
-use Rattle.arch_defs.specs.WalkedEntries.{entry_by_walk}
+use Rattle.arch_defs.specs.WalkedEntries.{entry_by_walk, folds}
 use Rattle.guest_specs.specs.declared.statuses.Status.{Status}
 use Rattle.guest_specs.specs.declared.statuses.Status.TheVariants.{Running, Waiting, Stopped}
 use Rattle.machine_defs.specs.Machine.{Machine, Platform}
@@ -47,22 +47,38 @@ is_active hstatus U = hstatus.hu
 is_active hstatus VS = true
 is_active hstatus VU = true
 
--- a translation that may be cached, at any time that hgatp is active and whatever the machine then executes:
--- under hgatp's VMID, that of a walk of its table as RAM is, for an access of any kind at any address (4.3.2,
--- 8.2.10)
-pub record IsWalked (virt : Virtual) (ram : List ℕ) (cached : CachedTranslation) : Type 0 where
-  pub active : is_active virt.csrs.hstatus virt.mode ≡ true
+-- when a machine may cache a translation, and when its accesses may go by one that it has cached
+pub record Caching : Type 0 where
+  pub walks : Virtual → Bool
+  pub serves : Virtual → Bool
+
+-- while it folds alone (own)
+abbrev pub while_folding : Caching
+while_folding = record { walks = folds; serves = folds }
+
+-- as often as the architecture lets a machine: a translation may be cached whenever hgatp is active, whatever
+-- the machine then executes, and serves whenever V = 1, whether or not hgatp still names a table (4.3.2,
+-- 8.2.10, 8.3.2)
+abbrev pub while_active : Caching
+while_active = record {
+  walks = λ virt. is_active virt.csrs.hstatus virt.mode;
+  serves = λ virt. is_virtual virt.mode;
+}
+
+-- a translation that may be cached: under hgatp's VMID, that of a walk of its table as RAM is, for an access
+-- of any kind at any address
+pub record IsWalked (caching : Caching) (virt : Virtual) (ram : List ℕ) (cached : CachedTranslation) : Type 0 where
+  pub active : caching.walks virt ≡ true
   pub vmid : cached.vmid ≡ vmid_of virt.csrs.hgatp
   pub address : ℕ
   pub kind : Access
   pub walked : entry_by_walk virt.csrs ram address kind ≡ Some cached.entry
 
--- a place by a cached translation: with V = 1, by one of hgatp's VMID and of the address's page that permits
--- the access. Which table it was walked from is not asked, nor whether hgatp still names one: a write of
--- hgatp is no fence (8.2.10, 8.3.2)
-pub record IsByCache (virt : Virtual) (cache : List CachedTranslation) (address : ℕ) (kind : Access)
-    (answer : Option ℕ) : Type 0 where
-  pub virtual : is_virtual virt.mode ≡ true
+-- a place by a cached translation: by one of hgatp's VMID and of the address's page that permits the access.
+-- Which table it was walked from is not asked: a write of hgatp is no fence (8.2.10, 8.3.2)
+pub record IsByCache (caching : Caching) (virt : Virtual) (cache : List CachedTranslation) (address : ℕ)
+    (kind : Access) (answer : Option ℕ) : Type 0 where
+  pub serving : caching.serves virt ≡ true
   pub cached : CachedTranslation
   pub held : Contains cache cached
   pub vmid : cached.vmid ≡ vmid_of virt.csrs.hgatp
@@ -72,9 +88,9 @@ pub record IsByCache (virt : Virtual) (cache : List CachedTranslation) (address 
 
 -- a second stage that a machine with this cache may have: each answer is by a cached translation, or by the
 -- walk of hgatp's table as RAM is (8.5)
-abbrev pub MayTranslate : Virtual → List ℕ → List CachedTranslation → SecondStage → Type 0
-MayTranslate virt ram cache second = (address : ℕ) (kind : Access)
-    → IsByCache virt cache address kind (second address kind)
+abbrev pub MayTranslate : Caching → Virtual → List ℕ → List CachedTranslation → SecondStage → Type 0
+MayTranslate caching virt ram cache second = (address : ℕ) (kind : Access)
+    → IsByCache caching virt cache address kind (second address kind)
     ⊎ (second address kind ≡ second_by_walk virt.csrs virt.mode ram_base ram address kind)
 
 -- the machine without its cache, and what one try of its next step under a second stage leaves of it
@@ -92,26 +108,27 @@ is_named (Some fence) vmid e = names fence vmid e
 -- one step. Before it, some translations were dropped and some were walked: what is cached then is `cache`.
 -- The step is made under a second stage that a machine with this cache may have. After it nothing else is
 -- cached, and nothing that the step names, if it is an HFENCE.GVMA (8.3.2)
-pub record FreeStep (f g : FreeMachine) : Type 0 where
+pub record FreeStep (caching : Caching) (f g : FreeMachine) : Type 0 where
   pub cache : List CachedTranslation
-  pub allowed : All (λ c. Contains f.cache c ⊎ IsWalked f.platform.virt f.ram c) cache
+  pub allowed : All (λ c. Contains f.cache c ⊎ IsWalked caching f.platform.virt f.ram c) cache
   pub second : SecondStage
-  pub translates : MayTranslate f.platform.virt f.ram cache second
+  pub translates : MayTranslate caching f.platform.virt f.ram cache second
   pub platform : g.platform ≡ (left_under second f).platform
   pub ram : g.ram ≡ (left_under second f).ram
   pub kept : All (Contains cache) g.cache
   pub fenced : All (λ c. is_named (fence_under second (uncached f)) c.vmid c.entry ≡ false) g.cache
 
 -- a machine that waits and cannot wake, or that has stopped, makes no step
-abbrev pub FreeMove : Status → FreeMachine → FreeMachine → Type 0
-FreeMove Running f g = FreeStep f g
-FreeMove Waiting f g = g ≡ f
-FreeMove Stopped f g = g ≡ f
+abbrev pub FreeMove : Caching → Status → FreeMachine → FreeMachine → Type 0
+FreeMove caching Running f g = FreeStep caching f g
+FreeMove caching Waiting f g = g ≡ f
+FreeMove caching Stopped f g = g ≡ f
 
 -- a run of at most `steps` steps
-abbrev pub FreeRun : ℕ → FreeMachine → FreeMachine → Type 0
-FreeRun zero f h = h ≡ f
-FreeRun (suc steps) f h = (g : FreeMachine) × FreeMove f.platform.status f g × FreeRun steps g h
+abbrev pub FreeRun : Caching → ℕ → FreeMachine → FreeMachine → Type 0
+FreeRun caching zero f h = h ≡ f
+FreeRun caching (suc steps) f h =
+    (g : FreeMachine) × FreeMove caching f.platform.status f g × FreeRun caching steps g h
 
 -- a lone machine as a free one: it has cached the entries of all its spaces, each for the VMID of its key
 abbrev pub cached_in : Space → List CachedTranslation
@@ -120,6 +137,7 @@ cached_in s = map (λ e. record { vmid = vmid_of s.key; entry = e }) s.entries
 abbrev pub free_of : Machine → FreeMachine
 free_of m = record { platform = m.platform; ram = m.ram; cache = flat_map cached_in m.spaces }
 
--- the first `steps` steps of a lone machine are architectural: a run of a free machine
+-- the first `steps` steps of a lone machine are architectural: a run of a free machine, which caches while it
+-- folds
 abbrev pub IsArchitectural : Machine → ℕ → Type 0
-IsArchitectural m steps = FreeRun steps (free_of m) (free_of (run m steps))
+IsArchitectural m steps = FreeRun while_folding steps (free_of m) (free_of (run m steps))

@@ -29,13 +29,13 @@ use Rattle.guest_specs.specs.declared.statuses.Status.{Status}
 use Rattle.guest_specs.specs.declared.statuses.Status.TheVariants.{Running, Waiting, Stopped}
 use Rattle.machine_defs.specs.Core.{Completion, core}
 use Rattle.machine_defs.specs.Fills.{most_fills, ready}
-use Rattle.machine_defs.specs.FreeMachines.{CachedTranslation, FreeMove, FreeStep, IsByCache, IsWalked, MayTranslate, cached_in, free_of, is_active, is_named, uncached}
+use Rattle.machine_defs.specs.FreeMachines.{CachedTranslation, FreeMachine, FreeMove, FreeRun, FreeStep, IsByCache, IsWalked, MayTranslate, cached_in, free_of, is_active, is_named, uncached, while_active, while_folding}
 use Rattle.machine_defs.specs.HlvAccesses.{hlv_outcome}
 use Rattle.machine_defs.specs.Machine.{Machine, has_enabled_interrupt, start, stepped_to, waited_until}
 use Rattle.machine_defs.specs.Outcomes.{Outcome, Done, Trapped, Missed, Called, Waits, Fenced, Accesses}
 use Rattle.machine_defs.specs.Runs.{left_by, run, step}
 use Rattle.machine_defs.specs.Tries.{apply_outcome, fence_under, fence_with, hlv_committed, second_of, tried_with, try_under}
-use Rattle.machine_laws.specs.Caching.{GuestsAreArchitectural, RunsAreArchitectural}
+use Rattle.machine_laws.specs.Caching.{FoldingRunsAreActive, GuestsAreArchitectural, RunsAreArchitectural}
 use Rattle.machine_laws.specs.EachEntry.{EachEntry}
 use Rattle.machine_laws.specs.FrontSpaces.{FrontIs}
 use Rattle.machine_laws.specs.Keeping.{IsOrderly}
@@ -135,11 +135,11 @@ folds_virtual virt folding = (and_parts (is_virtual virt.mode) (is_table virt.cs
 
 -- what was cached, or is walked
 abbrev IsHeld : Machine → CachedTranslation → Type 0
-IsHeld m c = Contains (free_of m).cache c ⊎ IsWalked m.platform.virt m.ram c
+IsHeld m c = Contains (free_of m).cache c ⊎ IsWalked while_folding m.platform.virt m.ram c
 
 held_walks : (m : Machine) → HoldsOfWalks (λ key e. IsHeld m (translation key e)) m.platform.virt m.ram
 held_walks m folding address kind e is = inr (record {
-  active = active m.platform.virt.csrs.hstatus m.platform.virt.mode (folds_virtual m.platform.virt folding);
+  active = folding;
   vmid = refl;
   address = address;
   kind = kind;
@@ -169,7 +169,7 @@ unfolding second_by
 place_from entries mxr address kind place is = placed mxr address place kind (entry_at (address / 4096) entries) is
 
 -- the rule by which a step ends is a second stage that the free machine may have
-ruled_by_cache : (m : Machine) → IsOrderly m → MayTranslate m.platform.virt m.ram (flat_map cached_in m.spaces) (own_or_walked m)
+ruled_by_cache : (m : Machine) → IsOrderly m → MayTranslate while_folding m.platform.virt m.ram (flat_map cached_in m.spaces) (own_or_walked m)
 ruled_by_cache m is address kind = by (folds m.platform.virt) refl
   where
     virt : Virtual
@@ -179,14 +179,14 @@ ruled_by_cache m is address kind = by (folds m.platform.virt) refl
     now = second_by_walk virt.csrs virt.mode ram_base m.ram address kind
 
     at : folds virt ≡ true → (answer : Option ℕ) → second_of m address kind ≡ answer
-        → IsByCache virt (flat_map cached_in m.spaces) address kind (option_or answer now) ⊎ (option_or answer now ≡ now)
+        → IsByCache while_folding virt (flat_map cached_in m.spaces) address kind (option_or answer now) ⊎ (option_or answer now ≡ now)
     at folding None none = inr refl
     at folding (Some place) is_at =
         let by_front : second_by (front m.spaces) virt.csrs.hs.status.mxr address kind ≡ Some place =
         sym (ap (λ (second : SecondStage). second address kind) (folds_by_front m folding)) ∙ is_at in
         let there = place_from (front m.spaces) virt.csrs.hs.status.mxr address kind place by_front in
         inl (record {
-          virtual = folds_virtual virt folding;
+          serving = folding;
           cached = translation virt.csrs.hgatp there.0;
           held = front_cached virt.csrs.hgatp m.spaces (address / 4096) there.0 (is.front folding) there.1;
           vmid = refl;
@@ -200,7 +200,7 @@ ruled_by_cache m is address kind = by (folds m.platform.virt) refl
     flat (Some place) = refl
 
     by : (b : Bool) → folds virt ≡ b
-        → IsByCache virt (flat_map cached_in m.spaces) address kind (own_or_walked m address kind) ⊎ (own_or_walked m address kind ≡ now)
+        → IsByCache while_folding virt (flat_map cached_in m.spaces) address kind (own_or_walked m address kind) ⊎ (own_or_walked m address kind ≡ now)
     by true folding = at folding (second_of m address kind) refl
     by false none = let same : second_of m address kind ≡ now = ap (λ (second : SecondStage). second address kind) (flat_is_ram m none ∙ sym (flat_now virt m.ram none)) in
         inr (ap (λ answer. option_or answer now) same ∙ flat now)
@@ -219,7 +219,7 @@ try_fences m second = let after = (left_by m (try_under second m)).spaces in
 -- a step from a machine at its last try, whose cached translations the free machine had or has walked
 step_freely : (m : Machine) (spaces : List Space) (next : Machine) → IsOrderly (record m { spaces = spaces }) → All (IsHeld m) (flat_map cached_in spaces)
     → next ≡ left_by (record m { spaces = spaces }) (try_under (own_or_walked (record m { spaces = spaces })) (record m { spaces = spaces }))
-    → FreeStep (free_of m) (free_of next)
+    → FreeStep while_folding (free_of m) (free_of next)
 step_freely m spaces next is held ends = let last = record m { spaces = spaces } in let second = own_or_walked last in record {
   cache = flat_map cached_in spaces;
   allowed = held;
@@ -232,12 +232,12 @@ step_freely m spaces next is held ends = let last = record m { spaces = spaces }
       (sym ends) (try_fences last second);
 }
 
-running_freely : (m : Machine) → IsOrderly m → m.platform.status ≡ Running → FreeStep (free_of m) (free_of (step m))
+running_freely : (m : Machine) → IsOrderly m → m.platform.status ≡ Running → FreeStep while_folding (free_of m) (free_of (step m))
 running_freely m is going = let same = only_spaces m (most_fills m) in
     step_freely m (ready m).spaces (step m) (subst IsOrderly same (filled_orderly (most_fills m) m is)) (held_ready m is)
     (steps_end_by_rule m is going ∙ ap (λ t. left_by t (try_under (own_or_walked t) t)) same)
 
-moves_freely : (m : Machine) → IsOrderly m → (s : Status) → m.platform.status ≡ s → FreeMove s (free_of m) (free_of (step m))
+moves_freely : (m : Machine) → IsOrderly m → (s : Status) → m.platform.status ≡ s → FreeMove while_folding s (free_of m) (free_of (step m))
 moves_freely m is Running going = running_freely m is going
 moves_freely m is Waiting going = ap free_of (step_idle m (λ running. absurd (by (sym going ∙ running))))
   where
@@ -260,3 +260,63 @@ runs_are_architectural m (suc steps) is =
 
 pub guests_are_architectural : GuestsAreArchitectural
 guests_are_architectural guest steps entries spaces = runs_are_architectural (start guest) steps (start_is_orderly guest entries spaces)
+
+-- what a machine may cache and go by while it folds, it may where hgatp is active
+walked_while_active : (virt : Virtual) (ram : List ℕ) (c : CachedTranslation) → IsWalked while_folding virt ram c → IsWalked while_active virt ram c
+walked_while_active virt ram c walk = record {
+  active = active virt.csrs.hstatus virt.mode (folds_virtual virt walk.active);
+  vmid = walk.vmid;
+  address = walk.address;
+  kind = walk.kind;
+  walked = walk.walked;
+}
+
+served_while_active : (virt : Virtual) (cache : List CachedTranslation) (address : ℕ) (kind : Access) (answer : Option ℕ)
+    → IsByCache while_folding virt cache address kind answer → IsByCache while_active virt cache address kind answer
+served_while_active virt cache address kind answer by = record {
+  serving = folds_virtual virt by.serving;
+  cached = by.cached;
+  held = by.held;
+  vmid = by.vmid;
+  page = by.page;
+  permits = by.permits;
+  place = by.place;
+}
+
+step_while_active : (f g : FreeMachine) → FreeStep while_folding f g → FreeStep while_active f g
+step_while_active f g s = record {
+  cache = s.cache;
+  allowed = All-weaker (λ c. Contains f.cache c ⊎ IsWalked while_folding f.platform.virt f.ram c)
+      (λ c. Contains f.cache c ⊎ IsWalked while_active f.platform.virt f.ram c) allowed s.cache s.allowed;
+  second = s.second;
+  translates = λ address kind. translates address kind (s.translates address kind);
+  platform = s.platform;
+  ram = s.ram;
+  kept = s.kept;
+  fenced = s.fenced;
+}
+  where
+    virt : Virtual
+    virt = f.platform.virt
+
+    allowed : (c : CachedTranslation) → Contains f.cache c ⊎ IsWalked while_folding virt f.ram c → Contains f.cache c ⊎ IsWalked while_active virt f.ram c
+    allowed c (inl held) = inl held
+    allowed c (inr walk) = inr (walked_while_active virt f.ram c walk)
+
+    translates : (address : ℕ) (kind : Access)
+        → IsByCache while_folding virt s.cache address kind (s.second address kind)
+        ⊎ (s.second address kind ≡ second_by_walk virt.csrs virt.mode ram_base f.ram address kind)
+        → IsByCache while_active virt s.cache address kind (s.second address kind)
+        ⊎ (s.second address kind ≡ second_by_walk virt.csrs virt.mode ram_base f.ram address kind)
+    translates address kind (inl by) = inl (served_while_active virt s.cache address kind (s.second address kind) by)
+    translates address kind (inr now) = inr now
+
+move_while_active : (s : Status) (f g : FreeMachine) → FreeMove while_folding s f g → FreeMove while_active s f g
+move_while_active Running f g moves = step_while_active f g moves
+move_while_active Waiting f g moves = moves
+move_while_active Stopped f g moves = moves
+
+pub folding_runs_are_active : FoldingRunsAreActive
+folding_runs_are_active f h zero runs = runs
+folding_runs_are_active f h (suc steps) (g, moves, runs) =
+    (g, move_while_active f.platform.status f g moves, folding_runs_are_active g h steps runs)

@@ -21,7 +21,7 @@ use Rattle.arch_defs.specs.Traps.{is_virtual}
 use Rattle.arch_defs.specs.Walk.{leaf_address}
 use Rattle.arch_defs.specs.Roots.{is_table}
 use Rattle.arch_defs.specs.WalkedEntries.{entry_by_table, entry_by_walk, folds}
-use Rattle.machine_defs.specs.FreeMachines.{CachedTranslation, FreeMachine, FreeStep, IsByCache, IsWalked, is_named, left_under, uncached}
+use Rattle.machine_defs.specs.FreeMachines.{CachedTranslation, FreeMachine, FreeStep, IsByCache, IsWalked, is_named, left_under, uncached, while_active}
 use Rattle.machine_defs.specs.Tries.{fence_under}
 use Rattle.machine_laws.specs.Caching.{FencedByWalks, IsStepUnder, UncachedByWalks, names_address}
 use Rattle.machine_laws.proofs.Walks.{fills_serve_the_page, now_page}
@@ -37,35 +37,35 @@ walks_table csrs ram address kind e is = by csrs.hgatp is
 
 -- a place by what is walked now is the walk's
 walked_is_by_walk : (virt : Virtual) (ram : List ℕ) (cache : List CachedTranslation) (address : ℕ) (kind : Access) (answer : Option ℕ)
-    → (by : IsByCache virt cache address kind answer) → IsWalked virt ram by.cached → answer ≡ second_by_walk virt.csrs virt.mode ram_base ram address kind
+    → (by : IsByCache while_active virt cache address kind answer) → IsWalked while_active virt ram by.cached → answer ≡ second_by_walk virt.csrs virt.mode ram_base ram address kind
 walked_is_by_walk virt ram cache address kind answer by walk = let e = by.cached.entry in let mxr = virt.csrs.hs.status.mxr in
-    let folding : folds virt ≡ true = and_from (is_virtual virt.mode) (is_table virt.csrs.hgatp) by.virtual
+    let folding : folds virt ≡ true = and_from (is_virtual virt.mode) (is_table virt.csrs.hgatp) by.serving
     (walks_table virt.csrs ram walk.address walk.kind e walk.walked) in
     let same : address / 4096 ≡ walk.address / 4096 = sym by.page ∙ now_page virt.csrs ram walk.address walk.kind e walk.walked in
     by.place ∙ sym (ap (λ b. cond b (Some (leaf_address (leaf_of e) address)) None) by.permits)
     ∙ fills_serve_the_page virt ram walk.address address walk.kind kind e folding walk.walked same
 
 -- where all that is cached is what walks of RAM as it is give, each access goes by these
-pub walked_steps : (f g : FreeMachine) (s : FreeStep f g) → All (IsWalked f.platform.virt f.ram) f.cache
+pub walked_steps : (f g : FreeMachine) (s : FreeStep while_active f g) → All (IsWalked while_active f.platform.virt f.ram) f.cache
     → s.second ≡ second_by_walk f.platform.virt.csrs f.platform.virt.mode ram_base f.ram
 walked_steps f g s all = fun_ext (λ address. fun_ext (λ kind. at address kind (s.translates address kind)))
   where
     virt : Virtual
     virt = f.platform.virt
 
-    walked : (c : CachedTranslation) → Contains f.cache c ⊎ IsWalked virt f.ram c → IsWalked virt f.ram c
-    walked c (inl held) = All-contains (IsWalked virt f.ram) f.cache c all held
+    walked : (c : CachedTranslation) → Contains f.cache c ⊎ IsWalked while_active virt f.ram c → IsWalked while_active virt f.ram c
+    walked c (inl held) = All-contains (IsWalked while_active virt f.ram) f.cache c all held
     walked c (inr is) = is
 
     at : (address : ℕ) (kind : Access)
-        → IsByCache virt s.cache address kind (s.second address kind) ⊎ (s.second address kind ≡ second_by_walk virt.csrs virt.mode ram_base f.ram address kind)
+        → IsByCache while_active virt s.cache address kind (s.second address kind) ⊎ (s.second address kind ≡ second_by_walk virt.csrs virt.mode ram_base f.ram address kind)
         → s.second address kind ≡ second_by_walk virt.csrs virt.mode ram_base f.ram address kind
     at address kind (inl by) = walked_is_by_walk virt f.ram s.cache address kind (s.second address kind) by
-        (walked by.cached (All-contains (λ c. Contains f.cache c ⊎ IsWalked virt f.ram c) s.cache by.cached s.allowed by.held))
+        (walked by.cached (All-contains (λ c. Contains f.cache c ⊎ IsWalked while_active virt f.ram c) s.cache by.cached s.allowed by.held))
     at address kind (inr now) = now
 
 -- and so where V = 0, whatever is cached
-pub flat_steps : (f g : FreeMachine) (s : FreeStep f g) → is_virtual f.platform.virt.mode ≡ false
+pub flat_steps : (f g : FreeMachine) (s : FreeStep while_active f g) → is_virtual f.platform.virt.mode ≡ false
     → s.second ≡ second_by_walk f.platform.virt.csrs f.platform.virt.mode ram_base f.ram
 flat_steps f g s flat = fun_ext (λ address. fun_ext (λ kind. at address kind (s.translates address kind)))
   where
@@ -73,13 +73,13 @@ flat_steps f g s flat = fun_ext (λ address. fun_ext (λ kind. at address kind (
     virt = f.platform.virt
 
     at : (address : ℕ) (kind : Access)
-        → IsByCache virt s.cache address kind (s.second address kind) ⊎ (s.second address kind ≡ second_by_walk virt.csrs virt.mode ram_base f.ram address kind)
+        → IsByCache while_active virt s.cache address kind (s.second address kind) ⊎ (s.second address kind ≡ second_by_walk virt.csrs virt.mode ram_base f.ram address kind)
         → s.second address kind ≡ second_by_walk virt.csrs virt.mode ram_base f.ram address kind
-    at address kind (inl by) = absurd (both_ways (is_virtual virt.mode) flat by.virtual)
+    at address kind (inl by) = absurd (both_ways (is_virtual virt.mode) flat by.serving)
     at address kind (inr now) = now
 
 -- a step under a second stage
-pub steps_by : (f g : FreeMachine) (s : FreeStep f g) (now : SecondStage) → s.second ≡ now → IsStepUnder now f g
+pub steps_by : (f g : FreeMachine) (s : FreeStep while_active f g) (now : SecondStage) → s.second ≡ now → IsStepUnder now f g
 steps_by f g s now same = record {
   platform = s.platform ∙ ap (λ second. (left_under second f).platform) same;
   ram = s.ram ∙ ap (λ second. (left_under second f).ram) same;
@@ -87,7 +87,7 @@ steps_by f g s now same = record {
 
 pub uncached_by_walks : UncachedByWalks
 uncached_by_walks f g s none = steps_by f g s (second_by_walk f.platform.virt.csrs f.platform.virt.mode ram_base f.ram)
-    (walked_steps f g s (subst (All (IsWalked f.platform.virt f.ram)) (sym none) (All-nil (IsWalked f.platform.virt f.ram))))
+    (walked_steps f g s (subst (All (IsWalked while_active f.platform.virt f.ram)) (sym none) (All-nil (IsWalked while_active f.platform.virt f.ram))))
 
 -- a fence names each cached translation of its VMID for an address of its page
 names_cached : (fence : Fence) (address vmid : ℕ) (e : Entry) → e.page ≡ address / 4096 → names_vmid fence.vmid vmid ≡ true → names_address fence.page address ≡ true
@@ -105,7 +105,7 @@ fenced_by_walks f g h before after fence address kind fences of_vmid of_page = a
     virt : Virtual
     virt = g.platform.virt
 
-    walked : (by : IsByCache virt after.cache address kind (after.second address kind)) → Contains g.cache by.cached ⊎ IsWalked virt g.ram by.cached → IsWalked virt g.ram by.cached
+    walked : (by : IsByCache while_active virt after.cache address kind (after.second address kind)) → Contains g.cache by.cached ⊎ IsWalked while_active virt g.ram by.cached → IsWalked while_active virt g.ram by.cached
     walked by (inr is) = is
     walked by (inl held) =
         let unnamed : is_named (fence_under before.second (uncached f)) by.cached.vmid by.cached.entry ≡ false =
@@ -114,8 +114,8 @@ fenced_by_walks f g h before after fence address kind fences of_vmid of_page = a
         (ap (names_vmid fence.vmid) by.vmid ∙ of_vmid) of_page in
         absurd (both_ways (names fence by.cached.vmid by.cached.entry) (sym (ap (λ o. is_named o by.cached.vmid by.cached.entry) fences) ∙ unnamed) named)
 
-    at : IsByCache virt after.cache address kind (after.second address kind) ⊎ (after.second address kind ≡ second_by_walk virt.csrs virt.mode ram_base g.ram address kind)
+    at : IsByCache while_active virt after.cache address kind (after.second address kind) ⊎ (after.second address kind ≡ second_by_walk virt.csrs virt.mode ram_base g.ram address kind)
         → after.second address kind ≡ second_by_walk virt.csrs virt.mode ram_base g.ram address kind
     at (inl by) = walked_is_by_walk virt g.ram after.cache address kind (after.second address kind) by
-        (walked by (All-contains (λ c. Contains g.cache c ⊎ IsWalked virt g.ram c) after.cache by.cached after.allowed by.held))
+        (walked by (All-contains (λ c. Contains g.cache c ⊎ IsWalked while_active virt g.ram c) after.cache by.cached after.allowed by.held))
     at (inr now) = now

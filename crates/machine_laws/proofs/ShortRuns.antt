@@ -5,7 +5,7 @@ use Rattle.std.proofs.lemmas.List.Elements.{All-contains, All-head, All-nil, All
 use Rattle.arch_defs.specs.declared.cached.Fence.{Fence}
 use Rattle.arch_defs.specs.Memory.{SecondStage, ram_base}
 use Rattle.arch_defs.specs.SecondStage.{second_by_walk}
-use Rattle.machine_defs.specs.FreeMachines.{CachedTranslation, FreeMachine, FreeMove, FreeStep, IsWalked, free_of, is_named, left_under, uncached}
+use Rattle.machine_defs.specs.FreeMachines.{CachedTranslation, FreeMachine, FreeMove, FreeStep, IsWalked, free_of, is_named, left_under, uncached, while_active, while_folding}
 use Rattle.machine_laws.specs.Keeping.{IsOrderly}
 use Rattle.machine_laws.proofs.FreeRuns.{runs_are_architectural}
 use Rattle.machine_laws.proofs.FreeSteps.{flat_steps, steps_by, walked_steps}
@@ -52,7 +52,7 @@ now f = second_by_walk f.platform.virt.csrs f.platform.virt.mode ram_base f.ram
 abbrev dropped : FreeMachine → FreeMachine
 dropped f = record { platform = (left_under (now f) f).platform; ram = (left_under (now f) f).ram; cache = [] }
 
-drops : (f : FreeMachine) → FreeStep f (dropped f)
+drops : (f : FreeMachine) → FreeStep while_folding f (dropped f)
 drops f = record {
   cache = [];
   allowed = All-nil _;
@@ -79,7 +79,7 @@ emptied fence is (c ∷ cs) unnamed =
     let one : is_named fence c.vmid c.entry ≡ false = All-head (λ c. is_named fence c.vmid c.entry ≡ false) c cs unnamed in
     let never : true ≡ false = sym (ap (λ o. is_named o c.vmid c.entry) is) ∙ one in absurd cc
 
-after_fence : (g : FreeMachine) → FreeStep (free_of (stale_machine fence_bytes)) g → g ≡ dropped (free_of (stale_machine fence_bytes))
+after_fence : (g : FreeMachine) → FreeStep while_active (free_of (stale_machine fence_bytes)) g → g ≡ dropped (free_of (stale_machine fence_bytes))
 unfolding run step try_under after_fills missing_entry missing_entry_under core due due_for_hs due_for_vs first_stage op_of system_of system_op_of fence_op_of immediate_arithmetic_of immediate_op_of alu meaning privileged refusal fenced entered returned second_by guest_root_of csrs_before stale_machine stale_root stale_entry entry_by_walk second_walk walk path path_from end_of target entered_hs is_system permits_second fence_under
 after_fence g s = let f = free_of (stale_machine fence_bytes) in
     let same : s.second ≡ now f = flat_steps f g s refl in
@@ -96,27 +96,27 @@ abbrev entered_end : FreeMachine
 entered_end = dropped fenced_end
 
 abbrev IsEntered : FreeMachine → Type 0
-IsEntered g = (g.platform ≡ entered_end.platform) × (g.ram ≡ entered_end.ram) × All (IsWalked entered_end.platform.virt entered_end.ram) g.cache
+IsEntered g = (g.platform ≡ entered_end.platform) × (g.ram ≡ entered_end.ram) × All (IsWalked while_active entered_end.platform.virt entered_end.ram) g.cache
 
-same_walk : (c : CachedTranslation) → IsWalked fenced_end.platform.virt fenced_end.ram c → IsWalked entered_end.platform.virt entered_end.ram c
+same_walk : (c : CachedTranslation) → IsWalked while_active fenced_end.platform.virt fenced_end.ram c → IsWalked while_active entered_end.platform.virt entered_end.ram c
 unfolding run step try_under after_fills missing_entry missing_entry_under core due due_for_hs due_for_vs first_stage op_of system_of system_op_of fence_op_of immediate_arithmetic_of immediate_op_of alu meaning privileged refusal fenced entered returned second_by guest_root_of csrs_before stale_machine stale_root stale_entry entry_by_walk second_walk walk path path_from end_of target entered_hs is_system permits_second
 same_walk c walk = record { active = refl; vmid = walk.vmid; address = walk.address; kind = walk.kind; walked = walk.walked }
 
-after_sret : (g : FreeMachine) → FreeStep fenced_end g → IsEntered g
+after_sret : (g : FreeMachine) → FreeStep while_active fenced_end g → IsEntered g
 unfolding run step try_under after_fills missing_entry missing_entry_under core due due_for_hs due_for_vs first_stage op_of system_of system_op_of fence_op_of immediate_arithmetic_of immediate_op_of alu meaning privileged refusal fenced entered returned second_by guest_root_of csrs_before stale_machine stale_root stale_entry entry_by_walk second_walk walk path path_from end_of target entered_hs is_system permits_second
 after_sret g s =
     let by = steps_by fenced_end g s (now fenced_end) (flat_steps fenced_end g s refl) in
-    (by.platform, by.ram, All-weaker (Contains s.cache) (IsWalked entered_end.platform.virt entered_end.ram) walked g.cache s.kept)
+    (by.platform, by.ram, All-weaker (Contains s.cache) (IsWalked while_active entered_end.platform.virt entered_end.ram) walked g.cache s.kept)
   where
-    from : (c : CachedTranslation) → Contains [] c ⊎ IsWalked fenced_end.platform.virt fenced_end.ram c → IsWalked entered_end.platform.virt entered_end.ram c
+    from : (c : CachedTranslation) → Contains [] c ⊎ IsWalked while_active fenced_end.platform.virt fenced_end.ram c → IsWalked while_active entered_end.platform.virt entered_end.ram c
     from c (inl held) = absurd (omega (arith, held.1))
     from c (inr walk) = same_walk c walk
 
-    walked : (c : CachedTranslation) → Contains s.cache c → IsWalked entered_end.platform.virt entered_end.ram c
-    walked c held = from c (All-contains (λ c. Contains [] c ⊎ IsWalked fenced_end.platform.virt fenced_end.ram c) s.cache c s.allowed held)
+    walked : (c : CachedTranslation) → Contains s.cache c → IsWalked while_active entered_end.platform.virt entered_end.ram c
+    walked c held = from c (All-contains (λ c. Contains [] c ⊎ IsWalked while_active fenced_end.platform.virt fenced_end.ram c) s.cache c s.allowed held)
 
 -- and the third step is by the walk of now, which has no translation
-after_fault : (g h : FreeMachine) → IsEntered g → FreeMove g.platform.status g h → HasFaulted h.platform
+after_fault : (g h : FreeMachine) → IsEntered g → FreeMove while_active g.platform.status g h → HasFaulted h.platform
 unfolding run step try_under after_fills missing_entry missing_entry_under core due due_for_hs due_for_vs first_stage op_of system_of system_op_of fence_op_of immediate_arithmetic_of immediate_op_of alu meaning privileged refusal fenced entered returned second_by guest_root_of csrs_before stale_machine stale_root stale_entry entry_by_walk second_walk walk path path_from end_of target entered_hs is_system permits_second
 after_fault g h (platform, ram, walked) move =
     subst (λ p. HasFaulted p) (sym (steps_by last h step (now last) (walked_steps last h step walked)).platform) (record { mode = refl; cause = refl })
@@ -127,11 +127,11 @@ after_fault g h (platform, ram, walked) move =
     same : g ≡ last
     same = λ i. record { platform = platform i; ram = ram i; cache = g.cache }
 
-    step : FreeStep last h
-    step = subst (λ f. FreeMove f.platform.status f h) same move
+    step : FreeStep while_active last h
+    step = subst (λ f. FreeMove while_active f.platform.status f h) same move
 
 pub fenced_faults_freely : FencedFaultsFreely
 unfolding run step try_under after_fills missing_entry missing_entry_under core due due_for_hs due_for_vs first_stage op_of system_of system_op_of fence_op_of immediate_arithmetic_of immediate_op_of alu meaning privileged refusal fenced entered returned second_by guest_root_of csrs_before stale_machine stale_root stale_entry entry_by_walk second_walk walk path path_from end_of target entered_hs is_system permits_second
 fenced_faults_freely end (g, first, (h, second, (last, third, is))) =
-    let entered : IsEntered h = after_sret h (subst (λ f. FreeMove f.platform.status f h) (after_fence g first) second) in
+    let entered : IsEntered h = after_sret h (subst (λ f. FreeMove while_active f.platform.status f h) (after_fence g first) second) in
     subst (λ (f : FreeMachine). HasFaulted f.platform) (sym is) (after_fault h last entered third)

@@ -8,7 +8,7 @@ use Rattle.arch_defs.specs.Roots.{vmid_of}
 use Rattle.arch_defs.specs.Spaces.{names_vmid}
 use Rattle.guest_specs.specs.declared.guests.GuestSpec.{GuestSpec}
 use Rattle.machine_defs.specs.Fills.{needed}
-use Rattle.machine_defs.specs.FreeMachines.{FreeMachine, FreeStep, IsArchitectural, left_under, uncached}
+use Rattle.machine_defs.specs.FreeMachines.{FreeMachine, FreeRun, FreeStep, IsArchitectural, left_under, uncached, while_active, while_folding}
 use Rattle.machine_defs.specs.Freshness.{CachesFresh, UsesFresh}
 use Rattle.machine_defs.specs.Machine.{Machine, start}
 use Rattle.machine_defs.specs.Tries.{fence_under}
@@ -23,6 +23,12 @@ abbrev pub GuestsAreArchitectural : Type 0
 GuestsAreArchitectural = (guest : GuestSpec) (steps : ℕ) → needed ≤ guest.entries → 1 ≤ guest.spaces
     → IsArchitectural (start guest) steps
 
+-- each run of a free machine that caches while it folds is one of a free machine that caches as often as the
+-- architecture lets it
+abbrev pub FoldingRunsAreActive : Type 0
+FoldingRunsAreActive =
+    (f h : FreeMachine) (steps : ℕ) → FreeRun while_folding steps f h → FreeRun while_active steps f h
+
 -- a step of a free machine leaves what one try under this second stage does
 pub record IsStepUnder (second : SecondStage) (f g : FreeMachine) : Type 0 where
   pub platform : g.platform ≡ (left_under second f).platform
@@ -30,7 +36,7 @@ pub record IsStepUnder (second : SecondStage) (f g : FreeMachine) : Type 0 where
 
 -- where nothing is cached, that is the walk of hgatp's table as RAM is
 abbrev pub UncachedByWalks : Type 0
-UncachedByWalks = (f g : FreeMachine) → FreeStep f g → f.cache ≡ []
+UncachedByWalks = (f g : FreeMachine) → FreeStep while_active f g → f.cache ≡ []
     → IsStepUnder (second_by_walk f.platform.virt.csrs f.platform.virt.mode ram_base f.ram) f g
 
 -- whether what a fence names is the page of an address, or every page
@@ -41,8 +47,8 @@ names_address (Some page) address = page == address / 4096
 -- in the step after a fence, each access of a VMID and a page that the fence names is made by that walk too:
 -- its translation sees what was stored before the fence (8.3.2)
 abbrev pub FencedByWalks : Type 0
-FencedByWalks = (f g h : FreeMachine) (before : FreeStep f g) (after : FreeStep g h) (fence : Fence)
-    (address : ℕ) (kind : Access) → fence_under before.second (uncached f) ≡ Some fence
+FencedByWalks = (f g h : FreeMachine) (before : FreeStep while_active f g) (after : FreeStep while_active g h)
+    (fence : Fence) (address : ℕ) (kind : Access) → fence_under before.second (uncached f) ≡ Some fence
     → names_vmid fence.vmid (vmid_of g.platform.virt.csrs.hgatp) ≡ true
     → names_address fence.page address ≡ true
     → after.second address kind

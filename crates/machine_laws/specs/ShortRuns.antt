@@ -12,7 +12,7 @@ use Rattle.arch_defs.specs.Memory.{ram_base}
 use Rattle.arch_defs.specs.Registers.{csrs_at_reset, read, virtual_at}
 use Rattle.guest_specs.specs.declared.statuses.Status.TheVariants.{Running}
 use Rattle.machine_defs.specs.Fills.{needed}
-use Rattle.machine_defs.specs.FreeMachines.{FreeMachine, FreeRun, free_of}
+use Rattle.machine_defs.specs.FreeMachines.{FreeMachine, FreeRun, free_of, while_active, while_folding}
 use Rattle.machine_defs.specs.Machine.{Machine, Platform}
 use Rattle.machine_defs.specs.Runs.{run}
 
@@ -76,13 +76,14 @@ StaleIsUsed = HasExecuted (run (stale_machine nop) 3).platform
 abbrev pub FencedFaults : Type 0
 FencedFaults = HasFaulted (run (stale_machine fence_bytes) 3).platform
 
--- a free machine may use the translation or drop it where it made no fence, and else cannot use it
+-- a free machine that caches while it folds may use the translation or drop it where it made no fence, and
+-- else no free machine can use it
 abbrev pub MayUseStale : Type 0
-MayUseStale = (end : FreeMachine) × FreeRun 3 (free_of (stale_machine nop)) end × HasExecuted end.platform
+MayUseStale = (end : FreeMachine) × FreeRun while_folding 3 (free_of (stale_machine nop)) end × HasExecuted end.platform
 
 abbrev pub MayDropStale : Type 0
-MayDropStale = (end : FreeMachine) × FreeRun 3 (free_of (stale_machine nop)) end × HasFaulted end.platform
+MayDropStale = (end : FreeMachine) × FreeRun while_folding 3 (free_of (stale_machine nop)) end × HasFaulted end.platform
 
 abbrev pub FencedFaultsFreely : Type 0
 FencedFaultsFreely =
-    (end : FreeMachine) → FreeRun 3 (free_of (stale_machine fence_bytes)) end → HasFaulted end.platform
+    (end : FreeMachine) → FreeRun while_active 3 (free_of (stale_machine fence_bytes)) end → HasFaulted end.platform

@@ -1,7 +1,7 @@
 // Laws of the definitions.
 
 ghost use Rattle.machine_laws.specs.Budgets.{BudgetIsSmall, FillGoes, FillIsNoEvent, ReadyStepIsTry, ReadyStepsGo, TryGoes, TryIsEvent};
-ghost use Rattle.machine_laws.specs.Caching.{FencedByWalks, GuestsAreArchitectural, GuestsCacheFresh, GuestsUseFresh, RunsAreArchitectural, RunsCacheFresh, RunsUseFresh, UncachedByWalks};
+ghost use Rattle.machine_laws.specs.Caching.{FencedByWalks, FoldingRunsAreActive, GuestsAreArchitectural, GuestsCacheFresh, GuestsUseFresh, RunsAreArchitectural, RunsCacheFresh, RunsUseFresh, UncachedByWalks};
 ghost use Rattle.machine_laws.specs.HostPlaces.{OnlyRamChanges, PlacesAreRenamed, RamIsRenamed, RamIsStored};
 ghost use Rattle.machine_laws.specs.Keeping.{FillKeepsOrderly, RunKeepsOrderly, StartIsOrderly, TryKeepsOrderly};
 ghost use Rattle.machine_laws.specs.Laws.{EventsCompose, FewFills, FillsAreWalks, FillsCanBeMade, FillsGoOn, FillsServeThePage, FillsSuffice, FillsSufficeForGuests, FlatIsRam, FlatMissesNothing, FoldsByFront, FrontGivesPlaces, InterruptedMissesNothing, MissingEntriesAreRead, MoreChangeNothing, OnlySpaces, PageHasOneEntry, RunsCompose, StepsEndByRule, StepsGoOn, StepsSettle, StopsAreFaults, TriesChangeSpaces, TriesEndByRule};
@@ -136,12 +136,14 @@ pub fn machines_stay_storable()
 {}
 
 /// Every run of a lone machine is architectural: it is one that a machine may make which caches second-stage
-/// translations as freely as the architecture allows (Privileged Architecture 20211203, 4.3.2, 8.2.10 and
-/// 8.3.2). A machine that caches so makes a step as the walk of hgatp's table gives, on RAM as it is, where
-/// it has cached nothing, and so it does each access that a fence before the step names.
+/// translations freely while it folds. Each run of such a machine is one of a machine that caches them as
+/// often as the architecture lets it (Privileged Architecture 20211203, 4.3.2, 8.2.10 and 8.3.2). Even that
+/// machine makes a step as the walk of hgatp's table gives, on RAM as it is, where it has cached nothing, and
+/// so it does each access that a fence before the step names.
 pub fn runs_are_architectural()
     ensures machines { RunsAreArchitectural }
     ensures guests { GuestsAreArchitectural }
+    ensures wider { FoldingRunsAreActive }
     ensures uncached { UncachedByWalks }
     ensures fenced { FencedByWalks }
 {}
@@ -160,7 +162,7 @@ pub fn runs_are_fresh()
 
 /// Two runs of three steps, computed. A guest of the guest is entered while a stale translation of its first
 /// page is cached. Without a fence the lone machine uses it, and a free machine may use or drop it. After an
-/// HFENCE.GVMA neither uses it.
+/// HFENCE.GVMA neither uses it, however often the free machine caches.
 pub fn stale_until_the_fence()
     ensures used { StaleIsUsed }
     ensures faults { FencedFaults }

@@ -1,4 +1,4 @@
-use Rattle.machine_laws.proofs.FreeRuns.{guests_are_architectural, runs_are_architectural}
+use Rattle.machine_laws.proofs.FreeRuns.{folding_runs_are_active, guests_are_architectural, runs_are_architectural}
 use Rattle.machine_laws.proofs.FreeSteps.{fenced_by_walks, uncached_by_walks}
 use Rattle.machine_laws.proofs.laws.runs_are_architectural.Goals as goal
 
@@ -7,6 +7,9 @@ returns-clause-machines c = runs_are_architectural
 
 pub returns-clause-guests : goal.returns-clause-guests
 returns-clause-guests c = guests_are_architectural
+
+pub returns-clause-wider : goal.returns-clause-wider
+returns-clause-wider c = folding_runs_are_active
 
 pub returns-clause-uncached : goal.returns-clause-uncached
 returns-clause-uncached c = uncached_by_walks
