@@ -83,7 +83,7 @@ impl Buffer {
         }
     }
 
-    /// How many walks by both stages were made for the buffer.
+    /// How many accesses were walked for, by both stages, since no kept translation gave their place.
     pub fn walks(&self) -> u64
         ensures { result ≡ self.now.walks }
     {
