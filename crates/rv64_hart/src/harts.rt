@@ -66,8 +66,8 @@ impl Hart {
         &mut self.state
     }
 
-    /// How many accesses the hart has walked for since it was made, by both stages, since no kept translation
-    /// gave their place; it stays at 2^64-1.
+    /// For how many accesses the hart has walked both stages, where no kept translation gave their place; it
+    /// stays at 2^64-1.
     pub fn walks(&self) -> u64
         ensures { result ≡ self.now.buffer.walks }
     {

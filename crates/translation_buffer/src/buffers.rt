@@ -83,7 +83,7 @@ impl Buffer {
         }
     }
 
-    /// How many accesses were walked for, by both stages, since no kept translation gave their place.
+    /// For how many accesses both stages were walked, where no kept translation gave their place.
     pub fn walks(&self) -> u64
         ensures { result ≡ self.now.walks }
     {
