@@ -3,6 +3,7 @@ use Rattle.std.specs.Prelude.{◌&&◌, nat_le, not, option_and_then}
 use Rattle.std.proofs.Common.{cond, ◌≡◌, ℕ, zero, suc, ◌+◌, ◌-◌, ◌%◌, ◌^◌, ◌<◌, ◌≤◌, List, [], ◌∷◌, Option, Some, None, Bool, true, false, refl, ap, sym, subst, arith, ◌∙◌}
 use Rattle.std.proofs.lemmas.List.{append-nil}
 use Rattle.std.proofs.lemmas.List.Sums.{sum_by-append}
+use Rattle.std.proofs.lemmas.Option.{none-some, same_Some}
 use Rattle.arch_defs.specs.declared.levels.Level.TheVariants as level
 use Rattle.arch_defs.specs.declared.modes.Trap.{Trap}
 use Rattle.arch_defs.specs.declared.registers.Csrs.{Csrs}
@@ -53,6 +54,34 @@ use Rattle.guest_exit.proofs.Followed.{followed}
 use Rattle.guest_exit.proofs.Interrupts.{own_after}
 use Rattle.guest_exit.proofs.Pools.{size_of, tidy_by_blocks}
 use Rattle.guest_exit.proofs.Stands.{none_written}
+
+-- numbers and tests, apart from the machines that they are of
+some_more : (n : ℕ) → 0 < n + 1
+some_more n = omega arith
+
+one_more_suc : (n : ℕ) → n + 1 ≡ suc n
+one_more_suc n = omega arith
+
+below_limit : (n limit : ℕ) → suc n ≤ limit → n < limit
+below_limit n limit h = omega (arith, h)
+
+within_limit : (n limit : ℕ) → suc n ≤ limit → n ≤ limit
+within_limit n limit h = omega (arith, h)
+
+more_than_one : (n limit : ℕ) → suc n < limit → 1 < limit
+more_than_one n limit h = omega (arith, h)
+
+never_below : {A : Type 0} (i : ℕ) → i < 0 → A
+never_below i never = absurd (omega (arith, never))
+
+below_by : (i n : ℕ) → nat_lt i n ≡ true → i < n
+below_by i n e = grind (arith, e)
+
+last_by : (i n : ℕ) → i < n + 1 → nat_lt i n ≡ false → n ≡ i
+last_by i n within e = grind (arith, within, e)
+
+not_both : {A : Type 0} (b : Bool) → b ≡ true → b ≡ false → A
+not_both b is other = cc
 
 -- the machine's event has the hart's part in the account
 one_trace : (virtual : Bool) (e : Event) → trace_of (event_for virtual e ∷ []) ≡ pc_and_word e
@@ -109,10 +138,11 @@ when_watched false trapped hart before is = refl
 made : (part : Layout) (root : GuestRoot) (m : Machine) (memory : List ℕ) (virtual : Bool) (end : HartEnd) (t : ℕ) (q : Progress) → is_virtual m.platform.virt.mode ≡ virtual
     → Follows part root m memory end → progressed (not virtual) t end ≡ Some q → MadeBy part root m memory t q
 made part root m memory virtual (Goes state changed e) t q is by some =
-    let state_is : state ≡ q.state = cc in
-    let memory_is : changed ≡ q.memory = cc in
-    let trace_is : (t + pc_and_word e) % 2 ^ 64 ≡ q.trace = cc in
-    let trapped_is : not virtual && enters_vs e ≡ q.trapped = cc in
+    let same = same_Some (progress state changed ((t + pc_and_word e) % 2 ^ 64) (not virtual && enters_vs e)) q some in
+    let state_is : state ≡ q.state = ap (λ (p : Progress). p.state) same in
+    let memory_is : changed ≡ q.memory = ap (λ (p : Progress). p.memory) same in
+    let trace_is : (t + pc_and_word e) % 2 ^ 64 ≡ q.trace = ap (λ (p : Progress). p.trace) same in
+    let trapped_is : not virtual && enters_vs e ≡ q.trapped = ap (λ (p : Progress). p.trapped) same in
     record {
       own = by.own;
       state = rw (← state_is) by.state;
@@ -124,7 +154,7 @@ made part root m memory virtual (Goes state changed e) t q is by some =
       trace = rw (by.step, one_trace (is_virtual m.platform.virt.mode) e, ← trace_is) (mod_mod (t + pc_and_word e));
       trap = λ trapped. rw (by.step, is) (hs_trap virtual e (trapped_is ∙ trapped));
     }
-made part root m memory virtual (Exits trap) t q is by some = cc
+made part root m memory virtual (Exits trap) t q is by some = absurd (none-some q some)
 
 -- so many steps of the hart are a run of the machine
 pub record Ran (part : Layout) (pool : Pooled) (m : Machine) (memory : List ℕ) (t n : ℕ) (q : Progress) : Type 0 where
@@ -179,7 +209,7 @@ own_at : (root : GuestRoot) (m : Machine) (limit n : ℕ) (hart : Virtual) (ram 
 unfolding run
 own_at root m limit zero hart ram lasts h keeps e = subst (λ m. host_takes m.platform.virt ≡ false) e lasts.own
 own_at root m limit (suc n) hart ram lasts h keeps e =
-    let some : 1 < limit = omega (arith, h) in
+    let some = more_than_one n limit h in
     let v = m.platform.virt in
     let t = told m.platform limit (suc n) lasts h in
     own_after root (is_virtual v.mode) v.csrs hart.csrs v.mode hart.mode _ _ _ refl keeps.csrs t.timer t.external lasts.own (lasts.interrupts some)
@@ -307,8 +337,8 @@ abbrev Goes' : Machine → Type 0
 Goes' m = (m.platform.status ≡ Running) × (missing_entry m ≡ None)
 
 need_by : (m : Machine) (n i : ℕ) → NeedNoFill n m → Goes' (run m n) → i < n + 1 → (before : Bool) → nat_lt i n ≡ before → Goes' (run m i)
-need_by m n i need now within true e = need i (grind (arith, e))
-need_by m n i need now within false e = let same : n ≡ i = grind (arith, within, e) in subst (λ k. Goes' (run m k)) same now
+need_by m n i need now within true e = need i (below_by i n e)
+need_by m n i need now within false e = subst (λ k. Goes' (run m k)) (last_by i n within e) now
 
 need_further : (m : Machine) (n : ℕ) → NeedNoFill n m → Goes' (run m n) → NeedNoFill (n + 1) m
 need_further m n need now = λ i within. need_by m n i need now within (nat_lt i n) refl
@@ -338,8 +368,9 @@ at_next part pool m memory changed n own at only reserved there =
 -- a run that ended in a trap was watched
 watched_own : (virtual : Bool) (t : ℕ) (end : HartEnd) (q : Progress) → progressed (not virtual) t end ≡ Some q → q.trapped ≡ true → virtual ≡ false
 watched_own false t end q some trapped = refl
-watched_own true t (Goes state memory e) q some trapped = cc
-watched_own true t (Exits trap) q some trapped = cc
+watched_own true t (Goes state memory e) q some trapped =
+    not_both q.trapped trapped (sym (ap (λ (p : Progress). p.trapped) (same_Some (progress state memory ((t + pc_and_word e) % 2 ^ 64) false) q some)))
+watched_own true t (Exits trap) q some trapped = absurd (none-some q some)
 
 -- the machine before the last step
 last_of : (m now : Machine) (n : ℕ) → run m n ≡ now → now ≡ run m (n + 1 - 1)
@@ -374,7 +405,7 @@ ran_one part pool m memory limit t n p q running lasts at h ran fresh some =
       trace = trace_further m now n t p.trace q.trace there running by.ready ran.trace by.trace;
       ends = λ trapped. record {
         own = watched_own (is_virtual v.mode) p.trace (hart_step p.state p.memory) q some trapped;
-        some = omega arith;
+        some = some_more n;
         trap = subst (λ now. IsHsTrap (event_in (try now))) (last_of m now n there) (by.trap trapped);
       };
     }
@@ -417,12 +448,12 @@ ran_none part pool m memory limit t lasts at =
       own = hart_state_of (root_for part pool v) v;
       state = refl;
       machine = rw (← at.ram) (sym (subst (λ virt. placed m virt m.ram 0 ≡ m) (sym back) same));
-      need = λ i never. absurd (omega (arith, never));
+      need = λ i never. never_below i never;
       keeps = record { csrs = none_written (root_for part pool v) (is_virtual v.mode) v.csrs; mode = virtual_mode v.mode };
       held = at.reserved;
       only = only_none (in_blocks part.blocks) memory;
       trace = ap (λ n. n % 2 ^ 64) (sym (none_more_of t));
-      ends = λ trapped. cc;
+      ends = λ trapped. not_both false trapped refl;
     }
 
 -- from the state that is loaded
@@ -437,12 +468,11 @@ pub ran : (part : Layout) (pool : Pooled) (m : Machine) (memory : List ℕ) (lim
     → (q : Progress) → hart_steps (is_watched m.platform.virt) n (progress (hart_state_in part (root_for part pool m.platform.virt) m.platform.virt) memory t false) ≡ Some q → Ran part pool m memory t n q
 unfolding hart_steps
 ran part pool m memory limit t running lasts at zero h q e =
-    let is : progress (hart_state_in part (root_for part pool m.platform.virt) m.platform.virt) memory t false ≡ q = cc in subst (Ran part pool m memory t zero) is (ran_none part pool m memory limit t lasts at)
+    let is : progress (hart_state_in part (root_for part pool m.platform.virt) m.platform.virt) memory t false ≡ q = same_Some _ q e in subst (Ran part pool m memory t zero) is (ran_none part pool m memory limit t lasts at)
 ran part pool m memory limit t running lasts at (suc n) h q e =
-    let one : n + 1 ≡ suc n = omega arith in
-    let within : n < limit = omega (arith, h) in
-    let before : n ≤ limit = omega (arith, h) in
-    subst (λ k. Ran part pool m memory t k q) one
+    let within = below_limit n limit h in
+    let before = within_limit n limit h in
+    subst (λ k. Ran part pool m memory t k q) (one_more_suc n)
     (ran_next part pool m memory limit t n (hart_steps (is_watched m.platform.virt) n (progress (hart_state_in part (root_for part pool m.platform.virt) m.platform.virt) memory t false)) q running lasts at within
     (λ p some. ran part pool m memory limit t running lasts at n before p some) e)
 
