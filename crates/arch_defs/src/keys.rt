@@ -9,7 +9,7 @@ use std::marker::Model;
 
 /// A value that hgatp can hold (Privileged Architecture 20211203, 8.2.10). Contracts see it as the root that
 /// it names.
-#[derive(Clone, Copy, Debug, PartialEq, Eq)]
+#[derive(Clone, Copy, PartialEq, Eq)]
 pub struct Key(u64);
 
 impl Model for Key {

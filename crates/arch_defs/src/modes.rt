@@ -23,7 +23,7 @@ pub enum Access {
 }
 
 /// A trap, with all that its entry writes (Privileged Architecture 20211203, 8.6).
-#[derive(Clone, Copy, Debug, PartialEq, Eq)]
+#[derive(Clone, Copy, PartialEq, Eq)]
 pub struct Trap {
     /// The code of the exception or interrupt, without scause's bit 63.
     pub cause: u64,

@@ -24,7 +24,7 @@ pub const MOST_BLOCKS: usize = 32;
 /// The frames of machine memory that a guest has: its blocks, in the order in which its RAM goes through
 /// them; its roots, of four frames each, the host table's first and then one for each space; and its other
 /// table frames, one of the host table's first and then those of each space. It names no frame twice.
-#[derive(Clone, Copy, Debug, PartialEq, Eq)]
+#[derive(Clone, Copy, PartialEq, Eq)]
 pub struct Part {
     // Those from `count` on are zero.
     slots: [u32; MOST_BLOCKS],

@@ -57,7 +57,7 @@ impl Reg {
 }
 
 /// x0 to x31 and pc. x0 is 0 and never written.
-#[derive(Clone, Copy, Debug, PartialEq, Eq)]
+#[derive(Clone, Copy, PartialEq, Eq)]
 pub struct Regs {
     pub x: [u64; 32],
     pub pc: u64,
@@ -90,7 +90,7 @@ impl Regs {
 }
 
 /// The writable bits of sstatus and vsstatus (Privileged Architecture 20211203, 4.1.1 and 8.2.11).
-#[derive(Clone, Copy, Debug, PartialEq, Eq)]
+#[derive(Clone, Copy, PartialEq, Eq)]
 pub struct SupervisorStatus {
     pub sie: bool,
     pub spie: bool,
@@ -115,7 +115,7 @@ impl SupervisorStatus {
 }
 
 /// The writable bits of hstatus (Privileged Architecture 20211203, 8.2.1).
-#[derive(Clone, Copy, Debug, PartialEq, Eq)]
+#[derive(Clone, Copy, PartialEq, Eq)]
 pub struct HypervisorStatus {
     pub gva: bool,
     pub spv: bool,
@@ -144,7 +144,7 @@ impl HypervisorStatus {
 }
 
 /// A bit for each of the three interrupts of a level (Privileged Architecture 20211203, 4.1.3 and 8.2.3).
-#[derive(Clone, Copy, Debug, PartialEq, Eq)]
+#[derive(Clone, Copy, PartialEq, Eq)]
 pub struct Interrupts {
     pub software: bool,
     pub timer: bool,
@@ -192,7 +192,7 @@ impl SupervisorMode {
 }
 
 /// satp or vsatp: the first-stage table, if any (Privileged Architecture 20211203, 4.1.11).
-#[derive(Clone, Copy, Debug, PartialEq, Eq)]
+#[derive(Clone, Copy, PartialEq, Eq)]
 pub enum SupervisorRoot {
     Bare,
     Table {
@@ -230,7 +230,7 @@ impl GuestMode {
 }
 
 /// hgatp: the second-stage table, if any (Privileged Architecture 20211203, 8.2.10).
-#[derive(Clone, Copy, Debug, PartialEq, Eq)]
+#[derive(Clone, Copy, PartialEq, Eq)]
 pub enum GuestRoot {
     Bare,
     Table {
@@ -308,7 +308,7 @@ impl GuestRoot {
 }
 
 /// The registers that HS and VS each have: those of the 1xx rows, and those of the 2xx rows that match.
-#[derive(Clone, Copy, Debug, PartialEq, Eq)]
+#[derive(Clone, Copy, PartialEq, Eq)]
 pub struct SupervisorCsrs {
     pub status: SupervisorStatus,
     pub tvec: u64,
@@ -338,7 +338,7 @@ impl SupervisorCsrs {
 
 /// The control and status registers of HS and VS (Privileged Architecture 20211203, 4.1 and 8.2).
 /// `sip`'s timer and external bits and `time` are the owner's to set before a step.
-#[derive(Clone, Copy, Debug, PartialEq, Eq)]
+#[derive(Clone, Copy, PartialEq, Eq)]
 pub struct Csrs {
     /// sstatus to satp.
     pub hs: SupervisorCsrs,
@@ -397,7 +397,7 @@ pub type HartState = Virtual;
 
 /// All of a machine that its instructions see beside memory: registers, mode, and the reservation of LR,
 /// a physical address and a width in bytes.
-#[derive(Clone, Copy, Debug, PartialEq, Eq)]
+#[derive(Clone, Copy, PartialEq, Eq)]
 pub struct Virtual {
     pub regs: Regs,
     pub csrs: Csrs,

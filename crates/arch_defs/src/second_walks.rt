@@ -4,7 +4,7 @@ use crate::walks::LeafPte;
 
 /// What the walk of a second-stage table gives an access to a guest physical address (Privileged
 /// Architecture 20211203, 8.5.1).
-#[derive(Clone, Copy, Debug, PartialEq, Eq)]
+#[derive(Clone, Copy, PartialEq, Eq)]
 pub enum SecondWalkEnd {
     /// A leaf that permits the access. Memory has the frame that the address is in under it.
     Leaf(LeafPte),

@@ -4,7 +4,7 @@ use crate::modes::{Access, Mode, Trap};
 
 /// The shape of a table: how many levels it has, how wide its root's index is, and which addresses it
 /// translates (Privileged Architecture 20211203, 4.4 and 8.5.1).
-#[derive(Clone, Copy, Debug, PartialEq, Eq)]
+#[derive(Clone, Copy, PartialEq, Eq)]
 pub enum Shape {
     Sv39,
     Sv39x4,
@@ -12,7 +12,7 @@ pub enum Shape {
 
 /// A table entry in named parts (Privileged Architecture 20211203, 4.3.1 and 4.4.1). The walker needs
 /// neither G nor RSW.
-#[derive(Clone, Copy, Debug, PartialEq, Eq)]
+#[derive(Clone, Copy, PartialEq, Eq)]
 pub struct Pte {
     pub v: bool,
     pub r: bool,
@@ -29,7 +29,7 @@ pub struct Pte {
 
 /// A leaf that a walk has found: the frame that it names (an address divided by 4,096), its level, and
 /// what it permits. `w` is its W and D.
-#[derive(Clone, Copy, Debug, PartialEq, Eq)]
+#[derive(Clone, Copy, PartialEq, Eq)]
 pub struct LeafPte {
     pub frame: u64,
     pub level: u8,
@@ -40,7 +40,7 @@ pub struct LeafPte {
 }
 
 /// How a walk ends.
-#[derive(Clone, Copy, Debug, PartialEq, Eq)]
+#[derive(Clone, Copy, PartialEq, Eq)]
 pub enum WalkEnd {
     Leaf(LeafPte),
     PageFault,
@@ -49,7 +49,7 @@ pub enum WalkEnd {
 }
 
 /// What a table entry says to a walk.
-#[derive(Clone, Copy, Debug, PartialEq, Eq)]
+#[derive(Clone, Copy, PartialEq, Eq)]
 pub enum Next {
     Ends(WalkEnd),
     /// It goes on in the table of this frame, one level below.
@@ -58,7 +58,7 @@ pub enum Next {
 
 /// As whom an access is translated by a first stage: from user mode or not, and what SUM and MXR let it
 /// do (Privileged Architecture 20211203, 4.1.1).
-#[derive(Clone, Copy, Debug, PartialEq, Eq)]
+#[derive(Clone, Copy, PartialEq, Eq)]
 pub struct Privilege {
     pub user: bool,
     pub sum: bool,
@@ -66,7 +66,7 @@ pub struct Privilege {
 }
 
 /// An access for which the second stage has no place.
-#[derive(Clone, Copy, Debug, PartialEq, Eq)]
+#[derive(Clone, Copy, PartialEq, Eq)]
 pub struct MissingPlace {
     /// The guest physical address that has none.
     pub address: u64,
@@ -82,7 +82,7 @@ pub struct MissingPlace {
 }
 
 /// What the first stage makes of a virtual address.
-#[derive(Clone, Copy, Debug, PartialEq, Eq)]
+#[derive(Clone, Copy, PartialEq, Eq)]
 pub enum Found {
     /// This guest physical address.
     Passes(u64),

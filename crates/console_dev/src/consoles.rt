@@ -12,7 +12,7 @@ use std::marker::Model;
 
 /// The bytes that a guest has put, and its inputs: bytes that are there for it, each from a moment of its
 /// clock on. All room is taken when it is made: no other call takes memory.
-#[derive(Debug, Drop)]
+#[derive(Drop)]
 pub struct Console {
     bytes: Vec<u8>,
     room: u64,

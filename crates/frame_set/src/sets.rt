@@ -13,7 +13,7 @@ const SEVERAL: u8 = 255;
 /// A set of frames: a mark for the low 12 bits of each frame's number, and at each mark the upper part of
 /// the frame that set it. To empty it, only the marks are cleared. `recent` has the bits of the frames that
 /// were added since the last `begin`; a frame's bit is that of its number modulo 64.
-#[derive(Clone, Copy, Debug, PartialEq, Eq)]
+#[derive(Clone, Copy, PartialEq, Eq)]
 pub struct FrameSet {
     marks: [u64; 64],
     uppers: [u8; 4096],

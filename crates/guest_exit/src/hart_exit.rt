@@ -22,7 +22,7 @@ use phys_mem::PhysMem;
 use see_calls::CallEnd;
 
 /// What became of a step that the hart left to the host.
-#[derive(Clone, Copy, Debug, PartialEq, Eq)]
+#[derive(Clone, Copy, PartialEq, Eq)]
 pub enum Handled {
     /// It was made.
     Stepped,

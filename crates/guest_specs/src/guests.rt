@@ -122,7 +122,7 @@ impl Inputs {
 
 /// What a guest is made of: its name, its image, its RAM in blocks of 2,097,152 bytes, at most how many
 /// cached spaces and entries in each, at most how many console bytes, and its inputs.
-#[derive(Debug, Drop)]
+#[derive(Drop)]
 pub struct GuestSpec {
     pub name: Name,
     pub image: Bytes,

@@ -9,7 +9,7 @@ pub const TABLES_PER_ENTRY: u64 = 2;
 
 /// What a guest needs of machine memory: so many blocks for its RAM, and tables for so many cached
 /// spaces of at most so many entries each.
-#[derive(Clone, Copy, Debug, PartialEq, Eq)]
+#[derive(Clone, Copy, PartialEq, Eq)]
 pub struct Need {
     pub blocks: u64,
     pub spaces: u64,

@@ -15,7 +15,7 @@ use rv64_asm::encode;
 use trap_delegation::exception;
 
 /// How an instruction ended.
-#[derive(Clone, Copy, Debug, PartialEq, Eq)]
+#[derive(Clone, Copy, PartialEq, Eq)]
 pub enum Emulated {
     /// It was made.
     Done,

@@ -10,7 +10,7 @@ use arch_defs::{Trap, Virtual};
 use op_defs::Op;
 
 /// How an instruction ended that makes no access to memory, or whose access is made.
-#[derive(Clone, Copy, Debug, PartialEq, Eq)]
+#[derive(Clone, Copy, PartialEq, Eq)]
 pub enum Accessed {
     /// It was made.
     Done,

@@ -3,7 +3,7 @@
 use arch_defs::Level;
 
 /// What a step that was made is to the account.
-#[derive(Clone, Copy, Debug, PartialEq, Eq)]
+#[derive(Clone, Copy, PartialEq, Eq)]
 pub enum Event {
     /// An instruction that did not trap and whose word is not of opcode SYSTEM, at this pc.
     Plain { pc: u64, word: u32 },

@@ -55,7 +55,7 @@ pub enum AmoOp {
 }
 
 /// The test of a conditional branch.
-#[derive(Clone, Copy, Debug, PartialEq, Eq)]
+#[derive(Clone, Copy, PartialEq, Eq)]
 pub enum Test {
     Eq,
     Ne,
@@ -74,7 +74,7 @@ pub enum CsrOp {
 }
 
 /// The operand of such an instruction: a register, or five bits of the word.
-#[derive(Clone, Copy, Debug, PartialEq, Eq)]
+#[derive(Clone, Copy, PartialEq, Eq)]
 pub enum CsrSource {
     Register(Reg),
     Immediate(u8),
@@ -83,7 +83,7 @@ pub enum CsrSource {
 /// An instruction of RV64IMA, Zicsr, Zifencei, the supervisor and the hypervisor extension. Immediates
 /// and offsets are sign extended to 64 bits; shifts by an immediate have the amount there. aq and rl of
 /// atomic operations, and the fields of FENCE and FENCE.I, change nothing on one hart, and are left out.
-#[derive(Clone, Copy, Debug, PartialEq, Eq)]
+#[derive(Clone, Copy, PartialEq, Eq)]
 pub enum Op {
     Lui {
         rd: Reg,
@@ -209,7 +209,7 @@ pub enum Op {
 }
 
 /// What an instruction asks for, read off the registers alone. Unless said otherwise pc goes on by 4.
-#[derive(Clone, Copy, Debug, PartialEq, Eq)]
+#[derive(Clone, Copy, PartialEq, Eq)]
 pub enum Effect {
     /// `rd` becomes `value`, and pc `next`.
     Sets { rd: Reg, value: u64, next: u64 },

@@ -14,7 +14,7 @@ use op_defs::{DataAccess, Privileged};
 use trap_delegation::sret;
 
 /// How an instruction ended.
-#[derive(Clone, Copy, Debug, PartialEq, Eq)]
+#[derive(Clone, Copy, PartialEq, Eq)]
 pub enum Performed {
     /// It was made.
     Done,

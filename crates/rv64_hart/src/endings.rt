@@ -1,7 +1,7 @@
 // How an instruction and a step end, in a byte.
 
 /// How an instruction ended.
-#[derive(Clone, Copy, Debug, PartialEq, Eq)]
+#[derive(Clone, Copy)]
 pub enum Ended {
     /// It was made, and the step is what its word says.
     Plain,
@@ -12,7 +12,7 @@ pub enum Ended {
 }
 
 /// How a step of a run ended.
-#[derive(Clone, Copy, Debug, PartialEq, Eq)]
+#[derive(Clone, Copy)]
 pub enum StepEnd {
     /// The run goes on after it.
     Continues,

@@ -16,7 +16,7 @@ use translation_buffer::Buffer;
 use trap_delegation::interrupt_trap;
 
 /// Why the hart stopped.
-#[derive(Clone, Copy, Debug, PartialEq, Eq)]
+#[derive(Clone, Copy, PartialEq, Eq)]
 pub enum Why {
     /// It has made as many steps as it was to make.
     Limit,
@@ -27,7 +27,7 @@ pub enum Why {
 }
 
 /// How many steps a run made, and why it stopped.
-#[derive(Clone, Copy, Debug, PartialEq, Eq)]
+#[derive(Clone, Copy, PartialEq, Eq)]
 pub struct Stop {
     pub taken: u64,
     pub why: Why,
@@ -35,7 +35,7 @@ pub struct Stop {
 
 /// The hart. Both stages of its translation walk their tables in machine memory as it is: what it keeps of
 /// walks is dropped where a store may change it.
-#[derive(Debug, Drop)]
+#[derive(Drop)]
 pub struct Hart {
     state: HartState,
     buffer: Buffer,

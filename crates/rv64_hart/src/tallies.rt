@@ -6,7 +6,7 @@ use std::marker::Model;
 
 /// How often the hart was entered, how many steps it made, and the sum of pc and word of the plain ones,
 /// modulo 2^64. Only the hart raises them, and there is no way to copy them.
-#[derive(Debug, Drop)]
+#[derive(Drop)]
 pub struct Tally {
     entries: u64,
     taken: u64,

@@ -33,7 +33,7 @@ const FAILED: u64 = u64::MAX;
 const NOT_SUPPORTED: u64 = u64::MAX - 1;
 
 /// Whether the machine goes on after a call.
-#[derive(Clone, Copy, Debug, PartialEq, Eq)]
+#[derive(Clone, Copy, PartialEq, Eq)]
 pub enum CallEnd {
     Go,
     /// The machine has stopped itself.

@@ -10,7 +10,7 @@ use arch_defs::{Access, LeafPte, Next, Pte, WalkEnd};
 use bitflags::{Flag, Flags, bitflag_items};
 
 /// The bits of an entry that have names (Privileged Architecture 20211203, 4.3.1).
-#[derive(Clone, Copy, Debug, PartialEq, Eq)]
+#[derive(Clone, Copy, PartialEq, Eq)]
 pub struct EntryBits(u64);
 
 bitflag_items! {

@@ -21,7 +21,7 @@ use two_stage_walk::{first_noted, memory_is_whole, privilege_of, second_noted, t
 
 /// The translations that the hart keeps, for the roots and the privilege that it accesses memory by: the
 /// slots, and the frames of all that was read for them.
-#[derive(Clone, Copy, Debug, PartialEq, Eq)]
+#[derive(Clone, Copy, PartialEq, Eq)]
 pub struct Buffer {
     pub context: Context,
     pub who: u64,

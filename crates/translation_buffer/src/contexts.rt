@@ -8,7 +8,7 @@ use two_stage_walk::{second_root_of, supervisor_of};
 
 /// What translations are made under: the roots of both stages, and sstatus.MXR, which counts in the second
 /// stage too.
-#[derive(Clone, Copy, Debug, PartialEq, Eq)]
+#[derive(Clone, Copy, PartialEq, Eq)]
 pub struct Context {
     pub first: SupervisorRoot,
     pub second: GuestRoot,

@@ -13,7 +13,7 @@ use arch_defs::Access;
 /// A kept translation: the tag of a page, the frame of its places, and the bits of the frames that were read
 /// for it; a frame's bit is that of its number modulo 64. Where none is kept, the tag is one that no page
 /// has.
-#[derive(Clone, Copy, Debug, PartialEq, Eq)]
+#[derive(Clone, Copy, PartialEq, Eq)]
 pub struct Slot {
     pub tag: u64,
     pub frame: u32,
@@ -52,7 +52,7 @@ impl Slot {
 }
 
 /// The kept translations of fetches, of loads and of stores, each at the low 4 bits of its page's number.
-#[derive(Clone, Copy, Debug, PartialEq, Eq)]
+#[derive(Clone, Copy, PartialEq, Eq)]
 pub struct Slots {
     pub fetches: [Slot; 16],
     pub loads: [Slot; 16],

@@ -11,7 +11,7 @@ use std::marker::Model;
 
 /// The clock of a machine and its timer. The time rises by one with each step, and a wait for an interrupt
 /// moves it on at once. The timer is the moment from which on the timer interrupt is pending.
-#[derive(Clone, Copy, Debug, PartialEq, Eq)]
+#[derive(Clone, Copy, PartialEq, Eq)]
 pub struct Clock {
     time: u64,
     timer: u64,
@@ -28,7 +28,7 @@ impl Model for Clock {
 }
 
 /// How a wait for an interrupt ends.
-#[derive(Clone, Copy, Debug, PartialEq, Eq)]
+#[derive(Clone, Copy, PartialEq, Eq)]
 pub enum WaitEnd {
     /// The time is the wake moment now.
     Woke,
