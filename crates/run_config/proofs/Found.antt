@@ -20,5 +20,3 @@ number_found k table low high value n e is = rw (e, number_of_value low high val
 pub text_found : (k : ConfigKey) (table : Members) (value : Data) (text : List ℕ) → value_at k table ≡ Some value → as_str value ≡ Some text → text ≡ text_at k table
 unfolding text_at
 text_found k table value text e is = rw (e, is) refl
-
-pub ruleset found = (number_found, text_found)

@@ -1,5 +1,6 @@
 pub mod Accepted
 pub mod Found
+pub mod GuestKeys
 pub mod Guesting
 pub mod Items
 pub mod Known

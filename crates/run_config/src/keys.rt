@@ -3,8 +3,10 @@
 ghost use Rattle.std.specs.Prelude.{◌≡◌};
 ghost use Rattle.run_config.specs.Keys.{name_of};
 
-/// A key of the document or of a guest.
-#[derive(Clone, Copy, Debug, PartialEq, Eq)]
+use std::fmt;
+
+/// A key of the document or of a guest. `Debug` shows it as it is written.
+#[derive(Clone, Copy, PartialEq, Eq)]
 pub enum ConfigKey {
     Format,
     Guest,
@@ -40,5 +42,11 @@ impl ConfigKey {
             ConfigKey::Console => "console",
             ConfigKey::Input => "input",
         }
+    }
+}
+
+impl fmt::Debug for ConfigKey {
+    fn fmt<W: fmt::Write>(&self, f: &mut fmt::Formatter<W>) -> fmt::Result {
+        f.write_str(self.text())
     }
 }

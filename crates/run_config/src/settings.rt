@@ -7,7 +7,7 @@ ghost use Rattle.toml.specs.View.{view, table_view};
 ghost use Rattle.run_config.specs.declared.faults.ConfigFault.TheVariants as fault;
 ghost use Rattle.run_config.specs.Answers.{IfRefused};
 ghost use Rattle.run_config.specs.Guests.{absent_key, wrong_value, guest_fault, is_new_name, settings_of};
-ghost use Rattle.run_config.specs.Seen.{HasValues, names_of, settings_seen};
+ghost use Rattle.run_config.specs.Seen.{AreAt, AreReadFrom, HasValues, names_of, settings_seen, wrong_among};
 ghost use Rattle.run_config.specs.Tables.{any_text, text_of, integer_of};
 ghost use Rattle.run_config.specs.Tests.{first_fault, missing, wrong_kind};
 ghost use Rattle.run_config.specs.Values.{natural_at, number_within, text_at, value_at};
@@ -33,8 +33,19 @@ const GUEST_KEYS: [ConfigKey; 7] = [
     ConfigKey::Input,
 ];
 
+/// The values at the keys that a guest must have.
+#[derive(Clone, Copy)]
+pub struct GuestValues<'a> {
+    name: &'a Value,
+    image: &'a Value,
+    blocks: &'a Value,
+    spaces: &'a Value,
+    entries: &'a Value,
+    console: &'a Value,
+}
+
 /// The settings of a guest whose values are of their kinds, with the texts still the document's.
-#[derive(Clone, Copy, Debug)]
+#[derive(Clone, Copy)]
 pub struct GuestRef<'a> {
     name: &'a str,
     image: &'a str,
@@ -121,14 +132,12 @@ fn number_in(
     }
 }
 
-/// The settings of a guest that has each key that it must have, each with a value of its kind.
-#[tactic(auto, unfolding(crate::specs::Guests::absent_key, crate::specs::Guests::wrong_value, crate::specs::Tests::out_of_range), using(crate::proofs::Found::found))]
-fn values_of<'a>(table: &'a Table, guest: u32) -> Result<GuestRef<'a>, ConfigFault>
+/// The values at the keys that a guest must have, where each of these keys is there.
+#[tactic(auto, unfolding(crate::specs::Guests::absent_key))]
+fn values_at<'a>(table: &'a Table, guest: u32) -> Result<GuestValues<'a>, ConfigFault>
     ensures passed { OnOk result (absent_key guest (table_view table.now) ≡ None) }
-    ensures of_kind { OnOk result (wrong_value guest (table_view table.now) ≡ None) }
-    ensures values { IfOk result (λ r. HasValues r (table_view table.now)) }
-    ensures refused { IfErr result (λ f. first_fault (absent_key guest (table_view table.now)
-        ∷ wrong_value guest (table_view table.now) ∷ []) ≡ Some f) }
+    ensures values { IfOk result (λ v. AreAt v (table_view table.now)) }
+    ensures refused { IfErr result (λ f. absent_key guest (table_view table.now) ≡ Some f) }
 {
     let name = required(table, guest, ConfigKey::Name)?;
     let image = required(table, guest, ConfigKey::Image)?;
@@ -136,14 +145,50 @@ fn values_of<'a>(table: &'a Table, guest: u32) -> Result<GuestRef<'a>, ConfigFau
     let spaces = required(table, guest, ConfigKey::Spaces)?;
     let entries = required(table, guest, ConfigKey::Entries)?;
     let console = required(table, guest, ConfigKey::Console)?;
-    Ok(GuestRef {
-        name: text_in(name, guest, ConfigKey::Name)?,
-        image: file_name_in(image, guest, ConfigKey::Image)?,
-        blocks: number_in(blocks, guest, ConfigKey::Blocks, 1, 32)?,
-        spaces: number_in(spaces, guest, ConfigKey::Spaces, 1, 8)?,
-        entries: number_in(entries, guest, ConfigKey::Entries, 16, 256)?,
-        console: number_in(console, guest, ConfigKey::Console, 0, 1_048_576)?,
+    Ok(GuestValues {
+        name,
+        image,
+        blocks,
+        spaces,
+        entries,
+        console,
     })
+}
+
+/// The settings that these values are, where each is of its kind.
+#[tactic(auto, unfolding(crate::specs::Seen::wrong_among))]
+fn settings_in<'a>(values: GuestValues<'a>, guest: u32) -> Result<GuestRef<'a>, ConfigFault>
+    ensures of_kind { OnOk result (wrong_among guest values.entry ≡ None) }
+    ensures settings { IfOk result (λ r. AreReadFrom r values.entry) }
+    ensures refused { IfErr result (λ f. wrong_among guest values.entry ≡ Some f) }
+{
+    let name = text_in(values.name, guest, ConfigKey::Name)?;
+    let image = file_name_in(values.image, guest, ConfigKey::Image)?;
+    let blocks = number_in(values.blocks, guest, ConfigKey::Blocks, 1, 32)?;
+    let spaces = number_in(values.spaces, guest, ConfigKey::Spaces, 1, 8)?;
+    let entries = number_in(values.entries, guest, ConfigKey::Entries, 16, 256)?;
+    let console = number_in(values.console, guest, ConfigKey::Console, 0, 1_048_576)?;
+    Ok(GuestRef {
+        name,
+        image,
+        blocks,
+        spaces,
+        entries,
+        console,
+    })
+}
+
+/// The settings of a guest that has each key that it must have, each with a value of its kind.
+#[tactic(auto, using(crate::proofs::GuestKeys::wrong_in_table))]
+fn values_of<'a>(table: &'a Table, guest: u32) -> Result<GuestRef<'a>, ConfigFault>
+    ensures passed { OnOk result (absent_key guest (table_view table.now) ≡ None) }
+    ensures of_kind { OnOk result (wrong_value guest (table_view table.now) ≡ None) }
+    ensures values { IfOk result (λ r. HasValues r (table_view table.now)) }
+    ensures refused { IfErr result (λ f. first_fault (absent_key guest (table_view table.now)
+        ∷ wrong_value guest (table_view table.now) ∷ []) ≡ Some f) }
+{
+    let values = values_at(table, guest)?;
+    Ok(settings_in(values, guest)?)
 }
 
 /// Whether a guest before has the name.
