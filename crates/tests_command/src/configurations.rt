@@ -1,0 +1,194 @@
+// What is read of a configuration, and what its faults keep.
+
+use run_config::{ConfigFault, ConfigKey, GuestSettings, read};
+use std::test::Fail;
+use turn_plan::Turns;
+
+// What a guest's settings are.
+struct Settings {
+    name: &'static [u8],
+    image: &'static str,
+    blocks: u64,
+    spaces: u64,
+    entries: u64,
+    console: u64,
+    inputs: &'static [(u64, u8)],
+}
+
+static SETTINGS: [Settings; 3] = [
+    Settings {
+        name: b"a",
+        image: "a.bin",
+        blocks: 1,
+        spaces: 1,
+        entries: 16,
+        console: 0,
+        inputs: &[],
+    },
+    Settings {
+        name: b"Guest7",
+        image: "dir/g 7.bin",
+        blocks: 32,
+        spaces: 8,
+        entries: 256,
+        console: 1_048_576,
+        inputs: &[],
+    },
+    Settings {
+        name: b"b",
+        image: "b",
+        blocks: 2,
+        spaces: 3,
+        entries: 17,
+        console: 5,
+        inputs: &[(3, 48), (3, 255), (9, 0)],
+    },
+];
+
+const EACH_VALUE: &str = "format=1\nturns=[[2,4294967296],[0,0],[2,7]]\n\
+    guest=[{name='a',image='a.bin',blocks=1,spaces=1,entries=16,console=0},\
+    {name='Guest7',image='dir/g 7.bin',blocks=32,spaces=8,entries=0x100,console=1_048_576},\
+    {name='b',image='b',blocks=2,spaces=3,entries=17,console=5,input=[[3,48],[3,255],[9,0]]}]";
+
+const ROUNDS: &str = "format=1\nquantum=9\nrounds=2\n\
+    guest=[{name='a',image='a',blocks=1,spaces=1,entries=16,console=0},\
+    {name='b',image='a',blocks=1,spaces=1,entries=16,console=0}]";
+
+fn are_read(guest: &GuestSettings, settings: &Settings) -> bool {
+    guest.name.as_slice() == settings.name
+        && guest.image.as_str() == settings.image
+        && guest.blocks == settings.blocks
+        && guest.spaces == settings.spaces
+        && guest.entries == settings.entries
+        && guest.console == settings.console
+        && guest.inputs.as_slice() == settings.inputs
+}
+
+#[test]
+fn each_value(rt: HostRuntime) -> Result<(), Fail> {
+    let config = read(rt.alloc(), EACH_VALUE.as_bytes())?;
+    assert!(rt; config.turns().as_slice() == [(2, 4_294_967_296), (0, 0), (2, 7)].as_slice());
+    assert!(rt; config.guests().len() == 3);
+    for (guest, settings) in config.guests().iter().zip(&SETTINGS) {
+        assert!(rt; are_read(guest, settings));
+    }
+    Ok(())
+}
+
+// Each round has one turn of each guest.
+#[test]
+fn rounds(rt: HostRuntime) -> Result<(), Fail> {
+    let config = read(rt.alloc(), ROUNDS.as_bytes())?;
+    assert!(rt; config.guests().len() == 2);
+    assert!(rt; config.turns().as_slice() == [(0, 9), (1, 9), (0, 9), (1, 9)].as_slice());
+    let turns = Turns::of_rounds(rt.alloc(), 3, 7, 2)?;
+    assert!(rt; turns.as_slice() == [(0, 7), (1, 7), (2, 7), (0, 7), (1, 7), (2, 7)].as_slice());
+    Ok(())
+}
+
+// A fault, and what it keeps.
+struct Kept {
+    fault: ConfigFault,
+    number: u8,
+    guest: Option<u32>,
+    key: Option<ConfigKey>,
+    value: Option<i64>,
+}
+
+// A fault that keeps nothing.
+const FAULT: Kept = Kept {
+    fault: ConfigFault::NotToml,
+    number: 1,
+    guest: None,
+    key: None,
+    value: None,
+};
+
+static FAULTS: [Kept; 11] = [
+    FAULT,
+    Kept {
+        fault: ConfigFault::Format,
+        number: 2,
+        ..FAULT
+    },
+    Kept {
+        fault: ConfigFault::Missing {
+            guest: Some(3),
+            key: ConfigKey::Entries,
+        },
+        number: 3,
+        guest: Some(3),
+        key: Some(ConfigKey::Entries),
+        ..FAULT
+    },
+    Kept {
+        fault: ConfigFault::Range {
+            guest: Some(0),
+            key: ConfigKey::Entries,
+            value: Some(15),
+        },
+        number: 4,
+        guest: Some(0),
+        key: Some(ConfigKey::Entries),
+        value: Some(15),
+    },
+    Kept {
+        fault: ConfigFault::Name { guest: 1 },
+        number: 5,
+        guest: Some(1),
+        ..FAULT
+    },
+    Kept {
+        fault: ConfigFault::Turns,
+        number: 6,
+        ..FAULT
+    },
+    Kept {
+        fault: ConfigFault::Input { guest: 2 },
+        number: 7,
+        guest: Some(2),
+        ..FAULT
+    },
+    Kept {
+        fault: ConfigFault::Extra { guest: None },
+        number: 8,
+        ..FAULT
+    },
+    Kept {
+        fault: ConfigFault::TooLong,
+        number: 9,
+        ..FAULT
+    },
+    Kept {
+        fault: ConfigFault::ImageLong {
+            guest: 0,
+            bytes: 2_097_153,
+        },
+        number: 10,
+        guest: Some(0),
+        value: Some(2_097_153),
+        ..FAULT
+    },
+    Kept {
+        fault: ConfigFault::Frames { sum: 262_800 },
+        number: 11,
+        value: Some(262_800),
+        ..FAULT
+    },
+];
+
+fn keeps(kept: &Kept) -> bool {
+    let fault = kept.fault;
+    fault.number() == kept.number
+        && fault.guest() == kept.guest
+        && fault.key() == kept.key
+        && fault.value() == kept.value
+}
+
+#[test]
+fn faults_show_what_they_keep(rt: HostRuntime) {
+    for kept in &FAULTS {
+        assert!(rt; keeps(kept), "{}", kept.number);
+    }
+    assert!(rt; ConfigKey::Entries.text() == "entries");
+}

@@ -1,0 +1,20 @@
+// Tests of the crates that the command stands on: its words, its configuration, its report, and what it reads
+// from and writes to.
+#![tactic(auto)]
+
+#[cfg(test)]
+mod command_lines;
+#[cfg(test)]
+mod comparisons;
+#[cfg(test)]
+mod configurations;
+#[cfg(test)]
+mod images;
+#[cfg(test)]
+mod processes;
+#[cfg(test)]
+mod sections;
+#[cfg(test)]
+mod sinks;
+#[cfg(test)]
+mod stores;

@@ -1,0 +1,344 @@
+// A space of cached translations, folded into one table. Blocks 5 and 3 are outside the frames of these
+// tests, which hold tables alone: the host's root from 0 on, the space's from 4 on, the host's other table at
+// 8, and the space's from 9 on. So frame 80003 of a guest, the fourth of block 5, is frame 5 * 512 + 3 of
+// machine memory.
+
+ghost use Rattle.std.specs.Prelude.{◌≡◌, ◌*◌, ◌≤◌, ◌<◌, ◌^◌, length, IfOk, IfSome};
+ghost use Rattle.shadow_space.specs.Shadows.{Tidy};
+
+use arch_defs::{Access, LeafPte, Shape, TABLES_PER_ENTRY, WalkEnd};
+use phys_mem::{NoMemory, PhysMem};
+use sample_memory::{Words, memory, part, word_at};
+use shadow_space::{Entry, MOST_ENTRIES, Part, Space};
+use stage_walk::walk;
+use std::alloc::Global;
+use std::test::Fail;
+
+// Memory and a space.
+#[derive(Drop)]
+struct Machine {
+    mem: PhysMem,
+    space: Space,
+}
+
+// The space of a part in memory of so many frames of zeros, if these hold the part's tables.
+fn empty_space(
+    alloc: Global,
+    part: &Part,
+    frames: u64,
+    entries: u64,
+) -> Result<Option<Machine>, NoMemory>
+    requires some { 1 ≤ frames }
+    requires most { frames ≤ 131072 }
+    requires own { 0 < part.now.spaces }
+    requires few { entries ≤ 256 }
+    requires room { entries ≤ part.now.entries }
+    ensures tidy { IfOk result (λ made. IfSome made (λ m. Tidy m.space m.mem)) }
+    ensures part { IfOk result (λ made. IfSome made (λ m. m.space.part ≡ part.now)) }
+{
+    let mem = memory(alloc, frames)?;
+    let end = part.host_table() + 1 + part.spaces() * (TABLES_PER_ENTRY * part.entries());
+    if part.host_root() + 4 * (1 + part.spaces()) > frames || end > frames {
+        return Ok(None);
+    }
+    let space = Space::new(part, 0, entries);
+    Ok(Some(Machine { mem, space }))
+}
+
+/// How many entries a space has room for.
+#[derive(Clone, Copy)]
+enum Room {
+    One,
+    Two,
+    Sixteen,
+}
+
+// Memory with as many frames as the tables of such a space need.
+fn machine_with(alloc: Global, room: Room) -> Result<Option<Machine>, NoMemory>
+    ensures tidy { IfOk result (λ made. IfSome made (λ m. Tidy m.space m.mem)) }
+    ensures blocks { IfOk result (λ made. IfSome made (λ m. length m.space.part.blocks ≡ 2)) }
+{
+    match room {
+        Room::One => empty_space(alloc, &part(&[5, 3], 0, 8, 1, 1), 11, 1),
+        Room::Two => empty_space(alloc, &part(&[5, 3], 0, 8, 1, 2), 13, 2),
+        Room::Sixteen => empty_space(alloc, &part(&[5, 3], 0, 8, 1, 16), 41, 16),
+    }
+}
+
+#[derive(Clone, Copy)]
+enum Step {
+    /// Fills a page with a frame of the guest, by a leaf of this level that can be read and executed.
+    Fill(u64, u64, u8),
+    /// The same by a leaf of level 0 that can be written too.
+    FillDirty(u64, u64),
+    Cut(u64),
+    Wipe,
+    Root(u64),
+    /// A load from a page leads to this frame of machine memory, or is a page fault.
+    Loads(u64, Option<u64>),
+    /// The same of a store.
+    Stores(u64, Option<u64>),
+    /// The pages and frames of the entries, the oldest first, which are of level 0.
+    Entries(&'static [(u64, u64)]),
+    /// A doubleword of memory.
+    Word(u64, u64),
+}
+
+struct Case {
+    name: &'static str,
+    room: Room,
+    steps: &'static [Step],
+}
+
+static CASES: [Case; 4] = [
+    // Page 80005 is in the table of level 0 of the pages from 80000 on, in that of level 1 at entry 0, and in
+    // the root at entry 2. The leaf has V, R, X, U and A.
+    Case {
+        name: "a page in three tables",
+        room: Room::Sixteen,
+        steps: &[
+            Step::Root(4),
+            Step::Fill(0x8_0005, 0x8_0003, 1),
+            Step::Word(0x4000, 0),
+            Step::Word(0x4010, 0x2401),
+            Step::Word(0x9000, 0x2801),
+            Step::Word(0xA020, 0),
+            Step::Word(0xA028, 0x0028_0C5B),
+            Step::Word(0xA030, 0),
+            Step::Word(0xB000, 0),
+            Step::Word(0, 0),
+            Step::Word(0x8000, 0),
+            Step::Loads(0x8_0005, Some(2563)),
+            Step::Loads(0x8_0006, None),
+        ],
+    },
+    Case {
+        name: "the oldest goes first, and a page that is filled again is the newest",
+        room: Room::Two,
+        steps: &[
+            Step::Fill(1, 0x8_0201, 0),
+            Step::Fill(0x1FFF_FFFF, 0x8_0202, 0),
+            Step::Loads(1, Some(1537)),
+            Step::Entries(&[(1, 0x8_0201), (0x1FFF_FFFF, 0x8_0202)]),
+            Step::Fill(1, 0x8_0203, 0),
+            Step::Loads(1, Some(1539)),
+            Step::Loads(0x1FFF_FFFF, Some(1538)),
+            Step::Fill(2, 0x8_0204, 0),
+            Step::Loads(1, Some(1539)),
+            Step::Loads(0x1FFF_FFFF, None),
+            Step::Loads(2, Some(1540)),
+            Step::Wipe,
+            Step::Loads(1, None),
+            Step::Loads(2, None),
+        ],
+    },
+    Case {
+        name: "the span of a leaf of level 1 is 512 pages, and of level 2 262,144",
+        room: Room::Sixteen,
+        steps: &[
+            Step::Fill(0x205, 0x8_0205, 1),
+            Step::Fill(0x206, 0x8_0206, 0),
+            Step::Fill(0x3_FFFF, 0x8_0207, 2),
+            Step::Fill(0x4_0000, 0x8_0208, 2),
+            Step::Cut(0x400),
+            Step::Loads(0x205, Some(1541)),
+            Step::Loads(0x206, Some(1542)),
+            Step::Loads(0x3_FFFF, None),
+            Step::Loads(0x4_0000, Some(1544)),
+            Step::Cut(0x3FF),
+            Step::Loads(0x205, None),
+            Step::Loads(0x206, Some(1542)),
+            Step::Cut(0x206),
+            Step::Loads(0x206, None),
+            Step::Loads(0x4_0000, Some(1544)),
+        ],
+    },
+    Case {
+        name: "a store needs an entry that can be written",
+        room: Room::One,
+        steps: &[
+            Step::Fill(7, 0x8_0000, 0),
+            Step::Stores(7, None),
+            Step::FillDirty(7, 0x8_0000),
+            Step::Stores(7, Some(2560)),
+        ],
+    },
+];
+
+fn entry(page: u64, frame: u64, level: u8, w: bool) -> Entry {
+    Entry {
+        page,
+        frame,
+        r: true,
+        w,
+        x: true,
+        level,
+    }
+}
+
+// Fills an entry, if it is one that can be filled.
+fn filled(space: &mut Space, mem: &mut PhysMem, entry: Entry) -> bool
+    requires tidy { Tidy space.old mem.old }
+    requires blocks { length space.old.part.blocks ≡ 2 }
+    ensures tidy { Tidy space.new mem.new }
+    ensures blocks { length space.new.part.blocks ≡ 2 }
+{
+    if entry.page >= 0x2000_0000 || entry.level > 2 {
+        return false;
+    }
+    if entry.frame < 0x8_0000 || entry.frame >= 0x8_0400 {
+        return false;
+    }
+    if !entry.r {
+        return false;
+    }
+    space.fill(mem, entry);
+    true
+}
+
+// The end of a walk for an access at the start of a page.
+fn walked(mem: &PhysMem, page: u64, access: Access) -> WalkEnd
+    requires { page < 2 ^ 29 }
+{
+    walk(&Words { mem }, 4, Shape::Sv39x4, page * 4096, access)
+}
+
+// Whether an access to a page leads to a frame, by a leaf that can be written or not, or is a page fault.
+fn leads(mem: &PhysMem, page: u64, access: Access, frame: Option<u64>) -> bool {
+    if page >= 0x2000_0000 {
+        return false;
+    }
+    match (walked(mem, page, access), frame) {
+        (WalkEnd::Leaf(found), Some(frame)) => {
+            found
+                == LeafPte {
+                    frame,
+                    level: 0,
+                    r: true,
+                    w: access == Access::Store,
+                    x: true,
+                    u: true,
+                }
+        }
+        (WalkEnd::PageFault, None) => true,
+        _ => false,
+    }
+}
+
+fn has_entries(space: &Space, wanted: &[(u64, u64)]) -> bool {
+    let entries = space.entries();
+    for i in 0..wanted.len() {
+        let (page, frame) = wanted[i];
+        if entries.get(i).copied() != Some(entry(page, frame, 0, false)) {
+            return false;
+        }
+    }
+    entries.len() == wanted.len()
+}
+
+// Makes a step; whether space and memory answer as they should.
+fn is_made(space: &mut Space, mem: &mut PhysMem, step: Step) -> bool
+    requires tidy { Tidy space.old mem.old }
+    requires blocks { length space.old.part.blocks ≡ 2 }
+    ensures tidy { Tidy space.new mem.new }
+    ensures blocks { length space.new.part.blocks ≡ 2 }
+{
+    match step {
+        Step::Fill(page, frame, level) => {
+            return filled(space, mem, entry(page, frame, level, false));
+        }
+        Step::FillDirty(page, frame) => return filled(space, mem, entry(page, frame, 0, true)),
+        Step::Cut(page) => space.cut(mem, page),
+        Step::Wipe => space.wipe(mem),
+        Step::Root(frame) => return space.root() == frame,
+        Step::Loads(page, frame) => return leads(mem, page, Access::Load, frame),
+        Step::Stores(page, frame) => return leads(mem, page, Access::Store, frame),
+        Step::Entries(wanted) => return has_entries(space, wanted),
+        Step::Word(at, word) => return word_at(mem, at) == Some(word),
+    }
+    true
+}
+
+fn is_right(alloc: Global, case: &Case) -> Result<bool, NoMemory> {
+    let Some(Machine { mut mem, mut space }) = machine_with(alloc, case.room)? else {
+        return Ok(false);
+    };
+    for i in 0..case.steps.len() {
+        if !is_made(&mut space, &mut mem, case.steps[i]) {
+            return Ok(false);
+        }
+    }
+    Ok(true)
+}
+
+#[test]
+fn spaces(rt: HostRuntime) -> Result<(), Fail> {
+    for case in &CASES {
+        assert!(rt; is_right(rt.alloc(), case)?, "{}", case.name);
+    }
+    assert!(rt; MOST_ENTRIES == 256);
+    Ok(())
+}
+
+// Fills the first page of each of so many spans of 262,144 pages, with the frames from 80000 on.
+fn fill_spans(space: &mut Space, mem: &mut PhysMem, count: u64)
+    requires tidy { Tidy space.old mem.old }
+    requires blocks { length space.old.part.blocks ≡ 2 }
+    requires few { count ≤ 2048 }
+    ensures tidy { Tidy space.new mem.new }
+    ensures blocks { length space.new.part.blocks ≡ 2 }
+{
+    for i in 0..count {
+        filled(space, mem, entry(0x4_0000 * i, 0x8_0000 + i, 0, false));
+    }
+}
+
+// The doublewords of memory.
+fn words_of(alloc: Global, mem: &PhysMem) -> Result<Vec<u64>, NoMemory> {
+    let count = mem.size() / 8;
+    let mut words = Vec::with_capacity(alloc, count as usize)?;
+    for i in 0..count {
+        words.push(mem.load(8 * i, 8))?;
+    }
+    Ok(words)
+}
+
+// How many doublewords of memory differ from these.
+fn differing(mem: &PhysMem, before: &[u64]) -> u64 {
+    let mut differing = 0;
+    for i in 0..mem.size() / 8 {
+        if before.get(i as usize) != Some(&mem.load(8 * i, 8)) {
+            differing += 1;
+        }
+    }
+    differing
+}
+
+// How many doublewords the fill of one more page changes; none where the pages are not as they should be.
+fn changed_by_a_fill(alloc: Global) -> Result<Option<u64>, NoMemory> {
+    let Some(Machine { mut mem, mut space }) = machine_with(alloc, Room::Sixteen)? else {
+        return Ok(None);
+    };
+    fill_spans(&mut space, &mut mem, 16);
+    let are_there = leads(&mem, 0, Access::Load, Some(2560))
+        && leads(&mem, 0x3C_0000, Access::Load, Some(2575));
+    let before = words_of(alloc, &mem)?;
+    let are_same = differing(&mem, &before) == 0;
+    let is_filled = filled(&mut space, &mut mem, entry(0x40_0201, 0x8_0010, 0, false));
+    let is_moved = leads(&mem, 0, Access::Load, None)
+        && leads(&mem, 0x4_0000, Access::Load, Some(2561))
+        && leads(&mem, 0x40_0201, Access::Load, Some(2576));
+    if are_there && are_same && is_filled && is_moved {
+        Ok(Some(differing(&mem, &before)))
+    } else {
+        Ok(None)
+    }
+}
+
+// Sixteen pages, each in tables of its own, are as many as there may be. The next page has no table with
+// another one: its leaf and the pointers to its two tables are written, and those of page 0 are cleared.
+#[test]
+fn a_fill_writes_six_doublewords(rt: HostRuntime) -> Result<(), Fail> {
+    assert!(rt; changed_by_a_fill(rt.alloc())? == Some(6));
+    Ok(())
+}

@@ -1,0 +1,133 @@
+// Sets of frames on small numbers. The marks of two frames are the same where the frames are alike in their
+// low twelve bits, and their bits where they are alike in the low six.
+
+use frame_set::FrameSet;
+
+enum Step {
+    Add(u64),
+    /// Adds a frame that is not held before, and is afterwards.
+    AddNew(u64),
+    Remove(u64),
+    Clear,
+    Begin,
+    Holds(u64),
+    Lacks(u64),
+    Recent(u64),
+}
+
+struct Case {
+    name: &'static str,
+    steps: &'static [Step],
+}
+
+static CASES: [Case; 4] = [
+    Case {
+        name: "added frames are held, and no others",
+        steps: &[
+            Step::AddNew(0),
+            Step::AddNew(1),
+            Step::AddNew(63),
+            Step::AddNew(64),
+            Step::AddNew(4_095),
+            Step::AddNew(4_101),
+            Step::AddNew(131_071),
+            Step::Lacks(2),
+            Step::Lacks(62),
+            Step::Lacks(65),
+            Step::Lacks(4_094),
+            Step::Lacks(4_096),
+            Step::Lacks(5),
+            Step::Lacks(8_197),
+            Step::Clear,
+            Step::Lacks(0),
+            Step::Lacks(1),
+            Step::Lacks(63),
+            Step::Lacks(64),
+            Step::Lacks(4_095),
+            Step::Lacks(4_101),
+            Step::Lacks(131_071),
+        ],
+    },
+    Case {
+        name: "frames that share a mark are all held",
+        steps: &[
+            Step::Add(7),
+            Step::Add(4_103),
+            Step::Holds(7),
+            Step::Holds(4_103),
+            Step::Holds(8_199),
+            Step::Lacks(8),
+        ],
+    },
+    Case {
+        name: "the bits of the frames added since the last beginning",
+        steps: &[
+            Step::Add(5),
+            Step::Begin,
+            Step::Recent(0),
+            Step::Add(65),
+            Step::Add(4_099),
+            Step::Recent(0b1010),
+            Step::Holds(5),
+            Step::Holds(65),
+            Step::Holds(4_099),
+        ],
+    },
+    Case {
+        name: "what is taken out is what has the frame's bit",
+        steps: &[
+            Step::Add(7),
+            Step::Add(8),
+            Step::Add(71),
+            Step::Add(72),
+            Step::Add(4_103),
+            Step::Remove(71),
+            Step::Lacks(7),
+            Step::Lacks(71),
+            Step::Lacks(4_103),
+            Step::Holds(8),
+            Step::Holds(72),
+            Step::Add(71),
+            Step::Holds(71),
+            Step::Lacks(7),
+        ],
+    },
+];
+
+fn is_new(set: &mut FrameSet, frame: u64) -> bool {
+    let held_before = set.holds(frame);
+    set.add(frame);
+    !held_before && set.holds(frame)
+}
+
+// Makes a step; whether the set answers as it should.
+fn is_made(set: &mut FrameSet, step: &Step) -> bool {
+    match *step {
+        Step::Add(frame) => set.add(frame),
+        Step::AddNew(frame) => return is_new(set, frame),
+        Step::Remove(frame) => set.remove(frame),
+        Step::Clear => set.clear(),
+        Step::Begin => set.begin(),
+        Step::Holds(frame) => return set.holds(frame),
+        Step::Lacks(frame) => return !set.holds(frame),
+        Step::Recent(bits) => return set.recent() == bits,
+    }
+    true
+}
+
+fn is_right(case: &Case) -> bool {
+    let mut set = FrameSet::new();
+    for step in case.steps {
+        if !is_made(&mut set, step) {
+            return false;
+        }
+    }
+    true
+}
+
+#[test]
+fn sets(rt: HostRuntime) {
+    for case in &CASES {
+        assert!(rt; is_right(case), "{}", case.name);
+    }
+}

@@ -1,0 +1,23 @@
+// Tests of walks, of both stages of translation, and of the instructions and accesses that need them.
+#![tactic(auto)]
+
+#[cfg(test)]
+mod accesses;
+#[cfg(test)]
+mod buffers;
+#[cfg(test)]
+mod decided_instructions;
+#[cfg(test)]
+mod frame_sets;
+#[cfg(test)]
+mod guest_accesses;
+#[cfg(test)]
+mod permissions;
+#[cfg(test)]
+mod ram;
+#[cfg(test)]
+mod states;
+#[cfg(test)]
+mod translations;
+#[cfg(test)]
+mod walks;

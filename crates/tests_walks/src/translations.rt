@@ -1,0 +1,563 @@
+// Both stages of translation. What each access ends in was worked out from the text of the standard
+// (Privileged Architecture 20211203, 4.3.2, 8.2.8, 8.5 and 8.6); entries by hand from the format of 4.4.1:
+// the physical page number from bit 10 on, D A G U X W R V in bits 7 to 0.
+
+ghost use Rattle.std.specs.Prelude.{length};
+ghost use Rattle.arch_defs.specs.Frames.{LieIn, in_blocks};
+
+use arch_defs::{
+    Access, Csrs, GuestMode, GuestRoot, Mode, Part, Regs, SupervisorMode, SupervisorRoot, Trap,
+};
+use phys_mem::{Mem, PhysMem, Ram};
+use sample_memory::{memory, part, with_words};
+use std::test::Fail;
+use trap_delegation::enter_hs;
+use two_stage_walk::{memory_is_whole, ram_is_whole, translate};
+
+// The registers of a guest whose hgatp names this page, and whose vsatp names that one, if any.
+fn csrs_for(guest_page: Option<u64>, page: Option<u64>) -> Csrs {
+    let mut csrs = Csrs::at_reset();
+    if let Some(ppn) = guest_page {
+        csrs.hgatp = GuestRoot::Table {
+            mode: GuestMode::Sv39x4,
+            vmid: 1,
+            ppn,
+        };
+    }
+    if let Some(ppn) = page {
+        csrs.vs.atp = SupervisorRoot::Table {
+            mode: SupervisorMode::Sv39,
+            asid: 0,
+            ppn,
+        };
+    }
+    csrs
+}
+
+// A trap of an access as VS or VU.
+fn trap(cause: u64, tval: u64, tval2: u64, implicit: bool) -> Trap {
+    Trap {
+        cause,
+        interrupt: false,
+        tval,
+        tval2,
+        gva: true,
+        implicit,
+    }
+}
+
+// Memory of sixteen frames from 0 on. The root of hgatp's table is frames 4 to 7; its entry 0 names the table
+// of level 1 in frame 8, whose entry 0 names that of level 0 in frame 9. vsatp's tables are at the guest
+// pages 8, 9 and 10, which lie in the frames C, D and E.
+const GUEST_ROOT: Option<u64> = Some(4);
+
+const ROOT: Option<u64> = Some(8);
+
+static TABLES: [(u64, u64); 19] = [
+    (0x4000, 0x2001),
+    // Leaves of 1 GiB in entries 1 and 2,047 of the root, and one of 2 MiB in entry 1 of level 1.
+    (0x4008, 0xDF),
+    (0x7FF8, 0xDF),
+    (0x8000, 0x2401),
+    (0x8008, 0xDF),
+    // A pointer to a frame past memory.
+    (0x8010, 0x4001),
+    // Pages 3 to 7: frame A; a frame past memory; frame B without U, only to be executed, and with D clear.
+    (0x9018, 0x28DF),
+    (0x9020, 0x40DF),
+    (0x9028, 0x2CCF),
+    (0x9030, 0x2C59),
+    (0x9038, 0x2C5F),
+    (0x9040, 0x30DF),
+    (0x9048, 0x34DF),
+    (0x9050, 0x38DF),
+    (0xC000, 0x2401),
+    (0xD000, 0x2801),
+    // Pages 1 to 3 of the first stage: guest page 3, and the guest pages 3 and 6 only to be executed.
+    (0xE008, 0xCCF),
+    (0xE010, 0xC49),
+    (0xE018, 0x1849),
+];
+
+// How a translation ends: the physical address, or the code of the fault with tval2.
+#[derive(Clone, Copy)]
+enum End {
+    Place(u64),
+    Fault(u64, u64),
+}
+
+// The trap's tval is the address, and it is no implicit read's.
+fn expected(va: u64, end: End) -> Result<u64, Trap> {
+    match end {
+        End::Place(place) => Ok(place),
+        End::Fault(cause, tval2) => Err(trap(cause, va, tval2, false)),
+    }
+}
+
+fn answer(memory: &PhysMem, csrs: &Csrs, mode: Mode, va: u64, access: Access) -> Result<u64, Trap> {
+    memory_is_whole(memory);
+    translate(memory, csrs, mode, va, access)
+}
+
+struct Translation {
+    va: u64,
+    access: Access,
+    end: End,
+}
+
+static SECOND_STAGE: [Translation; 23] = [
+    // A leaf of each level, and the last address of 41 bits.
+    Translation {
+        va: 0x3123,
+        access: Access::Load,
+        end: End::Place(0xA123),
+    },
+    Translation {
+        va: 0x20_A008,
+        access: Access::Store,
+        end: End::Place(0xA008),
+    },
+    Translation {
+        va: 0x4000_B010,
+        access: Access::Fetch,
+        end: End::Place(0xB010),
+    },
+    Translation {
+        va: 0x1FF_C000_F018,
+        access: Access::Load,
+        end: End::Place(0xF018),
+    },
+    Translation {
+        va: 0x200_0000_0000,
+        access: Access::Load,
+        end: End::Fault(21, 0x80_0000_0000),
+    },
+    Translation {
+        va: 0xFFFF_FFFF_FFFF_F000,
+        access: Access::Store,
+        end: End::Fault(23, 0x3FFF_FFFF_FFFF_FC00),
+    },
+    // A leaf or an entry past memory.
+    Translation {
+        va: 0x4008,
+        access: Access::Load,
+        end: End::Fault(5, 0),
+    },
+    Translation {
+        va: 0x4008,
+        access: Access::Store,
+        end: End::Fault(7, 0),
+    },
+    Translation {
+        va: 0x21_0000,
+        access: Access::Fetch,
+        end: End::Fault(1, 0),
+    },
+    Translation {
+        va: 0x40_0000,
+        access: Access::Store,
+        end: End::Fault(7, 0),
+    },
+    // No entry, and a leaf without U.
+    Translation {
+        va: 0x2000,
+        access: Access::Load,
+        end: End::Fault(21, 0x800),
+    },
+    Translation {
+        va: 0x5008,
+        access: Access::Load,
+        end: End::Fault(21, 0x1402),
+    },
+    Translation {
+        va: 0x5008,
+        access: Access::Store,
+        end: End::Fault(23, 0x1402),
+    },
+    Translation {
+        va: 0x5008,
+        access: Access::Fetch,
+        end: End::Fault(20, 0x1402),
+    },
+    Translation {
+        va: 0x5008,
+        access: Access::ExecLoad,
+        end: End::Fault(21, 0x1402),
+    },
+    // A page that can only be executed.
+    Translation {
+        va: 0x6011,
+        access: Access::Load,
+        end: End::Fault(21, 0x1804),
+    },
+    Translation {
+        va: 0x6011,
+        access: Access::Store,
+        end: End::Fault(23, 0x1804),
+    },
+    Translation {
+        va: 0x6010,
+        access: Access::Fetch,
+        end: End::Place(0xB010),
+    },
+    Translation {
+        va: 0x6010,
+        access: Access::ExecLoad,
+        end: End::Place(0xB010),
+    },
+    Translation {
+        va: 0x3010,
+        access: Access::ExecLoad,
+        end: End::Place(0xA010),
+    },
+    // D clear.
+    Translation {
+        va: 0x7008,
+        access: Access::Store,
+        end: End::Fault(23, 0x1C02),
+    },
+    Translation {
+        va: 0x7008,
+        access: Access::Load,
+        end: End::Place(0xB008),
+    },
+    Translation {
+        va: 0x7008,
+        access: Access::Fetch,
+        end: End::Place(0xB008),
+    },
+];
+
+// Both stages, as VS: pages 1 and 2 are guest page 3, page 3 is guest page 6, page 4 is none.
+static BOTH_STAGES: [Translation; 8] = [
+    Translation {
+        va: 0x1010,
+        access: Access::Load,
+        end: End::Place(0xA010),
+    },
+    Translation {
+        va: 0x1010,
+        access: Access::Store,
+        end: End::Place(0xA010),
+    },
+    Translation {
+        va: 0x2010,
+        access: Access::Fetch,
+        end: End::Place(0xA010),
+    },
+    Translation {
+        va: 0x2010,
+        access: Access::Load,
+        end: End::Fault(13, 0),
+    },
+    Translation {
+        va: 0x2010,
+        access: Access::Store,
+        end: End::Fault(15, 0),
+    },
+    Translation {
+        va: 0x3010,
+        access: Access::Fetch,
+        end: End::Place(0xB010),
+    },
+    Translation {
+        va: 0x4010,
+        access: Access::Fetch,
+        end: End::Fault(12, 0),
+    },
+    Translation {
+        va: 0x80_0000_0000,
+        access: Access::Load,
+        end: End::Fault(13, 0),
+    },
+];
+
+fn is_right(memory: &PhysMem, csrs: &Csrs, mode: Mode, case: &Translation) -> bool {
+    answer(memory, csrs, mode, case.va, case.access) == expected(case.va, case.end)
+}
+
+#[test]
+fn stages(rt: HostRuntime) -> Result<(), Fail> {
+    let memory = with_words(rt.alloc(), &TABLES)?;
+    let second = csrs_for(GUEST_ROOT, None);
+    for case in &SECOND_STAGE {
+        let as_vs = is_right(&memory, &second, Mode::VS, case);
+        assert!(rt;
+            as_vs && is_right(&memory, &second, Mode::VU, case),
+            "second stage, {:X}",
+            case.va
+        );
+    }
+    let both = csrs_for(GUEST_ROOT, ROOT);
+    for case in &BOTH_STAGES {
+        assert!(rt;
+            is_right(&memory, &both, Mode::VS, case),
+            "both stages, {:X}",
+            case.va
+        );
+    }
+    Ok(())
+}
+
+// Where no stage translates: with V = 0, and with V = 1 where hgatp is Bare.
+struct Bare {
+    mode: Mode,
+    guest_page: Option<u64>,
+    page: Option<u64>,
+    gva: bool,
+}
+
+static BARE: [Bare; 4] = [
+    Bare {
+        mode: Mode::HS,
+        guest_page: GUEST_ROOT,
+        page: ROOT,
+        gva: false,
+    },
+    Bare {
+        mode: Mode::U,
+        guest_page: GUEST_ROOT,
+        page: ROOT,
+        gva: false,
+    },
+    Bare {
+        mode: Mode::VS,
+        guest_page: None,
+        page: None,
+        gva: true,
+    },
+    Bare {
+        mode: Mode::VU,
+        guest_page: None,
+        page: None,
+        gva: true,
+    },
+];
+
+// The last byte of memory has its own address, and there are access faults past it.
+fn bare_is_right(memory: &PhysMem, case: &Bare) -> bool {
+    let csrs = csrs_for(case.guest_page, case.page);
+    for (access, cause) in [
+        (Access::Fetch, 1),
+        (Access::Load, 5),
+        (Access::ExecLoad, 5),
+        (Access::Store, 7),
+    ] {
+        let mut fault = trap(cause, 0x1_0000, 0, false);
+        fault.gva = case.gva;
+        if answer(memory, &csrs, case.mode, 0x1_0000, access) != Err(fault) {
+            return false;
+        }
+    }
+    answer(memory, &csrs, case.mode, 0xFFFF, Access::Load) == Ok(0xFFFF)
+}
+
+#[test]
+fn no_stage(rt: HostRuntime) -> Result<(), Fail> {
+    let memory = with_words(rt.alloc(), &TABLES)?;
+    for case in &BARE {
+        assert!(rt; bare_is_right(&memory, case), "{:?}", case.mode);
+    }
+    Ok(())
+}
+
+// What a load from a page that can only be executed is, by the MXR of vsstatus and of sstatus: from page 2,
+// where the first stage has it so, and from page 3, where both do.
+struct Mxr {
+    vs: bool,
+    hs: bool,
+    page_2: End,
+    page_3: End,
+}
+
+static MXR: [Mxr; 4] = [
+    Mxr {
+        vs: false,
+        hs: false,
+        page_2: End::Fault(13, 0),
+        page_3: End::Fault(13, 0),
+    },
+    Mxr {
+        vs: true,
+        hs: false,
+        page_2: End::Place(0xA010),
+        page_3: End::Fault(21, 0x1804),
+    },
+    Mxr {
+        vs: false,
+        hs: true,
+        page_2: End::Place(0xA010),
+        page_3: End::Place(0xB010),
+    },
+    Mxr {
+        vs: true,
+        hs: true,
+        page_2: End::Place(0xA010),
+        page_3: End::Place(0xB010),
+    },
+];
+
+fn mxr_is_right(memory: &PhysMem, case: &Mxr) -> bool {
+    let mut csrs = csrs_for(GUEST_ROOT, ROOT);
+    csrs.vs.status.mxr = case.vs;
+    csrs.hs.status.mxr = case.hs;
+    answer(memory, &csrs, Mode::VS, 0x2010, Access::Load) == expected(0x2010, case.page_2)
+        && answer(memory, &csrs, Mode::VS, 0x3010, Access::Load) == expected(0x3010, case.page_3)
+}
+
+#[test]
+fn mxr_of_each_stage(rt: HostRuntime) -> Result<(), Fail> {
+    let memory = with_words(rt.alloc(), &TABLES)?;
+    for case in &MXR {
+        assert!(rt;
+            mxr_is_right(&memory, case),
+            "vsstatus {} sstatus {}",
+            case.vs,
+            case.hs
+        );
+    }
+    Ok(())
+}
+
+// vsatp's root at a guest page, the codes of the faults of a fetch, a load and a store, and tval2, the
+// entry's guest physical address divided by 4, of a guest page fault.
+struct RootElsewhere {
+    name: &'static str,
+    page: u64,
+    fetch: u64,
+    load: u64,
+    store: u64,
+    tval2: u64,
+}
+
+static ROOTS_ELSEWHERE: [RootElsewhere; 5] = [
+    RootElsewhere {
+        name: "no page",
+        page: 2,
+        fetch: 20,
+        load: 21,
+        store: 23,
+        tval2: 0x802,
+    },
+    RootElsewhere {
+        name: "past memory",
+        page: 4,
+        fetch: 1,
+        load: 5,
+        store: 7,
+        tval2: 0,
+    },
+    RootElsewhere {
+        name: "without U",
+        page: 5,
+        fetch: 20,
+        load: 21,
+        store: 23,
+        tval2: 0x1402,
+    },
+    RootElsewhere {
+        name: "only to be executed",
+        page: 6,
+        fetch: 20,
+        load: 21,
+        store: 23,
+        tval2: 0x1802,
+    },
+    RootElsewhere {
+        name: "with D clear",
+        page: 7,
+        fetch: 12,
+        load: 13,
+        store: 15,
+        tval2: 0,
+    },
+];
+
+// The fault is the access's, and its tval the virtual address. MXR has no part in it (own).
+fn implicit_read_is_right(memory: &PhysMem, case: &RootElsewhere) -> bool {
+    let mut csrs = csrs_for(GUEST_ROOT, Some(case.page));
+    csrs.hs.status.mxr = true;
+    for (access, cause) in [
+        (Access::Fetch, case.fetch),
+        (Access::Load, case.load),
+        (Access::ExecLoad, case.load),
+        (Access::Store, case.store),
+    ] {
+        let fault = trap(cause, 0x4000_5678, case.tval2, case.tval2 != 0);
+        if answer(memory, &csrs, Mode::VU, 0x4000_5678, access) != Err(fault) {
+            return false;
+        }
+    }
+    true
+}
+
+#[test]
+fn implicit_reads(rt: HostRuntime) -> Result<(), Fail> {
+    let memory = with_words(rt.alloc(), &TABLES)?;
+    for case in &ROOTS_ELSEWHERE {
+        assert!(rt; implicit_read_is_right(&memory, case), "{}", case.name);
+    }
+    Ok(())
+}
+
+// The tables of a nested guest in RAM: hgatp's root at 80004000, a table at 80008000, one at 80009000, and in
+// its slot 0 a code page at 80001000.
+fn has_tables(ram: &mut Ram) -> bool
+    requires { LieIn (in_blocks ram.old.part.now.blocks) (length ram.old.mem.now) }
+    ensures { LieIn (in_blocks ram.new.part.now.blocks) (length ram.new.mem.now) }
+{
+    ram.set(0x8000_4000, 8, 0x2000_2001)
+        && ram.set(0x8000_8000, 8, 0x2000_2401)
+        && ram.set(0x8000_9000, 8, 0x2000_045B)
+}
+
+// A fetch of VS at 0, with vsatp's root at this page.
+fn fetched(ram: &Ram, page: Option<u64>) -> Result<u64, Trap>
+    requires { LieIn (in_blocks ram.now.part.now.blocks) (length ram.now.mem.now) }
+{
+    ram_is_whole(ram);
+    translate(
+        ram,
+        &csrs_for(Some(0x8_0004), page),
+        Mode::VS,
+        0,
+        Access::Fetch,
+    )
+}
+
+// Whether a fault of an implicit read at a guest page has htval and htinst so, after its trap from VS into
+// HS.
+fn is_implicit_fault(ram: &Ram, page: u64, htval: u64, htinst: u64) -> bool
+    requires { LieIn (in_blocks ram.now.part.now.blocks) (length ram.now.mem.now) }
+{
+    let fault = trap(20, 0, htval, true);
+    let mut csrs = csrs_for(Some(0x8_0004), Some(page));
+    let mut regs = Regs::starting_at(0);
+    enter_hs(&mut csrs, &mut regs, Mode::VS, &fault);
+    fetched(ram, Some(page)) == Err(fault) && csrs.htval == htval && csrs.htinst == htinst
+}
+
+// A read at guest page 40 and, once there is no page 0, one at page 0: htinst tells the first alone.
+fn ram_is_right(ram: &mut Ram) -> bool
+    requires { LieIn (in_blocks ram.old.part.now.blocks) (length ram.old.mem.now) }
+{
+    has_tables(ram)
+        && fetched(ram, None) == Ok(0x8000_1000)
+        && is_implicit_fault(ram, 0x40, 0x1_0000, 0x3000)
+        && ram.set(0x8000_9000, 8, 0)
+        && is_implicit_fault(ram, 0, 0, 0)
+}
+
+fn part_is_right(memory: &mut PhysMem, part: &Part) -> bool {
+    let size = memory.size();
+    part.lies_in(size) && ram_is_right(&mut Ram::new(memory, part))
+}
+
+// RAM is block 1 of machine memory and then block 0.
+#[test]
+fn translate_implicit(rt: HostRuntime) -> Result<(), Fail> {
+    let mut memory = memory(rt.alloc(), 1029)?;
+    let part = part(&[1, 0], 1024, 1028, 0, 0);
+    assert!(rt; part_is_right(&mut memory, &part));
+    Ok(())
+}

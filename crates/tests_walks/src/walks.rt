@@ -1,0 +1,719 @@
+// Walks of one table (Privileged Architecture 20211203, 4.3.1, 4.3.2, 4.4.1 and 8.5.1). The entries of leaves
+// name frame 40000 (hexadecimal), the first of a page of each level.
+
+ghost use Rattle.std.specs.Prelude.{◌==◌, Ok, Err, if◌then◌else◌};
+
+use arch_defs::{Access, Trap};
+use stage_walk::{Fetch, LeafPte, Shape, WalkEnd, leaf_to, pointer_to, pte_of, pte_word, walk};
+
+/// V, R, W, X, A and D.
+const LEAF: u64 = 0x1000_00CF;
+
+/// Index 5 at level 2, 6 at level 1, 7 at level 0.
+const ADDRESS: u64 = 0x1_40C0_7123;
+
+const ACCESSES: [Access; 5] = [
+    Access::Fetch,
+    Access::Load,
+    Access::Store,
+    Access::ExecLoad,
+    Access::Implicit,
+];
+
+const LEVELS: [(Shape, u8); 6] = [
+    (Shape::Sv39, 0),
+    (Shape::Sv39, 1),
+    (Shape::Sv39, 2),
+    (Shape::Sv39x4, 0),
+    (Shape::Sv39x4, 1),
+    (Shape::Sv39x4, 2),
+];
+
+const UNREADABLE: Trap = Trap {
+    cause: 5,
+    interrupt: false,
+    tval: 0,
+    tval2: 0,
+    gva: false,
+    implicit: false,
+};
+
+/// The entries of three tables for `ADDRESS`; no other can be read.
+#[derive(Clone, Copy)]
+struct Chain {
+    root: u64,
+    middle: u64,
+    low: Result<u64, Trap>,
+    otherwise: Trap,
+}
+
+impl Fetch for Chain {
+    ghost reading = { λ c place. if place == 0x1_0028 then Ok c.root
+        else if place == 0x2_0030 then Ok c.middle
+        else if place == 0x3_0038 then c.low
+        else Err c.otherwise };
+
+    fn pte_at(&self, place: u64) -> Result<u64, Trap> {
+        if place == 0x1_0028 {
+            Ok(self.root)
+        } else if place == 0x2_0030 {
+            Ok(self.middle)
+        } else if place == 0x3_0038 {
+            self.low
+        } else {
+            Err(self.otherwise)
+        }
+    }
+}
+
+/// The same entry at every place.
+#[derive(Clone, Copy)]
+struct Everywhere {
+    word: u64,
+}
+
+impl Fetch for Everywhere {
+    ghost reading = { λ e place. Ok e.word };
+
+    fn pte_at(&self, _place: u64) -> Result<u64, Trap> {
+        Ok(self.word)
+    }
+}
+
+// How a walk ends that meets this entry at a level, after pointers, and before a leaf.
+fn end_at(shape: Shape, level: u8, word: u64, access: Access) -> WalkEnd {
+    let chain = Chain {
+        root: if level == 2 { word } else { 0x8001 },
+        middle: if level == 1 { word } else { 0xC001 },
+        low: Ok(if level == 0 { word } else { LEAF }),
+        otherwise: UNREADABLE,
+    };
+    walk(&chain, 0x10, shape, ADDRESS, access)
+}
+
+#[derive(Clone, Copy)]
+struct Rights {
+    r: bool,
+    w: bool,
+    x: bool,
+    u: bool,
+}
+
+const ALL: Rights = Rights {
+    r: true,
+    w: true,
+    x: true,
+    u: false,
+};
+
+fn leaf(level: u8, rights: Rights) -> WalkEnd {
+    WalkEnd::Leaf(LeafPte {
+        frame: 0x4_0000,
+        level,
+        r: rights.r,
+        w: rights.w,
+        x: rights.x,
+        u: rights.u,
+    })
+}
+
+/// What a leaf gives a store, and what any other access: none is a page fault.
+struct LeafCase {
+    name: &'static str,
+    word: u64,
+    store: Option<Rights>,
+    other: Option<Rights>,
+}
+
+static LEAVES: [LeafCase; 13] = [
+    LeafCase {
+        name: "all rights",
+        word: LEAF,
+        store: Some(ALL),
+        other: Some(ALL),
+    },
+    LeafCase {
+        name: "V clear",
+        word: 0x1000_00CE,
+        store: None,
+        other: None,
+    },
+    LeafCase {
+        name: "W without R, with X",
+        word: 0x1000_00CD,
+        store: None,
+        other: None,
+    },
+    LeafCase {
+        name: "W without R and X",
+        word: 0x1000_00C5,
+        store: None,
+        other: None,
+    },
+    LeafCase {
+        name: "R and X",
+        word: 0x1000_00CB,
+        store: Some(Rights {
+            r: true,
+            w: false,
+            x: true,
+            u: false,
+        }),
+        other: Some(Rights {
+            r: true,
+            w: false,
+            x: true,
+            u: false,
+        }),
+    },
+    LeafCase {
+        name: "R",
+        word: 0x1000_00C3,
+        store: Some(Rights {
+            r: true,
+            w: false,
+            x: false,
+            u: false,
+        }),
+        other: Some(Rights {
+            r: true,
+            w: false,
+            x: false,
+            u: false,
+        }),
+    },
+    LeafCase {
+        name: "R and W",
+        word: 0x1000_00C7,
+        store: Some(Rights {
+            r: true,
+            w: true,
+            x: false,
+            u: false,
+        }),
+        other: Some(Rights {
+            r: true,
+            w: true,
+            x: false,
+            u: false,
+        }),
+    },
+    LeafCase {
+        name: "X",
+        word: 0x1000_00C9,
+        store: Some(Rights {
+            r: false,
+            w: false,
+            x: true,
+            u: false,
+        }),
+        other: Some(Rights {
+            r: false,
+            w: false,
+            x: true,
+            u: false,
+        }),
+    },
+    LeafCase {
+        name: "A clear",
+        word: 0x1000_008F,
+        store: None,
+        other: None,
+    },
+    LeafCase {
+        name: "D clear",
+        word: 0x1000_004F,
+        store: None,
+        other: Some(Rights {
+            r: true,
+            w: false,
+            x: true,
+            u: false,
+        }),
+    },
+    LeafCase {
+        name: "U",
+        word: 0x1000_00DF,
+        store: Some(Rights {
+            r: true,
+            w: true,
+            x: true,
+            u: true,
+        }),
+        other: Some(Rights {
+            r: true,
+            w: true,
+            x: true,
+            u: true,
+        }),
+    },
+    LeafCase {
+        name: "G",
+        word: 0x1000_00EF,
+        store: Some(ALL),
+        other: Some(ALL),
+    },
+    LeafCase {
+        name: "the bits for software",
+        word: 0x1000_03CF,
+        store: Some(ALL),
+        other: Some(ALL),
+    },
+];
+
+fn leaf_is_right(case: &LeafCase, shape: Shape, level: u8) -> bool {
+    for access in ACCESSES {
+        let rights = if access == Access::Store {
+            case.store
+        } else {
+            case.other
+        };
+        let end = match rights {
+            Some(rights) => leaf(level, rights),
+            None => WalkEnd::PageFault,
+        };
+        if end_at(shape, level, case.word, access) != end {
+            return false;
+        }
+    }
+    true
+}
+
+// Leaves with one reserved bit (4.4.1).
+static RESERVED: [u64; 10] = [
+    0x0040_0000_1000_00CF,
+    0x0080_0000_1000_00CF,
+    0x0100_0000_1000_00CF,
+    0x0200_0000_1000_00CF,
+    0x0400_0000_1000_00CF,
+    0x0800_0000_1000_00CF,
+    0x1000_0000_1000_00CF,
+    0x2000_0000_1000_00CF,
+    0x4000_0000_1000_00CF,
+    0x8000_0000_1000_00CF,
+];
+
+fn always_faults(word: u64, shape: Shape, level: u8) -> bool {
+    for access in ACCESSES {
+        if end_at(shape, level, word, access) != WalkEnd::PageFault {
+            return false;
+        }
+    }
+    true
+}
+
+// The steps 3, 6 and 7 of 4.3.2, at each level.
+#[test]
+fn leaves(rt: HostRuntime) {
+    for (shape, level) in LEVELS {
+        for case in &LEAVES {
+            assert!(rt;
+                leaf_is_right(case, shape, level),
+                "{} at level {level}",
+                case.name
+            );
+        }
+        for &word in &RESERVED {
+            assert!(rt;
+                always_faults(word, shape, level),
+                "{word:X} at level {level}"
+            );
+        }
+    }
+}
+
+/// An entry at a level, and what a load meets there.
+struct Met {
+    level: u8,
+    word: u64,
+    end: End,
+}
+
+enum End {
+    /// A leaf of level 0 below.
+    Below,
+    PageFault,
+    /// A leaf of the level itself.
+    Here,
+}
+
+// Pointers to the tables that `end_at` has: A, D and U are faults, as is a pointer at the last level. And
+// leaves of the frames 40001, 40100, 40200, 60000 and 80000, of which some are of no superpage (4.3.2, step
+// 6).
+static MET: [Met; 24] = [
+    Met {
+        level: 2,
+        word: 0x8001,
+        end: End::Below,
+    },
+    Met {
+        level: 2,
+        word: 0x8021,
+        end: End::Below,
+    },
+    Met {
+        level: 2,
+        word: 0x8301,
+        end: End::Below,
+    },
+    Met {
+        level: 2,
+        word: 0x8000,
+        end: End::PageFault,
+    },
+    Met {
+        level: 2,
+        word: 0x8005,
+        end: End::PageFault,
+    },
+    Met {
+        level: 2,
+        word: 0x8011,
+        end: End::PageFault,
+    },
+    Met {
+        level: 2,
+        word: 0x8041,
+        end: End::PageFault,
+    },
+    Met {
+        level: 2,
+        word: 0x8081,
+        end: End::PageFault,
+    },
+    Met {
+        level: 2,
+        word: 0x0040_0000_0000_8001,
+        end: End::PageFault,
+    },
+    Met {
+        level: 1,
+        word: 0xC001,
+        end: End::Below,
+    },
+    Met {
+        level: 1,
+        word: 0xC021,
+        end: End::Below,
+    },
+    Met {
+        level: 1,
+        word: 0xC011,
+        end: End::PageFault,
+    },
+    Met {
+        level: 1,
+        word: 0xC041,
+        end: End::PageFault,
+    },
+    Met {
+        level: 1,
+        word: 0xC081,
+        end: End::PageFault,
+    },
+    Met {
+        level: 0,
+        word: 0x1000_0001,
+        end: End::PageFault,
+    },
+    Met {
+        level: 0,
+        word: 0x1000_04CF,
+        end: End::Here,
+    },
+    Met {
+        level: 1,
+        word: 0x1000_04CF,
+        end: End::PageFault,
+    },
+    Met {
+        level: 1,
+        word: 0x1004_00CF,
+        end: End::PageFault,
+    },
+    Met {
+        level: 1,
+        word: 0x1008_00CF,
+        end: End::Here,
+    },
+    Met {
+        level: 2,
+        word: 0x1000_04CF,
+        end: End::PageFault,
+    },
+    Met {
+        level: 2,
+        word: 0x1004_00CF,
+        end: End::PageFault,
+    },
+    Met {
+        level: 2,
+        word: 0x1008_00CF,
+        end: End::PageFault,
+    },
+    Met {
+        level: 2,
+        word: 0x1800_00CF,
+        end: End::PageFault,
+    },
+    Met {
+        level: 2,
+        word: 0x2000_00CF,
+        end: End::Here,
+    },
+];
+
+fn met_is_right(case: &Met, shape: Shape) -> bool {
+    let end = end_at(shape, case.level, case.word, Access::Load);
+    match case.end {
+        End::Below => end == leaf(0, ALL),
+        End::PageFault => end == WalkEnd::PageFault,
+        End::Here => matches!(end, WalkEnd::Leaf(found) if found.level == case.level),
+    }
+}
+
+#[test]
+fn pointers_and_superpages(rt: HostRuntime) {
+    for case in &MET {
+        for shape in [Shape::Sv39, Shape::Sv39x4] {
+            assert!(rt;
+                met_is_right(case, shape),
+                "{:X} at level {}",
+                case.word,
+                case.level
+            );
+        }
+    }
+}
+
+/// The word of a leaf with these rights and with U, A, V, and D where it may be written.
+struct LeafWord {
+    rights: Rights,
+    word: u64,
+}
+
+static LEAF_WORDS: [LeafWord; 4] = [
+    LeafWord {
+        rights: Rights {
+            r: true,
+            w: true,
+            x: true,
+            u: true,
+        },
+        word: 0x1000_00DF,
+    },
+    LeafWord {
+        rights: Rights {
+            r: true,
+            w: false,
+            x: false,
+            u: true,
+        },
+        word: 0x1000_0053,
+    },
+    LeafWord {
+        rights: Rights {
+            r: true,
+            w: true,
+            x: false,
+            u: true,
+        },
+        word: 0x1000_00D7,
+    },
+    LeafWord {
+        rights: Rights {
+            r: false,
+            w: false,
+            x: true,
+            u: true,
+        },
+        word: 0x1000_0059,
+    },
+];
+
+fn leaf_word_is_right(case: &LeafWord) -> bool {
+    let Rights { r, w, x, .. } = case.rights;
+    pte_word(&leaf_to(0x4_0000, r, w, x)) == case.word
+}
+
+// Words, and what they are where they are read and written again: each bit with a name, the highest frame and
+// the reserved bits stay; G and the bits for software are lost (4.3.1 and 4.4.1).
+static READ_AGAIN: [(u64, u64); 11] = [
+    (0x01, 0x01),
+    (0x02, 0x02),
+    (0x04, 0x04),
+    (0x08, 0x08),
+    (0x10, 0x10),
+    (0x20, 0),
+    (0x40, 0x40),
+    (0x80, 0x80),
+    (0x300, 0),
+    (0x003F_FFFF_FFFF_FC00, 0x003F_FFFF_FFFF_FC00),
+    (0xFFC0_0000_0000_0000, 0xFFC0_0000_0000_0000),
+];
+
+#[test]
+fn words(rt: HostRuntime) {
+    assert!(rt; pte_word(&pointer_to(0x20)) == 0x8001);
+    for case in &LEAF_WORDS {
+        assert!(rt; leaf_word_is_right(case), "{:X}", case.word);
+    }
+    for &(word, again) in &READ_AGAIN {
+        assert!(rt; pte_word(&pte_of(word)) == again, "{word:X}");
+    }
+}
+
+/// Whether a table of one gibibyte leaves has an address.
+struct Bounds {
+    shape: Shape,
+    address: u64,
+    found: bool,
+}
+
+// Bits 63 to 39 of an Sv39 address equal bit 38; an Sv39x4 address has 41 bits.
+static BOUNDS: [Bounds; 12] = [
+    Bounds {
+        shape: Shape::Sv39,
+        address: 0,
+        found: true,
+    },
+    Bounds {
+        shape: Shape::Sv39,
+        address: 0x0000_003F_FFFF_FFFF,
+        found: true,
+    },
+    Bounds {
+        shape: Shape::Sv39,
+        address: 0x0000_0040_0000_0000,
+        found: false,
+    },
+    Bounds {
+        shape: Shape::Sv39,
+        address: 0x0000_0080_0000_0000,
+        found: false,
+    },
+    Bounds {
+        shape: Shape::Sv39,
+        address: 0x7FFF_FFFF_FFFF_FFFF,
+        found: false,
+    },
+    Bounds {
+        shape: Shape::Sv39,
+        address: 0xFFFF_FFBF_FFFF_FFFF,
+        found: false,
+    },
+    Bounds {
+        shape: Shape::Sv39,
+        address: 0xFFFF_FFC0_0000_0000,
+        found: true,
+    },
+    Bounds {
+        shape: Shape::Sv39,
+        address: 0xFFFF_FFFF_FFFF_FFFF,
+        found: true,
+    },
+    Bounds {
+        shape: Shape::Sv39x4,
+        address: 0x0000_0040_0000_0000,
+        found: true,
+    },
+    Bounds {
+        shape: Shape::Sv39x4,
+        address: 0x0000_01FF_FFFF_FFFF,
+        found: true,
+    },
+    Bounds {
+        shape: Shape::Sv39x4,
+        address: 0x0000_0200_0000_0000,
+        found: false,
+    },
+    Bounds {
+        shape: Shape::Sv39x4,
+        address: 0xFFFF_FFC0_0000_0000,
+        found: false,
+    },
+];
+
+fn bounds_are_right(case: &Bounds) -> bool {
+    let everywhere = Everywhere { word: LEAF };
+    let end = walk(&everywhere, 0x10, case.shape, case.address, Access::Load);
+    if case.found {
+        end == leaf(2, ALL)
+    } else {
+        end == WalkEnd::PageFault
+    }
+}
+
+/// The place of the first entry that cannot be read, which tells the entries that were.
+struct Unread {
+    shape: Shape,
+    address: u64,
+    place: u64,
+}
+
+static UNREAD: [Unread; 8] = [
+    Unread {
+        shape: Shape::Sv39,
+        address: 0xFFFF_FFC0_0000_0000,
+        place: 0x1_0800,
+    },
+    Unread {
+        shape: Shape::Sv39,
+        address: 0xFFFF_FFFF_FFFF_FFFF,
+        place: 0x1_0FF8,
+    },
+    Unread {
+        shape: Shape::Sv39x4,
+        address: 0x1FF_C000_0000,
+        place: 0x1_3FF8,
+    },
+    Unread {
+        shape: Shape::Sv39x4,
+        address: 0x080_0000_0000,
+        place: 0x1_1000,
+    },
+    Unread {
+        shape: Shape::Sv39,
+        address: 0x1_4000_0000,
+        place: 0x2_0000,
+    },
+    Unread {
+        shape: Shape::Sv39x4,
+        address: 0x1_4000_0000,
+        place: 0x2_0000,
+    },
+    Unread {
+        shape: Shape::Sv39,
+        address: ADDRESS,
+        place: 0x3_0038,
+    },
+    Unread {
+        shape: Shape::Sv39x4,
+        address: ADDRESS,
+        place: 0x3_0038,
+    },
+];
+
+fn unread_is_right(case: &Unread) -> bool {
+    let chain = Chain {
+        root: 0x8001,
+        middle: 0xC001,
+        low: Err(UNREADABLE),
+        otherwise: UNREADABLE,
+    };
+    let end = WalkEnd::FetchEnd {
+        place: case.place,
+        trap: UNREADABLE,
+    };
+    walk(&chain, 0x10, case.shape, case.address, Access::Store) == end
+}
+
+#[test]
+fn addresses(rt: HostRuntime) {
+    for case in &BOUNDS {
+        assert!(rt; bounds_are_right(case), "bounds of {:X}", case.address);
+    }
+    for case in &UNREAD {
+        assert!(rt; unread_is_right(case), "entries of {:X}", case.address);
+    }
+}
