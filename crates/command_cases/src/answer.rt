@@ -1,0 +1,124 @@
+// The answer to an ask: what the first of its runs leaves, and the others where they leave anything else.
+
+use crate::call::Left;
+use crate::configuration::Turns;
+use crate::text::push_lines;
+use crate::told::Told;
+use no_memory::NoMemory;
+use std::alloc::Global;
+
+/// What the runs of an ask have left.
+#[derive(Drop)]
+pub struct Answer {
+    told: Told,
+    first: String,
+    trace: Option<u64>,
+    others: String,
+    // Of the last run.
+    entries: u64,
+    taken: u64,
+    // The least of all runs.
+    least_entries: u64,
+    least_taken: u64,
+}
+
+impl Answer {
+    pub fn new(alloc: Global, told: Told) -> Answer {
+        Answer {
+            told,
+            first: String::new(alloc),
+            trace: None,
+            others: String::new(alloc),
+            entries: 0,
+            taken: 0,
+            least_entries: u64::MAX,
+            least_taken: u64::MAX,
+        }
+    }
+
+    /// Adds what a run with these turns has left. Its trace must be that of the first run, told or not.
+    pub fn add(
+        &mut self,
+        words: &str,
+        turns: Turns<'_>,
+        left: &Left<'_, '_>,
+    ) -> Result<(), NoMemory> {
+        let text = shown(*self.first.allocator(), self.told, words, left)?;
+        let trace = left.tally.trace();
+        self.count(left);
+        match self.trace {
+            None => {
+                self.trace = Some(trace);
+                self.first.push_str(text.as_str())?;
+            }
+            Some(first) if first == trace && self.first.as_str() == text.as_str() => {}
+            Some(_) => {
+                push_turns(&mut self.others, turns)?;
+                writeln!(self.others, "{text}trace 0x{trace:x}")?;
+            }
+        }
+        Ok(())
+    }
+
+    fn count(&mut self, left: &Left<'_, '_>) {
+        self.entries = left.tally.entries();
+        self.taken = left.tally.taken();
+        self.least_entries = self.least_entries.min(self.entries);
+        self.least_taken = self.least_taken.min(self.taken);
+    }
+
+    /// Appends the answer.
+    pub fn put(&self, text: &mut String) -> Result<(), NoMemory> {
+        text.push_str(self.first.as_str())?;
+        if self.told.entries {
+            writeln!(text, "entries {}", self.entries)?;
+        }
+        if self.told.taken {
+            writeln!(text, "taken {}", self.taken)?;
+        }
+        push_least(text, "entries", self.told.least_entries, self.least_entries)?;
+        push_least(text, "taken", self.told.least_taken, self.least_taken)?;
+        text.push_str(self.others.as_str())?;
+        Ok(())
+    }
+}
+
+fn push_least(
+    text: &mut String,
+    name: &str,
+    wanted: Option<u64>,
+    least: u64,
+) -> Result<(), NoMemory> {
+    match wanted {
+        Some(wanted) if wanted <= least => writeln!(text, "{name} {wanted} or more")?,
+        Some(_) => writeln!(text, "{name} {least}")?,
+        None => {}
+    }
+    Ok(())
+}
+
+fn push_turns(text: &mut String, turns: Turns<'_>) -> Result<(), NoMemory> {
+    match turns {
+        Turns::Rounds { quantum, rounds } => writeln!(text, "by {quantum}x{rounds}")?,
+        Turns::Pieces(pieces) => writeln!(text, "by {pieces}")?,
+    }
+    Ok(())
+}
+
+// What must be the same in all runs.
+fn shown(alloc: Global, told: Told, words: &str, left: &Left<'_, '_>) -> Result<String, NoMemory> {
+    let mut text = format!(in alloc; "{words}: status {}\n", left.status)?;
+    push_lines(&mut text, "out", left.out.bytes())?;
+    push_lines(&mut text, "err", left.err.bytes())?;
+    if told.trace {
+        let trace = left.tally.trace();
+        writeln!(text, "trace 0x{trace:x}")?;
+    }
+    if told.reads {
+        writeln!(text, "reads {}", left.store.reads())?;
+    }
+    if told.asked {
+        text.push_str(left.store.asked())?;
+    }
+    Ok(text)
+}

@@ -1,0 +1,156 @@
+// A case: its files and its configuration, and what is asked of them.
+
+use crate::answer::Answer;
+use crate::call::call;
+use crate::configuration::{Configuration, Turns};
+use crate::faults::Fault;
+use crate::files::Files;
+use crate::script::Script;
+use crate::terms::Names;
+use crate::told::Told;
+use no_memory::NoMemory;
+use std::alloc::Global;
+
+/// What the lines of a case have said so far.
+#[derive(Drop)]
+struct Case<'a> {
+    alloc: Global,
+    files: Files<'a>,
+    configuration: Configuration<'a>,
+    script: Script<'a>,
+    told: Told,
+    // The instructions that are not assembled yet.
+    code: Vec<&'a str>,
+    has_asked: bool,
+}
+
+/// Appends the answers of a case with these lines.
+pub fn answer(
+    alloc: Global,
+    names: &Names<'_>,
+    name: &str,
+    lines: &[&str],
+    answers: &mut String,
+) -> Result<(), NoMemory> {
+    writeln!(answers, "case {name}")?;
+    let mut case = Case::new(alloc)?;
+    for line in lines {
+        let obeyed = case.take(names, line, answers);
+        told_fault(obeyed, line, answers)?;
+    }
+    let ended = case.end(answers);
+    told_fault(ended, "end", answers)
+}
+
+/// Tells a line that was not obeyed.
+pub fn told_fault(
+    obeyed: Result<(), Fault>,
+    line: &str,
+    answers: &mut String,
+) -> Result<(), NoMemory> {
+    match obeyed {
+        Ok(()) => Ok(()),
+        Err(Fault::NoMemory) => Err(NoMemory),
+        Err(Fault::Line) => {
+            writeln!(answers, "fault: {line}")?;
+            Ok(())
+        }
+    }
+}
+
+impl<'a> Case<'a> {
+    fn new(alloc: Global) -> Result<Case<'a>, NoMemory> {
+        Ok(Case {
+            alloc,
+            files: Files::new(alloc),
+            configuration: Configuration::new(alloc)?,
+            script: Script::new(),
+            told: Told::new(),
+            code: Vec::new(alloc),
+            has_asked: false,
+        })
+    }
+
+    fn take(
+        &mut self,
+        names: &Names<'_>,
+        line: &'a str,
+        answers: &mut String,
+    ) -> Result<(), Fault> {
+        if line.starts_with(' ') {
+            self.code.push(line.trim())?;
+            return Ok(());
+        }
+        self.assemble()?;
+        let (word, rest) = line.split_once(' ').unwrap_or((line, ""));
+        if word == "ask" {
+            self.ask(rest, answers)
+        } else if self.obeys(names, word, rest)? {
+            Ok(())
+        } else {
+            Err(Fault::Line)
+        }
+    }
+
+    fn obeys(&mut self, names: &Names<'_>, word: &str, rest: &'a str) -> Result<bool, Fault> {
+        if self.files.obey(names, word, rest)? {
+            return Ok(true);
+        }
+        if self.configuration.obey(word, rest)? {
+            return Ok(true);
+        }
+        if self.script.obey(word, rest)? {
+            return Ok(true);
+        }
+        self.told.obey(word, rest)
+    }
+
+    // Appends the instructions to the file at hand.
+    fn assemble(&mut self) -> Result<(), Fault> {
+        let assembled = self.files.push_code(self.code.as_slice());
+        self.code.clear();
+        assembled
+    }
+
+    fn end(&mut self, answers: &mut String) -> Result<(), Fault> {
+        self.assemble()?;
+        if self.has_asked {
+            return Ok(());
+        }
+        self.ask("nesthv run k", answers)
+    }
+
+    fn ask(&mut self, words: &str, answers: &mut String) -> Result<(), Fault> {
+        let mut answer = Answer::new(self.alloc, self.told);
+        for index in 0..self.runs(words) {
+            let turns = self.configuration.run(index).ok_or(Fault::Line)?;
+            self.add_run(words, turns, &mut answer)?;
+        }
+        answer.put(answers)?;
+        self.script = Script::new();
+        self.has_asked = true;
+        Ok(())
+    }
+
+    fn add_run(
+        &mut self,
+        words: &str,
+        turns: Turns<'a>,
+        answer: &mut Answer,
+    ) -> Result<(), NoMemory> {
+        let configuration = self.configuration.text(turns)?;
+        self.files.set_configuration(configuration.as_str())?;
+        let left = call(self.alloc, words, &self.files, self.script)?;
+        answer.add(words, turns, &left)
+    }
+
+    // How many runs are made: one where no turns are made, or where a file has the configuration.
+    fn runs(&self, words: &str) -> usize {
+        let makes_turns = words.starts_with("nesthv run k") || words.starts_with("nesthv replay k");
+        if makes_turns && self.files.get("k").is_none() {
+            self.configuration.runs()
+        } else {
+            1
+        }
+    }
+}
