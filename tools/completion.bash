@@ -1,4 +1,4 @@
-# Completion of bash for nesthv and examples/run. Read it by `source tools/completion.bash`, or install it.
+# Completion of bash for nesthv, nesthv-run and examples/run. Read it by `source tools/completion.bash`, or install it.
 _nesthv() {
     if [ "$COMP_CWORD" -eq 1 ]; then
         mapfile -t COMPREPLY < <(compgen -W 'run replay check work' -- "$2")
@@ -13,21 +13,22 @@ _nesthv() {
     fi
 }
 
-_nesthv_examples_run() {
+_nesthv_run() {
     local folder names
+    compopt -o filenames
     case $3 in
-    --expect) mapfile -t COMPREPLY < <(compgen -W 'running waiting stopped 0 1 2 3 4 5' -- "$2") && return ;;
+    --expect) mapfile -t COMPREPLY < <(compgen -W 'running waiting stopped 0 1 2 3 4 5 6' -- "$2") && return ;;
+    --program) mapfile -t COMPREPLY < <(compgen -f -- "$2") && return ;;
     --seconds) return ;;
     esac
     if [[ $2 == -* ]]; then
-        mapfile -t COMPREPLY < <(compgen -W '--json --expect --progress --seconds --help' -- "$2")
+        mapfile -t COMPREPLY < <(compgen -W '--json --expect --progress --program --seconds --help' -- "$2")
         return
     fi
-    folder=$(dirname -- "$1")
+    folder=$(dirname -- "$1")/../examples
     names=$(cd "$folder" 2>/dev/null && printf '%s ' */report | sed 's|/report||g')
-    compopt -o filenames
-    mapfile -t COMPREPLY < <(compgen -W "$names" -- "$2"; compgen -d -- "$2"; compgen -f -X '!*.toml' -- "$2")
+    mapfile -t COMPREPLY < <(compgen -W "run replay check $names" -- "$2"; compgen -f -- "$2")
 }
 
 complete -F _nesthv nesthv
-complete -F _nesthv_examples_run examples/run ./run
+complete -F _nesthv_run nesthv-run examples/run ./run tools/run

@@ -1,15 +1,15 @@
 """Says in words what the program's line of a status means: which key, which range, which line of the file."""
 import os
 import re
-import sys
+import stat
+import tomllib
 
-try:
-    import tomllib
-except ModuleNotFoundError:
-    sys.exit("this needs Python 3.11 or later, and python3 is " + sys.version.split()[0])
+import toml11
 
 BLOCK = 2097152
 FRAMES = 131072
+MOST_BYTES = 65536  # of a configuration
+MOST_BLOCKS = 32
 RANGES = {
     "name": "a text of 1 to 32 ASCII letters and digits",
     "image": "the name of a file, a text of 1 to 255 bytes",
@@ -22,20 +22,43 @@ GUEST_KEYS = [*RANGES, "input"]
 FILE_KEYS = ["format", "guest", "turns", "quantum", "rounds"]
 
 
+def text_of(path):
+    """The bytes of the configuration at this path, as many as the program reads, or none where it is no regular file:
+    what a pipe gives can be read once."""
+    try:
+        if stat.S_ISREG(os.stat(path).st_mode):
+            with open(path, "rb") as file:
+                return file.read(MOST_BYTES + 1)
+    except (OSError, ValueError):
+        pass
+    return None
+
+
 def parsed(text):
     """The document of these bytes, and why there is none."""
+    if text is None:
+        return None, ""
     try:
-        return tomllib.loads(text.decode()), ""
+        return toml11.loads(text.decode()), ""
     except UnicodeDecodeError as error:
         return None, f"the byte at offset {error.start} is no UTF-8"
-    except (tomllib.TOMLDecodeError, RecursionError) as error:
+    except tomllib.TOMLDecodeError as error:
         return None, str(error)
+    except (RecursionError, ValueError):  # deep nesting; an integer of thousands of digits; a date that is none
+        return None, ""
 
 
 def guests_of(document):
-    """The tables of the guests that a document has."""
+    """The tables of the guests that a document has, by number; an empty one where there is another value."""
     guests = (document or {}).get("guest", [])
-    return [guest for guest in guests if isinstance(guest, dict)] if isinstance(guests, list) else []
+    guests = guests if isinstance(guests, list) else []
+    return [guest if isinstance(guest, dict) else {} for guest in guests]
+
+
+def image_names(document):
+    """The name of each guest's image, or none where there is no text."""
+    names = [guest.get("image") for guest in guests_of(document)]
+    return [name if isinstance(name, str) and name and "\0" not in name else None for name in names]
 
 
 def is_integer(value, least, most):
@@ -143,22 +166,41 @@ def of_configuration(text, number, guest, key, value):
     return ""
 
 
-def explained(line, configuration):
-    """What the program's line on standard error means, for the configuration at this path, or nothing."""
+def of_read(number, configuration, names, report):
+    """Why the read of the file of this number fails, where the guests' images have these names."""
+    if number == 1:
+        return f"the configuration {configuration} cannot be read{unreadable(configuration)}"
+    if not 2 <= number < 2 + len(names):
+        return f"the stored report {report} cannot be read{unreadable(report)}" if report and names else ""
+    name = names[number - 2]
+    if name is None:
+        return f"the image of guest {number - 2} cannot be read"
+    path = os.path.join(os.path.dirname(configuration), name)
+    return f"the image {path} of guest {number - 2} cannot be read{unreadable(path)}"
+
+
+def unreadable(path):
+    """Why the file at this path cannot be read, as far as that shows."""
+    if os.path.isdir(path):
+        return ": it is a folder"
+    if os.path.lexists(path) and not os.path.exists(path):
+        return ": it is a link to a file that is not there"
+    if not os.path.exists(path):
+        return ": there is no such file"
+    return "" if os.access(path, os.R_OK) else ": you may not read it"
+
+
+def explained(line, configuration, text, report=None):
+    """What the program's line on standard error means, for the configuration at this path with these bytes (none where
+    they are not known), and the stored report at that path, or nothing."""
     fault = r"nesthv: configuration fault (\d+)(?: guest (\d+))?(?: key (\w+))?(?: value (-?\d+))?$"
     if found := re.match(fault, line):
-        with open(configuration, "rb") as file:
-            text = file.read()
         number, guest, value = (int(part) if part else None for part in (found[1], found[2], found[4]))
-        return of_configuration(text, number, guest, found[3], value)
+        document, why = parsed(text)
+        is_known = text is not None and (document is not None or number in (1, 9))
+        return of_configuration(text, number, guest, found[3], value) if is_known else ""
     if found := re.match(r"nesthv: read fault (\d+)$", line):
-        if found[1] == "1":
-            return f"{configuration} cannot be read"
-        with open(configuration, "rb") as file:
-            guest = guests_of(parsed(file.read())[0])[int(found[1]) - 2]
-        path = os.path.join(os.path.dirname(configuration), guest["image"])
-        return f"the image {path} of the guest {guest['name']!r} cannot be read" + (
-            ": there is no such file" if not os.path.exists(path) else "")
+        return of_read(int(found[1]), configuration, image_names(parsed(text)[0]), report)
     if line == "nesthv: write fault":
         return "the report could not be written: the disk is full, or the program that reads the pipe has ended"
     if line == "nesthv: out of memory":

@@ -1,33 +1,55 @@
-"""Says of an image, before it is run, why its first instruction cannot be what was meant."""
+"""Says of an image, before it is run, why its first instructions cannot be what was meant."""
+import os
+import stat
 import struct
 
 RAM = 0x80000000
+BUILD = "build it with `-march=rv64ima_zicsr_zifencei -mabi=lp64`"
 
 
-def elf_notices(image):
+def elf_notices(header):
     """What an ELF file says of itself."""
     notices = ["it is an ELF file, and no image: `riscv64-linux-gnu-objcopy -O binary IN OUT` makes one of it"]
-    if len(image) < 64 or image[4:6] != b"\x02\x01":
+    if len(header) < 64 or header[4:6] != b"\x02\x01":
         return notices + ["and it is none of 64 bits, little endian"]
-    machine, = struct.unpack_from("<H", image, 18)
-    entry, = struct.unpack_from("<Q", image, 24)
-    flags, = struct.unpack_from("<I", image, 48)
+    machine, = struct.unpack_from("<H", header, 18)
+    entry, = struct.unpack_from("<Q", header, 24)
+    flags, = struct.unpack_from("<I", header, 48)
     if machine != 243:
         return notices + ["and it is not for RISC-V"]
     if entry != RAM:
         notices.append(f"it starts at {entry:#x}, and a guest starts at {RAM:#x}: link it with `-Ttext={RAM:#x}`")
     if flags & 1:
-        notices.append("it has compressed instructions: build it with `-march=rv64ima_zicsr_zifencei -mabi=lp64`")
+        notices.append(f"it has compressed instructions: {BUILD}")
     return notices
 
 
-def notices_of(image):
-    """What is to be said of the bytes of an image."""
-    if image[:4] == b"\x7fELF":
-        return elf_notices(image)
-    if not any(image[:4]):
-        return ["it begins with zeros, which are no instruction" if image else "it is empty"]
-    if image[0] & 3 != 3:
-        return ["its first instruction is compressed, or it is no code: build it with "
-                "`-march=rv64ima_zicsr_zifencei -mabi=lp64`"]
+def notices_of(read):
+    """What is to be said of an image, of which `read` gives the bytes at an offset."""
+    header = read(0, 64)
+    if header[:4] == b"\x7fELF":
+        return elf_notices(header)
+    if not any(header[:4]):
+        return ["it begins with zeros, which are no instruction" if header else "it is empty"]
+    if header[0] & 3 != 3:
+        return [f"its first instruction is compressed, or it is no code: {BUILD}"]
     return []
+
+
+def notices_of_bytes(image):
+    return notices_of(lambda at, count: image[at:at + count])
+
+
+def notices_at(path):
+    """What is to be said of the file of an image. It is not read where it is no regular file: what a pipe gives can be
+    read once, and others have no end."""
+    try:
+        mode = os.stat(path).st_mode
+        if stat.S_ISDIR(mode):
+            return ["it is a folder, and no image"]
+        if not stat.S_ISREG(mode):
+            return []
+        with open(path, "rb") as file:
+            return notices_of(lambda at, count: os.pread(file.fileno(), count, at))
+    except (OSError, ValueError):
+        return []

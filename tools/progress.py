@@ -31,31 +31,35 @@ def turns_of(sums, most):
     return turns
 
 
+def toml_of(value):
+    """A value of a guest's key as TOML has it, which escapes one character more than JSON."""
+    return json.dumps(value, ensure_ascii=False).replace("\x7f", "\\u007f")
+
+
 def capped(document, most):
     """The text of this configuration, in which each guest makes at most `most` steps."""
     lines = ["format = 1", f"turns = {turns_of(sums_of(document), most)}"]
     for guest in document["guest"]:
         lines.append("[[guest]]")
-        lines += [f"{key} = {json.dumps(value, ensure_ascii=False)}" for key, value in guest.items()]
+        lines += [f"{key} = {toml_of(value)}" for key, value in guest.items()]
     return "\n".join(lines) + "\n"
 
 
-def show(program, folder, document, say):
+def show(program, path, folder, document, say):
     """Runs it with growing counts of steps, up to its own, and says for each how far the guests are. A configuration
-    that has a fault, or whose guests have all come to an end, is left to the whole run."""
-    try:
-        most = max(sums_of(document))
-    except (KeyError, TypeError, ValueError):
+    that is refused, or whose guests have all come to an end, is left to the whole run."""
+    if subprocess.run([program, "check", os.path.abspath(path)], cwd=folder, capture_output=True).returncode != 0:
         return
+    most = max(sums_of(document))
     steps = FIRST
     while steps < most:
         with tempfile.NamedTemporaryFile("w", suffix=".toml", encoding="utf-8") as file:
             file.write(capped(document, steps))
             file.flush()
             ran = subprocess.run([program, "run", os.path.abspath(file.name)], cwd=folder, capture_output=True)
-        if ran.returncode != 0:
+        sections = reports.sections_of(ran.stdout) if ran.returncode == 0 else None
+        if sections is None:
             return
-        sections = reports.sections_of(ran.stdout)
         far = ", ".join(f"{each['name']} {each['status']}, {each['bytes']} bytes" for each in sections)
         say(f"after {steps:,} steps of each guest: {far}")
         if all(each["status"] != "running" or each["steps"] < steps for each in sections):
