@@ -45,6 +45,30 @@ class Parser(argparse.ArgumentParser):
         write(self.format_help().encode())
 
 
+def number(least, most):
+    """Reads an option's integer, decimal or with 0x, from `least` to `most`."""
+    def parsed(text):
+        try:
+            value = int(text, 0)
+        except ValueError:
+            value = least - 1
+        if not least <= value <= most:
+            raise argparse.ArgumentTypeError("%s is no integer from %d to %d" % (text, least, most))
+        return value
+    return parsed
+
+
+def seconds(text):
+    """Reads an option's time, in seconds."""
+    try:
+        value = float(text)
+    except ValueError:
+        value = 0.0
+    if not 0 < value <= 1e6:
+        raise argparse.ArgumentTypeError(text + " is no time in seconds, above 0 and at most 1,000,000")
+    return value
+
+
 def hold_streams():
     """Opens what is closed of the three standard streams, so that no file gets its number. A write to an output that
     was closed fails."""

@@ -74,6 +74,11 @@ def first_wrong(pairs, first_most, second_most):
     return None
 
 
+def are_pairs_wrong(inputs):
+    """Whether the inputs of a guest are no pairs of a moment and a byte."""
+    return not isinstance(inputs, list) or first_wrong(inputs, 2**62 - 1, 255) is not None
+
+
 def frames_of(guest):
     return 512 * guest["blocks"] + 5 + guest["spaces"] * (4 + 2 * guest["entries"])
 

@@ -1,0 +1,109 @@
+"""Tests of what all tools have in common, and of tools/diagnose and tools/qemu-run."""
+import ast
+import os
+import shutil
+import struct
+import sys
+
+from helper import LETTER, LOOP, TOOLS, ToolTest
+
+PYTHON = [name for name in sorted(os.listdir(TOOLS)) if os.access(os.path.join(TOOLS, name), os.X_OK)
+          and os.path.isfile(os.path.join(TOOLS, name))]
+STORE = struct.pack("<2I", 0x100002B7, 0x00628023)  # lui t0, 0x10000; sb t1, 0(t0)
+
+
+class CommonTest(ToolTest):
+    def test_help(self):
+        for name in PYTHON:
+            ran = self.tool(f"tools/{name}", "--help")
+            self.check_plain(ran, 0)
+            self.assertTrue(ran.stdout.decode().startswith(f"usage: tools/{name}"))
+
+    def test_option_that_there_is_not(self):
+        for name in PYTHON:
+            self.check_plain(self.tool(f"tools/{name}", "--option-that-there-is-not"), 2)
+
+    def test_older_python(self):
+        """Python 3.6 can read what runs before the version is tested, and gets one line."""
+        for name in [*PYTHON, "common.py"]:
+            with open(os.path.join(TOOLS, name), encoding="utf-8") as file:
+                ast.parse(file.read(), feature_version=(3, 6))
+        script = f"import sys; sys.version_info = (3, 6, 0); sys.path.insert(0, {TOOLS!r}); import common"
+        ran = self.tool(sys.executable, "-c", script)
+        self.check_plain(ran, 1)
+        self.assertEqual(len(ran.lines), 1)
+        self.check_said(ran, "this needs Python 3.11 or later")
+
+
+class DiagnoseTest(ToolTest):
+    def test_first_trap(self):
+        self.put("hang.bin", STORE)
+        self.check_plain(self.tool("tools/diagnose", "hang.bin", "why.bin"), 0)
+        ran = self.tool("tools/run", self.configure(front="format = 1\nquantum = 20000\nrounds = 1\n",
+                                                    image='"why.bin"', console=2000))
+        for line in (b"sepc      0000000080000004", b"scause    0000000000000007", b"stval     0000000010000000"):
+            self.assertIn(line, ran.stdout)
+
+    def test_moment_of_the_clock(self):
+        self.put("loop.bin", LOOP * 2)
+        self.check_plain(self.tool("tools/diagnose", "--clock", "5000", "loop.bin", "why.bin"), 0)
+        ran = self.tool("tools/run", self.configure(front="format = 1\nquantum = 20000\nrounds = 1\n",
+                                                    image='"why.bin"', console=2000, input="[[5000, 0]]"))
+        for line in (b"sepc      0000000080000000", b"scause    8000000000000009"):
+            self.assertIn(line, ran.stdout)
+
+    def test_bad_options(self):
+        for words in (["--clock", "-5"], ["--clock", str(2**62)], ["--clock", "x"], ["--blocks", "0"],
+                      ["--blocks", "33"], ["--at", "-4096"], ["--at", "1"], ["--keep", "x"]):
+            self.check_plain(self.tool("tools/diagnose", *words, "a.bin", "b.bin"), 2)
+            self.assertFalse(os.path.exists(os.path.join(self.folder, "b.bin")))
+
+    def test_output_that_is_the_input(self):
+        os.link(os.path.join(self.folder, "a.bin"), os.path.join(self.folder, "b.bin"))
+        for name in ("a.bin", "b.bin", "./a.bin"):
+            ran = self.tool("tools/diagnose", "a.bin", name)
+            self.check_plain(ran, 2)
+            self.check_said(ran, "is the image itself")
+        with open(os.path.join(self.folder, "a.bin"), "rb") as file:
+            self.assertEqual(file.read(), LETTER)
+
+    def test_images_that_are_none(self):
+        for name, said in ((".", "Is a directory"), ("none", "No such file"), ("/dev/zero", "begins with zeros"),
+                           ("/dev/null", "it is empty")):
+            ran = self.tool("tools/diagnose", name, "b.bin")
+            self.check_plain(ran, 2)
+            self.check_said(ran, said)
+
+
+class QemuTest(ToolTest):
+    def setUp(self):
+        super().setUp()
+        if not shutil.which("qemu-system-riscv64"):
+            self.skipTest("qemu-system-riscv64 is not installed")
+
+    def test_console(self):
+        ran = self.tool("tools/qemu-run", self.configure())
+        self.check_plain(ran, 0)
+        self.assertEqual(ran.stdout, b"A")
+
+    def test_guest_that_does_not_stop(self):
+        self.put("loop.bin", LOOP)
+        ran = self.tool("tools/qemu-run", "--seconds", "0.5", "loop.bin")
+        self.check_plain(ran, 10)
+        self.check_said(ran, "not stopped after 0.5 seconds")
+
+    def test_bad_options(self):
+        path = self.configure()
+        for words, said in ((["--guest", "5", path], "there is no guest 5"), (["--guest", "-1", path], "no integer"),
+                            (["--seconds", "0", path], "no time"), (["none.toml"], "there is no such file"),
+                            (["none.bin"], "there is no such file"), (["."], "it is a folder")):
+            ran = self.tool("tools/qemu-run", *words)
+            self.check_plain(ran, 2)
+            self.check_said(ran, said)
+
+    def test_configurations_with_a_fault(self):
+        for keys in ({"image": None}, {"image": "1"}, {"blocks": "true"}, {"input": "[[1]]"}, {"console": None}):
+            ran = self.tool("tools/qemu-run", self.configure(**keys))
+            self.check_plain(ran, 2)
+            self.check_said(ran, "guest 0 of")
+        self.check_plain(self.tool("tools/qemu-run", self.put("b.toml", "=")), 2)
