@@ -1,4 +1,5 @@
 """Says in words what the program's line of a status means: which key, which range, which line of the file."""
+import difflib
 import os
 import re
 import stat
@@ -61,6 +62,30 @@ def image_names(document):
     return [name if isinstance(name, str) and name and "\0" not in name else None for name in names]
 
 
+def nearest(word, words):
+    """What the word may be meant as, in words, or nothing."""
+    found = difflib.get_close_matches(word, words, 1)
+    return f" (is it to be `{found[0]}`?)" if found else ""
+
+
+def misspelt(key, table, known):
+    """The key of a table that may be meant as this one, which it lacks, in words, or nothing."""
+    found = difflib.get_close_matches(key, [name for name in table if name not in known], 1)
+    return f" (is `{found[0]}` to be it?)" if found else ""
+
+
+def too_long(table, who, path):
+    """Why the image at this path does not fit, as far as its file says."""
+    has, most = table["blocks"] * BLOCK, MOST_BLOCKS * BLOCK
+    what = f"the image {path} of {who}"
+    if not os.path.isfile(path):
+        return f"{what} gives more than {has:,} bytes, and is no regular file: the guest's RAM has no more"
+    length = os.path.getsize(path)
+    if length > most:
+        return f"{what} has {length:,} bytes, and no guest has more RAM than {most:,}, which is `blocks = {MOST_BLOCKS}`"
+    return f"{what} has {length:,} bytes, and its RAM has {has:,}: `blocks = {-(-length // BLOCK)}` is enough"
+
+
 def is_integer(value, least, most):
     return isinstance(value, int) and not isinstance(value, bool) and least <= value <= most
 
@@ -89,9 +114,11 @@ def turns_wrong(document, count):
     if turns is not None and pair:
         return f"there are both `turns` and `{pair[0]}`: leave one of the two forms out"
     if turns is None and not pair:
-        return "there are no turns: add `quantum` and `rounds`, or `turns`, before the first `[[guest]]`"
+        near = next(filter(None, (misspelt(key, document, FILE_KEYS) for key in ("quantum", "rounds", "turns"))), "")
+        return f"there are no turns: add `quantum` and `rounds`, or `turns`, before the first `[[guest]]`{near}"
     if len(pair) == 1:
-        return f"`{pair[0]}` is there and `{'rounds' if pair[0] == 'quantum' else 'quantum'}` is not"
+        other = "rounds" if pair[0] == "quantum" else "quantum"
+        return f"`{pair[0]}` is there and `{other}` is not{misspelt(other, document, FILE_KEYS)}"
     if turns is None:
         if not is_integer(document["quantum"], 0, 2**32):
             return "`quantum` is an integer from 0 to 4,294,967,296"
@@ -120,8 +147,8 @@ def input_wrong(guest):
     return "`input` has more than 65,536 pairs"
 
 
-def of_configuration(text, number, guest, key, value):
-    """Why a configuration of these bytes is refused with this fault."""
+def of_configuration(folder, text, number, guest, key, value):
+    """Why a configuration of these bytes, in this folder, is refused with this fault."""
     document, why = parsed(text)
     guests = guests_of(document)
     table = guests[guest] if guest is not None and guest < len(guests) else {}
@@ -132,11 +159,13 @@ def of_configuration(text, number, guest, key, value):
             return f"it is no TOML: {why}" if why else \
                 "it is no TOML: an integer of more than 64 bits, or arrays, tables or dotted keys more than 80 deep"
         case 2:
-            return "`format` is to be 1" if "format" in document else "the file lacks `format = 1`"
+            return "`format` is to be 1" if "format" in document else \
+                f"the file lacks `format = 1`{misspelt('format', document, FILE_KEYS)}"
         case 3 if key == "guest":
-            return "the file has no guest: write `[[guest]]` once for each, and its keys below"
+            return "the file has no guest: write `[[guest]]` once for each, and its keys below" \
+                f"{misspelt('guest', document, FILE_KEYS)}"
         case 3:
-            return f"{who} lacks `{key}`: {RANGES[key]}"
+            return f"{who} lacks `{key}`: {RANGES[key]}{misspelt(key, table, GUEST_KEYS)}"
         case 4 if key == "guest" and isinstance(document.get("guest"), dict):
             return "`[guest]` is written for `[[guest]]`: two brackets on each side make one guest of several"
         case 4 if key == "guest":
@@ -155,7 +184,7 @@ def of_configuration(text, number, guest, key, value):
             return f"{who}: {input_wrong(table)}"
         case 8:
             there, known = (document, FILE_KEYS) if guest is None else (table, GUEST_KEYS)
-            extra = ", ".join(f"`{name}`" for name in there if name not in known)
+            extra = ", ".join(f"`{name}`{nearest(name, known)}" for name in there if name not in known)
             place = "the file" if guest is None else who
             is_misplaced = guest is not None and set(there) & set(FILE_KEYS)
             moved = "; keys of the file stand before the first `[[guest]]`" if is_misplaced else ""
@@ -163,8 +192,7 @@ def of_configuration(text, number, guest, key, value):
         case 9:
             return f"the file has {len(text)} bytes, and may have 65,536"
         case 10:
-            return f"the image {table.get('image')!r} of {who} is longer than its RAM of {table['blocks']} times " \
-                f"{BLOCK} bytes: raise `blocks`"
+            return too_long(table, who, os.path.join(folder, table["image"]))
         case 11:
             needs = "; ".join(f"{index}: {frames_of(each)}" for index, each in enumerate(guests))
             return f"the guests need {value} frames of 4,096 bytes, and there are {FRAMES}. By guest: {needs}"
@@ -175,8 +203,10 @@ def of_read(number, configuration, names, report):
     """Why the read of the file of this number fails, where the guests' images have these names."""
     if number == 1:
         return f"the configuration {configuration} cannot be read{unreadable(configuration)}"
-    if not 2 <= number < 2 + len(names):
-        return f"the stored report {report} cannot be read{unreadable(report)}" if report and names else ""
+    if not names:
+        return f"the image of guest {number - 2}" + (", or the stored report," if report else "") + " cannot be read"
+    if number >= 2 + len(names):
+        return f"the stored report {report} cannot be read{unreadable(report)}" if report else ""
     name = names[number - 2]
     if name is None:
         return f"the image of guest {number - 2} cannot be read"
@@ -201,9 +231,10 @@ def explained(line, configuration, text, report=None):
     fault = r"nesthv: configuration fault (\d+)(?: guest (\d+))?(?: key (\w+))?(?: value (-?\d+))?$"
     if found := re.match(fault, line):
         number, guest, value = (int(part) if part else None for part in (found[1], found[2], found[4]))
-        document, why = parsed(text)
+        document, _ = parsed(text)
         is_known = text is not None and (document is not None or number in (1, 9))
-        return of_configuration(text, number, guest, found[3], value) if is_known else ""
+        folder = os.path.dirname(configuration)
+        return of_configuration(folder, text, number, guest, found[3], value) if is_known else ""
     if found := re.match(r"nesthv: read fault (\d+)$", line):
         return of_read(int(found[1]), configuration, image_names(parsed(text)[0]), report)
     if line == "nesthv: write fault":

@@ -3,7 +3,9 @@ import os
 import stat
 import struct
 
-RAM = 0x80000000
+import entries
+
+RAM = entries.RAM
 BUILD = "build it with `-march=rv64ima_zicsr_zifencei -mabi=lp64`"
 
 
@@ -33,7 +35,10 @@ def notices_of(read):
         return ["it begins with zeros, which are no instruction" if header else "it is empty"]
     if header[0] & 3 != 3:
         return [f"its first instruction is compressed, or it is no code: {BUILD}"]
-    return []
+    wrong = entries.wrong_place(read)
+    if wrong is None:
+        return []
+    return [f"the code comes to {wrong:#x}, where there is compressed code, or none: {BUILD}"]
 
 
 def notices_of_bytes(image):
