@@ -1,0 +1,136 @@
+"""Tests of tools/batch: outcomes, reports that are kept, forms of output, and how it ends."""
+import json
+import os
+import signal
+import subprocess
+import time
+from xml.etree import ElementTree
+
+from helper import LETTER, LETTER_REPORT, LOOP, TOOLS, ToolTest
+
+ENDLESS = "format = 1\nquantum = 4294967296\nrounds = 1000\n"
+
+
+class BatchTest(ToolTest):
+    def setUp(self):
+        super().setUp()
+        self.configure("kept/a.toml")
+        self.put("kept/a.bin", LETTER)
+        self.put("kept/a.report", LETTER_REPORT)
+        self.put("kept/loop.bin", LOOP)
+
+    def batch(self, *words, **options):
+        return self.tool("tools/batch", *words, "kept", **options)
+
+    def exists(self, name):
+        return os.path.exists(os.path.join(self.folder, "kept", name))
+
+    def lines_of(self, ran, status):
+        self.check_plain(ran, status)
+        return ran.stdout.decode().splitlines()
+
+    def test_same(self):
+        self.assertEqual(self.lines_of(self.batch(), 0), ["PASS a.toml", "# 1 of 1 passed"])
+
+    def test_difference(self):
+        self.put("kept/a.report", LETTER_REPORT.replace(b"\nA", b"\nB").replace(b"steps 5", b"steps 6"))
+        self.assertEqual(self.lines_of(self.batch(), 1), [
+            "FAIL a.toml the report differs from the stored one at 22",
+            "# guest a: steps 6 -> 5, console byte 0: 'B' -> 'A'", "# 0 of 1 passed"])
+        with open(os.path.join(self.folder, "kept/a.report.now"), "rb") as file:
+            self.assertEqual(file.read(), LETTER_REPORT)
+        self.assertEqual(self.lines_of(self.batch("--store"), 0), ["PASS a.toml stored", "# 1 of 1 passed"])
+        self.assertFalse(self.exists("a.report.now"))
+        self.assertEqual(self.lines_of(self.batch(), 0)[0], "PASS a.toml")
+
+    def test_no_stored_report(self):
+        self.configure("kept/b.toml", image='"loop.bin"')
+        os.remove(os.path.join(self.folder, "kept/a.report"))
+        self.assertEqual(self.lines_of(self.batch(), 1), [
+            "PASS a.toml", "FAIL b.toml not every guest has stopped", "# guest a is running", "# 1 of 2 passed"])
+
+    def test_causes(self):
+        self.configure("kept/b.toml", consle=1)
+        self.configure("kept/c.toml", image='"none.bin"')
+        os.mkdir(os.path.join(self.folder, "kept/d.report"))
+        self.configure("kept/d.toml")
+        lines = self.lines_of(self.batch(), 1)
+        self.assertEqual([line for line in lines if line[0] != "#"], [
+            "PASS a.toml", "FAIL b.toml status 2", "FAIL c.toml status 3", "FAIL d.toml status 3"])
+        for words in ("# nesthv: configuration fault 8 guest 0", "is it to be `console`?", "none.bin of guest 0 cannot be "
+                      "read: there is no such file", "d.report cannot be read: it is a folder"):
+            self.assertTrue(any(words in line for line in lines), (words, lines))
+
+    def test_time_that_is_over(self):
+        self.configure("kept/b.toml", front=ENDLESS, image='"loop.bin"')
+        self.assertEqual(self.lines_of(self.batch("--seconds", "1"), 1), [
+            "PASS a.toml", "LATE b.toml after 1 seconds", "# 1 of 2 passed"])
+
+    def test_first(self):
+        self.put("kept/a.report", b"")
+        for number in range(4):
+            self.configure(f"kept/b{number}.toml", front=ENDLESS, image='"loop.bin"')
+        lines = self.lines_of(self.batch("--first", "--jobs", "2"), 1)
+        self.assertEqual(lines[0], "FAIL a.toml the report differs from the stored one at 0")
+        self.assertEqual(lines[-1], "# 0 of 5 passed, 4 not run")
+
+    def test_filter_and_times(self):
+        self.configure("kept/b.toml")
+        self.configure("kept/b1.toml")
+        for words, names in ((["--only", "b*"], "b b1"), (["--only", "b"], "b"), (["--only", "a", "--only", "b1"], "a b1")):
+            lines = self.lines_of(self.batch(*words), 0)
+            self.assertEqual(lines[:-1], [f"PASS {name}.toml" for name in names.split()])
+        self.assertRegex(self.lines_of(self.batch("--only", "a", "--times"), 0)[0], r"^PASS a.toml \(\d+\.\d\d s\)$")
+        ran = self.batch("--only", "c")
+        self.check_plain(ran, 2)
+        self.check_said(ran, "no `.toml` in kept whose name fits c")
+
+    def test_tap(self):
+        self.put("kept/b.report", b"guest")
+        self.configure("kept/b.toml")
+        self.assertEqual(self.lines_of(self.batch("--tap"), 1), [
+            "1..2", "ok 1 - a.toml: PASS", "not ok 2 - b.toml: FAIL the report differs from the stored one at 5",
+            "# the stored report is no whole report, and differs at byte 5", "# 1 of 2 passed"])
+
+    def test_json_and_junit(self):
+        self.put("kept/b.report", b"guest")
+        self.configure("kept/b.toml")
+        ran = self.batch("--json", "--junit", "out.xml")
+        self.check_plain(ran, 1)
+        self.assertEqual([(each["name"], each["outcome"]) for each in json.loads(ran.stdout)],
+                         [("a.toml", "PASS"), ("b.toml", "FAIL")])
+        suite = ElementTree.parse(os.path.join(self.folder, "out.xml")).getroot()
+        self.assertEqual((suite.tag, suite.get("tests"), suite.get("failures")), ("testsuite", "2", "1"))
+        cases = {case.get("name"): case.find("failure") for case in suite}
+        self.assertIsNone(cases["a.toml"])
+        self.assertIn("the report differs from the stored one at 5", cases["b.toml"].get("message"))
+
+    def test_many(self):
+        """Sixty configurations take some seconds."""
+        for number in range(60):
+            self.configure(f"kept/b{number}.toml")
+        begin = time.monotonic()
+        self.assertEqual(self.lines_of(self.batch(), 0)[-1], "# 61 of 61 passed")
+        self.assertLess(time.monotonic() - begin, 30)
+
+    def test_bad_words(self):
+        for words in (["--jobs", "0"], ["--seconds", "-1"], ["--tap", "--json"], ["--sshlogin", ":", "--tap"]):
+            self.check_plain(self.batch(*words), 2)
+        ran = self.tool("tools/batch", "none")
+        self.check_plain(ran, 2)
+        self.check_said(ran, "none: No such file or directory")
+        self.check_plain(self.tool("tools/batch", "--program", "none", "kept"), 2)
+
+    def test_output_that_fails(self):
+        for words in ([], ["--json"], ["--tap"]):
+            with open("/dev/full", "wb") as full:
+                self.check_plain(self.batch(*words, stdout=full), 2)
+
+    def test_interrupt(self):
+        self.configure("kept/b.toml", front=ENDLESS, image='"loop.bin"')
+        started = subprocess.Popen([f"{TOOLS}/batch", os.path.join(self.folder, "kept")], stdout=subprocess.PIPE,
+                                   stderr=subprocess.PIPE, env={**os.environ, "NESTHV": f"{TOOLS}/../dist/nesthv"})
+        self.assertEqual(started.stdout.readline(), b"PASS a.toml\n")
+        started.send_signal(signal.SIGINT)
+        _, lines = started.communicate(timeout=20)
+        self.assertEqual((started.returncode, lines), (130, b"tools/batch: interrupted\n"))
