@@ -75,6 +75,39 @@ class DiagnoseTest(ToolTest):
             self.check_said(ran, said)
 
 
+class QemuVersionTest(ToolTest):
+    """By a script that stands for QEMU 10."""
+
+    QEMU = {"QEMU": os.path.join(TOOLS, "tests", "fake-qemu")}
+
+    def test_words_of_versions(self):
+        import qemu
+        for version, words in (((7, 2), ""), ((8, 1), ",Zfa=false"), ((8, 2), ",zfa=false"), ((10, 0), ",zfa=false")):
+            self.assertEqual(qemu.cpu_words(version), "rv64,h=true,c=false,d=false,f=false" + words)
+
+    def test_version_10(self):
+        ran = self.tool("tools/qemu-run", self.configure(), variables=self.QEMU)
+        self.check_plain(ran, 0)
+        self.assertEqual(ran.stdout, b"A")
+
+    def test_run_that_fails(self):
+        ran = self.tool("tools/qemu-run", "--cpu", "rv64", self.configure(), variables=self.QEMU)
+        self.check_plain(ran, 11)
+        self.check_said(ran, "failed: status 1")
+
+    def test_failed_runs_are_no_known_differences(self):
+        failing = self.put("qemu", "#!/bin/sh\necho version 10.0\nexit 1\n")
+        os.chmod(failing, 0o755)
+        ran = self.tool("tools/qemu-compare", variables={"QEMU": failing})
+        self.check_plain(ran, 1)
+        self.assertEqual(ran.stdout.decode().splitlines()[-1], "same=0 known=0 wrong=0 failed=16")
+
+    def test_no_qemu(self):
+        ran = self.tool("tools/qemu-run", self.configure(), variables={"QEMU": "none"})
+        self.check_plain(ran, 2)
+        self.check_said(ran, "from Debian 13 on qemu-system-riscv")
+
+
 class QemuTest(ToolTest):
     def setUp(self):
         super().setUp()
