@@ -79,6 +79,8 @@ def hold_streams():
             os.open(os.devnull, mode)
     sys.stdout = sys.stdout or open(1, "w", closefd=False)
     sys.stderr = sys.stderr or open(2, "w", closefd=False)
+    for stream in (sys.stdout, sys.stderr):  # the name of a file may be no text
+        stream.reconfigure(errors="backslashreplace")
 
 
 def are_flushed():

@@ -216,12 +216,14 @@ def of_read(number, configuration, names, report):
 
 def unreadable(path):
     """Why the file at this path cannot be read, as far as that shows."""
-    if os.path.isdir(path):
+    try:
+        mode = os.stat(path).st_mode
+    except FileNotFoundError:
+        return ": it is a link to a file that is not there" if os.path.islink(path) else ": there is no such file"
+    except (OSError, ValueError) as error:
+        return f": {getattr(error, 'strerror', error)}"
+    if stat.S_ISDIR(mode):
         return ": it is a folder"
-    if os.path.lexists(path) and not os.path.exists(path):
-        return ": it is a link to a file that is not there"
-    if not os.path.exists(path):
-        return ": there is no such file"
     return "" if os.access(path, os.R_OK) else ": you may not read it"
 
 
@@ -237,6 +239,8 @@ def explained(line, configuration, text, report=None):
         return of_configuration(folder, text, number, guest, found[3], value) if is_known else ""
     if found := re.match(r"nesthv: read fault (\d+)$", line):
         return of_read(int(found[1]), configuration, image_names(parsed(text)[0]), report)
+    if line.startswith("nesthv: usage: "):
+        return "the name of a file is no UTF-8, which the program wants"
     if line == "nesthv: write fault":
         return "the report could not be written: the disk is full, or the program that reads the pipe has ended"
     if line == "nesthv: out of memory":

@@ -39,9 +39,12 @@ def is_of(path, folder):
 
 def is_of_these_sources():
     """Whether dist/nesthv was made of the sources that are here."""
-    ran = subprocess.run([os.path.join(DIST, "sources")], stdout=subprocess.PIPE, text=True)
-    with open(os.path.join(DIST, "MADE"), encoding="utf-8") as file:
-        return f"sources {ran.stdout.strip()}" in file.read().splitlines()
+    try:
+        ran = subprocess.run([os.path.join(DIST, "sources")], stdout=subprocess.PIPE, text=True)
+        with open(os.path.join(DIST, "MADE"), encoding="utf-8") as file:
+            return f"sources {ran.stdout.strip()}" in file.read().splitlines()
+    except OSError:
+        return False
 
 
 def is_older_than_sources(program):

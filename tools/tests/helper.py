@@ -43,7 +43,7 @@ class ToolTest(unittest.TestCase):
         """Runs a tool in the folder, by the program of dist/, and gives what it wrote and its status."""
         options = {"cwd": self.folder, "stdin": subprocess.DEVNULL, "stdout": subprocess.PIPE, **options}
         variables = {**os.environ, "NESTHV": PROGRAM, **options.pop("variables", {})}
-        ran = subprocess.run([os.path.join(TOP, name), *words], stderr=subprocess.PIPE, timeout=60, env=variables,
+        ran = subprocess.run([os.path.join(TOP, name), *words], stderr=subprocess.PIPE, timeout=120, env=variables,
                              **options)
         ran.lines = ran.stderr.decode(errors="replace").splitlines()
         return ran

@@ -63,8 +63,8 @@ class BatchTest(ToolTest):
 
     def test_time_that_is_over(self):
         self.configure("kept/b.toml", front=ENDLESS, image='"loop.bin"')
-        self.assertEqual(self.lines_of(self.batch("--seconds", "1"), 1), [
-            "PASS a.toml", "LATE b.toml after 1 seconds", "# 1 of 2 passed"])
+        self.assertEqual(self.lines_of(self.batch("--seconds", "3"), 1), [
+            "PASS a.toml", "LATE b.toml after 3 seconds", "# 1 of 2 passed"])
 
     def test_first(self):
         self.put("kept/a.report", b"")
@@ -111,7 +111,15 @@ class BatchTest(ToolTest):
             self.configure(f"kept/b{number}.toml")
         begin = time.monotonic()
         self.assertEqual(self.lines_of(self.batch(), 0)[-1], "# 61 of 61 passed")
-        self.assertLess(time.monotonic() - begin, 30)
+        self.assertLess(time.monotonic() - begin, 60)
+
+    def test_names_that_are_no_text(self):
+        path = os.path.join(os.fsencode(self.folder), b"kept", b"\xff.toml")
+        with open(self.configure("kept/a.toml"), "rb") as file, open(path, "wb") as other:
+            other.write(file.read())
+        for words in ([], ["--tap"], ["--json"], ["--junit", "out.xml"]):
+            self.check_plain(self.batch(*words), 1)
+        self.assertIn("is no UTF-8", self.batch().stdout.decode())
 
     def test_bad_words(self):
         for words in (["--jobs", "0"], ["--seconds", "-1"], ["--tap", "--json"], ["--sshlogin", ":", "--tap"]):

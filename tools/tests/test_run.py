@@ -107,6 +107,12 @@ class ProgramTest(ToolTest):
             self.check_plain(ran, 2)
             self.check_said(ran, f"{program} is no program")
 
+    def test_program_that_cannot_be_run(self):
+        for text in ("#!/none/none\n", "none"):
+            ran = self.tool("tools/run", "--program", self.copy("odd", text), self.configure())
+            self.check_plain(ran, 2)
+            self.check_said(ran, "cannot be run")
+
     def test_program_that_writes_no_report(self):
         path = self.configure()
         for option in ([], ["--json"], ["--expect", "stopped"]):
@@ -207,6 +213,15 @@ class ImageTest(ToolTest):
         self.check_plain(ran, 3)
         self.check_said(ran, "the stored report")
         self.check_said(ran, "none cannot be read: there is no such file")
+
+    def test_other_reasons(self):
+        os.symlink("none", os.path.join(self.folder, "link"))
+        os.symlink("round", os.path.join(self.folder, "round"))
+        for name, words in (("link", "it is a link to a file that is not there"), ("a.bin/x", "Not a directory"),
+                            ("round", "Too many levels of symbolic links")):
+            ran = self.tool("tools/run", self.configure(image=f'"{name}"'))
+            self.check_plain(ran, 3)
+            self.check_said(ran, words)
 
     def test_elf_file(self):
         ran = self.tool("tools/run", self.configure(image=f'"{sys.executable}"', blocks=32))

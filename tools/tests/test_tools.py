@@ -119,6 +119,9 @@ class QemuTest(ToolTest):
         self.check_plain(ran, 0)
         self.assertEqual(ran.stdout, b"A")
 
+    def test_image_with_a_comma_in_its_name(self):
+        self.assertEqual(self.tool("tools/qemu-run", self.put("b,c=d.bin", LETTER)).stdout, b"A")
+
     def test_guest_that_does_not_stop(self):
         self.put("loop.bin", LOOP)
         ran = self.tool("tools/qemu-run", "--seconds", "0.5", "loop.bin")
