@@ -1,5 +1,5 @@
-"""What the tools share: the folders, the lines that they say, and how they end. Python 3.6 has to be able to read this
-file and each tool, so that it can say which version is needed.
+"""What the tools share: the folders, the lines that they say, and how they end. Python 3.6 has to be able to
+read this file and each tool, so that it can say which version is needed.
 """
 import os
 import sys
@@ -70,8 +70,8 @@ def seconds(text):
 
 
 def hold_streams():
-    """Opens what is closed of the three standard streams, so that no file gets its number. A write to an output that
-    was closed fails."""
+    """Opens what is closed of the three standard streams, so that no file gets its number. A write to an
+    output that was closed fails."""
     for number, mode in (0, os.O_RDONLY), (1, os.O_RDONLY), (2, os.O_WRONLY):
         try:
             os.fstat(number)

@@ -1,5 +1,5 @@
-"""Follows the code of an image from its first instruction, as far as the image alone says where it goes, and finds what
-is no instruction of four bytes there: compressed code, or none.
+"""Follows the code of an image from its first instruction, as far as the image alone says where it goes, and
+finds what is no instruction of four bytes there: compressed code, or none.
 """
 import struct
 
@@ -16,11 +16,13 @@ def signed(value, bits):
 
 
 def jump_offset(word):
-    return signed(word >> 31 << 20 | (word >> 12 & 0xFF) << 12 | (word >> 20 & 1) << 11 | (word >> 21 & 0x3FF) << 1, 21)
+    low = (word >> 20 & 1) << 11 | (word >> 21 & 0x3FF) << 1
+    return signed(word >> 31 << 20 | (word >> 12 & 0xFF) << 12 | low, 21)
 
 
 def branch_offset(word):
-    return signed(word >> 31 << 12 | (word >> 7 & 1) << 11 | (word >> 25 & 0x3F) << 5 | (word >> 8 & 0xF) << 1, 13)
+    low = (word >> 25 & 0x3F) << 5 | (word >> 8 & 0xF) << 1
+    return signed(word >> 31 << 12 | (word >> 7 & 1) << 11 | low, 13)
 
 
 class Path:
@@ -43,7 +45,8 @@ class Path:
 
 
 def paths_after(path, word):
-    """The paths that go on behind this word of a path. Where it cannot be told whether code follows, there is none."""
+    """The paths that go on behind this word of a path. Where it cannot be told whether code follows, there is
+    none."""
     kind, target, source, form = word & 0x7F, word >> 7 & 31, word >> 15 & 31, word >> 12 & 7
     following = path.at + 4
     if kind == 0x6F:
@@ -65,7 +68,7 @@ def paths_after(path, word):
         path.set(target, path.sum_of(source, signed(word >> 20, 12)) if form == 0 else None)
     elif kind in LOADS_AND_SUMS:
         path.set(target, None)
-    elif kind != 0x23 and word & 0x707F != 0x0F:  # FENCE.I comes where code was written, which the image does not have
+    elif kind != 0x23 and word & 0x707F != 0x0F:  # behind FENCE.I may be code that the image does not have
         return []
     path.at = following
     return [path]

@@ -24,8 +24,8 @@ FILE_KEYS = ["format", "guest", "turns", "quantum", "rounds"]
 
 
 def text_of(path):
-    """The bytes of the configuration at this path, as many as the program reads, or none where it is no regular file:
-    what a pipe gives can be read once."""
+    """The bytes of the configuration at this path, as many as the program reads, or none where it is no
+    regular file: what a pipe gives can be read once."""
     try:
         if stat.S_ISREG(os.stat(path).st_mode):
             with open(path, "rb") as file:
@@ -45,7 +45,7 @@ def parsed(text):
         return None, f"the byte at offset {error.start} is no UTF-8"
     except tomllib.TOMLDecodeError as error:
         return None, str(error)
-    except (RecursionError, ValueError):  # deep nesting; an integer of thousands of digits; a date that is none
+    except (RecursionError, ValueError):  # deep nesting; an integer of thousands of digits
         return None, ""
 
 
@@ -82,7 +82,8 @@ def too_long(table, who, path):
         return f"{what} gives more than {has:,} bytes, and is no regular file: the guest's RAM has no more"
     length = os.path.getsize(path)
     if length > most:
-        return f"{what} has {length:,} bytes, and no guest has more RAM than {most:,}, which is `blocks = {MOST_BLOCKS}`"
+        return f"{what} has {length:,} bytes, and no guest has more RAM than {most:,}, which is " \
+            f"`blocks = {MOST_BLOCKS}`"
     return f"{what} has {length:,} bytes, and its RAM has {has:,}: `blocks = {-(-length // BLOCK)}` is enough"
 
 
@@ -114,7 +115,8 @@ def turns_wrong(document, count):
     if turns is not None and pair:
         return f"there are both `turns` and `{pair[0]}`: leave one of the two forms out"
     if turns is None and not pair:
-        near = next(filter(None, (misspelt(key, document, FILE_KEYS) for key in ("quantum", "rounds", "turns"))), "")
+        near = next(filter(None, (misspelt(key, document, FILE_KEYS)
+                                  for key in ("quantum", "rounds", "turns"))), "")
         return f"there are no turns: add `quantum` and `rounds`, or `turns`, before the first `[[guest]]`{near}"
     if len(pair) == 1:
         other = "rounds" if pair[0] == "quantum" else "quantum"
@@ -139,60 +141,92 @@ def input_wrong(guest):
         return "`input` is an array of pairs, `[[10, 72], [500, 105]]`"
     wrong = first_wrong(inputs, 2**62 - 1, 255)
     if wrong is not None:
-        return f"element {wrong} of `input` is {inputs[wrong]!r}: it is to be [moment, byte], a moment below 2^62 " \
-            "and a byte from 0 to 255"
+        return f"element {wrong} of `input` is {inputs[wrong]!r}: it is to be [moment, byte], a moment " \
+            "below 2^62 and a byte from 0 to 255"
     for index in range(1, len(inputs)):
         if inputs[index][0] < inputs[index - 1][0]:
-            return f"element {index} of `input` has the moment {inputs[index][0]}, which is less than the one before"
+            return f"element {index} of `input` has the moment {inputs[index][0]}, which is less than the " \
+                "one before"
     return "`input` has more than 65,536 pairs"
+
+
+class Guest:
+    """The guest that a fault names, if it names one: its number, its table, and what it is called."""
+
+    def __init__(self, document, number):
+        guests = guests_of(document)
+        self.number = number
+        self.table = guests[number] if number is not None and number < len(guests) else {}
+        self.before = guests[:number]
+        name = self.table.get("name")
+        self.who = f"guest {number} ({name!r})" if isinstance(name, str) else f"guest {number}"
+
+    def name_wrong(self):
+        if self.table.get("name") in [other.get("name") for other in self.before]:
+            return f"`name` of {self.who}: a guest before it has the same name"
+        return f"`name` of {self.who}: it is to be {RANGES['name']}"
+
+    def value_wrong(self, key, value):
+        shown = f"{value}" if value is not None else repr(self.table.get(key))
+        return f"`{key}` of {self.who} is {shown}: it is to be {RANGES[key]}"
+
+    def extra_keys(self, document):
+        """Which keys the guest, or without one the file, has and should not."""
+        is_file = self.number is None
+        there, known = (document, FILE_KEYS) if is_file else (self.table, GUEST_KEYS)
+        extra = ", ".join(f"`{name}`{nearest(name, known)}" for name in there if name not in known)
+        is_misplaced = not is_file and set(there) & set(FILE_KEYS)
+        moved = "; keys of the file stand before the first `[[guest]]`" if is_misplaced else ""
+        who = "the file" if is_file else self.who
+        return f"{who} has {extra}, and its keys are {', '.join(known)}{moved}"
+
+
+def guests_wrong(document, value):
+    """What is wrong with the array of guests."""
+    if isinstance(document.get("guest"), dict):
+        return "`[guest]` is written for `[[guest]]`: two brackets on each side make one guest of several"
+    return f"there are {value} guests, and there may be 1 to 16" if value is not None else \
+        "`guest` is an array of tables: write `[[guest]]` once for each guest"
+
+
+def file_lacks(key, document):
+    said = {"format": "the file lacks `format = 1`",
+            "guest": "the file has no guest: write `[[guest]]` once for each, and its keys below"}
+    return said[key] + misspelt(key, document, FILE_KEYS)
+
+
+def no_toml(why):
+    other = "an integer of more than 64 bits, or arrays, tables or dotted keys more than 80 deep"
+    return f"it is no TOML: {why or other}"
 
 
 def of_configuration(folder, text, number, guest, key, value):
     """Why a configuration of these bytes, in this folder, is refused with this fault."""
     document, why = parsed(text)
-    guests = guests_of(document)
-    table = guests[guest] if guest is not None and guest < len(guests) else {}
-    who = f"guest {guest} ({table['name']!r})" if isinstance(table.get("name"), str) else f"guest {guest}"
-    document = document or {}
+    document, guests, named = document or {}, guests_of(document), Guest(document, guest)
     match number:
         case 1:
-            return f"it is no TOML: {why}" if why else \
-                "it is no TOML: an integer of more than 64 bits, or arrays, tables or dotted keys more than 80 deep"
+            return no_toml(why)
         case 2:
-            return "`format` is to be 1" if "format" in document else \
-                f"the file lacks `format = 1`{misspelt('format', document, FILE_KEYS)}"
+            return "`format` is to be 1" if "format" in document else file_lacks("format", document)
         case 3 if key == "guest":
-            return "the file has no guest: write `[[guest]]` once for each, and its keys below" \
-                f"{misspelt('guest', document, FILE_KEYS)}"
+            return file_lacks("guest", document)
         case 3:
-            return f"{who} lacks `{key}`: {RANGES[key]}{misspelt(key, table, GUEST_KEYS)}"
-        case 4 if key == "guest" and isinstance(document.get("guest"), dict):
-            return "`[guest]` is written for `[[guest]]`: two brackets on each side make one guest of several"
-        case 4 if key == "guest":
-            return f"there are {value} guests, and there may be 1 to 16" if value is not None else \
-                "`guest` is an array of tables: write `[[guest]]` once for each guest"
+            return f"{named.who} lacks `{key}`: {RANGES[key]}{misspelt(key, named.table, GUEST_KEYS)}"
         case 4:
-            shown = f"{value}" if value is not None else repr(table.get(key))
-            return f"`{key}` of {who} is {shown}: it is to be {RANGES[key]}"
+            return guests_wrong(document, value) if key == "guest" else named.value_wrong(key, value)
         case 5:
-            again = table.get("name") in [other.get("name") for other in guests[:guest]]
-            return f"`name` of {who}: " + (
-                "a guest before it has the same name" if again else f"it is to be {RANGES['name']}")
+            return named.name_wrong()
         case 6:
             return turns_wrong(document, len(guests))
         case 7:
-            return f"{who}: {input_wrong(table)}"
+            return f"{named.who}: {input_wrong(named.table)}"
         case 8:
-            there, known = (document, FILE_KEYS) if guest is None else (table, GUEST_KEYS)
-            extra = ", ".join(f"`{name}`{nearest(name, known)}" for name in there if name not in known)
-            place = "the file" if guest is None else who
-            is_misplaced = guest is not None and set(there) & set(FILE_KEYS)
-            moved = "; keys of the file stand before the first `[[guest]]`" if is_misplaced else ""
-            return f"{place} has {extra}, and its keys are {', '.join(known)}{moved}"
+            return named.extra_keys(document)
         case 9:
-            return f"the file has {len(text)} bytes, and may have 65,536"
+            return f"the file has more than {MOST_BYTES:,} bytes, which are the most"
         case 10:
-            return too_long(table, who, os.path.join(folder, table["image"]))
+            return too_long(named.table, named.who, os.path.join(folder, named.table["image"]))
         case 11:
             needs = "; ".join(f"{index}: {frames_of(each)}" for index, each in enumerate(guests))
             return f"the guests need {value} frames of 4,096 bytes, and there are {FRAMES}. By guest: {needs}"
@@ -204,7 +238,7 @@ def of_read(number, configuration, names, report):
     if number == 1:
         return f"the configuration {configuration} cannot be read{unreadable(configuration)}"
     if not names:
-        return f"the image of guest {number - 2}" + (", or the stored report," if report else "") + " cannot be read"
+        return f"the image of guest {number - 2}{', or the stored report,' if report else ''} cannot be read"
     if number >= 2 + len(names):
         return f"the stored report {report} cannot be read{unreadable(report)}" if report else ""
     name = names[number - 2]
@@ -219,7 +253,8 @@ def unreadable(path):
     try:
         mode = os.stat(path).st_mode
     except FileNotFoundError:
-        return ": it is a link to a file that is not there" if os.path.islink(path) else ": there is no such file"
+        is_link = os.path.islink(path)
+        return ": it is a link to a file that is not there" if is_link else ": there is no such file"
     except (OSError, ValueError) as error:
         return f": {getattr(error, 'strerror', error)}"
     if stat.S_ISDIR(mode):
@@ -228,8 +263,8 @@ def unreadable(path):
 
 
 def explained(line, configuration, text, report=None):
-    """What the program's line on standard error means, for the configuration at this path with these bytes (none where
-    they are not known), and the stored report at that path, or nothing."""
+    """What the program's line on standard error means, for the configuration at this path with these bytes
+    (none where they are not known), and the stored report at that path, or nothing."""
     fault = r"nesthv: configuration fault (\d+)(?: guest (\d+))?(?: key (\w+))?(?: value (-?\d+))?$"
     if found := re.match(fault, line):
         number, guest, value = (int(part) if part else None for part in (found[1], found[2], found[4]))
@@ -242,7 +277,9 @@ def explained(line, configuration, text, report=None):
     if line.startswith("nesthv: usage: "):
         return "the name of a file is no UTF-8, which the program wants"
     if line == "nesthv: write fault":
-        return "the report could not be written: the disk is full, or the program that reads the pipe has ended"
+        return "the report could not be written: the disk is full, or the program that reads the pipe has " \
+            "ended"
     if line == "nesthv: out of memory":
-        return "there is no memory for the files, the guests' memory or a console: lower `blocks`, or free memory"
+        return "there is no memory for the files, the guests' memory or a console: lower `blocks`, or free " \
+            "memory"
     return ""

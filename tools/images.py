@@ -11,7 +11,8 @@ BUILD = "build it with `-march=rv64ima_zicsr_zifencei -mabi=lp64`"
 
 def elf_notices(header):
     """What an ELF file says of itself."""
-    notices = ["it is an ELF file, and no image: `riscv64-linux-gnu-objcopy -O binary IN OUT` makes one of it"]
+    notices = ["it is an ELF file, and no image: `riscv64-linux-gnu-objcopy -O binary IN OUT` makes one of "
+               "it"]
     if len(header) < 64 or header[4:6] != b"\x02\x01":
         return notices + ["and it is none of 64 bits, little endian"]
     machine, = struct.unpack_from("<H", header, 18)
@@ -20,7 +21,8 @@ def elf_notices(header):
     if machine != 243:
         return notices + ["and it is not for RISC-V"]
     if entry != RAM:
-        notices.append(f"it starts at {entry:#x}, and a guest starts at {RAM:#x}: link it with `-Ttext={RAM:#x}`")
+        notices.append(f"it starts at {entry:#x}, and a guest starts at {RAM:#x}: link it with "
+                       f"`-Ttext={RAM:#x}`")
     if flags & 1:
         notices.append(f"it has compressed instructions: {BUILD}")
     return notices
@@ -46,8 +48,8 @@ def notices_of_bytes(image):
 
 
 def notices_at(path):
-    """What is to be said of the file of an image. It is not read where it is no regular file: what a pipe gives can be
-    read once, and others have no end."""
+    """What is to be said of the file of an image. It is not read where it is no regular file: what a pipe
+    gives can be read once, and others have no end."""
     try:
         mode = os.stat(path).st_mode
         if stat.S_ISDIR(mode):

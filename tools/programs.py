@@ -50,7 +50,8 @@ def is_of_these_sources():
 def is_older_than_sources(program):
     """Whether a source of a crate has changed since this program was built."""
     built = os.path.getmtime(program)
-    return any(os.path.getmtime(path) > built for path in glob.glob(os.path.join(common.TOP, "crates", "*", "s*", "*")))
+    return any(os.path.getmtime(path) > built
+               for path in glob.glob(os.path.join(common.TOP, "crates", "*", "s*", "*")))
 
 
 def is_program(path):
@@ -67,14 +68,15 @@ def named(path):
 
 
 def proved():
-    """The proved program: of a folder where tools/install has put it, or of a repository that of dist/ where it has
-    the SHA-256 that stands beside it, else the one that `rt run` has built; or none."""
+    """The proved program: of a folder where tools/install has put it, or of a repository that of dist/ where
+    it has the SHA-256 that stands beside it, else the one that `rt run` has built; or none."""
     if is_of(INSTALLED, common.TOOLS) and is_program(INSTALLED):
         return Program(os.path.realpath(INSTALLED), True)
     path = os.path.join(DIST, "nesthv")
     is_here = (platform.system(), platform.machine()) == ("Linux", "x86_64")
     if is_here and is_program(path) and is_of(path, DIST):
-        return Program(path, True, "" if is_of_these_sources() else "is of other sources; dist/check says more")
+        notice = "" if is_of_these_sources() else "is of other sources; dist/check says more"
+        return Program(path, True, notice)
     if is_program(BUILT):
         return Program(BUILT, True, "is older than the sources" if is_older_than_sources(BUILT) else "")
     return None

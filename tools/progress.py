@@ -1,5 +1,5 @@
-"""Runs a configuration with fewer steps first, to show how far its guests come. Runs compose and a console only grows,
-so each report is what the whole run has come to at that moment.
+"""Runs a configuration with fewer steps first, to show how far its guests come. Runs compose and a console
+only grows, so each report is what the whole run has come to at that moment.
 """
 import json
 import os
@@ -46,9 +46,10 @@ def capped(document, most):
 
 
 def show(program, path, folder, document, say):
-    """Runs it with growing counts of steps, up to its own, and says for each how far the guests are. A configuration
-    that is refused, or whose guests have all come to an end, is left to the whole run."""
-    if subprocess.run([program, "check", os.path.abspath(path)], cwd=folder, capture_output=True).returncode != 0:
+    """Runs it with growing counts of steps, up to its own, and says for each how far the guests are. A
+    configuration that is refused, or whose guests have all come to an end, is left to the whole run."""
+    if subprocess.run([program, "check", os.path.abspath(path)], cwd=folder,
+                      capture_output=True).returncode != 0:
         return
     most = max(sums_of(document))
     steps = FIRST
@@ -56,7 +57,8 @@ def show(program, path, folder, document, say):
         with tempfile.NamedTemporaryFile("w", suffix=".toml", encoding="utf-8") as file:
             file.write(capped(document, steps))
             file.flush()
-            ran = subprocess.run([program, "run", os.path.abspath(file.name)], cwd=folder, capture_output=True)
+            ran = subprocess.run([program, "run", os.path.abspath(file.name)], cwd=folder,
+                                 capture_output=True)
         sections = reports.sections_of(ran.stdout) if ran.returncode == 0 else None
         if sections is None:
             return

@@ -14,14 +14,15 @@ def is_installed():
 
 def version():
     """QEMU's version, its first two numbers, or zeros where it does not say."""
-    said = subprocess.run([QEMU, "--version"], stdin=subprocess.DEVNULL, capture_output=True, text=True).stdout
+    said = subprocess.run([QEMU, "--version"], stdin=subprocess.DEVNULL, capture_output=True,
+                          text=True).stdout
     found = re.search(r"version (\d+)\.(\d+)", said)
     return (int(found[1]), int(found[2])) if found else (0, 0)
 
 
 def cpu_words(number):
-    """The words of -cpu for a version: no compressed instructions and no floating point, which guests here do not have.
-    Without floating point there can be no Zfa, which is on by itself since 8.1."""
+    """The words of -cpu for a version: no compressed instructions and no floating point, which guests here do
+    not have. Without floating point there can be no Zfa, which is on by itself since 8.1."""
     last = "" if number < (8, 1) else ",Zfa=false" if number == (8, 1) else ",zfa=false"
     return "rv64,h=true,c=false,d=false,f=false" + last
 

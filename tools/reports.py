@@ -6,7 +6,8 @@ HEADER = re.compile(rb"guest (\w+) (\w+) steps (\d+) bytes (\d+)\n")
 
 
 def sections_of(report):
-    """The sections of a report, in order, or none where it is no report. Each character of `console` is one byte."""
+    """The sections of a report, in order, or none where it is no report. Each character of `console` is one
+    byte."""
     sections, at = [], 0
     while at < len(report):
         found = HEADER.match(report, at)
@@ -42,7 +43,8 @@ def difference_of(stored, made):
              if stored[key] != made[key]]
     if stored["console"] != made["console"]:
         at = place_of(stored["console"], made["console"])
-        shown = [repr(each["console"][at:at + 16]) if at < len(each["console"]) else "its end" for each in (stored, made)]
+        shown = [repr(each["console"][at:at + 16]) if at < len(each["console"]) else "its end"
+                 for each in (stored, made)]
         words.append(f"console byte {at}: {shown[0]} -> {shown[1]}")
     return ", ".join(words)
 
@@ -56,7 +58,8 @@ def differences(stored, made):
         return [f"the stored report is no whole report, and differs at byte {place_of(stored, made)}"]
     if sections[1] is None:
         return ["what the program wrote is no report"]
-    lines = [f"guest {one['name']}: {difference_of(one, other)}" for one, other in zip(*sections) if one != other]
+    pairs = [pair for pair in zip(*sections) if pair[0] != pair[1]]
+    lines = [f"guest {one['name']}: {difference_of(one, other)}" for one, other in pairs]
     if len(sections[0]) != len(sections[1]):
         lines.append(f"guests {len(sections[0])} -> {len(sections[1])}")
     return lines

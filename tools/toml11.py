@@ -1,5 +1,5 @@
-"""Reads TOML 1.1, as the program does: Python's `tomllib` takes 1.0. What 1.1 adds is written as 1.0 has it: line ends,
-comments and a last comma in inline tables, the escapes \\e and \\x, and times without seconds.
+"""Reads TOML 1.1, as the program does: Python's `tomllib` takes 1.0. What 1.1 adds is written as 1.0 has it:
+line ends, comments and a last comma in inline tables, the escapes \\e and \\x, and times without seconds.
 """
 import re
 import tomllib

@@ -1,4 +1,5 @@
-"""What the tests of the tools share: a folder for each test, configurations and images in it, and the tools."""
+"""What the tests of the tools share: a folder for each test, configurations and images in it, and the
+tools."""
 import os
 import struct
 import subprocess
@@ -11,7 +12,8 @@ TOOLS = os.path.dirname(os.path.dirname(os.path.abspath(__file__)))
 TOP = os.path.dirname(TOOLS)
 sys.path.insert(0, TOOLS)
 PROGRAM = os.path.join(TOP, "dist", "nesthv")
-LETTER = struct.pack("<5I", 0x00100893, 0x04100513, 0x73, 0x00800893, 0x73)  # li a7, 1; li a0, 65; ecall; li a7, 8; ecall
+# li a7, 1; li a0, 65; ecall; li a7, 8; ecall
+LETTER = struct.pack("<5I", 0x00100893, 0x04100513, 0x73, 0x00800893, 0x73)
 LETTER_REPORT = b"guest a stopped steps 5 bytes 1\nA\n"
 LOOP = struct.pack("<I", 0x6F)  # jal zero, 0
 GUEST = {"name": '"a"', "image": '"a.bin"', "blocks": 1, "spaces": 1, "entries": 16, "console": 100}
@@ -35,7 +37,8 @@ class ToolTest(unittest.TestCase):
         return path
 
     def configure(self, name="a.toml", front="format = 1\nquantum = 1000\nrounds = 1\n", **keys):
-        """Writes the configuration of one guest, whose keys have these values in TOML; none leaves a key out."""
+        """Writes the configuration of one guest, whose keys have these values in TOML; none leaves a key
+        out."""
         lines = [f"{key} = {value}" for key, value in {**GUEST, **keys}.items() if value is not None]
         return self.put(name, front + "[[guest]]\n" + "\n".join(lines) + "\n")
 
@@ -43,8 +46,8 @@ class ToolTest(unittest.TestCase):
         """Runs a tool in the folder, by the program of dist/, and gives what it wrote and its status."""
         options = {"cwd": self.folder, "stdin": subprocess.DEVNULL, "stdout": subprocess.PIPE, **options}
         variables = {**os.environ, "NESTHV": PROGRAM, **options.pop("variables", {})}
-        ran = subprocess.run([os.path.join(TOP, name), *words], stderr=subprocess.PIPE, timeout=120, env=variables,
-                             **options)
+        ran = subprocess.run([os.path.join(TOP, name), *words], stderr=subprocess.PIPE, timeout=120,
+                             env=variables, **options)
         ran.lines = ran.stderr.decode(errors="replace").splitlines()
         return ran
 

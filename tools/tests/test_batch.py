@@ -47,7 +47,8 @@ class BatchTest(ToolTest):
         self.configure("kept/b.toml", image='"loop.bin"')
         os.remove(os.path.join(self.folder, "kept/a.report"))
         self.assertEqual(self.lines_of(self.batch(), 1), [
-            "PASS a.toml", "FAIL b.toml not every guest has stopped", "# guest a is running", "# 1 of 2 passed"])
+            "PASS a.toml", "FAIL b.toml not every guest has stopped", "# guest a is running",
+            "# 1 of 2 passed"])
 
     def test_causes(self):
         self.configure("kept/b.toml", consle=1)
@@ -57,8 +58,9 @@ class BatchTest(ToolTest):
         lines = self.lines_of(self.batch(), 1)
         self.assertEqual([line for line in lines if line[0] != "#"], [
             "PASS a.toml", "FAIL b.toml status 2", "FAIL c.toml status 3", "FAIL d.toml status 3"])
-        for words in ("# nesthv: configuration fault 8 guest 0", "is it to be `console`?", "none.bin of guest 0 cannot be "
-                      "read: there is no such file", "d.report cannot be read: it is a folder"):
+        for words in ("# nesthv: configuration fault 8 guest 0", "is it to be `console`?",
+                      "none.bin of guest 0 cannot be read: there is no such file",
+                      "d.report cannot be read: it is a folder"):
             self.assertTrue(any(words in line for line in lines), (words, lines))
 
     def test_time_that_is_over(self):
@@ -77,10 +79,12 @@ class BatchTest(ToolTest):
     def test_filter_and_times(self):
         self.configure("kept/b.toml")
         self.configure("kept/b1.toml")
-        for words, names in ((["--only", "b*"], "b b1"), (["--only", "b"], "b"), (["--only", "a", "--only", "b1"], "a b1")):
+        for words, names in ((["--only", "b*"], "b b1"), (["--only", "b"], "b"),
+                             (["--only", "a", "--only", "b1"], "a b1")):
             lines = self.lines_of(self.batch(*words), 0)
             self.assertEqual(lines[:-1], [f"PASS {name}.toml" for name in names.split()])
-        self.assertRegex(self.lines_of(self.batch("--only", "a", "--times"), 0)[0], r"^PASS a.toml \(\d+\.\d\d s\)$")
+        self.assertRegex(self.lines_of(self.batch("--only", "a", "--times"), 0)[0],
+                         r"^PASS a.toml \(\d+\.\d\d s\)$")
         ran = self.batch("--only", "c")
         self.check_plain(ran, 2)
         self.check_said(ran, "no `.toml` in kept whose name fits c")
@@ -89,7 +93,8 @@ class BatchTest(ToolTest):
         self.put("kept/b.report", b"guest")
         self.configure("kept/b.toml")
         self.assertEqual(self.lines_of(self.batch("--tap"), 1), [
-            "1..2", "ok 1 - a.toml: PASS", "not ok 2 - b.toml: FAIL the report differs from the stored one at 5",
+            "1..2", "ok 1 - a.toml: PASS",
+            "not ok 2 - b.toml: FAIL the report differs from the stored one at 5",
             "# the stored report is no whole report, and differs at byte 5", "# 1 of 2 passed"])
 
     def test_json_and_junit(self):
@@ -122,7 +127,8 @@ class BatchTest(ToolTest):
         self.assertIn("is no UTF-8", self.batch().stdout.decode())
 
     def test_bad_words(self):
-        for words in (["--jobs", "0"], ["--seconds", "-1"], ["--tap", "--json"], ["--sshlogin", ":", "--tap"]):
+        for words in (["--jobs", "0"], ["--seconds", "-1"], ["--tap", "--json"],
+                      ["--sshlogin", ":", "--tap"]):
             self.check_plain(self.batch(*words), 2)
         ran = self.tool("tools/batch", "none")
         self.check_plain(ran, 2)
@@ -136,8 +142,9 @@ class BatchTest(ToolTest):
 
     def test_interrupt(self):
         self.configure("kept/b.toml", front=ENDLESS, image='"loop.bin"')
-        started = subprocess.Popen([f"{TOOLS}/batch", os.path.join(self.folder, "kept")], stdout=subprocess.PIPE,
-                                   stderr=subprocess.PIPE, env={**os.environ, "NESTHV": f"{TOOLS}/../dist/nesthv"})
+        started = subprocess.Popen([f"{TOOLS}/batch", os.path.join(self.folder, "kept")],
+                                   stdout=subprocess.PIPE, stderr=subprocess.PIPE,
+                                   env={**os.environ, "NESTHV": f"{TOOLS}/../dist/nesthv"})
         self.assertEqual(started.stdout.readline(), b"PASS a.toml\n")
         started.send_signal(signal.SIGINT)
         _, lines = started.communicate(timeout=20)

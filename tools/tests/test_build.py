@@ -22,7 +22,8 @@ class BuildTest(ToolTest):
             return file.read()
 
     def report(self, image):
-        return self.tool("tools/run", self.configure(image=f'"{image}"', front="format = 1\nquantum = 9999\nrounds = 1\n"))
+        return self.tool("tools/run", self.configure(image=f'"{image}"',
+                                                     front="format = 1\nquantum = 9999\nrounds = 1\n"))
 
     def test_assembly(self):
         self.put("a.s", PUT.format(65) + STOP)
@@ -54,7 +55,8 @@ class BuildTest(ToolTest):
 
     def test_bad_words(self):
         self.put("a.s", STOP)
-        for words in (["none.s"], ["none"], ["-o"], ["-o", "out.bin"], ["-o", "out", "a.s"], ["-o", "out.bin", "first"]):
+        for words in (["none.s"], ["none"], ["-o"], ["-o", "out.bin"], ["-o", "out", "a.s"],
+                      ["-o", "out.bin", "first"]):
             ran = self.tool("examples/build", *words)
             self.check_plain(ran, 2)
             self.assertEqual(len(ran.lines), 1, ran.lines)

@@ -1,4 +1,5 @@
-"""Tests of the causes that the tools name: what is wrong with a configuration, an image, a report, a guest."""
+"""Tests of the causes that the tools name: what is wrong with a configuration, an image, a report, a
+guest."""
 import glob
 import os
 import shutil
@@ -25,7 +26,8 @@ class ConfigurationTest(ToolTest):
 
     def test_image_longer_than_ram(self):
         self.long_image(4 * MEBIBYTE + 1)
-        self.refused("has 4,194,305 bytes, and its RAM has 2,097,152: `blocks = 3` is enough", image='"long.bin"')
+        self.refused("has 4,194,305 bytes, and its RAM has 2,097,152: `blocks = 3` is enough",
+                     image='"long.bin"')
 
     def test_image_longer_than_any_ram(self):
         self.long_image(64 * MEBIBYTE + 1)
@@ -38,7 +40,8 @@ class ConfigurationTest(ToolTest):
 
     def test_misspelt_keys(self):
         self.refused("`consle` (is it to be `console`?)", consle=1)
-        self.refused("lacks `entries`: an integer from 16 to 256 (is `entires` to be it?)", entries=None, entires=16)
+        self.refused("lacks `entries`: an integer from 16 to 256 (is `entires` to be it?)", entries=None,
+                     entires=16)
         self.refused("(is `quantun` to be it?)", front="format = 1\nquantun = 1\nrounds = 1\n")
         self.refused("the file lacks `format = 1` (is `formta` to be it?)",
                      front="formta = 1\nquantum = 1\nrounds = 1\n")
@@ -71,7 +74,8 @@ class EntryTest(ToolTest):
         self.assertIn("comes to 0x8000000a", self.notices(call)[0])
 
     def test_trap_handler(self):
-        code = struct.pack("<5I", 0x00000297, 0x01028293, 0x10529073, 0x6F, 0x00010001)  # la t0, .+16; csrw stvec, t0
+        # la t0, .+16; csrw stvec, t0; j .
+        code = struct.pack("<5I", 0x00000297, 0x01028293, 0x10529073, 0x6F, 0x00010001)
         self.assertIn("comes to 0x80000010", self.notices(code)[0])
 
     def test_data_behind_code(self):
@@ -85,9 +89,10 @@ class EntryTest(ToolTest):
             self.skipTest("riscv64-linux-gnu-gcc is not installed")
         self.put("a.c", "int sum; int main(void) { for (int i = 0; i < 10; i++) sum += i; return sum; }")
         examples = os.path.join(TOP, "examples")
-        command = [gcc, "-march=rv64imac_zicsr_zifencei", "-mabi=lp64", "-mcmodel=medany", "-static", "-nostdlib",
-                   "-fno-pic", "-no-pie", "-Wl,--build-id=none", "-O2", "-ffreestanding", "-T", f"{examples}/c/link.ld",
-                   f"{examples}/c/start.s", f"{examples}/traps/handler.s", "a.c", "-o", "a.elf"]
+        command = [gcc, "-march=rv64imac_zicsr_zifencei", "-mabi=lp64", "-mcmodel=medany", "-static",
+                   "-nostdlib", "-fno-pic", "-no-pie", "-Wl,--build-id=none", "-O2", "-ffreestanding", "-T",
+                   f"{examples}/c/link.ld", f"{examples}/c/start.s", f"{examples}/traps/handler.s", "a.c",
+                   "-o", "a.elf"]
         subprocess.run(command, cwd=self.folder, check=True)
         subprocess.run([objcopy, "-O", "binary", "a.elf", "a.bin"], cwd=self.folder, check=True)
         self.check_said(self.tool("tools/run", self.configure()), "where there is compressed code")
@@ -127,7 +132,8 @@ class DifferenceTest(ToolTest):
         one = b"guest a stopped steps 5 bytes 2\nAB\n"
         other = b"guest a stopped steps 5 bytes 1\nA\n"
         self.assertEqual(reports.differences(one, one), [])
-        self.assertEqual(reports.differences(one, other), ["guest a: bytes 2 -> 1, console byte 1: 'B' -> its end"])
+        self.assertEqual(reports.differences(one, other),
+                         ["guest a: bytes 2 -> 1, console byte 1: 'B' -> its end"])
         self.assertEqual(reports.differences(one + other, one), ["guests 2 -> 1"])
         self.assertEqual(reports.differences(one[:-1], one),
                          ["the stored report is no whole report, and differs at byte 34"])

@@ -39,7 +39,8 @@ class RunTest(ToolTest):
         self.put("report", LETTER_REPORT)
         self.put("other", LETTER_REPORT[:-2] + b"B\n")
         self.assertEqual(self.tool("tools/run", "run", path).stdout, LETTER_REPORT)
-        self.assertEqual(self.tool("tools/run", "check", path).stdout, b"guest a image 20 frames 553\nframes 553\n")
+        self.assertEqual(self.tool("tools/run", "check", path).stdout,
+                         b"guest a image 20 frames 553\nframes 553\n")
         self.assertEqual(self.tool("tools/run", "replay", path, "report").stdout, b"same\n")
         ran = self.tool("tools/run", "replay", path, "other")
         self.assertEqual((ran.returncode, ran.stdout), (6, b"differs at 32\n"))
@@ -51,7 +52,8 @@ class RunTest(ToolTest):
 
     def test_json(self):
         answer = json.loads(self.tool("tools/run", "--json", self.configure()).stdout)
-        self.assertEqual(answer["guests"], [{"name": "a", "status": "stopped", "steps": 5, "bytes": 1, "console": "A"}])
+        self.assertEqual(answer["guests"], [{"name": "a", "status": "stopped", "steps": 5, "bytes": 1,
+                                             "console": "A"}])
         self.assertEqual((answer["status"], answer["proved"]), (0, True))
         answer = json.loads(self.tool("tools/run", "check", "--json", "a.toml").stdout)
         self.assertEqual(answer["output"], "guest a image 20 frames 553\nframes 553\n")
@@ -60,13 +62,15 @@ class RunTest(ToolTest):
         path = self.configure()
         for expected, status in (("stopped", 0), ("0", 0), ("running", 10), ("2", 10)):
             self.check_plain(self.tool("tools/run", "--expect", expected, path), status)
-        self.check_said(self.tool("tools/run", "--expect", "running", path), "guest a is stopped, and running was expected")
+        self.check_said(self.tool("tools/run", "--expect", "running", path),
+                        "guest a is stopped, and running was expected")
         self.check_said(self.tool("tools/run", "--expect", "2", path), "the status is 0, and 2 was expected")
 
     def test_bad_words(self):
         path = self.configure()
         for words in ([], ["replay", path], ["check", path, path], [path, path], ["--expect", "7", path],
-                      ["check", "--progress", path], ["check", "--expect", "running", path], ["--no-option", path]):
+                      ["check", "--progress", path], ["check", "--expect", "running", path],
+                      ["--no-option", path]):
             ran = self.tool("tools/run", *words)
             self.check_plain(ran, 2)
             self.assertEqual(ran.stdout, b"")
@@ -94,7 +98,8 @@ class ProgramTest(ToolTest):
         ran = self.tool("tools/run", "--program", same, path)
         self.assertEqual(ran.stdout, LETTER_REPORT)
         self.check_said(ran, f"by the proved program {same}")
-        self.check_said(self.tool("tools/run", path, variables={"NESTHV": same}), f"by the proved program {same}")
+        self.check_said(self.tool("tools/run", path, variables={"NESTHV": same}),
+                        f"by the proved program {same}")
         other = self.copy("other", f'#!/bin/sh\nexec {PROGRAM} "$@"\n')
         ran = self.tool("tools/run", "--json", "--program", "./other", path)
         self.check_said(ran, f"by {other}, which is not known to be proved")
@@ -116,12 +121,14 @@ class ProgramTest(ToolTest):
     def test_program_that_writes_no_report(self):
         path = self.configure()
         for option in ([], ["--json"], ["--expect", "stopped"]):
-            ran = self.tool("tools/run", *option, "--program", self.copy("odd", "#!/bin/sh\necho guest\n"), path)
+            ran = self.tool("tools/run", *option, "--program", self.copy("odd", "#!/bin/sh\necho guest\n"),
+                            path)
             self.check_plain(ran, 10 if "--expect" in option else 0)
             self.check_said(ran, "is no report")
 
     def test_program_that_a_signal_ends(self):
-        ran = self.tool("tools/run", "--program", self.copy("odd", "#!/bin/sh\nkill -9 $$\n"), self.configure())
+        ran = self.tool("tools/run", "--program", self.copy("odd", "#!/bin/sh\nkill -9 $$\n"),
+                        self.configure())
         self.check_plain(ran, 137)
         self.check_said(ran, "was ended by signal 9")
 
@@ -217,7 +224,8 @@ class ImageTest(ToolTest):
     def test_other_reasons(self):
         os.symlink("none", os.path.join(self.folder, "link"))
         os.symlink("round", os.path.join(self.folder, "round"))
-        for name, words in (("link", "it is a link to a file that is not there"), ("a.bin/x", "Not a directory"),
+        for name, words in (("link", "it is a link to a file that is not there"),
+                            ("a.bin/x", "Not a directory"),
                             ("round", "Too many levels of symbolic links")):
             ran = self.tool("tools/run", self.configure(image=f'"{name}"'))
             self.check_plain(ran, 3)
@@ -247,7 +255,7 @@ class TomlTest(ToolTest):
         self.check_said(ran, "(at line 12)")
 
     def test_progress(self):
-        path = self.put("b.toml", INLINE.replace("IMAGE", "b.bin").replace("quantum = 1000", "quantum = 20000000"))
+        path = self.put("b.toml", INLINE.replace("IMAGE", "b.bin").replace("1000", "20000000"))
         self.put("b.bin", LOOP)
         ran = self.tool("tools/run", "--progress", path)
         self.assertEqual(ran.stdout, b"guest a running steps 20000000 bytes 0\n\n")
@@ -268,8 +276,9 @@ class TomlTest(ToolTest):
         chosen = random.Random(46)
         with open(self.configure(front="format = 1\nturns = [[0, 10]]\n", input="[[1, 2]]"), "rb") as file:
             whole = file.read()
-        words = [b"=", b"[[guest]]\n", b"{}", b"[1]", b"-1", b'"a"', b"\xff", b"\n", b"guest = 1\n", b"1.5", b"true",
-                 b"99999999999999999999", b"[guest]\n", b"rounds = 3\n", b"x = 07:32\n", b"input = [[5, 1], [4, 1]]\n"]
+        words = [b"=", b"[[guest]]\n", b"{}", b"[1]", b"-1", b'"a"', b"\xff", b"\n", b"guest = 1\n", b"1.5",
+                 b"true", b"99999999999999999999", b"[guest]\n", b"rounds = 3\n", b"x = 07:32\n",
+                 b"input = [[5, 1], [4, 1]]\n"]
         for _ in range(300):
             text, start = bytearray(whole), chosen.randrange(len(whole))
             for _ in range(chosen.randint(1, 3)):

@@ -41,7 +41,8 @@ class DiagnoseTest(ToolTest):
         self.check_plain(self.tool("tools/diagnose", "hang.bin", "why.bin"), 0)
         ran = self.tool("tools/run", self.configure(front="format = 1\nquantum = 20000\nrounds = 1\n",
                                                     image='"why.bin"', console=2000))
-        for line in (b"sepc      0000000080000004", b"scause    0000000000000007", b"stval     0000000010000000"):
+        for line in (b"sepc      0000000080000004", b"scause    0000000000000007",
+                     b"stval     0000000010000000"):
             self.assertIn(line, ran.stdout)
 
     def test_moment_of_the_clock(self):
@@ -68,7 +69,8 @@ class DiagnoseTest(ToolTest):
             self.assertEqual(file.read(), LETTER)
 
     def test_images_that_are_none(self):
-        for name, said in ((".", "Is a directory"), ("none", "No such file"), ("/dev/zero", "begins with zeros"),
+        for name, said in ((".", "Is a directory"), ("none", "No such file"),
+                           ("/dev/zero", "begins with zeros"),
                            ("/dev/null", "it is empty")):
             ran = self.tool("tools/diagnose", name, "b.bin")
             self.check_plain(ran, 2)
@@ -82,7 +84,8 @@ class QemuVersionTest(ToolTest):
 
     def test_words_of_versions(self):
         import qemu
-        for version, words in (((7, 2), ""), ((8, 1), ",Zfa=false"), ((8, 2), ",zfa=false"), ((10, 0), ",zfa=false")):
+        for version, words in (((7, 2), ""), ((8, 1), ",Zfa=false"), ((8, 2), ",zfa=false"),
+                               ((10, 0), ",zfa=false")):
             self.assertEqual(qemu.cpu_words(version), "rv64,h=true,c=false,d=false,f=false" + words)
 
     def test_version_10(self):
@@ -130,7 +133,8 @@ class QemuTest(ToolTest):
 
     def test_bad_options(self):
         path = self.configure()
-        for words, said in ((["--guest", "5", path], "there is no guest 5"), (["--guest", "-1", path], "no integer"),
+        for words, said in ((["--guest", "5", path], "there is no guest 5"),
+                            (["--guest", "-1", path], "no integer"),
                             (["--seconds", "0", path], "no time"), (["none.toml"], "there is no such file"),
                             (["none.bin"], "there is no such file"), (["."], "it is a folder")):
             ran = self.tool("tools/qemu-run", *words)
@@ -138,7 +142,8 @@ class QemuTest(ToolTest):
             self.check_said(ran, said)
 
     def test_configurations_with_a_fault(self):
-        for keys in ({"image": None}, {"image": "1"}, {"blocks": "true"}, {"input": "[[1]]"}, {"console": None}):
+        for keys in ({"image": None}, {"image": "1"}, {"blocks": "true"}, {"input": "[[1]]"},
+                     {"console": None}):
             ran = self.tool("tools/qemu-run", self.configure(**keys))
             self.check_plain(ran, 2)
             self.check_said(ran, "guest 0 of")
