@@ -120,7 +120,7 @@ compared() {
     row "$1"
 }
 
-# alone NAME GUESTS QUANTUM: the loop of bench/steps.sh, under the program alone: GUESTS guests, in turns of QUANTUM
+# alone NAME GUESTS QUANTUM: the loop of bench/endless, under the program alone: GUESTS guests, in turns of QUANTUM
 # steps
 alone() {
     local machines=(nesthv) i
@@ -134,7 +134,7 @@ alone() {
     row "$1"
 }
 
-put loop 0 4 0x0000006F
+cp bench/endless/loop.bin "$folder"
 image stop 1
 steps=$most
 configure run 1 "$most" 2 16

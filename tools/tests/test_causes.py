@@ -55,7 +55,7 @@ class EntryTest(ToolTest):
 
     def test_images_of_the_repository(self):
         import images
-        for path in glob.glob(f"{TOP}/examples/*/*.bin") + glob.glob(f"{TOP}/bench/programs/*.bin"):
+        for path in glob.glob(f"{TOP}/examples/*/*.bin") + glob.glob(f"{TOP}/bench/*/*.bin"):
             self.assertEqual(images.notices_at(path), [], path)
 
     def test_first_word(self):

@@ -1,0 +1,4 @@
+# One jump to itself.
+    .globl  _start
+_start:
+    j       _start
