@@ -1,6 +1,9 @@
 # What the scripts of this folder share; they source it after they set `steps`. `program` is the proved program that
 # tools/program names. Where there is none, `rt run` proves all crates and builds it, which takes long; where a proof
 # fails, the script ends with that status.
+case ${1:-} in
+-h | --help) sed -n '2,/^set/{/^#/s/^# \{0,1\}//p}' "bench/$(basename "$0")" && exit ;;
+esac
 program=$(tools/program || true)
 console=0
 folder=$(mktemp -d)

@@ -17,8 +17,9 @@ INTERRUPTED = 130
 
 def name():
     """What the lines of the tool that runs begin with."""
-    tool = os.path.basename(sys.argv[0])
-    return os.path.basename(TOOLS) + "/" + tool if os.path.isdir(os.path.join(TOP, "examples")) else tool
+    folder, tool = os.path.split(os.path.abspath(sys.argv[0]))
+    is_installed = not os.path.isdir(os.path.join(TOP, "examples"))
+    return tool if is_installed else os.path.basename(folder) + "/" + tool
 
 
 def say(text):

@@ -19,6 +19,13 @@ class CommonTest(ToolTest):
             self.check_plain(ran, 0)
             self.assertTrue(ran.stdout.decode().startswith(f"usage: tools/{name}"))
 
+    def test_help_of_scripts(self):
+        for name in ("examples/run", "examples/check", "examples/build", "examples/words", "bench/steps.sh",
+                     "bench/folded.sh", "bench/compare.sh", "bench/work.sh", "bench/hypervisors.py"):
+            ran = self.tool(name, "--help")
+            self.check_plain(ran, 0)
+            self.assertIn(b"usage:", ran.stdout.lower())
+
     def test_option_that_there_is_not(self):
         for name in PYTHON:
             self.check_plain(self.tool(f"tools/{name}", "--option-that-there-is-not"), 2)
