@@ -4,6 +4,7 @@ finds what is no instruction of four bytes there: compressed code, or none.
 import struct
 
 RAM = 0x80000000
+MOST_RAM = 1 << 26
 MOST_STEPS = 4096
 STVEC, SATP = 0x105, 0x180
 CALL, STOP = 17, 8  # a7, and the call that stops the guest
@@ -99,7 +100,7 @@ def wrong_place(read):
     paths, seen = [Path(RAM)], set()
     while paths and len(seen) < MOST_STEPS:
         path = paths.pop()
-        if path.at in seen or not RAM <= path.at:
+        if path.at in seen or not RAM <= path.at < RAM + MOST_RAM:
             continue
         seen.add(path.at)
         code = read(path.at - RAM, 4) if path.at % 4 == 0 else b"\0"

@@ -2,6 +2,7 @@
 guest."""
 import glob
 import os
+import random
 import shutil
 import struct
 import subprocess
@@ -82,6 +83,17 @@ class EntryTest(ToolTest):
         for last in (0x6F, 0x73, 0x10200073, 0x00008067):  # j .; ecall, which stops; sret; ret
             code = struct.pack("<2I", 0x00800893, last) + b"text"
             self.assertEqual(self.notices(code), [])
+
+    def test_any_image(self):
+        """Any words are followed to an end, also from a file, where far addresses have no place."""
+        import images
+        chosen = random.Random(46)
+        kinds = (0x6F, 0x67, 0x63, 0x73, 0x17, 0x37, 0x13, 0x03, 0x23, 0x0F)
+        for _ in range(300):
+            words = [chosen.getrandbits(32) & ~0x7F | chosen.choice(kinds) for _ in range(64)]
+            images.notices_at(self.put("c.bin", struct.pack("<64I", *words)))
+        far = struct.pack("<4I", 0x800002B7, 0xFFF28293, 0x00028067, 0)  # lui t0, 0x80000; addi t0, t0, -1; jr t0
+        self.assertEqual(images.notices_at(self.put("c.bin", far)), [])
 
     def test_code_by_gcc(self):
         gcc, objcopy = (shutil.which(f"riscv64-linux-gnu-{name}") for name in ("gcc", "objcopy"))

@@ -279,8 +279,9 @@ class TomlTest(ToolTest):
         words = [b"=", b"[[guest]]\n", b"{}", b"[1]", b"-1", b'"a"', b"\xff", b"\n", b"guest = 1\n", b"1.5",
                  b"true", b"99999999999999999999", b"[guest]\n", b"rounds = 3\n", b"x = 07:32\n",
                  b"input = [[5, 1], [4, 1]]\n"]
-        for _ in range(300):
-            text, start = bytearray(whole), chosen.randrange(len(whole))
+        inline = INLINE.replace("IMAGE", "a.bin").encode()
+        for number in range(300):
+            text = bytearray(inline if number % 2 else whole)
             for _ in range(chosen.randint(1, 3)):
                 start = chosen.randrange(len(text))
                 text[start:start + chosen.choice([0, 1, 3, 10])] = chosen.choice(words)
