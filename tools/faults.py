@@ -117,7 +117,8 @@ def turns_wrong(document, count):
     if turns is None and not pair:
         near = next(filter(None, (misspelt(key, document, FILE_KEYS)
                                   for key in ("quantum", "rounds", "turns"))), "")
-        return f"there are no turns: add `quantum` and `rounds`, or `turns`, before the first `[[guest]]`{near}"
+        return "there are no turns: add `quantum` and `rounds`, or `turns`, before the first `[[guest]]`" \
+            + near
     if len(pair) == 1:
         other = "rounds" if pair[0] == "quantum" else "quantum"
         return f"`{pair[0]}` is there and `{other}` is not{misspelt(other, document, FILE_KEYS)}"

@@ -10,6 +10,13 @@ from helper import LETTER, LETTER_REPORT, LOOP, TOOLS, ToolTest
 
 ENDLESS = "format = 1\nquantum = 4294967296\nrounds = 1000\n"
 
+PARALLEL = """#!/usr/bin/env python3
+import shlex, subprocess, sys
+print(*sys.argv[1:-1], file=sys.stderr)
+for name in filter(None, sys.stdin.read().split(chr(0))):
+    subprocess.run(sys.argv[-1].replace("{}", shlex.quote(name)), shell=True)
+"""
+
 
 class BatchTest(ToolTest):
     def setUp(self):
@@ -125,6 +132,18 @@ class BatchTest(ToolTest):
         for words in ([], ["--tap"], ["--json"], ["--junit", "out.xml"]):
             self.check_plain(self.batch(*words), 1)
         self.assertIn("is no UTF-8", self.batch().stdout.decode())
+
+    def test_other_machines(self):
+        """By a script that stands for GNU parallel, and runs each command here."""
+        self.configure("kept/b[1].toml")
+        parallel = self.put("bin/parallel", PARALLEL)
+        os.chmod(parallel, 0o755)
+        path = f"{self.folder}/bin:{os.environ['PATH']}"
+        ran = self.batch("--sshlogin", "8/one,8/two", "--jobs", "2", variables={"PATH": path})
+        self.assertEqual(self.lines_of(ran, 0), ["PASS a.toml", "PASS b[1].toml", "# 2 of 2 passed"])
+        self.check_said(ran, "--jobs 2 --sshlogin 8/one,8/two")
+        ran = self.batch("--sshlogin", "8/one,8/two", variables={"PATH": path})
+        self.check_said(ran, "--jobs 100% --sshlogin 8/one,8/two")
 
     def test_bad_words(self):
         for words in (["--jobs", "0"], ["--seconds", "-1"], ["--tap", "--json"],

@@ -92,7 +92,8 @@ class EntryTest(ToolTest):
         for _ in range(300):
             words = [chosen.getrandbits(32) & ~0x7F | chosen.choice(kinds) for _ in range(64)]
             images.notices_at(self.put("c.bin", struct.pack("<64I", *words)))
-        far = struct.pack("<4I", 0x800002B7, 0xFFF28293, 0x00028067, 0)  # lui t0, 0x80000; addi t0, t0, -1; jr t0
+        # lui t0, 0x80000; addi t0, t0, -1; jr t0
+        far = struct.pack("<4I", 0x800002B7, 0xFFF28293, 0x00028067, 0)
         self.assertEqual(images.notices_at(self.put("c.bin", far)), [])
 
     def test_code_by_gcc(self):
