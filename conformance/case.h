@@ -1,0 +1,71 @@
+/* What a family of cases stands on: the registers of the hypervisor extension, numbers from the seed, a
+   case's line or sum, and the way to make one instruction in a mode. */
+#include <stdbool.h>
+#include <stdint.h>
+
+typedef uint64_t u64;
+typedef uint32_t u32;
+
+/* The instruction's place in each mode, in start.s. */
+extern u32 stub_supervisor[], stub_user[], stub_hypervisor[];
+extern char trap[];
+void enter(void);
+
+enum mode { HS, U, VS, VU };
+extern const char *const mode_names[4];
+
+/* What goes into a mode, and what comes out of it. start.s knows the first five. */
+struct hart {
+    u64 kept, a0, a1, a2, trapped;
+    u64 pc, cause, tval, epc, htval, htinst, hstatus, sstatus;
+};
+extern struct hart hart;
+
+#define read_csr(number) \
+    ({ u64 value_; __asm__ volatile("csrr %0, %1" : "=r"(value_) : "i"(number)); value_; })
+#define write_csr(number, value) __asm__ volatile("csrw %0, %1" : : "i"(number), "r"((u64)(value)) : "memory")
+
+enum csr {
+    SSTATUS = 0x100, SIE = 0x104, STVEC = 0x105, SCOUNTEREN = 0x106, SENVCFG = 0x10A, SSCRATCH = 0x140,
+    SEPC = 0x141, SCAUSE = 0x142, STVAL = 0x143, SIP = 0x144, SATP = 0x180, VSSTATUS = 0x200, VSIE = 0x204,
+    VSTVEC = 0x205, VSSCRATCH = 0x240, VSEPC = 0x241, VSCAUSE = 0x242, VSTVAL = 0x243, VSIP = 0x244,
+    VSATP = 0x280, HSTATUS = 0x600, HEDELEG = 0x602, HIDELEG = 0x603, HIE = 0x604, HTIMEDELTA = 0x605,
+    HCOUNTEREN = 0x606, HGEIE = 0x607, HENVCFG = 0x60A, HTVAL = 0x643, HIP = 0x644, HVIP = 0x645,
+    HTINST = 0x64A, HGATP = 0x680, TIME = 0xC01, HGEIP = 0xE12
+};
+
+#define SSTATUS_SPP (1ul << 8)
+#define SSTATUS_SUM (1ul << 18)
+#define SSTATUS_MXR (1ul << 19)
+#define HSTATUS_GVA (1ul << 6)
+#define HSTATUS_SPV (1ul << 7)
+#define HSTATUS_SPVP (1ul << 8)
+#define HSTATUS_HU (1ul << 9)
+#define ECALL 0x73
+#define NO_TRAP 0xFF            /* the cause where a case in HS ends without a trap */
+
+/* Numbers of a case: the same for the same seed and case. */
+u64 any(void);
+u64 below(u64 bound);
+static inline bool once_in(u64 bound) { return below(bound) == 0; }
+
+/* The line of a case. `told` are words that say what it is; `got` is a value that the standard decides,
+   `chosen` one that rests on a choice. */
+void told(const char *words);
+void told_number(const char *words, u64 number);
+void got(const char *name, u64 value);
+void chosen(const char *name, u64 value);
+void got_or_chosen(bool is_chosen, const char *name, u64 value);
+
+/* Makes `word` in the mode, with a0 to a2 of hart, and keeps what it comes to: the trap into HS that ends
+   it. `status` and `hypervisor` are sstatus and hstatus without SPP and SPV. */
+void make(enum mode mode, u32 word, u64 status, u64 hypervisor);
+/* The place of an address: what it is behind the start of the mode's stub, or itself. */
+u64 place(u64 address);
+/* htinst, with 0 for what may stand in the place of 0: the transformed instruction. */
+u64 plain_htinst(u32 word);
+void fence_all(void);
+
+/* Of each family: prepares what all cases share; makes the case of this number. */
+void prepare(void);
+void one_case(u64 number);

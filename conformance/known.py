@@ -1,0 +1,94 @@
+"""Differences that are known, by a machine's version, each looked into by hand, and how to tell a case of
+each. docs/conformance.md has a table of them, with the sections of the standard that decide.
+"""
+import judge
+
+ADDRESS_BIT_40 = 1 << 38        # of htval
+IMPLICIT = "3000"
+
+
+def codes(found):
+    return judge.outcome_of(found.expected), judge.outcome_of(found.actual)
+
+
+def value(values, name):
+    return int(values.get(name, values.get("~" + name, "0")), 16)
+
+
+def is_class(found, *names):
+    return judge.class_of(found.head.split()[0]) in names
+
+
+def status(found, name):
+    words = found.head.split()
+    return int(words[words.index(name) + 1], 16) if name in words else 0
+
+
+def reads_first(found):
+    expected, actual = codes(found)
+    return is_class(found, "amo") and expected in ("7", "15", "23") and actual in ("5", "13", "21")
+
+
+def has_access_code(found):
+    return is_class(found, "hlv", "hlvx", "hsv") and codes(found) in (("13", "5"), ("15", "7"))
+
+
+def has_guest_code(found):
+    return codes(found) in (("5", "21"), ("7", "23"), ("1", "20"), ("7", "21"))
+
+
+def refuses_bit_40(found):
+    return codes(found)[1] in ("20", "21", "23") and value(found.actual, "htval") & ADDRESS_BIT_40 != 0 and (
+        value(found.expected, "htval") == 0)
+
+
+def has_load_code(found):
+    return codes(found) in (("20", "21"), ("23", "21")) and found.expected.get("~htinst") == IMPLICIT
+
+
+def takes_other_mxr(found):
+    has_mxr = (status(found, "sstatus") | status(found, "vsstatus")) & 1 << 19 != 0
+    return is_class(found, "load", "lr", "hlv") and has_mxr and codes(found) in (
+        ("done", "13"), ("done", "5"), ("done", "21"), ("21", "done"), ("21", "13"), ("21", "5"))
+
+
+def wants_read(found):
+    return is_class(found, "hlvx") and codes(found) in (
+        ("done", "5"), ("done", "21"), ("13", "done"), ("13", "21"), ("21", "done"), ("21", "5"))
+
+
+def leaves_out_sum(found):
+    return is_class(found, "hlv", "hlvx", "hsv") and codes(found)[0] in ("13", "15") and (
+        codes(found)[1] in ("done", "5", "7", "21", "23")) and status(found, "vsstatus") & 1 << 18 == 0 and (
+        status(found, "hstatus") & 1 << 8 != 0)
+
+
+def register_of(found):
+    """The number of the register that a case reaches, or 0; those of S are those of VS in VS and VU."""
+    words = found.head.split()
+    number = int(words[3], 16) if words[2:3] == ["register"] else 0
+    return number + 0x100 if number >> 8 == 1 and words[1] in ("VS", "VU") else number
+
+
+def is_illegal_in_vu(found):
+    words = found.head.split()
+    return words[1:3] == ["VU", "register"] and int(words[3], 16) >> 8 == 1 and codes(found) == ("22", "2")
+
+
+def holds_more(found):
+    names = {name.lstrip("~") for name, _, _ in found.values}
+    return register_of(found) == 0x200 and names <= {"reads", "other", "holds", "besides", "before"}
+
+
+REASONS = {"QEMU 7.2": [("amo", reads_first), ("hlv-code", has_access_code), ("guest-code", has_guest_code),
+                        ("bit-40", refuses_bit_40), ("implicit", has_load_code), ("hlv-sum", leaves_out_sum),
+                        ("mxr", takes_other_mxr), ("hlvx", wants_read),
+                        ("vu", is_illegal_in_vu), ("vsstatus", holds_more)]}
+
+
+def reason(machine, found):
+    """The name of the known difference that this is one of, or an empty text."""
+    for version, reasons in REASONS.items():
+        if machine.startswith(version + "."):
+            return next((name for name, is_one in reasons if is_one(found)), "")
+    return ""

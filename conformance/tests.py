@@ -1,0 +1,157 @@
+#!/usr/bin/env python3
+"""Tests of the suite: what the standard decides of single cases, the judge, and the runner's files and
+options. They take ten seconds of a processor, and want dist/nesthv; one wants QEMU too, or
+is left out.
+"""
+# Usage: conformance/tests.py     (from any folder)
+import os
+import shutil
+import struct
+import subprocess
+import sys
+import tempfile
+import unittest
+
+FOLDER = os.path.dirname(os.path.abspath(__file__))
+sys.path.insert(0, FOLDER)
+sys.dont_write_bytecode = True
+import judge
+import machines
+from machines import Plan
+
+NESTHV = machines.Nesthv(os.path.join(machines.TOP, "dist", "nesthv"))
+SUPERVISOR = {0x100, 0x104, 0x105, 0x106, 0x10A, 0x140, 0x141, 0x142, 0x143, 0x144, 0x180}
+GUEST_SUPERVISOR = {0x200, 0x204, 0x205, 0x240, 0x241, 0x242, 0x243, 0x244, 0x280}
+HYPERVISOR = {0x600, 0x602, 0x603, 0x604, 0x605, 0x606, 0x607, 0x60A, 0x643, 0x644, 0x645, 0x64A, 0x680,
+              0xE12}
+ILLEGAL, VIRTUAL, DONE = "2", "22", "done"
+
+
+def run(*words):
+    return subprocess.run([os.path.join(FOLDER, "run"), *words], capture_output=True, text=True)
+
+
+def read_outcome(number, mode):
+    """What a read of a register comes to, by 2.1 and 8.6.1 of the standard; none where others decide."""
+    if number == 0xC01:
+        return None
+    if number not in SUPERVISOR | GUEST_SUPERVISOR | HYPERVISOR:
+        return ILLEGAL
+    if mode in ("HS", "VS") and number in SUPERVISOR or mode == "HS":
+        return DONE if number != 0x180 or mode == "HS" else None     # VTVM decides satp in VS
+    return ILLEGAL if mode == "U" else VIRTUAL
+
+
+class Cases(unittest.TestCase):
+    def test_each_read_of_a_register_traps_as_the_standard_says(self):
+        count = 0
+        for mode, first in enumerate(range(0, 16384, 4096)):
+            for part in range(first, first + 4096, 2048):
+                for line in NESTHV.lines(Plan("registers", 1, part, 2048, 0)):
+                    case = judge.parsed(line)
+                    words = case.head.split()
+                    self.assertEqual(words[1], ("HS", "U", "VS", "VU")[mode])
+                    expected = read_outcome(int(words[3], 16), words[1])
+                    if expected is not None:
+                        self.assertEqual(judge.outcome_of(case.values), expected, line)
+                        count += 1
+        self.assertEqual(count, 16384 - 4 - 1)
+
+    def test_codes_of_accesses_are_those_of_their_kind(self):
+        fetch, load, store = {"1", "12", "20"}, {"4", "5", "13", "21"}, {"6", "7", "15", "23"}
+        allowed = {"fetch": fetch, "load": load, "lr": load, "hlv": load, "hlvx": load, "store": store,
+                   "sc": store, "amo": store, "hsv": store}
+        for line in NESTHV.lines(Plan("accesses", 1, 0, 2048, 0)):
+            case = judge.parsed(line)
+            kind = judge.class_of(case.head.split()[0])
+            self.assertIn(judge.outcome_of(case.values), allowed[kind] | {DONE}, line)
+
+    def test_a_case_is_the_same_behind_any_other(self):
+        for family in machines.FAMILIES:
+            whole = NESTHV.lines(Plan(family, 7, 900, 96, 0))
+            self.assertEqual(whole[64:], NESTHV.lines(Plan(family, 7, 964, 32, 0)))
+            self.assertEqual(whole[95:], NESTHV.lines(Plan(family, 7, 995, 1, 0)))
+
+    def test_sums_follow_blocks(self):
+        sums = NESTHV.lines(Plan("accesses", 1, 0, 96, 32))
+        self.assertEqual([line.split()[:2] for line in sums], [["0", "31"], ["32", "63"], ["64", "95"]])
+        self.assertEqual(sums[1:], NESTHV.lines(Plan("accesses", 1, 32, 64, 32)))
+
+
+class Judge(unittest.TestCase):
+    LINE = "3 lw VS at 1000 - : cause=15 tval=1000 epc=0 hstatus=3C0 vscause=0 vstval=0 ~htval=400 ~htinst=0"
+
+    def verdict(self, *changes):
+        line = self.LINE
+        for old, new in changes:
+            self.assertIn(old, line)
+            line = line.replace(old, new)
+        found = judge.difference(self.LINE, line)
+        return None if found is None else found.choice
+
+    def test_lines(self):
+        self.assertIsNone(self.verdict())
+        self.assertEqual(self.verdict(("cause=15 tval", "cause=D tval")), "")
+        self.assertEqual(self.verdict((" tval=1000", " tval=0"), ("3C0", "380")), "sstvala")
+        self.assertEqual(self.verdict((" tval=1000", " tval=1004")), "")
+        self.assertEqual(self.verdict(("htval=400", "htval=0")), "shtvala")
+        self.assertEqual(self.verdict(("htval=400", "htval=404")), "")
+        self.assertEqual(self.verdict(("htinst=0", "htinst=3000")), "")
+        self.assertEqual(self.verdict(("lw VS", "ld VS")), "")
+
+    def test_marked_cases_are_choices(self):
+        line = self.LINE.replace("- :", "svade :")
+        self.assertEqual(judge.difference(line, line.replace("cause=15", "cause=D")).choice, "svade")
+
+    def test_noise_is_no_case(self):
+        for noise in ("", "panic", "3", "3 lw VS :", "x lw VS - : cause=1"):
+            self.assertIsNone(judge.parsed(noise))
+            self.assertEqual(judge.difference(self.LINE, noise).choice, "")
+
+
+class Files(unittest.TestCase):
+    def test_elf_has_the_image_and_the_shim(self):
+        image = machines.image_of(Plan("accesses", 1, 5, 1, 0))
+        elf = machines.elf_of(image, True)
+        entry, programs = struct.unpack_from("<QQ", elf, 24)
+        self.assertEqual((elf[:5], entry, programs), (b"\x7fELF\2", machines.SHIM, 64))
+        place, address = struct.unpack_from("<QQ", elf, 64 + 8)
+        self.assertEqual((address, elf[place + 8:place + len(image)]), (machines.BASE, image[8:]))
+
+    def test_options(self):
+        for words, said in ((["nothing"], "there is no family nothing"),
+                            (["--first", "0"], "--first wants one family"),
+                            (["--first", "-1", "accesses"], ""), (["--lines", "accesses"], "want --first"),
+                            (["--count", "x", "--first", "0", "accesses"], "x is no number")):
+            ran = run(*words)
+            self.assertEqual((ran.returncode, ran.stdout), (2, ""), words)
+            self.assertIn(said, ran.stderr)
+            self.assertNotIn("Traceback", ran.stderr)
+
+    def test_machines_that_there_are_not(self):
+        for words in (["--program", "/none"], ["--on", "qemu", "--qemu", "/none"], ["--on", "/none {elf}"],
+                      ["--on", "true {elf}"], ["--on", "sleep 9", "--seconds", "1"]):
+            ran = run(*words, "--first", "0", "accesses")
+            self.assertEqual(ran.returncode, 2, words)
+            self.assertEqual(ran.stderr.count("\n"), 1, ran.stderr)
+
+    @unittest.skipUnless(shutil.which("readelf"), "no readelf")
+    def test_readelf_reads_the_elf_file(self):
+        with tempfile.TemporaryDirectory() as folder:
+            path = os.path.join(folder, "case.elf")
+            self.assertEqual(run("--first", "9", "--elf", path, "accesses").returncode, 0)
+            said = subprocess.run(["readelf", "-hls", path], capture_output=True, text=True)
+            self.assertEqual((said.returncode, said.stderr), (0, ""))
+            self.assertIn("tohost", said.stdout)
+
+    @unittest.skipUnless(shutil.which("qemu-system-riscv64"), "no QEMU")
+    def test_qemu_runs_the_same_cases(self):
+        for family in machines.FAMILIES:
+            plan = Plan(family, 1, 0x1100, 24, 0)
+            lines = machines.qemu("qemu-system-riscv64", None, 60).lines(plan)
+            self.assertEqual([judge.parsed(line).head for line in lines],
+                             [judge.parsed(line).head for line in NESTHV.lines(plan)])
+
+
+if __name__ == "__main__":
+    unittest.main()
