@@ -80,10 +80,38 @@ def holds_more(found):
     return register_of(found) == 0x200 and names <= {"reads", "other", "holds", "besides", "before"}
 
 
+def hides_pending(found):
+    names = [name for name, _, _ in found.values]
+    return is_class(found, "nop") and names == ["vsip"] and value(found.actual, "vsip") & 0x220 == 0
+
+
+def takes_lowest(found):
+    expected, actual = codes(found)
+    return is_class(found, "nop") and expected.isdigit() and actual.isdigit() and (
+        int(actual) >> 63 == 1 and int(actual) < int(expected))
+
+
+def has_older_word(found):
+    return codes(found) in (("2", "2"), ("22", "22")) and is_class(found, "hlv", "hlvx", "hsv") and (
+        [name for name, _, _ in found.values] in (["tval"], ["vstval"]))
+
+
+def has_code_below(found):
+    return value(found.actual, "vscause") == 1 and codes(found)[0] in ("2", "22") and (
+        status(found, "hedeleg") & 4 != 0)
+
+
+def is_illegal_instruction_in_vu(found):
+    return found.head.split()[1:2] == ["VU"] and codes(found) == ("22", "2") and (
+        found.head.split()[0] in ("sret", "sfence.vma", "hfence.vvma", "hfence.gvma"))
+
+
 REASONS = {"QEMU 7.2": [("amo", reads_first), ("hlv-code", has_access_code), ("guest-code", has_guest_code),
                         ("bit-40", refuses_bit_40), ("implicit", has_load_code), ("hlv-sum", leaves_out_sum),
                         ("mxr", takes_other_mxr), ("hlvx", wants_read),
-                        ("vu", is_illegal_in_vu), ("vsstatus", holds_more)]}
+                        ("vu", is_illegal_in_vu), ("vsstatus", holds_more), ("vsip", hides_pending),
+                        ("priority", takes_lowest), ("stval", has_older_word), ("code-1", has_code_below),
+                        ("vu", is_illegal_instruction_in_vu)]}
 
 
 def reason(machine, found):

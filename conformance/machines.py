@@ -10,7 +10,7 @@ from typing import NamedTuple
 FOLDER = os.path.dirname(os.path.abspath(__file__))
 TOP = os.path.dirname(FOLDER)
 # How many cases of each family have a stored report, and how many cases a sum is of.
-FAMILIES = {"accesses": 131072, "registers": 131072}
+FAMILIES = {"accesses": 131072, "registers": 131072, "interrupts": 65536, "traps": 65536}
 BLOCK = 4096
 BASE, SHIM, RAM_END = 0x80000000, 0x80800000, 0x80400000
 PARAMETERS = 16
@@ -68,7 +68,7 @@ class Nesthv:
     name = "nesthv"
 
     def __init__(self, program):
-        self.program = program
+        self.program = os.path.abspath(program)
 
     def _in_folder(self, folder, plan, words):
         with open(os.path.join(folder, "image.bin"), "wb") as file:

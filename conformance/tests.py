@@ -27,6 +27,22 @@ HYPERVISOR = {0x600, 0x602, 0x603, 0x604, 0x605, 0x606, 0x607, 0x60A, 0x643, 0x6
 ILLEGAL, VIRTUAL, DONE = "2", "22", "done"
 
 
+def interrupt(words):
+    """The code of the interrupt that a case takes, as its handler sees it, by 8.2.3 of the standard."""
+    mode, told = words[1], {words[at]: int(words[at + 1], 16) for at in range(2, len(words) - 1, 2)}
+    pending = told["sie"] & told["sip"] | told["hie"] & told["hvip"]
+    hypervisors, guests = pending & ~told["hideleg"], pending & told["hideleg"]
+    if mode != "HS" or told["sstatus"] & 0x20:
+        for code in (9, 1, 5, 12, 10, 2, 6):
+            if hypervisors >> code & 1:
+                return code
+    if mode == "VU" or mode == "VS" and told["vsstatus"] & 2:
+        for code in (10, 2, 6):
+            if guests >> code & 1:
+                return code - 1
+    return None
+
+
 def run(*words):
     return subprocess.run([os.path.join(FOLDER, "run"), *words], capture_output=True, text=True)
 
@@ -65,6 +81,13 @@ class Cases(unittest.TestCase):
             case = judge.parsed(line)
             kind = judge.class_of(case.head.split()[0])
             self.assertIn(judge.outcome_of(case.values), allowed[kind] | {DONE}, line)
+
+    def test_interrupts_are_taken_in_the_order_of_the_standard(self):
+        for line in NESTHV.lines(Plan("interrupts", 1, 0, 1024, 0)):
+            case = judge.parsed(line)
+            expected = interrupt(case.head.split())
+            actual = judge.outcome_of(case.values)
+            self.assertEqual(actual, DONE if expected is None else str(1 << 63 | expected), line)
 
     def test_a_case_is_the_same_behind_any_other(self):
         for family in machines.FAMILIES:
