@@ -46,6 +46,10 @@ def has_load_code(found):
     return codes(found) in (("20", "21"), ("23", "21")) and found.expected.get("~htinst") == IMPLICIT
 
 
+def reads_tables_by_mxr(found):
+    return found.expected.get("~htinst") == IMPLICIT and status(found, "vsstatus") & 1 << 19 != 0
+
+
 def takes_other_mxr(found):
     has_mxr = (status(found, "sstatus") | status(found, "vsstatus")) & 1 << 19 != 0
     return is_class(found, "load", "lr", "hlv") and has_mxr and codes(found) in (
@@ -80,6 +84,12 @@ def holds_more(found):
     return register_of(found) == 0x200 and names <= {"reads", "other", "holds", "besides", "before"}
 
 
+def sets_bit_below(found):
+    names = {name for name, _, _ in found.values}
+    writes = status(found, "value") & 0x444 != 0
+    return register_of(found) == 0x204 and names <= {"holds", "~besides"} and writes
+
+
 def hides_pending(found):
     names = [name for name, _, _ in found.values]
     return is_class(found, "nop") and names == ["vsip"] and value(found.actual, "vsip") & 0x220 == 0
@@ -108,8 +118,9 @@ def is_illegal_instruction_in_vu(found):
 
 REASONS = {"QEMU 7.2": [("amo", reads_first), ("hlv-code", has_access_code), ("guest-code", has_guest_code),
                         ("bit-40", refuses_bit_40), ("implicit", has_load_code), ("hlv-sum", leaves_out_sum),
-                        ("mxr", takes_other_mxr), ("hlvx", wants_read),
-                        ("vu", is_illegal_in_vu), ("vsstatus", holds_more), ("vsip", hides_pending),
+                        ("mxr", takes_other_mxr), ("mxr", reads_tables_by_mxr), ("hlvx", wants_read),
+                        ("vu", is_illegal_in_vu), ("vsstatus", holds_more), ("vsie", sets_bit_below),
+                        ("vsip", hides_pending),
                         ("priority", takes_lowest), ("stval", has_older_word), ("code-1", has_code_below),
                         ("vu", is_illegal_instruction_in_vu)]}
 
