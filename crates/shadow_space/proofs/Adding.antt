@@ -1,7 +1,7 @@
 -- A tree with one more table.
 use Rattle.std.proofs.Common.{◌≡◌, ◌≢◌, ℕ, zero, suc, ◌+◌, ◌*◌, ◌<◌, ◌⊎◌, inl, inr, Some, None, refl, sym, ap, subst, ◌∙◌, arith}
 use Rattle.shadow_space.specs.declared.writing.Tables.{Tables}
-use Rattle.shadow_space.specs.Trees.{Content, Free, Table, IsOwn, IsTree, Says, Tree, entry_of, pointer_of, slots}
+use Rattle.shadow_space.specs.Trees.{Content, Free, Table, IsOwn, IsTree, Says, Tree, entry_of, pointer_of, slots, top}
 use Rattle.table_words.specs.Entries.{pointer_word}
 use Rattle.shadow_space.proofs.Slots.{other_slots, same_or, same_place}
 
@@ -21,13 +21,13 @@ pub record IsAdded (tree tree' : Tree) (f h k : ℕ) : Type 0 where
   pub places : (h' k' : ℕ) → ((h' ≡ h) × (k' ≡ k) → ⊥) → tree'.place h' k' ≡ tree.place h' k'
 
 -- a table below a level has as many entries as all but the root
-pub low_slots : (tables : Tables) (tree : Tree) (x h k : ℕ) → IsTree tables tree → tree.content x ≡ Table h k → h < 2 → slots tables x ≡ 512
+pub low_slots : (tables : Tables) (tree : Tree) (x h k : ℕ) → IsTree tables tree → tree.content x ≡ Table h k → h < top → slots tables x ≡ 512
 low_slots tables tree x h k sound holds low = other_slots tables x other
   where
     other : x ≢ tables.root
     other is =
-        let top : Table 2 0 ≡ Table h k = sym sound.root ∙ ap tree.content (sym is) ∙ holds in
-        let e : 2 ≡ h = cc in omega arith
+        let at_top : Table top 0 ≡ Table h k = sym sound.root ∙ ap tree.content (sym is) ∙ holds in
+        let e : top ≡ h = cc in omega arith
 
 -- a table is an entry of one table
 pub one_slot : (tables : Tables) (tree : Tree) (x y h t t' s s' : ℕ) → IsTree tables tree → tree.content x ≡ Table (suc h) t → tree.content y ≡ Table (suc h) t'
@@ -40,15 +40,15 @@ one_slot tables tree x y h t t' s s' sound holds holds' small small' same = by (
         let b = sound.back y (suc h) t' holds' in
         let is : x ≡ y = cc in (is, omega arith)
 
-    by : (suc h < 2) ⊎ ((suc h ≡ 2) × (t ≡ 0)) → (suc h < 2) ⊎ ((suc h ≡ 2) × (t' ≡ 0)) → (x ≡ y) × (s ≡ s')
+    by : (suc h < top) ⊎ ((suc h ≡ top) × (t ≡ 0)) → (suc h < top) ⊎ ((suc h ≡ top) × (t' ≡ 0)) → (x ≡ y) × (s ≡ s')
     by (inl low) way =
         let first = low_slots tables tree x (suc h) t sound holds low in
         let second = low_slots tables tree y (suc h) t' sound holds' low in
         let a : s < 512 = omega (arith, first, small) in
         let b : s' < 512 = omega (arith, second, small') in
         from (omega (arith, same, a, b))
-    by (inr top) (inl low) = absurd (omega (arith, top.0, low))
-    by (inr top) (inr top') = from (top.1 ∙ sym top'.1)
+    by (inr at_top) (inl low) = absurd (omega (arith, at_top.0, low))
+    by (inr at_top) (inr at_top') = from (at_top.1 ∙ sym at_top'.1)
 
 module _ (tables : Tables) (tree tree' : Tree) (f h k : ℕ) (sound : IsTree tables tree) (added : IsAdded tree tree' f h k) (free : tree.content f ≡ Free) (none : tree.place h k ≡ None) where
   root_stays : tables.root ≢ f
@@ -56,7 +56,7 @@ module _ (tables : Tables) (tree tree' : Tree) (f h k : ℕ) (sound : IsTree tab
       let a : tree.content tables.root ≡ tree.content f = ap tree.content is in
       let b = sound.root in cc
 
-  pub added_sound : h < 2 → IsOwn tables f → IsTree tables tree'
+  pub added_sound : h < top → IsOwn tables f → IsTree tables tree'
   added_sound low own = record {
     apart = sound.apart;
     root = added.contents tables.root root_stays ∙ sound.root;
@@ -105,7 +105,7 @@ module _ (tables : Tables) (tree tree' : Tree) (f h k : ℕ) (sound : IsTree tab
           let there : f ≡ x = cc in subst (λ n. IsOwn tables n) there own
       owns x h' k' is (inr differs) = sound.own x h' k' (sym (added.places h' k' differs) ∙ is)
 
-      proper : (x h' k' : ℕ) → tree'.content x ≡ Table h' k' → (x ≡ f) ⊎ (x ≢ f) → (h' < 2) ⊎ ((h' ≡ 2) × (k' ≡ 0))
+      proper : (x h' k' : ℕ) → tree'.content x ≡ Table h' k' → (x ≡ f) ⊎ (x ≢ f) → (h' < top) ⊎ ((h' ≡ top) × (k' ≡ 0))
       proper x h' k' holds (inl is) =
           let a : tree'.content x ≡ tree'.content f = ap tree'.content is in
           let b = added.content in
@@ -154,27 +154,27 @@ module _ (tables : Tables) (tree tree' : Tree) (word word' leaf : ℕ → ℕ) (
 
 -- memory with the pointer to the new table says the new tree
 module _ (tables : Tables) (tree tree' : Tree) (word word' leaf : ℕ → ℕ) (f h k parent t s : ℕ) (sound : IsTree tables tree) (says : Says word tables tree leaf)
-    (added : IsAdded tree tree' f h k) (free : tree.content f ≡ Free) (none : tree.place h k ≡ None) (low : h < 2) (own : IsOwn tables f)
+    (added : IsAdded tree tree' f h k) (free : tree.content f ≡ Free) (none : tree.place h k ≡ None) (low : h < top) (own : IsOwn tables f)
     (above : tree.content parent ≡ Table (suc h) t) (slot : s < slots tables parent) (is : 512 * t + s ≡ k)
     (here : word' (512 * parent + s) ≡ pointer_word f) (there : (i : ℕ) → i ≢ 512 * parent + s → word' i ≡ word i) where
   parent_own : IsOwn tables parent
   parent_own = sound.own parent (suc h) t (sound.back parent (suc h) t above)
 
   -- the table of level h above a prefix is the parent
-  above_is : (k' u : ℕ) → suc h < 2 → u < 512 → 512 * k' + u ≡ k → tree.place (suc h) k' ≡ None → ⊥
+  above_is : (k' u : ℕ) → suc h < top → u < 512 → 512 * k' + u ≡ k → tree.place (suc h) k' ≡ None → ⊥
   above_is k' u lower small same missing =
       let low' : s < 512 = omega (arith, low_slots tables tree parent (suc h) t sound above lower, slot) in
       let e : k' ≡ t = omega (arith, same, is, small, low') in
       let a = sound.back parent (suc h) t above in
       absurd cc
 
-  nothing_below : (h' k' u : ℕ) → h' < 2 → tree.place h' k' ≡ None → u < 512 → entry_of tree' leaf (Table h' k') u ≡ 0
+  nothing_below : (h' k' u : ℕ) → h' < top → tree.place h' k' ≡ None → u < 512 → entry_of tree' leaf (Table h' k') u ≡ 0
   nothing_below zero k' u lower missing small = says.nothing zero k' u lower missing small
   nothing_below (suc h') k' u lower missing small =
       ap pointer_of (added.places h' (512 * k' + u) differs) ∙ says.nothing (suc h') k' u lower missing small
     where
       differs : (h' ≡ h) × (512 * k' + u ≡ k) → ⊥
-      differs e = above_is k' u (subst (λ n. suc n < 2) e.0 lower) small e.1 (subst (λ n. tree.place (suc n) k' ≡ None) e.0 missing)
+      differs e = above_is k' u (subst (λ n. suc n < top) e.0 lower) small e.1 (subst (λ n. tree.place (suc n) k' ≡ None) e.0 missing)
 
   pub added_says : Says word' tables tree' leaf
   added_says = record {
@@ -204,7 +204,7 @@ module _ (tables : Tables) (tree tree' : Tree) (word word' leaf : ℕ → ℕ) (
       words x u owns small (inr old) way =
           others_say tables tree tree' word word' leaf f h k parent t s sound says added.contents added.places above slot is (here ∙ ap pointer_of (sym added.place)) there x u owns small old
 
-      nothing : (h' k' u : ℕ) → h' < 2 → tree'.place h' k' ≡ None → u < 512 → ((h' ≡ h) × (k' ≡ k)) ⊎ ((h' ≡ h) × (k' ≡ k) → ⊥) → entry_of tree' leaf (Table h' k') u ≡ 0
+      nothing : (h' k' u : ℕ) → h' < top → tree'.place h' k' ≡ None → u < 512 → ((h' ≡ h) × (k' ≡ k)) ⊎ ((h' ≡ h) × (k' ≡ k) → ⊥) → entry_of tree' leaf (Table h' k') u ≡ 0
       nothing h' k' u lower missing small (inl same) =
           let a = added.place in
           let s0 = same.0 in

@@ -6,6 +6,7 @@ use Rattle.std.proofs.lemmas.List.{get_or-replicate, get_or-set_same, get_or-set
 use Rattle.std.proofs.lemmas.List.Sums.{get_or-le-sum_by, sum_by-cons, sum_by-set, sum_by-le-sum_by}
 use Rattle.shadow_space.specs.declared.frames.TableFrames.{TableFrames}
 use Rattle.shadow_space.specs.Held.{IsKept, closed, fewer, more, next_free, opened}
+use Rattle.shadow_space.specs.Trees.{most_entries, most_tables}
 use Rattle.shadow_space.proofs.Slots.{same_or}
 
 used_zero : (n : ℕ) → n ≡ 0 → ◌≡◌ {A = ℕ} (cond (not (n == 0)) 1 0) 0
@@ -177,7 +178,7 @@ sum_zero f (x ∷ xs) none zeros =
     let one : f x ≡ 0 = ap f first ∙ none in
     sum_by-cons f x xs ∙ omega (arith, one, sum_zero f xs none (λ i. zeros (suc i)))
 
-pub kept_new : (counts free places : List ℕ) (count : ℕ) → count ≤ 512 → length counts ≡ 512 → length free ≡ 512 → length places ≡ 256 → ((i : ℕ) → slice_index counts i ≡ 0)
+pub kept_new : (counts free places : List ℕ) (count : ℕ) → count ≤ most_tables → length counts ≡ most_tables → length free ≡ most_tables → length places ≡ most_entries → ((i : ℕ) → slice_index counts i ≡ 0)
     → ((i : ℕ) → i < count → slice_index free i ≡ count - (i + 1)) → IsKept (record { counts = counts; free = free; left = count; places = places }) count 0
 kept_new counts free places count few size size' size'' zeros numbers = record {
   counts = size;
@@ -203,8 +204,8 @@ each numbers count i inside few before k h = by (same_or k i)
         ap (slice_index (slice_set numbers i (count - 1 - i))) is ∙ get_or-set_same numbers i (count - 1 - i) 0 (omega (arith, inside, few)) ∙ one
     by (inr other) = get_or-set_other numbers i k (count - 1 - i) 0 other ∙ before k (omega (arith, h, other))
 
-pub numbers_more : (numbers : List ℕ) (count i : ℕ) → i < count → count ≤ 512 → length numbers ≡ 512 → ((k : ℕ) → k < i → slice_index numbers k ≡ count - (k + 1))
-    → (length (slice_set numbers i (count - 1 - i)) ≡ 512) × ((k : ℕ) → k < i + 1 → slice_index (slice_set numbers i (count - 1 - i)) k ≡ count - (k + 1))
+pub numbers_more : (numbers : List ℕ) (count i : ℕ) → i < count → count ≤ most_tables → length numbers ≡ most_tables → ((k : ℕ) → k < i → slice_index numbers k ≡ count - (k + 1))
+    → (length (slice_set numbers i (count - 1 - i)) ≡ most_tables) × ((k : ℕ) → k < i + 1 → slice_index (slice_set numbers i (count - 1 - i)) k ≡ count - (k + 1))
 numbers_more numbers count i inside few size before = (length-set numbers i (count - 1 - i) ∙ size, λ k h. each numbers count i inside (omega (arith, few, size)) before k h)
 
 pub no_count : (n i : ℕ) → slice_index (replicate n 0) i ≡ 0

@@ -8,7 +8,7 @@ use Rattle.arch_defs.specs.Frames.{Only}
 use Rattle.arch_defs.proofs.FrameSets.{only_none}
 use Rattle.shadow_space.specs.declared.writing.Tables.{Tables}
 use Rattle.shadow_space.specs.Held.{Held, IsCounted, IsKept, Stands, departed}
-use Rattle.shadow_space.specs.Trees.{Free, HasTables, IsOwn, Table, entry_of, frames_of, prefix, slots}
+use Rattle.shadow_space.specs.Trees.{Free, HasTables, IsOwn, Table, entry_of, frames_of, prefix, slots, top}
 use Rattle.shadow_space.proofs.Adding.{IsAdded, same_pair}
 use Rattle.shadow_space.proofs.Counting.{counted_inside, kept_closed, kept_fewer}
 use Rattle.shadow_space.proofs.Placing.{place_removed, removed_free, removed_none, without_place}
@@ -27,7 +27,7 @@ pub record HasDeparted (tables : Tables) (number number' : ℕ → ℕ → ℕ) 
 
 module _ (tables : Tables) (number number' : ℕ → ℕ → ℕ) (leaf : ℕ → ℕ) (entries : List Entry) (held : Held) (count total h k t s parent f : ℕ)
     (placed : HasTables tables (length held.memory)) (fits : count ≤ tables.count) (kept : IsKept held.frames count total) (stands : Stands tables number leaf entries held)
-    (low : h < 2) (above : stands.tree.content parent ≡ Table (suc h) t) (slot : s < slots tables parent) (is : 512 * t + s ≡ k)
+    (low : h < top) (above : stands.tree.content parent ≡ Table (suc h) t) (slot : s < slots tables parent) (is : 512 * t + s ≡ k)
     (place : stands.tree.place h k ≡ Some f) (counts : IsMore number' number h k) (positive : 0 < total)
     (empty : number' h k ≡ 0 → (u : ℕ) → u < 512 → entry_of stands.tree leaf (Table h k) u ≡ 0)
     (keeps : (i : ℕ) (e : Entry) → i < length entries → 0 < number' 0 (prefix 0 (slice_index_or entries i e).page)) where
@@ -81,7 +81,7 @@ module _ (tables : Tables) (number number' : ℕ → ℕ → ℕ) (leaf : ℕ �
       free = λ j own zeros. free_of j own zeros (same_or j (f - tables.first));
     }
       where
-        some_of : (h' k' f' : ℕ) → h' < 2 → (without_place stands.tree f h k).place h' k' ≡ Some f' → ((h' ≡ h) × (k' ≡ k)) ⊎ ((h' ≡ h) × (k' ≡ k) → ⊥)
+        some_of : (h' k' f' : ℕ) → h' < top → (without_place stands.tree f h k).place h' k' ≡ Some f' → ((h' ≡ h) × (k' ≡ k)) ⊎ ((h' ≡ h) × (k' ≡ k) → ⊥)
             → (slice_index (slice_set held.frames.counts (f - tables.first) 0) (f' - tables.first) ≡ number' h' k') × (0 < number' h' k')
         some_of h' k' f' low' there (inl same) =
             let a = removed_none stands.tree f h k in
@@ -96,7 +96,7 @@ module _ (tables : Tables) (number number' : ℕ → ℕ → ℕ) (leaf : ℕ �
             let number_is = counts.others h' k' low' differs in
             (get_or-set_other held.frames.counts (f - tables.first) (f' - tables.first) 0 0 (λ e. apart (omega (arith, e, range.0, range'.0))) ∙ was.0 ∙ number_is, omega (arith, was.1, number_is))
 
-        none_of : (h' k' : ℕ) → h' < 2 → (without_place stands.tree f h k).place h' k' ≡ None → ((h' ≡ h) × (k' ≡ k)) ⊎ ((h' ≡ h) × (k' ≡ k) → ⊥) → number' h' k' ≡ 0
+        none_of : (h' k' : ℕ) → h' < top → (without_place stands.tree f h k).place h' k' ≡ None → ((h' ≡ h) × (k' ≡ k)) ⊎ ((h' ≡ h) × (k' ≡ k) → ⊥) → number' h' k' ≡ 0
         none_of h' k' low' missing (inl same) = ap (λ m. number' m k') same.0 ∙ ap (number' h) same.1 ∙ none_left
         none_of h' k' low' missing (inr differs) = sym (counts.others h' k' low' differs) ∙ stands.counted.none h' k' low' (removed.places h' k' differs ∙ missing)
 

@@ -12,7 +12,7 @@ use Rattle.arch_defs.proofs.FrameSets.{only_both, only_none}
 use Rattle.shadow_space.specs.declared.cached.CachedTable.{CachedTable}
 use Rattle.shadow_space.specs.declared.writing.Tables.{Tables}
 use Rattle.shadow_space.specs.Held.{Holds, KeepsTable}
-use Rattle.shadow_space.specs.Trees.{frames_of}
+use Rattle.shadow_space.specs.Trees.{frames_of, top}
 use Rattle.shadow_space.proofs.Editing.{filled_none, kept_removed}
 use Rattle.table_words.specs.Words.{changed}
 use Rattle.table_words.proofs.Words.{changed_none, changed_then}
@@ -38,7 +38,7 @@ pub record IsDropping (tables : Tables) (old : CachedTable) (memory : List ℕ) 
   pub holds : Holds tables new memory'
   pub keeps : KeepsTable tables old memory new memory'
   pub fewer : length new.entries ≤ length old.entries
-  pub changes : changed memory memory' ≤ 3 * (length old.entries - length new.entries)
+  pub changes : changed memory memory' ≤ (top + 1) * (length old.entries - length new.entries)
 
 drops_none : (tables : Tables) (table : CachedTable) (memory : List ℕ) → Holds tables table memory → IsDropping tables table memory table memory
 drops_none tables table memory holds = record {
@@ -49,7 +49,7 @@ drops_none tables table memory holds = record {
 }
 
 drops_one : (tables : Tables) (old between new : CachedTable) (memory memory' memory'' : List ℕ) (i : ℕ) → IsDropping tables old memory between memory' → i < length between.entries
-    → new.entries ≡ remove between.entries i → KeepsTable tables between memory' new memory'' → Holds tables new memory'' → changed memory' memory'' ≤ 3
+    → new.entries ≡ remove between.entries i → KeepsTable tables between memory' new memory'' → Holds tables new memory'' → changed memory' memory'' ≤ top + 1
     → IsDropping tables old memory new memory''
 drops_one tables old between new memory memory' memory'' i drops inside is keeps holds few = record {
   holds = holds;
@@ -117,7 +117,7 @@ cuts_not tables page old new memory memory' i j e cuts some j_is at pass = recor
     i_is = omega (arith, j_is, some)
 
 pub cuts_one : (tables : Tables) (page : Option ℕ) (old between new : CachedTable) (memory memory' memory'' : List ℕ) (i j : ℕ) (e : Entry) → IsCutting tables page old memory between memory' i → 0 < i → j ≡ i - 1
-    → e ≡ get_or between.entries j e → names_page page e ≡ true → new.entries ≡ remove between.entries j → KeepsTable tables between memory' new memory'' → Holds tables new memory'' → changed memory' memory'' ≤ 3
+    → e ≡ get_or between.entries j e → names_page page e ≡ true → new.entries ≡ remove between.entries j → KeepsTable tables between memory' new memory'' → Holds tables new memory'' → changed memory' memory'' ≤ top + 1
     → IsCutting tables page old memory new memory'' j
 cuts_one tables page old between new memory memory' memory'' i j e cuts some j_is at named is keeps holds few = record {
   drops = drops_one tables old between new memory memory' memory'' j cuts.drops inside is keeps holds few;

@@ -8,7 +8,6 @@ use Rattle.arch_defs.specs.declared.second_walks.SecondWalkEnd.TheVariants as gu
 use Rattle.arch_defs.specs.declared.modes.Access.{Access}
 use Rattle.arch_defs.specs.declared.modes.Access.TheVariants.{Fetch, Load, Store, ExecLoad, Implicit}
 use Rattle.arch_defs.specs.declared.walks.LeafPte.{LeafPte}
-use Rattle.arch_defs.specs.declared.walks.Shape.TheVariants.{Sv39x4}
 use Rattle.arch_defs.specs.declared.walks.WalkEnd.TheVariants.{Leaf, PageFault}
 use Rattle.arch_defs.specs.Frames.{LieIn, in_blocks}
 use Rattle.arch_defs.specs.Memory.{block_size, ram_base}
@@ -23,12 +22,13 @@ use Rattle.table_words.proofs.Readings.{has, memory_reads, root_frame}
 use Rattle.shadow_space.specs.Laws.{EntriesGiveRam, GivesEntries, MissesAreGuestPageFaults}
 use Rattle.shadow_space.specs.Leaves.{frame_of_ram}
 use Rattle.shadow_space.specs.Shadows.{Shadow, Tidy, own_frames, root_of}
+use Rattle.shadow_space.specs.Trees.{folded_shape}
 use Rattle.shadow_space.proofs.Finding.{found_has}
 use Rattle.shadow_space.proofs.Tidying.{folded, root_aligned, tables_placed, tidy_parts}
 
 -- the walk's end for an entry
 pub walk_is : (space : Shadow) (memory : List ℕ) (mxr : Bool) (address : ℕ) (access : Access) → Tidy space memory
-    → second_walk 0 memory mxr Sv39x4 (root_of space) address access ≡ second_end 0 memory mxr address access (leaf_end space.part.blocks access (entry_at (address / 4096) space.entries))
+    → second_walk 0 memory mxr folded_shape (root_of space) address access ≡ second_end 0 memory mxr address access (leaf_end space.part.blocks access (entry_at (address / 4096) space.entries))
 unfolding second_walk
 walk_is space memory mxr address access tidy =
     let parts = tidy_parts space memory tidy in

@@ -1,7 +1,7 @@
 -- Another leaf for one page, in the table that the page has.
 use Rattle.std.proofs.Common.{◌≡◌, ◌≢◌, ℕ, zero, suc, ◌+◌, ◌*◌, ◌/◌, ◌%◌, ◌<◌, ◌⊎◌, inl, inr, Some, None, refl, sym, ap, ◌∙◌, arith}
 use Rattle.shadow_space.specs.declared.writing.Tables.{Tables}
-use Rattle.shadow_space.specs.Trees.{Content, Free, Table, IsOwn, IsTree, Says, Tree, entry_of, slots}
+use Rattle.shadow_space.specs.Trees.{Content, Free, Table, IsOwn, IsTree, Says, Tree, entry_of, slots, top}
 use Rattle.shadow_space.proofs.Adding.{low_slots}
 use Rattle.shadow_space.proofs.Slots.{same_or, same_place}
 
@@ -37,7 +37,7 @@ module _ (tables : Tables) (tree : Tree) (word word' leaf leaf' : ℕ → ℕ) (
           let there : x ≡ f = cc in
           other (omega (arith, there, both.1))
 
-  nothing_too : (h k u : ℕ) → h < 2 → tree.place h k ≡ None → u < 512 → entry_of tree leaf' (Table h k) u ≡ 0
+  nothing_too : (h k u : ℕ) → h < top → tree.place h k ≡ None → u < 512 → entry_of tree leaf' (Table h k) u ≡ 0
   nothing_too (suc h) k u low missing small = says.nothing (suc h) k u low missing small
   nothing_too zero k u low missing small = others (512 * k + u) differs ∙ says.nothing zero k u low missing small
     where

@@ -11,7 +11,9 @@ pub mod Leafing
 pub mod Lists
 pub mod Numbers
 pub mod Partings
+pub mod Passing
 pub mod Placing
+pub mod Prefixes
 pub mod Putting
 pub mod Reaching
 pub mod Removing
@@ -20,3 +22,4 @@ pub mod Starting
 pub mod Stepping
 pub mod TakingOut
 pub mod Tidying
+pub mod Ways

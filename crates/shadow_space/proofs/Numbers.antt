@@ -1,5 +1,5 @@
 -- How many entries have pages of a table.
-use Rattle.std.proofs.Common.{◌≡◌, ◌≢◌, ℕ, zero, suc, ◌+◌, ◌*◌, ◌/◌, ◌<◌, ◌≤◌, ◌⊎◌, inl, inr, cond, ◌==◌, List, [], ◌∷◌, ◌++◌, length, get_or, remove, refl, sym, ◌∙◌, arith}
+use Rattle.std.proofs.Common.{◌≡◌, ◌≢◌, ℕ, suc, ◌+◌, ◌*◌, ◌/◌, ◌<◌, ◌≤◌, ◌⊎◌, inl, inr, cond, ◌==◌, List, [], ◌∷◌, ◌++◌, length, get_or, remove, refl, sym, ◌∙◌, arith}
 use Rattle.std.proofs.lemmas.Bool.{eq-eqb, ne_eqb}
 use Rattle.std.proofs.lemmas.List.Sums.{get_or-le-sum_by, sum_by-cons, sum_by-le-sum_by, sum_by-remove, sum_by_push}
 use Rattle.arch_defs.specs.declared.cached.Entry.{Entry}
@@ -7,7 +7,6 @@ use Rattle.shadow_space.specs.Held.{number_of}
 use Rattle.shadow_space.specs.Leaves.{leaves}
 use Rattle.shadow_space.specs.Trees.{prefix}
 use Rattle.shadow_space.proofs.Slots.{same_or}
-use Rattle.shadow_space.proofs.Stepping.{IsMore}
 
 one_if : (a b : ℕ) → a ≡ b → ◌≡◌ {A = ℕ} (cond (a == b) 1 0) 1
 one_if a b is = rw (eq-eqb a b is) refl
@@ -70,30 +69,3 @@ no_leaves blocks [] k u small none = leaf_nil blocks (512 * k + u)
 no_leaves blocks (e ∷ es) k u small none =
     leaf_cons blocks e es (512 * k + u) (λ is. omega (arith, number_cons e es 0 k, none, one_if (e.page / 512) k (in_table k u e.page small is)))
     ∙ no_leaves blocks es k u small (omega (arith, number_cons e es 0 k, none))
-
--- the lowest tables by one list, those above by another
-abbrev pub mixed : (ℕ → ℕ → ℕ) → (ℕ → ℕ → ℕ) → ℕ → ℕ → ℕ
-mixed low high zero k = low zero k
-mixed low high (suc h) k = high (suc h) k
-
-module _ (less more : ℕ → ℕ → ℕ) (page : ℕ) (differs : (h k : ℕ) → more h k ≡ less h k + cond (prefix h page == k) 1 0) where
-  here : (h : ℕ) → more h (prefix h page) ≡ less h (prefix h page) + 1
-  here h = omega (arith, differs h (prefix h page), one_if (prefix h page) (prefix h page) refl)
-
-  there : (h k : ℕ) → (k ≡ prefix h page → ⊥) → more h k ≡ less h k
-  there h k other = omega (arith, differs h k, none_if (prefix h page) k (λ e. other (sym e)))
-
-  pub more_high : IsMore less (mixed less more) 1 (prefix 1 page)
-  more_high = record { here = here 1; others = others }
-    where
-      others : (h k : ℕ) → h < 2 → ((h ≡ 1) × (k ≡ prefix 1 page) → ⊥) → mixed less more h k ≡ less h k
-      others zero k low other = refl
-      others (suc zero) k low other = there 1 k (λ e. other (refl, e))
-      others (suc (suc h)) k low other = absurd (omega (arith, low))
-
-  pub more_low : IsMore (mixed less more) more 0 (prefix 0 page)
-  more_low = record { here = here 0; others = others }
-    where
-      others : (h k : ℕ) → h < 2 → ((h ≡ 0) × (k ≡ prefix 0 page) → ⊥) → more h k ≡ mixed less more h k
-      others zero k low other = there 0 k (λ e. other (refl, e))
-      others (suc h) k low other = refl

@@ -5,6 +5,7 @@ use Rattle.arch_defs.specs.Frames.{Apart, Frames, Within, in_blocks, joined, wit
 use Rattle.arch_defs.specs.Layouts.{Layout, NamesEachOnce, in_tables, root_frames, space_frames, table_frames}
 use Rattle.arch_defs.proofs.FrameSets.{apart_sym, apart_within, joined_within, left_within, range_within, ranges_apart, right_within, within_apart}
 use Rattle.arch_defs.proofs.Naming.{apart_joined}
+use Rattle.guest_specs.specs.Needs.{tables_for}
 use Rattle.shadow_space.specs.Laws.{HostFramesAreApart, RamIsApart, SpacesAreApart, SpacesLieWithin, UntouchedAreZeros}
 use Rattle.shadow_space.proofs.Clearing.{zeros_at}
 use Rattle.shadow_space.proofs.Tidying.{tables_end}
@@ -16,14 +17,14 @@ module _ (part : Layout) where
   root_within : (i : ℕ) → i < part.spaces → Within (within (part.first_root + 4 * (1 + i)) 4) (root_frames part)
   root_within i own = range_within (part.first_root + 4 * (1 + i)) 4 part.first_root (4 * (1 + part.spaces)) (omega arith) (omega arith)
 
-  tables_within : (i : ℕ) → i < part.spaces → Within (within (part.first_table + 1 + i * (2 * part.entries)) (2 * part.entries)) (table_frames part)
+  tables_within : (i : ℕ) → i < part.spaces → Within (within (part.first_table + 1 + i * tables_for part.entries) (tables_for part.entries)) (table_frames part)
   tables_within i own =
-      range_within (part.first_table + 1 + i * (2 * part.entries)) (2 * part.entries) part.first_table (1 + part.spaces * (2 * part.entries)) (omega arith)
-      (omega (arith, tables_end i part.spaces (2 * part.entries) own))
+      range_within (part.first_table + 1 + i * tables_for part.entries) (tables_for part.entries) part.first_table (1 + part.spaces * tables_for part.entries) (omega arith)
+      (omega (arith, tables_end i part.spaces (tables_for part.entries) own))
 
   space_within : (i : ℕ) → i < part.spaces → Within (space_frames part i) (in_tables part)
   space_within i own =
-      joined_within (within (part.first_root + 4 * (1 + i)) 4) (within (part.first_table + 1 + i * (2 * part.entries)) (2 * part.entries)) (in_tables part)
+      joined_within (within (part.first_root + 4 * (1 + i)) 4) (within (part.first_table + 1 + i * tables_for part.entries) (tables_for part.entries)) (in_tables part)
       (λ f is. left_within (root_frames part) (table_frames part) f (root_within i own f is))
       (λ f is. right_within (root_frames part) (table_frames part) f (tables_within i own f is))
 
@@ -41,31 +42,31 @@ module _ (part : Layout) where
   host_root = range_within part.first_root 4 part.first_root (4 * (1 + part.spaces)) (omega arith) (omega arith)
 
   host_table : Within (within part.first_table 1) (table_frames part)
-  host_table = range_within part.first_table 1 part.first_table (1 + part.spaces * (2 * part.entries)) (omega arith) (omega arith)
+  host_table = range_within part.first_table 1 part.first_table (1 + part.spaces * tables_for part.entries) (omega arith) (omega arith)
 
   pub host_apart : NamesEachOnce part → HostFramesAreApart part
   host_apart once i own =
       joined_apart (within part.first_root 4) (within part.first_table 1) (space_frames part i)
-      (apart_joined (within part.first_root 4) (within (part.first_root + 4 * (1 + i)) 4) (within (part.first_table + 1 + i * (2 * part.entries)) (2 * part.entries))
+      (apart_joined (within part.first_root 4) (within (part.first_root + 4 * (1 + i)) 4) (within (part.first_table + 1 + i * tables_for part.entries) (tables_for part.entries))
       (ranges_apart part.first_root 4 (part.first_root + 4 * (1 + i)) 4 (omega arith))
-      (root_tables once (within part.first_root 4) (within (part.first_table + 1 + i * (2 * part.entries)) (2 * part.entries)) host_root (tables_within i own)))
-      (apart_joined (within part.first_table 1) (within (part.first_root + 4 * (1 + i)) 4) (within (part.first_table + 1 + i * (2 * part.entries)) (2 * part.entries))
+      (root_tables once (within part.first_root 4) (within (part.first_table + 1 + i * tables_for part.entries) (tables_for part.entries)) host_root (tables_within i own)))
+      (apart_joined (within part.first_table 1) (within (part.first_root + 4 * (1 + i)) 4) (within (part.first_table + 1 + i * tables_for part.entries) (tables_for part.entries))
       (apart_sym (within (part.first_root + 4 * (1 + i)) 4) (within part.first_table 1) (root_tables once (within (part.first_root + 4 * (1 + i)) 4) (within part.first_table 1) (root_within i own) host_table))
-      (ranges_apart part.first_table 1 (part.first_table + 1 + i * (2 * part.entries)) (2 * part.entries) (omega arith)))
+      (ranges_apart part.first_table 1 (part.first_table + 1 + i * tables_for part.entries) (tables_for part.entries) (omega arith)))
 
   -- two spaces, the first before the second
   in_order : NamesEachOnce part → (i j : ℕ) → i < j → j < part.spaces → Apart (space_frames part i) (space_frames part j)
   in_order once i j before own =
       let first : i < part.spaces = omega arith in
-      joined_apart (within (part.first_root + 4 * (1 + i)) 4) (within (part.first_table + 1 + i * (2 * part.entries)) (2 * part.entries)) (space_frames part j)
-      (apart_joined (within (part.first_root + 4 * (1 + i)) 4) (within (part.first_root + 4 * (1 + j)) 4) (within (part.first_table + 1 + j * (2 * part.entries)) (2 * part.entries))
+      joined_apart (within (part.first_root + 4 * (1 + i)) 4) (within (part.first_table + 1 + i * tables_for part.entries) (tables_for part.entries)) (space_frames part j)
+      (apart_joined (within (part.first_root + 4 * (1 + i)) 4) (within (part.first_root + 4 * (1 + j)) 4) (within (part.first_table + 1 + j * tables_for part.entries) (tables_for part.entries))
       (ranges_apart (part.first_root + 4 * (1 + i)) 4 (part.first_root + 4 * (1 + j)) 4 (omega arith))
-      (root_tables once (within (part.first_root + 4 * (1 + i)) 4) (within (part.first_table + 1 + j * (2 * part.entries)) (2 * part.entries)) (root_within i first) (tables_within j own)))
-      (apart_joined (within (part.first_table + 1 + i * (2 * part.entries)) (2 * part.entries)) (within (part.first_root + 4 * (1 + j)) 4) (within (part.first_table + 1 + j * (2 * part.entries)) (2 * part.entries))
-      (apart_sym (within (part.first_root + 4 * (1 + j)) 4) (within (part.first_table + 1 + i * (2 * part.entries)) (2 * part.entries))
-      (root_tables once (within (part.first_root + 4 * (1 + j)) 4) (within (part.first_table + 1 + i * (2 * part.entries)) (2 * part.entries)) (root_within j own) (tables_within i first)))
-      (ranges_apart (part.first_table + 1 + i * (2 * part.entries)) (2 * part.entries) (part.first_table + 1 + j * (2 * part.entries)) (2 * part.entries)
-      (omega (arith, tables_end i j (2 * part.entries) before))))
+      (root_tables once (within (part.first_root + 4 * (1 + i)) 4) (within (part.first_table + 1 + j * tables_for part.entries) (tables_for part.entries)) (root_within i first) (tables_within j own)))
+      (apart_joined (within (part.first_table + 1 + i * tables_for part.entries) (tables_for part.entries)) (within (part.first_root + 4 * (1 + j)) 4) (within (part.first_table + 1 + j * tables_for part.entries) (tables_for part.entries))
+      (apart_sym (within (part.first_root + 4 * (1 + j)) 4) (within (part.first_table + 1 + i * tables_for part.entries) (tables_for part.entries))
+      (root_tables once (within (part.first_root + 4 * (1 + j)) 4) (within (part.first_table + 1 + i * tables_for part.entries) (tables_for part.entries)) (root_within j own) (tables_within i first)))
+      (ranges_apart (part.first_table + 1 + i * tables_for part.entries) (tables_for part.entries) (part.first_table + 1 + j * tables_for part.entries) (tables_for part.entries)
+      (omega (arith, tables_end i j (tables_for part.entries) before))))
 
   pub spaces_apart : NamesEachOnce part → SpacesAreApart part
   spaces_apart once i j own own' other = by (cases_lt i j)

@@ -1,5 +1,5 @@
 -- The frames that the root does not reach.
-use Rattle.std.proofs.Common.{◌≡◌, ◌≢◌, ℕ, zero, suc, ◌+◌, ◌*◌, ◌/◌, ◌%◌, ◌<◌, ◌≤◌, ◌^◌, ◌⊎◌, inl, inr, cond, ◌==◌, List, [], ◌∷◌, Option, Some, None, refl, sym, ap, ◌∙◌, arith}
+use Rattle.std.proofs.Common.{◌≡◌, ◌≢◌, ℕ, zero, suc, ◌+◌, ◌-◌, ◌*◌, ◌/◌, ◌%◌, ◌<◌, ◌≤◌, ◌⊎◌, inl, inr, cond, ◌==◌, List, [], ◌∷◌, Option, Some, None, refl, sym, ap, subst, ◌∙◌, arith}
 use Rattle.std.specs.List.{All}
 use Rattle.std.proofs.lemmas.Bool.{ne_eqb}
 use Rattle.std.proofs.lemmas.List.Elements.{All-head, All-tail}
@@ -7,11 +7,13 @@ use Rattle.arch_defs.specs.declared.cached.Entry.{Entry}
 use Rattle.arch_defs.specs.CachedEntries.{CanFill}
 use Rattle.shadow_space.specs.Held.{number_of, Holds, KeepsTable}
 use Rattle.shadow_space.specs.Leaves.{leaves}
-use Rattle.shadow_space.specs.Reaching.{FreeAreZeros, IsReached, PointsTo}
+use Rattle.shadow_space.specs.Reaching.{FreeAreZeros, IsReached, IsReachedBy, PointsTo}
 use Rattle.shadow_space.specs.Shadows.{IsTidy, Shadow, Tidy, root_of, tables_in, IsShadow, shadow_of}
-use Rattle.shadow_space.specs.Trees.{Content, Free, Table, entry_of, pointer_of, slots}
+use Rattle.shadow_space.specs.Trees.{Content, Free, Table, entry_of, pointer_of, prefix, slots, top}
 use Rattle.shadow_space.proofs.Adding.{low_slots}
 use Rattle.shadow_space.proofs.Numbers.{no_number_of, number_cons}
+use Rattle.shadow_space.proofs.Prefixes.{few_prefixes}
+use Rattle.shadow_space.proofs.Ways.{tree_own}
 use Rattle.shadow_space.proofs.Slots.{other_slots, other_than_root, root_slots, same_or}
 use Rattle.shadow_space.proofs.Tidying.{tidy_parts, folded, tidy_kept}
 use Rattle.table_words.proofs.Pointers.{pointer_some}
@@ -20,20 +22,17 @@ use Rattle.shadow_space.specs.declared.writing.Tables.{Tables}
 use Rattle.shadow_space.specs.Folding.{Folded}
 use Rattle.table_words.specs.Words.{doubleword_at}
 
--- an entry's page has a small number, and so has its table
-small_part : (page k : ℕ) → page < 2 ^ 29 → page / 512 / 512 ≡ k → k < 2048
-small_part page k small is = omega (arith, is, small)
-
+-- the root has an entry for each table of the level below it
 none_if : (a b : ℕ) → a ≢ b → ◌≡◌ {A = ℕ} (cond (a == b) 1 0) 0
 none_if a b other = rw (ne_eqb a b other) refl
 
-few_tables : (blocks : List ℕ) (es : List Entry) (k : ℕ) → All (CanFill blocks) es → 0 < number_of es 1 k → k < 2048
-few_tables blocks [] k can some = absurd (omega (arith, no_number_of 1 k, some))
-few_tables blocks (e ∷ es) k can some = by (few_tables blocks es k (All-tail (CanFill blocks) e es can)) (same_or (e.page / 512 / 512) k)
+few_tables : (blocks : List ℕ) (es : List Entry) (h k : ℕ) → suc h ≡ top → All (CanFill blocks) es → 0 < number_of es h k → k < 2048
+few_tables blocks [] h k last can some = absurd (omega (arith, no_number_of h k, some))
+few_tables blocks (e ∷ es) h k last can some = by (few_tables blocks es h k last (All-tail (CanFill blocks) e es can)) (same_or (prefix h e.page) k)
   where
-    by : (0 < number_of es 1 k → k < 2048) → (e.page / 512 / 512 ≡ k) ⊎ (e.page / 512 / 512 ≢ k) → k < 2048
-    by later (inl is) = let first = All-head (CanFill blocks) e es can in let small = first.page in small_part e.page k small is
-    by later (inr other) = later (omega (arith, number_cons e es 1 k, none_if (e.page / 512 / 512) k other, some))
+    by : (0 < number_of es h k → k < 2048) → (prefix h e.page ≡ k) ⊎ (prefix h e.page ≢ k) → k < 2048
+    by later (inl is) = let first = All-head (CanFill blocks) e es can in omega (arith, is, few_prefixes h e.page last first.page)
+    by later (inr other) = later (omega (arith, number_cons e es h k, none_if (prefix h e.page) k other, some))
 
 none_before : (k : ℕ) → 512 * 0 + k ≡ k
 none_before k = omega arith
@@ -41,49 +40,67 @@ none_before k = omega arith
 whole : (k : ℕ) → 512 * (k / 512) + k % 512 ≡ k
 whole k = omega arith
 
+root_reached : (memory : List ℕ) (tables : Tables) (n : ℕ) → n ≡ 0 → IsReachedBy memory tables n tables.root
+root_reached memory tables n is = subst (λ n. IsReachedBy memory tables n tables.root) (sym is) refl
+
 module _ (space : Shadow) (memory : List ℕ) (tidy : IsTidy space memory) where
-  -- a table of level 1 is in an entry of the root
-  upper : (frame k : ℕ) → tidy.holds.stands.tree.place 1 k ≡ Some frame → PointsTo memory (root_of space) 2048 frame
-  upper frame k place =
-      let counts = tidy.holds.stands.counted.some 1 k frame (omega arith) place in
-      let small = few_tables space.part.blocks space.entries k tidy.holds.fill counts.1 in
-      let root : k < slots (tables_in space.part space.index) (root_of space) = omega (arith, small, root_slots (tables_in space.part space.index) (root_of space) refl) in (
-        k,
-        small,
-        tidy.holds.stands.says.words (root_of space) k (inl refl) root
-            ∙ ap (λ c. entry_of tidy.holds.stands.tree (leaves space.part.blocks space.entries) c k) tidy.holds.stands.sound.root
-            ∙ ap (λ n. pointer_of (tidy.holds.stands.tree.place 1 n)) (none_before k)
-            ∙ ap pointer_of place,
+  points : (parent frame h k t s : ℕ) → tidy.holds.stands.tree.content parent ≡ Table (suc h) t → s < slots (tables_in space.part space.index) parent → 512 * t + s ≡ k
+      → tidy.holds.stands.tree.place h k ≡ Some frame → PointsTo memory (tables_in space.part space.index) parent frame
+  points parent frame h k t s holds slot is place = (
+    s,
+    slot,
+    tidy.holds.stands.says.words parent s (tree_own (tables_in space.part space.index) tidy.holds.stands.tree parent (suc h) t tidy.holds.stands.sound holds) slot
+        ∙ ap (λ c. entry_of tidy.holds.stands.tree (leaves space.part.blocks space.entries) c s) holds
+        ∙ ap (λ n. pointer_of (tidy.holds.stands.tree.place h n)) is
+        ∙ ap pointer_of place,
+  )
+
+  -- a table is in an entry of the root, or of the table above it
+  upper : (frame h k : ℕ) → suc h ≡ top → tidy.holds.stands.tree.place h k ≡ Some frame → PointsTo memory (tables_in space.part space.index) (root_of space) frame
+  upper frame h k last place =
+      let counts = tidy.holds.stands.counted.some h k frame (omega (arith, last)) place in
+      let few = few_tables space.part.blocks space.entries h k last tidy.holds.fill counts.1 in
+      points (root_of space) frame h k 0 k (tidy.holds.stands.sound.root ∙ ap (λ n. Table n 0) (sym last)) (omega (arith, few, root_slots (tables_in space.part space.index) (root_of space) refl)) (none_before k) place
+
+  lower : (frame h k : ℕ) → suc h < top → tidy.holds.stands.tree.place h k ≡ Some frame → (o : Option ℕ) → tidy.holds.stands.tree.place (suc h) (k / 512) ≡ o
+      → (g : ℕ) × (tidy.holds.stands.tree.place (suc h) (k / 512) ≡ Some g) × PointsTo memory (tables_in space.part space.index) g frame
+  lower frame h k low place None none =
+      let zeros = tidy.holds.stands.says.nothing (suc h) (k / 512) (k % 512) low none (omega arith) in
+      absurd (pointer_some frame (ap pointer_of (sym (ap (tidy.holds.stands.tree.place h) (whole k) ∙ place)) ∙ zeros))
+  lower frame h k low place (Some g) is =
+      let holds = tidy.holds.stands.sound.forth g (suc h) (k / 512) is in (
+        g,
+        is,
+        points g frame h k (k / 512) (k % 512) holds (omega (arith, low_slots (tables_in space.part space.index) tidy.holds.stands.tree g (suc h) (k / 512) tidy.holds.stands.sound holds low)) (whole k) place,
       )
 
-  -- and one of level 0 in one of those
-  lower : (frame k : ℕ) → tidy.holds.stands.tree.place 0 k ≡ Some frame → IsReached memory (root_of space) frame
-  lower frame k place = by (tidy.holds.stands.tree.place 1 (k / 512)) refl
+  -- so the root leads to it
+  reached : (n frame h k : ℕ) → h + n ≡ top → tidy.holds.stands.tree.place h k ≡ Some frame → IsReachedBy memory (tables_in space.part space.index) n frame
+  reached zero frame h k level place = by (tidy.holds.stands.sound.proper frame h k holds)
     where
-      there : tidy.holds.stands.tree.place 0 (512 * (k / 512) + k % 512) ≡ Some frame
-      there = ap (tidy.holds.stands.tree.place 0) (whole k) ∙ place
+      holds : tidy.holds.stands.tree.content frame ≡ Table h k
+      holds = tidy.holds.stands.sound.forth frame h k place
 
-      by : (o : Option ℕ) → tidy.holds.stands.tree.place 1 (k / 512) ≡ o → IsReached memory (root_of space) frame
-      by None none =
-          let zeros = tidy.holds.stands.says.nothing 1 (k / 512) (k % 512) (omega arith) none (omega arith) in
-          absurd (pointer_some frame (ap pointer_of (sym there) ∙ zeros))
-      by (Some g) is =
-          let holds = tidy.holds.stands.sound.forth g 1 (k / 512) is in
-          let fits : k % 512 < slots (tables_in space.part space.index) g = omega (arith, low_slots (tables_in space.part space.index) tidy.holds.stands.tree g 1 (k / 512) tidy.holds.stands.sound holds (omega arith)) in
-          inr (
-            g,
-            upper g (k / 512) is,
-            (
-              k % 512,
-              omega arith,
-              tidy.holds.stands.says.words g (k % 512) (tidy.holds.stands.sound.own g 1 (k / 512) is) fits
-                  ∙ ap (λ c. entry_of tidy.holds.stands.tree (leaves space.part.blocks space.entries) c (k % 512)) holds
-                  ∙ ap pointer_of there,
-            ),
-          )
+      by : (h < top) ⊎ ((h ≡ top) × (k ≡ 0)) → frame ≡ root_of space
+      by (inl low) = absurd (omega (arith, low, level))
+      by (inr both) =
+          let root = tidy.holds.stands.sound.back (root_of space) top 0 tidy.holds.stands.sound.root in
+          let h_is = both.0 in
+          let k_is = both.1 in
+          let here = place in
+          cc
+  reached (suc n) frame h k level place = by (λ g place'. reached n g (suc h) (k / 512) (omega (arith, level)) place') (λ last. root_reached memory (tables_in space.part space.index) n (omega (arith, last, level))) (same_or (suc h) top)
+    where
+      by : ((g : ℕ) → tidy.holds.stands.tree.place (suc h) (k / 512) ≡ Some g → IsReachedBy memory (tables_in space.part space.index) n g)
+          → (suc h ≡ top → IsReachedBy memory (tables_in space.part space.index) n (root_of space))
+          → (suc h ≡ top) ⊎ (suc h ≢ top) → (frame' : ℕ) × IsReachedBy memory (tables_in space.part space.index) n frame' × PointsTo memory (tables_in space.part space.index) frame' frame
+      by above root (inl last) = (root_of space, root last, upper frame h k last place)
+      by above root (inr other) =
+          let up = lower frame h k (omega (arith, level, other)) place (tidy.holds.stands.tree.place (suc h) (k / 512)) refl in
+          (up.0, above up.0 up.1, up.2)
 
   free : (frame s : ℕ) → (tables_in space.part space.index).first ≤ frame → frame < (tables_in space.part space.index).first + (tables_in space.part space.index).count → s < 512
-      → (IsReached memory (root_of space) frame → ⊥) → doubleword_at memory (512 * frame + s) ≡ 0
+      → (IsReached memory (tables_in space.part space.index) frame → ⊥) → doubleword_at memory (512 * frame + s) ≡ 0
   free frame s from to small missed = by (tidy.holds.stands.tree.content frame) refl
     where
       other : frame ≢ root_of space
@@ -92,25 +109,14 @@ module _ (space : Shadow) (memory : List ℕ) (tidy : IsTidy space memory) where
       fits : s < slots (tables_in space.part space.index) frame
       fits = omega (arith, other_slots (tables_in space.part space.index) frame other, small)
 
-      top_is : (h k : ℕ) → tidy.holds.stands.tree.content frame ≡ Table h k → h ≡ 2 → k ≡ 0 → ⊥
-      top_is h k is h_is k_is =
-          let here = tidy.holds.stands.sound.back frame h k is in
-          let root = tidy.holds.stands.sound.back (root_of space) 2 0 tidy.holds.stands.sound.root in
-          let same : frame ≡ root_of space = cc in
-          other same
-
-      table : (h k : ℕ) → tidy.holds.stands.tree.content frame ≡ Table h k → IsReached memory (root_of space) frame
-      table zero k is = lower frame k (tidy.holds.stands.sound.back frame 0 k is)
-      table (suc zero) k is = inl (upper frame k (tidy.holds.stands.sound.back frame 1 k is))
-      table (suc (suc h)) k is = high (tidy.holds.stands.sound.proper frame (suc (suc h)) k is)
-        where
-          high : (suc (suc h) < 2) ⊎ ((suc (suc h) ≡ 2) × (k ≡ 0)) → IsReached memory (root_of space) frame
-          high (inl low) = absurd (omega (arith, low))
-          high (inr both) = absurd (top_is (suc (suc h)) k is both.0 both.1)
+      level : (h k : ℕ) → (h < top) ⊎ ((h ≡ top) × (k ≡ 0)) → h + (top - h) ≡ top
+      level h k (inl low) = omega (arith, low)
+      level h k (inr both) = omega (arith, both.0)
 
       by : (c : Content) → tidy.holds.stands.tree.content frame ≡ c → doubleword_at memory (512 * frame + s) ≡ 0
       by Free is = tidy.holds.stands.says.words frame s (inr (from, to)) fits ∙ ap (λ c. entry_of tidy.holds.stands.tree (leaves space.part.blocks space.entries) c s) is
-      by (Table h k) is = absurd (missed (table h k is))
+      by (Table h k) is =
+          absurd (missed (top - h, omega arith, reached (top - h) frame h k (level h k (tidy.holds.stands.sound.proper frame h k is)) (tidy.holds.stands.sound.back frame h k is)))
 
 pub unreached : (space : Shadow) (memory : List ℕ) → Tidy space memory → FreeAreZeros space memory
 unreached space memory tidy = record { each = free space memory (tidy_parts space memory tidy) }

@@ -1,18 +1,18 @@
 -- A tree without a table that has no entry.
 use Rattle.std.proofs.Common.{◌≡◌, ◌≢◌, ℕ, zero, suc, ◌+◌, ◌*◌, ◌<◌, ◌⊎◌, inl, inr, Some, None, sym, ap, subst, ◌∙◌, arith}
 use Rattle.shadow_space.specs.declared.writing.Tables.{Tables}
-use Rattle.shadow_space.specs.Trees.{Free, Table, IsOwn, IsTree, Says, Tree, entry_of, pointer_of, slots}
+use Rattle.shadow_space.specs.Trees.{Free, Table, IsOwn, IsTree, Says, Tree, entry_of, pointer_of, slots, top}
 use Rattle.shadow_space.proofs.Adding.{IsAdded, low_slots, others_say, same_pair}
 use Rattle.shadow_space.proofs.Slots.{same_or, same_place}
 
 -- the first tree is the second with a table in a frame
 module _ (tables : Tables) (tree tree' : Tree) (f h k : ℕ) (sound : IsTree tables tree) (removed : IsAdded tree' tree f h k) (free : tree'.content f ≡ Free) (none : tree'.place h k ≡ None) where
-  root_other : h < 2 → tables.root ≢ f
+  root_other : h < top → tables.root ≢ f
   root_other low is =
       let a : tree.content tables.root ≡ tree.content f = ap tree.content is in
       let b = sound.root in
       let c = removed.content in
-      let top : 2 ≡ h = cc in omega arith
+      let at_top : top ≡ h = cc in omega arith
 
   other_frame : (x h' k' : ℕ) → tree'.content x ≡ Table h' k' → x ≢ f
   other_frame x h' k' holds is =
@@ -27,7 +27,7 @@ module _ (tables : Tables) (tree tree' : Tree) (f h k : ℕ) (sound : IsTree tab
       let s1 = same.1 in
       absurd cc
 
-  pub removed_sound : h < 2 → IsTree tables tree'
+  pub removed_sound : h < top → IsTree tables tree'
   removed_sound low = record {
     apart = sound.apart;
     root = sym (removed.contents tables.root (root_other low)) ∙ sound.root;
@@ -70,7 +70,7 @@ module _ (tables : Tables) (tree tree' : Tree) (f h k : ℕ) (sound : IsTree tab
 
 -- memory without the pointer to it says the new tree
 module _ (tables : Tables) (tree tree' : Tree) (word word' leaf : ℕ → ℕ) (f h k parent t s : ℕ) (sound : IsTree tables tree) (says : Says word tables tree leaf)
-    (removed : IsAdded tree' tree f h k) (free : tree'.content f ≡ Free) (none : tree'.place h k ≡ None) (low : h < 2)
+    (removed : IsAdded tree' tree f h k) (free : tree'.content f ≡ Free) (none : tree'.place h k ≡ None) (low : h < top)
     (above : tree.content parent ≡ Table (suc h) t) (slot : s < slots tables parent) (is : 512 * t + s ≡ k)
     (empty : (u : ℕ) → u < 512 → entry_of tree leaf (Table h k) u ≡ 0)
     (here : word' (512 * parent + s) ≡ 0) (there : (i : ℕ) → i ≢ 512 * parent + s → word' i ≡ word i) where
@@ -118,7 +118,7 @@ module _ (tables : Tables) (tree tree' : Tree) (word word' leaf : ℕ → ℕ) (
           others_say tables tree tree' word word' leaf f h k parent t s sound says (λ x other. sym (removed.contents x other)) (λ h' k' differs. sym (removed.places h' k' differs))
           above slot is (here ∙ ap pointer_of (sym none)) there x u owns small old
 
-      nothing : (h' k' u : ℕ) → h' < 2 → tree'.place h' k' ≡ None → u < 512 → ((h' ≡ h) × (k' ≡ k)) ⊎ ((h' ≡ h) × (k' ≡ k) → ⊥) → entry_of tree' leaf (Table h' k') u ≡ 0
+      nothing : (h' k' u : ℕ) → h' < top → tree'.place h' k' ≡ None → u < 512 → ((h' ≡ h) × (k' ≡ k)) ⊎ ((h' ≡ h) × (k' ≡ k) → ⊥) → entry_of tree' leaf (Table h' k') u ≡ 0
       nothing h' k' u lower missing small (inl same) =
           nothing_below h' k' u (subst (λ n. entry_of tree leaf (Table n k') u ≡ 0) (sym same.0) (subst (λ n. entry_of tree leaf (Table h n) u ≡ 0) (sym same.1) (empty u small)))
       nothing h' k' u lower missing small (inr differs) =

@@ -8,7 +8,7 @@ use Rattle.shadow_space.specs.declared.frames.TableFrames.{TableFrames}
 use Rattle.shadow_space.specs.Held.{Stands, held_in, number_of}
 use Rattle.shadow_space.specs.Leaves.{leaves}
 use Rattle.shadow_space.specs.Shadows.{AreZeros}
-use Rattle.shadow_space.specs.Trees.{Free, IsOwn, IsTree, RootIsApart, Says, Table, Tree, entry_of, frames_of, pointer_of, slots}
+use Rattle.shadow_space.specs.Trees.{Free, IsOwn, IsTree, RootIsApart, Says, Table, Tree, entry_of, frames_of, pointer_of, slots, top}
 use Rattle.shadow_space.proofs.Finding.{no_leaf}
 use Rattle.shadow_space.proofs.Slots.{other_than_root, own_frame, same_or}
 use Rattle.table_words.specs.Words.{doubleword_at}
@@ -17,36 +17,36 @@ use Rattle.table_words.proofs.Words.{same_frame}
 -- the root alone
 abbrev pub root_alone : Tables → Tree
 root_alone tables = record {
-  content = λ f. if f == tables.root then Table 2 0 else Free;
-  place = λ h k. if h == 2 && k == 0 then Some tables.root else None;
+  content = λ f. if f == tables.root then Table top 0 else Free;
+  place = λ h k. if h == top && k == 0 then Some tables.root else None;
 }
 
 -- the root alone is a tree, and zeros are its words
-alone : (tables : Tables) (x h k : ℕ) → (if x == tables.root then Table 2 0 else Free) ≡ Table h k → (x ≡ tables.root) × ((h ≡ 2) × (k ≡ 0))
+alone : (tables : Tables) (x h k : ℕ) → (if x == tables.root then Table top 0 else Free) ≡ Table h k → (x ≡ tables.root) × ((h ≡ top) × (k ≡ 0))
 alone tables x h k holds = by (same_or x tables.root)
   where
-    by : (x ≡ tables.root) ⊎ (x ≢ tables.root) → (x ≡ tables.root) × ((h ≡ 2) × (k ≡ 0))
-    by (inl is) = let top : Table 2 0 ≡ Table h k = rw (eq-eqb x tables.root is) at holds in (is, (cc, cc))
-    by (inr other) = let top : Free ≡ Table h k = rw (ne_eqb x tables.root other) at holds in absurd cc
+    by : (x ≡ tables.root) ⊎ (x ≢ tables.root) → (x ≡ tables.root) × ((h ≡ top) × (k ≡ 0))
+    by (inl is) = let at_top : Table top 0 ≡ Table h k = rw (eq-eqb x tables.root is) at holds in (is, (cc, cc))
+    by (inr other) = let at_top : Free ≡ Table h k = rw (ne_eqb x tables.root other) at holds in absurd cc
 
-alone_place : (tables : Tables) (x h k : ℕ) → (if h == 2 && k == 0 then Some tables.root else None) ≡ Some x → (x ≡ tables.root) × ((h ≡ 2) × (k ≡ 0))
-alone_place tables x h k is = by (same_or h 2) (same_or k 0)
+alone_place : (tables : Tables) (x h k : ℕ) → (if h == top && k == 0 then Some tables.root else None) ≡ Some x → (x ≡ tables.root) × ((h ≡ top) × (k ≡ 0))
+alone_place tables x h k is = by (same_or h top) (same_or k 0)
   where
-    none_of : (h == 2 && k == 0) ≡ false → (x ≡ tables.root) × ((h ≡ 2) × (k ≡ 0))
+    none_of : (h == top && k == 0) ≡ false → (x ≡ tables.root) × ((h ≡ top) × (k ≡ 0))
     none_of test = let no_place : None ≡ Some x = rw test at is in absurd cc
 
-    by : (h ≡ 2) ⊎ (h ≢ 2) → (k ≡ 0) ⊎ (k ≢ 0) → (x ≡ tables.root) × ((h ≡ 2) × (k ≡ 0))
+    by : (h ≡ top) ⊎ (h ≢ top) → (k ≡ 0) ⊎ (k ≢ 0) → (x ≡ tables.root) × ((h ≡ top) × (k ≡ 0))
     by (inl a) (inl b) =
-        let there : Some tables.root ≡ Some x = rw (and_from (h == 2) (k == 0) (eq-eqb h 2 a) (eq-eqb k 0 b)) at is in
+        let there : Some tables.root ≡ Some x = rw (and_from (h == top) (k == 0) (eq-eqb h top a) (eq-eqb k 0 b)) at is in
         (cc, (a, b))
-    by (inl a) (inr b) = none_of (and_right (h == 2) (k == 0) (ne_eqb k 0 b))
-    by (inr a) way = none_of (and_left (h == 2) (k == 0) (ne_eqb h 2 a))
+    by (inl a) (inr b) = none_of (and_right (h == top) (k == 0) (ne_eqb k 0 b))
+    by (inr a) way = none_of (and_left (h == top) (k == 0) (ne_eqb h top a))
 
-root_place : (tables : Tables) (h k : ℕ) → h ≡ 2 → k ≡ 0 → (if h == 2 && k == 0 then Some tables.root else None) ≡ Some tables.root
-root_place tables h k a b = rw (and_from (h == 2) (k == 0) (eq-eqb h 2 a) (eq-eqb k 0 b)) refl
+root_place : (tables : Tables) (h k : ℕ) → h ≡ top → k ≡ 0 → (if h == top && k == 0 then Some tables.root else None) ≡ Some tables.root
+root_place tables h k a b = rw (and_from (h == top) (k == 0) (eq-eqb h top a) (eq-eqb k 0 b)) refl
 
-pub low_place : (tables : Tables) (h k : ℕ) → h < 2 → (if h == 2 && k == 0 then Some tables.root else None) ≡ None
-low_place tables h k low = rw (and_left (h == 2) (k == 0) (ne_eqb h 2 (λ e. omega arith))) refl
+pub low_place : (tables : Tables) (h k : ℕ) → h < top → (if h == top && k == 0 then Some tables.root else None) ≡ None
+low_place tables h k low = rw (and_left (h == top) (k == 0) (ne_eqb h top (λ e. omega arith))) refl
 
 pub alone_sound : (tables : Tables) → RootIsApart tables → IsTree tables (root_alone tables)
 alone_sound tables apart = record {
@@ -58,13 +58,13 @@ alone_sound tables apart = record {
   proper = λ x h k holds. inr (alone tables x h k holds).1;
 }
   where
-    content : (x h k : ℕ) → x ≡ tables.root → h ≡ 2 → k ≡ 0 → (if x == tables.root then Table 2 0 else Free) ≡ Table h k
+    content : (x h k : ℕ) → x ≡ tables.root → h ≡ top → k ≡ 0 → (if x == tables.root then Table top 0 else Free) ≡ Table h k
     content x h k is a b = rw (eq-eqb x tables.root is, a, b) refl
 
-root_entry : (leaf : ℕ → ℕ) (tables : Tables) (x s : ℕ) → entry_of (root_alone tables) leaf (if x == tables.root then Table 2 0 else Free) s ≡ 0
+root_entry : (leaf : ℕ → ℕ) (tables : Tables) (x s : ℕ) → entry_of (root_alone tables) leaf (if x == tables.root then Table top 0 else Free) s ≡ 0
 root_entry leaf tables x s = by (x == tables.root)
   where
-    by : (b : Bool) → entry_of (root_alone tables) leaf (if b then Table 2 0 else Free) s ≡ 0
+    by : (b : Bool) → entry_of (root_alone tables) leaf (if b then Table top 0 else Free) s ≡ 0
     by true = refl
     by false = refl
 
@@ -75,7 +75,7 @@ alone_says tables word leaf none zeros = record {
   nothing = nothing;
 }
   where
-    nothing : (h k s : ℕ) → h < 2 → (root_alone tables).place h k ≡ None → s < 512 → entry_of (root_alone tables) leaf (Table h k) s ≡ 0
+    nothing : (h k s : ℕ) → h < top → (root_alone tables).place h k ≡ None → s < 512 → entry_of (root_alone tables) leaf (Table h k) s ≡ 0
     nothing zero k s low missing small = none (512 * k + s)
     nothing (suc h) k s low missing small = ap pointer_of (low_place tables h (512 * k + s) (omega arith))
 

@@ -8,7 +8,7 @@ use Rattle.arch_defs.specs.Frames.{Only}
 use Rattle.arch_defs.proofs.FrameSets.{only_none}
 use Rattle.shadow_space.specs.declared.writing.Tables.{Tables}
 use Rattle.shadow_space.specs.Held.{HasFree, Held, IsCounted, IsCounting, IsKept, Stands, table_entered, entered_frame, next_free}
-use Rattle.shadow_space.specs.Trees.{Free, HasTables, IsOwn, IsTree, Table, Tree, entry_of, frames_of, pointer_of, prefix, slots}
+use Rattle.shadow_space.specs.Trees.{Free, HasTables, IsOwn, IsTree, Table, Tree, entry_of, frames_of, pointer_of, prefix, slots, top}
 use Rattle.shadow_space.proofs.Adding.{IsAdded, added_says, added_sound, same_pair}
 use Rattle.shadow_space.proofs.Counting.{counted_few, counted_inside, has_free, kept_more, kept_opened, left_few}
 use Rattle.shadow_space.proofs.Placing.{place_added, with_place}
@@ -21,11 +21,12 @@ use Rattle.table_words.proofs.Words.{only_word, word_here, word_there}
 -- the second numbers are the first with one more in one table
 pub record IsMore (number number' : ℕ → ℕ → ℕ) (h k : ℕ) : Type 0 where
   pub here : number' h k ≡ number h k + 1
-  pub others : (h' k' : ℕ) → h' < 2 → ((h' ≡ h) × (k' ≡ k) → ⊥) → number' h' k' ≡ number h' k'
+  pub others : (h' k' : ℕ) → h' < top → ((h' ≡ h) × (k' ≡ k) → ⊥) → number' h' k' ≡ number h' k'
 
-pub record HasEntered (tables : Tables) (number' : ℕ → ℕ → ℕ) (leaf : ℕ → ℕ) (entries : List Entry) (old new : Held) (count total h k frame : ℕ) : Type 0 where
+pub record HasEntered (tables : Tables) (number number' : ℕ → ℕ → ℕ) (leaf : ℕ → ℕ) (entries : List Entry) (old new : Held) (was : Stands tables number leaf entries old) (count total h k frame : ℕ) : Type 0 where
   pub stands : Stands tables number' leaf entries new
   pub place : stands.tree.place h k ≡ Some frame
+  pub places : (h' k' f : ℕ) → h' ≢ h → was.tree.place h' k' ≡ Some f → stands.tree.place h' k' ≡ Some f
   pub kept : IsKept new.frames count (total + 1)
   pub only : Only (frames_of tables) old.memory new.memory
 
@@ -33,7 +34,7 @@ pub word_small : (f s size : ℕ) → f < 2 ^ 44 → s < 2048 → 512 * f + s < 
 word_small f s size h h' = omega arith
 
 -- a table below the root is in one of the other frames
-pub low_range : (tables : Tables) (tree : Tree) (f h k : ℕ) → IsTree tables tree → tree.place h k ≡ Some f → h < 2 → (tables.first ≤ f) × (f < tables.first + tables.count)
+pub low_range : (tables : Tables) (tree : Tree) (f h k : ℕ) → IsTree tables tree → tree.place h k ≡ Some f → h < top → (tables.first ≤ f) × (f < tables.first + tables.count)
 low_range tables tree f h k sound place low = by (sound.own f h k place)
   where
     by : IsOwn tables f → (tables.first ≤ f) × (f < tables.first + tables.count)
@@ -42,8 +43,8 @@ low_range tables tree f h k sound place low = by (sound.own f h k place)
         let a = sound.root in
         let b = sound.forth f h k place in
         let c : tree.content f ≡ tree.content tables.root = ap tree.content is in
-        let top : 2 ≡ h = cc in
-        absurd (omega (arith, top, low))
+        let at_top : top ≡ h = cc in
+        absurd (omega (arith, at_top, low))
 
 -- two tables are in two frames
 pub other_frame : (tables : Tables) (tree : Tree) (f f' h k h' k' : ℕ) → IsTree tables tree → tree.place h k ≡ Some f → tree.place h' k' ≡ Some f' → ((h' ≡ h) × (k' ≡ k) → ⊥) → f' ≢ f
@@ -60,8 +61,8 @@ same_frame tree f f' h k h' k' place place' s0 s1 = cc
 
 -- counts that change at one frame, whose table stays
 pub recounted : (tables : Tables) (tree : Tree) (counts : List ℕ) (number number' : ℕ → ℕ → ℕ) (h k f n : ℕ) → IsTree tables tree → IsCounted tables tree counts number
-    → h < 2 → tree.place h k ≡ Some f → f - tables.first < length counts → 0 < n → number' h k ≡ n
-    → ((h' k' : ℕ) → h' < 2 → ((h' ≡ h) × (k' ≡ k) → ⊥) → number' h' k' ≡ number h' k')
+    → h < top → tree.place h k ≡ Some f → f - tables.first < length counts → 0 < n → number' h k ≡ n
+    → ((h' k' : ℕ) → h' < top → ((h' ≡ h) × (k' ≡ k) → ⊥) → number' h' k' ≡ number h' k')
     → IsCounted tables tree (slice_set counts (f - tables.first) n) number'
 recounted tables tree counts number number' h k f n sound counted low place inside some here others = record {
   some = λ h' k' f' low' place'. some_of h' k' f' low' place' (same_pair h k h' k');
@@ -72,7 +73,7 @@ recounted tables tree counts number number' h k f n sound counted low place insi
     not_here : (h' k' : ℕ) → tree.place h' k' ≡ None → h' ≡ h → k' ≡ k → ⊥
     not_here h' k' missing s0 s1 = let a = place in absurd cc
 
-    some_of : (h' k' f' : ℕ) → h' < 2 → tree.place h' k' ≡ Some f' → ((h' ≡ h) × (k' ≡ k)) ⊎ ((h' ≡ h) × (k' ≡ k) → ⊥)
+    some_of : (h' k' f' : ℕ) → h' < top → tree.place h' k' ≡ Some f' → ((h' ≡ h) × (k' ≡ k)) ⊎ ((h' ≡ h) × (k' ≡ k) → ⊥)
         → (slice_index (slice_set counts (f - tables.first) n) (f' - tables.first) ≡ number' h' k') × (0 < number' h' k')
     some_of h' k' f' low' place' (inl same) =
         let there : f' ≡ f = same_frame tree f f' h k h' k' place place' same.0 same.1 in
@@ -95,7 +96,7 @@ recounted tables tree counts number number' h k f n sound counted low place insi
 
 module _ (tables : Tables) (number : ℕ → ℕ → ℕ) (leaf : ℕ → ℕ) (entries : List Entry) (held : Held) (count total h k t s parent : ℕ)
     (placed : HasTables tables (length held.memory)) (fits : count ≤ tables.count) (kept : IsKept held.frames count total) (stands : Stands tables number leaf entries held)
-    (low : h < 2) (above : stands.tree.content parent ≡ Table (suc h) t) (slot : s < slots tables parent) (is : 512 * t + s ≡ k) where
+    (low : h < top) (above : stands.tree.content parent ≡ Table (suc h) t) (slot : s < slots tables parent) (is : 512 * t + s ≡ k) where
   parent_own : IsOwn tables parent
   parent_own = stands.sound.own parent (suc h) t (stands.sound.back parent (suc h) t above)
 
@@ -145,7 +146,7 @@ module _ (tables : Tables) (number : ℕ → ℕ → ℕ) (leaf : ℕ → ℕ) (
   module _ (number' : ℕ → ℕ → ℕ) (counts : IsMore number number' h k) where
     -- where there is a table
     entered_some : (f : ℕ) → stands.tree.place h k ≡ Some f
-        → HasEntered tables number' leaf entries held (table_entered tables.first (512 * parent + s) held) count total h k (entered_frame tables.first (512 * parent + s) held)
+        → HasEntered tables number number' leaf entries held (table_entered tables.first (512 * parent + s) held) stands count total h k (entered_frame tables.first (512 * parent + s) held)
     unfolding table_entered entered_frame
     entered_some f place =
         let word : doubleword_at held.memory (512 * parent + s) ≡ pointer_word f = entry_is ∙ ap pointer_of place in
@@ -163,6 +164,7 @@ module _ (tables : Tables) (number : ℕ → ℕ → ℕ) (leaf : ℕ → ℕ) (
             index = stands.index;
           };
           place = place;
+          places = λ h' k' f' other there. there;
           kept = kept_more held.frames count total kept (f - tables.first) (omega (arith, was.0, was.1));
           only = only_none (frames_of tables) held.memory;
         })
@@ -207,7 +209,7 @@ module _ (tables : Tables) (number : ℕ → ℕ → ℕ) (leaf : ℕ → ℕ) (
         free = λ j own zeros. free_of j own zeros (same_or j (next_free held.frames));
       }
         where
-          some_of : (h' k' f : ℕ) → h' < 2 → (with_place stands.tree (tables.first + next_free held.frames) h k).place h' k' ≡ Some f → ((h' ≡ h) × (k' ≡ k)) ⊎ ((h' ≡ h) × (k' ≡ k) → ⊥)
+          some_of : (h' k' f : ℕ) → h' < top → (with_place stands.tree (tables.first + next_free held.frames) h k).place h' k' ≡ Some f → ((h' ≡ h) × (k' ≡ k)) ⊎ ((h' ≡ h) × (k' ≡ k) → ⊥)
               → (slice_index (slice_set held.frames.counts (next_free held.frames) 1) (f - tables.first) ≡ number' h' k') × (0 < number' h' k')
           some_of h' k' f low' there (inl same) =
               let at = same_frame (with_place stands.tree (tables.first + next_free held.frames) h k) (tables.first + next_free held.frames) f h k h' k' added.place there same.0 same.1 in
@@ -227,7 +229,7 @@ module _ (tables : Tables) (number : ℕ → ℕ → ℕ) (leaf : ℕ → ℕ) (
                 omega (arith, was.1, number_is),
               )
 
-          none_of : (h' k' : ℕ) → h' < 2 → (with_place stands.tree (tables.first + next_free held.frames) h k).place h' k' ≡ None → ((h' ≡ h) × (k' ≡ k)) ⊎ ((h' ≡ h) × (k' ≡ k) → ⊥) → number' h' k' ≡ 0
+          none_of : (h' k' : ℕ) → h' < top → (with_place stands.tree (tables.first + next_free held.frames) h k).place h' k' ≡ None → ((h' ≡ h) × (k' ≡ k)) ⊎ ((h' ≡ h) × (k' ≡ k) → ⊥) → number' h' k' ≡ 0
           none_of h' k' low' missing (inl same) =
               let a = added.place in
               let s0 = same.0 in
@@ -243,7 +245,7 @@ module _ (tables : Tables) (number : ℕ → ℕ → ℕ) (leaf : ℕ → ℕ) (
               added.contents (tables.first + j) (λ e. other (omega (arith, e)))
               ∙ stands.counted.free j own (sym (get_or-set_other held.frames.counts (next_free held.frames) j 1 0 other) ∙ zeros)
 
-      entered_none : HasEntered tables number' leaf entries held (table_entered tables.first (512 * parent + s) held) count total h k (entered_frame tables.first (512 * parent + s) held)
+      entered_none : HasEntered tables number number' leaf entries held (table_entered tables.first (512 * parent + s) held) stands count total h k (entered_frame tables.first (512 * parent + s) held)
       unfolding table_entered entered_frame
       entered_none =
           let word : doubleword_at held.memory (512 * parent + s) ≡ 0 = entry_is ∙ ap pointer_of place in
@@ -260,14 +262,15 @@ module _ (tables : Tables) (number : ℕ → ℕ → ℕ) (leaf : ℕ → ℕ) (
               index = λ i e h'. added.places 0 (prefix 0 (slice_index_or entries i e).page) (other_place 0 (prefix 0 (slice_index_or entries i e).page) _ (stands.index i e h')) ∙ stands.index i e h';
             };
             place = added.place;
+            places = λ h' k' f' other there. added.places h' k' (λ same. other same.0) ∙ there;
             kept = kept_opened held.frames count total kept (has_free held.frames count total kept some);
             only = only_word (frames_of tables) held.memory (512 * parent + s) (pointer_word (tables.first + next_free held.frames)) room (own_frame tables parent s parent_own slot);
           })
 
-    pub enters : total < count → HasEntered tables number' leaf entries held (table_entered tables.first (512 * parent + s) held) count total h k (entered_frame tables.first (512 * parent + s) held)
+    pub enters : total < count → HasEntered tables number number' leaf entries held (table_entered tables.first (512 * parent + s) held) stands count total h k (entered_frame tables.first (512 * parent + s) held)
     enters some = by (stands.tree.place h k) refl
       where
         by : (o : Option ℕ) → stands.tree.place h k ≡ o
-            → HasEntered tables number' leaf entries held (table_entered tables.first (512 * parent + s) held) count total h k (entered_frame tables.first (512 * parent + s) held)
+            → HasEntered tables number number' leaf entries held (table_entered tables.first (512 * parent + s) held) stands count total h k (entered_frame tables.first (512 * parent + s) held)
         by (Some f) place = entered_some f place
         by None place = entered_none place some

@@ -6,7 +6,6 @@ use Rattle.std.proofs.lemmas.List.Elements.{All-nil}
 use Rattle.std.proofs.lemmas.Nat.{mul-le}
 use Rattle.arch_defs.specs.declared.cached.Entry.{Entry}
 use Rattle.arch_defs.specs.declared.modes.Access.{Access}
-use Rattle.arch_defs.specs.declared.walks.Shape.TheVariants.{Sv39x4}
 use Rattle.arch_defs.specs.declared.walks.Next.TheVariants.{Ends}
 use Rattle.arch_defs.specs.Frames.{Apart, LieIn, Same, within}
 use Rattle.arch_defs.specs.Layouts.{Layout, NamesEachOnce, space_frames}
@@ -17,14 +16,15 @@ use Rattle.arch_defs.proofs.FrameSets.{in_range}
 use Rattle.stage_walk.proofs.Levels.{walk_refused, walk_starts}
 use Rattle.shadow_space.specs.declared.cached.CachedTable.{CachedTable}
 use Rattle.shadow_space.specs.declared.writing.Tables.{Tables}
-use Rattle.arch_defs.specs.CachedEntries.{CanFill, HasOtherPage, entry_at}
+use Rattle.arch_defs.specs.CachedEntries.{CanFill, HasOtherPage, entry_at, guest_page_bits}
 use Rattle.shadow_space.specs.Folding.{LastIs, LieWithin, leaf_end}
+use Rattle.guest_specs.specs.Needs.{tables_for}
 use Rattle.shadow_space.specs.Laws.{TidyIsFolded, TidyLasts}
 use Rattle.shadow_space.specs.declared.frames.TableFrames.{TableFrames}
 use Rattle.shadow_space.specs.Held.{HoldsList, IsKept, Stands, held_in, number_of, Holds, KeepsTable}
 use Rattle.shadow_space.specs.Leaves.{frame_of_ram, leaf_if, leaf_parts, leaf_word, leaves}
 use Rattle.shadow_space.specs.Shadows.{AreZeros, HasSmallNumbers, IsShadow, IsTidy, Shadow, Tidy, own_frames, root_of, tables_in, shadow_of}
-use Rattle.shadow_space.specs.Trees.{HasTables, IsOwn, RootIsApart, frames_of}
+use Rattle.shadow_space.specs.Trees.{HasTables, IsOwn, RootIsApart, folded_shape, frames_of, most_entries, top}
 use Rattle.table_words.specs.Words.{doubleword_at}
 use Rattle.table_words.proofs.Words.{word_kept}
 use Rattle.shadow_space.proofs.Starting.{zeros_stand}
@@ -34,6 +34,10 @@ use Rattle.table_words.proofs.Readings.{entry_read}
 use Rattle.shadow_space.proofs.Finding.{found_has}
 use Rattle.shadow_space.proofs.Following.{Reads, folds, inside_root, last_is}
 use Rattle.shadow_space.proofs.Slots.{own_frame}
+
+-- the bits of an address of a page
+abbrev address_bits : ℕ
+address_bits = 12 + guest_page_bits
 
 -- two ranges that are apart come one after the other
 ordered : (a m b n : ℕ) → 0 < m → 0 < n → Apart (within a m) (within b n) → (a + m ≤ b) ⊎ (b + n ≤ a)
@@ -59,22 +63,22 @@ tables_end index spaces each h = omega (arith, mul-le (index + 1) each spaces ea
     one_more i e = grind arith
 
 pub tables_apart : (space : Shadow) → IsShadow space → RootIsApart (tables_in space.part space.index)
-tables_apart space is = by (ordered space.part.first_root (4 * (1 + space.part.spaces)) space.part.first_table (1 + space.part.spaces * (2 * space.part.entries)) (omega arith) (omega arith) is.once.roots)
+tables_apart space is = by (ordered space.part.first_root (4 * (1 + space.part.spaces)) space.part.first_table (1 + space.part.spaces * tables_for space.part.entries) (omega arith) (omega arith) is.once.roots)
   where
-    end : space.index * (2 * space.part.entries) + 2 * space.part.entries ≤ space.part.spaces * (2 * space.part.entries)
-    end = tables_end space.index space.part.spaces (2 * space.part.entries) is.index
+    end : space.index * tables_for space.part.entries + tables_for space.part.entries ≤ space.part.spaces * tables_for space.part.entries
+    end = tables_end space.index space.part.spaces (tables_for space.part.entries) is.index
 
-    by : (space.part.first_root + 4 * (1 + space.part.spaces) ≤ space.part.first_table) ⊎ (space.part.first_table + (1 + space.part.spaces * (2 * space.part.entries)) ≤ space.part.first_root)
+    by : (space.part.first_root + 4 * (1 + space.part.spaces) ≤ space.part.first_table) ⊎ (space.part.first_table + (1 + space.part.spaces * tables_for space.part.entries) ≤ space.part.first_root)
         → RootIsApart (tables_in space.part space.index)
     by (inl before) = let below = is.index in inl (omega (arith, before, below))
     by (inr after) = inr (omega (arith, after, end))
 
-pub few_frames : (index each : ℕ) → index < 2 ^ 16 → each < 2 ^ 17 → index * each < 2 ^ 33
-few_frames index each h h' = omega (arith, mul-le index each 65535 131071 (omega arith) (omega arith))
+pub few_frames : (index each : ℕ) → index < 2 ^ 16 → each < 2 ^ 18 → index * each < 2 ^ 34
+few_frames index each h h' = omega (arith, mul-le index each 65535 262143 (omega arith) (omega arith))
 
-few_tables : (index spaces entries : ℕ) → index < spaces → spaces < 2 ^ 16 → entries < 2 ^ 16 → index * (2 * entries) + 2 * entries ≤ 65536 * 131072
+few_tables : (index spaces entries : ℕ) → index < spaces → spaces < 2 ^ 16 → entries < 2 ^ 16 → index * tables_for entries + tables_for entries ≤ 65536 * tables_for 65536
 few_tables index spaces entries h small small' =
-    omega (arith, tables_end index spaces (2 * entries) h, mul-le spaces (2 * entries) 65536 131072 (omega arith) (omega arith))
+    omega (arith, tables_end index spaces (tables_for entries) h, mul-le spaces (tables_for entries) 65536 (tables_for 65536) (omega arith) (omega arith))
 
 pub tables_placed : (space : Shadow) (size : ℕ) → IsShadow space → LieIn (own_frames space) size → HasTables (tables_in space.part space.index) size
 tables_placed space size is lies =
@@ -163,8 +167,11 @@ leaf_is_end blocks access (Some e) small can =
 leaf_some : (blocks : List ℕ) (e : Entry) → leaf_word blocks e ≡ 0 → ⊥
 leaf_some blocks e zero = some_with_v (leaf_parts blocks e) refl zero
 
-low_page : (va : ℕ) → va / 4096 < 2 ^ 29 → va < 2 ^ 41
-low_page va h = omega arith
+low_page : (va : ℕ) → va / 4096 < 2 ^ guest_page_bits → va < 2 ^ address_bits
+low_page va h = omega (arith, h)
+
+small_page : (va : ℕ) → va < 2 ^ address_bits → va / 4096 < 2 ^ guest_page_bits
+small_page va h = omega (arith, h)
 
 module _ (space : Shadow) (memory : List ℕ) (tidy : IsTidy space memory) where
   can : (page : ℕ) (e : Entry) → entry_at page space.entries ≡ Some e → CanFill space.part.blocks e × (e.page ≡ page)
@@ -177,8 +184,8 @@ module _ (space : Shadow) (memory : List ℕ) (tidy : IsTidy space memory) where
   small_frames : (f : ℕ) → IsOwn (tables_in space.part space.index) f → f < 2 ^ 44
   small_frames f own = own_small (tables_in space.part space.index) f (length memory) (tables_placed space (length memory) tidy.is tidy.lies) own
 
-  -- no entry is of a page beyond 41 bits of address
-  no_entry : (va : ℕ) → 2 ^ 41 ≤ va → entry_at (va / 4096) space.entries ≡ None
+  -- no entry is of a page beyond these bits of address
+  no_entry : (va : ℕ) → 2 ^ address_bits ≤ va → entry_at (va / 4096) space.entries ≡ None
   no_entry va high = by (entry_at (va / 4096) space.entries) refl
     where
       by : (o : Option Entry) → entry_at (va / 4096) space.entries ≡ o → entry_at (va / 4096) space.entries ≡ None
@@ -189,17 +196,17 @@ module _ (space : Shadow) (memory : List ℕ) (tidy : IsTidy space memory) where
           absurd (omega (arith, low_page va (omega (arith, page, filled.1)), high))
 
   walks : (reading : EntryReading) (va : ℕ) (access : Access) → ReadsIn (own_frames space) memory reading
-      → walk reading (root_of space) Sv39x4 va access ≡ leaf_end space.part.blocks access (entry_at (va / 4096) space.entries)
-  walks reading va access reads = by (cases_lt va (2 ^ 41))
+      → walk reading (root_of space) folded_shape va access ≡ leaf_end space.part.blocks access (entry_at (va / 4096) space.entries)
+  walks reading va access reads = by (cases_lt va (2 ^ address_bits))
     where
-      by : (va < 2 ^ 41) ⊎ (2 ^ 41 ≤ va) → walk reading (root_of space) Sv39x4 va access ≡ leaf_end space.part.blocks access (entry_at (va / 4096) space.entries)
+      by : (va < 2 ^ address_bits) ⊎ (2 ^ address_bits ≤ va) → walk reading (root_of space) folded_shape va access ≡ leaf_end space.part.blocks access (entry_at (va / 4096) space.entries)
       by (inl low) =
-          walk_starts reading (root_of space) Sv39x4 va access (lt-ltb va (2 ^ 41) low)
+          walk_starts reading (root_of space) folded_shape va access (lt-ltb va (2 ^ address_bits) low)
           ∙ folds (tables_in space.part space.index) tidy.holds.stands.tree (doubleword_at memory) (leaves space.part.blocks space.entries)
-          tidy.holds.stands.sound tidy.holds.stands.says small_frames reading (reads_words (tables_in space.part space.index) memory reading reads) va access
-          (leaf_end space.part.blocks access (entry_at (va / 4096) space.entries)) (leaf_end_of (va / 4096) access) low
+          tidy.holds.stands.sound tidy.holds.stands.says small_frames reading (reads_words (tables_in space.part space.index) memory reading reads) va access (va / 4096) refl (small_page va low)
+          (leaf_end space.part.blocks access (entry_at (va / 4096) space.entries)) (leaf_end_of (va / 4096) access)
       by (inr high) =
-          walk_refused reading (root_of space) Sv39x4 va access (le-ltb va (2 ^ 41) high)
+          walk_refused reading (root_of space) folded_shape va access (le-ltb va (2 ^ address_bits) high)
           ∙ sym (ap (leaf_end space.part.blocks access) (no_entry va high))
 
   -- the leaf of an entry
@@ -212,29 +219,29 @@ module _ (space : Shadow) (memory : List ℕ) (tidy : IsTidy space memory) where
   )
 
   leaf_last : (reading : EntryReading) (va : ℕ) (access : Access) (e : Entry) → ReadsIn (own_frames space) memory reading → entry_at (va / 4096) space.entries ≡ Some e
-      → LastIs (leaf_parts space.part.blocks e) (path reading (root_of space) Sv39x4 va access)
+      → LastIs (leaf_parts space.part.blocks e) (path reading (root_of space) folded_shape va access)
   unfolding path
   leaf_last reading va access e reads found =
       let filled = can (va / 4096) e found in
       let page = filled.0.page in
-      let low : va < 2 ^ 41 = low_page va (omega (arith, page, filled.1)) in
+      let low : va < 2 ^ address_bits = low_page va (omega (arith, page, filled.1)) in
       let has = leaf_has (va / 4096) e found in
-      rw (lt-ltb va (2 ^ 41) low)
+      rw (lt-ltb va (2 ^ address_bits) low)
       (last_is (tables_in space.part space.index) tidy.holds.stands.tree (doubleword_at memory) (leaves space.part.blocks space.entries)
-      tidy.holds.stands.sound tidy.holds.stands.says small_frames reading (reads_words (tables_in space.part space.index) memory reading reads) va access
-      (leaf_parts space.part.blocks e) has.0 has.1 low)
+      tidy.holds.stands.sound tidy.holds.stands.says small_frames reading (reads_words (tables_in space.part space.index) memory reading reads) va access (va / 4096) refl (small_page va low)
+      (leaf_parts space.part.blocks e) has.0 has.1)
 
   insides : (reading : EntryReading) (va : ℕ) (access : Access) → ReadsIn (own_frames space) memory reading
-      → LieWithin (own_frames space) (path reading (root_of space) Sv39x4 va access)
+      → LieWithin (own_frames space) (path reading (root_of space) folded_shape va access)
   unfolding path
-  insides reading va access reads = by (cases_lt va (2 ^ 41))
+  insides reading va access reads = by (cases_lt va (2 ^ address_bits))
     where
-      by : (va < 2 ^ 41) ⊎ (2 ^ 41 ≤ va) → LieWithin (own_frames space) (path reading (root_of space) Sv39x4 va access)
+      by : (va < 2 ^ address_bits) ⊎ (2 ^ address_bits ≤ va) → LieWithin (own_frames space) (path reading (root_of space) folded_shape va access)
       by (inl low) =
-          rw (lt-ltb va (2 ^ 41) low)
+          rw (lt-ltb va (2 ^ address_bits) low)
           (inside_root (tables_in space.part space.index) tidy.holds.stands.tree (doubleword_at memory) (leaves space.part.blocks space.entries)
-          tidy.holds.stands.sound tidy.holds.stands.says small_frames reading (reads_words (tables_in space.part space.index) memory reading reads) va access low)
-      by (inr high) = rw (le-ltb va (2 ^ 41) high) tt
+          tidy.holds.stands.sound tidy.holds.stands.says small_frames reading (reads_words (tables_in space.part space.index) memory reading reads) va access (va / 4096) refl (small_page va low))
+      by (inr high) = rw (le-ltb va (2 ^ address_bits) high) tt
 
 pub folded : TidyIsFolded
 folded space memory tidy =
@@ -267,7 +274,7 @@ module _ (index : ℕ) (old new : CachedTable) (before memory : List ℕ) (table
       placed = there.placed
 
 -- zeros are tidy for a new space
-pub new_shadow : (part : Layout) (index most : ℕ) (entries : List Entry) (frames : TableFrames) → NamesEachOnce part → HasSmallNumbers part → index < part.spaces → most ≤ 256 → most ≤ part.entries → entries ≡ []
+pub new_shadow : (part : Layout) (index most : ℕ) (entries : List Entry) (frames : TableFrames) → NamesEachOnce part → HasSmallNumbers part → index < part.spaces → most ≤ most_entries → most ≤ part.entries → entries ≡ []
     → IsShadow (record { part = part; index = index; most = most; entries = entries; frames = frames })
 new_shadow part index most entries frames once small own few room none =
     subst (λ es. IsShadow (record { part = part; index = index; most = most; entries = es; frames = frames })) (sym none) (record {
@@ -281,8 +288,8 @@ new_shadow part index most entries frames once small own few room none =
       pages = λ i j d before h. absurd (omega (arith, h));
     })
 
-pub tidy_zeros : (part : Layout) (index most : ℕ) (entries : List Entry) (frames : TableFrames) (memory : List ℕ) → NamesEachOnce part → HasSmallNumbers part → index < part.spaces → most ≤ 256 → most ≤ part.entries
-    → entries ≡ [] → IsKept frames (2 * most) 0 → LieIn (space_frames part index) (length memory) → AreZeros (space_frames part index) memory
+pub tidy_zeros : (part : Layout) (index most : ℕ) (entries : List Entry) (frames : TableFrames) (memory : List ℕ) → NamesEachOnce part → HasSmallNumbers part → index < part.spaces → most ≤ most_entries → most ≤ part.entries
+    → entries ≡ [] → IsKept frames (top * most) 0 → LieIn (space_frames part index) (length memory) → AreZeros (space_frames part index) memory
     → Tidy (record { part = part; index = index; most = most; entries = entries; frames = frames }) memory
 tidy_zeros part index most entries frames memory once small own few room none kept lies zeros =
     subst (λ es. Tidy (record { part = part; index = index; most = most; entries = es; frames = frames }) memory) (sym none)

@@ -2,7 +2,6 @@
 use Rattle.std.specs.Prelude.{ℕ, ◌≡◌, ◌/◌, true, not, ◌&&◌, List, [], ◌∷◌, Option, Some, None, Ok, if◌then◌else◌}
 use Rattle.arch_defs.specs.declared.cached.Entry.{Entry}
 use Rattle.arch_defs.specs.declared.modes.Access.{Access}
-use Rattle.arch_defs.specs.declared.walks.Shape.TheVariants.{Sv39x4}
 use Rattle.arch_defs.specs.declared.walks.Pte.{Pte}
 use Rattle.arch_defs.specs.declared.walks.WalkEnd.{WalkEnd}
 use Rattle.arch_defs.specs.declared.walks.WalkEnd.TheVariants.{Leaf, PageFault}
@@ -12,6 +11,7 @@ use Rattle.arch_defs.specs.Walk.{EntryReading, Met, path, walk}
 use Rattle.arch_defs.specs.CachedEntries.{entry_at}
 use Rattle.shadow_space.specs.Leaves.{frame_of_ram, leaf_parts}
 use Rattle.shadow_space.specs.Shadows.{Shadow, own_frames, root_of}
+use Rattle.shadow_space.specs.Trees.{folded_shape}
 use Rattle.table_words.specs.Entries.{ReadsIn}
 
 -- the places of these entries lie in these frames
@@ -45,11 +45,11 @@ LastIs e (m ∷ (n ∷ ms)) = LastIs e (n ∷ ms)
 -- these frames
 pub record Folded (space : Shadow) (memory : List ℕ) : Type 0 where
   pub walks : (reading : EntryReading) (va : ℕ) (access : Access) → ReadsIn (own_frames space) memory reading
-      → walk reading (root_of space) Sv39x4 va access
+      → walk reading (root_of space) folded_shape va access
       ≡ leaf_end space.part.blocks access (entry_at (va / 4096) space.entries)
   pub leaf : (reading : EntryReading) (va : ℕ) (access : Access) (e : Entry)
       → ReadsIn (own_frames space) memory reading → entry_at (va / 4096) space.entries ≡ Some e
-      → LastIs (leaf_parts space.part.blocks e) (path reading (root_of space) Sv39x4 va access)
+      → LastIs (leaf_parts space.part.blocks e) (path reading (root_of space) folded_shape va access)
   pub inside : (reading : EntryReading) (va : ℕ) (access : Access)
       → ReadsIn (own_frames space) memory reading
-      → LieWithin (own_frames space) (path reading (root_of space) Sv39x4 va access)
+      → LieWithin (own_frames space) (path reading (root_of space) folded_shape va access)

@@ -8,7 +8,7 @@ use Rattle.shadow_space.specs.declared.frames.TableFrames.{TableFrames}
 use Rattle.shadow_space.specs.declared.writing.Tables.{Tables}
 use Rattle.arch_defs.specs.CachedEntries.{CanFill, HasOtherPage}
 use Rattle.shadow_space.specs.Leaves.{leaves}
-use Rattle.shadow_space.specs.Trees.{Free, HasTables, IsTree, Says, Tree, frames_of, prefix, top}
+use Rattle.shadow_space.specs.Trees.{Free, HasTables, IsTree, Says, Tree, frames_of, most_entries, most_tables, prefix, top}
 use Rattle.table_words.specs.Entries.{named_frame, pointer_word}
 use Rattle.table_words.specs.Words.{doubleword_at, with_word}
 
@@ -45,14 +45,14 @@ held_in frames memory = record { frames = frames; memory = memory }
 -- there is a free frame, and a pointer has room for its number
 pub record HasFree (frames : TableFrames) (first : ℕ) : Type 0 where
   pub some : 0 < frames.left
-  pub most : frames.left ≤ 512
-  pub inside : next_free frames < 512
+  pub most : frames.left ≤ most_tables
+  pub inside : next_free frames < most_tables
   pub small : first + next_free frames < 2 ^ 44
 
 -- a frame has a count, with room for one more
 pub record IsCounting (frames : TableFrames) (first frame : ℕ) : Type 0 where
   pub from : first ≤ frame
-  pub inside : frame - first < 512
+  pub inside : frame - first < most_tables
   pub room : slice_index frames.counts (frame - first) < 65535
 
 -- with one more entry in the table that doubleword i points to. Where it points to none, a free frame becomes
@@ -89,10 +89,10 @@ departed first i frame held =
 -- of so many frames those that are free are known, each once: a frame has no table exactly where its count
 -- is 0. There are no others with a count, and all counts have this sum
 pub record IsKept (frames : TableFrames) (count total : ℕ) : Type 0 where
-  pub counts : length frames.counts ≡ 512
-  pub frees : length frames.free ≡ 512
-  pub places : length frames.places ≡ 256
-  pub few : count ≤ 512
+  pub counts : length frames.counts ≡ most_tables
+  pub frees : length frames.free ≡ most_tables
+  pub places : length frames.places ≡ most_entries
+  pub few : count ≤ most_tables
   pub beyond : (j : ℕ) → count ≤ j → slice_index frames.counts j ≡ 0
   pub below : (i : ℕ) → i < frames.left → slice_index frames.free i < count
   pub zero : (i : ℕ) → i < frames.left → slice_index frames.counts (slice_index frames.free i) ≡ 0
@@ -129,7 +129,7 @@ pub record HoldsList (tables : Tables) (blocks : List ℕ) (most : ℕ) (entries
     (frames : TableFrames) (memory : List ℕ) : Type 0 where
   pub placed : HasTables tables (length memory)
   pub count : top * most ≤ tables.count
-  pub bound : most ≤ 256
+  pub bound : most ≤ most_entries
   pub few : length entries ≤ most
   pub fill : All (CanFill blocks) entries
   pub pages : AllPairs HasOtherPage entries

@@ -2,9 +2,7 @@
 use Rattle.std.specs.Prelude.{ℕ, ◌≡◌, ◌≢◌, ◌+◌, ◌-◌, ◌*◌, ◌%◌, ◌<◌, ◌&&◌, Bool, true, List, Some, None, length, nat_le, nat_lt, option_map}
 use Rattle.arch_defs.specs.declared.second_walks.SecondWalkEnd.TheVariants.{GuestPageFault}
 use Rattle.arch_defs.specs.declared.modes.Access.{Access}
-use Rattle.arch_defs.specs.declared.registers.GuestMode.TheVariants as mode
 use Rattle.arch_defs.specs.declared.registers.GuestRoot.TheVariants as root
-use Rattle.arch_defs.specs.declared.walks.Shape.TheVariants.{Sv39x4}
 use Rattle.arch_defs.specs.Frames.{Apart, Frames, LieIn, Same, Within, in_blocks}
 use Rattle.arch_defs.specs.Layouts.{Layout, host_frames, named_by, space_frames}
 use Rattle.arch_defs.specs.Memory.{ram_base, block_size, zeros}
@@ -13,6 +11,7 @@ use Rattle.arch_defs.specs.SecondStage.{second_under, second_walk}
 use Rattle.arch_defs.specs.CachedEntries.{second_by}
 use Rattle.shadow_space.specs.Folding.{Folded}
 use Rattle.shadow_space.specs.Shadows.{AreZeros, Shadow, Tidy, own_frames, root_of}
+use Rattle.shadow_space.specs.Trees.{folded_mode, folded_shape}
 
 -- a space stays tidy where the bytes of its own frames stay
 abbrev pub TidyLasts : Type 0
@@ -28,7 +27,7 @@ TidyIsFolded = (space : Shadow) (memory : List ℕ) → Tidy space memory → Fo
 abbrev pub GivesEntries : Type 0
 GivesEntries = (space : Shadow) (memory : List ℕ) (mxr : Bool) (vmid address : ℕ) (access : Access)
     → Tidy space memory → LieIn (in_blocks space.part.blocks) (length memory)
-    → second_under 0 memory mxr (root.Table mode.Sv39x4 vmid (root_of space)) address access
+    → second_under 0 memory mxr (root.Table folded_mode vmid (root_of space)) address access
     ≡ option_map (λ place. host_place space.part.blocks (place - ram_base))
     (second_by space.entries mxr address access)
 
@@ -37,7 +36,7 @@ abbrev pub MissesAreGuestPageFaults : Type 0
 MissesAreGuestPageFaults = (space : Shadow) (memory : List ℕ) (mxr : Bool) (address : ℕ) (access : Access)
     → Tidy space memory → LieIn (in_blocks space.part.blocks) (length memory)
     → second_by space.entries mxr address access ≡ None
-    → second_walk 0 memory mxr Sv39x4 (root_of space) address access ≡ GuestPageFault
+    → second_walk 0 memory mxr folded_shape (root_of space) address access ≡ GuestPageFault
 
 -- the places that the entries give are of the guest's RAM, with the offsets that the addresses have in pages
 abbrev pub EntriesGiveRam : Type 0

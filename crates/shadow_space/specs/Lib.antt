@@ -5,3 +5,4 @@ pub mod Leaves
 pub mod Reaching
 pub mod Shadows
 pub mod Trees
+pub mod Ways

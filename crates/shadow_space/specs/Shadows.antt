@@ -10,6 +10,7 @@ use Rattle.shadow_space.specs.declared.cached.CachedTable.{CachedTable}
 use Rattle.shadow_space.specs.declared.frames.TableFrames.{TableFrames}
 use Rattle.shadow_space.specs.declared.writing.Tables.{Tables}
 use Rattle.shadow_space.specs.Held.{HoldsList}
+use Rattle.shadow_space.specs.Trees.{most_entries}
 
 -- a space: the part of its guest, its number in it, at most how many entries it has, these, oldest first, and
 -- the frames of their tables
@@ -60,7 +61,7 @@ pub record IsShadow (space : Shadow) : Type 0 where
   pub once : NamesEachOnce space.part
   pub small : HasSmallNumbers space.part
   pub index : space.index < space.part.spaces
-  pub most : space.most ≤ 256
+  pub most : space.most ≤ most_entries
   pub room : space.most ≤ space.part.entries
   pub few : length space.entries ≤ space.most
   pub fill : All (CanFill space.part.blocks) space.entries

@@ -1,8 +1,13 @@
--- The tables of a space as a tree: which table a frame holds, and which frame holds a table. A table of the
--- shape Sv39x4 is named by its level and by the part of page numbers that all its pages share (Privileged
--- Architecture 20211203, 8.5.1).
+-- The tables of a space as a tree: which table a frame holds, and which frame holds a table. A table is named
+-- by its level and by the part of page numbers that all its pages share (Privileged Architecture 20211203,
+-- 8.5.1).
 use Rattle.std.specs.Prelude.{ℕ, zero, suc, ◌≡◌, ◌+◌, ◌*◌, ◌/◌, ◌<◌, ◌≤◌, ◌^◌, ◌⊎◌, ◌==◌, Option, Some, None, if◌then◌else◌}
 use Rattle.arch_defs.specs.Frames.{Frames, LieIn, joined, within}
+use Rattle.arch_defs.specs.declared.registers.GuestMode.{GuestMode}
+use Rattle.arch_defs.specs.declared.registers.GuestMode.TheVariants as mode
+use Rattle.arch_defs.specs.declared.walks.Shape.{Shape}
+use Rattle.arch_defs.specs.Roots.{guest_shape}
+use Rattle.guest_specs.specs.Needs.{tables_for}
 use Rattle.shadow_space.specs.declared.writing.Tables.{Tables}
 use Rattle.table_words.specs.Entries.{pointer_word}
 
@@ -23,9 +28,22 @@ RootIsApart tables = (tables.root + 4 ≤ tables.first) ⊎ (tables.first + tabl
 abbrev pub slots : Tables → ℕ → ℕ
 slots tables frame = if frame == tables.root then 2048 else 512
 
--- the level of the root
+-- the mode by which a folded table is walked, its shape, and the level of its root (own)
+abbrev pub folded_mode : GuestMode
+folded_mode = mode.Sv39x4
+
+abbrev pub folded_shape : Shape
+folded_shape = guest_shape folded_mode
+
 abbrev pub top : ℕ
 top = 2
+
+-- the most entries of a space, and the most tables below its root (own)
+abbrev pub most_entries : ℕ
+most_entries = 256
+
+abbrev pub most_tables : ℕ
+most_tables = tables_for most_entries
 
 -- what a frame holds: nothing, or the table of a level h with a prefix k, which is that of the pages whose
 -- number divided by 512 ^ (h + 1) is k

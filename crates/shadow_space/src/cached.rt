@@ -2,12 +2,16 @@
 
 ghost use Rattle.std.specs.Prelude.{◌≡◌, ◌+◌, ◌-◌, ◌*◌, ◌%◌, ◌<◌, ◌≤◌, ◌^◌, [], ◌∷◌, ◌++◌, drop, filter, length, not, remove, slice_index_or};
 ghost use Rattle.std.specs.List.{All};
-ghost use Rattle.arch_defs.specs.CachedEntries.{CanFill, HasOtherPage, filled};
+ghost use Rattle.arch_defs.specs.CachedEntries.{CanFill, HasOtherPage, filled, guest_page_bits};
+ghost use Rattle.arch_defs.specs.Frames.{Only};
 ghost use Rattle.arch_defs.specs.Spaces.{names_page};
 ghost use Rattle.shadow_space.specs.Held.{Holds, KeepsTable};
+ghost use Rattle.shadow_space.specs.Trees.{frames_of, top};
+ghost use Rattle.shadow_space.specs.Ways.{HasRoom, UnderWay};
 ghost use Rattle.table_words.specs.Words.{changed, with_word};
 
 use crate::frames::TableFrames;
+use crate::levels::{LEVELS, ROOT_LEVEL, slot_of};
 use crate::listing::{EntryList, names_page};
 use crate::writing::{Tables, enter_table, leaf_word, leave_table};
 use arch_defs::{Entry, Part};
@@ -25,6 +29,59 @@ pub struct CachedTable {
 }
 
 impl CachedTable {
+    // The frames of a page's tables, by level, from the root down.
+    fn way_to(&self, mem: &PhysMem, tables: &Tables, page: u64) -> [u64; LEVELS]
+        requires page { page < 2 ^ guest_page_bits }
+        requires room { HasRoom tables.now self.now.most self.now.entries }
+        requires stands { UnderWay tables.now self.now page 0 (top + 1) [] mem.now }
+        ensures { UnderWay tables.now self.now page 0 0 result mem.now }
+    {
+        let mut way = [tables.root; LEVELS];
+        let mut level = ROOT_LEVEL;
+        while level > 0 {
+            let pointer = doubleword_at(mem, 512 * way[level] + slot_of(level, page));
+            level -= 1;
+            way[level] = pte_of(pointer).frame;
+        }
+        way
+    }
+
+    // One more entry in each of a page's tables, which are made where they are not. Tells their frames.
+    fn enter_tables(&mut self, mem: &mut PhysMem, tables: &Tables, page: u64) -> [u64; LEVELS]
+        requires page { page < 2 ^ guest_page_bits }
+        requires room { HasRoom tables.now self.old.most self.old.entries }
+        requires stands { UnderWay tables.now self.old page top (top + 1) [] mem.old }
+        ensures rest { self.new ≡ record self.old { frames = self.new.frames } }
+        ensures stands { UnderWay tables.now self.new page 0 0 result mem.new }
+        ensures only { Only (frames_of tables.now) mem.old mem.new }
+        ensures changed { changed mem.old mem.new ≤ top }
+    {
+        let mut way = [tables.root; LEVELS];
+        let mut level = ROOT_LEVEL;
+        while level > 0 {
+            let slot = 512 * way[level] + slot_of(level, page);
+            level -= 1;
+            way[level] = enter_table(&mut self.frames, mem, tables.first, slot);
+        }
+        way
+    }
+
+    // One entry less in each of a page's tables, which are in these frames.
+    fn leave_tables(&mut self, mem: &mut PhysMem, tables: &Tables, page: u64, way: &[u64; LEVELS])
+        requires page { page < 2 ^ guest_page_bits }
+        requires room { HasRoom tables.now self.old.most self.old.entries }
+        requires stands { UnderWay tables.now self.old page 0 0 way.now mem.old }
+        ensures rest { self.new ≡ record self.old { frames = self.new.frames } }
+        ensures stands { UnderWay tables.now self.new page top top way.now mem.new }
+        ensures only { Only (frames_of tables.now) mem.old mem.new }
+        ensures changed { changed mem.old mem.new ≤ top }
+    {
+        for level in 0..ROOT_LEVEL {
+            let slot = 512 * way[level + 1] + slot_of(level + 1, page);
+            leave_table(&mut self.frames, mem, tables.first, slot, way[level]);
+        }
+    }
+
     // Takes entry i out.
     fn take_out(&mut self, mem: &mut PhysMem, tables: &Tables, i: usize)
         requires holds { Holds tables.now self.old mem.old }
@@ -32,19 +89,15 @@ impl CachedTable {
         ensures entries { self.new.entries ≡ remove self.old.entries i }
         ensures keeps { KeepsTable tables.now self.old mem.old self.new mem.new }
         ensures holds { Holds tables.now self.new mem.new }
-        ensures changed { changed mem.old mem.new ≤ 3 }
+        ensures changed { changed mem.old mem.new ≤ top + 1 }
     {
         let page = self.entries.at(i).page;
         let low = tables.first + self.frames.place(i);
         self.frames.drop_place(i, self.entries.len());
         self.entries.remove(i);
         clear_leaf(mem, low, page);
-        let root = 512 * tables.root + page / 262_144;
-        let pointer = doubleword_at(mem, root);
-        let middle = pte_of(pointer).frame;
-        let slot = 512 * middle + page / 512 % 512;
-        leave_table(&mut self.frames, mem, tables.first, slot, low);
-        leave_table(&mut self.frames, mem, tables.first, root, middle);
+        let way = self.way_to(mem, tables, page);
+        self.leave_tables(mem, tables, page, &way);
     }
 
     // Takes the oldest entry out.
@@ -54,7 +107,7 @@ impl CachedTable {
         ensures entries { self.new.entries ≡ drop 1 self.old.entries }
         ensures keeps { KeepsTable tables.now self.old mem.old self.new mem.new }
         ensures holds { Holds tables.now self.new mem.new }
-        ensures changed { changed mem.old mem.new ≤ 3 }
+        ensures changed { changed mem.old mem.new ≤ top + 1 }
     {
         self.take_out(mem, tables, 0);
     }
@@ -68,17 +121,13 @@ impl CachedTable {
         ensures entries { self.new.entries ≡ self.old.entries ++ entry ∷ [] }
         ensures keeps { KeepsTable tables.now self.old mem.old self.new mem.new }
         ensures holds { Holds tables.now self.new mem.new }
-        ensures changed { changed mem.old mem.new ≤ 3 }
+        ensures changed { changed mem.old mem.new ≤ top + 1 }
     {
-        let page = entry.page;
         let leaf = leaf_word(&self.part, &entry);
-        let root = 512 * tables.root + page / 262_144;
-        let middle = enter_table(&mut self.frames, mem, tables.first, root);
-        let slot = 512 * middle + page / 512 % 512;
-        let low = enter_table(&mut self.frames, mem, tables.first, slot);
-        set_word(mem, 512 * low + page % 512, leaf);
+        let way = self.enter_tables(mem, tables, entry.page);
+        set_word(mem, 512 * way[0] + slot_of(0, entry.page), leaf);
         self.frames
-            .set_place(self.entries.len(), low - tables.first);
+            .set_place(self.entries.len(), way[0] - tables.first);
         self.entries.push(entry);
     }
 
@@ -90,7 +139,7 @@ impl CachedTable {
         ensures entries { self.new.entries ≡ filled self.old.most self.old.entries entry }
         ensures keeps { KeepsTable tables.now self.old mem.old self.new mem.new }
         ensures holds { Holds tables.now self.new mem.new }
-        ensures changed { changed mem.old mem.new ≤ 6 }
+        ensures changed { changed mem.old mem.new ≤ 2 * (top + 1) }
     {
         match self.entries.place_of(entry.page) {
             Some(i) => {
@@ -113,7 +162,7 @@ impl CachedTable {
         ensures keeps { KeepsTable tables.now self.old mem.old self.new mem.new }
         ensures holds { Holds tables.now self.new mem.new }
         ensures changed { changed mem.old mem.new
-            ≤ 3 * (length self.old.entries - length self.new.entries) }
+            ≤ (top + 1) * (length self.old.entries - length self.new.entries) }
     {
         let mut i = self.entries.len();
         while i > 0 {

@@ -4,6 +4,7 @@
 mod cached;
 mod frames;
 mod laws;
+mod levels;
 mod listing;
 mod spaces;
 mod writing;

@@ -7,6 +7,7 @@ ghost use Rattle.arch_defs.specs.CachedEntries.{HasLevel, holds};
 ghost use Rattle.arch_defs.specs.Spaces.{names_page};
 ghost use Rattle.arch_defs.specs.Walk.{most_level};
 ghost use Rattle.arch_defs.specs.TableEntries.{span};
+ghost use Rattle.shadow_space.specs.Trees.{most_entries};
 
 use crate::frames::MOST_ENTRIES;
 use arch_defs::Entry;
@@ -22,7 +23,7 @@ const NO_ENTRY: Entry = Entry {
     level: 0,
 };
 
-/// At most 256 entries, which contracts see as their list.
+/// At most `MOST_ENTRIES` entries, which contracts see as their list.
 #[derive(Drop)]
 pub struct EntryList {
     slots: [Entry; MOST_ENTRIES],
@@ -32,12 +33,13 @@ pub struct EntryList {
 impl Model for EntryList {
     ghost use Rattle.std.specs.Prelude.{◌≤◌, List, take};
     ghost use Rattle.arch_defs.specs.declared.cached.Entry.{Entry};
+    ghost use Rattle.shadow_space.specs.Trees.{most_entries};
 
     ghost Value = { List Entry };
 
     ghost view = { λ l. take l.count l.slots };
 
-    ghost invariant = { λ l. l.count ≤ 256 };
+    ghost invariant = { λ l. l.count ≤ most_entries };
 }
 
 impl EntryList {
@@ -54,7 +56,7 @@ impl EntryList {
     /// How many there are.
     pub fn len(&self) -> usize
         ensures value { result ≡ length self.now }
-        ensures few { result ≤ 256 }
+        ensures few { result ≤ most_entries }
     {
         self.as_slice().len()
     }
@@ -85,14 +87,14 @@ impl EntryList {
     /// The entries.
     pub fn as_slice(&self) -> &[Entry]
         ensures value { result.now ≡ self.now }
-        ensures few { length result.now ≤ 256 }
+        ensures few { length result.now ≤ most_entries }
     {
         &self.slots[..self.count]
     }
 
     /// One more entry, behind the others.
     pub fn push(&mut self, entry: Entry)
-        requires { length self.old < 256 }
+        requires { length self.old < most_entries }
         ensures { self.new ≡ self.old ++ entry ∷ [] }
     {
         self.slots[self.count] = entry;

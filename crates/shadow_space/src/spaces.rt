@@ -7,6 +7,7 @@ ghost use Rattle.arch_defs.specs.CachedEntries.{CanFill, cut_by, filled};
 ghost use Rattle.shadow_space.specs.Folding.{Folded};
 ghost use Rattle.shadow_space.specs.Reaching.{FreeAreZeros};
 ghost use Rattle.shadow_space.specs.Shadows.{AreZeros, HasSmallNumbers, KeepsSpace, Tidy, root_of, tables_in};
+ghost use Rattle.shadow_space.specs.Trees.{most_entries, top};
 ghost use Rattle.table_words.specs.Words.{changed};
 
 use crate::cached::CachedTable;
@@ -42,7 +43,7 @@ impl Space {
     /// The space of a part with this number, of at most so many entries, without any. It keeps the part.
     pub fn new(part: &Part, i: u64, entries: u64) -> Space
         requires index { i < part.now.spaces }
-        requires few { entries ≤ 256 }
+        requires few { entries ≤ most_entries }
         requires room { entries ≤ part.now.entries }
         ensures part { result.part ≡ part.now }
         ensures index { result.index ≡ i }
@@ -58,7 +59,7 @@ impl Space {
                 part: *part,
                 most: entries as usize,
                 entries: EntryList::new(),
-                frames: TableFrames::new(2 * entries as usize),
+                frames: TableFrames::new((TABLES_PER_ENTRY * entries) as usize),
             },
         }
     }
@@ -88,7 +89,7 @@ impl Space {
         ensures keeps { KeepsSpace self.old mem.old self.new mem.new }
         ensures tidy { Tidy self.new mem.new }
         ensures folded { Folded self.new mem.new }
-        ensures changed { changed mem.old mem.new ≤ 6 }
+        ensures changed { changed mem.old mem.new ≤ 2 * (top + 1) }
         ensures zeros { FreeAreZeros self.new mem.new }
     {
         let tables = tables_of(&self.table.part, self.index);
@@ -103,7 +104,7 @@ impl Space {
         ensures tidy { Tidy self.new mem.new }
         ensures folded { Folded self.new mem.new }
         ensures changed { changed mem.old mem.new
-            ≤ 3 * (length self.old.entries - length self.new.entries) }
+            ≤ (top + 1) * (length self.old.entries - length self.new.entries) }
         ensures zeros { FreeAreZeros self.new mem.new }
     {
         let tables = tables_of(&self.table.part, self.index);
@@ -118,7 +119,7 @@ impl Space {
         ensures tidy { Tidy self.new mem.new }
         ensures folded { Folded self.new mem.new }
         ensures changed { changed mem.old mem.new
-            ≤ 3 * (length self.old.entries - length self.new.entries) }
+            ≤ (top + 1) * (length self.old.entries - length self.new.entries) }
         ensures zeros { FreeAreZeros self.new mem.new }
     {
         let tables = tables_of(&self.table.part, self.index);

@@ -4,6 +4,7 @@ ghost use Rattle.std.specs.Prelude.{◌≡◌, ◌≢◌, ◌+◌, ◌-◌, ◌*
 ghost use Rattle.arch_defs.specs.CachedEntries.{CanFill};
 ghost use Rattle.shadow_space.specs.Held.{HasFree, IsCounting, departed, table_entered, entered_frame, held_in};
 ghost use Rattle.shadow_space.specs.Leaves.{leaf_word};
+ghost use Rattle.shadow_space.specs.Trees.{most_tables};
 ghost use Rattle.table_words.specs.Entries.{named_frame};
 ghost use Rattle.table_words.specs.Words.{changed, doubleword_at};
 
@@ -63,7 +64,7 @@ pub fn leave_table(frames: &mut TableFrames, mem: &mut PhysMem, first: u64, i: u
     requires small { i < 2 ^ 60 }
     requires counting { IsCounting frames.old first frame }
     requires some { 0 < slice_index frames.old.counts (frame - first) }
-    requires room { frames.old.left < 512 }
+    requires room { frames.old.left < most_tables }
     ensures held { held_in frames.new mem.new ≡ departed first i frame (held_in frames.old mem.old) }
     ensures changed { changed mem.old mem.new ≤ 1 }
 {
