@@ -199,7 +199,7 @@ impl Buffer {
         }
     }
 
-    /// The place of an access, where both stages give one as the registers and memory are.
+    /// The place of an access, where both stages give one as the registers and memory are, and else none.
     #[inline]
     pub fn place(
         &mut self,
@@ -210,6 +210,8 @@ impl Buffer {
         access: Access,
     ) -> Option<u64>
         requires serves { Serves self.old csrs.now mode memory.now }
+        ensures place { result
+            ≡ translated_place (context_of csrs.now mode) (privilege_of csrs.now mode) memory.now va access }
         ensures answer { IfSome result (λ place. Ok place
             ≡ answer_of csrs.now 0 memory.now (located_by_walk csrs.now mode 0 memory.now va access)) }
         ensures inside { IfSome result (λ place. IsPlaceOf 0 memory.now va place) }

@@ -1,7 +1,11 @@
+use Rattle.std.proofs.Common.{sym}
 use Rattle.arch_defs.specs.Translation.{privilege_of}
 use Rattle.translation_buffer.specs.Places.{context_of}
 use Rattle.translation_buffer.proofs.Answered.{answered, answered_if, placed_inside}
 use Rattle.translation_buffer.proofs.buffers.Buffer.place.Goals as goal
+
+pub returns-in-Some-clause-place : goal.returns-in-Some-clause-place
+returns-in-Some-clause-place c = sym (c.in-Some.ensures c.args.csrs.now c.args.mode c.args.memory.now c.requires.serves)
 
 pub returns-in-Some-clause-answer : goal.returns-in-Some-clause-answer
 returns-in-Some-clause-answer c =
