@@ -203,7 +203,7 @@ once_to : (m next : Machine) (k left : ℕ) (old new : Counts) → 0 < k → IsO
 once_to m next k left old new some (none, one) =
     let no_more : calm_entries left ≡ 0 = rw none refl in
     let first = one_entry k some in
-    (λ i within. absurd (omega (arith, none, within)), omega (arith, no_more, first, one))
+    (record { each = λ i within. absurd (omega (arith, none, within)); lasts = λ more. absurd (omega (arith, none, more)) }, omega (arith, no_more, first, one))
 
 pub accounted_part : (m next : Machine) (k left : ℕ) (es : List Event) (old new : Counts) → 0 < k → Made m k next left es → IsCounted m next es old new
     → (AreCalm m k → IsOnce left old new) → AccountedTo m k next left old new

@@ -2,7 +2,7 @@ use Rattle.std.proofs.Common.{◌+◌, ◌^◌, ◌<◌, ◌≤◌, ◌∙◌, a
 use Rattle.arch_defs.proofs.FrameSets.{only_none}
 use Rattle.guest_exit.proofs.Alone.{only_of_blocks, stays_by}
 use Rattle.guest_exit.specs.View.{changed_by, machine_of}
-use Rattle.guest_turns.proofs.CalmSteps.{calm_lasts, first_calm, no_calm_trap}
+use Rattle.guest_turns.proofs.CalmSteps.{first_calm, no_calm_trap}
 use Rattle.guest_turns.proofs.Current.{after_step}
 use Rattle.guest_turns.proofs.Parts.{entered_account, entered_part, handed_account, handed_current, handed_part, interrupt_part}
 use Rattle.guest_turns.proofs.Placing.{fixed_both, only_then}
@@ -80,8 +80,7 @@ returns-in-Limit-clause-account c =
     c.requires.hosted same some few c.enter-stop.ensures.run.ready c.enter-stop.ensures.run.steps in
     entered_account c.args.guest.now c.interrupt.new.guest c.enter-stop.new.guest c.args.memory.now c.enter-stop.new.memory c.args.left c.enter-stop.result.taken
     c.args.tally.now c.enter-stop.new.tally c.requires.some same part c.enter-stop.ensures.account c.enter-stop.ensures.goes.steps (λ calm.
-    let lasts = calm_lasts m c.args.left c.requires.hosted.current (sym c.interrupt.ensures.which ∙ c.if-interrupt.false) c.requires.some calm in
-    let most = c.limit.ensures.largest c.args.left (omega arith) (rw same lasts) in
+    let most = c.limit.ensures.largest c.args.left (omega arith) (rw same (calm.lasts c.requires.some)) in
     omega (arith, rw c.in-Limit.is at c.enter-stop.ensures.why.why, most))
 
 -- and after a trap into VS
