@@ -1,5 +1,5 @@
 -- The account of a command that was done.
-use Rattle.std.proofs.Common.{◌≡◌, ℕ, ◌≤◌, ◌^◌, List, Option, Some, Result, Ok, Err, length, map, refl, ap, subst, sym, arith}
+use Rattle.std.proofs.Common.{◌≡◌, ℕ, ◌≤◌, ◌^◌, List, Option, Some, Ok, Err, length, map, refl, ap, subst, sym, arith}
 use Rattle.std.specs.List.{All}
 use Rattle.command_line.specs.Commands.{Command, FileCommand, OnFiles, Run, Replay, Check, Work}
 use Rattle.guest_turns.specs.Limits.{IsBootable}
@@ -11,7 +11,7 @@ use Rattle.rv64_hart.specs.Counts.{Counts}
 use Rattle.nesthv_top.specs.declared.ends.Ended.TheVariants as ended
 use Rattle.nesthv_top.specs.declared.ends.Job.{Job}
 use Rattle.nesthv_top.specs.declared.ends.RunEnd.TheVariants.{WriteFault}
-use Rattle.nesthv_top.specs.Endings.{GrewBy, CountsIfRun, SaysOfAccount}
+use Rattle.nesthv_top.specs.Endings.{GrewBy, CountsIfRun, ReadsFrom, SaysOfAccount}
 use Rattle.nesthv_top.specs.Plans.{Plan, config_name, entries_of, plan_in, planned, run_of, steps_of, work_plan}
 use Rattle.nesthv_top.specs.Runnings.{CountsTurns, IsAccountFor}
 use Rattle.nesthv_top.specs.Seen.{IsJob, plan_seen}
@@ -31,7 +31,7 @@ bounded count plan old new most each guests grew =
     record { entries_most = omega (arith, entries, grew.entries_most); taken_most = omega (arith, few, grew.taken_most) }
 
 -- what is written or compared was run
-pub ran : (told : Option Files) (command : Command) (plan : Plan) (old new : Counts) → ((f : Files) → told ≡ Some f → run_of f (Some command) ≡ Some plan)
+pub ran : (told : Option Files) (command : Command) (plan : Plan) (old new : Counts) → ((f : Files) → ReadsFrom told (Some command) f → run_of f (Some command) ≡ Some plan)
     → ((config : List ℕ) → Some command ≡ Some (OnFiles (Check config)) → ⊥) → GrewBy (2 ^ 61) (2 ^ 52) old new → CountsTurns plan old new
     → SaysOfAccount told (Some command) ended.Done old new
 ran told command plan old new plan_is no_check bound grew = record {

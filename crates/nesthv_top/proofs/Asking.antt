@@ -1,8 +1,10 @@
 -- The reads of a command, and the plan that they give.
-use Rattle.std.proofs.Common.{cond, drop, ◌++◌, ◌≡◌, ◌∙◌, ℕ, zero, suc, ◌+◌, ◌-◌, ◌<◌, ◌≤◌, ◌==◌, List, [], ◌∷◌, Option, Some, None, Result, Ok, Err, length, take, Bool, false, true, nat_le, refl, ap, sym, subst, arith}
-use Rattle.std.proofs.lemmas.Bool.{eq-eqb}
+use Rattle.std.proofs.Common.{cond, drop, ◌⊎◌, inl, inr, ◌++◌, ◌≡◌, ◌∙◌, ℕ, zero, suc, ◌+◌, ◌-◌, ◌<◌, ◌≤◌, ◌==◌, List, [], ◌∷◌, Option, Some, None, Result, Ok, Err, length, take, Bool, false, true, nat_le, refl, ap, sym, subst, arith}
+use Rattle.std.proofs.lemmas.Bool.{cases_lt, eq-eqb}
 use Rattle.std.proofs.lemmas.Grind.{common_steps}
 use Rattle.std.proofs.lemmas.List.{append-nil, take-append-le, take_all, length-map}
+use Rattle.std.specs.Prelude.{is_some}
+use Rattle.std.specs.Str.{is_utf8}
 use Rattle.command_line.specs.Commands.{Command, FileCommand, OnFiles, Run, Replay, Check, Work}
 use Rattle.outside.specs.declared.stores.Store as stores
 use Rattle.outside.specs.Asks.{Ask}
@@ -12,9 +14,12 @@ use Rattle.guest_specs.specs.declared.guests.GuestSpec.{GuestSpec}
 use Rattle.run_config.specs.declared.faults.ConfigFault.{ConfigFault}
 use Rattle.run_config.specs.declared.faults.ConfigFault.TheVariants as fault
 use Rattle.run_config.specs.Accept as config
-use Rattle.run_config.specs.Accept.{accept, configuration_fault}
+use Rattle.run_config.specs.Accept.{accept, configuration_fault, tree_of}
 use Rattle.run_config.specs.Configurations.{Configuration}
+use Rattle.run_config.specs.declared.ends.ReadEnd.{ReadEnd}
+use Rattle.run_config.specs.declared.ends.ReadEnd.TheVariants as read_end
 use Rattle.run_config.specs.Tests.{first_fault, unless}
+use Rattle.run_config.specs.Values.{◌>>=◌, passes_if}
 use Rattle.nesthv_top.specs.declared.ends.Ended.TheVariants as ended
 use Rattle.nesthv_top.specs.declared.ends.LoadEnd.{LoadEnd}
 use Rattle.nesthv_top.specs.declared.ends.LoadEnd.TheVariants.{Refused, ReadFault, NoMemory}
@@ -22,21 +27,32 @@ use Rattle.nesthv_top.specs.Endings.{IsFirstRead, SaysOfReads}
 use Rattle.nesthv_top.specs.Ends.{all_by, ended_by, IfFailed, IfRefusal, IfWanting, RefusesOnly}
 use Rattle.nesthv_top.specs.Loads.{AreRead, ReadsStopped}
 use Rattle.nesthv_top.specs.Plans.{Plan, config_most, config_name, content, fault_in, frames_fault, guest_of, guests_of, image_of, images_fault, plan_unless_fault, planned, planned_by, planned_if}
-use Rattle.nesthv_top.specs.Reads.{accepted_asks, ask, asks_unless, command_asks, config_of, failed, failed_at, frames_after, image_ask, image_asks, report_asks, report_most, AskedMore, AskedSome, BeginsWithConfig, IsFailedRead, IsWanting}
+use Rattle.nesthv_top.specs.Reads.{accepted_asks, ask, asks_unless, command_asks, config_of, failed, failed_at, frames_after, image_ask, image_asks, report_asks, report_most, AskedMore, AskedSome, BeginsWithConfig, IsFailedRead, IsText, IsWanting}
 use Rattle.nesthv_top.proofs.Imaging.{asked_none, asked_then, asks_all, failed_next, first_of, one_is, rest_is, take_part}
 
--- a configuration that was accepted is not too long
-short_if : (short : Bool) (tree rest : Option ConfigFault) (what c : Configuration)
-    → config.unless_fault (first_fault (unless short fault.TooLong ∷ tree ∷ rest ∷ [])) what ≡ Ok c → short ≡ true
-short_if true tree rest what c e = refl
-short_if false tree rest what c e = cc
+-- a configuration that was accepted is text, and not too long
+both_if : (short spelled : Bool) (rest : Option ConfigFault) (what c : Configuration)
+    → config.unless_fault (first_fault (unless short fault.TooLong ∷ unless spelled fault.NotToml ∷ rest ∷ [])) what ≡ Ok c → (short ≡ true) × (spelled ≡ true)
+both_if true true rest what c e = (refl, refl)
+both_if true false rest what c e = cc
+both_if false spelled rest what c e = cc
+
+passed : {A : Type 0} (utf8 : Bool) (document : Option A) → is_some (passes_if utf8 >>= (λ found. document)) ≡ true → utf8 ≡ true
+passed true document e = refl
+passed false document e = cc
+
+utf8_if : (bytes : List ℕ) → is_some (tree_of bytes) ≡ true → is_utf8 bytes ≡ true
+unfolding tree_of
+utf8_if bytes e = passed (is_utf8 bytes) _ e
 
 at_most : (n : ℕ) → nat_le n 65536 ≡ true → n ≤ 65536
 at_most n e = grind (arith, e)
 
-pub accepted_short : (bytes : List ℕ) (c : Configuration) → accept bytes ≡ Ok c → length bytes ≤ 65536
+accepted_text : (bytes : List ℕ) (c : Configuration) → accept bytes ≡ Ok c → IsText bytes
 unfolding accept configuration_fault
-accepted_short bytes c e = at_most (length bytes) (short_if (nat_le (length bytes) 65536) _ _ _ c e)
+accepted_text bytes c e =
+    let both = both_if (nat_le (length bytes) 65536) (is_some (tree_of bytes)) _ _ c e in
+    record { short = at_most (length bytes) both.0; utf8 = utf8_if bytes both.1 }
 
 -- the plan of a configuration that was accepted, and its reads
 planned_is : (f : Files) (name : List ℕ) (c : Configuration) → accept (content f name config_most) ≡ Ok c → planned f name ≡ planned_by f c
@@ -194,7 +210,7 @@ images_stop S command c (NoMemory n) old mid new accepted first stopped some sta
           taken_further a further n is.0 ∙ ap (λ asks. a ∷ asks) (take-append-le (n - 1) (image_asks f c.guests) rest is.1.number) in
           record {
             number = subst (λ asks. n ≤ length asks) (sym asks) (omega (arith, is.0, no_fewer (image_asks f c.guests) rest (n - 1) is.1.number));
-            early = λ _. accepted_short (config_of f command) c (accepted f told);
+            early = λ _. accepted_text (config_of f command) c (accepted f told);
             later = λ _. rw (accepted f told) (rest_is (images_fault f 0 (take (n - 1) c.guests)) (frames_after f (n - 1) command c) is.1.fault
                 ∙ frames_later f (n - 1) command c (omega (arith, is.1.more)));
             asked = subst (λ asks. AskedMore (take n asks) (S.asked old) (S.asked new)) (sym asks)
@@ -235,6 +251,37 @@ config_stop S command bytes found old new gives refused made stays count = recor
   where
     at : (f : Files) → S.files old ≡ Some f → accept (config_of f command) ≡ Err found
     at f told = ap accept (content_is (S.files old) f (config_name command) config_most bytes gives told) ∙ refused
+
+-- memory is wanting to read the configuration
+not_other : (b : Bool) → (b ≡ false → ⊥) → b ≡ true
+not_other true other = refl
+not_other false other = absurd (other refl)
+
+pub wanting_text : {A : Type 0} (bytes : List ℕ) (read : Result A ReadEnd) → (65536 < length bytes → read ≡ Err (read_end.Refused fault.TooLong))
+    → (length bytes ≤ 65536 → is_utf8 bytes ≡ false → read ≡ Err (read_end.Refused fault.NotToml)) → read ≡ Err read_end.NoMemory → IsText bytes
+wanting_text {A = A} bytes read too_long no_text is = by (cases_lt 65536 (length bytes))
+  where
+    by : (65536 < length bytes) ⊎ (length bytes ≤ 65536) → IsText bytes
+    by (inl long) = let other = too_long long in cc
+    by (inr short) = record { short = short; utf8 = not_other (is_utf8 bytes) (λ none. let other = no_text short none in cc) }
+
+pub config_wanting : {X : Type 0} (S : stores.Ghosts X) (command : FileCommand) (bytes : List ℕ) (old new : X)
+    → GivesFile (S.files old) (config_name command) config_most bytes → IsText bytes
+    → AskedMore (ask (config_name command) config_most ∷ []) (S.asked old) (S.asked new)
+    → S.files new ≡ S.files old → S.faults old ≤ S.faults new → SaysOfReads S (Some (OnFiles command)) (ended.NoMemory 1) old new
+config_wanting S command bytes old new gives text made stays count = record {
+  number = tt;
+  fault = λ f told. tt;
+  first = (false, [], made);
+  reads = λ f told. record {
+    number = omega arith;
+    early = λ one. subst IsText (sym (content_is (S.files old) f (config_name command) config_most bytes gives told)) text;
+    later = λ two. absurd (omega (arith, two));
+    asked = made;
+  };
+  stays = stays;
+  count = count;
+}
 
 -- the plan of guests whose images were all read
 pub planned_as : (f : Files) (name : List ℕ) (c : Configuration) (guests : List GuestSpec) → accept (content f name config_most) ≡ Ok c
@@ -369,7 +416,7 @@ report_wanting S command c f guests n old mid later new accepted first read last
     taken_further a (images ++ report_asks command) n (omega (arith, is)) ∙ ap (λ asks. a ∷ asks) (take_part images (report_asks command) (n - 1) (count ∙ sym less)) in
     record {
       number = subst (λ asks. n ≤ length asks) (sym asks) (omega (arith, is, no_fewer images (report_asks command) (length c.guests) (omega (arith, count))));
-      early = λ _. accepted_short (config_of f command) c accepted;
+      early = λ _. accepted_text (config_of f command) c accepted;
       later = λ _. rw (less, accepted) (rw (take_all (length c.guests) c.guests (omega arith))
           (rest_is (images_fault f 0 c.guests) (frames_after f (length c.guests) command c) read.fault ∙ frames_later f (length c.guests) command c (omega (arith, named))));
       asked = subst (λ asks. AskedMore (take n asks) (S.asked old) (S.asked new)) (sym asks)
@@ -472,7 +519,7 @@ late_wanting S command plan reports old new is made_reports made =
           let less : n - 1 ≡ length c.guests + length (report_asks command) = omega (arith, whole.guests, made_reports) in
           record {
             number = subst (λ asks. n ≤ length asks) (sym asks) (omega (arith, count));
-            early = λ _. accepted_short (config_of f command) c there.1;
+            early = λ _. accepted_text (config_of f command) c there.1;
             later = λ _. rw (less, there.1) (rw (take_all (length c.guests + length (report_asks command)) c.guests (omega arith))
                 (rest_is (images_fault f 0 c.guests) (frames_after f (length c.guests + length (report_asks command)) command c) whole.images ∙ frames_now f command c ∙ whole.frames));
             asked = subst (λ reads. AskedMore reads (S.asked old) (S.asked new)) (sym (no_more (command_asks f command) n

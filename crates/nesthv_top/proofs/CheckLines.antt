@@ -1,5 +1,5 @@
 -- The lines of a check, one after the other.
-use Rattle.std.proofs.Common.{◌≡◌, ℕ, zero, suc, ◌+◌, ◌<◌, ◌≤◌, List, [], ◌∷◌, ◌++◌, length, map, take, drop, get_or, false, refl, ap, subst, sym, ◌∙◌, arith, append_assoc, add-one}
+use Rattle.std.proofs.Common.{◌≡◌, ℕ, zero, suc, ◌+◌, ◌<◌, ◌≤◌, List, [], ◌∷◌, ◌++◌, length, take, drop, get_or, false, refl, ap, subst, sym, ◌∙◌, arith, append_assoc, add-one}
 use Rattle.std.specs.List.{All}
 use Rattle.std.proofs.lemmas.List.{append-nil, get_or-map, length-map}
 use Rattle.guest_specs.specs.declared.guests.GuestSpec.{GuestSpec}
@@ -7,7 +7,7 @@ use Rattle.outside.specs.Pieces.{Appends, Puts}
 use Rattle.outside.proofs.Pieces.{appends_then, puts_stopped, puts_then}
 use Rattle.run_config.specs.declared.guests.GuestSettings.{GuestSettings}
 use Rattle.nesthv_top.specs.declared.ends.Job.{Job}
-use Rattle.nesthv_top.specs.Seen.{IsJob, names_in, names_of_guests}
+use Rattle.nesthv_top.specs.Seen.{IsJob}
 use Rattle.nesthv_top.specs.Texts.{guest_check, guest_checks}
 
 -- the lines of the first i guests, the next one, and the others

@@ -1,5 +1,5 @@
 -- What a comparison of a whole report says.
-use Rattle.std.proofs.Common.{◌≡◌, ◌⊎◌, inr, ℕ, List, [], false, refl, ap, sym, ◌∙◌, arith}
+use Rattle.std.proofs.Common.{◌≡◌, inr, ℕ, List, [], false, refl, ap, sym, ◌∙◌, arith}
 use Rattle.outside.specs.Pieces.{Appends}
 use Rattle.replay.specs.Comparisons.{Comparison, Saw, verdict_of}
 use Rattle.replay.specs.declared.comparisons.Verdict.{Verdict}

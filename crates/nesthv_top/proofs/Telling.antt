@@ -1,8 +1,9 @@
 -- What a status tells, by the end that it stands for.
-use Rattle.std.proofs.Common.{cond, ◌≡◌, ◌≤◌, ◌⊎◌, inl, inr, ℕ, zero, suc, List, [], ◌∷◌, Option, Some, None, Result, Ok, Err, Bool, true, false, refl, sym, ap, subst, ◌∙◌, arith}
+use Rattle.std.proofs.Common.{cond, ◌≡◌, ◌≤◌, ◌⊎◌, inl, inr, ℕ, zero, suc, List, [], ◌∷◌, Option, Some, None, Result, Ok, Err, Bool, true, false, refl, sym, ap, subst, arith}
 use Rattle.std.specs.List.{list_all}
 use Rattle.std.specs.Prelude.{IsSome, IsSomeAnd}
-use Rattle.command_line.specs.Commands.{Command, OnFiles, Work, asked_by, command_of, is_plain}
+use Rattle.command_line.specs.Commands.{Command, FileCommand, OnFiles, Run, Replay, Check, Work, asked_by, command_of, is_plain}
+use Rattle.replay.specs.declared.comparisons.Verdict.TheVariants as verdict
 use Rattle.outside.specs.declared.sinks.Sink as sinks
 use Rattle.outside.specs.declared.stores.Store as stores
 use Rattle.outside.specs.Faults.{Rose}
@@ -11,10 +12,10 @@ use Rattle.outside.specs.Pieces.{Appends}
 use Rattle.run_config.specs.declared.faults.ConfigFault.{ConfigFault}
 use Rattle.nesthv_top.specs.declared.ends.Ended.{Ended}
 use Rattle.nesthv_top.specs.declared.ends.Ended.TheVariants.{Done, Differs, NoCommand, Refused, ReadFault, WriteFault, NoMemory}
-use Rattle.nesthv_top.specs.Endings.{HasPlan, IfReadFault, IfRefusedWith, IfRun, IfWriteFault, IsFor, IsOfCommand, IsRefusal, SaysOfCause, SaysOfOut, SaysOfReads, Tells, WithPlan}
+use Rattle.nesthv_top.specs.Endings.{HasPlan, IfRefusedWith, IfRun, IsFor, IsOfCommand, IsRefusal, IsReplay, ReadsFrom, SaysOfCause, SaysOfOut, SaysOfReads, Tells, WithPlan}
 use Rattle.nesthv_top.specs.Plans.{AllRunAsWritten, Plan, config_name, fault_in, fault_of, plan_in, plan_of, planned}
 use Rattle.nesthv_top.specs.Statuses.{ArePlain, IsDone, IsNoCommand, status_of, verdict_status}
-use Rattle.nesthv_top.specs.Texts.{found_of, text_of}
+use Rattle.nesthv_top.specs.Texts.{found_of, found_with, text_of}
 
 not_done : {P : Type 0} (n : ℕ) → 1 ≤ n → n ≤ 5 → IsDone n → P
 not_done n some few (inl e) = absurd (omega (arith, e, some))
@@ -91,7 +92,7 @@ known o a is = rw is refl
 
 -- when status 2 comes
 refuses : {X Y : Type 0} (S : stores.Ghosts X) (O : sinks.Ghosts Y) (f : Files) (words : List (List ℕ)) (ended : Ended) (store store' : X) (out out' : Y)
-    → S.files store ≡ Some f → SaysOfCause S O words ended store store' out out' → SaysOfOut O (S.files store) (command_of words) ended out out'
+    → ReadsFrom (S.files store) (command_of words) f → SaysOfCause S O words ended store store' out out' → SaysOfOut O (S.files store) (command_of words) ended out out'
     → IsSome (fault_of f (command_of words)) → (status_of ended ≡ 2) ⊎ (status_of ended ≡ 3) ⊎ (status_of ended ≡ 5)
 refuses S O f words Done store store' out out' told cause says fault = absurd (not_both f (command_of words) (has_plan f (command_of words) _ (says.machines f told)) fault)
 refuses S O f words Differs store store' out out' told cause says fault = absurd (not_both f (command_of words) (has_plan f (command_of words) _ (says.machines f told)) fault)
@@ -121,7 +122,7 @@ refusal S O words ended store store' out out' cause reads says = record {
 
 -- completeness
 pub complete : {X Y : Type 0} (S : stores.Ghosts X) (O : sinks.Ghosts Y) (f : Files) (words : List (List ℕ)) (ended : Ended) (store store' : X) (out out' : Y)
-    → S.files store ≡ Some f → SaysOfCause S O words ended store store' out out' → SaysOfReads S (command_of words) ended store store' → IsSome (plan_of f (command_of words))
+    → ReadsFrom (S.files store) (command_of words) f → SaysOfCause S O words ended store store' out out' → SaysOfReads S (command_of words) ended store store' → IsSome (plan_of f (command_of words))
     → ¬ Rose (S.faults store) (S.faults store') → ¬ Rose (O.faults out) (O.faults out') → IsDone (status_of ended) ⊎ (status_of ended ≡ 5)
 complete S O f words Done store store' out out' told cause reads plan read write = inl (inl refl)
 complete S O f words Differs store store' out out' told cause reads plan read write = inl (inr refl)
@@ -142,16 +143,22 @@ unfolding command_of
 plain_command [] some = cc
 plain_command (name ∷ words) some = all_plain (list_all is_plain words) (asked_by words) some
 
+-- a replay alone finds a difference
+pub differing : (command : FileCommand) (stored : List ℕ) (plan : Plan) (n : ℕ) → verdict.Differs n ≡ found_with command stored plan → IsReplay (Some (OnFiles command))
+differing (Run config) stored plan n is = cc
+differing (Replay config report) stored plan n is = (config, report, refl)
+differing (Check config) stored plan n is = cc
+
 -- why a command ended so
-pub is_for : (words : List (List ℕ)) (ended : Ended) → IsSome (command_of words) → IsOfCommand ended → IsFor ended words
-is_for words Done some is = some
-is_for words Differs some is = some
-is_for words NoCommand some is = absurd is
-is_for words (Refused found) some is = some
-is_for words (ReadFault n) some is = some
-is_for words WriteFault some is = some
-is_for words (NoMemory zero) some is = plain_command words some
-is_for words (NoMemory (suc n)) some is = some
+pub is_for : (words : List (List ℕ)) (command : Command) (ended : Ended) → command_of words ≡ Some command → IsOfCommand command ended → IsFor ended words
+is_for words command Done are is = known (command_of words) command are
+is_for words command Differs are is = subst IsReplay (sym are) is
+is_for words command NoCommand are is = absurd is
+is_for words command (Refused found) are is = known (command_of words) command are
+is_for words command (ReadFault n) are is = known (command_of words) command are
+is_for words command WriteFault are is = known (command_of words) command are
+is_for words command (NoMemory zero) are is = plain_command words (known (command_of words) command are)
+is_for words command (NoMemory (suc n)) are is = known (command_of words) command are
 
 -- when status 1 comes
 none_only : (words : List (List ℕ)) (ended : Ended) → IsFor ended words → status_of ended ≡ 1 → command_of words ≡ None
@@ -167,9 +174,12 @@ not_none : {P : Type 0} (o : Option Command) → IsSome o → o ≡ None → P
 not_none (Some command) some none = cc
 not_none None some none = cc
 
+not_replay : {P : Type 0} (o : Option Command) → IsReplay o → o ≡ None → P
+not_replay o (config, report, is) none = cc
+
 none_always : (words : List (List ℕ)) (ended : Ended) → IsFor ended words → command_of words ≡ None → (status_of ended ≡ 1) ⊎ ((status_of ended ≡ 5) × ArePlain words)
 none_always words Done is none = not_none (command_of words) is none
-none_always words Differs is none = not_none (command_of words) is none
+none_always words Differs is none = not_replay (command_of words) is none
 none_always words NoCommand is none = inl refl
 none_always words (Refused found) is none = not_none (command_of words) is none
 none_always words (ReadFault n) is none = not_none (command_of words) is none
@@ -179,3 +189,13 @@ none_always words (NoMemory (suc n)) is none = not_none (command_of words) is no
 
 pub no_command : (words : List (List ℕ)) (ended : Ended) → IsFor ended words → IsNoCommand words (status_of ended)
 no_command words ended is = record { only = none_only words ended is; always = none_always words ended is }
+
+-- when status 6 comes
+pub replayed : (words : List (List ℕ)) (ended : Ended) → IsFor ended words → status_of ended ≡ 6 → IsReplay (command_of words)
+replayed words Done is e = absurd (omega (arith, e))
+replayed words Differs is e = is
+replayed words NoCommand is e = absurd (omega (arith, e))
+replayed words (Refused found) is e = absurd (omega (arith, e))
+replayed words (ReadFault n) is e = absurd (omega (arith, e))
+replayed words WriteFault is e = absurd (omega (arith, e))
+replayed words (NoMemory n) is e = absurd (omega (arith, e))

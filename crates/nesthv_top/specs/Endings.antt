@@ -22,25 +22,31 @@ use Rattle.nesthv_top.specs.Statuses.{ArePlain}
 use Rattle.nesthv_top.specs.Texts.{found_of, text_of}
 use Rattle.nesthv_top.specs.Written.{IsLinePut}
 
--- a fact of the files, where the store tells them
-abbrev pub IfTold : Option Files → (Files → Type 0) → Type 0
-IfTold told P = (files : Files) → told ≡ Some files → P files
+-- the files that a command reads from: those that the store tells, and any where it reads none
+abbrev pub ReadsFrom : Option Files → Option Command → Files → Type 0
+ReadsFrom told (Some (OnFiles command)) files = told ≡ Some files
+ReadsFrom told (Some (Work seed size)) files = ⊤
+ReadsFrom told None files = ⊤
+
+-- a fact of these files: of a command on files only where the store tells them
+abbrev pub IfKnown : Option Files → Option Command → (Files → Type 0) → Type 0
+IfKnown told command P = (files : Files) → ReadsFrom told command files → P files
 
 -- there is a command, and a plan for it, of which this holds
 abbrev pub WithPlan : Files → Option Command → (Command → Plan → Type 0) → Type 0
 WithPlan files (Some command) P = IsSomeAnd (plan_of files (Some command)) (P command)
 WithPlan files None P = ⊥
 
--- the same where the store tells the files
+-- the same where the files are known
 abbrev pub HasPlan : Option Files → Option Command → (Files → Command → Plan → Type 0) → Type 0
-HasPlan told command P = IfTold told (λ files. WithPlan files command (P files))
+HasPlan told command P = IfKnown told command (λ files. WithPlan files command (P files))
 
 -- the status is 2 only where the command has a first fault; and where it has one, the status is 2, unless a
 -- read failed or memory was wanting
 pub record IsRefusal (told : Option Files) (command : Option Command) (status : ℕ) : Type 0 where
-  pub only : IfTold told (λ files. status ≡ 2 → IsSome (fault_of files command))
-  pub always :
-      IfTold told (λ files. IsSome (fault_of files command) → (status ≡ 2) ⊎ (status ≡ 3) ⊎ (status ≡ 5))
+  pub only : IfKnown told command (λ files. status ≡ 2 → IsSome (fault_of files command))
+  pub always : IfKnown told command (λ files.
+      IsSome (fault_of files command) → (status ≡ 2) ⊎ (status ≡ 3) ⊎ (status ≡ 5))
 
 -- facts for an end of one kind
 abbrev pub IfRefusedWith : Ended → (ConfigFault → Type 0) → Type 0
@@ -55,16 +61,23 @@ abbrev pub IfWriteFault : Ended → Type 0 → Type 0
 IfWriteFault WriteFault P = P
 IfWriteFault other P = ⊤
 
--- whether the words are a command; memory may have been wanting to read them only where they are plain
+-- a command is a replay
+abbrev pub IsReplay : Option Command → Type 0
+IsReplay command = (config : List ℕ) × (report : List ℕ) × (command ≡ Some (OnFiles (Replay config report)))
+
+-- whether the words are a command, which is a replay where a difference was found; memory may have been
+-- wanting to read them only where they are plain
 abbrev pub IsFor : Ended → List (List ℕ) → Type 0
 IsFor NoCommand words = command_of words ≡ None
+IsFor Differs words = IsReplay (command_of words)
 IsFor (NoMemory zero) words = ArePlain words
 IsFor other words = IsSome (command_of words)
 
--- an end that words which are a command may have
-abbrev pub IsOfCommand : Ended → Type 0
-IsOfCommand NoCommand = ⊥
-IsOfCommand other = ⊤
+-- an end that a command may have
+abbrev pub IsOfCommand : Command → Ended → Type 0
+IsOfCommand command NoCommand = ⊥
+IsOfCommand command Differs = IsReplay (Some command)
+IsOfCommand command other = ⊤
 
 -- why a command ended so, by its words and by the counts of faults
 pub record SaysOfCause {X Y : Type 0} (S : stores.Ghosts X) (O : sinks.Ghosts Y) (said : List (List ℕ))
@@ -91,10 +104,11 @@ IsAsked other files command before after = AskedMore (asks_of files command) bef
 pub record SaysOfReads {X : Type 0} (S : stores.Ghosts X) (command : Option Command) (ended : Ended)
     (old new : X) : Type 0 where
   pub first : IsFirstRead S command ended old new
-  pub reads : IfTold (S.files old) (λ files. IsAsked ended files command (S.asked old) (S.asked new))
+  pub reads : IfKnown (S.files old) command (λ files.
+      IsAsked ended files command (S.asked old) (S.asked new))
   pub number : IfReadFault ended (λ n. (1 ≤ n) × (n ≤ most_reads))
-  pub fault :
-      IfTold (S.files old) (λ files. IfRefusedWith ended (λ found. fault_of files command ≡ Some found))
+  pub fault : IfKnown (S.files old) command (λ files.
+      IfRefusedWith ended (λ found. fault_of files command ≡ Some found))
   pub stays : S.files new ≡ S.files old
   pub count : S.faults old ≤ S.faults new
 
@@ -135,11 +149,11 @@ IfRun (Work seed size) P = P
 -- what an end says of `out` and of the machines whose report is written or compared
 pub record SaysOfOut {Y : Type 0} (O : sinks.Ghosts Y) (told : Option Files) (command : Option Command)
     (ended : Ended) (old new : Y) : Type 0 where
-  pub text : IfTold told (λ files. IfPlanned ended files command (λ command plan.
+  pub text : IfKnown told command (λ files. IfPlanned ended files command (λ command plan.
       IsTextPut O ended old new (text_of files command plan)))
-  pub verdict : IfTold told (λ files. IfPlanned ended files command (λ command plan.
+  pub verdict : IfKnown told command (λ files. IfPlanned ended files command (λ command plan.
       Tells ended (found_of files command plan)))
-  pub machines : IfTold told (λ files. IfPlanned ended files command (λ command plan.
+  pub machines : IfKnown told command (λ files. IfPlanned ended files command (λ command plan.
       IfRun command (AllRunAsWritten plan)))
   pub idle : IsIdle ended old new
   pub count : O.faults old ≤ O.faults new
@@ -182,11 +196,11 @@ pub record GrewBy (entries steps : ℕ) (old new : Counts) : Type 0 where
 -- what an end says of the account of the hart, which a check leaves as it was
 pub record SaysOfAccount (told : Option Files) (command : Option Command) (ended : Ended)
     (old new : Counts) : Type 0 where
-  pub run : IfTold told (λ files. CountsIfRun (run_of files command) ended old new)
+  pub run : IfKnown told command (λ files. CountsIfRun (run_of files command) ended old new)
   pub idle : IsIdle ended old new
   pub check : IsCheck command → new ≡ old
   pub entries : old.entries ≤ new.entries
   pub taken : old.taken ≤ new.taken
   pub bound : GrewBy (2 ^ 61) (2 ^ 52) old new
-  pub most : IfTold told (λ files.
+  pub most : IfKnown told command (λ files.
       GrewBy (entries_of (run_of files command)) (steps_of (run_of files command)) old new)

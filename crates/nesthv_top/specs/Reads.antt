@@ -1,5 +1,6 @@
 -- The reads that a command asks for.
 use Rattle.std.specs.Prelude.{⊤, ◌≡◌, ℕ, ◌-◌, ◌+◌, ◌≤◌, ◌==◌, List, [], ◌∷◌, ◌++◌, Option, Some, None, Result, Ok, Err, option_map, length, take, drop, Bool, false, true, if◌then◌else◌}
+use Rattle.std.specs.Str.{is_utf8}
 use Rattle.command_line.specs.Commands.{Command, FileCommand, OnFiles, Run, Replay, Check, Work}
 use Rattle.outside.specs.Asks.{Ask}
 use Rattle.outside.specs.Files.{Files}
@@ -108,11 +109,16 @@ abbrev pub fault_after : Files → ℕ → FileCommand → Configuration → Opt
 fault_after files n command c =
     first_fault (images_fault files 0 (take n c.guests) ∷ frames_after files n command c ∷ [])
 
--- a command's configuration is not too long
-abbrev pub IsShort : Files → Option Command → Type 0
-IsShort files (Some (OnFiles command)) = length (config_of files command) ≤ 65536
-IsShort files (Some (Work seed size)) = ⊤
-IsShort files None = ⊤
+-- bytes are text, and not too long for a configuration
+pub record IsText (bytes : List ℕ) : Type 0 where
+  pub short : length bytes ≤ 65536
+  pub utf8 : is_utf8 bytes ≡ true
+
+-- so are those of a command's configuration
+abbrev pub IsReadable : Files → Option Command → Type 0
+IsReadable files (Some (OnFiles command)) = IsText (config_of files command)
+IsReadable files (Some (Work seed size)) = ⊤
+IsReadable files None = ⊤
 
 -- a command's configuration is accepted, and n reads later there is no fault
 abbrev pub IsFaultless : Files → ℕ → FileCommand → Result Configuration ConfigFault → Type 0
@@ -125,11 +131,11 @@ HasNoFault files n (Some (Work seed size)) = ⊤
 HasNoFault files n None = ⊤
 
 -- memory was wanting after the first n of a command's reads were made, and no test before had refused: after
--- the first read the configuration is not too long, and after more the images so far fit, and the frames
--- after the last read
+-- the first read the configuration is text that is not too long, and after more the images so far fit, and
+-- the frames after the last read
 pub record IsWanting (n : ℕ) (files : Files) (command : Option Command)
     (before after : Option (List Ask)) : Type 0 where
   pub number : n ≤ length (asks_of files command)
-  pub early : n ≡ 1 → IsShort files command
+  pub early : n ≡ 1 → IsReadable files command
   pub later : 2 ≤ n → HasNoFault files (n - 1) command
   pub asked : AskedMore (take n (asks_of files command)) before after

@@ -63,7 +63,7 @@ fn answer<S: Store, O: Sink>(
     requires entries { tally.old.entries ≤ 2 ^ 61 }
     requires taken { tally.old.taken ≤ 2 ^ 61 }
 
-    ensures command { IsOfCommand result }
+    ensures command { IsOfCommand (OnFiles (file_command_seen request.entry)) result }
     ensures read { IfReadFault result (λ n. Rose (S.faults store.old) (S.faults store.new)) }
     ensures write { IfWriteFault result (Rose (O.faults out.old) (O.faults out.new)) }
     ensures reads { SaysOfReads S.Store (Some (OnFiles (file_command_seen request.entry))) result

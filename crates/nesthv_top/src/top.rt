@@ -4,7 +4,7 @@ ghost use Rattle.std.specs.Prelude.{◌≡◌, ◌^◌, ◌≤◌, ◌⊎◌, Is
 ghost use Rattle.command_line.specs.Commands.{command_of};
 ghost use Rattle.outside.specs.Faults.{Rose};
 ghost use Rattle.outside.specs.Pieces.{Appends};
-ghost use Rattle.nesthv_top.specs.Endings.{HasPlan, IfRun, IfTold, IsRefusal, SaysOfAccount, SaysOfCause, SaysOfErr, SaysOfOut, SaysOfReads};
+ghost use Rattle.nesthv_top.specs.Endings.{HasPlan, IfKnown, IfRun, IsRefusal, IsReplay, SaysOfAccount, SaysOfCause, SaysOfErr, SaysOfOut, SaysOfReads};
 ghost use Rattle.nesthv_top.specs.Plans.{AllRunAsWritten, plan_of};
 ghost use Rattle.nesthv_top.specs.Statuses.{status_of, verdict_status, IsDone, IsNoCommand, IsStatusOf};
 ghost use Rattle.nesthv_top.specs.Texts.{found_of, text_of};
@@ -41,11 +41,13 @@ pub fn nesthv<S: Store, O: Sink, E: Sink>(
     // When each status comes. 5 is want of memory, which is free.
     ensures verdict { IsDone result → HasPlan (S.files store.old) (command_of words.now)
         (λ files command plan. result ≡ verdict_status (found_of files command plan)) }
+    ensures differs { result ≡ 6 → IsReplay (command_of words.now) }
     ensures no_command { IsNoCommand words.now result }
     ensures refused { IsRefusal (S.files store.old) (command_of words.now) result }
     ensures read_fault { result ≡ 3 → Rose (S.faults store.old) (S.faults store.new) }
     ensures write_fault { result ≡ 4 → Rose (O.faults out.old) (O.faults out.new) }
-    ensures complete { IfTold (S.files store.old) (λ files. IsSome (plan_of files (command_of words.now))
+    ensures complete { IfKnown (S.files store.old) (command_of words.now) (λ files.
+        IsSome (plan_of files (command_of words.now))
         → ¬ Rose (S.faults store.old) (S.faults store.new) → ¬ Rose (O.faults out.old) (O.faults out.new)
         → IsDone result ⊎ (result ≡ 5)) }
 

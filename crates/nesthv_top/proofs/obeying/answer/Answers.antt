@@ -4,6 +4,7 @@ use Rattle.replay.specs.declared.comparisons.Verdict.TheVariants.{Same}
 use Rattle.nesthv_top.specs.Seen.{plan_seen}
 use Rattle.nesthv_top.proofs.Accounting.{counted, counted_differing, counted_in_part}
 use Rattle.nesthv_top.proofs.Asking.{late_wanting}
+use Rattle.nesthv_top.proofs.Telling.{differing}
 use Rattle.nesthv_top.proofs.obeying.answer.Goals as goal
 
 pub returns-in-Ok-Same-clause-account : goal.returns-in-Ok-Same-clause-account
@@ -16,6 +17,11 @@ returns-in-Ok-Differs-clause-account g c =
     counted_differing (g.S.Store.files c.args.store.now) (OnFiles (file_command_seen c.args.request)) c.args.tally.now c.perform.new.tally
     (counted (g.S.Store.files c.args.store.now) (file_command_seen c.args.request) c.in-Ok.loaded.job c.in-Ok-Differs.field-0 c.args.tally.now c.perform.new.tally
     c.in-Ok.ensures.planned c.in-Ok.ensures.job c.in-Ok-Differs.ensures.account)
+
+pub returns-in-Ok-Differs-clause-command : goal.returns-in-Ok-Differs-clause-command
+returns-in-Ok-Differs-clause-command g c =
+    differing (file_command_seen c.args.request) c.as_slice-2.result.now (plan_seen c.in-Ok.loaded.job) _
+    (rw c.in-Ok-Differs.field-0-is at c.in-Ok-Differs.ensures.found)
 
 pub returns-in-Err-WriteFault-clause-account : goal.returns-in-Err-WriteFault-clause-account
 returns-in-Err-WriteFault-clause-account g c =

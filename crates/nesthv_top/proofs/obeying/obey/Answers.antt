@@ -6,15 +6,14 @@ use Rattle.nesthv_top.specs.Endings.{SaysOfAccount}
 use Rattle.nesthv_top.specs.Plans.{work_plan}
 use Rattle.nesthv_top.specs.Runnings.{CountsTurns}
 use Rattle.nesthv_top.proofs.Accounting.{counted_work, in_part}
-use Rattle.nesthv_top.proofs.Telling.{is_for, known}
+use Rattle.nesthv_top.proofs.Telling.{is_for}
 use Rattle.nesthv_top.proofs.obeying.obey.Goals as goal
 
 pub returns-in-Ok-Some-OnFiles-clause-cause : goal.returns-in-Ok-Some-OnFiles-clause-cause
 returns-in-Ok-Some-OnFiles-clause-cause g c =
     let is = rw c.in-Ok-Some-OnFiles.field-0-0-is at (rw c.in-Ok-Some-OnFiles.field-0-is at c.in-Ok-Some-OnFiles.ensures.request) in
     record {
-      words = is_for c.args.words.now c.answer.result (known (command_of c.args.words.now) (OnFiles (file_command_seen c.in-Ok-Some-OnFiles.request)) (sym is))
-          c.answer.ensures.command;
+      words = is_for c.args.words.now (OnFiles (file_command_seen c.in-Ok-Some-OnFiles.request)) c.answer.result (sym is) c.answer.ensures.command;
       read = c.answer.ensures.read;
       write = c.answer.ensures.write;
     }
@@ -44,4 +43,4 @@ returns-in-Err-NoMemory-clause-cause g c =
     let seed = c.in-Ok-Some-Work.seed in let size = c.in-Ok-Some-Work.size in
     let is : Some (Work seed size) ≡ command_of c.args.words.now
     = rw c.in-Ok-Some-Work.field-0-0-is at (rw c.in-Ok-Some-Work.field-0-is at c.in-Ok-Some-Work.ensures.request) in
-    record { words = is_for c.args.words.now (NoMemory 0) (known (command_of c.args.words.now) (Work seed size) (sym is)) tt; read = tt; write = tt }
+    record { words = is_for c.args.words.now (Work seed size) (NoMemory 0) (sym is) tt; read = tt; write = tt }

@@ -1,7 +1,5 @@
-use Rattle.std.proofs.Common.{◌∙◌, sym}
 use Rattle.command_line.specs.Commands.{command_of}
-use Rattle.nesthv_top.specs.Statuses.{IsDone}
-use Rattle.nesthv_top.proofs.Telling.{complete, found, no_command, ran_as_written, refusal, texted}
+use Rattle.nesthv_top.proofs.Telling.{complete, found, no_command, ran_as_written, refusal, replayed, texted}
 use Rattle.nesthv_top.proofs.top.nesthv.Goals as goal
 
 pub returns-clause-text : goal.returns-clause-text
@@ -16,6 +14,9 @@ pub returns-clause-verdict : goal.returns-clause-verdict
 returns-clause-verdict g c = λ done.
     rw c.status_of.ensures
     (found g.O.Sink _ (command_of c.args.words.now) c.obey-ended.result _ _ (rw c.status_of.ensures at done) c.obey-ended.ensures.out)
+
+pub returns-clause-differs : goal.returns-clause-differs
+returns-clause-differs g c = λ six. replayed c.args.words.now c.obey-ended.result c.obey-ended.ensures.cause.words (rw c.status_of.ensures at six)
 
 pub returns-clause-no_command : goal.returns-clause-no_command
 returns-clause-no_command g c = rw c.status_of.ensures (no_command c.args.words.now c.obey-ended.result c.obey-ended.ensures.cause.words)
