@@ -111,6 +111,7 @@ fn is_plain(word: &str) -> bool
 pub fn request_of<'a>(alloc: Global, words: &'a [Word]) -> Result<Option<Request<'a>>, NoMemory>
     ensures request { IfOk result (λ request. option_map command_seen request ≡ command_of words.entry.now) }
     ensures within { IfOk result (λ request. IfSome request IsRequest) }
+    ensures some { OnErr result (1 ≤ length words.entry.now) }
     ensures memory { OnErr result (list_all is_plain (drop 1 words.entry.now) ≡ true) }
 {
     match words {
