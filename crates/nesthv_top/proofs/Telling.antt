@@ -141,7 +141,7 @@ all_plain false asked some = cc
 plain_command : (words : List (List ℕ)) → IsSome (command_of words) → ArePlain words
 unfolding command_of
 plain_command [] some = cc
-plain_command (name ∷ words) some = all_plain (list_all is_plain words) (asked_by words) some
+plain_command (name ∷ words) some = record { some = omega arith; plain = all_plain (list_all is_plain words) (asked_by words) some }
 
 -- a replay alone finds a difference
 pub differing : (command : FileCommand) (stored : List ℕ) (plan : Plan) (n : ℕ) → verdict.Differs n ≡ found_with command stored plan → IsReplay (Some (OnFiles command))

@@ -1,5 +1,5 @@
 -- The status of a command's end.
-use Rattle.std.specs.Prelude.{◌≡◌, ◌⊎◌, ℕ, List, None, drop, true}
+use Rattle.std.specs.Prelude.{◌≡◌, ◌≤◌, ◌⊎◌, ℕ, List, None, drop, length, true}
 use Rattle.std.specs.List.{list_all}
 use Rattle.command_line.specs.Commands.{command_of, is_plain}
 use Rattle.replay.specs.declared.comparisons.Verdict.{Verdict}
@@ -28,12 +28,13 @@ abbrev pub verdict_status : Verdict → ℕ
 verdict_status verdict.Same = 0
 verdict_status (verdict.Differs n) = 6
 
--- no word after the first is empty or begins with a dash
-abbrev pub ArePlain : List (List ℕ) → Type 0
-ArePlain words = list_all is_plain (drop 1 words) ≡ true
+-- there is a word, and none after the first is empty or begins with a dash
+pub record ArePlain (words : List (List ℕ)) : Type 0 where
+  pub some : 1 ≤ length words
+  pub plain : list_all is_plain (drop 1 words) ≡ true
 
 -- the status is 1 only where the words are no command; and where they are none, the status is 1, unless
--- memory was wanting to read words of which none after the first is empty or begins with a dash
+-- memory was wanting to read words that are plain
 pub record IsNoCommand (words : List (List ℕ)) (status : ℕ) : Type 0 where
   pub only : status ≡ 1 → command_of words ≡ None
   pub always : command_of words ≡ None → (status ≡ 1) ⊎ ((status ≡ 5) × ArePlain words)
