@@ -1,5 +1,5 @@
 -- What a run of a plan leaves: its account, and the report of machines.
-use Rattle.std.specs.Prelude.{◌≡◌, ℕ, ◌+◌, ◌≤◌, List, [], ◌∷◌, ◌++◌, map, Result, Ok, Err}
+use Rattle.std.specs.Prelude.{◌≡◌, ℕ, ◌+◌, ◌^◌, ◌≤◌, List, [], ◌∷◌, ◌++◌, map, Result, Ok, Err}
 use Rattle.std.specs.List.{range_with_len}
 use Rattle.command_line.specs.Commands.{FileCommand, Run, Replay, Check}
 use Rattle.machine_defs.specs.Runs.{plain_count, trace_of}
@@ -28,6 +28,11 @@ work_names = map guest_name (range_with_len 0 4)
 
 abbrev pub lines_of : List Machine → List ℕ
 lines_of machines = said_of line_of work_names machines
+
+-- an account has room for the entries and steps of a command
+pub record HasRoom (account : Counts) : Type 0 where
+  pub entries : account.entries ≤ 2 ^ 61
+  pub taken : account.taken ≤ 2 ^ 61
 
 -- the account of a plan's turns
 pub record CountsTurns (plan : Plan) (old new : Counts) : Type 0 where

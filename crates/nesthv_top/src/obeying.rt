@@ -1,13 +1,13 @@
 // From a command to its end.
 
-ghost use Rattle.std.specs.Prelude.{◌≡◌, ◌^◌, ◌≤◌, Some, IfOk, IsErrOf, length};
+ghost use Rattle.std.specs.Prelude.{◌≡◌, ◌≤◌, Some, IfOk, IsErrOf, length};
 ghost use Rattle.command_line.specs.Commands.{OnFiles, command_of};
 ghost use Rattle.command_line.specs.Seen.{file_command_seen};
 ghost use Rattle.outside.specs.Faults.{Rose};
 ghost use Rattle.nesthv_top.specs.Endings.{IfReadFault, IfRun, IfWriteFault, IsOfCommand, SaysOfAccount, SaysOfCause, SaysOfOut, SaysOfReads};
 ghost use Rattle.nesthv_top.specs.Plans.{AllRunAsWritten};
 ghost use Rattle.nesthv_top.specs.Reads.{report_asks};
-ghost use Rattle.nesthv_top.specs.Runnings.{IsAccountFor};
+ghost use Rattle.nesthv_top.specs.Runnings.{HasRoom, IsAccountFor};
 ghost use Rattle.nesthv_top.specs.Seen.{plan_seen, IsJob};
 ghost use Rattle.nesthv_top.specs.Texts.{found_with, text_with};
 ghost use Rattle.nesthv_top.specs.Written.{IsWritten};
@@ -32,8 +32,7 @@ pub fn obey<S: Store, O: Sink>(
     out: &mut O,
     tally: &mut Tally,
 ) -> Ended
-    requires entries { tally.old.entries ≤ 2 ^ 61 }
-    requires taken { tally.old.taken ≤ 2 ^ 61 }
+    requires room { HasRoom tally.old }
 
     ensures cause { SaysOfCause S.Store O.Sink words.now result store.old store.new out.old out.new }
     ensures reads { SaysOfReads S.Store (command_of words.now) result store.old store.new }
@@ -60,8 +59,7 @@ fn answer<S: Store, O: Sink>(
     out: &mut O,
     tally: &mut Tally,
 ) -> Ended
-    requires entries { tally.old.entries ≤ 2 ^ 61 }
-    requires taken { tally.old.taken ≤ 2 ^ 61 }
+    requires room { HasRoom tally.old }
 
     ensures command { IsOfCommand (OnFiles (file_command_seen request.entry)) result }
     ensures read { IfReadFault result (λ n. Rose (S.faults store.old) (S.faults store.new)) }
@@ -108,8 +106,7 @@ fn perform<O: Sink>(
     tally: &mut Tally,
 ) -> Result<Verdict, RunEnd>
     requires job { IsJob job }
-    requires entries { tally.old.entries ≤ 2 ^ 61 }
-    requires taken { tally.old.taken ≤ 2 ^ 61 }
+    requires room { HasRoom tally.old }
 
     ensures found { IfOk result (λ found.
         found ≡ found_with (file_command_seen request.entry) stored.now (plan_seen job)) }

@@ -1,9 +1,10 @@
 // The whole program.
 
-ghost use Rattle.std.specs.Prelude.{◌≡◌, ◌^◌, ◌≤◌, IfOk, OnErr};
+ghost use Rattle.std.specs.Prelude.{◌≡◌, IfOk, OnErr};
 ghost use Rattle.command_line.specs.Commands.{command_of};
 ghost use Rattle.nesthv_top.specs.Endings.{SaysOfAccount, SaysOfCause, SaysOfErr, SaysOfOut, SaysOfReads};
 ghost use Rattle.nesthv_top.specs.Lines.{memory_line};
+ghost use Rattle.nesthv_top.specs.Runnings.{HasRoom};
 ghost use Rattle.nesthv_top.specs.Statuses.{IsStatusOf};
 ghost use Rattle.nesthv_top.specs.Written.{IsLinePut};
 
@@ -25,8 +26,7 @@ pub fn program<S: Store, O: Sink, E: Sink>(
     err: &mut E,
     tally: &mut Tally,
 ) -> u8
-    requires entries { tally.old.entries ≤ 2 ^ 61 }
-    requires taken { tally.old.taken ≤ 2 ^ 61 }
+    requires room { HasRoom tally.old }
 
     // With words: the status is that of an end of the command, which says why it comes and what it leaves.
     ensures ended { IfOk words (λ words. IsStatusOf result (λ ended.

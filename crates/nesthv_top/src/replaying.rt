@@ -1,10 +1,10 @@
 // A run whose report is compared with a stored one.
 
-ghost use Rattle.std.specs.Prelude.{◌≡◌, ◌^◌, ◌≤◌, IfOk, IsErrOf};
+ghost use Rattle.std.specs.Prelude.{◌≡◌, ◌≤◌, IfOk, IsErrOf};
 ghost use Rattle.outside.specs.Faults.{Rose};
 ghost use Rattle.replay.specs.Comparisons.{verdict_of};
 ghost use Rattle.nesthv_top.specs.Plans.{AllRunAsWritten, report_of};
-ghost use Rattle.nesthv_top.specs.Runnings.{IsAccountOf};
+ghost use Rattle.nesthv_top.specs.Runnings.{HasRoom, IsAccountOf};
 ghost use Rattle.nesthv_top.specs.Seen.{plan_seen, IsJob};
 ghost use Rattle.nesthv_top.specs.Texts.{verdict_line};
 ghost use Rattle.nesthv_top.specs.Written.{IsWritten};
@@ -27,8 +27,7 @@ pub fn replay<O: Sink>(
     tally: &mut Tally,
 ) -> Result<Verdict, RunEnd>
     requires job { IsJob job }
-    requires entries { tally.old.entries ≤ 2 ^ 61 }
-    requires taken { tally.old.taken ≤ 2 ^ 61 }
+    requires room { HasRoom tally.old }
 
     ensures verdict { IfOk result (λ found. found ≡ verdict_of stored.now (report_of (plan_seen job))) }
     ensures written { IsWritten O.stands_for out.old out.new result

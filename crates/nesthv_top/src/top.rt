@@ -1,11 +1,12 @@
 // The top call.
 
-ghost use Rattle.std.specs.Prelude.{◌≡◌, ◌^◌, ◌≤◌, ◌⊎◌, IsSome};
+ghost use Rattle.std.specs.Prelude.{◌≡◌, ◌⊎◌, IsSome};
 ghost use Rattle.command_line.specs.Commands.{command_of};
 ghost use Rattle.outside.specs.Faults.{Rose};
 ghost use Rattle.outside.specs.Pieces.{Appends};
 ghost use Rattle.nesthv_top.specs.Endings.{HasPlan, IfKnown, IfRun, IsRefusal, IsReplay, SaysOfAccount, SaysOfCause, SaysOfErr, SaysOfOut, SaysOfReads};
 ghost use Rattle.nesthv_top.specs.Plans.{AllRunAsWritten, plan_of};
+ghost use Rattle.nesthv_top.specs.Runnings.{HasRoom};
 ghost use Rattle.nesthv_top.specs.Statuses.{status_of, verdict_status, IsDone, IsNoCommand, IsStatusOf};
 ghost use Rattle.nesthv_top.specs.Texts.{found_of, text_of};
 
@@ -27,8 +28,7 @@ pub fn nesthv<S: Store, O: Sink, E: Sink>(
     err: &mut E,
     tally: &mut Tally,
 ) -> u8
-    requires entries { tally.old.entries ≤ 2 ^ 61 }
-    requires taken { tally.old.taken ≤ 2 ^ 61 }
+    requires room { HasRoom tally.old }
 
     // The headline: on status 0 and 6 the text of the command has been written: of a run, the report of the
     // guests' lone machines. Their runs are of the written architecture, their second-stage translations

@@ -16,8 +16,8 @@ turn-requires-clause-room c =
     record {
       entries =
           entries_left _ c.args.turns.now _ _ c.loop-guest.guest-index (0, 0) _ _ c.requires.few c.requires.short c.requires.rooms c.loop-guest-test.true
-          c.loop-guest.invariant c.requires.entries;
-      taken = omega (arith, b.0, b.1, c.loop-guest.invariant.taken_most, c.requires.taken);
+          c.loop-guest.invariant c.requires.room.entries;
+      taken = omega (arith, b.0, b.1, c.loop-guest.invariant.taken_most, c.requires.room.taken);
     }
 
 pub loop-guest-preserved : goal.loop-guest-preserved
