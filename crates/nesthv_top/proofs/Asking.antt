@@ -89,7 +89,7 @@ unfolding planned_by
 faultless f c e = ap (λ fault. plan_unless_fault fault (record { guests = guests_of f c.guests; turns = c.turns })) e
 
 -- a count of faults that rose in the second step rose
-rose_since : (before between after : ℕ) → before ≤ between → Rose between after → Rose before after
+pub rose_since : (before between after : ℕ) → before ≤ between → Rose between after → Rose before after
 rose_since before between after le rose = grind (arith, le, rose)
 
 pub rose_last : (end : LoadEnd) (images before between later after : ℕ) → before ≤ between → between ≤ later → IfFailed end (λ n. (n ≡ images + 2) × Rose later after)

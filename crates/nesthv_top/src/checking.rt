@@ -7,6 +7,7 @@ ghost use Rattle.outside.specs.Faults.{Rose};
 ghost use Rattle.outside.specs.Pieces.{Puts};
 ghost use Rattle.nesthv_top.specs.Seen.{plan_seen, IsJob};
 ghost use Rattle.nesthv_top.specs.Texts.{check_text, frames_check, guest_check, guest_checks};
+ghost use Rattle.nesthv_top.specs.Written.{PutsText};
 
 use crate::ends::Job;
 use crate::loading::frames_for;
@@ -19,10 +20,7 @@ use outside::{Sink, SinkFault};
 #[tactic(auto, using(outside::proofs::Pieces::pieces, crate::proofs::CheckLines::jobs))]
 pub fn check<O: Sink>(job: &Job, out: &mut O) -> Result<(), SinkFault>
     requires { IsJob job.now }
-    ensures bytes { Puts O.stands_for out.old out.new (is_ok result) (check_text (plan_seen job.now)) }
-    ensures cause { OnErr result (Rose (O.faults out.old) (O.faults out.new)) }
-    ensures count { O.faults out.old ≤ O.faults out.new }
-    ensures stays { O.made_with out.new ≡ O.made_with out.old }
+    ensures { PutsText O.Sink result out.old out.new (check_text (plan_seen job.now)) }
 {
     match put_guests(job.guests.as_slice(), out) {
         Ok(()) => out.put(frames_line(job.guests.as_slice()).as_slice()),
@@ -34,10 +32,7 @@ pub fn check<O: Sink>(job: &Job, out: &mut O) -> Result<(), SinkFault>
 fn put_guests<O: Sink>(guests: &[GuestSpec], out: &mut O) -> Result<(), SinkFault>
     requires names { All (λ guest. length guest.name ≤ 32) guests.now }
     requires bootable { All IsBootable guests.now }
-    ensures bytes { Puts O.stands_for out.old out.new (is_ok result) (guest_checks guests.now) }
-    ensures cause { OnErr result (Rose (O.faults out.old) (O.faults out.new)) }
-    ensures count { O.faults out.old ≤ O.faults out.new }
-    ensures stays { O.made_with out.new ≡ O.made_with out.old }
+    ensures { PutsText O.Sink result out.old out.new (guest_checks guests.now) }
 {
     for guest in guests {
         match out.put(guest_line(guest).as_slice()) {

@@ -10,7 +10,7 @@ ghost use Rattle.nesthv_top.specs.Reads.{report_asks};
 ghost use Rattle.nesthv_top.specs.Runnings.{HasRoom, IsAccountFor};
 ghost use Rattle.nesthv_top.specs.Seen.{plan_seen, IsJob};
 ghost use Rattle.nesthv_top.specs.Texts.{found_with, text_with};
-ghost use Rattle.nesthv_top.specs.Written.{IsWritten};
+ghost use Rattle.nesthv_top.specs.Written.{Writes};
 
 use crate::checking::check;
 use crate::ends::{Ended, Job, LoadEnd, Loaded, RunEnd};
@@ -110,11 +110,8 @@ fn perform<O: Sink>(
 
     ensures found { IfOk result (λ found.
         found ≡ found_with (file_command_seen request.entry) stored.now (plan_seen job)) }
-    ensures written { IsWritten O.stands_for out.old out.new result
+    ensures out { Writes O.Sink result out.old out.new
         (text_with (file_command_seen request.entry) stored.now (plan_seen job)) }
-    ensures cause { IsErrOf result RunEnd.WriteFault → Rose (O.faults out.old) (O.faults out.new) }
-    ensures count { O.faults out.old ≤ O.faults out.new }
-    ensures stays { O.made_with out.new ≡ O.made_with out.old }
     ensures account { IsAccountFor (file_command_seen request.entry) (plan_seen job) result
         tally.old tally.new }
     ensures machines { IfRun (OnFiles (file_command_seen request.entry)) (AllRunAsWritten (plan_seen job)) }

@@ -7,7 +7,7 @@ ghost use Rattle.nesthv_top.specs.Plans.{AllRunAsWritten, report_of};
 ghost use Rattle.nesthv_top.specs.Runnings.{HasRoom, IsAccountOf};
 ghost use Rattle.nesthv_top.specs.Seen.{plan_seen, IsJob};
 ghost use Rattle.nesthv_top.specs.Texts.{verdict_line};
-ghost use Rattle.nesthv_top.specs.Written.{IsWritten};
+ghost use Rattle.nesthv_top.specs.Written.{Writes};
 
 use crate::ends::{Job, RunEnd};
 use crate::running::run;
@@ -30,11 +30,8 @@ pub fn replay<O: Sink>(
     requires room { HasRoom tally.old }
 
     ensures verdict { IfOk result (λ found. found ≡ verdict_of stored.now (report_of (plan_seen job))) }
-    ensures written { IsWritten O.stands_for out.old out.new result
+    ensures out { Writes O.Sink result out.old out.new
         (verdict_line (verdict_of stored.now (report_of (plan_seen job)))) }
-    ensures cause { IsErrOf result RunEnd.WriteFault → Rose (O.faults out.old) (O.faults out.new) }
-    ensures count { O.faults out.old ≤ O.faults out.new }
-    ensures stays { O.made_with out.new ≡ O.made_with out.old }
     ensures account { IsAccountOf (plan_seen job) result tally.old tally.new }
     ensures machines { AllRunAsWritten (plan_seen job) }
 {

@@ -13,7 +13,7 @@ ghost use Rattle.run_config.specs.Configurations.{IsGuestWithin, IsTurnWithin};
 ghost use Rattle.nesthv_top.specs.Plans.{AllRunAsWritten, report_of, turn_steps};
 ghost use Rattle.nesthv_top.specs.Runnings.{sections_of, CountsTurns, HasRoom, IsAccountOf};
 ghost use Rattle.nesthv_top.specs.Seen.{names_in, plan_seen, plan_with, IsJob};
-ghost use Rattle.nesthv_top.specs.Written.{IsWritten};
+ghost use Rattle.nesthv_top.specs.Written.{PutsText, Writes};
 
 use crate::ends::{Job, RunEnd};
 use guest_turns::Host;
@@ -31,10 +31,7 @@ pub fn run<O: Sink>(alloc: Global, job: Job, out: &mut O, tally: &mut Tally) -> 
     requires job { IsJob job }
     requires room { HasRoom tally.old }
 
-    ensures written { IsWritten O.stands_for out.old out.new result (report_of (plan_seen job)) }
-    ensures cause { IsErrOf result RunEnd.WriteFault → Rose (O.faults out.old) (O.faults out.new) }
-    ensures count { O.faults out.old ≤ O.faults out.new }
-    ensures stays { O.made_with out.new ≡ O.made_with out.old }
+    ensures out { Writes O.Sink result out.old out.new (report_of (plan_seen job)) }
     ensures account { IsAccountOf (plan_seen job) result tally.old tally.new }
     ensures machines { AllRunAsWritten (plan_seen job) }
 {
@@ -106,11 +103,8 @@ fn put_sections<O: Sink>(
     requires count { length host.now.machines ≡ length guests.now }
     requires few { length guests.now ≤ 16 }
     requires names { All IsGuestWithin guests.now }
-    ensures bytes { Puts O.stands_for out.old out.new (is_ok result)
+    ensures { PutsText O.Sink result out.old out.new
         (sections_of (names_in guests.now) host.now.machines) }
-    ensures cause { OnErr result (Rose (O.faults out.old) (O.faults out.new)) }
-    ensures count { O.faults out.old ≤ O.faults out.new }
-    ensures stays { O.made_with out.new ≡ O.made_with out.old }
 {
     for i in 0..guests.len() {
         let line = GuestLine {

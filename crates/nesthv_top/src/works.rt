@@ -9,7 +9,7 @@ ghost use Rattle.work_images.specs.Guests.{guest_name};
 ghost use Rattle.nesthv_top.specs.Plans.{work_plan, AllRunAsWritten};
 ghost use Rattle.nesthv_top.specs.Runnings.{lines_of, CountsTurns, HasRoom, IsAccountOf};
 ghost use Rattle.nesthv_top.specs.Works.{sum_line, work_heading, work_text};
-ghost use Rattle.nesthv_top.specs.Written.{IsWritten};
+ghost use Rattle.nesthv_top.specs.Written.{PutsText, Writes};
 
 use crate::ends::RunEnd;
 use crate::running::hosted;
@@ -45,10 +45,7 @@ pub fn work<O: Sink>(
     requires most { size ≤ 10000 }
     requires room { HasRoom tally.old }
 
-    ensures written { IsWritten O.stands_for out.old out.new result (work_text seed size) }
-    ensures cause { IsErrOf result RunEnd.WriteFault → Rose (O.faults out.old) (O.faults out.new) }
-    ensures count { O.faults out.old ≤ O.faults out.new }
-    ensures stays { O.made_with out.new ≡ O.made_with out.old }
+    ensures out { Writes O.Sink result out.old out.new (work_text seed size) }
     ensures account { IsAccountOf (work_plan seed size) result tally.old tally.new }
     ensures machines { AllRunAsWritten (work_plan seed size) }
 {
@@ -98,11 +95,8 @@ fn rounds(alloc: Global, size: u64) -> Result<Turns, NoMemory>
 #[tactic(auto, using(outside::proofs::Pieces::pieces))]
 fn put_work<O: Sink>(seed: u64, size: u64, host: &Host, out: &mut O) -> Result<(), SinkFault>
     requires count { length host.now.machines ≡ 4 }
-    ensures bytes { Puts O.stands_for out.old out.new (is_ok result)
+    ensures { PutsText O.Sink result out.old out.new
         (work_heading seed size ++ lines_of host.now.machines) }
-    ensures cause { OnErr result (Rose (O.faults out.old) (O.faults out.new)) }
-    ensures count { O.faults out.old ≤ O.faults out.new }
-    ensures stays { O.made_with out.new ≡ O.made_with out.old }
 {
     match out.put(heading(seed, size).as_slice()) {
         Ok(()) => put_lines(host, out),
@@ -113,10 +107,7 @@ fn put_work<O: Sink>(seed: u64, size: u64, host: &Host, out: &mut O) -> Result<(
 // Puts the line of each guest, in order.
 fn put_lines<O: Sink>(host: &Host, out: &mut O) -> Result<(), SinkFault>
     requires count { length host.now.machines ≡ 4 }
-    ensures bytes { Puts O.stands_for out.old out.new (is_ok result) (lines_of host.now.machines) }
-    ensures cause { OnErr result (Rose (O.faults out.old) (O.faults out.new)) }
-    ensures count { O.faults out.old ≤ O.faults out.new }
-    ensures stays { O.made_with out.new ≡ O.made_with out.old }
+    ensures { PutsText O.Sink result out.old out.new (lines_of host.now.machines) }
 {
     for i in 0..GUESTS {
         let g = i as u32;

@@ -1,16 +1,21 @@
 use Rattle.std.proofs.Common.{◌∙◌, false, refl, subst, arith}
 use Rattle.outside.specs.Pieces.{Appends, Puts}
+use Rattle.nesthv_top.proofs.Asking.{rose_since}
 use Rattle.nesthv_top.proofs.CheckLines.{put_further, put_none, stopped_at}
 use Rattle.nesthv_top.proofs.checking.put_guests.Goals as goal
 
 pub loop-guest-init : goal.loop-guest-init
 loop-guest-init g c = record { put = put_none g.O.Sink.stands_for c.args.out.now; count = omega arith; stays = refl }
 
-pub returns-in-Err-clause-bytes : goal.returns-in-Err-clause-bytes
-returns-in-Err-clause-bytes g c =
-    stopped_at g.O.Sink.stands_for c.args.out.now c.loop-guest.out c.put.new.self c.args.guests.now c.loop-guest.guest-index c.guest-item.result
-    c.loop-guest-test.true c.guest-item.is c.loop-guest.invariant.put
-    (subst (λ line. Puts g.O.Sink.stands_for c.loop-guest.out c.put.new.self false line) (c.as_slice.ensures.value ∙ c.guest_line.ensures) c.in-Err.ensures.bytes)
+pub returns-in-Err : goal.returns-in-Err
+returns-in-Err g c = record {
+  bytes = stopped_at g.O.Sink.stands_for c.args.out.now c.loop-guest.out c.put.new.self c.args.guests.now c.loop-guest.guest-index c.guest-item.result
+      c.loop-guest-test.true c.guest-item.is c.loop-guest.invariant.put
+      (subst (λ line. Puts g.O.Sink.stands_for c.loop-guest.out c.put.new.self false line) (c.as_slice.ensures.value ∙ c.guest_line.ensures) c.in-Err.ensures.bytes);
+  cause = rose_since _ _ _ c.loop-guest.invariant.count c.in-Err.ensures.cause;
+  count = omega (arith, c.loop-guest.invariant.count, c.put.ensures.count);
+  stays = c.put.ensures.stays ∙ c.loop-guest.invariant.stays;
+}
 
 pub loop-guest-preserved : goal.loop-guest-preserved
 loop-guest-preserved g c = record {
