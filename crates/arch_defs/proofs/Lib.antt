@@ -1,10 +1,11 @@
 pub mod FrameSets
-pub mod Images
 pub mod HgatpValues
+pub mod Images
 pub mod Naming
 pub mod Pastes
 pub mod RamBlocks
 pub mod Rooms
+pub mod SameRoots
 pub mod Shapes
 pub mod SlicesOf
 pub mod Slots

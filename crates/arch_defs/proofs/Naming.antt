@@ -3,6 +3,7 @@ use Rattle.std.proofs.Common.{◌≡◌, ℕ, zero, suc, ◌+◌, ◌*◌, ◌/�
 use Rattle.std.specs.List.{list_any}
 use Rattle.std.proofs.lemmas.Bool.{or_cases, both_ways, not-true, and_parts, leb-true, eqb-true, eq-eqb}
 use Rattle.std.proofs.lemmas.List.Folds.{list_any_at}
+use Rattle.guest_specs.specs.Needs.{tables_for}
 use Rattle.arch_defs.specs.Frames.{in_blocks, within, joined, Apart}
 use Rattle.arch_defs.specs.Layouts.{Layout, NamesEachOnce, are_distinct, blocks_are_apart, ranges_are_apart, names_each_once, root_frames, table_frames}
 use Rattle.arch_defs.specs.Ram.{IsDistinct}
@@ -67,6 +68,6 @@ once_by_test part passed =
       aligned = eqb-true _ _ others.0;
       tables = apart_joined (in_blocks part.blocks) (root_frames part) (table_frames part)
           (blocks_by_test part.blocks part.first_root (4 * (1 + part.spaces)) blocks.0)
-          (blocks_by_test part.blocks part.first_table (1 + part.spaces * (2 * part.entries)) blocks.1);
-      roots = ranges_by_test part.first_root (4 * (1 + part.spaces)) part.first_table (1 + part.spaces * (2 * part.entries)) tables.1;
+          (blocks_by_test part.blocks part.first_table (1 + part.spaces * (tables_for part.entries)) blocks.1);
+      roots = ranges_by_test part.first_root (4 * (1 + part.spaces)) part.first_table (1 + part.spaces * (tables_for part.entries)) tables.1;
     }

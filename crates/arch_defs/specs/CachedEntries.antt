@@ -7,7 +7,7 @@ use Rattle.arch_defs.specs.declared.walks.LeafPte.{LeafPte}
 use Rattle.arch_defs.specs.Memory.{ram_base, block_size, SecondStage}
 use Rattle.arch_defs.specs.Permits.{permits_second}
 use Rattle.arch_defs.specs.TableEntries.{span}
-use Rattle.arch_defs.specs.Walk.{leaf_address, most_level}
+use Rattle.arch_defs.specs.Walk.{guest_bits, leaf_address, most_level}
 
 -- the entry of a page
 abbrev pub entry_at : ℕ → List Entry → Option Entry
@@ -26,7 +26,7 @@ newest most entries = drop (length entries - most) entries
 unfoldable pub filled : ℕ → List Entry → Entry → List Entry
 filled most entries entry = newest most (without entry.page entries ++ entry ∷ [])
 
--- the span of an entry's leaf holds a page: 1, 512 or 262,144 aligned pages by its level
+-- the span of an entry's leaf holds a page: 1, 512, 262,144 or 134,217,728 aligned pages by its level
 abbrev pub holds : ℕ → Entry → Bool
 holds page e = e.page / span e.level == page / span e.level
 
@@ -38,10 +38,10 @@ cut_by page entries = filter (λ e. not (holds page e)) entries
 abbrev pub HasLevel : Entry → Type 0
 HasLevel e = e.level ≤ most_level
 
--- the bits of a guest physical page: a second-stage table translates addresses of at most 41 bits (8.5.1),
--- and a page is such an address without the 12 bits of an offset
+-- the bits of a guest physical page: a page is an address that a second-stage table translates, without the
+-- 12 bits of an offset (8.5.1)
 abbrev pub guest_page_bits : ℕ
-guest_page_bits = 29
+guest_page_bits = guest_bits - 12
 
 -- an entry that a walk of a second-stage table can give a guest whose RAM is of these blocks: its page is one
 -- that such a table translates, its frame in RAM, it can be read or executed, and written only where it can

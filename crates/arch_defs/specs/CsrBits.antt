@@ -1,17 +1,17 @@
 -- The control and status registers as numbers: what a read shows, and how a write takes a number apart
 -- (Privileged Architecture 20211203). Bits that are not named read zero and ignore writes.
-use Rattle.std.specs.Prelude.{ℕ, ◌+◌, ◌*◌, ◌%◌, ◌^◌, ◌&&◌, ◌==◌, if◌then◌else◌}
+use Rattle.std.specs.Prelude.{ℕ, ◌+◌, ◌*◌, ◌%◌, ◌^◌, ◌&&◌, ◌==◌, Option, Some, None, if◌then◌else◌}
 use Rattle.arch_defs.specs.declared.registers.SupervisorStatus.{SupervisorStatus}
 use Rattle.arch_defs.specs.declared.registers.HypervisorStatus.{HypervisorStatus}
 use Rattle.arch_defs.specs.declared.registers.Interrupts.{Interrupts}
-use Rattle.arch_defs.specs.declared.registers.SupervisorRoot.{SupervisorRoot}
-use Rattle.arch_defs.specs.declared.registers.SupervisorRoot.TheVariants as supervisor_root
-use Rattle.arch_defs.specs.declared.registers.SupervisorMode.TheVariants as supervisor_mode
-use Rattle.arch_defs.specs.declared.registers.GuestRoot.{GuestRoot}
-use Rattle.arch_defs.specs.declared.registers.GuestRoot.TheVariants as guest_root
-use Rattle.arch_defs.specs.declared.registers.GuestMode.TheVariants as guest_mode
+use Rattle.arch_defs.specs.declared.roots.SupervisorRoot.{SupervisorRoot}
+use Rattle.arch_defs.specs.declared.roots.SupervisorRoot.TheVariants as supervisor_root
+use Rattle.arch_defs.specs.declared.roots.SupervisorMode.{SupervisorMode}
+use Rattle.arch_defs.specs.declared.roots.GuestRoot.{GuestRoot}
+use Rattle.arch_defs.specs.declared.roots.GuestRoot.TheVariants as guest_root
+use Rattle.arch_defs.specs.declared.roots.GuestMode.{GuestMode}
 use Rattle.arch_defs.specs.Bits.{bit, bit_number, field}
-use Rattle.arch_defs.specs.Roots.{guest_mode_number, supervisor_mode_number}
+use Rattle.arch_defs.specs.Roots.{guest_mode_number, guest_mode_of, supervisor_mode_number, supervisor_mode_of}
 
 -- UXL or VSXL, bits 33:32: 2, which is a width of 64 bits (4.1.1.1, 8.2.1)
 abbrev pub width_64 : ℕ
@@ -92,12 +92,14 @@ satp_bits supervisor_root.Bare = 0
 satp_bits (supervisor_root.Table mode asid ppn) =
     supervisor_mode_number mode * 2 ^ 60 + asid % 2 ^ 16 * 2 ^ 44 + ppn % 2 ^ 44
 
--- MODE 8 is Sv39 and 0 is Bare, stored as 0 (own); a write of another MODE has no effect
+-- after a write of a number whose MODE names a table, or none: Bare is stored as 0 (own); a write of another
+-- MODE has no effect
+abbrev pub supervisor_root_in : SupervisorRoot → ℕ → Option SupervisorMode → SupervisorRoot
+supervisor_root_in kept v (Some mode) = supervisor_root.Table mode (field 44 16 v) (field 0 44 v)
+supervisor_root_in kept v None = if field 60 4 v == 0 then supervisor_root.Bare else kept
+
 unfoldable pub supervisor_root_of : SupervisorRoot → ℕ → SupervisorRoot
-supervisor_root_of kept v =
-    if field 60 4 v == 8 then supervisor_root.Table supervisor_mode.Sv39 (field 44 16 v) (field 0 44 v)
-    else if field 60 4 v == 0 then supervisor_root.Bare
-    else kept
+supervisor_root_of kept v = supervisor_root_in kept v (supervisor_mode_of (field 60 4 v))
 
 -- hgatp (8.2.10): MODE 63:60, VMID 50:44, of 7 bits (own), PPN 43:0 of a root that is 16 KiB aligned, so its
 -- bits 1:0 are zero
@@ -106,8 +108,11 @@ hgatp_bits guest_root.Bare = 0
 hgatp_bits (guest_root.Table mode vmid ppn) =
     guest_mode_number mode * 2 ^ 60 + vmid % 2 ^ 7 * 2 ^ 44 + field 2 42 ppn * 2 ^ 2
 
--- MODE 8 is Sv39x4; 0, and another MODE (own), is Bare, stored as 0 (own)
+-- after a write of a number whose MODE names a table, or none: 0, and another MODE (own), is Bare, stored as
+-- 0 (own)
+abbrev pub guest_root_in : ℕ → Option GuestMode → GuestRoot
+guest_root_in v (Some mode) = guest_root.Table mode (field 44 7 v) (field 2 42 v * 2 ^ 2)
+guest_root_in v None = guest_root.Bare
+
 unfoldable pub guest_root_of : ℕ → GuestRoot
-guest_root_of v =
-    if field 60 4 v == 8 then guest_root.Table guest_mode.Sv39x4 (field 44 7 v) (field 2 42 v * 2 ^ 2)
-    else guest_root.Bare
+guest_root_of v = guest_root_in v (guest_mode_of (field 60 4 v))

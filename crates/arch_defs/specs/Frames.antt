@@ -3,6 +3,10 @@
 use Rattle.std.specs.Prelude.{ℕ, ◌≡◌, ◌+◌, ◌*◌, ◌/◌, ◌≤◌, Bool, true, false, ◌&&◌, ◌||◌, ◌==◌, List, length, nat_le, nat_lt, slice_index}
 use Rattle.std.specs.List.{list_any}
 
+-- the most frames of machine memory (own: 512 MiB)
+abbrev pub most_frames : ℕ
+most_frames = 131072
+
 abbrev pub Frames : Type 0
 Frames = ℕ → Bool
 

@@ -1,27 +1,33 @@
+-- Numbers, registers and what instructions see of them
 pub mod Bits
-pub mod CachedEntries
-pub mod Calls
-pub mod Clocks
-pub mod Consoles
-pub mod CsrAccess
-pub mod CsrBits
-pub mod CsrNames
-pub mod Frames
-pub mod Inputs
-pub mod Interrupts
-pub mod Layouts
-pub mod Memory
-pub mod MemoryLaws
-pub mod Permits
-pub mod Ram
-pub mod Registers
-pub mod Roots
-pub mod SecondStage
-pub mod Spaces
-pub mod TableEntries
-pub mod Translation
-pub mod Traps
-pub mod Waits
-pub mod Walk
-pub mod WalkedEntries
 pub mod Widths
+pub mod Registers
+pub mod CsrNames
+pub mod CsrBits
+pub mod CsrAccess
+pub mod Roots
+-- Traps and interrupts
+pub mod Traps
+pub mod Interrupts
+-- Memory as bytes, and in frames
+pub mod Memory
+pub mod Ram
+pub mod Frames
+pub mod Layouts
+pub mod MemoryLaws
+-- Walks of tables
+pub mod TableEntries
+pub mod Permits
+pub mod Walk
+pub mod Translation
+pub mod SecondStage
+-- Cached translations
+pub mod WalkedEntries
+pub mod CachedEntries
+pub mod Spaces
+-- The execution environment: clock, console, calls and waits
+pub mod Clocks
+pub mod Inputs
+pub mod Consoles
+pub mod Calls
+pub mod Waits

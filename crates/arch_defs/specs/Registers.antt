@@ -7,9 +7,10 @@ use Rattle.arch_defs.specs.declared.registers.Csrs.{Csrs}
 use Rattle.arch_defs.specs.declared.registers.Interrupts.{Interrupts}
 use Rattle.arch_defs.specs.declared.registers.SupervisorStatus.{SupervisorStatus}
 use Rattle.arch_defs.specs.declared.registers.HypervisorStatus.{HypervisorStatus}
-use Rattle.arch_defs.specs.declared.registers.SupervisorRoot.TheVariants as supervisor_root
-use Rattle.arch_defs.specs.declared.registers.GuestRoot.TheVariants as guest_root
+use Rattle.arch_defs.specs.declared.roots.SupervisorRoot.TheVariants as supervisor_root
+use Rattle.arch_defs.specs.declared.roots.GuestRoot.TheVariants as guest_root
 use Rattle.arch_defs.specs.declared.registers.Virtual.{Virtual}
+use Rattle.arch_defs.specs.Bits.{add64}
 
 -- the value of register n; x0 is 0 from the start, and never written
 abbrev pub read : Regs → ℕ → ℕ
@@ -19,6 +20,10 @@ read regs n = slice_index regs.x n
 abbrev pub advanced : Regs → ℕ → ℕ → ℕ → Regs
 advanced regs rd value next =
     if rd == 0 then record regs { pc = next } else record { x = slice_set regs.x rd value; pc = next }
+
+-- the address of the next instruction
+abbrev pub next : Regs → ℕ
+next regs = add64 regs.pc 4
 
 -- the registers with an argument and the answer of a call of the environment, a0, with a second answer, a1,
 -- and with its number, a7
@@ -81,3 +86,11 @@ csrs_at_reset = record {
 -- all registers zero but for pc, and no reservation
 abbrev pub virtual_at : Mode → ℕ → Virtual
 virtual_at mode pc = record { regs = regs_at pc; csrs = csrs_at_reset; mode = mode; reservation = None }
+
+-- a register is set, and pc goes on
+abbrev pub sets : Virtual → ℕ → ℕ → Virtual
+sets state rd value = record state { regs = advanced state.regs rd value (next state.regs) }
+
+-- pc goes on, and nothing else changes
+abbrev pub passed : Virtual → Virtual
+passed state = sets state 0 0

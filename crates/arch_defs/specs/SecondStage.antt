@@ -8,10 +8,9 @@ use Rattle.arch_defs.specs.declared.modes.Access.{Access}
 use Rattle.arch_defs.specs.declared.modes.Access.TheVariants.{Fetch, Load, Store, ExecLoad, Implicit}
 use Rattle.arch_defs.specs.declared.modes.Mode.{Mode}
 use Rattle.arch_defs.specs.declared.modes.Trap.{Trap}
-use Rattle.arch_defs.specs.declared.modes.TheConstants.{INSTRUCTION_GUEST_PAGE_FAULT, LOAD_GUEST_PAGE_FAULT, STORE_GUEST_PAGE_FAULT}
 use Rattle.arch_defs.specs.declared.registers.Csrs.{Csrs}
-use Rattle.arch_defs.specs.declared.registers.GuestRoot.{GuestRoot}
-use Rattle.arch_defs.specs.declared.registers.GuestRoot.TheVariants as root
+use Rattle.arch_defs.specs.declared.roots.GuestRoot.{GuestRoot}
+use Rattle.arch_defs.specs.declared.roots.GuestRoot.TheVariants as root
 use Rattle.arch_defs.specs.declared.walks.Shape.{Shape}
 use Rattle.arch_defs.specs.declared.walks.MissingPlace.{MissingPlace}
 use Rattle.arch_defs.specs.declared.walks.WalkEnd.{WalkEnd}
@@ -21,7 +20,7 @@ use Rattle.arch_defs.specs.Memory.{load, bare, SecondStage}
 use Rattle.arch_defs.specs.Permits.{permits_second}
 use Rattle.arch_defs.specs.Roots.{guest_shape}
 use Rattle.arch_defs.specs.Translation.{unread}
-use Rattle.arch_defs.specs.Traps.{exception, is_virtual, missing_place_fault}
+use Rattle.arch_defs.specs.Traps.{exception, faults_of, is_virtual, missing_place_fault}
 use Rattle.arch_defs.specs.Walk.{EntryReading, walk, leaf_address}
 
 -- memory has so many bytes from a place on
@@ -80,15 +79,6 @@ second_under base bytes mxr (root.Table mode vmid ppn) = walked base bytes mxr (
 abbrev pub second_by_walk : Csrs → Mode → ℕ → List ℕ → SecondStage
 second_by_walk csrs mode base bytes = second_under base bytes csrs.hs.status.mxr (second_root_of csrs mode)
 
--- the guest-page faults of an access by its kind (8.6.1). An implicit read serves another access, whose fault
--- is taken, so the line for it is for completeness
-abbrev pub guest_page_fault : Access → ℕ
-guest_page_fault Fetch = INSTRUCTION_GUEST_PAGE_FAULT
-guest_page_fault Load = LOAD_GUEST_PAGE_FAULT
-guest_page_fault ExecLoad = LOAD_GUEST_PAGE_FAULT
-guest_page_fault Implicit = LOAD_GUEST_PAGE_FAULT
-guest_page_fault Store = STORE_GUEST_PAGE_FAULT
-
 -- whether it is the implicit read of a first-stage entry
 abbrev pub is_implicit : Access → Bool
 is_implicit Fetch = false
@@ -100,7 +90,7 @@ is_implicit Implicit = true
 -- the trap of a guest-page fault: with the guest physical address shifted right by 2, low bits too (8.2.8),
 -- and with whether it is that of an implicit read (8.6.3)
 abbrev pub guest_page_trap : MissingPlace → Trap
-guest_page_trap missing = record (exception missing.mode (guest_page_fault missing.access) missing.va) {
+guest_page_trap missing = record (exception missing.mode (faults_of missing.access).guest_page missing.va) {
   tval2 = missing.address / 4;
   implicit = is_implicit missing.kind;
 }

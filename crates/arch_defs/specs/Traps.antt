@@ -7,10 +7,11 @@ use Rattle.arch_defs.specs.declared.levels.Level.{Level}
 use Rattle.arch_defs.specs.declared.levels.Level.TheVariants as level
 use Rattle.arch_defs.specs.declared.modes.Access.{Access}
 use Rattle.arch_defs.specs.declared.modes.Access.TheVariants.{Fetch, Load, Store, ExecLoad, Implicit}
+use Rattle.arch_defs.specs.declared.modes.FaultCodes.{FaultCodes}
 use Rattle.arch_defs.specs.declared.modes.Mode.{Mode}
 use Rattle.arch_defs.specs.declared.modes.Mode.TheVariants.{HS, U, VS, VU}
 use Rattle.arch_defs.specs.declared.modes.Trap.{Trap}
-use Rattle.arch_defs.specs.declared.modes.TheConstants.{INSTRUCTION_MISALIGNED, LOAD_MISALIGNED, STORE_MISALIGNED, INSTRUCTION_ACCESS_FAULT, LOAD_ACCESS_FAULT, STORE_ACCESS_FAULT, INSTRUCTION_PAGE_FAULT, LOAD_PAGE_FAULT, STORE_PAGE_FAULT}
+use Rattle.arch_defs.specs.declared.modes.TheConstants.{INSTRUCTION_MISALIGNED, LOAD_MISALIGNED, STORE_MISALIGNED, INSTRUCTION_ACCESS_FAULT, LOAD_ACCESS_FAULT, STORE_ACCESS_FAULT, INSTRUCTION_PAGE_FAULT, LOAD_PAGE_FAULT, STORE_PAGE_FAULT, INSTRUCTION_GUEST_PAGE_FAULT, LOAD_GUEST_PAGE_FAULT, STORE_GUEST_PAGE_FAULT}
 use Rattle.arch_defs.specs.declared.registers.SupervisorCsrs.{SupervisorCsrs}
 use Rattle.arch_defs.specs.declared.registers.Csrs.{Csrs}
 use Rattle.arch_defs.specs.declared.registers.Regs.{Regs}
@@ -72,34 +73,42 @@ exception mode cause tval = record {
   implicit = false;
 }
 
--- the faults of an access by its kind: at an address that is no multiple of its width, where memory has no
--- place for it, and where the first stage does not translate it (4.1.8; LR faults as a load, SC and AMO as a
--- store). An implicit read serves another access, whose fault is taken, so the lines for it are for
--- completeness
-abbrev pub misaligned_fault : Access → ℕ
-misaligned_fault Fetch = INSTRUCTION_MISALIGNED
-misaligned_fault Load = LOAD_MISALIGNED
-misaligned_fault ExecLoad = LOAD_MISALIGNED
-misaligned_fault Implicit = LOAD_MISALIGNED
-misaligned_fault Store = STORE_MISALIGNED
+-- the faults of an access by its kind (4.1.8, 8.6.1; HLVX and LR fault as a load, SC and AMO as a store). An
+-- implicit read serves another access, whose fault is taken, so the line for it is for completeness
+abbrev pub fetch_faults : FaultCodes
+fetch_faults = record {
+  misaligned = INSTRUCTION_MISALIGNED;
+  access = INSTRUCTION_ACCESS_FAULT;
+  page = INSTRUCTION_PAGE_FAULT;
+  guest_page = INSTRUCTION_GUEST_PAGE_FAULT;
+}
 
-abbrev pub access_fault : Access → ℕ
-access_fault Fetch = INSTRUCTION_ACCESS_FAULT
-access_fault Load = LOAD_ACCESS_FAULT
-access_fault ExecLoad = LOAD_ACCESS_FAULT
-access_fault Implicit = LOAD_ACCESS_FAULT
-access_fault Store = STORE_ACCESS_FAULT
+abbrev pub load_faults : FaultCodes
+load_faults = record {
+  misaligned = LOAD_MISALIGNED;
+  access = LOAD_ACCESS_FAULT;
+  page = LOAD_PAGE_FAULT;
+  guest_page = LOAD_GUEST_PAGE_FAULT;
+}
 
-abbrev pub page_fault : Access → ℕ
-page_fault Fetch = INSTRUCTION_PAGE_FAULT
-page_fault Load = LOAD_PAGE_FAULT
-page_fault ExecLoad = LOAD_PAGE_FAULT
-page_fault Implicit = LOAD_PAGE_FAULT
-page_fault Store = STORE_PAGE_FAULT
+abbrev pub store_faults : FaultCodes
+store_faults = record {
+  misaligned = STORE_MISALIGNED;
+  access = STORE_ACCESS_FAULT;
+  page = STORE_PAGE_FAULT;
+  guest_page = STORE_GUEST_PAGE_FAULT;
+}
+
+abbrev pub faults_of : Access → FaultCodes
+faults_of Fetch = fetch_faults
+faults_of Load = load_faults
+faults_of ExecLoad = load_faults
+faults_of Implicit = load_faults
+faults_of Store = store_faults
 
 -- the access fault of an access that has no place, made as whom the access is
 abbrev pub missing_place_fault : MissingPlace → Trap
-missing_place_fault missing = exception missing.mode (access_fault missing.access) missing.va
+missing_place_fault missing = exception missing.mode (faults_of missing.access).access missing.va
 
 -- what scause or vscause gets: the code, and bit 63 for an interrupt (4.1.8)
 abbrev pub cause_of : Bool → ℕ → ℕ

@@ -1,10 +1,10 @@
--- The table walk (Privileged Architecture 20211203, 4.3.2 for Sv39 as 4.4 has it, and 8.5.1 for Sv39x4), by
--- the list of the entries that it meets, top level first.
+-- The table walk (Privileged Architecture 20211203, 4.3.2, for Sv39 and Sv48 as 4.4 and 4.5 have it, and
+-- 8.5.1 for Sv39x4 and Sv48x4), by the list of the entries that it meets, top level first.
 use Rattle.std.specs.Prelude.{ℕ, suc, zero, ◌+◌, ◌*◌, ◌^◌, ◌%◌, Bool, ◌==◌, nat_lt, List, [], ◌∷◌, Result, Ok, Err, if◌then◌else◌}
 use Rattle.arch_defs.specs.declared.modes.Access.{Access}
 use Rattle.arch_defs.specs.declared.modes.Trap.{Trap}
 use Rattle.arch_defs.specs.declared.walks.Shape.{Shape}
-use Rattle.arch_defs.specs.declared.walks.Shape.TheVariants.{Sv39, Sv39x4}
+use Rattle.arch_defs.specs.declared.walks.Shape.TheVariants.{Sv39, Sv48, Sv39x4, Sv48x4}
 use Rattle.arch_defs.specs.declared.walks.LeafPte.{LeafPte}
 use Rattle.arch_defs.specs.declared.walks.WalkEnd.{WalkEnd}
 use Rattle.arch_defs.specs.declared.walks.WalkEnd.TheVariants.{PageFault, FetchEnd}
@@ -20,32 +20,43 @@ EntryReading = ℕ → Result ℕ Trap
 -- how many levels a table has; the root's level is one less
 abbrev pub levels : Shape → ℕ
 levels Sv39 = 3
+levels Sv48 = 4
 levels Sv39x4 = 3
+levels Sv48x4 = 4
 
 -- the most levels that a table has, and the highest level
 abbrev pub most_levels : ℕ
-most_levels = 3
+most_levels = 4
 
 abbrev pub most_level : ℕ
-most_level = 2
+most_level = 3
+
+-- the most bits of a guest physical address that a table translates: those of Sv48x4 (8.5.1)
+abbrev pub guest_bits : ℕ
+guest_bits = 50
 
 -- how many bits the root's index has beyond the 9 of every other table (8.5.1)
 abbrev pub widening : Shape → ℕ
 widening Sv39 = 0
+widening Sv48 = 0
 widening Sv39x4 = 2
+widening Sv48x4 = 2
 
 -- the bits of the index into a table of this level
 abbrev pub index_bits : Shape → ℕ → ℕ
 index_bits shape level = if level + 1 == levels shape then 9 + widening shape else 9
 
--- the bytes of a table of this level: 4 KiB, and 16 KiB for Sv39x4's root
+-- the bytes of a table of this level: 4 KiB, and 16 KiB for the root of Sv39x4 and of Sv48x4
 abbrev pub table_size : Shape → ℕ → ℕ
 table_size shape level = 8 * 2 ^ index_bits shape level
 
--- Sv39: bits 63:39 equal bit 38 (4.4.1); Sv39x4: guest physical addresses have 41 bits (8.5.1)
+-- Sv39: bits 63:39 equal bit 38 (4.4.1); Sv48: bits 63:48 equal bit 47 (4.5.1); Sv39x4 and Sv48x4: guest
+-- physical addresses have 41 and 50 bits (8.5.1)
 abbrev pub is_canonical : Shape → ℕ → Bool
 is_canonical Sv39 va = sign_extend 39 (field 0 39 va) == va
+is_canonical Sv48 va = sign_extend 48 (field 0 48 va) == va
 is_canonical Sv39x4 va = nat_lt va (2 ^ 41)
+is_canonical Sv48x4 va = nat_lt va (2 ^ guest_bits)
 
 -- the part of an address that is the index into a table of this level
 abbrev pub index : Shape → ℕ → ℕ → ℕ

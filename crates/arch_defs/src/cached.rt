@@ -1,7 +1,7 @@
 // Cached translations, and what a fence names of them.
 
 /// A cached second-stage translation: the guest physical page, the physical frame (addresses divided by
-/// 4,096), what the leaf permits (`w` is its W and D), and the level of the leaf, 0 to 2.
+/// 4,096), what the leaf permits (`w` is its W and D), and the level of the leaf, 0 to 3.
 #[derive(Clone, Copy, PartialEq, Eq)]
 pub struct Entry {
     pub page: u64,

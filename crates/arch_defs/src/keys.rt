@@ -4,7 +4,7 @@ ghost use Rattle.std.specs.Prelude.{◌≡◌};
 ghost use Rattle.arch_defs.specs.CsrBits.{guest_root_of, hgatp_bits};
 ghost use Rattle.arch_defs.specs.Roots.{is_root, vmid_of};
 
-use crate::registers::GuestRoot;
+use crate::roots::GuestRoot;
 use std::marker::Model;
 
 /// A value that hgatp can hold (Privileged Architecture 20211203, 8.2.10). Contracts see it as the root that
@@ -14,7 +14,7 @@ pub struct Key(u64);
 
 impl Model for Key {
     ghost use Rattle.std.specs.Prelude.{◌≡◌};
-    ghost use Rattle.arch_defs.specs.declared.registers.GuestRoot.{GuestRoot};
+    ghost use Rattle.arch_defs.specs.declared.roots.GuestRoot.{GuestRoot};
     ghost use Rattle.arch_defs.specs.CsrBits.{guest_root_of, hgatp_bits};
 
     ghost Value = { GuestRoot };

@@ -9,6 +9,7 @@ mod levels;
 mod modes;
 mod parts;
 mod registers;
+mod roots;
 mod second_walks;
 mod walks;
 mod widths;
@@ -23,17 +24,18 @@ pub use levels::{
     VS_TIMER,
 };
 pub use modes::{
-    Access, BREAKPOINT, ECALL_FROM_HS, ECALL_FROM_USER, ECALL_FROM_VS, ILLEGAL_INSTRUCTION,
-    INSTRUCTION_ACCESS_FAULT, INSTRUCTION_GUEST_PAGE_FAULT, INSTRUCTION_MISALIGNED,
-    INSTRUCTION_PAGE_FAULT, LOAD_ACCESS_FAULT, LOAD_GUEST_PAGE_FAULT, LOAD_MISALIGNED,
-    LOAD_PAGE_FAULT, Mode, STORE_ACCESS_FAULT, STORE_GUEST_PAGE_FAULT, STORE_MISALIGNED,
-    STORE_PAGE_FAULT, Trap, VIRTUAL_INSTRUCTION,
+    Access, BREAKPOINT, ECALL_FROM_HS, ECALL_FROM_USER, ECALL_FROM_VS, FaultCodes,
+    ILLEGAL_INSTRUCTION, INSTRUCTION_ACCESS_FAULT, INSTRUCTION_GUEST_PAGE_FAULT,
+    INSTRUCTION_MISALIGNED, INSTRUCTION_PAGE_FAULT, LOAD_ACCESS_FAULT, LOAD_GUEST_PAGE_FAULT,
+    LOAD_MISALIGNED, LOAD_PAGE_FAULT, Mode, STORE_ACCESS_FAULT, STORE_GUEST_PAGE_FAULT,
+    STORE_MISALIGNED, STORE_PAGE_FAULT, Trap, VIRTUAL_INSTRUCTION,
 };
-pub use parts::{BLOCK_FRAMES, BLOCK_SIZE, FRAME_SIZE, MOST_BLOCKS, Part};
+pub use parts::{BLOCK_FRAMES, BLOCK_SIZE, FRAME_SIZE, MOST_BLOCKS, MOST_FRAMES, Part};
 pub use registers::{
-    Csrs, GuestMode, GuestRoot, HartState, HypervisorStatus, Interrupts, Reg, Regs, SupervisorCsrs,
-    SupervisorMode, SupervisorRoot, SupervisorStatus, Virtual,
+    Csrs, HartState, HypervisorStatus, Interrupts, Reg, Regs, SupervisorCsrs, SupervisorStatus,
+    Virtual,
 };
+pub use roots::{FOLDED_MODE, GuestMode, GuestRoot, HOST_MODE, SupervisorMode, SupervisorRoot};
 pub use second_walks::SecondWalkEnd;
 pub use walks::{Found, LeafPte, MissingPlace, Next, Privilege, Pte, Shape, WalkEnd};
 pub use widths::{Width, extend};

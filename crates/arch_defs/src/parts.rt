@@ -18,6 +18,9 @@ pub const BLOCK_FRAMES: u64 = 512;
 /// The bytes of a block.
 pub const BLOCK_SIZE: u64 = 2_097_152;
 
+/// The most frames of machine memory (own: 512 MiB).
+pub const MOST_FRAMES: u64 = 131_072;
+
 /// The most blocks of a part.
 pub const MOST_BLOCKS: usize = 32;
 

@@ -2,12 +2,10 @@
 
 ghost use Rattle.std.specs.Prelude.{◌≡◌, ◌<◌};
 ghost use Rattle.arch_defs.specs.Bits.{field};
-ghost use Rattle.arch_defs.specs.CsrBits.{guest_root_of, hgatp_bits};
-ghost use Rattle.arch_defs.specs.Roots.{guest_mode_number, guest_shape, is_root, is_table, supervisor_mode_number, supervisor_shape, vmid_of};
-ghost use Rattle.arch_defs.specs.Registers.{read, advanced, clear_interrupts, csrs_at_reset, supervisor_at_reset, clear_supervisor_status, clear_hypervisor_status, regs_at, virtual_at};
+ghost use Rattle.arch_defs.specs.Registers.{read, advanced, clear_interrupts, csrs_at_reset, passed, sets, supervisor_at_reset, clear_supervisor_status, clear_hypervisor_status, regs_at, virtual_at};
 
 use crate::modes::Mode;
-use crate::walks::Shape;
+use crate::roots::{GuestRoot, SupervisorRoot};
 use std::marker::Model;
 
 /// The number of an x register, 0 to 31.
@@ -164,149 +162,6 @@ impl Interrupts {
     }
 }
 
-/// A MODE of satp and vsatp that names a table (Privileged Architecture 20211203, 4.1.11).
-#[derive(Clone, Copy, Debug, PartialEq, Eq)]
-pub enum SupervisorMode {
-    Sv39,
-}
-
-impl SupervisorMode {
-    /// The number of MODE.
-    pub fn number(self) -> u64
-        ensures value { result ≡ supervisor_mode_number self }
-        ensures small { result < 16 }
-    {
-        match self {
-            SupervisorMode::Sv39 => 8,
-        }
-    }
-
-    /// The shape of its tables.
-    pub fn shape(self) -> Shape
-        ensures { result ≡ supervisor_shape self }
-    {
-        match self {
-            SupervisorMode::Sv39 => Shape::Sv39,
-        }
-    }
-}
-
-/// satp or vsatp: the first-stage table, if any (Privileged Architecture 20211203, 4.1.11).
-#[derive(Clone, Copy, PartialEq, Eq)]
-pub enum SupervisorRoot {
-    Bare,
-    Table {
-        mode: SupervisorMode,
-        asid: u64,
-        ppn: u64,
-    },
-}
-
-/// A MODE of hgatp that names a table (Privileged Architecture 20211203, 8.2.10).
-#[derive(Clone, Copy, Debug, PartialEq, Eq)]
-pub enum GuestMode {
-    Sv39x4,
-}
-
-impl GuestMode {
-    /// The number of MODE.
-    pub fn number(self) -> u64
-        ensures value { result ≡ guest_mode_number self }
-        ensures small { result < 16 }
-    {
-        match self {
-            GuestMode::Sv39x4 => 8,
-        }
-    }
-
-    /// The shape of its tables.
-    pub fn shape(self) -> Shape
-        ensures { result ≡ guest_shape self }
-    {
-        match self {
-            GuestMode::Sv39x4 => Shape::Sv39x4,
-        }
-    }
-}
-
-/// hgatp: the second-stage table, if any (Privileged Architecture 20211203, 8.2.10).
-#[derive(Clone, Copy, PartialEq, Eq)]
-pub enum GuestRoot {
-    Bare,
-    Table {
-        mode: GuestMode,
-        vmid: u64,
-        ppn: u64,
-    },
-}
-
-impl GuestRoot {
-    /// Whether it names a table.
-    pub fn is_table(self) -> bool
-        ensures { result ≡ is_table self }
-    {
-        matches!(self, GuestRoot::Table { .. })
-    }
-
-    /// hgatp as a number (Privileged Architecture 20211203, 8.2.10).
-    #[tactic(auto, unfolding(crate::specs::CsrBits::hgatp_bits))]
-    pub fn bits(self) -> u64
-        ensures { result ≡ hgatp_bits self }
-    {
-        match self {
-            GuestRoot::Bare => 0,
-            GuestRoot::Table { mode, vmid, ppn } => {
-                mode.number() * 0x1000_0000_0000_0000
-                    + (vmid & 0x7F) * 0x1000_0000_0000
-                    + ((ppn >> 2) & 0x3FF_FFFF_FFFF) * 4
-            }
-        }
-    }
-
-    /// hgatp after a write of this number: a MODE other than 8 is Bare.
-    #[tactic(auto, unfolding(crate::specs::CsrBits::guest_root_of))]
-    pub fn of(value: u64) -> GuestRoot
-        ensures { result ≡ guest_root_of value }
-    {
-        match value >> 60 {
-            8 => GuestRoot::Table {
-                mode: GuestMode::Sv39x4,
-                vmid: (value >> 44) & 0x7F,
-                ppn: ((value >> 2) & 0x3FF_FFFF_FFFF) * 4,
-            },
-            _ => GuestRoot::Bare,
-        }
-    }
-
-    /// Its VMID, 0 under Bare.
-    pub fn vmid(self) -> u64
-        ensures { result ≡ vmid_of self }
-    {
-        match self {
-            GuestRoot::Bare => 0,
-            GuestRoot::Table { vmid, .. } => vmid,
-        }
-    }
-
-    /// Whether `other` has the same MODE, VMID and PPN.
-    pub fn is_root(self, other: GuestRoot) -> bool
-        ensures { result ≡ is_root self other }
-    {
-        match (self, other) {
-            (GuestRoot::Bare, GuestRoot::Bare) => true,
-            (
-                GuestRoot::Table { mode, vmid, ppn },
-                GuestRoot::Table {
-                    mode: other_mode,
-                    vmid: other_vmid,
-                    ppn: other_ppn,
-                },
-            ) => mode.number() == other_mode.number() && vmid == other_vmid && ppn == other_ppn,
-            _ => false,
-        }
-    }
-}
-
 /// The registers that HS and VS each have: those of the 1xx rows, and those of the 2xx rows that match.
 #[derive(Clone, Copy, PartialEq, Eq)]
 pub struct SupervisorCsrs {
@@ -416,5 +271,20 @@ impl Virtual {
             mode,
             reservation: None,
         }
+    }
+
+    /// Sets register `rd` to `value`, and has pc go on.
+    pub fn set(&mut self, rd: Reg, value: u64)
+        ensures { self.new ≡ sets self.old rd value }
+    {
+        let next = self.regs.pc.wrapping_add(4);
+        self.regs.advance(rd, value, next);
+    }
+
+    /// Has pc go on.
+    pub fn pass(&mut self)
+        ensures { self.new ≡ passed self.old }
+    {
+        self.regs.pc = self.regs.pc.wrapping_add(4);
     }
 }

@@ -1,13 +1,18 @@
 // Table walks: the shapes of tables, entries in named parts, and how a walk ends.
 
+ghost use Rattle.std.specs.Prelude.{◌≡◌};
+ghost use Rattle.arch_defs.specs.Traps.{missing_place_fault};
+
 use crate::modes::{Access, Mode, Trap};
 
 /// The shape of a table: how many levels it has, how wide its root's index is, and which addresses it
-/// translates (Privileged Architecture 20211203, 4.4 and 8.5.1).
+/// translates (Privileged Architecture 20211203, 4.4, 4.5 and 8.5.1).
 #[derive(Clone, Copy, PartialEq, Eq)]
 pub enum Shape {
     Sv39,
+    Sv48,
     Sv39x4,
+    Sv48x4,
 }
 
 /// A table entry in named parts (Privileged Architecture 20211203, 4.3.1 and 4.4.1). The walker needs
@@ -79,6 +84,15 @@ pub struct MissingPlace {
     pub va: u64,
     /// The mode as which that access is made.
     pub mode: Mode,
+}
+
+impl MissingPlace {
+    /// The access fault of the access that has no place.
+    pub fn access_fault(&self) -> Trap
+        ensures { result ≡ missing_place_fault self.now }
+    {
+        Trap::of_exception(self.mode, self.access.faults().access, self.va)
+    }
 }
 
 /// What the first stage makes of a virtual address.

@@ -1,6 +1,6 @@
 -- Laws of register access: a read after a write gives the value from before with the writable bits replaced,
 -- and a write leaves what the other registers show, but for named aliases.
-use Rattle.std.specs.Prelude.{ℕ, ◌≡◌, ◌≢◌, Bool, true, false, Result, Ok, Err, ◌<◌, ◌+◌, ◌-◌, ◌^◌, ◌==◌, bit_and, Option, Some, None, IfSome, if◌then◌else◌}
+use Rattle.std.specs.Prelude.{ℕ, ◌≡◌, ◌≢◌, Bool, true, false, Result, Ok, Err, ◌<◌, ◌+◌, ◌-◌, ◌^◌, ◌==◌, ◌||◌, bit_and, Option, Some, None, IfSome, if◌then◌else◌}
 use Rattle.arch_defs.specs.declared.modes.Mode.{Mode}
 use Rattle.arch_defs.specs.declared.modes.Mode.TheVariants.{HS, VS, VU}
 use Rattle.arch_defs.specs.declared.registers.Csrs.{Csrs}
@@ -79,13 +79,16 @@ abbrev pub ReadsBack : Type 0
 ReadsBack = (csrs : Csrs) (r : Register) (v : ℕ) → v < 2 ^ 64
     → IfSome (mask_of csrs r) (λ mask. shown (written csrs r v) r ≡ merged mask (shown csrs r) v)
 
--- what satp or vsatp shows after a write: all of the value at MODE 8, 0 at MODE 0, else what it showed before
+-- what satp or vsatp shows after a write: all of the value at MODE 8 and 9, 0 at MODE 0, else what it showed
+-- before
 abbrev pub root_after : ℕ → ℕ → ℕ
-root_after before v = if field 60 4 v == 8 then v else if field 60 4 v == 0 then 0 else before
+root_after before v =
+    if field 60 4 v == 8 || field 60 4 v == 9 then v else if field 60 4 v == 0 then 0 else before
 
--- what hgatp shows after a write: MODE, VMID and PPN but for bits 1:0 at MODE 8, else 0
+-- what hgatp shows after a write: MODE, VMID and PPN but for bits 1:0 at MODE 8 and 9, else 0
 abbrev pub guest_root_after : ℕ → ℕ
-guest_root_after v = if field 60 4 v == 8 then bit_and v 0xF007FFFFFFFFFFFC else 0
+guest_root_after v =
+    if field 60 4 v == 8 || field 60 4 v == 9 then bit_and v 0xF007FFFFFFFFFFFC else 0
 
 abbrev pub SatpReadsBack : Type 0
 SatpReadsBack = (csrs : Csrs) (v : ℕ) → v < 2 ^ 64

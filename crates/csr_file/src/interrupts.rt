@@ -7,7 +7,7 @@ ghost use Rattle.arch_defs.specs.CsrAccess.{interrupts_shown, interrupts_written
 
 use arch_defs::{Csrs, InterruptCsr, Interrupts};
 
-/// In the places of sie, sip, vsie and vsip.
+// In the places of sie, sip, vsie and vsip.
 #[tactic(auto, unfolding(arch_defs::specs::CsrBits::sip_bits))]
 fn sip_bits(set: Interrupts) -> u64
     ensures { result ≡ sip_bits set }
@@ -26,7 +26,7 @@ fn supervisor_interrupts(value: u64) -> Interrupts
     }
 }
 
-/// In the places of hideleg, hie, hip and hvip, one bit higher.
+// In the places of hideleg, hie, hip and hvip, one bit higher.
 #[tactic(auto, unfolding(arch_defs::specs::CsrBits::hip_bits))]
 fn hip_bits(set: Interrupts) -> u64
     ensures { result ≡ hip_bits set }
@@ -45,7 +45,7 @@ fn virtual_interrupts(value: u64) -> Interrupts
     }
 }
 
-/// Those of a set that hideleg delegates.
+// Those of a set that hideleg delegates.
 #[tactic(auto, unfolding(arch_defs::specs::CsrBits::delegated))]
 fn delegated(hideleg: Interrupts, set: Interrupts) -> Interrupts
     ensures { result ≡ delegated hideleg set }
@@ -63,7 +63,7 @@ fn chosen(choice: bool, before: bool, after: bool) -> bool
     if choice { after } else { before }
 }
 
-/// A set in which those that hideleg delegates have become others.
+// A set in which those that hideleg delegates have become others.
 #[tactic(auto, unfolding(arch_defs::specs::CsrBits::delegated_become))]
 fn delegated_become(hideleg: Interrupts, before: Interrupts, after: Interrupts) -> Interrupts
     ensures { result ≡ delegated_become hideleg before after }

@@ -22,7 +22,7 @@ fn reached_in_u(csrs: &Csrs, register: Register) -> Result<Register, CsrEnd>
     }
 }
 
-/// In VS a number of a supervisor register names the VS copy, where there is one.
+// In VS a number of a supervisor register names the VS copy, where there is one.
 #[tactic(auto, unfolding(arch_defs::specs::CsrAccess::reached_in_vs))]
 fn reached_in_vs(csrs: &Csrs, register: Register) -> Result<Register, CsrEnd>
     ensures { result ≡ reached_in_vs csrs.now register }

@@ -35,7 +35,7 @@ fn sstatus_of(value: u64) -> SupervisorStatus
     }
 }
 
-/// All but bit 1.
+// All but bit 1.
 #[tactic(auto, unfolding(arch_defs::specs::CsrBits::tvec_bits))]
 fn tvec_bits(value: u64) -> u64
     ensures { result ≡ tvec_bits value }
@@ -43,7 +43,7 @@ fn tvec_bits(value: u64) -> u64
     (value >> 2) * 4 + (value & 1)
 }
 
-/// All but bits 1:0.
+// All but bits 1:0.
 #[tactic(auto, unfolding(arch_defs::specs::CsrBits::epc_bits))]
 fn epc_bits(value: u64) -> u64
     ensures { result ≡ epc_bits value }
@@ -65,19 +65,24 @@ fn satp_bits(root: SupervisorRoot) -> u64
     }
 }
 
-/// The root after a write: of a MODE other than 8 and 0 it stays.
+// The root after a write: of a MODE that names no table and is not 0 it stays.
 #[tactic(auto, unfolding(arch_defs::specs::CsrBits::supervisor_root_of))]
 fn supervisor_root_of(kept: SupervisorRoot, value: u64) -> SupervisorRoot
     ensures { result ≡ supervisor_root_of kept value }
 {
-    match value >> 60 {
-        8 => SupervisorRoot::Table {
-            mode: SupervisorMode::Sv39,
+    match SupervisorMode::of(value >> 60) {
+        Some(mode) => SupervisorRoot::Table {
+            mode,
             asid: (value >> 44) & 0xFFFF,
             ppn: value & 0xFFF_FFFF_FFFF,
         },
-        0 => SupervisorRoot::Bare,
-        _ => kept,
+        None => {
+            if value >> 60 == 0 {
+                SupervisorRoot::Bare
+            } else {
+                kept
+            }
+        }
     }
 }
 

@@ -9,7 +9,6 @@ ghost use Rattle.data_access.specs.Places.{IsPlaceFor, place_or_trap};
 
 use arch_defs::{Access, Csrs, Mode, Trap, Width};
 use phys_mem::Mem;
-use trap_delegation::{exception, misaligned_fault};
 use two_stage_walk::translate;
 
 /// Whether an address is a multiple of a width.
@@ -39,7 +38,7 @@ pub fn place_for<M: Mem>(
     ensures place { IfOk result (λ place. IsPlaceFor (M.base mem.now) (M.bytes mem.now) width place) }
 {
     if !is_aligned(va, width) {
-        return Err(exception(mode, misaligned_fault(access), va));
+        return Err(Trap::of_exception(mode, access.faults().misaligned, va));
     }
     translate(mem, csrs, mode, va, access)
 }

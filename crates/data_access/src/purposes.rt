@@ -4,7 +4,7 @@ ghost use Rattle.std.specs.Prelude.{◌≡◌, ◌⊎◌, length};
 ghost use Rattle.arch_defs.specs.Memory.{reading_of, with_stored};
 ghost use Rattle.arch_defs.specs.Widths.{bytes_in, extended};
 ghost use Rattle.machine_defs.specs.Core.{completed, is_reserved, kind_of, stored_if, storing};
-ghost use Rattle.machine_defs.specs.Outcomes.{passed, sets};
+ghost use Rattle.arch_defs.specs.Registers.{passed, sets};
 ghost use Rattle.data_access.specs.Places.{IsPlaceFor};
 
 use crate::places::{read_at, write_at};
@@ -12,7 +12,6 @@ use arch_defs::{Access, Reg, Virtual, Width, extend};
 use int_ops::amo;
 use op_defs::Purpose;
 use phys_mem::Mem;
-use privileged_ops::{pass, set};
 
 /// What access to data an instruction makes for a purpose: LR is a load; SC, whatever is reserved, and an
 /// atomic memory operation are stores (Unprivileged ISA 20191213, 8.2 and 8.4); HLVX needs X in place of R
@@ -65,7 +64,7 @@ pub fn complete<M: Mem>(
         Purpose::Modify { op, operand, rd } => {
             let held = read_at(mem, place, width);
             write_at(mem, place, width, amo(op, width, held, operand));
-            set(state, rd, extend(width, true, held));
+            state.set(rd, extend(width, true, held));
         }
     }
 }
@@ -79,7 +78,7 @@ pub fn load<M: Mem>(mem: &M, state: &mut Virtual, width: Width, signed: bool, rd
         (extended width signed (reading_of (M.base mem.now) (M.bytes mem.now) place (bytes_in width))) }
 {
     let held = read_at(mem, place, width);
-    set(state, rd, extend(width, signed, held));
+    state.set(rd, extend(width, signed, held));
 }
 
 /// Completes a store at its place.
@@ -96,7 +95,7 @@ pub fn store<M: Mem>(mem: &mut M, state: &mut Virtual, width: Width, value: u64,
     ensures keeps { M.keeps mem.old mem.new }
 {
     write_at(mem, place, width, value);
-    pass(state);
+    state.pass();
 }
 
 // Whether this place is reserved for this width.
@@ -132,8 +131,8 @@ fn store_if<M: Mem>(
     state.reservation = None;
     if reserved {
         write_at(mem, place, width, value);
-        set(state, rd, 0);
+        state.set(rd, 0);
     } else {
-        set(state, rd, 1);
+        state.set(rd, 1);
     }
 }

@@ -4,7 +4,7 @@ use Rattle.guest_specs.specs.declared.needs.Need.{Need}
 use Rattle.frame_split.specs.declared.planning.Free.{Free}
 use Rattle.frame_split.specs.declared.faults.PlanFault.{PlanFault}
 use Rattle.frame_split.specs.declared.faults.PlanFault.TheVariants.{NoMemory, TooMuch}
-use Rattle.arch_defs.specs.Frames.{in_blocks, Apart, LieIn}
+use Rattle.arch_defs.specs.Frames.{in_blocks, Apart, LieIn, most_frames}
 use Rattle.arch_defs.specs.Layouts.{Layout, NamesEachOnce, in_tables, root_frames, table_frames, named_by, Meets}
 use Rattle.guest_specs.specs.Needs.{tables_for, IsNeed, frames_needed}
 
@@ -50,6 +50,10 @@ pub record IsSplit (needs : List Need) (parts : List Layout) (frames : ℕ) : Ty
   pub sound : AreSound parts frames
   pub blocks_first : BlocksComeFirst parts
   pub roots_next : RootsComeNext parts
+
+-- the most tables beside the roots that a need has: one of the host table, and those of its spaces
+abbrev pub most_tables : ℕ
+most_tables = 1 + 8 * tables_for 256
 
 -- where to go on: the first free block, the first free frame for roots, and that for other tables
 abbrev pub after_need : Need → Free → Free
@@ -102,5 +106,5 @@ pub record SoFar (needs : List Need) (done : ℕ) (parts : List Layout) (start f
 
 -- why there is no plan: the needs sum to too much, or they don't and memory is wanting
 abbrev pub Causes : PlanFault → List Need → Type 0
-Causes NoMemory needs = frames_of_all needs ≤ 131072
-Causes (TooMuch sum) needs = (sum ≡ frames_of_all needs) × (131072 < sum)
+Causes NoMemory needs = frames_of_all needs ≤ most_frames
+Causes (TooMuch sum) needs = (sum ≡ frames_of_all needs) × (most_frames < sum)

@@ -6,4 +6,4 @@ mod planning;
 
 pub use arch_defs::{Need, Part};
 pub use faults::PlanFault;
-pub use planning::{MOST_FRAMES, Split, plan};
+pub use planning::{Split, plan};

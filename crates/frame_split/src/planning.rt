@@ -1,16 +1,14 @@
 // The plan: all blocks first, then all roots, then all other tables, so that no frame is lost.
 
 ghost use Rattle.std.specs.Prelude.{◌≡◌, ℕ, ◌+◌, ◌*◌, ◌%◌, ◌<◌, ◌≤◌, ◌^◌, length, slice_index, IfOk, IfErr, IfSome};
+ghost use Rattle.arch_defs.specs.Frames.{most_frames};
 ghost use Rattle.arch_defs.specs.Layouts.{NamesEachOnce, Meets};
 ghost use Rattle.guest_specs.specs.Needs.{tables_for, IsNeed};
-ghost use Rattle.frame_split.specs.Shares.{AreNeeds, Causes, IsSplit, LiesBetween, after_need, frames_of_all, blocks_of_all, roots_of_all, tables_of_all};
+ghost use Rattle.frame_split.specs.Shares.{AreNeeds, Causes, IsSplit, LiesBetween, after_need, frames_of_all, blocks_of_all, most_tables, roots_of_all, tables_of_all};
 
 use crate::faults::PlanFault;
-use arch_defs::{BLOCK_FRAMES, MOST_BLOCKS, Need, Part, TABLES_PER_ENTRY};
+use arch_defs::{BLOCK_FRAMES, MOST_BLOCKS, MOST_FRAMES, Need, Part, TABLES_PER_ENTRY};
 use std::alloc::Global;
-
-/// The most frames of machine memory.
-pub const MOST_FRAMES: u64 = 131_072;
 
 /// The parts of guests, in their order, and the frames of machine memory that they lie in.
 #[derive(Drop)]
@@ -19,7 +17,7 @@ pub struct Split {
     pub frames: u64,
 }
 
-// The first free block, the first free frame for roots, and that for other tables.
+/// The first free block, the first free frame for roots, and that for other tables.
 #[derive(Clone, Copy)]
 pub struct Free {
     block: u64,
@@ -43,7 +41,7 @@ pub fn plan(alloc: Global, needs: &[Need]) -> Result<Split, PlanFault>
     requires needs { AreNeeds needs.now }
     ensures split { IfOk result (λ s. IsSplit needs.now s.parts.items s.frames) }
     ensures frames { IfOk result (λ s. s.frames ≡ frames_of_all needs.now) }
-    ensures fits { IfOk result (λ s. s.frames ≤ 131072) }
+    ensures fits { IfOk result (λ s. s.frames ≤ most_frames) }
     ensures refused { IfErr result (λ fault. Causes fault needs.now) }
 {
     let totals = all_needed(needs);
@@ -70,7 +68,7 @@ fn all_needed(needs: &[Need]) -> Totals
     ensures blocks { result.blocks ≡ blocks_of_all needs.now }
     ensures roots { result.roots ≡ roots_of_all needs.now }
     ensures tables { result.tables ≡ tables_of_all needs.now }
-    ensures few { (result.blocks ≤ 512) × (result.roots ≤ 144) × (result.tables ≤ 65552) }
+    ensures few { (result.blocks ≤ 512) × (result.roots ≤ 144) × (result.tables ≤ 16 * most_tables) }
 {
     let mut totals = Totals {
         blocks: 0,
@@ -90,7 +88,7 @@ fn with_need(totals: Totals, need: &Need) -> Totals
     ensures roots { result.roots ≡ totals.roots + (1 + need.now.spaces) }
     ensures tables { result.tables ≡ totals.tables + (1 + need.now.spaces * tables_for need.now.entries) }
     ensures few { (result.blocks ≤ totals.blocks + 32) × (result.roots ≤ totals.roots + 9)
-        × (result.tables ≤ totals.tables + 4097) }
+        × (result.tables ≤ totals.tables + most_tables) }
 {
     Totals {
         blocks: totals.blocks + need.blocks,

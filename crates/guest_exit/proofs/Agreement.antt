@@ -6,7 +6,7 @@ use Rattle.arch_defs.specs.declared.modes.Access.TheVariants.{Fetch, Load, Store
 use Rattle.arch_defs.specs.declared.modes.Mode.{Mode}
 use Rattle.arch_defs.specs.declared.modes.Mode.TheVariants.{HS, U, VS, VU}
 use Rattle.arch_defs.specs.declared.modes.TheConstants.{ECALL_FROM_USER, ILLEGAL_INSTRUCTION, INSTRUCTION_MISALIGNED}
-use Rattle.arch_defs.specs.declared.registers.GuestRoot.{GuestRoot}
+use Rattle.arch_defs.specs.declared.roots.GuestRoot.{GuestRoot}
 use Rattle.arch_defs.specs.declared.registers.Regs.{Regs}
 use Rattle.arch_defs.specs.declared.registers.Virtual.{Virtual}
 use Rattle.arch_defs.specs.declared.walks.Found.{Found}
@@ -15,10 +15,10 @@ use Rattle.arch_defs.specs.declared.widths.Width.{Width}
 use Rattle.arch_defs.specs.declared.widths.Width.TheVariants.{Word}
 use Rattle.arch_defs.specs.Bits.{add64}
 use Rattle.arch_defs.specs.Memory.{Reading, SecondStage}
-use Rattle.arch_defs.specs.SecondStage.{guest_page_fault, is_implicit}
-use Rattle.arch_defs.specs.Registers.{advanced, read}
+use Rattle.arch_defs.specs.SecondStage.{is_implicit}
+use Rattle.arch_defs.specs.Registers.{advanced, read, passed, sets, next}
 use Rattle.arch_defs.specs.Translation.{first_stage}
-use Rattle.arch_defs.specs.Traps.{exception, is_virtual, misaligned_fault, page_fault}
+use Rattle.arch_defs.specs.Traps.{exception, is_virtual, faults_of}
 use Rattle.arch_defs.specs.Widths.{bytes_in, extended}
 use Rattle.op_defs.specs.declared.ops.Op.{Op}
 use Rattle.op_defs.specs.declared.ops.Op.TheVariants as op
@@ -28,10 +28,9 @@ use Rattle.op_defs.specs.declared.ops.DataAccess.{DataAccess}
 use Rattle.op_defs.specs.declared.ops.Purpose.{Purpose}
 use Rattle.op_defs.specs.declared.ops.Purpose.TheVariants as purpose
 use Rattle.op_defs.specs.Arithmetic.{amo}
-use Rattle.op_defs.specs.Meaning.{branch, is_branch_taken, jump, meaning, next}
+use Rattle.op_defs.specs.Meaning.{branch, is_branch_taken, jump, meaning}
 use Rattle.op_defs.specs.Table.{op_of}
 use Rattle.machine_defs.specs.Core.{Fails, Faults, accessed, accessed_data, called_from, completed, core, decoded, done, event_of, executed, instruction, is_reserved, kind_of, located, located_at, located_by, stored_if, storing, word_at}
-use Rattle.machine_defs.specs.Outcomes.{passed, sets}
 use Rattle.world_switch.specs.Hosting.{hart_state_of, hosted_csrs, hosted_mode}
 use Rattle.world_switch.proofs.Undone.{translates_alike}
 use Rattle.guest_exit.specs.ExitCases.{access_of}
@@ -41,14 +40,14 @@ use Rattle.guest_exit.proofs.Privileged.{privileged_stands}
 use Rattle.guest_exit.proofs.Stands.{Own, Call, Nested, SamePlace, Stands, at_stands, completes}
 
 -- the faults of an access are the guest's own
-page_fault_own : (access : Access) → IsOwn (page_fault access)
+page_fault_own : (access : Access) → IsOwn (faults_of access).page
 page_fault_own Fetch = own_12
 page_fault_own Load = own_13
 page_fault_own Store = own_15
 page_fault_own ExecLoad = own_13
 page_fault_own Implicit = own_13
 
-misaligned_own : (access : Access) → IsOwn (misaligned_fault access)
+misaligned_own : (access : Access) → IsOwn (faults_of access).misaligned
 misaligned_own Fetch = own_0
 misaligned_own Load = own_4
 misaligned_own Store = own_6
@@ -57,7 +56,7 @@ misaligned_own Implicit = own_4
 
 -- the accesses that the hart makes, each of which its guest-page fault tells
 record IsPlain (access : Access) : Type 0 where
-  told : access_of (guest_page_fault access) ≡ access
+  told : access_of (faults_of access).guest_page ≡ access
   explicit : is_implicit access ≡ false
 
 fetch_plain : IsPlain Fetch
@@ -78,7 +77,7 @@ by_second s va access address None plain = (refl, refl, record { access = plain.
 by_first : (s : Virtual) (second : SecondStage) (va : ℕ) (access : Access) (found : Found) → IsPlain access
     → SamePlace s (located_by second s.mode va access found) (located_by second (hosted_mode s.mode) va access found)
 by_first s second va access (Passes address) plain = by_second s va access address (second address access) plain
-by_first s second va access PageFaults plain = (_, refl, Own (page_fault access) va refl refl (page_fault_own access))
+by_first s second va access PageFaults plain = (_, refl, Own (faults_of access).page va refl refl (page_fault_own access))
 by_first s second va access (MissesEntry place) plain = (refl, refl, record { access = plain.told; kind = refl })
 
 located_alike : (root : GuestRoot) (s : Virtual) (second : SecondStage) (reading : Reading) (va : ℕ) (access : Access) → IsPlain access
@@ -90,9 +89,9 @@ access_alike : (root : GuestRoot) (s : Virtual) (second : SecondStage) (reading 
     → SamePlace s (accessed second reading s.csrs s.mode va width access) (accessed second reading (hart_state_of root s).csrs (hosted_mode s.mode) va width access)
 access_alike root s second reading va width access plain =
     elim (va % bytes_in width == 0) as (λ b.
-    SamePlace s (cond b (located second reading s.csrs s.mode va access) (Fails (Faults (exception s.mode (misaligned_fault access) va))))
-    (cond b (located second reading (hosted_csrs root (is_virtual s.mode) s.csrs) (hosted_mode s.mode) va access) (Fails (Faults (exception (hosted_mode s.mode) (misaligned_fault access) va)))))
-    [ true ↦ located_alike root s second reading va access plain | false ↦ (_, refl, Own (misaligned_fault access) va refl refl (misaligned_own access)) ]
+    SamePlace s (cond b (located second reading s.csrs s.mode va access) (Fails (Faults (exception s.mode (faults_of access).misaligned va))))
+    (cond b (located second reading (hosted_csrs root (is_virtual s.mode) s.csrs) (hosted_mode s.mode) va access) (Fails (Faults (exception (hosted_mode s.mode) (faults_of access).misaligned va)))))
+    [ true ↦ located_alike root s second reading va access plain | false ↦ (_, refl, Own (faults_of access).misaligned va refl refl (misaligned_own access)) ]
 
 -- an instruction whose access to data is made at this place
 stored_if_stands : (root : GuestRoot) (s : Virtual) (pc word : ℕ) (held : Bool) (width : Width) (value rd place : ℕ)

@@ -13,7 +13,8 @@ use Rattle.arch_defs.proofs.FrameSets.{left_within, only_more, only_none}
 use Rattle.machine_defs.specs.declared.events.Event.TheVariants.{System}
 use Rattle.machine_defs.specs.Fills.{missing_entry}
 use Rattle.machine_defs.specs.Machine.{Machine, Platform, has_enabled_interrupt, stepped_to, ticked, waited, waited_until}
-use Rattle.machine_defs.specs.Outcomes.{Outcome, Fenced, Waits, passed}
+use Rattle.arch_defs.specs.Registers.{passed}
+use Rattle.machine_defs.specs.Outcomes.{Outcome, Fenced, Waits}
 use Rattle.machine_defs.specs.Runs.{left_by}
 use Rattle.machine_defs.specs.Tries.{apply_outcome, committed, enters}
 use Rattle.shadow_pool.specs.Slots.{KeepsPool, pool_frames, room_of, spaces_of}

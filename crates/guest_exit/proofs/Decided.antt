@@ -21,7 +21,8 @@ use Rattle.op_defs.specs.Table.{op_of}
 use Rattle.machine_defs.specs.declared.events.Event.TheVariants.{System}
 use Rattle.machine_defs.specs.Core.{decoded}
 use Rattle.machine_defs.specs.Machine.{Machine}
-use Rattle.machine_defs.specs.Outcomes.{Outcome, Accesses, Done, Waits, passed}
+use Rattle.arch_defs.specs.Registers.{passed}
+use Rattle.machine_defs.specs.Outcomes.{Outcome, Accesses, Done, Waits}
 use Rattle.machine_defs.specs.Privileges as privileges
 use Rattle.machine_defs.specs.Privileges.{performed, privileged, refusal}
 use Rattle.machine_laws.specs.StorableStates.{IsStorable}

@@ -7,7 +7,7 @@ use Rattle.std.proofs.lemmas.Option.{none-some, same_Some}
 use Rattle.arch_defs.specs.declared.levels.Level.TheVariants as level
 use Rattle.arch_defs.specs.declared.modes.Trap.{Trap}
 use Rattle.arch_defs.specs.declared.registers.Csrs.{Csrs}
-use Rattle.arch_defs.specs.declared.registers.GuestRoot.{GuestRoot}
+use Rattle.arch_defs.specs.declared.roots.GuestRoot.{GuestRoot}
 use Rattle.arch_defs.specs.declared.registers.Virtual.{Virtual}
 use Rattle.arch_defs.specs.Frames.{Only, in_blocks}
 use Rattle.arch_defs.specs.Interrupts.{due, interrupt_of}
@@ -43,7 +43,7 @@ use Rattle.rv64_hart.specs.Counts.{IsRaisedBy}
 use Rattle.rv64_hart.specs.Steps.{HartEnd, Goes, Exits, Progress, progress, progressed, enters_vs, hart_step, hart_steps, one_more_step, is_vs_trap, IsWhy}
 use Rattle.host_tables.proofs.Held.{held_by_blocks}
 use Rattle.shadow_pool.specs.Slots.{Pooled}
-use Rattle.world_switch.specs.Hosting.{after_hs_trap, guest_state_after, guest_state_of, hart_state_in, hart_state_of, hosted_csrs, saved_csrs, saved_mode, table_from}
+use Rattle.world_switch.specs.Hosting.{after_hs_trap, guest_state_after, guest_state_of, hart_state_in, hart_state_of, hosted_csrs, saved_csrs, root_at, saved_mode}
 use Rattle.world_switch.specs.Laws.{KeepsHidden}
 use Rattle.world_switch.proofs.Registers.{none_waits}
 use Rattle.world_switch.proofs.Undone.{load_after_save, save_after_load, saved_v, virtual_mode}
@@ -458,7 +458,7 @@ ran_none part pool m memory limit t lasts at =
 
 -- from the state that is loaded
 pub steps_from : (watch : Bool) (part : Layout) (pool : Pooled) (v : Virtual) (memory : List ℕ) (t taken : ℕ) (q : Progress)
-    → hart_steps watch taken (progress (hart_state_in part (table_from (root_frame_for part pool v)) v) memory t false) ≡ Some q
+    → hart_steps watch taken (progress (hart_state_in part (root_at part (root_frame_for part pool v)) v) memory t false) ≡ Some q
     → hart_steps watch taken (progress (hart_state_in part (root_for part pool v) v) memory t false) ≡ Some q
 unfolding root_for
 steps_from watch part pool v memory t taken q e = e

@@ -1,11 +1,12 @@
 -- Which exit a trap of the hart is, and what is known of a step by it.
-use Rattle.std.specs.Prelude.{◌==◌, ◌↔◌, nat_lt}
+use Rattle.std.specs.Prelude.{◌==◌, ◌↔◌, nat_lt, ◌-◌}
 use Rattle.std.proofs.Common.{cond, ◌≡◌, ◌^◌, ◌<◌, Bool, true, false, Option, Some, None, refl, ap, sym, arith, ◌∙◌}
 use Rattle.arch_defs.specs.declared.cached.Entry.{Entry}
 use Rattle.arch_defs.specs.declared.modes.Trap.{Trap}
 use Rattle.arch_defs.specs.declared.modes.TheConstants.{VIRTUAL_INSTRUCTION}
 use Rattle.arch_defs.specs.declared.registers.Virtual.{Virtual}
 use Rattle.arch_defs.specs.Traps.{is_virtual}
+use Rattle.arch_defs.specs.Walk.{guest_bits}
 use Rattle.arch_defs.specs.WalkedEntries.{folds}
 use Rattle.op_defs.specs.declared.ops.Op.{Op}
 use Rattle.guest_specs.specs.declared.statuses.Status.TheVariants.{Running}
@@ -47,7 +48,7 @@ left_as m tried lacks trap left is step missing_entry = rw is (record { step = s
 -- an access is missing where the guest folds
 missing_place_folds : (v : Virtual) (trap : Trap) (folding : Bool) → IfMissing (missing_place_exit v trap folding) folding
 missing_place_folds v trap true =
-    elim (nat_lt trap.tval2 (2 ^ 39)) as (λ b. IfMissing (cond b (Missing (missing_place_of v trap)) (Own trap)) true) [ true ↦ refl | false ↦ tt ]
+    elim (nat_lt trap.tval2 (2 ^ (guest_bits - 2))) as (λ b. IfMissing (cond b (Missing (missing_place_of v trap)) (Own trap)) true) [ true ↦ refl | false ↦ tt ]
 missing_place_folds v trap false = tt
 
 instruction_folds : (trap : Trap) (op : Option Op) (folding : Bool) → IfMissing (instruction_exit trap op) folding
@@ -71,7 +72,7 @@ missing_folds v trap =
 -- an instruction that is left is one on which the mode decides, and its fields fit
 missing_place_decided : (v : Virtual) (trap : Trap) (folding : Bool) → IfInstruction (missing_place_exit v trap folding)
 missing_place_decided v trap true =
-    elim (nat_lt trap.tval2 (2 ^ 39)) as (λ b. IfInstruction (cond b (Missing (missing_place_of v trap)) (Own trap))) [ true ↦ tt | false ↦ tt ]
+    elim (nat_lt trap.tval2 (2 ^ (guest_bits - 2))) as (λ b. IfInstruction (cond b (Missing (missing_place_of v trap)) (Own trap))) [ true ↦ tt | false ↦ tt ]
 missing_place_decided v trap false = tt
 
 instruction_decided : (trap : Trap) (found : Option Op) → ((o : Op) → found ≡ Some o → IsDecidedOp o) → IfInstruction (instruction_exit trap found)

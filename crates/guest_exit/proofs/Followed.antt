@@ -1,6 +1,6 @@
 -- One step of the hart that stands for a guest is a try of the guest's lone machine.
-use Rattle.std.specs.Prelude.{◌&&◌, ◌^◌, nat_lt, not}
-use Rattle.std.proofs.Common.{cond, ◌≡◌, ℕ, ◌⊎◌, inl, inr, ◌∙◌, Bool, List, Option, Some, None, true, false, refl, ap, sym, subst, length, arith}
+use Rattle.std.specs.Prelude.{◌&&◌, ◌^◌, nat_lt, not, ◌%◌}
+use Rattle.std.proofs.Common.{cond, ◌≡◌, ℕ, ◌⊎◌, inl, inr, ◌∙◌, Bool, List, Option, Some, None, true, false, refl, ap, sym, subst, length, arith, ◌+◌, ◌<◌}
 use Rattle.arch_defs.specs.declared.second_walks.SecondWalkEnd.{SecondWalkEnd}
 use Rattle.arch_defs.specs.declared.second_walks.SecondWalkEnd.TheVariants.{GuestPageFault, AccessFault}
 use Rattle.arch_defs.specs.declared.second_walks.SecondWalkEnd.TheVariants as guest
@@ -9,18 +9,17 @@ use Rattle.arch_defs.specs.declared.modes.Access.TheVariants.{Fetch, Load, Store
 use Rattle.arch_defs.specs.declared.modes.Mode.{Mode}
 use Rattle.arch_defs.specs.declared.modes.Trap.{Trap}
 use Rattle.arch_defs.specs.declared.registers.Csrs.{Csrs}
-use Rattle.arch_defs.specs.declared.registers.GuestRoot.{GuestRoot}
-use Rattle.arch_defs.specs.declared.registers.GuestRoot.TheVariants as root
+use Rattle.arch_defs.specs.declared.roots.GuestRoot.{GuestRoot}
+use Rattle.arch_defs.specs.declared.roots.GuestRoot.TheVariants as root
 use Rattle.arch_defs.specs.declared.registers.Virtual.{Virtual}
-use Rattle.arch_defs.specs.declared.walks.Shape.TheVariants.{Sv39x4}
 use Rattle.arch_defs.specs.declared.walks.MissingPlace.{MissingPlace}
 use Rattle.arch_defs.specs.Frames.{in_blocks}
 use Rattle.arch_defs.specs.Layouts.{Layout, in_tables}
 use Rattle.arch_defs.specs.Memory.{block_size, ram_base, reading_of, with_stored}
 use Rattle.arch_defs.specs.Ram.{SlicesLieIn}
-use Rattle.arch_defs.specs.Roots.{guest_shape, is_table}
-use Rattle.arch_defs.specs.SecondStage.{guest_page_fault, guest_page_trap, missing_place_by, missing_place_under, second_by_walk, second_root_of, second_walk}
-use Rattle.arch_defs.specs.Traps.{access_fault, exception, is_delegated, is_virtual, missing_place_fault}
+use Rattle.arch_defs.specs.Roots.{guest_shape, is_table, folded_mode}
+use Rattle.arch_defs.specs.SecondStage.{guest_page_trap, missing_place_by, missing_place_under, second_by_walk, second_root_of, second_walk}
+use Rattle.arch_defs.specs.Traps.{exception, is_delegated, is_virtual, missing_place_fault, faults_of}
 use Rattle.arch_defs.proofs.RamBlocks.{blocks_lie_in, ram_length}
 use Rattle.arch_defs.proofs.Rooms.{first_lies}
 use Rattle.machine_laws.specs.HostPlaces.{in_ram, memory_place}
@@ -32,7 +31,7 @@ use Rattle.machine_laws.proofs.HostPlaces.{only_ram_changes, ram_is_renamed, ram
 use Rattle.machine_laws.proofs.Renaming.{renamed_core, stays_held}
 use Rattle.host_tables.specs.Walks.{IsHeld}
 use Rattle.host_tables.proofs.Held.{gives_ram}
-use Rattle.world_switch.specs.Hosting.{after_hs_trap, guest_state_after, guest_state_of, hart_state_in, hart_state_of, host_root, hosted_csrs, hosted_mode, table_from}
+use Rattle.world_switch.specs.Hosting.{after_hs_trap, guest_state_after, guest_state_of, hart_state_in, hart_state_of, host_root, hosted_csrs, hosted_mode, is_space_root, space_root}
 use Rattle.world_switch.proofs.Undone.{saved_v, virtual_mode}
 use Rattle.guest_exit.specs.declared.exit_cases.Exit.{Exit}
 use Rattle.guest_exit.specs.declared.exit_cases.Exit.TheVariants as case
@@ -47,7 +46,7 @@ use Rattle.guest_exit.proofs.Interrupts.{IsDue, due_alike}
 use Rattle.guest_exit.proofs.Delegation.{never_20, never_21, never_23}
 use Rattle.guest_exit.proofs.Stands.{Own, Call, Nested, Left, Stands, Traps}
 use Rattle.arch_defs.specs.declared.cached.Entry.{Entry}
-use Rattle.shadow_pool.specs.Slots.{Pooled}
+use Rattle.shadow_pool.specs.Slots.{Pooled, AreSlots}
 use Rattle.arch_defs.specs.Memory.{bare}
 use Rattle.arch_defs.specs.SecondStage.{missing_place_trap, second_under}
 use Rattle.arch_defs.specs.CachedEntries.{second_by}
@@ -55,13 +54,14 @@ use Rattle.arch_defs.specs.Spaces.{Space, entered, front}
 use Rattle.machine_laws.specs.FrontSpaces.{FrontIs}
 use Rattle.std.specs.Prelude.{[], ◌∷◌, ◌*◌, ◌/◌, ◌-◌}
 use Rattle.std.specs.Option.{option_map}
-use Rattle.std.proofs.lemmas.Bool.{and_parts}
+use Rattle.std.proofs.lemmas.Bool.{and_parts, le-ltb, lt-ltb, eq-eqb}
 use Rattle.arch_defs.specs.Frames.{LieIn}
 use Rattle.arch_defs.specs.Memory.{SecondStage, Stored}
 use Rattle.arch_defs.specs.Ram.{host_place, ram_of}
 use Rattle.machine_defs.specs.declared.events.Event.{Event}
 use Rattle.arch_defs.specs.WalkedEntries.{folds}
 use Rattle.arch_defs.specs.Interrupts.{due}
+use Rattle.arch_defs.specs.Walk.{guest_bits}
 use Rattle.machine_defs.specs.Core.{core}
 use Rattle.machine_defs.specs.Fills.{missing_entry, missing_entry_at}
 use Rattle.machine_laws.specs.Renaming.{GivesWithin}
@@ -78,6 +78,8 @@ use Rattle.shadow_pool.specs.Slots.{front_root, spaces_of}
 use Rattle.shadow_pool.proofs.Front.{front_gives, front_misses}
 use Rattle.guest_exit.proofs.Taken.{access_fault_own, exception_follows, hosted_here, interrupt_follows, taken, to_host, trap_follows}
 use Rattle.guest_exit.proofs.Stands.{IsTold}
+use Rattle.shadow_pool.specs.declared.slots.Slot.{Slot}
+use Rattle.shadow_space.specs.Shadows.{root_of}
 
 -- what a machine lacks by how its instruction ends under its own second stage
 abbrev missing_entry_by : Machine → Outcome → Option Entry
@@ -130,19 +132,19 @@ missing_place_is mxr memory missing (root.Table mode vmid ppn) =
 
 -- a guest-page fault is the host's
 record IsHosts (access : Access) : Type 0 where
-  kept : (root : GuestRoot) (virtual : Bool) (csrs : Csrs) → is_delegated (hosted_csrs root virtual csrs) false (guest_page_fault access) ≡ false
-  fault : is_guest_page_code (guest_page_fault access) ≡ true
-  own : access_fault_for (guest_page_fault access) ≡ access_fault access
+  kept : (root : GuestRoot) (virtual : Bool) (csrs : Csrs) → is_delegated (hosted_csrs root virtual csrs) false (faults_of access).guest_page ≡ false
+  fault : is_guest_page_code (faults_of access).guest_page ≡ true
+  own : access_fault_for (faults_of access).guest_page ≡ (faults_of access).access
 
-kept_20 : (root : GuestRoot) (virtual : Bool) (csrs : Csrs) → is_delegated (hosted_csrs root virtual csrs) false (guest_page_fault Fetch) ≡ false
+kept_20 : (root : GuestRoot) (virtual : Bool) (csrs : Csrs) → is_delegated (hosted_csrs root virtual csrs) false (faults_of Fetch).guest_page ≡ false
 kept_20 root false csrs = refl
 kept_20 root true csrs = never_20 csrs.hedeleg
 
-kept_21 : (root : GuestRoot) (virtual : Bool) (csrs : Csrs) → is_delegated (hosted_csrs root virtual csrs) false (guest_page_fault Load) ≡ false
+kept_21 : (root : GuestRoot) (virtual : Bool) (csrs : Csrs) → is_delegated (hosted_csrs root virtual csrs) false (faults_of Load).guest_page ≡ false
 kept_21 root false csrs = refl
 kept_21 root true csrs = never_21 csrs.hedeleg
 
-kept_23 : (root : GuestRoot) (virtual : Bool) (csrs : Csrs) → is_delegated (hosted_csrs root virtual csrs) false (guest_page_fault Store) ≡ false
+kept_23 : (root : GuestRoot) (virtual : Bool) (csrs : Csrs) → is_delegated (hosted_csrs root virtual csrs) false (faults_of Store).guest_page ≡ false
 kept_23 root false csrs = refl
 kept_23 root true csrs = never_23 csrs.hedeleg
 
@@ -169,11 +171,11 @@ follows_as part root m tried tried' lacks lacks' memory end e f is = rw (e, f) i
 
 -- where the machine does not fold, an access without a place is an access fault
 flat_fault : (v : Virtual) (ram : List ℕ) (missing : MissingPlace) → folds v ≡ false
-    → missing_place_trap v.csrs ram_base ram (record missing { mode = v.mode }) ≡ exception v.mode (access_fault missing.access) missing.va
+    → missing_place_trap v.csrs ram_base ram (record missing { mode = v.mode }) ≡ exception v.mode (faults_of missing.access).access missing.va
 flat_fault v ram missing flat = by v.csrs.hgatp (is_virtual v.mode) flat
   where
     by : (hgatp : GuestRoot) (virtual : Bool) → (virtual && is_table hgatp) ≡ false
-        → missing_place_under ram_base ram v.csrs.hs.status.mxr (record missing { mode = v.mode }) (cond virtual hgatp root.Bare) ≡ exception v.mode (access_fault missing.access) missing.va
+        → missing_place_under ram_base ram v.csrs.hs.status.mxr (record missing { mode = v.mode }) (cond virtual hgatp root.Bare) ≡ exception v.mode (faults_of missing.access).access missing.va
     by (root.Table mode vmid ppn) true is = absurd cc
     by (root.Table mode vmid ppn) false is = refl
     by root.Bare true is = refl
@@ -181,12 +183,12 @@ flat_fault v ram missing flat = by v.csrs.hgatp (is_virtual v.mode) flat
 
 flat_ends : (part : Layout) {pool : Pooled} (root : GuestRoot) (m : Machine) (memory : List ℕ) (missing : MissingPlace) (trap : Trap) → IsAt part pool m memory
     → folds m.platform.virt ≡ false → missing.mode ≡ hosted_mode m.platform.virt.mode → (trap ≡ missing_place_fault missing) ⊎ (trap ≡ guest_page_trap missing)
-    → FollowsTry part root m (trapped m (exception m.platform.virt.mode (access_fault missing.access) missing.va)) None memory (taken part root m memory trap)
+    → FollowsTry part root m (trapped m (exception m.platform.virt.mode (faults_of missing.access).access missing.va)) None memory (taken part root m memory trap)
 flat_ends part root m memory missing trap at flat mode (inl e) =
-    rw (e, mode) (exception_follows part root m memory None (access_fault missing.access) missing.va (access_fault_own missing.access) at refl)
+    rw (e, mode) (exception_follows part root m memory None (faults_of missing.access).access missing.va (access_fault_own missing.access) at refl)
 flat_ends part root m memory missing trap at flat mode (inr e) =
     let v = m.platform.virt in
-    let fault = exception v.mode (access_fault_for (guest_page_fault missing.access)) missing.va in
+    let fault = exception v.mode (access_fault_for (faults_of missing.access).guest_page) missing.va in
     rw e (guest_page_left part root m memory missing _ None (case.OutsideRam fault) (ap (missing_place_exit v (guest_page_trap missing)) flat)
     (ap (λ cause. trapped m (exception v.mode cause missing.va)) (sym (hosts missing.access).own)) refl)
 
@@ -208,17 +210,17 @@ missed_is : (v : Virtual) (missing : MissingPlace) → IsTold missing
     → missing_place_of v (guest_page_trap missing) ≡ record missing { address = missing.address / 4 * 4; mode = v.mode }
 missed_is v missing told = rw (told.access, told.kind) refl
 
-far_told : (address : ℕ) → nat_lt (address / 4) (2 ^ 39) ≡ false → nat_lt address (2 ^ 41) ≡ false
+far_told : (address : ℕ) → nat_lt (address / 4) (2 ^ (guest_bits - 2)) ≡ false → nat_lt address (2 ^ guest_bits) ≡ false
 far_told address far = grind (arith, far)
 
--- by whether its guest physical address has more than 41 bits
-missing_exit : (v : Virtual) (missing : MissingPlace) → folds v ≡ true → IsTold missing → (small : Bool) → nat_lt (missing.address / 4) (2 ^ 39) ≡ small
+-- by whether its guest physical address is one that a table can translate
+missing_exit : (v : Virtual) (missing : MissingPlace) → folds v ≡ true → IsTold missing → (small : Bool) → nat_lt (missing.address / 4) (2 ^ (guest_bits - 2)) ≡ small
     → missing_place_exit v (guest_page_trap missing) (folds v)
     ≡ cond small (case.Missing (record missing { address = missing.address / 4 * 4; mode = v.mode })) (case.Own (guest_page_trap missing))
 missing_exit v missing folding told small is = rw (folding, is, missed_is v missing told) refl
 
 folding_by : (part : Layout) (root : GuestRoot) (m : Machine) (memory : List ℕ) (missing : MissingPlace) → folds m.platform.virt ≡ true → missing.mode ≡ m.platform.virt.mode → IsTold missing
-    → (small : Bool) → nat_lt (missing.address / 4) (2 ^ 39) ≡ small
+    → (small : Bool) → nat_lt (missing.address / 4) (2 ^ (guest_bits - 2)) ≡ small
     → FollowsTry part root m (apply_outcome m (Missed (record missing { mode = m.platform.virt.mode }))) (missing_entry_by m (Missed (record missing { mode = m.platform.virt.mode })))
     memory (taken part root m memory (guest_page_trap missing))
 folding_by part root m memory missing folding mode told true small =
@@ -239,16 +241,34 @@ folding_by part root m memory missing folding mode told false far =
 folding_follows : (part : Layout) (root : GuestRoot) (m : Machine) (memory : List ℕ) (missing : MissingPlace) → folds m.platform.virt ≡ true → missing.mode ≡ m.platform.virt.mode → IsTold missing
     → FollowsTry part root m (apply_outcome m (Missed (record missing { mode = m.platform.virt.mode }))) (missing_entry_by m (Missed (record missing { mode = m.platform.virt.mode })))
     memory (taken part root m memory (guest_page_trap missing))
-folding_follows part root m memory missing folding mode told = folding_by part root m memory missing folding mode told (nat_lt (missing.address / 4) (2 ^ 39)) refl
+folding_follows part root m memory missing folding mode told = folding_by part root m memory missing folding mode told (nat_lt (missing.address / 4) (2 ^ (guest_bits - 2))) refl
 
 -- the table under which the hart runs
 root_flat : (part : Layout) (pool : Pooled) (v : Virtual) → folds v ≡ false → root_for part pool v ≡ host_root part
 unfolding root_for
-root_flat part pool v flat = rw flat refl
+root_flat part pool v flat = rw (flat, le-ltb part.first_root part.first_root (omega arith)) refl
 
-root_folding : (part : Layout) (pool : Pooled) (v : Virtual) → folds v ≡ true → root_for part pool v ≡ table_from (front_root pool.slots)
+-- the front root is a space's
+space_is_root : (part : Layout) (frame index : ℕ) → frame ≡ part.first_root + 4 * (1 + index) → index < part.spaces → part.first_root % 4 ≡ 0 → is_space_root part frame ≡ true
+space_is_root part frame index is below aligned =
+    rw (
+      lt-ltb part.first_root frame (omega (arith, is)),
+      lt-ltb frame (part.first_root + 4 * (1 + part.spaces)) (omega (arith, is, below)),
+      eq-eqb (frame % 4) 0 (omega (arith, is, aligned)),
+    ) refl
+
+front_is_root : (part : Layout) (most : ℕ) (slots : List Slot) → AreSlots part most slots → is_space_root part (front_root slots) ≡ true
+front_is_root part most [] are = let some = are.some in absurd (omega (arith, some))
+front_is_root part most (slot ∷ slots) are =
+    let first = are.each 0 slot (omega arith) in
+    space_is_root part (root_of slot.space) slot.space.index (ap (λ p. p.first_root + 4 * (1 + slot.space.index)) first.part)
+    (omega (arith, first.index, are.own)) are.once.aligned
+
+root_folding : (part : Layout) (pool : Pooled) (m : Machine) (memory : List ℕ) → IsAt part pool m memory → folds m.platform.virt ≡ true
+    → root_for part pool m.platform.virt ≡ space_root (front_root pool.slots)
 unfolding root_for
-root_folding part pool v folding = rw folding refl
+root_folding part pool m memory at folding =
+    rw (folding, ap (λ p. is_space_root p (front_root pool.slots)) (sym at.own) ∙ front_is_root pool.part pool.most pool.slots at.tidy.slots) refl
 
 host_root_of : (root : GuestRoot) (virtual : Bool) (csrs : Csrs) → (hosted_csrs root virtual csrs).hgatp ≡ root
 host_root_of root false csrs = refl
@@ -294,8 +314,8 @@ trap_under : (csrs : Csrs) (memory : List ℕ) (missing : MissingPlace) (root : 
     → missing_place_trap csrs 0 memory missing ≡ missing_place_under 0 memory csrs.hs.status.mxr missing root
 trap_under csrs memory missing root on is = rw (on, is) refl
 
-trap_by : (memory : List ℕ) (mxr : Bool) (missing : MissingPlace) (frame : ℕ) → second_walk 0 memory mxr Sv39x4 frame missing.address missing.kind ≡ GuestPageFault
-    → missing_place_under 0 memory mxr missing (table_from frame) ≡ guest_page_trap missing
+trap_by : (memory : List ℕ) (mxr : Bool) (missing : MissingPlace) (frame : ℕ) → second_walk 0 memory mxr (guest_shape folded_mode) frame missing.address missing.kind ≡ GuestPageFault
+    → missing_place_under 0 memory mxr missing (space_root frame) ≡ guest_page_trap missing
 trap_by memory mxr missing frame is = ap (missing_place_by missing) is
 
 miss_traps : (part : Layout) (pool : Pooled) (m : Machine) (memory : List ℕ) (missing : MissingPlace) → IsAt part pool m memory → folds m.platform.virt ≡ true
@@ -312,7 +332,7 @@ miss_traps part pool m memory missing at folding mode absent =
     let lies : LieIn (in_blocks pool.part.blocks) (length memory) = rw at.own (blocks_lie_at part memory at.held) in
     trap_under csrs memory missing root on (host_root_of root (is_virtual v.mode) v.csrs)
     ∙ ap (λ mxr. missing_place_under 0 memory mxr missing root) (own_mxr_of root (is_virtual v.mode) v.csrs (virtual_of v folding))
-    ∙ ap (λ table. missing_place_under 0 memory v.csrs.hs.status.mxr missing table) (root_folding part pool v folding)
+    ∙ ap (λ table. missing_place_under 0 memory v.csrs.hs.status.mxr missing table) (root_folding part pool m memory at folding)
     ∙ trap_by memory v.csrs.hs.status.mxr missing (front_root pool.slots)
     (front_misses pool memory f.space f.others v.csrs.hs.status.mxr missing.address missing.kind at.tidy lies f.are none)
 
@@ -409,7 +429,7 @@ folding_renamed part pool m memory at folding address access =
     let lies : LieIn (in_blocks pool.part.blocks) (length memory) = rw at.own (blocks_lie_at part memory at.held) in
     ap (λ (second : SecondStage). second address access) (second_is csrs (hosted_mode v.mode) memory root (virtual_mode v.mode) (host_root_of root (is_virtual v.mode) v.csrs))
     ∙ ap (λ mxr. second_under 0 memory mxr root address access) (own_mxr_of root (is_virtual v.mode) v.csrs (virtual_of v folding))
-    ∙ ap (λ table. second_under 0 memory mxr table address access) (root_folding part pool v folding)
+    ∙ ap (λ table. second_under 0 memory mxr table address access) (root_folding part pool m memory at folding)
     ∙ front_gives pool memory f.space f.others mxr 0 address access at.tidy lies f.are
     ∙ ap (λ layout. option_map (λ place. host_place layout.blocks (place - ram_base)) (second_by f.space.entries mxr address access)) at.own
     ∙ ap (λ (second : SecondStage). option_map (memory_place part.blocks) (second address access)) (sym f.second)

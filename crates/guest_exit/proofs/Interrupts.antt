@@ -1,13 +1,14 @@
 -- The interrupt that is due on the lone machine, and on the hart.
 use Rattle.std.specs.Prelude.{◌&&◌, ◌||◌, find, not, if◌then◌else◌}
 use Rattle.std.specs.Option.{option_or}
-use Rattle.std.proofs.Common.{cond, ◌≡◌, ℕ, ◌+◌, Option, Some, None, Bool, true, false, refl, ap, sym, subst, ◌∙◌}
+use Rattle.std.proofs.Common.{cond, ◌≡◌, ℕ, ◌+◌, Option, Some, None, Bool, true, false, refl, ap, ◌∙◌, subst, sym}
 use Rattle.arch_defs.specs.declared.modes.Mode.{Mode}
 use Rattle.arch_defs.specs.declared.modes.Mode.TheVariants.{HS, U, VS, VU}
 use Rattle.arch_defs.specs.declared.registers.Csrs.{Csrs}
-use Rattle.arch_defs.specs.declared.registers.GuestRoot.{GuestRoot}
+use Rattle.arch_defs.specs.declared.roots.GuestRoot.{GuestRoot}
 use Rattle.arch_defs.specs.declared.registers.Interrupts.{Interrupts}
 use Rattle.arch_defs.specs.Interrupts.{due, due_for_hs, due_for_vs, hs_order, is_ready_for_hs, is_ready_for_vs, vs_bit, vs_order}
+use Rattle.arch_defs.specs.Registers.{clear_interrupts}
 use Rattle.arch_defs.specs.Traps.{is_virtual}
 use Rattle.machine_defs.specs.Machine.{with_lines}
 use Rattle.guest_exit.specs.HartSteps.{is_hosts}
@@ -244,3 +245,7 @@ own_after root false before hart mode after clock timer external is keeps t e ow
 own_after root true before hart mode after clock timer external is keeps t e own waits =
     rw (saved_v true after) (nested_due (with_lines (saved_csrs true hart before) clock timer external) (saved_mode true after) (saved_v true after)
     (nested_after root before hart mode clock timer external is keeps t e own waits))
+
+-- none of VS waits for HS while no bit of hip is set
+pub none_pending_waits : (csrs : Csrs) → csrs.hvip ≡ clear_interrupts → waits_for_hs csrs ≡ false
+none_pending_waits csrs hip = subst (λ hvip. waits_for_hs (record csrs { hvip = hvip }) ≡ false) (sym hip) refl

@@ -1,13 +1,13 @@
 -- An access to which the front space gives no place: a fill, or the fault of the walk of the guest's own table.
 use Rattle.std.specs.Prelude.{◌&&◌, nat_lt}
-use Rattle.std.proofs.Common.{cond, ◌≡◌, ℕ, ◌^◌, Bool, true, false, List, Some, None, refl, ap, ◌∙◌}
+use Rattle.std.proofs.Common.{cond, ◌≡◌, ℕ, ◌^◌, Bool, true, false, List, Some, None, refl, ap, ◌∙◌, arith}
 use Rattle.arch_defs.specs.declared.cached.Entry.{Entry}
 use Rattle.arch_defs.specs.declared.second_walks.SecondWalkEnd.TheVariants.{GuestPageFault}
 use Rattle.arch_defs.specs.declared.modes.Access.{Access}
-use Rattle.arch_defs.specs.declared.registers.GuestMode.{GuestMode}
-use Rattle.arch_defs.specs.declared.registers.GuestMode.TheVariants.{Sv39x4}
-use Rattle.arch_defs.specs.declared.registers.GuestRoot.{GuestRoot}
-use Rattle.arch_defs.specs.declared.registers.GuestRoot.TheVariants as root
+use Rattle.arch_defs.specs.declared.roots.GuestMode.{GuestMode}
+use Rattle.arch_defs.specs.declared.roots.GuestMode.TheVariants.{Sv39x4, Sv48x4}
+use Rattle.arch_defs.specs.declared.roots.GuestRoot.{GuestRoot}
+use Rattle.arch_defs.specs.declared.roots.GuestRoot.TheVariants as root
 use Rattle.arch_defs.specs.declared.registers.Virtual.{Virtual}
 use Rattle.arch_defs.specs.declared.walks.MissingPlace.{MissingPlace}
 use Rattle.arch_defs.specs.CachedEntries.{CanFill}
@@ -16,7 +16,7 @@ use Rattle.arch_defs.specs.Ram.{ram_of}
 use Rattle.arch_defs.specs.Roots.{guest_shape, is_table}
 use Rattle.arch_defs.specs.SecondStage.{guest_page_trap, missing_place_by, missing_place_trap, missing_place_under, second_walk}
 use Rattle.arch_defs.specs.Traps.{is_virtual}
-use Rattle.arch_defs.specs.Walk.{end_of, path, walk}
+use Rattle.arch_defs.specs.Walk.{guest_bits, end_of, path, walk}
 use Rattle.arch_defs.specs.WalkedEntries.{entry_by_end, entry_by_table, entry_by_walk, folds}
 use Rattle.machine_defs.specs.Fills.{fill, filled_front}
 use Rattle.machine_laws.proofs.Leaves.{fills_can_be_made}
@@ -28,18 +28,22 @@ use Rattle.guest_exit.specs.View.{IsPlaced, machine_of, platform_of}
 use Rattle.guest_exit.proofs.Alone.{machine_as}
 use Rattle.guest_exit.proofs.Pools.{ram_by_pool, size_of}
 
--- an address of more than 41 bits has no walk
-far_walk : (base : ℕ) (bytes : List ℕ) (mxr : Bool) (mode : GuestMode) (ppn address : ℕ) (kind : Access) → nat_lt address (2 ^ 41) ≡ false
+-- an address of more bits than any table translates has no walk
+beyond : (address : ℕ) → nat_lt address (2 ^ guest_bits) ≡ false → nat_lt address (2 ^ 41) ≡ false
+beyond address far = grind (arith, far)
+
+far_walk : (base : ℕ) (bytes : List ℕ) (mxr : Bool) (mode : GuestMode) (ppn address : ℕ) (kind : Access) → nat_lt address (2 ^ guest_bits) ≡ false
     → second_walk base bytes mxr (guest_shape mode) ppn address kind ≡ GuestPageFault
 unfolding second_walk walk path end_of
-far_walk base bytes mxr Sv39x4 ppn address kind far = rw far refl
+far_walk base bytes mxr Sv39x4 ppn address kind far = rw (beyond address far) refl
+far_walk base bytes mxr Sv48x4 ppn address kind far = rw far refl
 
 -- so nothing is filled for it, and its fault is a guest-page fault
 pub record IsFar (v : Virtual) (ram : List ℕ) (u : MissingPlace) : Type 0 where
   pub none : entry_by_walk v.csrs ram u.address u.kind ≡ None
   pub faults : missing_place_trap v.csrs ram_base ram u ≡ guest_page_trap u
 
-pub far_is : (v : Virtual) (ram : List ℕ) (u : MissingPlace) → folds v ≡ true → u.mode ≡ v.mode → nat_lt u.address (2 ^ 41) ≡ false → IsFar v ram u
+pub far_is : (v : Virtual) (ram : List ℕ) (u : MissingPlace) → folds v ≡ true → u.mode ≡ v.mode → nat_lt u.address (2 ^ guest_bits) ≡ false → IsFar v ram u
 unfolding entry_by_walk
 far_is v ram u folding mode far = record {
   none = none v.csrs.hgatp;

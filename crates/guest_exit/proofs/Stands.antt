@@ -4,13 +4,13 @@ use Rattle.arch_defs.specs.declared.modes.Access.TheVariants.{Implicit}
 use Rattle.arch_defs.specs.declared.modes.Trap.{Trap}
 use Rattle.arch_defs.specs.declared.modes.TheConstants.{ECALL_FROM_VS, VIRTUAL_INSTRUCTION}
 use Rattle.arch_defs.specs.declared.registers.Csrs.{Csrs}
-use Rattle.arch_defs.specs.declared.registers.GuestRoot.{GuestRoot}
+use Rattle.arch_defs.specs.declared.roots.GuestRoot.{GuestRoot}
 use Rattle.arch_defs.specs.declared.registers.Regs.{Regs}
 use Rattle.arch_defs.specs.declared.registers.Virtual.{Virtual}
 use Rattle.arch_defs.specs.declared.walks.MissingPlace.{MissingPlace}
 use Rattle.arch_defs.specs.Memory.{Stored}
-use Rattle.arch_defs.specs.SecondStage.{guest_page_fault, is_implicit}
-use Rattle.arch_defs.specs.Traps.{exception, is_virtual}
+use Rattle.arch_defs.specs.SecondStage.{is_implicit}
+use Rattle.arch_defs.specs.Traps.{exception, is_virtual, faults_of}
 use Rattle.op_defs.specs.declared.ops.Privileged.{Privileged}
 use Rattle.op_defs.specs.Table.{is_system}
 use Rattle.machine_defs.specs.declared.events.Event.TheVariants.{Plain, System}
@@ -38,7 +38,7 @@ pub data Traps (s : Virtual) (lone : Outcome) (trap : Trap) : Type 0 where
 
 -- the guest-page fault of an access without a place tells which access it is, and of what kind
 pub record IsTold (missing : MissingPlace) : Type 0 where
-  pub access : access_of (guest_page_fault missing.access) ≡ missing.access
+  pub access : access_of (faults_of missing.access).guest_page ≡ missing.access
   pub kind : cond (is_implicit missing.kind) Implicit missing.access ≡ missing.kind
 
 -- what an outcome on the hart is to the lone machine in this state

@@ -10,14 +10,14 @@ use Rattle.arch_defs.specs.declared.modes.Mode.TheVariants.{HS, U, VS, VU}
 use Rattle.arch_defs.specs.declared.modes.Trap.{Trap}
 use Rattle.arch_defs.specs.declared.modes.TheConstants.{ECALL_FROM_VS, VIRTUAL_INSTRUCTION}
 use Rattle.arch_defs.specs.declared.registers.Csrs.{Csrs}
-use Rattle.arch_defs.specs.declared.registers.GuestRoot.{GuestRoot}
+use Rattle.arch_defs.specs.declared.roots.GuestRoot.{GuestRoot}
 use Rattle.arch_defs.specs.declared.registers.Regs.{Regs}
 use Rattle.arch_defs.specs.declared.registers.Virtual.{Virtual}
 use Rattle.arch_defs.specs.Interrupts.{interrupt_of, vs_bit}
 use Rattle.arch_defs.specs.Frames.{in_blocks}
 use Rattle.arch_defs.specs.Layouts.{Layout}
 use Rattle.arch_defs.specs.Memory.{ram_base, reading_of}
-use Rattle.arch_defs.specs.Traps.{access_fault, entered_at, entered_vs, exception, is_delegated, is_virtual, target}
+use Rattle.arch_defs.specs.Traps.{entered_at, entered_vs, exception, is_delegated, is_virtual, target, faults_of}
 use Rattle.arch_defs.proofs.FrameSets.{only_none}
 use Rattle.machine_defs.specs.declared.events.Event.TheVariants as event
 use Rattle.machine_laws.specs.HostPlaces.{in_ram, memory_place}
@@ -209,7 +209,7 @@ pub exception_follows : (part : Layout) {pool : Pooled} (root : GuestRoot) (m : 
 exception_follows part root m memory lacks cause tval good at ready = exception_by part root m memory lacks cause tval good at ready (is_virtual m.platform.virt.mode) refl
 
 -- an access fault is the guest's own
-pub access_fault_own : (access : Access) → IsOwn (access_fault access)
+pub access_fault_own : (access : Access) → IsOwn (faults_of access).access
 access_fault_own Fetch = own_1
 access_fault_own Load = own_5
 access_fault_own Store = own_7

@@ -1,5 +1,5 @@
 -- How the host reads the trap at which the hart leaves a step of the guest to it: five cases.
-use Rattle.std.specs.Prelude.{ℕ, ◌≡◌, ◌*◌, ◌^◌, ◌==◌, ◌||◌, nat_lt, Bool, true, false, Option, Some, None, option_and_then, if◌then◌else◌}
+use Rattle.std.specs.Prelude.{ℕ, ◌≡◌, ◌*◌, ◌^◌, ◌==◌, ◌||◌, nat_lt, Bool, true, false, Option, Some, None, option_and_then, if◌then◌else◌, ◌-◌}
 use Rattle.arch_defs.specs.declared.cached.Entry.{Entry}
 use Rattle.arch_defs.specs.declared.modes.Access.{Access}
 use Rattle.arch_defs.specs.declared.modes.Access.TheVariants.{Fetch, Load, Store, Implicit}
@@ -10,6 +10,7 @@ use Rattle.arch_defs.specs.declared.walks.MissingPlace.{MissingPlace}
 use Rattle.arch_defs.specs.Memory.{ram_base, reading_of}
 use Rattle.arch_defs.specs.SecondStage.{missing_place_trap}
 use Rattle.arch_defs.specs.Traps.{exception, is_virtual}
+use Rattle.arch_defs.specs.Walk.{guest_bits}
 use Rattle.arch_defs.specs.WalkedEntries.{entry_by_walk, folds}
 use Rattle.op_defs.specs.declared.ops.Op.{Op}
 use Rattle.op_defs.specs.Table.{op_of}
@@ -69,11 +70,11 @@ instruction_exit trap (Some op) = Instruction op
 instruction_exit trap None = Own trap
 
 -- a guest-page fault, by whether the guest folds. If it does, the front space has no place for the access,
--- whose guest physical address has 41 bits: one of more has no walk, and its fault is the guest's own
+-- whose guest physical address a table can translate: one beyond has no walk, and its fault is the guest's own
 -- (8.5.1). If not, the host table has no place outside RAM
 abbrev pub missing_place_exit : Virtual → Trap → Bool → Exit
 missing_place_exit virt trap true =
-    if nat_lt trap.tval2 (2 ^ 39) then Missing (missing_place_of virt trap) else Own trap
+    if nat_lt trap.tval2 (2 ^ (guest_bits - 2)) then Missing (missing_place_of virt trap) else Own trap
 missing_place_exit virt trap false = OutsideRam (exception virt.mode (access_fault_for trap.cause) trap.tval)
 
 -- another trap, by the guest's V: the guest's HS calls the environment, or the guest does not delegate it

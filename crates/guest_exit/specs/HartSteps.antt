@@ -4,7 +4,7 @@ use Rattle.arch_defs.specs.declared.cached.Entry.{Entry}
 use Rattle.arch_defs.specs.declared.levels.TheConstants.{VS_SOFTWARE, VS_TIMER, VS_EXTERNAL}
 use Rattle.arch_defs.specs.declared.modes.TheConstants.{VIRTUAL_INSTRUCTION}
 use Rattle.arch_defs.specs.declared.registers.Virtual.{Virtual}
-use Rattle.arch_defs.specs.declared.registers.GuestRoot.{GuestRoot}
+use Rattle.arch_defs.specs.declared.roots.GuestRoot.{GuestRoot}
 use Rattle.arch_defs.specs.Frames.{Frames, Only, in_blocks, joined}
 use Rattle.arch_defs.specs.declared.registers.Interrupts.{Interrupts}
 use Rattle.arch_defs.specs.Interrupts.{due, vs_bit}
@@ -29,7 +29,7 @@ use Rattle.machine_laws.specs.StorableStates.{IsStorable}
 use Rattle.host_tables.specs.Walks.{IsHeld}
 use Rattle.shadow_pool.specs.Slots.{Pooled, TidyPool, front_root, pool_frames, room_of, spaces_of}
 use Rattle.rv64_hart.specs.Steps.{HartEnd, Goes, Exits, attempt_of, end_by, enters_vs, hart_step}
-use Rattle.world_switch.specs.Hosting.{guest_state_after, hart_state_in, hosted_level, table_from}
+use Rattle.world_switch.specs.Hosting.{guest_state_after, hart_state_in, hosted_level, root_at}
 use Rattle.world_switch.specs.Laws.{KeepsHidden}
 use Rattle.guest_exit.specs.ExitCases.{IsLeft, exit_of}
 
@@ -56,7 +56,7 @@ abbrev pub root_frame_for : Layout → Pooled → Virtual → ℕ
 root_frame_for part pool virt = if folds virt then front_root pool.slots else part.first_root
 
 unfoldable pub root_for : Layout → Pooled → Virtual → GuestRoot
-root_for part pool virt = table_from (root_frame_for part pool virt)
+root_for part pool virt = root_at part (root_frame_for part pool virt)
 
 -- the frames that steps of a guest may change: of its blocks, and of its spaces' tables
 abbrev pub changing : Layout → Pooled → Frames

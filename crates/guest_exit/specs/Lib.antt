@@ -1,7 +1,10 @@
-pub mod ExitCases
-pub mod HartEntry
-pub mod HartExit
-pub mod HartSteps
+-- A guest as the host has it, and its machine
+pub mod View
 pub mod Starting
 pub mod Steps
-pub mod View
+-- The entry of the hart
+pub mod HartEntry
+pub mod HartSteps
+-- The exit from it
+pub mod ExitCases
+pub mod HartExit

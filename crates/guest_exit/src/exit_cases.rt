@@ -1,6 +1,7 @@
 // How a step is read that the hart has left to the host.
 
-ghost use Rattle.std.specs.Prelude.{◌≡◌, ◌^◌, ◌<◌};
+ghost use Rattle.std.specs.Prelude.{◌≡◌, ◌-◌, ◌^◌, ◌<◌};
+ghost use Rattle.arch_defs.specs.Walk.{guest_bits};
 ghost use Rattle.arch_defs.specs.WalkedEntries.{folds};
 ghost use Rattle.hcsr_emulation.specs.Ends.{is_decided};
 ghost use Rattle.guest_exit.specs.ExitCases.{access_fault_for, access_of, decided_at, decided_in, exit_of, instruction_exit, is_guest_page_code, missing_place_exit, missing_place_of};
@@ -14,12 +15,11 @@ use arch_defs::{
 use hcsr_emulation::is_decided;
 use op_defs::Op;
 use rv64_decode::decode;
-use trap_delegation::{exception, is_virtual};
 use two_stage_walk::MissingPlace;
 
-// Guest physical addresses have 41 bits, of which a trap does not tell the low two (Privileged Architecture
-// 20211203, 8.2.8 and 8.5.1).
-const PAST_ADDRESSES: u64 = 0x80_0000_0000;
+// Guest physical addresses have at most 50 bits, of which a trap does not tell the low two (Privileged
+// Architecture 20211203, 8.2.8 and 8.5.1).
+const PAST_ADDRESSES: u64 = 0x1_0000_0000_0000;
 
 /// A step that the hart has left to the host.
 #[derive(Clone, Copy)]
@@ -47,7 +47,7 @@ pub fn exit_of(virt: &Virtual, trap: &Trap) -> Exit
     if trap.cause == VIRTUAL_INSTRUCTION {
         return instruction_exit(trap);
     }
-    if is_virtual(virt.mode) {
+    if virt.mode.is_virtual() {
         Exit::Own(*trap)
     } else {
         Exit::Call
@@ -67,7 +67,11 @@ fn missing_place_exit(virt: &Virtual, trap: &Trap) -> Exit
     ensures { result ≡ missing_place_exit virt.now trap.now (folds virt.now) }
 {
     if !folds(virt) {
-        return Exit::OutsideRam(exception(virt.mode, access_fault_for(trap.cause), trap.tval));
+        return Exit::OutsideRam(Trap::of_exception(
+            virt.mode,
+            access_fault_for(trap.cause),
+            trap.tval,
+        ));
     }
     if trap.tval2 < PAST_ADDRESSES {
         Exit::Missing(missing_place_of(virt, trap))
@@ -89,7 +93,7 @@ fn access_fault_for(code: u64) -> u64
 
 // What the hart's trap tells of the access.
 fn missing_place_of(virt: &Virtual, trap: &Trap) -> MissingPlace
-    requires small { trap.now.tval2 < 2 ^ 39 }
+    requires small { trap.now.tval2 < 2 ^ (guest_bits - 2) }
     ensures { result ≡ missing_place_of virt.now trap.now }
 {
     let access = access_of(trap.cause);

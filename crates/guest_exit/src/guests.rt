@@ -13,7 +13,6 @@ use arch_defs::{HartState, Part, Virtual};
 use console_dev::Console;
 use machine_defs::Status;
 use shadow_pool::Pool;
-use trap_delegation::is_virtual;
 use virtual_timer::Clock;
 use world_switch::{fix_up, save};
 
@@ -98,7 +97,7 @@ impl Guest {
 fn take_back(hart: &HartState, part: &Part, trapped: bool, virt: &mut Virtual)
     ensures { TakesBack part.now hart.now trapped virt.old virt.new }
 {
-    let into_hs = trapped && !is_virtual(virt.mode);
+    let into_hs = trapped && !virt.mode.is_virtual();
     save(hart, part, virt);
     if into_hs {
         fix_up(virt);
@@ -109,5 +108,5 @@ fn take_back(hart: &HartState, part: &Part, trapped: bool, virt: &mut Virtual)
 pub(crate) fn folds(virt: &Virtual) -> bool
     ensures { result ≡ folds virt.now }
 {
-    is_virtual(virt.mode) && virt.csrs.hgatp.is_table()
+    virt.mode.is_virtual() && virt.csrs.hgatp.is_table()
 }

@@ -12,7 +12,6 @@ use crate::guests::{Guest, folds};
 use arch_defs::Virtual;
 use phys_mem::PhysMem;
 use rv64_hart::{Hart, Stop, Tally, Why};
-use trap_delegation::is_virtual;
 use world_switch::load;
 
 /// Enters the hart for at most `limit` steps of the guest, which are steps of its lone machine, and gives the
@@ -62,7 +61,7 @@ fn root_frame_of(guest: &Guest) -> u64
 fn is_watched(virt: &Virtual) -> bool
     ensures { result ≡ is_watched virt.now }
 {
-    !is_virtual(virt.mode)
+    !virt.mode.is_virtual()
 }
 
 fn is_vs_trap(why: &Why) -> bool

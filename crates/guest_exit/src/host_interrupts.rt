@@ -10,8 +10,8 @@ ghost use Rattle.guest_exit.specs.View.{IsPlaced, KeepsSpaces};
 
 use crate::guests::Guest;
 use crate::traps::take;
-use arch_defs::{Interrupts, VS_EXTERNAL, VS_SOFTWARE, VS_TIMER, Virtual};
-use trap_delegation::{interrupt_trap, is_virtual, pending};
+use arch_defs::{Interrupts, Trap, VS_EXTERNAL, VS_SOFTWARE, VS_TIMER, Virtual};
+use trap_delegation::pending;
 
 /// Takes the interrupt that is due where the hart cannot: with V = 0 one of VS that is not delegated, with V
 /// = 1 one for HS (Privileged Architecture 20211203, 8.2.2 and 8.2.3). Answers whether there was one, which
@@ -28,7 +28,7 @@ pub fn interrupt(guest: &mut Guest) -> bool
     match pending(&guest.virt.csrs, guest.virt.mode) {
         Some(code) => {
             if is_hosts(code, &guest.virt) {
-                take(&mut guest.virt, &interrupt_trap(code));
+                take(&mut guest.virt, &Trap::of_interrupt(code));
                 guest.tick();
                 true
             } else {
@@ -43,7 +43,7 @@ pub fn interrupt(guest: &mut Guest) -> bool
 fn is_hosts(code: u64, virt: &Virtual) -> bool
     ensures { result ≡ is_hosts (Some code) (is_virtual virt.now.mode) virt.now.csrs.hideleg }
 {
-    if is_virtual(virt.mode) {
+    if virt.mode.is_virtual() {
         !is_delegated(&virt.csrs.hideleg, code)
     } else {
         matches!(code, VS_SOFTWARE | VS_TIMER | VS_EXTERNAL)

@@ -23,7 +23,6 @@ use arch_defs::{Fence, Key, Part, Virtual};
 use hcsr_emulation::{Accessed, Emulated};
 use op_defs::Op;
 use phys_mem::{PhysMem, Ram};
-use trap_delegation::is_virtual;
 use two_stage_walk::ram_is_whole;
 
 /// Makes an instruction on which the mode decides, where it is allowed: an instruction on a register; an
@@ -67,7 +66,7 @@ fn access_registers(guest: &mut Guest, memory: &mut PhysMem, op: Op) -> Handled
     ensures within { KeepsOutside guest.old memory.old guest.new memory.new }
     ensures told { IsTold result guest.old guest.new }
 {
-    let nested = is_virtual(guest.virt.mode);
+    let nested = guest.virt.mode.is_virtual();
     match hcsr_emulation::access(&mut guest.virt, op) {
         Accessed::Done => finish(guest, memory, nested),
         Accessed::Raise(trap) => raise(guest, &trap),
@@ -87,7 +86,7 @@ fn wait_or_fence(guest: &mut Guest, memory: &mut PhysMem, op: Op) -> Handled
     ensures within { KeepsOutside guest.old memory.old guest.new memory.new }
     ensures told { IsTold result guest.old guest.new }
 {
-    let nested = is_virtual(guest.virt.mode);
+    let nested = guest.virt.mode.is_virtual();
     let pc = guest.virt.regs.pc;
     match hcsr_emulation::emulate(&mut guest.virt, op) {
         Emulated::Done => finish(guest, memory, nested),

@@ -1,4 +1,5 @@
--- The inputs that a guest is given, each a moment and a byte that is there from this moment of the clock on (own).
+-- The inputs that a guest is given, each a moment and a byte that is there from this moment of the clock on
+-- (own).
 use Rattle.std.specs.Prelude.{ℕ, ◌≤◌, ◌<◌, ◌^◌, List, All, length}
 use Rattle.std.specs.List.Sorted.{IsNonDecreasingBy}
 

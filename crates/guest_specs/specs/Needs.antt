@@ -6,7 +6,7 @@ use Rattle.guest_specs.specs.declared.needs.Need.{Need}
 -- the tables below the root of a space that may have so many entries: an entry needs at most one on each
 -- level below the root's
 abbrev pub tables_for : ℕ → ℕ
-tables_for entries = 2 * entries
+tables_for entries = 3 * entries
 
 -- its blocks of 512 frames; the four frames of the host table's root and the one of its other table; and for
 -- each space the four frames of its root and those of its other tables
@@ -18,6 +18,10 @@ pub record IsNeed (need : Need) : Type 0 where
   pub blocks : need.blocks ≤ 32
   pub spaces : need.spaces ≤ 8
   pub entries : need.entries ≤ 256
+
+-- the most frames that are such a need
+abbrev pub most_needed : ℕ
+most_needed = 512 * 32 + 5 + 8 * (4 + tables_for 256)
 
 -- what a guest needs: its RAM in blocks, and tables for so many cached spaces of at most so many entries each
 abbrev pub need_of : GuestSpec → Need

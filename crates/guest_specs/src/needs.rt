@@ -1,11 +1,11 @@
 // What a guest needs of machine memory.
 
 ghost use Rattle.std.specs.Prelude.{◌≡◌, ◌≤◌};
-ghost use Rattle.guest_specs.specs.Needs.{IsNeed, frames_needed};
+ghost use Rattle.guest_specs.specs.Needs.{IsNeed, frames_needed, most_needed};
 
 /// How many tables below its root a space has for each of its entries: an entry needs at most one on each
 /// level below the root's.
-pub const TABLES_PER_ENTRY: u64 = 2;
+pub const TABLES_PER_ENTRY: u64 = 3;
 
 /// What a guest needs of machine memory: so many blocks for its RAM, and tables for so many cached
 /// spaces of at most so many entries each.
@@ -22,7 +22,7 @@ impl Need {
     pub fn frames(&self) -> u64
         requires { IsNeed self.now }
         ensures value { result ≡ frames_needed self.now }
-        ensures most { result ≤ 20517 }
+        ensures most { result ≤ most_needed }
     {
         512 * self.blocks + 5 + self.spaces * (4 + TABLES_PER_ENTRY * self.entries)
     }

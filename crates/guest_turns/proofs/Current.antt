@@ -7,7 +7,7 @@ use Rattle.machine_defs.specs.Tries.{try}
 use Rattle.guest_exit.specs.Steps.{Fills, MakesStep}
 use Rattle.guest_turns.proofs.Tries.{LeavesStep, try_step}
 
-left_current : (m : Machine) (t : Tried) → with_pending_lines m.platform ≡ m.platform → LeavesStep m t → with_pending_lines (left_by m t).platform ≡ (left_by m t).platform
+pub left_current : (m : Machine) (t : Tried) → with_pending_lines m.platform ≡ m.platform → LeavesStep m t → with_pending_lines (left_by m t).platform ≡ (left_by m t).platform
 left_current m (Ended after event) e h = h.current
 left_current m WaitsForGood e h = ap {A = Platform} (λ p. record p { status = status.Waiting }) e
 

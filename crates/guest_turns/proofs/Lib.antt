@@ -1,6 +1,7 @@
 pub mod Accounts
 pub mod Among
 pub mod CalmSteps
+pub mod ClearSteps
 pub mod Current
 pub mod Parts
 pub mod Placing

@@ -3,7 +3,7 @@ use Rattle.std.proofs.Common.{true, ◌≡◌, ◌≢◌, ℕ, ◌+◌, ◌*◌,
 use Rattle.std.specs.List.{All}
 use Rattle.std.proofs.lemmas.Bool.{cases_eq}
 use Rattle.std.proofs.lemmas.List.{ext_get_or, get_or-map, get_or_append_left, get_or_default, get_or_push, length-map, length_push}
-use Rattle.arch_defs.specs.Frames.{Frames, LieIn, Only, Same, Within, in_blocks}
+use Rattle.arch_defs.specs.Frames.{Frames, LieIn, Only, Same, Within, in_blocks, most_frames}
 use Rattle.arch_defs.specs.Layouts.{Layout, NamesEachOnce, host_frames, in_tables, named_by, no_part}
 use Rattle.arch_defs.specs.Memory.{block_size, loaded, zeros}
 use Rattle.guest_specs.specs.Needs.{IsNeed, need_of}
@@ -236,7 +236,7 @@ pub no_steps : (spec : GuestSpec) → (start spec).platform.steps ≡ 0
 unfolding start
 no_steps spec = refl
 
-memory_size : (frames size : ℕ) → frames ≤ 131072 → size ≡ frames * 4096 → size ≤ 2 ^ 29
+memory_size : (frames size : ℕ) → frames ≤ most_frames → size ≡ frames * 4096 → size ≤ 2 ^ 29
 memory_size frames size few is = omega (arith, few, is)
 
 bounded : (clock steps : ℕ) → clock ≡ 0 → clock ≤ 2 ^ 62 + steps
@@ -300,7 +300,7 @@ pub record AreBooted (specs : List GuestSpec) (parts : List Layout) (guests : Li
   pub parts_are : parts_of guests ≡ parts
 
 booted_from : (first : GuestSpec) (one : Guest) (specs : List GuestSpec) (parts : List Layout) (frames : ℕ) (guests : List Guest) (memory : List ℕ) → length specs ≤ 16
-    → All IsBootable specs → IsSplit (needs_of specs) parts frames → frames ≤ 131072 → length memory ≡ frames * 4096 → AreLaidOut specs parts (length specs) memory
+    → All IsBootable specs → IsSplit (needs_of specs) parts frames → frames ≤ most_frames → length memory ≡ frames * 4096 → AreLaidOut specs parts (length specs) memory
     → AreAtStart specs parts guests → AreBooted specs parts guests memory
 booted_from first one specs parts frames guests memory few bootable split most size laid at =
     record { hosted = record { few = rw at.count few; each = each; apart = rw parts_are split.apart }; machines = machines; parts_are = parts_are }
@@ -342,7 +342,7 @@ booted_from first one specs parts frames guests memory few bootable split most s
         ∙ sym (get_or-map start specs i first no_machine inside))
 
 pub booted : (specs : List GuestSpec) (parts : List Layout) (frames : ℕ) (guests : List Guest) (memory : List ℕ) → 1 ≤ length specs → length specs ≤ 16
-    → All IsBootable specs → IsSplit (needs_of specs) parts frames → frames ≤ 131072 → length memory ≡ frames * 4096 → AreLaidOut specs parts (length specs) memory
+    → All IsBootable specs → IsSplit (needs_of specs) parts frames → frames ≤ most_frames → length memory ≡ frames * 4096 → AreLaidOut specs parts (length specs) memory
     → AreAtStart specs parts guests → AreBooted specs parts guests memory
 booted [] parts frames guests memory some few bootable split most size laid at = absurd (omega arith)
 booted (first ∷ specs) parts frames [] memory some few bootable split most size laid at = absurd (omega (arith, at.count))
@@ -371,7 +371,7 @@ rooms_of (first ∷ specs) each i d inside =
 
 -- all of it, with the slices that the calls take
 pub booted_by : (specs : List GuestSpec) (shared laid_out : List GuestSpec) (parts laid_parts start_parts : List Layout) (frames : ℕ) (guests : List Guest)
-    (fresh memory : List ℕ) → 1 ≤ length specs → length specs ≤ 16 → All IsBootable specs → frames_for specs ≤ 131072 → shared ≡ specs → laid_out ≡ specs → laid_parts ≡ parts → start_parts ≡ parts
+    (fresh memory : List ℕ) → 1 ≤ length specs → length specs ≤ 16 → All IsBootable specs → frames_for specs ≤ most_frames → shared ≡ specs → laid_out ≡ specs → laid_parts ≡ parts → start_parts ≡ parts
     → IsSplit (needs_of shared) parts frames → frames ≡ frames_for shared → fresh ≡ zeros (frames * 4096) → length memory ≡ length fresh
     → AreLaidOut laid_out laid_parts (length laid_out) memory → AreAtStart specs start_parts guests → AreBooted specs parts guests memory
 booted_by specs shared laid_out parts laid_parts start_parts frames guests fresh memory some few bootable most shared_is laid_is laid_parts_are start_parts_are split frames_are fresh_is size laid started =

@@ -11,7 +11,7 @@ use Rattle.guest_turns.specs.TurnLists.{RunsMakeAtMost}
 use Rattle.guest_turns.proofs.Tries.{LeavesStep, try_step}
 
 -- fills leave the platform as it is
-same_platform : (m : Machine) (n : ℕ) → (after_fills n m).platform ≡ m.platform
+pub same_platform : (m : Machine) (n : ℕ) → (after_fills n m).platform ≡ m.platform
 same_platform m n = ap (λ m. m.platform) (only_spaces m n)
 
 left_adds : (m : Machine) (t : Tried) → LeavesStep m t → (left_by m t).platform.steps ≤ m.platform.steps + 1

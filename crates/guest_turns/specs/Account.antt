@@ -14,7 +14,7 @@ pub record HasRoomForTurn (m : Machine) (k : ℕ) (tally : Counts) : Type 0 wher
 
 -- the account of a turn of at most k steps of a machine, which made this many: the hart made each plain step,
 -- and no more steps than the machine. Each step took at most as many entries as a space has room for cached
--- translations, and nine. Where all k steps were calm, all took one
+-- translations, and eleven. Where all k steps were calm, all took one
 pub record Accounted (m : Machine) (k made : ℕ) (old new : Counts) : Type 0 where
   pub entries_grow : old.entries ≤ new.entries
   pub entries_least : 0 < instruction_count (events m k) → old.entries < new.entries

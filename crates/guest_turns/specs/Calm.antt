@@ -1,8 +1,9 @@
 -- Calm steps, of which one entry of the hart makes all of a turn's (own).
 use Rattle.std.specs.Prelude.{ℕ, zero, suc, ◌≡◌, ◌<◌, None}
 use Rattle.guest_specs.specs.declared.statuses.Status.TheVariants.{Running}
+use Rattle.arch_defs.specs.Registers.{clear_interrupts}
 use Rattle.machine_defs.specs.Fills.{missing_entry}
-use Rattle.machine_defs.specs.Machine.{Machine}
+use Rattle.machine_defs.specs.Machine.{Machine, with_pending_lines}
 use Rattle.machine_defs.specs.Runs.{event_in, plain_count, run}
 use Rattle.machine_defs.specs.Tries.{try}
 use Rattle.guest_exit.specs.HartEntry.{Lasts}
@@ -19,6 +20,18 @@ pub record IsCalm (m : Machine) : Type 0 where
 pub record AreCalm (m : Machine) (k : ℕ) : Type 0 where
   pub each : (i : ℕ) → i < k → IsCalm (run m i)
   pub lasts : 0 < k → Lasts m.platform k
+
+-- a calm step at which no bit of sip or hip is set; hip shows hvip (Privileged Architecture 20211203, 4.1.3
+-- and 8.2.3)
+pub record IsClear (m : Machine) : Type 0 where
+  pub calm : IsCalm m
+  pub sip : m.platform.virt.csrs.sip ≡ clear_interrupts
+  pub hip : m.platform.virt.csrs.hvip ≡ clear_interrupts
+
+-- such steps are calm together, whatever is enabled, where sip shows at first what the clock sets
+abbrev pub ClearStepsAreCalm : Type 0
+ClearStepsAreCalm = (m : Machine) (k : ℕ) → with_pending_lines m.platform ≡ m.platform
+    → ((i : ℕ) → i < k → IsClear (run m i)) → AreCalm m k
 
 -- the entries of a turn of k calm steps: one, if there are steps
 abbrev pub calm_entries : ℕ → ℕ

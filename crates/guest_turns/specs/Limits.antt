@@ -1,5 +1,6 @@
 -- What a host can boot.
 use Rattle.std.specs.Prelude.{ℕ, ◌*◌, ◌≤◌, List, length, map}
+use Rattle.arch_defs.specs.Frames.{most_frames}
 use Rattle.std.specs.List.{All}
 use Rattle.guest_specs.specs.declared.needs.Need.{Need}
 use Rattle.guest_specs.specs.Inputs.{AreInputs}
@@ -33,4 +34,4 @@ pub record AreBootable (guests : List GuestSpec) : Type 0 where
   pub some : 1 ≤ length guests
   pub few : length guests ≤ 16
   pub each : All IsBootable guests
-  pub frames : frames_for guests ≤ 131072
+  pub frames : frames_for guests ≤ most_frames

@@ -1,6 +1,7 @@
 // Guests in machine memory, at their start.
 
 ghost use Rattle.std.specs.Prelude.{◌≡◌, ◌*◌, ◌≤◌, length, All, IfOk};
+ghost use Rattle.arch_defs.specs.Frames.{most_frames};
 ghost use Rattle.arch_defs.specs.Memory.{zeros};
 ghost use Rattle.frame_split.specs.Shares.{IsSplit};
 ghost use Rattle.guest_turns.specs.Hosting.{AreAtStart, AreLaidOut, IsAtStart};
@@ -22,7 +23,7 @@ use virtual_timer::Clock;
 pub fn share(alloc: Global, guests: &[GuestSpec]) -> Result<Split, NoMemory>
     requires few { length guests.now ≤ 16 }
     requires each { All IsBootable guests.now }
-    requires frames { frames_for guests.now ≤ 131072 }
+    requires frames { frames_for guests.now ≤ most_frames }
     ensures split { IfOk result (λ split. IsSplit (needs_of guests.now) split.parts.items split.frames) }
     ensures frames { IfOk result (λ split. split.frames ≡ frames_for guests.now) }
 {

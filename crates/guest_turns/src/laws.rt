@@ -1,5 +1,6 @@
 // Laws of turns.
 
+ghost use Rattle.guest_turns.specs.Calm.{ClearStepsAreCalm};
 ghost use Rattle.guest_turns.specs.TurnLists.{OrderHasNoEffect, RunsItsOwnTurns, RunsMakeAtMost, TurnsCountAlike, TurnsKeepCount};
 
 /// After turns of guests in any order each lone machine has run for the sum of the steps of its own turns. So
@@ -15,4 +16,9 @@ pub fn turns_are_apart()
 pub fn turns_count_alike()
     ensures alike { TurnsCountAlike }
     ensures most { RunsMakeAtMost }
+{}
+
+/// Steps that are plain and fill nothing, and at which no bit of sip or hip is set, are calm together.
+pub fn clear_steps_are_calm()
+    ensures { ClearStepsAreCalm }
 {}

@@ -7,4 +7,4 @@ mod laws;
 mod turning;
 
 pub use hosts::Host;
-pub use laws::{turns_are_apart, turns_count_alike};
+pub use laws::{clear_steps_are_calm, turns_are_apart, turns_count_alike};

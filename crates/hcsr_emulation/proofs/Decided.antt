@@ -3,13 +3,13 @@ use Rattle.std.proofs.Common.{◌≡◌, ℕ, ◌%◌, Bool, true, false, refl, 
 use Rattle.std.specs.Prelude.{◌==◌}
 use Rattle.arch_defs.specs.declared.registers.Regs.{Regs}
 use Rattle.arch_defs.specs.Bits.{add64}
-use Rattle.arch_defs.specs.Registers.{read}
+use Rattle.arch_defs.specs.Registers.{read, next}
 use Rattle.op_defs.specs.declared.ops.Effect.{Effect}
 use Rattle.op_defs.specs.declared.ops.Effect.TheVariants as effect
 use Rattle.op_defs.specs.declared.ops.Op.{Op}
 use Rattle.op_defs.specs.declared.ops.Op.TheVariants as op
 use Rattle.op_defs.specs.declared.ops.Privileged.{Privileged}
-use Rattle.op_defs.specs.Meaning.{address_at, branch, even, is_branch_taken, jump, meaning, next}
+use Rattle.op_defs.specs.Meaning.{address_at, branch, even, is_branch_taken, jump, meaning}
 use Rattle.rv64_asm.specs.Laws.{is_system_op}
 use Rattle.hcsr_emulation.specs.Ends.{is_decided}
 

@@ -12,7 +12,6 @@ use op_defs::{DataAccess, Effect, Op, Privileged};
 use op_effects::effect_of;
 use privileged_ops::{Performed, perform, refusal_code};
 use rv64_asm::encode;
-use trap_delegation::exception;
 
 /// How an instruction ended.
 #[derive(Clone, Copy, PartialEq, Eq)]
@@ -63,7 +62,7 @@ fn refused(state: &Virtual, op: Op, end: CsrEnd) -> Trap
     requires fits { fits op ≡ true }
     ensures { result ≡ exception state.now.mode (refusal_code end) (encoded op) }
 {
-    exception(state.mode, refusal_code(end), encode(&op) as u64)
+    Trap::of_exception(state.mode, refusal_code(end), encode(&op) as u64)
 }
 
 /// Whether the mode decides on an instruction.

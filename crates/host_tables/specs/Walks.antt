@@ -1,15 +1,14 @@
 -- What the walk of a host table gives.
 use Rattle.std.specs.Prelude.{ℕ, ◌≡◌, ◌+◌, ◌-◌, ◌*◌, ◌/◌, ◌≤◌, ◌^◌, ◌&&◌, Bool, true, List, length, slice_index, nat_le, nat_lt, if◌then◌else◌}
 use Rattle.arch_defs.specs.declared.modes.Access.{Access}
-use Rattle.arch_defs.specs.declared.registers.GuestMode.TheVariants as mode
-use Rattle.arch_defs.specs.declared.registers.GuestRoot.TheVariants as root
-use Rattle.arch_defs.specs.declared.walks.Shape.TheVariants.{Sv39x4}
+use Rattle.arch_defs.specs.declared.roots.GuestRoot.TheVariants as root
 use Rattle.arch_defs.specs.declared.walks.WalkEnd.{WalkEnd}
 use Rattle.arch_defs.specs.declared.walks.WalkEnd.TheVariants.{Leaf, PageFault}
 use Rattle.arch_defs.specs.Frames.{LieIn}
 use Rattle.arch_defs.specs.Layouts.{Layout, host_frames, named_by}
 use Rattle.arch_defs.specs.Memory.{ram_base, block_size}
 use Rattle.arch_defs.specs.Ram.{host_answer}
+use Rattle.arch_defs.specs.Roots.{guest_shape, host_mode}
 use Rattle.arch_defs.specs.SecondStage.{second_under}
 use Rattle.arch_defs.specs.Walk.{EntryReading, walk}
 use Rattle.host_tables.specs.HostTable.{IsHostTable}
@@ -34,7 +33,7 @@ host_walk blocks address =
 abbrev pub WalksToRam : Layout → Type 0
 WalksToRam part = (memory : List ℕ) (reading : EntryReading) (address : ℕ) (access : Access)
     → IsHostTable part memory → ReadsIn (host_frames part) memory reading
-    → walk reading part.first_root Sv39x4 address access ≡ host_walk part.blocks address
+    → walk reading part.first_root (guest_shape host_mode) address access ≡ host_walk part.blocks address
 
 -- memory of at most 512 MiB holds such a part, with its host table
 pub record IsHeld (part : Layout) (memory : List ℕ) : Type 0 where
@@ -45,5 +44,5 @@ pub record IsHeld (part : Layout) (memory : List ℕ) : Type 0 where
 -- the second stage by that table has each guest physical address of RAM at its place, and no other
 abbrev pub GivesRam : Layout → Type 0
 GivesRam part = (memory : List ℕ) (mxr : Bool) (vmid address : ℕ) (access : Access) → IsHeld part memory
-    → second_under 0 memory mxr (root.Table mode.Sv39x4 vmid part.first_root) address access
+    → second_under 0 memory mxr (root.Table host_mode vmid part.first_root) address access
     ≡ host_answer part.blocks address

@@ -16,9 +16,9 @@ use Rattle.arch_defs.specs.declared.walks.MissingPlace.{MissingPlace}
 use Rattle.arch_defs.specs.declared.widths.Width.{Width}
 use Rattle.arch_defs.specs.declared.widths.Width.TheVariants.{Word}
 use Rattle.arch_defs.specs.Memory.{Reading, SecondStage, Stored}
-use Rattle.arch_defs.specs.Registers.{advanced}
+use Rattle.arch_defs.specs.Registers.{advanced, passed, sets}
 use Rattle.arch_defs.specs.Translation.{first_stage}
-use Rattle.arch_defs.specs.Traps.{exception, misaligned_fault, page_fault}
+use Rattle.arch_defs.specs.Traps.{exception, faults_of}
 use Rattle.arch_defs.specs.Widths.{bytes_in, extended}
 use Rattle.op_defs.specs.declared.ops.DataAccess.{DataAccess}
 use Rattle.op_defs.specs.declared.ops.Op.{Op}
@@ -31,7 +31,7 @@ use Rattle.op_defs.specs.Meaning.{meaning}
 use Rattle.op_defs.specs.Table.{op_of, is_system}
 use Rattle.machine_defs.specs.declared.events.Event.{Event}
 use Rattle.machine_defs.specs.declared.events.Event.TheVariants.{Plain, System}
-use Rattle.machine_defs.specs.Outcomes.{Outcome, Done, Trapped, Missed, Called, passed, sets}
+use Rattle.machine_defs.specs.Outcomes.{Outcome, Done, Trapped, Missed, Called}
 use Rattle.machine_defs.specs.Privileges.{privileged}
 
 -- why an access is not made: it is an exception, or the second stage has no place for it
@@ -54,7 +54,7 @@ located_at mode va access address None =
 -- that it serves
 abbrev pub located_by : SecondStage → Mode → ℕ → Access → Found → Located
 located_by second mode va access (Passes address) = located_at mode va access address (second address access)
-located_by second mode va access PageFaults = Fails (Faults (exception mode (page_fault access) va))
+located_by second mode va access PageFaults = Fails (Faults (exception mode (faults_of access).page va))
 located_by second mode va access (MissesEntry place) =
     Fails (Misses (record { address = place; kind = Implicit; access = access; va = va; mode = mode }))
 
@@ -68,7 +68,7 @@ located second reading csrs mode va access =
 abbrev pub accessed : SecondStage → Reading → Csrs → Mode → ℕ → Width → Access → Located
 accessed second reading csrs mode va width access =
     if va % bytes_in width == 0 then located second reading csrs mode va access
-    else Fails (Faults (exception mode (misaligned_fault access) va))
+    else Fails (Faults (exception mode (faults_of access).misaligned va))
 
 -- how an instruction goes on at the place of its access; where there is none, it ends there
 abbrev pub at_place : Located → (ℕ → Outcome) → Outcome

@@ -52,10 +52,10 @@ unfoldable pub after_fills : ℕ → Machine → Machine
 after_fills zero m = m
 after_fills (suc n) m = after_fill (after_fills n) m (missing_entry m)
 
--- how many translations an instruction asks for at most: those of three first-stage entries and of the
+-- how many translations an instruction asks for at most: those of four first-stage entries and of the
 -- address itself, for pc and for the data
 abbrev pub needed : ℕ
-needed = 8
+needed = 10
 
 -- how many fills a step makes at most
 abbrev pub most_fills : Machine → ℕ

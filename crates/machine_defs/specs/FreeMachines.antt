@@ -67,7 +67,8 @@ while_active = record {
 
 -- a translation that may be cached: under hgatp's VMID, that of a walk of its table as RAM is, for an access
 -- of any kind at any address
-pub record IsWalked (caching : Caching) (virt : Virtual) (ram : List ℕ) (cached : CachedTranslation) : Type 0 where
+pub record IsWalked (caching : Caching) (virt : Virtual) (ram : List ℕ)
+    (cached : CachedTranslation) : Type 0 where
   pub active : caching.walks virt ≡ true
   pub vmid : cached.vmid ≡ vmid_of virt.csrs.hgatp
   pub address : ℕ

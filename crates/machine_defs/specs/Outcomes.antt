@@ -5,9 +5,7 @@ use Rattle.arch_defs.specs.declared.modes.Trap.{Trap}
 use Rattle.arch_defs.specs.declared.registers.Virtual.{Virtual}
 use Rattle.arch_defs.specs.declared.walks.MissingPlace.{MissingPlace}
 use Rattle.arch_defs.specs.Memory.{Stored}
-use Rattle.arch_defs.specs.Registers.{advanced}
 use Rattle.op_defs.specs.declared.ops.DataAccess.{DataAccess}
-use Rattle.op_defs.specs.Meaning.{next}
 use Rattle.machine_defs.specs.declared.events.Event.{Event}
 
 pub data Outcome : Type 0 where
@@ -25,11 +23,3 @@ pub data Outcome : Type 0 where
   Fenced : Virtual → Fence → Outcome
   -- the access of an HLV, HLVX or HSV that is allowed
   Accesses : DataAccess → Outcome
-
--- a register is set, and pc goes on
-abbrev pub sets : Virtual → ℕ → ℕ → Virtual
-sets state rd value = record state { regs = advanced state.regs rd value (next state.regs) }
-
--- pc goes on, and nothing else changes
-abbrev pub passed : Virtual → Virtual
-passed state = sets state 0 0

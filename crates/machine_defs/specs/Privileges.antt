@@ -16,7 +16,8 @@ use Rattle.op_defs.specs.declared.ops.CsrOp.TheVariants as csr
 use Rattle.op_defs.specs.declared.ops.Privileged.{Privileged}
 use Rattle.op_defs.specs.declared.ops.Privileged.TheVariants.{Csr, Sret, Wfi, SfenceVma, HfenceVvma, HfenceGvma, HlvAccess}
 use Rattle.machine_defs.specs.declared.events.Event.TheVariants.{System}
-use Rattle.machine_defs.specs.Outcomes.{Outcome, Done, Trapped, Waits, Fenced, Accesses, passed, sets}
+use Rattle.arch_defs.specs.Registers.{passed, sets}
+use Rattle.machine_defs.specs.Outcomes.{Outcome, Done, Trapped, Waits, Fenced, Accesses}
 
 -- the exception of an instruction that the mode does not allow: an illegal instruction, or a virtual one
 -- (8.6.1; own: which of them, as `refusal` says)

@@ -1,4 +1,4 @@
--- What one instruction asks a second stage: at most eight addresses. Under a second stage that gives fewer
+-- What one instruction asks a second stage: at most ten addresses. Under a second stage that gives fewer
 -- places than another, but no others, it ends as under the other, or stops at one of what it asks the other.
 use Rattle.std.specs.Prelude.{Result, Ok, Err, ◌==◌, ◌&&◌, ◌||◌}
 use Rattle.std.proofs.Common.{◌+◌, cond, ◌≡◌, ℕ, zero, suc, ◌%◌, ◌^◌, ◌≤◌, ◌⊎◌, inl, inr, Bool, true, false, List, [], ◌∷◌, ◌++◌, length, Option, Some, None, refl, arith, length-append}
@@ -8,8 +8,8 @@ use Rattle.arch_defs.specs.declared.modes.Access.TheVariants.{Fetch, Implicit}
 use Rattle.arch_defs.specs.declared.modes.Mode.{Mode}
 use Rattle.arch_defs.specs.declared.modes.Mode.TheVariants.{HS, U, VS, VU}
 use Rattle.arch_defs.specs.declared.registers.Csrs.{Csrs}
-use Rattle.arch_defs.specs.declared.registers.SupervisorRoot.{SupervisorRoot}
-use Rattle.arch_defs.specs.declared.registers.SupervisorRoot.TheVariants as root
+use Rattle.arch_defs.specs.declared.roots.SupervisorRoot.{SupervisorRoot}
+use Rattle.arch_defs.specs.declared.roots.SupervisorRoot.TheVariants as root
 use Rattle.arch_defs.specs.declared.registers.Virtual.{Virtual}
 use Rattle.arch_defs.specs.declared.walks.Found.{Found}
 use Rattle.arch_defs.specs.declared.walks.Found.TheVariants.{Passes, PageFaults, MissesEntry}
@@ -28,7 +28,7 @@ use Rattle.arch_defs.specs.Memory.{Reading, SecondStage}
 use Rattle.arch_defs.specs.Permits.{permits_first}
 use Rattle.arch_defs.specs.Roots.{supervisor_shape}
 use Rattle.arch_defs.specs.TableEntries.{entry_next, is_aligned, is_leaf, is_marked, is_valid, leaf_next, leaf_pte, pointer_next, pte_of}
-use Rattle.arch_defs.specs.Traps.{exception, misaligned_fault}
+use Rattle.arch_defs.specs.Traps.{exception, faults_of}
 use Rattle.arch_defs.specs.Translation.{entry_word_at, entry_words_through, first_stage, found_by, found_under, privilege_of, supervisor_of}
 use Rattle.arch_defs.specs.Walk.{EntryReading, Met, end_of, is_canonical, later, leaf_address, levels, met_in, most_levels, next_of, or_else, path, path_from, place_of, read_next, walk}
 use Rattle.arch_defs.specs.Widths.{bytes_in}
@@ -249,8 +249,8 @@ accessed_alike : (small large : SecondStage) → IsWithin small large → (readi
 accessed_alike small large w reading csrs mode va width access = by (va % bytes_in width == 0)
   where
     by : (whole : Bool) → PlacesAlike small large (asked_for large reading csrs mode va access)
-        (cond whole (located small reading csrs mode va access) (Fails (Faults (exception mode (misaligned_fault access) va))))
-        (cond whole (located large reading csrs mode va access) (Fails (Faults (exception mode (misaligned_fault access) va))))
+        (cond whole (located small reading csrs mode va access) (Fails (Faults (exception mode (faults_of access).misaligned va))))
+        (cond whole (located large reading csrs mode va access) (Fails (Faults (exception mode (faults_of access).misaligned va))))
     by true = located_alike small large w reading csrs mode va access
     by false = refl
 
@@ -366,7 +366,7 @@ core_alike small large w reading s = let front = asked_for large reading s.csrs 
         (decoded large reading s word o ≡ decoded small reading s word o) (decoded large reading s word o ≡ decoded small reading s word o)
         (λ p. in_right p front (asked_by_op large reading s o)) (λ e. e) (decoded_alike small large w reading s word o)
 
--- at most eight
+-- at most ten
 few_met : (reading : EntryReading) (shape : Shape) (va : ℕ) (access : Access) (level table : ℕ) → length (places_of (path_from reading shape va access level table)) ≤ level
 unfolding path_from
 few_met reading shape va access zero table = omega arith

@@ -5,7 +5,7 @@ use Rattle.arch_defs.specs.Interrupts.{due}
 use Rattle.arch_defs.specs.Spaces.{Space}
 use Rattle.arch_defs.specs.CachedEntries.{filled}
 use Rattle.arch_defs.specs.WalkedEntries.{folds}
-use Rattle.machine_defs.specs.Fills.{after_fill, after_fills, counted, fill, filled_front, fills, missing_entry, missing_entry_under, missing_entry_with, most_fills}
+use Rattle.machine_defs.specs.Fills.{after_fill, after_fills, counted, fill, filled_front, fills, missing_entry, missing_entry_under, missing_entry_with, most_fills, needed}
 use Rattle.machine_defs.specs.Machine.{Machine, Platform}
 use Rattle.machine_laws.specs.Laws.{FewFills, FillsGoOn, FillsSuffice, FlatMissesNothing, InterruptedMissesNothing, MoreChangeNothing, OnlySpaces}
 use Rattle.machine_laws.proofs.Counting.{filling, next_filled}
@@ -72,19 +72,19 @@ fills_front p ram ss space_room entry_room folding none (suc n) s = rw (missing_
 nothing_to_fill : (n : ℕ) (m : Machine) → missing_entry m ≡ None → missing_entry (after_fills n m) ≡ None
 nothing_to_fill n m e = rw (no_fills n m e) e
 
-suffices_by : (p : Platform) (ram : List ℕ) (spaces : List Space) (space_room entry_room : ℕ) → 8 ≤ entry_room
-    → missing_entry (after_fills (entry_room + 8) (machine p ram spaces space_room entry_room)) ≡ None
+suffices_by : (p : Platform) (ram : List ℕ) (spaces : List Space) (space_room entry_room : ℕ) → needed ≤ entry_room
+    → missing_entry (after_fills (entry_room + needed) (machine p ram spaces space_room entry_room)) ≡ None
 unfolding missing_entry
 suffices_by p ram spaces space_room entry_room room = by spaces (folds p.virt) (due p.virt.csrs p.virt.mode) refl refl
   where
     by : (spaces : List Space) (b : Bool) (code : Option ℕ) → folds p.virt ≡ b → due p.virt.csrs p.virt.mode ≡ code
-        → missing_entry (after_fills (entry_room + 8) (machine p ram spaces space_room entry_room)) ≡ None
-    by (s ∷ ss) true None folding none = rw (fills_front p ram ss space_room entry_room folding none (entry_room + 8) s)
-        (missing_entry_front p ram (record s { entries = filling (missing_entry_under p.virt ram) entry_room (entry_room + 8) s.entries }) ss space_room entry_room folding none
+        → missing_entry (after_fills (entry_room + needed) (machine p ram spaces space_room entry_room)) ≡ None
+    by (s ∷ ss) true None folding none = rw (fills_front p ram ss space_room entry_room folding none (entry_room + needed) s)
+        (missing_entry_front p ram (record s { entries = filling (missing_entry_under p.virt ram) entry_room (entry_room + needed) s.entries }) ss space_room entry_room folding none
         ∙ list_suffices p.virt ram entry_room s.entries room)
-    by (s ∷ ss) true (Some code) folding is = nothing_to_fill (entry_room + 8) (machine p ram (s ∷ ss) space_room entry_room) (rw (folding, is) refl)
-    by [] true code folding is = nothing_to_fill (entry_room + 8) (machine p ram [] space_room entry_room) (rw folding refl)
-    by spaces false code flat is = nothing_to_fill (entry_room + 8) (machine p ram spaces space_room entry_room) (rw flat refl)
+    by (s ∷ ss) true (Some code) folding is = nothing_to_fill (entry_room + needed) (machine p ram (s ∷ ss) space_room entry_room) (rw (folding, is) refl)
+    by [] true code folding is = nothing_to_fill (entry_room + needed) (machine p ram [] space_room entry_room) (rw folding refl)
+    by spaces false code flat is = nothing_to_fill (entry_room + needed) (machine p ram spaces space_room entry_room) (rw flat refl)
 
 pub suffices : FillsSuffice
 suffices m room = suffices_by m.platform m.ram m.spaces m.space_room m.entry_room room

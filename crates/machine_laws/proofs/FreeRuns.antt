@@ -10,7 +10,7 @@ use Rattle.arch_defs.specs.declared.modes.Access.{Access}
 use Rattle.arch_defs.specs.declared.modes.Mode.{Mode}
 use Rattle.arch_defs.specs.declared.modes.Mode.TheVariants.{HS, U, VS, VU}
 use Rattle.arch_defs.specs.declared.modes.Trap.{Trap}
-use Rattle.arch_defs.specs.declared.registers.GuestRoot.{GuestRoot}
+use Rattle.arch_defs.specs.declared.roots.GuestRoot.{GuestRoot}
 use Rattle.arch_defs.specs.declared.registers.HypervisorStatus.{HypervisorStatus}
 use Rattle.arch_defs.specs.declared.registers.Virtual.{Virtual}
 use Rattle.arch_defs.specs.CachedEntries.{entry_at, leaf_of, second_by}

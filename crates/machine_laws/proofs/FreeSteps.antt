@@ -9,8 +9,8 @@ use Rattle.arch_defs.specs.declared.cached.Entry.{Entry}
 use Rattle.arch_defs.specs.declared.cached.Fence.{Fence}
 use Rattle.arch_defs.specs.declared.modes.Access.{Access}
 use Rattle.arch_defs.specs.declared.registers.Csrs.{Csrs}
-use Rattle.arch_defs.specs.declared.registers.GuestRoot.{GuestRoot}
-use Rattle.arch_defs.specs.declared.registers.GuestRoot.TheVariants as root
+use Rattle.arch_defs.specs.declared.roots.GuestRoot.{GuestRoot}
+use Rattle.arch_defs.specs.declared.roots.GuestRoot.TheVariants as root
 use Rattle.arch_defs.specs.declared.registers.Virtual.{Virtual}
 use Rattle.arch_defs.specs.CachedEntries.{leaf_of}
 use Rattle.arch_defs.specs.Memory.{SecondStage, ram_base}

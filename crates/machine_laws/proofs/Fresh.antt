@@ -11,7 +11,7 @@ use Rattle.arch_defs.specs.Permits.{permits_second}
 use Rattle.arch_defs.specs.Walk.{leaf_address}
 use Rattle.arch_defs.specs.CachedEntries.{entry_at, leaf_of, place_by, second_by}
 use Rattle.arch_defs.specs.WalkedEntries.{entry_by_walk}
-use Rattle.machine_defs.specs.Fills.{missing_entry_under}
+use Rattle.machine_defs.specs.Fills.{missing_entry_under, needed}
 use Rattle.machine_laws.proofs.Asking.{In, IsWithin, asked, few_asked, stops}
 use Rattle.machine_laws.proofs.Cached.{all_found, placed, stopped}
 use Rattle.machine_laws.proofs.Counting.{Counts, enough, filling, found_page}
@@ -97,9 +97,9 @@ counts virt ram = record {
 }
 
 -- so many fills suffice for the list of a state
-pub list_suffices : (virt : Virtual) (ram : List ℕ) (most : ℕ) (entries : List Entry) → 8 ≤ most
-    → missing_entry_under virt ram (filling (missing_entry_under virt ram) most (most + 8) entries) ≡ None
+pub list_suffices : (virt : Virtual) (ram : List ℕ) (most : ℕ) (entries : List Entry) → needed ≤ most
+    → missing_entry_under virt ram (filling (missing_entry_under virt ram) most (most + needed) entries) ≡ None
 list_suffices virt ram most entries room =
     let addresses = asked (second_by_walk virt.csrs ram) (reading_of ram_base ram) virt in
-    let few : length (pages_of addresses) ≤ 8 = omega (arith, pages_few addresses, few_asked (second_by_walk virt.csrs ram) (reading_of ram_base ram) virt) in
-    enough (counts virt ram) most 8 few room (omega arith) entries
+    let few : length (pages_of addresses) ≤ needed = omega (arith, pages_few addresses, few_asked (second_by_walk virt.csrs ram) (reading_of ram_base ram) virt) in
+    enough (counts virt ram) most needed few room (omega arith) entries

@@ -13,8 +13,8 @@ use Rattle.arch_defs.specs.declared.levels.Level.TheVariants.{HS, VS}
 use Rattle.arch_defs.specs.declared.modes.Access.{Access}
 use Rattle.arch_defs.specs.declared.modes.Trap.{Trap}
 use Rattle.arch_defs.specs.declared.registers.Csrs.{Csrs}
-use Rattle.arch_defs.specs.declared.registers.GuestRoot.{GuestRoot}
-use Rattle.arch_defs.specs.declared.registers.GuestRoot.TheVariants as root
+use Rattle.arch_defs.specs.declared.roots.GuestRoot.{GuestRoot}
+use Rattle.arch_defs.specs.declared.roots.GuestRoot.TheVariants as root
 use Rattle.arch_defs.specs.declared.registers.Virtual.{Virtual}
 use Rattle.arch_defs.specs.CachedEntries.{entry_at, leaf_of, place_by, second_by}
 use Rattle.arch_defs.specs.Memory.{Stored, bare, ram_base, reading_of, with_stored}

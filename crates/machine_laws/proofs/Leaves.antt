@@ -5,10 +5,10 @@ use Rattle.std.proofs.lemmas.Bool.{and_parts, leb-true, ltb-true}
 use Rattle.arch_defs.specs.declared.cached.Entry.{Entry}
 use Rattle.arch_defs.specs.declared.modes.Access.{Access}
 use Rattle.arch_defs.specs.declared.modes.Trap.{Trap}
-use Rattle.arch_defs.specs.declared.registers.GuestMode.{GuestMode}
-use Rattle.arch_defs.specs.declared.registers.GuestMode.TheVariants.{Sv39x4}
-use Rattle.arch_defs.specs.declared.registers.GuestRoot.{GuestRoot}
-use Rattle.arch_defs.specs.declared.registers.GuestRoot.TheVariants as root
+use Rattle.arch_defs.specs.declared.roots.GuestMode.{GuestMode}
+use Rattle.arch_defs.specs.declared.roots.GuestMode.TheVariants.{Sv39x4, Sv48x4}
+use Rattle.arch_defs.specs.declared.roots.GuestRoot.{GuestRoot}
+use Rattle.arch_defs.specs.declared.roots.GuestRoot.TheVariants as root
 use Rattle.arch_defs.specs.declared.walks.LeafPte.{LeafPte}
 use Rattle.arch_defs.specs.declared.walks.Next.{Next}
 use Rattle.arch_defs.specs.declared.walks.Next.TheVariants.{Ends, Below}
@@ -19,7 +19,7 @@ use Rattle.arch_defs.specs.Memory.{block_size, ram_base}
 use Rattle.arch_defs.specs.Roots.{guest_shape}
 use Rattle.arch_defs.specs.SecondStage.{guest_root_frame, memory_words}
 use Rattle.arch_defs.specs.TableEntries.{entry_next, is_aligned, is_leaf, is_marked, is_valid, leaf_pte, pte_of}
-use Rattle.arch_defs.specs.Walk.{EntryReading, end_of, is_canonical, later, leaf_address, levels, most_level, most_levels, or_else, path, path_from, place_of, read_next, walk}
+use Rattle.arch_defs.specs.Walk.{guest_bits, EntryReading, end_of, is_canonical, later, leaf_address, levels, most_level, most_levels, or_else, path, path_from, place_of, read_next, walk}
 use Rattle.arch_defs.specs.CachedEntries.{CanFill, guest_page_bits}
 use Rattle.arch_defs.specs.WalkedEntries.{entry_by_table, entry_by_walk, entry_under}
 use Rattle.machine_laws.specs.Laws.{FillsCanBeMade}
@@ -73,6 +73,7 @@ sound_path reading shape va kind leaf (suc level) table low is =
 -- the pages that a mode's tables translate
 small_page : (mode : GuestMode) (va : ℕ) → is_canonical (guest_shape mode) va ≡ true → va / 4096 < 2 ^ guest_page_bits
 small_page Sv39x4 va is = let small = ltb-true va (2 ^ 41) is in omega (arith, small)
+small_page Sv48x4 va is = let small = ltb-true va (2 ^ guest_bits) is in omega (arith, small)
 
 sound_walk : (reading : EntryReading) (mode : GuestMode) (ppn va : ℕ) (kind : Access) (leaf : LeafPte) → walk reading ppn (guest_shape mode) va kind ≡ Leaf leaf
     → (va / 4096 < 2 ^ guest_page_bits) × IsSound leaf

@@ -7,7 +7,7 @@ use Rattle.arch_defs.specs.declared.cached.Fence.{Fence}
 use Rattle.arch_defs.specs.declared.levels.Level.{Level}
 use Rattle.arch_defs.specs.declared.levels.Level.TheVariants.{HS, VS}
 use Rattle.arch_defs.specs.declared.modes.Trap.{Trap}
-use Rattle.arch_defs.specs.declared.registers.GuestRoot.{GuestRoot}
+use Rattle.arch_defs.specs.declared.roots.GuestRoot.{GuestRoot}
 use Rattle.arch_defs.specs.declared.registers.Virtual.{Virtual}
 use Rattle.arch_defs.specs.Traps.{entered_at, entered_hs, entered_vs, is_delegated, is_virtual, target}
 use Rattle.arch_defs.specs.Spaces.{Space, entered, fenced}

@@ -8,8 +8,8 @@ use Rattle.arch_defs.specs.declared.modes.Access.{Access}
 use Rattle.arch_defs.specs.declared.modes.Access.TheVariants.{Implicit}
 use Rattle.arch_defs.specs.declared.modes.Mode.{Mode}
 use Rattle.arch_defs.specs.declared.registers.Csrs.{Csrs}
-use Rattle.arch_defs.specs.declared.registers.SupervisorRoot.{SupervisorRoot}
-use Rattle.arch_defs.specs.declared.registers.SupervisorRoot.TheVariants as root
+use Rattle.arch_defs.specs.declared.roots.SupervisorRoot.{SupervisorRoot}
+use Rattle.arch_defs.specs.declared.roots.SupervisorRoot.TheVariants as root
 use Rattle.arch_defs.specs.declared.walks.Found.{Found}
 use Rattle.arch_defs.specs.declared.walks.Found.TheVariants.{Passes, PageFaults, MissesEntry}
 use Rattle.arch_defs.specs.declared.walks.Privilege.{Privilege}
@@ -21,7 +21,7 @@ use Rattle.arch_defs.specs.Memory.{Reading, SecondStage}
 use Rattle.arch_defs.specs.Roots.{supervisor_shape}
 use Rattle.arch_defs.specs.Permits.{permits_first}
 use Rattle.arch_defs.specs.Translation.{entry_word_at, entry_words_through, first_stage, found_by, found_under, privilege_of, supervisor_of}
-use Rattle.arch_defs.specs.Traps.{exception, misaligned_fault}
+use Rattle.arch_defs.specs.Traps.{exception, faults_of}
 use Rattle.arch_defs.specs.Walk.{leaf_address, walk}
 use Rattle.arch_defs.specs.Widths.{bytes_in}
 use Rattle.machine_defs.specs.Core.{Faults, Misses, Located, At, Fails, accessed, at_place, located, located_at, located_by}
@@ -139,7 +139,7 @@ accessed_alike {h = h} {held = held} {own = own} {reading = reading} {host = hos
     by (va % bytes_in width == 0) (eqb-true (va % bytes_in width) 0)
   where
     by : (b : Bool) → (b ≡ true → va % bytes_in width ≡ 0)
-        → LocatedAlike h held (bytes_in width) (cond b (located own reading csrs mode va access) (Fails (Faults (exception mode (misaligned_fault access) va))))
-        (cond b (located host other csrs mode va access) (Fails (Faults (exception mode (misaligned_fault access) va))))
+        → LocatedAlike h held (bytes_in width) (cond b (located own reading csrs mode va access) (Fails (Faults (exception mode (faults_of access).misaligned va))))
+        (cond b (located host other csrs mode va access) (Fails (Faults (exception mode (faults_of access).misaligned va))))
     by true whole = located_alike r csrs mode va width access (whole refl)
     by false whole = refl

@@ -8,8 +8,8 @@ use Rattle.arch_defs.specs.Interrupts.{due}
 use Rattle.arch_defs.specs.Memory.{SecondStage, bare, ram_base, reading_of}
 use Rattle.arch_defs.specs.SecondStage.{second_by_walk, second_under}
 use Rattle.arch_defs.specs.Traps.{is_virtual}
-use Rattle.arch_defs.specs.declared.registers.GuestRoot.{GuestRoot}
-use Rattle.arch_defs.specs.declared.registers.GuestRoot.TheVariants as root
+use Rattle.arch_defs.specs.declared.roots.GuestRoot.{GuestRoot}
+use Rattle.arch_defs.specs.declared.roots.GuestRoot.TheVariants as root
 use Rattle.arch_defs.specs.Spaces.{Space, front}
 use Rattle.machine_laws.specs.FrontSpaces.{FrontIs}
 use Rattle.machine_defs.specs.Outcomes.{Missed}

@@ -23,7 +23,7 @@ use Rattle.arch_defs.specs.CachedEntries.{entry_at, leaf_of, place_by, second_by
 use Rattle.arch_defs.specs.Memory.{Reading, SecondStage, bare, ram_base, reading_of}
 use Rattle.arch_defs.specs.Spaces.{front}
 use Rattle.arch_defs.specs.Translation.{first_stage}
-use Rattle.arch_defs.specs.Traps.{exception, misaligned_fault}
+use Rattle.arch_defs.specs.Traps.{exception, faults_of}
 use Rattle.arch_defs.specs.Walk.{leaf_address}
 use Rattle.arch_defs.specs.WalkedEntries.{folds}
 use Rattle.arch_defs.specs.Widths.{bytes_in}
@@ -37,13 +37,14 @@ use Rattle.op_defs.specs.declared.ops.Privileged.{Privileged}
 use Rattle.op_defs.specs.declared.ops.Privileged.TheVariants.{Csr, Sret, Wfi, SfenceVma, HfenceVvma, HfenceGvma, HlvAccess}
 use Rattle.op_defs.specs.declared.ops.Purpose.{Purpose}
 use Rattle.op_defs.specs.declared.ops.Purpose.TheVariants.{Load, LoadCode, Store, Reserve, StoreReserved, Modify}
-use Rattle.op_defs.specs.Meaning.{address_at, branch, even, is_branch_taken, jump, meaning, next}
+use Rattle.op_defs.specs.Meaning.{address_at, branch, even, is_branch_taken, jump, meaning}
 use Rattle.op_defs.specs.Table.{op_of}
 use Rattle.machine_defs.specs.declared.events.Event.{Event}
 use Rattle.machine_defs.specs.Core.{Completion, Fails, Faults, accessed, accessed_data, called_from, completed, core, data_place, decoded, done, event_of, executed, fetch_place, instruction, is_reserved, kind_of, located, located_at, located_by, stored_if, word_at}
 use Rattle.machine_defs.specs.HlvAccesses.{hlv_completed, hlv_outcome, hlv_place}
 use Rattle.machine_defs.specs.Machine.{Machine, Platform, Tried, called, made_by, start}
-use Rattle.machine_defs.specs.Outcomes.{Outcome, sets}
+use Rattle.arch_defs.specs.Registers.{sets, next}
+use Rattle.machine_defs.specs.Outcomes.{Outcome}
 use Rattle.machine_defs.specs.Privileges.{combined, csr_accessed, csr_changed, csr_shown, decided, performed, privileged, refusal, value_or_zero}
 use Rattle.machine_defs.specs.Runs.{left_by}
 use Rattle.machine_defs.specs.Tries.{second_of}
@@ -109,7 +110,7 @@ accessed_whole : (second : SecondStage) → KeepsOffsets second → (reading : R
 accessed_whole second offsets reading csrs mode va width access = by (va % bytes_in width == 0) (eqb-true (va % bytes_in width) 0)
   where
     by : (b : Bool) → (b ≡ true → va % bytes_in width ≡ 0)
-        → LocatedHas (IsWhole width) (cond b (located second reading csrs mode va access) (Fails (Faults (exception mode (misaligned_fault access) va))))
+        → LocatedHas (IsWhole width) (cond b (located second reading csrs mode va access) (Fails (Faults (exception mode (faults_of access).misaligned va))))
     by true whole = by_whole second offsets mode va width access (first_stage second reading csrs mode va access) (first_keeps second reading csrs mode va access) (whole refl)
     by false whole = tt
 

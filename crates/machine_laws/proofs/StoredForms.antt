@@ -1,5 +1,5 @@
 -- What a write, a trap and an SRET leave in registers can be stored.
-use Rattle.std.specs.Prelude.{◌==◌, Result, Ok, Err}
+use Rattle.std.specs.Prelude.{◌==◌, Option, Some, None, Result, Ok, Err}
 use Rattle.std.proofs.Common.{◌≡◌, ℕ, ◌+◌, ◌*◌, ◌%◌, ◌^◌, ◌<◌, refl, ap, arith}
 use Rattle.arch_defs.specs.declared.csr_names.SupervisorCsr.{SupervisorCsr}
 use Rattle.arch_defs.specs.declared.csr_names.SupervisorCsr.TheVariants.{Status, Tvec, Scratch, Epc, Cause, Tval, Atp}
@@ -15,17 +15,18 @@ use Rattle.arch_defs.specs.declared.csr_names.Register.TheVariants.{Supervisor, 
 use Rattle.arch_defs.specs.declared.modes.Mode.{Mode}
 use Rattle.arch_defs.specs.declared.registers.SupervisorCsrs.{SupervisorCsrs}
 use Rattle.arch_defs.specs.declared.registers.Csrs.{Csrs}
-use Rattle.arch_defs.specs.declared.registers.GuestMode.{GuestMode}
-use Rattle.arch_defs.specs.declared.registers.GuestMode.TheVariants as guest_mode
-use Rattle.arch_defs.specs.declared.registers.GuestRoot.{GuestRoot}
-use Rattle.arch_defs.specs.declared.registers.GuestRoot.TheVariants as guest
-use Rattle.arch_defs.specs.declared.registers.SupervisorMode.{SupervisorMode}
-use Rattle.arch_defs.specs.declared.registers.SupervisorMode.TheVariants as supervisor_mode
-use Rattle.arch_defs.specs.declared.registers.SupervisorRoot.{SupervisorRoot}
-use Rattle.arch_defs.specs.declared.registers.SupervisorRoot.TheVariants as supervisor
+use Rattle.arch_defs.specs.declared.roots.GuestMode.{GuestMode}
+use Rattle.arch_defs.specs.declared.roots.GuestMode.TheVariants.{Sv39x4, Sv48x4}
+use Rattle.arch_defs.specs.declared.roots.GuestRoot.{GuestRoot}
+use Rattle.arch_defs.specs.declared.roots.GuestRoot.TheVariants as guest
+use Rattle.arch_defs.specs.declared.roots.SupervisorMode.{SupervisorMode}
+use Rattle.arch_defs.specs.declared.roots.SupervisorMode.TheVariants.{Sv39, Sv48}
+use Rattle.arch_defs.specs.declared.roots.SupervisorRoot.{SupervisorRoot}
+use Rattle.arch_defs.specs.declared.roots.SupervisorRoot.TheVariants as supervisor
 use Rattle.arch_defs.specs.CsrAccess.{enable_written, hypervisor_written, interrupts_written, named_to_write, supervisor_written, write_csr, written, written_by}
 use Rattle.arch_defs.specs.Bits.{field}
-use Rattle.arch_defs.specs.CsrBits.{epc_bits, guest_root_of, hedeleg_bits, hgatp_bits, satp_bits, supervisor_root_of, tvec_bits}
+use Rattle.arch_defs.specs.CsrBits.{epc_bits, guest_root_in, guest_root_of, hedeleg_bits, hgatp_bits, satp_bits, supervisor_root_in, supervisor_root_of, tvec_bits}
+use Rattle.arch_defs.specs.Roots.{guest_mode_number, guest_mode_of, supervisor_mode_number, supervisor_mode_of}
 use Rattle.machine_laws.proofs.Cached.{either}
 use Rattle.machine_laws.specs.StorableStates.{IsCodeAddress, stored_form, supervisor_form}
 
@@ -59,19 +60,36 @@ pub atp_bare : AtpStored supervisor.Bare
 unfolding supervisor_root_of satp_bits
 atp_bare = refl
 
+-- the number of a mode is that of no other
+supervisor_mode_read : (mode : SupervisorMode) → supervisor_mode_of (supervisor_mode_number mode) ≡ Some mode
+supervisor_mode_read Sv39 = refl
+supervisor_mode_read Sv48 = refl
+
+supervisor_mode_small : (mode : SupervisorMode) → supervisor_mode_number mode < 2 ^ 4
+supervisor_mode_small Sv39 = omega arith
+supervisor_mode_small Sv48 = omega arith
+
 pub atp_table : (mode : SupervisorMode) (asid ppn : ℕ) → asid < 2 ^ 16 → ppn < 2 ^ 44 → AtpStored (supervisor.Table mode asid ppn)
 unfolding supervisor_root_of satp_bits
-atp_table supervisor_mode.Sv39 asid ppn of_16 of_44 =
-    let mode : field 60 4 (8 * 2 ^ 60 + asid % 2 ^ 16 * 2 ^ 44 + ppn % 2 ^ 44) ≡ 8 = omega arith in
-    let first : field 44 16 (8 * 2 ^ 60 + asid % 2 ^ 16 * 2 ^ 44 + ppn % 2 ^ 44) ≡ asid = omega arith in
-    let last : field 0 44 (8 * 2 ^ 60 + asid % 2 ^ 16 * 2 ^ 44 + ppn % 2 ^ 44) ≡ ppn = omega arith in
-    rw (mode, first, last) refl
+atp_table mode asid ppn of_16 of_44 = by (supervisor_mode_number mode) (supervisor_mode_small mode) (supervisor_mode_read mode)
+  where
+    by : (number : ℕ) → number < 2 ^ 4 → supervisor_mode_of number ≡ Some mode
+        → supervisor_root_in (supervisor.Table mode asid ppn) (number * 2 ^ 60 + asid % 2 ^ 16 * 2 ^ 44 + ppn % 2 ^ 44)
+        (supervisor_mode_of (field 60 4 (number * 2 ^ 60 + asid % 2 ^ 16 * 2 ^ 44 + ppn % 2 ^ 44)))
+        ≡ supervisor.Table mode asid ppn
+    by number small is =
+        let high : field 60 4 (number * 2 ^ 60 + asid % 2 ^ 16 * 2 ^ 44 + ppn % 2 ^ 44) ≡ number = omega (arith, small) in
+        let first : field 44 16 (number * 2 ^ 60 + asid % 2 ^ 16 * 2 ^ 44 + ppn % 2 ^ 44) ≡ asid = omega (arith, of_16) in
+        let last : field 0 44 (number * 2 ^ 60 + asid % 2 ^ 16 * 2 ^ 44 + ppn % 2 ^ 44) ≡ ppn = omega (arith, of_44) in
+        rw (high, is, first, last) refl
 
 atp_stored : (kept : SupervisorRoot) (v : ℕ) → AtpStored kept → AtpStored (supervisor_root_of kept v)
 unfolding supervisor_root_of
-atp_stored kept v is = either AtpStored (field 60 4 v == 8) (supervisor.Table supervisor_mode.Sv39 (field 44 16 v) (field 0 44 v)) _
-    (atp_table supervisor_mode.Sv39 (field 44 16 v) (field 0 44 v) (omega arith) (omega arith))
-    (either AtpStored (field 60 4 v == 0) supervisor.Bare kept atp_bare is)
+atp_stored kept v is = by (supervisor_mode_of (field 60 4 v))
+  where
+    by : (mode : Option SupervisorMode) → AtpStored (supervisor_root_in kept v mode)
+    by (Some mode) = atp_table mode (field 44 16 v) (field 0 44 v) (omega arith) (omega arith)
+    by None = either AtpStored (field 60 4 v == 0) supervisor.Bare kept atp_bare is
 
 abbrev HgatpStored : GuestRoot → Type 0
 HgatpStored root = guest_root_of (hgatp_bits root) ≡ root
@@ -80,18 +98,35 @@ hgatp_bare : HgatpStored guest.Bare
 unfolding guest_root_of hgatp_bits
 hgatp_bare = refl
 
+guest_mode_read : (mode : GuestMode) → guest_mode_of (guest_mode_number mode) ≡ Some mode
+guest_mode_read Sv39x4 = refl
+guest_mode_read Sv48x4 = refl
+
+guest_mode_small : (mode : GuestMode) → guest_mode_number mode < 2 ^ 4
+guest_mode_small Sv39x4 = omega arith
+guest_mode_small Sv48x4 = omega arith
+
 hgatp_table : (mode : GuestMode) (vmid ppn : ℕ) → vmid < 2 ^ 7 → ppn % 4 ≡ 0 → ppn < 2 ^ 44 → HgatpStored (guest.Table mode vmid ppn)
 unfolding guest_root_of hgatp_bits
-hgatp_table guest_mode.Sv39x4 vmid ppn of_7 whole of_44 =
-    let mode : field 60 4 (8 * 2 ^ 60 + vmid % 2 ^ 7 * 2 ^ 44 + field 2 42 ppn * 2 ^ 2) ≡ 8 = omega arith in
-    let first : field 44 7 (8 * 2 ^ 60 + vmid % 2 ^ 7 * 2 ^ 44 + field 2 42 ppn * 2 ^ 2) ≡ vmid = omega arith in
-    let last : field 2 42 (8 * 2 ^ 60 + vmid % 2 ^ 7 * 2 ^ 44 + field 2 42 ppn * 2 ^ 2) * 2 ^ 2 ≡ ppn = omega arith in
-    rw (mode, first, last) refl
+hgatp_table mode vmid ppn of_7 whole of_44 = by (guest_mode_number mode) (guest_mode_small mode) (guest_mode_read mode)
+  where
+    by : (number : ℕ) → number < 2 ^ 4 → guest_mode_of number ≡ Some mode
+        → guest_root_in (number * 2 ^ 60 + vmid % 2 ^ 7 * 2 ^ 44 + field 2 42 ppn * 2 ^ 2)
+        (guest_mode_of (field 60 4 (number * 2 ^ 60 + vmid % 2 ^ 7 * 2 ^ 44 + field 2 42 ppn * 2 ^ 2)))
+        ≡ guest.Table mode vmid ppn
+    by number small is =
+        let high : field 60 4 (number * 2 ^ 60 + vmid % 2 ^ 7 * 2 ^ 44 + field 2 42 ppn * 2 ^ 2) ≡ number = omega (arith, small) in
+        let first : field 44 7 (number * 2 ^ 60 + vmid % 2 ^ 7 * 2 ^ 44 + field 2 42 ppn * 2 ^ 2) ≡ vmid = omega (arith, of_7) in
+        let last : field 2 42 (number * 2 ^ 60 + vmid % 2 ^ 7 * 2 ^ 44 + field 2 42 ppn * 2 ^ 2) * 2 ^ 2 ≡ ppn = omega (arith, whole, of_44) in
+        rw (high, is, first, last) refl
 
 hgatp_stored : (v : ℕ) → HgatpStored (guest_root_of v)
 unfolding guest_root_of
-hgatp_stored v = either HgatpStored (field 60 4 v == 8) (guest.Table guest_mode.Sv39x4 (field 44 7 v) (field 2 42 v * 2 ^ 2)) guest.Bare
-    (hgatp_table guest_mode.Sv39x4 (field 44 7 v) (field 2 42 v * 2 ^ 2) (omega arith) (omega arith) (omega arith)) hgatp_bare
+hgatp_stored v = by (guest_mode_of (field 60 4 v))
+  where
+    by : (mode : Option GuestMode) → HgatpStored (guest_root_in v mode)
+    by (Some mode) = hgatp_table mode (field 44 7 v) (field 2 42 v * 2 ^ 2) (omega arith) (omega arith) (omega arith)
+    by None = hgatp_bare
 
 -- the registers after a write
 abbrev pub SupervisorStored : SupervisorCsrs → Type 0

@@ -1,6 +1,6 @@
 -- Which space of cached translations is in front (own).
 use Rattle.std.specs.Prelude.{◌≡◌, List, [], ◌∷◌}
-use Rattle.arch_defs.specs.declared.registers.GuestRoot.{GuestRoot}
+use Rattle.arch_defs.specs.declared.roots.GuestRoot.{GuestRoot}
 use Rattle.arch_defs.specs.Spaces.{Space}
 
 -- the front space is for this value of hgatp

@@ -1,12 +1,17 @@
-pub mod Budgets
-pub mod Caching
+-- What each run keeps
 pub mod EachEntry
-pub mod FrontSpaces
-pub mod HostPlaces
 pub mod InstructionEnds
+pub mod StorableStates
 pub mod Keeping
-pub mod Laws
+-- Fills of a step, and how many there are
+pub mod Budgets
+pub mod FrontSpaces
+-- How long a cached translation is used
+pub mod Caching
+pub mod ShortRuns
+-- Places of the host in place of the guest's
+pub mod HostPlaces
 pub mod Renaming
 pub mod Reservations
-pub mod ShortRuns
-pub mod StorableStates
+-- The laws
+pub mod Laws

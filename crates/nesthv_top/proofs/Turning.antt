@@ -143,13 +143,13 @@ room_below ms g rooms = by (cases_lt g (length ms))
     by (inr past) = rw (get_or_past ms g no_machine past) none_has_room
 
 entries_below : (ms : List Machine) (turns : List (ℕ × ℕ)) → All (λ m. m.entry_room ≤ 256) ms
-    → ((i : ℕ) (d : ℕ × ℕ) → i < length turns → (get_or turns i d).1 ≤ 2 ^ 32) → entries_for ms turns ≤ length turns * (2 ^ 32 + 1) * 265
+    → ((i : ℕ) (d : ℕ × ℕ) → i < length turns → (get_or turns i d).1 ≤ 2 ^ 32) → entries_for ms turns ≤ length turns * (2 ^ 32 + 1) * most_tries 256
 entries_below ms [] rooms short = omega arith
 entries_below ms ((g, k) ∷ turns) rooms short =
     let one : k ≤ 2 ^ 32 = short 0 (g, k) (omega arith) in
     let room = room_below ms g rooms in
-    let most : (k + 1) * most_tries (machine_at ms g).entry_room ≤ (2 ^ 32 + 1) * 265 =
-    mul-le (k + 1) (most_tries (machine_at ms g).entry_room) (2 ^ 32 + 1) 265 (omega (arith, one)) (omega (arith, room)) in
+    let most : (k + 1) * most_tries (machine_at ms g).entry_room ≤ (2 ^ 32 + 1) * most_tries 256 =
+    mul-le (k + 1) (most_tries (machine_at ms g).entry_room) (2 ^ 32 + 1) (most_tries 256) (omega (arith, one)) (omega (arith, room)) in
     let rest = entries_below ms turns rooms (λ i d inside. short (suc i) d (omega (arith, inside))) in
     omega (arith, entries_more ms g k turns, most, rest)
 

@@ -1,5 +1,6 @@
 -- What a command does with the files: the guests that it runs, their turns, and the report.
 use Rattle.std.specs.Prelude.{ℕ, ◌≡◌, ◌+◌, ◌*◌, ◌<◌, ◌≤◌, List, [], ◌∷◌, ◌++◌, Option, Some, None, Result, Ok, Err, Bool, length, map, nat_le, sum_by, unwrap_or}
+use Rattle.arch_defs.specs.Frames.{most_frames}
 use Rattle.arch_defs.specs.Memory.{block_size}
 use Rattle.command_line.specs.Commands.{Command, FileCommand, OnFiles, Run, Replay, Check, Work}
 use Rattle.guest_turns.specs.Hosted.{machine_at}
@@ -74,7 +75,7 @@ guests_of files guests = map (λ guest. guest_of guest (image_of files guest)) g
 
 -- the fault of guests that need more frames than machine memory has, which is 131,072 (own)
 abbrev pub frames_fault : List GuestSpec → Option ConfigFault
-frames_fault guests = unless (nat_le (frames_for guests) 131072) (fault.Frames (frames_for guests))
+frames_fault guests = unless (nat_le (frames_for guests) most_frames) (fault.Frames (frames_for guests))
 
 -- guests, and their turns
 pub record Plan : Type 0 where

@@ -1,5 +1,6 @@
 -- The plan that the program's own values stand for.
 use Rattle.std.specs.List.{All}
+use Rattle.arch_defs.specs.Frames.{most_frames}
 use Rattle.std.specs.Prelude.{◌≡◌, ◌≤◌, ℕ, List, map}
 use Rattle.guest_specs.specs.declared.guests.GuestSpec.{GuestSpec}
 use Rattle.guest_turns.specs.Limits.{IsBootable, frames_for}
@@ -30,4 +31,4 @@ pub record IsJob (job : Job) : Type 0 where
   pub limits : IsWithinLimits job.config
   pub names : names_of_guests job.guests.items ≡ names_in job.config.guests
   pub guests : All IsBootable job.guests.items
-  pub frames : frames_for job.guests.items ≤ 131072
+  pub frames : frames_for job.guests.items ≤ most_frames

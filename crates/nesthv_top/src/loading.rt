@@ -18,21 +18,18 @@ ghost use Rattle.nesthv_top.specs.Seen.{loaded_plan, IsJob};
 ghost use Rattle.nesthv_top.specs.Texts.{stored_of};
 
 use crate::ends::{Job, LoadEnd, Loaded};
-use arch_defs::BLOCK_SIZE;
+use arch_defs::{BLOCK_SIZE, MOST_FRAMES};
 use command_line::FileRequest;
 use machine_defs::{Bytes, GuestSpec, Inputs, Name};
 use outside::{Store, StoreFault};
 use run_config::{Config, ConfigFault, GuestSettings, ReadEnd};
 use std::alloc::{AllocError, Global};
 
-/// At most how many bytes of a configuration are asked for: one more than it may have.
+// At most how many bytes of a configuration are asked for: one more than it may have.
 const CONFIG_MOST: u64 = 65_537;
 
-/// At most how many bytes of a stored report are asked for, which are those that it is compared by.
+// At most how many bytes of a stored report are asked for, which are those that it is compared by.
 const REPORT_MOST: u64 = 33_554_432;
-
-/// The most frames of machine memory.
-const MOST_FRAMES: u64 = 131_072;
 
 /// Reads what is asked for: a configuration, its images, and for a replay the stored report.
 pub fn load<S: Store>(

@@ -26,10 +26,10 @@ use std::alloc::Global;
 use turn_plan::Turns;
 use work_images::{guests, image_length};
 
-/// How many guests a seed and a size give.
+// How many guests a seed and a size give.
 const GUESTS: u64 = 4;
 
-/// The steps of a turn.
+// The steps of a turn.
 const QUANTUM: u64 = 1_000;
 
 /// Runs the guests of a seed and a size, and puts the line of each.

@@ -6,7 +6,7 @@ use Rattle.arch_defs.specs.declared.modes.TheConstants.{INSTRUCTION_MISALIGNED, 
 use Rattle.arch_defs.specs.declared.registers.Regs.{Regs}
 use Rattle.arch_defs.specs.declared.widths.Width.{Width}
 use Rattle.arch_defs.specs.Bits.{add64}
-use Rattle.arch_defs.specs.Registers.{read}
+use Rattle.arch_defs.specs.Registers.{next, read}
 use Rattle.op_defs.specs.declared.ops.CsrOp.{CsrOp}
 use Rattle.op_defs.specs.declared.ops.CsrOp.TheVariants as csr
 use Rattle.op_defs.specs.declared.ops.CsrSource.{CsrSource}
@@ -21,10 +21,6 @@ use Rattle.op_defs.specs.declared.ops.Privileged.TheVariants as privileged
 use Rattle.op_defs.specs.declared.ops.Purpose.{Purpose}
 use Rattle.op_defs.specs.declared.ops.Purpose.TheVariants.{Load, LoadCode, Store, Reserve, StoreReserved, Modify}
 use Rattle.op_defs.specs.Arithmetic.{signed, alu, word_alu}
-
--- the address of the next instruction
-abbrev pub next : Regs → ℕ
-next regs = add64 regs.pc 4
 
 -- the address that a load, store or jump by register has
 abbrev pub address_at : Regs → ℕ → ℕ → ℕ

@@ -1,3 +1,5 @@
+// The words that a process is given.
+
 ghost use Rattle.std.specs.Prelude.{◌≡◌, List, Option, None, ℕ, option_map, IfOk};
 ghost use Rattle.outside.specs.Arguments.{word_of, IsArgument, IsWord, AreWords};
 
@@ -63,7 +65,7 @@ impl<'a, R> ProcessArguments<'a, R> {
     }
 }
 
-/// How many bytes the first buffer for an argument has.
+// How many bytes the first buffer for an argument has.
 const FIRST_ROOM: usize = 256;
 
 impl<'a, R: Env> Arguments for ProcessArguments<'a, R> {

@@ -1,3 +1,5 @@
+// A sink that keeps nothing and never fails.
+
 use crate::sinks::{Sink, SinkFault};
 
 /// A sink that takes every piece, keeps none, and never fails.

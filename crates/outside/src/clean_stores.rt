@@ -1,3 +1,5 @@
+// A store in memory that never fails.
+
 ghost use Rattle.std.specs.Prelude.{◌≡◌, [], ◌∷◌, take, Some, None, unwrap_or, OnOk, OnErr, IfOk, IfErr};
 ghost use Rattle.outside.specs.CleanStores.{clean_files_of};
 ghost use Rattle.outside.specs.Named.{content_of};

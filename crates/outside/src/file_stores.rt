@@ -1,3 +1,5 @@
+// The files of the file system as a store.
+
 ghost use Rattle.std.specs.Prelude.{◌≡◌, ◌≤◌, ◌↔◌, length, Some, None, is_some, is_ok, is_err, IfOk, IsErrOf, if◌then◌else◌};
 ghost use Rattle.outside.specs.Files.{GivesFile};
 ghost use Rattle.outside.specs.Faults.{Rose, one_more};

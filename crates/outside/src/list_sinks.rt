@@ -1,3 +1,5 @@
+// A sink that keeps its bytes, and fails where it is told to.
+
 ghost use Rattle.std.specs.Prelude.{◌≡◌, ◌≤◌, ◌∷◌, [], ◌++◌, is_ok, OnOk, OnErr, IfOk};
 ghost use Rattle.outside.specs.Pieces.{Appends, Puts};
 
@@ -6,7 +8,7 @@ use no_memory::NoMemory;
 use std::alloc::Global;
 use std::marker::Model;
 
-/// A put that is to fail: its number, and how many bytes it still takes.
+// A put that is to fail: its number, and how many bytes it still takes.
 #[derive(Clone, Copy, Debug, PartialEq, Eq)]
 struct Failure {
     call: u64,

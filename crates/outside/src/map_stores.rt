@@ -1,3 +1,5 @@
+// A store in memory that tells what it was asked for.
+
 ghost use Rattle.std.specs.Prelude.{◌≡◌, ◌≤◌, [], ◌∷◌, ◌++◌, Some, OnOk, OnErr};
 ghost use Rattle.outside.specs.Asks.{told};
 

@@ -1,3 +1,5 @@
+// Files in memory by their names.
+
 ghost use Rattle.std.specs.Prelude.{◌≡◌, [], ◌∷◌, take, option_map, OnOk, OnErr, IfOk};
 ghost use Rattle.outside.specs.Named.{content_of};
 

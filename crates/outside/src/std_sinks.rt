@@ -1,3 +1,5 @@
+// The streams of the process as sinks.
+
 ghost use Rattle.std.specs.Prelude.{◌≡◌, ◌≤◌, is_ok, IfOk, OnOk, if◌then◌else◌};
 ghost use Rattle.std.specs.Io.KnownBytes.{Appends};
 ghost use Rattle.outside.specs.Faults.{one_more};

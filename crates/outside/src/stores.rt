@@ -1,3 +1,5 @@
+// What a command reads files from.
+
 ghost use Rattle.std.specs.Prelude.{◌≡◌, ℕ, ◌≤◌, ◌++◌, List, length, Option, option_map, IfOk, IsErrOf};
 ghost use Rattle.outside.specs.Files.{Files, GivesFile};
 ghost use Rattle.outside.specs.Asks.{Ask, told};

@@ -1,3 +1,5 @@
+// Texts that own their bytes.
+
 ghost use Rattle.std.specs.Prelude.{◌≡◌, IfOk};
 
 use no_memory::NoMemory;

@@ -8,6 +8,6 @@ mod slices;
 
 pub use accesses::Mem;
 pub use arch_defs::{BLOCK_SIZE, FRAME_SIZE, Part};
-pub use memory::{MOST_FRAMES, PhysMem};
+pub use memory::PhysMem;
 pub use no_memory::NoMemory;
 pub use ram::{RAM_BASE, Ram};

@@ -2,6 +2,7 @@
 
 ghost use Rattle.std.specs.Prelude.{◌≡◌, ℕ, ◌+◌, ◌*◌, ◌%◌, ◌<◌, ◌≤◌, ⊤, length, IfOk};
 ghost use Rattle.byteorder.specs.Endian.{little_bytes};
+ghost use Rattle.arch_defs.specs.Frames.{most_frames};
 ghost use Rattle.arch_defs.specs.Memory.{load, pasted, zeros};
 ghost use Rattle.phys_mem.specs.MemoryBytes.{IsWidth, is_inside, number_at, bytes_with, frame_of};
 
@@ -14,9 +15,6 @@ use std::alloc::Global;
 use std::cmp::min;
 use std::marker::Model;
 
-/// The most frames of machine memory.
-pub const MOST_FRAMES: u64 = 131_072;
-
 /// Machine memory: whole frames of bytes, which contracts see as the list of the bytes.
 #[derive(Drop)]
 pub struct PhysMem {
@@ -26,13 +24,14 @@ pub struct PhysMem {
 impl Model for PhysMem {
     ghost use Rattle.std.specs.Prelude.{ℕ, ◌≤◌, List, vec_len};
     ghost use Rattle.std.specs.List.{concat};
+    ghost use Rattle.arch_defs.specs.Frames.{most_frames};
     ghost use Rattle.phys_mem.specs.MemoryBytes.{AreWhole};
 
     ghost Value = { List ℕ };
 
     ghost view = { λ m. concat m.frames.items };
 
-    ghost invariant = { λ m. AreWhole 4096 m.frames.items × (vec_len m.frames ≤ 131072) };
+    ghost invariant = { λ m. AreWhole 4096 m.frames.items × (vec_len m.frames ≤ most_frames) };
 }
 
 impl PhysMem {
@@ -40,7 +39,7 @@ impl PhysMem {
     #[tactic(auto, unfolding(arch_defs::specs::Memory::zeros))]
     pub fn new(alloc: Global, frames: u64) -> Result<PhysMem, NoMemory>
         requires some { 1 ≤ frames }
-        requires most { frames ≤ 131072 }
+        requires most { frames ≤ most_frames }
         ensures { IfOk result (λ m. m ≡ zeros (frames * 4096)) }
     {
         Ok(PhysMem {
@@ -52,7 +51,7 @@ impl PhysMem {
     pub fn size(&self) -> u64
         ensures size { result ≡ length self.now }
         ensures whole { result % 4096 ≡ 0 }
-        ensures most { result ≤ 131072 * 4096 }
+        ensures most { result ≤ most_frames * 4096 }
     {
         self.bytes().len() as u64
     }
@@ -161,7 +160,7 @@ impl PhysMem {
     fn bytes(&self) -> &[u8]
         ensures bytes { result.now ≡ self.now }
         ensures whole { length result.now % 4096 ≡ 0 }
-        ensures most { length result.now ≤ 131072 * 4096 }
+        ensures most { length result.now ≤ most_frames * 4096 }
     {
         self.frames.as_flattened()
     }

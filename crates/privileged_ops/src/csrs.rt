@@ -5,12 +5,11 @@ ghost use Rattle.arch_defs.specs.CsrAccess.{read_csr, write_csr};
 ghost use Rattle.machine_defs.specs.Privileges.{combined, value_or_zero, csr_shown, csr_changed, csr_accessed};
 ghost use Rattle.privileged_ops.specs.PrivilegedEnds.{outcome_of, IfNotMade};
 
-use crate::advancing::set;
 use crate::instructions::Performed;
 use arch_defs::{CsrEnd, Reg, Virtual};
 use op_defs::CsrOp;
 
-/// What an instruction makes of a register's number and its operand.
+// What an instruction makes of a register's number and its operand.
 fn combined(op: CsrOp, before: u64, operand: u64) -> u64
     ensures { result ≡ combined op before operand }
 {
@@ -21,7 +20,7 @@ fn combined(op: CsrOp, before: u64, operand: u64) -> u64
     }
 }
 
-/// What a register shows, or 0 where it cannot be read.
+// What a register shows, or 0 where it cannot be read.
 fn value_or_zero(shown: Result<u64, CsrEnd>) -> u64
     ensures { result ≡ value_or_zero shown }
 {
@@ -31,7 +30,7 @@ fn value_or_zero(shown: Result<u64, CsrEnd>) -> u64
     }
 }
 
-/// Reads a register into `rd`.
+// Reads a register into `rd`.
 fn show(state: &mut Virtual, number: u16, rd: Reg) -> Performed
     ensures ends { (word : ℕ) → csr_shown state.old word rd (read_csr state.old.csrs state.old.mode number)
         ≡ outcome_of word result state.new }
@@ -39,14 +38,14 @@ fn show(state: &mut Virtual, number: u16, rd: Reg) -> Performed
 {
     match csr_file::read(&state.csrs, state.mode, number) {
         Ok(value) => {
-            set(state, rd, value);
+            state.set(rd, value);
             Performed::Done
         }
         Err(end) => Performed::Refused(end),
     }
 }
 
-/// Writes a register, and sets `rd` to what it showed before.
+// Writes a register, and sets `rd` to what it showed before.
 fn change(state: &mut Virtual, number: u16, value: u64, rd: Reg, before: u64) -> Performed
     ensures ends { (word : ℕ) →
         csr_changed state.old word rd before (write_csr state.old.csrs state.old.mode number value)
@@ -55,7 +54,7 @@ fn change(state: &mut Virtual, number: u16, value: u64, rd: Reg, before: u64) ->
 {
     match csr_file::write(&mut state.csrs, state.mode, number, value) {
         Ok(()) => {
-            set(state, rd, before);
+            state.set(rd, before);
             Performed::Done
         }
         Err(end) => Performed::Refused(end),

@@ -6,7 +6,6 @@ ghost use Rattle.op_defs.specs.declared.ops.Privileged.TheVariants as effect;
 ghost use Rattle.machine_defs.specs.Privileges.{performed, privileged, refusal};
 ghost use Rattle.privileged_ops.specs.PrivilegedEnds.{outcome_of, IfNotMade};
 
-use crate::advancing::pass;
 use crate::csrs::access;
 use crate::refusals::refusal;
 use arch_defs::{CsrEnd, Fence, Virtual};
@@ -57,15 +56,15 @@ fn perform_allowed(state: &mut Virtual, effect: Privileged) -> Performed
         } => access(state, op, number, operand, writes, rd),
         Privileged::Sret => leave(state),
         Privileged::Wfi => {
-            pass(state);
+            state.pass();
             Performed::Waits
         }
         Privileged::SfenceVma | Privileged::HfenceVvma => {
-            pass(state);
+            state.pass();
             Performed::Done
         }
         Privileged::HfenceGvma(named) => {
-            pass(state);
+            state.pass();
             Performed::Fenced(named)
         }
         Privileged::HlvAccess(wanted) => Performed::Accesses(wanted),

@@ -1,3 +1,5 @@
+// A report that is compared with a stored one while it is written.
+
 ghost use Rattle.std.specs.Prelude.{◌≡◌, ◌+◌, ◌≤◌, ℕ, List, drop, false, length};
 ghost use Rattle.replay.specs.Comparisons.{agreeing, Saw, verdict_of};
 

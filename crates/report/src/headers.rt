@@ -1,3 +1,5 @@
+// The line that heads a section.
+
 ghost use Rattle.std.specs.Prelude.{◌≡◌, ◌≤◌, length};
 ghost use Rattle.guest_specs.specs.Sections.{header, status_word};
 

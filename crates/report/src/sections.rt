@@ -1,3 +1,5 @@
+// The section of a guest, put piece by piece.
+
 ghost use Rattle.std.specs.Prelude.{◌≡◌, ◌≤◌, ◌∷◌, ◌++◌, length, is_ok, OnOk, OnErr};
 ghost use Rattle.guest_specs.specs.Sections.{section_text};
 ghost use Rattle.outside.specs.Faults.{Rose};

@@ -12,13 +12,13 @@ use crate::values::value_at;
 use std::alloc::{AllocError, Global};
 use toml::{Table, Value};
 
-/// The last moment at which an input can come.
+// The last moment at which an input can come.
 const LAST_MOMENT: u64 = (1 << 62) - 1;
 
-/// The most inputs of a guest.
+// The most inputs of a guest.
 const MOST_INPUTS: usize = 65_536;
 
-/// The input that a value is: a moment and a byte.
+// The input that a value is: a moment and a byte.
 fn input_in(value: &Value) -> Option<(u64, u8)>
     ensures { result ≡ pair_within (2 ^ 62 - 1) 255 (view value.now) }
 {
@@ -26,7 +26,7 @@ fn input_in(value: &Value) -> Option<(u64, u8)>
     Some((moment, byte as u8))
 }
 
-/// The inputs that all of these values are.
+// The inputs that all of these values are.
 #[tactic(auto, using(crate::proofs::Pairing::pairs))]
 fn all_inputs(alloc: Global, values: &[Value]) -> Result<Option<Vec<(u64, u8)>>, AllocError>
     ensures { IfOk result (λ o. option_map (λ v. v.items) o
@@ -42,7 +42,7 @@ fn all_inputs(alloc: Global, values: &[Value]) -> Result<Option<Vec<(u64, u8)>>,
     Ok(Some(inputs))
 }
 
-/// Whether no moment is less than the one before.
+// Whether no moment is less than the one before.
 #[tactic(auto, unfolding(crate::specs::Guests::rise_from))]
 fn rise(inputs: &[(u64, u8)]) -> bool
     ensures { result ≡ rise_from 0 inputs.now }
@@ -57,7 +57,7 @@ fn rise(inputs: &[(u64, u8)]) -> bool
     true
 }
 
-/// The inputs that a value is, where it is as it must be.
+// The inputs that a value is, where it is as it must be.
 #[tactic(auto, unfolding(crate::specs::Guests::inputs_in))]
 fn inputs_in(alloc: Global, value: &Value) -> Result<Option<Vec<(u64, u8)>>, AllocError>
     ensures { IfOk result (λ o. option_map (λ v. v.items) o ≡ inputs_in (view value.now)) }

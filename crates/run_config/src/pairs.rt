@@ -8,7 +8,7 @@ use crate::values::number_within;
 use toml::Value;
 use toml::value::Array;
 
-/// The items of an array that has just two.
+// The items of an array that has just two.
 #[tactic(auto, unfolding(crate::specs::Values::two_items), using(crate::proofs::Items::items))]
 fn two_items(items: &Array) -> Option<(&Value, &Value)>
     ensures { option_map (λ two. (view two.0.now, view two.1.now)) result ≡ two_items (array_view items.now) }

@@ -23,13 +23,13 @@ use crate::values::{has_only, number_within, value_at};
 use std::alloc::{AllocError, Global};
 use toml::{Table, Value};
 
-/// The most bytes that a configuration has.
+// The most bytes that a configuration has.
 const MOST_BYTES: usize = 65_536;
 
-/// The most guests.
+// The most guests.
 const MOST_GUESTS: usize = 16;
 
-/// All keys that the document may have.
+// All keys that the document may have.
 const DOCUMENT_KEYS: [ConfigKey; 5] = [
     ConfigKey::Format,
     ConfigKey::Guest,
@@ -38,7 +38,7 @@ const DOCUMENT_KEYS: [ConfigKey; 5] = [
     ConfigKey::Rounds,
 ];
 
-/// The document that the bytes spell.
+// The document that the bytes spell.
 #[tactic(auto, unfolding(crate::specs::Accept::tree_of), using(crate::proofs::Texts::texts))]
 fn tree(alloc: Global, bytes: &[u8]) -> Result<Table, ReadEnd>
     ensures ok { IfOk result (λ t. tree_of bytes.now ≡ Some (table_view t)) }
@@ -60,7 +60,7 @@ fn tree(alloc: Global, bytes: &[u8]) -> Result<Table, ReadEnd>
     }
 }
 
-/// Whether `format` is the integer 1.
+// Whether `format` is the integer 1.
 #[tactic(auto, unfolding(crate::specs::Accept::has_format))]
 fn has_format(document: &Table) -> bool
     ensures { result ≡ has_format (table_view document.now) }
@@ -71,7 +71,7 @@ fn has_format(document: &Table) -> bool
     }
 }
 
-/// The tables that all of these values are.
+// The tables that all of these values are.
 #[tactic(auto, using(crate::proofs::Tabling::tables))]
 fn all_tables<'a>(alloc: Global, values: &'a [Value]) -> Result<Option<Vec<&'a Table>>, AllocError>
     ensures { IfOk result (λ o. option_map (λ v. tables_seen v.items) o ≡ tables_of (items_view values.now)) }
@@ -86,7 +86,7 @@ fn all_tables<'a>(alloc: Global, values: &'a [Value]) -> Result<Option<Vec<&'a T
     Ok(Some(tables))
 }
 
-/// The tables of the guests, where there is an array of 1 to 16 tables.
+// The tables of the guests, where there is an array of 1 to 16 tables.
 #[tactic(auto, unfolding(crate::specs::Accept::guests_at))]
 fn guests_at<'a>(alloc: Global, document: &'a Table) -> Result<Option<Vec<&'a Table>>, AllocError>
     ensures tables { IfOk result (λ o. option_map (λ v. tables_seen v.items) o
@@ -110,7 +110,7 @@ fn guests_at<'a>(alloc: Global, document: &'a Table) -> Result<Option<Vec<&'a Ta
     }
 }
 
-/// How many items the array of guests has, where there is an array.
+// How many items the array of guests has, where there is an array.
 #[tactic(auto, unfolding(crate::specs::Accept::array_length), using(crate::proofs::Items::items))]
 fn array_length(document: &Table) -> Option<i64>
     ensures { result ≡ array_length (table_view document.now) }
@@ -120,7 +120,7 @@ fn array_length(document: &Table) -> Option<i64>
     Some(items.len() as i64)
 }
 
-/// The settings of the guests whose tables these are.
+// The settings of the guests whose tables these are.
 #[tactic(auto, unfolding(crate::specs::Guests::guests_fault), using(crate::proofs::Guesting::guests))]
 fn all_settings(alloc: Global, tables: &[&Table]) -> Result<Vec<GuestSettings>, ReadEnd>
     requires few { length tables.now ≤ 16 }
@@ -137,8 +137,8 @@ fn all_settings(alloc: Global, tables: &[&Table]) -> Result<Vec<GuestSettings>, 
     Ok(guests)
 }
 
-/// The configuration that a document says. Want of memory never stands in the place of a refusal by `format`,
-/// or of one where there is no `guest`.
+// The configuration that a document says. Want of memory never stands in the place of a refusal by `format`,
+// or of one where there is no `guest`.
 #[tactic(auto, unfolding(crate::specs::Accept::document_fault, crate::specs::Accept::head_fault, crate::specs::Accept::configuration_of, crate::specs::Accept::guests_in, crate::specs::Tests::missing))]
 fn configuration_of(alloc: Global, document: &Table) -> Result<Config, ReadEnd>
     ensures passed { OnOk result (document_fault (table_view document.now) ≡ None) }

@@ -14,13 +14,13 @@ use std::alloc::Global;
 use toml::{Table, Value};
 use turn_plan::Turns;
 
-/// The most steps of a turn.
+// The most steps of a turn.
 const MOST_STEPS: u64 = 1 << 32;
 
-/// The most turns.
+// The most turns.
 const MOST_TURNS: u64 = 1 << 20;
 
-/// The turn that a value is: the number of one of so many guests, and steps.
+// The turn that a value is: the number of one of so many guests, and steps.
 fn turn_in(guests: u32, value: &Value) -> Option<(u32, u64)>
     requires { 1 ≤ guests }
     ensures { result ≡ pair_within (guests - 1) (2 ^ 32) (view value.now) }
@@ -29,7 +29,7 @@ fn turn_in(guests: u32, value: &Value) -> Option<(u32, u64)>
     Some((guest as u32, steps))
 }
 
-/// The turns that all of these values are.
+// The turns that all of these values are.
 #[tactic(auto, using(crate::proofs::Pairing::pairs))]
 fn all_turns(
     alloc: Global,
@@ -50,7 +50,7 @@ fn all_turns(
     Ok(Some(turns))
 }
 
-/// Whether neither `quantum` nor `rounds` is there.
+// Whether neither `quantum` nor `rounds` is there.
 fn has_no_rounds(document: &Table) -> bool
     ensures { result ≡ (is_none (value_at key.Quantum (table_view document.now))
         && is_none (value_at key.Rounds (table_view document.now))) }
@@ -59,7 +59,7 @@ fn has_no_rounds(document: &Table) -> bool
         && value_at(document, ConfigKey::Rounds).is_none()
 }
 
-/// The turns of the key `turns`, where they are as they must be.
+// The turns of the key `turns`, where they are as they must be.
 #[tactic(auto, unfolding(crate::specs::Turns::listed_turns))]
 fn listed_turns(alloc: Global, guests: u32, document: &Table) -> Result<Option<Turns>, NoMemory>
     requires { 1 ≤ guests }
@@ -84,7 +84,7 @@ fn listed_turns(alloc: Global, guests: u32, document: &Table) -> Result<Option<T
     }
 }
 
-/// Whether so many rounds of so many guests are few enough.
+// Whether so many rounds of so many guests are few enough.
 fn are_few(guests: u32, rounds: u64) -> bool
     ensures { result ≡ nat_le (guests * rounds) (2 ^ 20) }
 {
@@ -94,7 +94,7 @@ fn are_few(guests: u32, rounds: u64) -> bool
     }
 }
 
-/// The steps of each turn, and how many rounds there are.
+// The steps of each turn, and how many rounds there are.
 #[tactic(auto, unfolding(crate::specs::Turns::quantum_and_rounds))]
 fn quantum_and_rounds(document: &Table) -> Option<(u64, u64)>
     ensures { result ≡ quantum_and_rounds (table_view document.now) }
@@ -107,7 +107,7 @@ fn quantum_and_rounds(document: &Table) -> Option<(u64, u64)>
     Some((quantum, rounds))
 }
 
-/// The turns of the keys `quantum` and `rounds`, where they are as they must be.
+// The turns of the keys `quantum` and `rounds`, where they are as they must be.
 #[tactic(auto, unfolding(crate::specs::Turns::turns_by_rounds))]
 fn turns_by_rounds(alloc: Global, guests: u32, document: &Table) -> Result<Option<Turns>, NoMemory>
     ensures { IfOk result (λ o. o ≡ turns_by_rounds guests (table_view document.now)) }

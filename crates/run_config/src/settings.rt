@@ -22,7 +22,7 @@ use guest_specs::{Inputs, Name};
 use std::alloc::{AllocError, Global};
 use toml::{Table, Value};
 
-/// All keys that a guest may have.
+// All keys that a guest may have.
 const GUEST_KEYS: [ConfigKey; 7] = [
     ConfigKey::Name,
     ConfigKey::Image,
@@ -55,7 +55,7 @@ pub struct GuestRef<'a> {
     console: u64,
 }
 
-/// The value of a key that a guest must have.
+// The value of a key that a guest must have.
 #[tactic(auto, unfolding(crate::specs::Tests::missing))]
 fn required<'a>(table: &'a Table, guest: u32, key: ConfigKey) -> Result<&'a Value, ConfigFault>
     ensures value { IfOk result (λ v. value_at key (table_view table.now) ≡ Some (view v.now)) }
@@ -71,7 +71,7 @@ fn required<'a>(table: &'a Table, guest: u32, key: ConfigKey) -> Result<&'a Valu
     }
 }
 
-/// The fault of a value that is not as its key's row of the table says.
+// The fault of a value that is not as its key's row of the table says.
 fn range_fault(guest: u32, key: ConfigKey, value: &Value) -> ConfigFault
     ensures { result ≡ fault.Range (Some guest) key (as_integer (view value.now)) }
 {
@@ -82,7 +82,7 @@ fn range_fault(guest: u32, key: ConfigKey, value: &Value) -> ConfigFault
     }
 }
 
-/// The text that a value is.
+// The text that a value is.
 #[tactic(auto, unfolding(crate::specs::Tests::wrong_kind, crate::specs::Values::is_of))]
 fn text_in<'a>(value: &'a Value, guest: u32, key: ConfigKey) -> Result<&'a str, ConfigFault>
     ensures text { IfOk result (λ t. as_str (view value.now) ≡ Some t.now) }
@@ -95,7 +95,7 @@ fn text_in<'a>(value: &'a Value, guest: u32, key: ConfigKey) -> Result<&'a str, 
     }
 }
 
-/// The file name that a value is: a text of 1 to 255 bytes.
+// The file name that a value is: a text of 1 to 255 bytes.
 #[tactic(auto, unfolding(crate::specs::Tests::wrong_kind, crate::specs::Values::is_of))]
 fn file_name_in<'a>(value: &'a Value, guest: u32, key: ConfigKey) -> Result<&'a str, ConfigFault>
     ensures text { IfOk result (λ t. as_str (view value.now) ≡ Some t.now) }
@@ -112,7 +112,7 @@ fn file_name_in<'a>(value: &'a Value, guest: u32, key: ConfigKey) -> Result<&'a 
     }
 }
 
-/// The number that a value is, within these limits.
+// The number that a value is, within these limits.
 #[tactic(auto, unfolding(crate::specs::Tests::wrong_kind, crate::specs::Values::is_of))]
 fn number_in(
     value: &Value,
@@ -132,7 +132,7 @@ fn number_in(
     }
 }
 
-/// The values at the keys that a guest must have, where each of these keys is there.
+// The values at the keys that a guest must have, where each of these keys is there.
 #[tactic(auto, unfolding(crate::specs::Guests::absent_key))]
 fn values_at<'a>(table: &'a Table, guest: u32) -> Result<GuestValues<'a>, ConfigFault>
     ensures passed { OnOk result (absent_key guest (table_view table.now) ≡ None) }
@@ -155,7 +155,7 @@ fn values_at<'a>(table: &'a Table, guest: u32) -> Result<GuestValues<'a>, Config
     })
 }
 
-/// The settings that these values are, where each is of its kind.
+// The settings that these values are, where each is of its kind.
 #[tactic(auto, unfolding(crate::specs::Seen::wrong_among))]
 fn settings_in<'a>(values: GuestValues<'a>, guest: u32) -> Result<GuestRef<'a>, ConfigFault>
     ensures of_kind { OnOk result (wrong_among guest values.entry ≡ None) }
@@ -178,7 +178,7 @@ fn settings_in<'a>(values: GuestValues<'a>, guest: u32) -> Result<GuestRef<'a>, 
     })
 }
 
-/// The settings of a guest that has each key that it must have, each with a value of its kind.
+// The settings of a guest that has each key that it must have, each with a value of its kind.
 #[tactic(auto, using(crate::proofs::GuestKeys::wrong_in_table))]
 fn values_of<'a>(table: &'a Table, guest: u32) -> Result<GuestRef<'a>, ConfigFault>
     ensures passed { OnOk result (absent_key guest (table_view table.now) ≡ None) }
@@ -191,7 +191,7 @@ fn values_of<'a>(table: &'a Table, guest: u32) -> Result<GuestRef<'a>, ConfigFau
     Ok(settings_in(values, guest)?)
 }
 
-/// Whether a guest before has the name.
+// Whether a guest before has the name.
 fn is_taken(guests: &[GuestSettings], name: &str) -> bool
     ensures { result ≡ list_any (λ guest. bytes_eq name.now guest.name) guests.now }
 {
@@ -200,7 +200,7 @@ fn is_taken(guests: &[GuestSettings], name: &str) -> bool
         .any(|guest| name.as_bytes() == guest.name.as_slice())
 }
 
-/// Whether the name has its form, and no guest before has it.
+// Whether the name has its form, and no guest before has it.
 #[tactic(auto, unfolding(crate::specs::Guests::is_new_name), using(crate::proofs::Guesting::names))]
 fn is_new_name(guests: &[GuestSettings], name: &str) -> bool
     ensures { result ≡ is_new_name (names_of guests.now) name.now }
@@ -208,7 +208,7 @@ fn is_new_name(guests: &[GuestSettings], name: &str) -> bool
     is_name(name) && !is_taken(guests, name)
 }
 
-/// Keeps the settings of a guest.
+// Keeps the settings of a guest.
 fn kept(
     alloc: Global,
     seen: GuestRef<'_>,

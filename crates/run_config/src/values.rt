@@ -12,7 +12,7 @@ ghost use Rattle.run_config.specs.Values.{has_length, has_only, is_name, natural
 use crate::keys::ConfigKey;
 use toml::{Table, Value};
 
-/// The value at a key of this text.
+// The value at a key of this text.
 #[tactic(auto, using(toml::proofs::Views::table_get))]
 fn member_at<'a>(table: &'a Table, key: &str) -> Option<&'a Value>
     ensures { option_map (λ v. view v.now) result ≡ get_member key.now (table_view table.now) }
@@ -62,7 +62,7 @@ pub fn has_length(low: usize, high: usize, text: &str) -> bool
     low <= text.len() && text.len() <= high
 }
 
-/// Whether the text has letters and digits alone, all of them ASCII.
+// Whether the text has letters and digits alone, all of them ASCII.
 fn is_alphanumeric(text: &str) -> bool
     ensures { result ≡ list_all is_ascii_alphanumeric text.now }
 {
@@ -79,14 +79,14 @@ pub fn is_name(text: &str) -> bool
     has_length(1, 32, text) && is_alphanumeric(text)
 }
 
-/// Whether the text is one of these keys.
+// Whether the text is one of these keys.
 fn is_among(text: &str, known: &[ConfigKey]) -> bool
     ensures { result ≡ list_any (λ key. bytes_eq text.now (name_of key)) known.now }
 {
     known.iter().any(|key| text == key.text())
 }
 
-/// Whether each key of the table is one of these.
+// Whether each key of the table is one of these.
 fn are_among(table: &Table, known: &[ConfigKey]) -> bool
     ensures { result ≡ list_all (λ text. list_any (λ key. bytes_eq (string_bytes text) (name_of key))
         known.now) (keys table.now) }

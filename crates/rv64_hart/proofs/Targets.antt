@@ -10,8 +10,8 @@ use Rattle.arch_defs.specs.declared.registers.Csrs.{Csrs}
 use Rattle.arch_defs.specs.declared.registers.Virtual.{Virtual}
 use Rattle.arch_defs.specs.declared.walks.MissingPlace.{MissingPlace}
 use Rattle.arch_defs.specs.Bits.{bit}
-use Rattle.arch_defs.specs.SecondStage.{guest_page_fault, guest_page_trap}
-use Rattle.arch_defs.specs.Traps.{is_delegated, is_virtual, target}
+use Rattle.arch_defs.specs.SecondStage.{guest_page_trap}
+use Rattle.arch_defs.specs.Traps.{is_delegated, is_virtual, target, faults_of}
 use Rattle.rv64_hart.specs.Steps.{Exits, Raises, end_by}
 
 -- only with V = 1 to VS
@@ -40,7 +40,7 @@ bit_21 n h = let e : n / 2 ^ 21 % 2 ≡ 0 = omega arith in rw e refl
 bit_23 : (n : ℕ) → n < 65536 → bit 23 n ≡ false
 bit_23 n h = let e : n / 2 ^ 23 % 2 ≡ 0 = omega arith in rw e refl
 
-kept_by_hs : (csrs : Csrs) (access : Access) → csrs.hedeleg < 65536 → is_delegated csrs false (guest_page_fault access) ≡ false
+kept_by_hs : (csrs : Csrs) (access : Access) → csrs.hedeleg < 65536 → is_delegated csrs false (faults_of access).guest_page ≡ false
 kept_by_hs csrs Fetch h = bit_20 csrs.hedeleg h
 kept_by_hs csrs Load h = bit_21 csrs.hedeleg h
 kept_by_hs csrs ExecLoad h = bit_21 csrs.hedeleg h

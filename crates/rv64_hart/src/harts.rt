@@ -13,7 +13,6 @@ use crate::tallies::Tally;
 use arch_defs::{HartState, Mode, Trap, Virtual};
 use phys_mem::PhysMem;
 use translation_buffer::Buffer;
-use trap_delegation::interrupt_trap;
 
 /// Why the hart stopped.
 #[derive(Clone, Copy, PartialEq, Eq)]
@@ -124,7 +123,7 @@ fn steps(
     ensures entries { tally.new.entries ≡ tally.old.entries }
     ensures taken { tally.new.taken ≡ tally.old.taken }
 {
-    let mut trap = interrupt_trap(0);
+    let mut trap = Trap::of_interrupt(0);
     let mut quiet = false;
     for taken in 0..limit {
         match step(state, memory, buffer, watch, &mut quiet, tally, &mut trap) {

@@ -5,11 +5,11 @@ ghost use Rattle.arch_defs.specs.declared.modes.Mode.{Mode};
 ghost use Rattle.arch_defs.specs.declared.registers.Csrs.{Csrs};
 ghost use Rattle.arch_defs.specs.Interrupts.{due, interrupt_of};
 ghost use Rattle.arch_defs.specs.Traps.{entered_at, exception, is_virtual, target};
-ghost use Rattle.op_defs.specs.Meaning.{branch, jump, meaning, next};
+ghost use Rattle.op_defs.specs.Meaning.{branch, jump, meaning};
 ghost use Rattle.op_defs.specs.Table.{is_system, op_of};
 ghost use Rattle.machine_defs.specs.declared.events.Event.{Event};
 ghost use Rattle.machine_defs.specs.Core.{called_from, core, event_of, executed, instruction};
-ghost use Rattle.machine_defs.specs.Outcomes.{sets};
+ghost use Rattle.arch_defs.specs.Registers.{sets, next};
 ghost use Rattle.machine_defs.specs.Privileges.{privileged};
 ghost use Rattle.translation_buffer.specs.Serving.{Serves};
 ghost use Rattle.rv64_hart.specs.Counts.{OnlyTrace};
@@ -28,10 +28,10 @@ use int_ops::{alu, word_alu};
 use op_defs::{Effect, Op, Privileged};
 use op_effects::{address_at, effect_of, even, is_branch_taken};
 use phys_mem::PhysMem;
-use privileged_ops::{Performed, pass, perform, refusal_code, set};
+use privileged_ops::{Performed, perform, refusal_code};
 use rv64_decode::decode;
 use translation_buffer::Buffer;
-use trap_delegation::{enter_vs, exception, interrupt_trap, pending, target};
+use trap_delegation::{enter_vs, pending, target};
 
 /// Makes one step, which may be a trap into VS, unless it traps to HS; the tally gets its trace.
 #[inline(always)]
@@ -361,7 +361,7 @@ fn sets(state: &mut Virtual, rd: Reg, value: u64) -> Ended
     ensures state { state.new ≡ sets state.old rd value }
     ensures plain { result ≡ Ended.Plain }
 {
-    set(state, rd, value);
+    state.set(rd, value);
     Ended::Plain
 }
 
@@ -395,7 +395,7 @@ fn branch(state: &mut Virtual, taken: bool, to: u64, trap: &mut Trap) -> Ended
     ensures keeps { KeepsContext state.old state.new }
 {
     if !taken {
-        pass(state);
+        state.pass();
         Ended::Plain
     } else if to % 4 == 0 {
         state.regs.advance(Reg::new(0), 0, to);
@@ -472,7 +472,7 @@ fn raise(mode: Mode, cause: u64, tval: u64, trap: &mut Trap) -> Ended
     ensures trap { trap.new ≡ exception mode cause tval }
     ensures raised { result ≡ Ended.Raised }
 {
-    *trap = exception(mode, cause, tval);
+    *trap = Trap::of_exception(mode, cause, tval);
     Ended::Raised
 }
 
@@ -483,7 +483,7 @@ fn raise_interrupt(code: u64, trap: &mut Trap) -> Ended
     ensures trap { trap.new ≡ interrupt_of code }
     ensures raised { result ≡ Ended.Raised }
 {
-    *trap = interrupt_trap(code);
+    *trap = Trap::of_interrupt(code);
     Ended::Raised
 }
 

@@ -7,7 +7,7 @@ use Rattle.std.proofs.lemmas.List.Edits.{length-remove, map_over_more}
 use Rattle.std.proofs.lemmas.List.Quantifiers.{position-Some}
 use Rattle.arch_defs.specs.declared.cached.Entry.{Entry}
 use Rattle.arch_defs.specs.declared.cached.Fence.{Fence}
-use Rattle.arch_defs.specs.declared.registers.GuestRoot.{GuestRoot}
+use Rattle.arch_defs.specs.declared.roots.GuestRoot.{GuestRoot}
 use Rattle.arch_defs.specs.CachedEntries.{filled}
 use Rattle.arch_defs.specs.Frames.{Only}
 use Rattle.arch_defs.specs.Spaces.{entered, fenced, fenced_space}

@@ -5,7 +5,7 @@ use Rattle.std.specs.Option.{option_map}
 use Rattle.std.proofs.lemmas.Bool.{cases_Bool, lt-ltb}
 use Rattle.arch_defs.specs.declared.cached.Entry.{Entry}
 use Rattle.arch_defs.specs.declared.cached.Fence.{Fence}
-use Rattle.arch_defs.specs.declared.registers.GuestRoot.{GuestRoot}
+use Rattle.arch_defs.specs.declared.roots.GuestRoot.{GuestRoot}
 use Rattle.arch_defs.specs.CachedEntries.{filled}
 use Rattle.arch_defs.specs.Spaces.{Space, fenced, fenced_space}
 use Rattle.machine_defs.specs.Fills.{filled_front}

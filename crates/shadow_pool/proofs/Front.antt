@@ -3,10 +3,8 @@ use Rattle.std.proofs.Common.{◌≡◌, ℕ, suc, ◌+◌, ◌-◌, ◌*◌, �
 use Rattle.std.specs.List.{cons_option}
 use Rattle.std.specs.Option.{option_map}
 use Rattle.arch_defs.specs.declared.cached.Entry.{Entry}
-use Rattle.arch_defs.specs.declared.registers.GuestMode.TheVariants as mode
-use Rattle.arch_defs.specs.declared.registers.GuestRoot.{GuestRoot}
-use Rattle.arch_defs.specs.declared.registers.GuestRoot.TheVariants as root
-use Rattle.arch_defs.specs.declared.walks.Shape.TheVariants.{Sv39x4}
+use Rattle.arch_defs.specs.declared.roots.GuestRoot.{GuestRoot}
+use Rattle.arch_defs.specs.declared.roots.GuestRoot.TheVariants as root
 use Rattle.arch_defs.specs.Frames.{LieIn, in_blocks}
 use Rattle.arch_defs.specs.Layouts.{Layout}
 use Rattle.arch_defs.specs.Memory.{ram_base, block_size}
@@ -15,6 +13,8 @@ use Rattle.arch_defs.specs.SecondStage.{second_under, second_walk}
 use Rattle.arch_defs.proofs.FrameSets.{same_fewer}
 use Rattle.arch_defs.specs.Spaces.{Space, entered}
 use Rattle.arch_defs.specs.CachedEntries.{second_by}
+use Rattle.arch_defs.specs.Roots.{folded_mode}
+use Rattle.shadow_space.specs.Trees.{folded_shape}
 use Rattle.shadow_space.specs.Shadows.{Shadow, Tidy, own_frames, root_of}
 use Rattle.shadow_space.proofs.Giving.{gives, in_ram, lacks}
 use Rattle.shadow_space.proofs.Tidying.{lasts}
@@ -70,7 +70,7 @@ pub front_gives : FrontGivesEntries
 front_gives pool memory front others mxr vmid address access tidy lies is =
     let f = front_is pool.part pool.most pool.slots memory front others tidy.slots tidy.tables is in
     let space = f.space in
-    ap (λ frame. second_under 0 memory mxr (root.Table mode.Sv39x4 vmid frame) address access) (sym f.root_is)
+    ap (λ frame. second_under 0 memory mxr (root.Table folded_mode vmid frame) address access) (sym f.root_is)
     ∙ gives space memory mxr vmid address access f.tidy (subst (λ part. LieIn (in_blocks part.blocks) (length memory)) (sym f.part_is) lies)
     ∙ ap (λ part. option_map (λ place. host_place part.blocks (place - ram_base)) (second_by space.entries mxr address access)) f.part_is
     ∙ ap (λ entries. option_map (λ place. host_place pool.part.blocks (place - ram_base)) (second_by entries mxr address access)) f.entries_are
@@ -78,7 +78,7 @@ front_gives pool memory front others mxr vmid address access tidy lies is =
 pub front_misses : FrontMissesAreGuestPageFaults
 front_misses pool memory front others mxr address access tidy lies is none =
     let f = front_is pool.part pool.most pool.slots memory front others tidy.slots tidy.tables is in
-    ap (λ frame. second_walk 0 memory mxr Sv39x4 frame address access) (sym f.root_is)
+    ap (λ frame. second_walk 0 memory mxr folded_shape frame address access) (sym f.root_is)
     ∙ lacks f.space memory mxr address access f.tidy (subst (λ part. LieIn (in_blocks part.blocks) (length memory)) (sym f.part_is) lies)
     (ap (λ entries. second_by entries mxr address access) f.entries_are ∙ none)
 

@@ -5,13 +5,13 @@ use Rattle.std.proofs.lemmas.List.{drop_all, get_or_default, get_or-set_same, ge
 use Rattle.std.proofs.lemmas.List.Edits.{length-remove}
 use Rattle.std.proofs.lemmas.List.Elements.{All-cons, All-take}
 use Rattle.std.proofs.lemmas.List.Kept.{AllPairs-cons}
-use Rattle.arch_defs.specs.declared.registers.GuestRoot.{GuestRoot}
+use Rattle.arch_defs.specs.declared.roots.GuestRoot.{GuestRoot}
 use Rattle.arch_defs.specs.Frames.{Only}
 use Rattle.arch_defs.specs.Layouts.{Layout}
 use Rattle.shadow_space.specs.Shadows.{KeepsSpace}
 use Rattle.shadow_pool.specs.declared.slots.Slot.{Slot}
 use Rattle.shadow_pool.specs.Slots.{AreSlots, AreTidy, ComesBefore, IsSlot, KeepsPool, TidyPool, has_key, key_is, most_of, part_of, pool_frames, pool_of}
-use Rattle.machine_laws.proofs.FrontSpaces.{root_same}
+use Rattle.arch_defs.proofs.SameRoots.{root_same}
 use Rattle.shadow_pool.proofs.Keys.{not_none, turns}
 use Rattle.shadow_pool.proofs.Ordering.{all_moved, pairs_moved, pairs_take}
 

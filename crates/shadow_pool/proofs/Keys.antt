@@ -2,10 +2,10 @@
 use Rattle.std.proofs.Common.{◌≡◌, true, false, ◌⊎◌, inl, inr, Option, Some, None, refl, sym, ap, ◌∙◌}
 use Rattle.std.specs.Option.{is_some}
 use Rattle.std.proofs.lemmas.Bool.{both_ways, cases_Bool}
-use Rattle.arch_defs.specs.declared.registers.GuestRoot.{GuestRoot}
+use Rattle.arch_defs.specs.declared.roots.GuestRoot.{GuestRoot}
 use Rattle.shadow_pool.specs.declared.slots.Slot.{Slot}
 use Rattle.shadow_pool.specs.Slots.{ComesBefore, has_key, key_is}
-use Rattle.machine_laws.proofs.FrontSpaces.{root_is, root_same}
+use Rattle.arch_defs.proofs.SameRoots.{root_is, root_same}
 
 -- a table with a value of hgatp
 pub key_of : (key : GuestRoot) (slot : Slot) → has_key key slot ≡ true → slot.key ≡ Some key

@@ -12,7 +12,7 @@ use Rattle.shadow_space.specs.Shadows.{KeepsSpace, Tidy, own_frames}
 use Rattle.shadow_space.proofs.Partings.{spaces_apart}
 use Rattle.shadow_space.proofs.Tidying.{folded, lasts, tables_end}
 use Rattle.shadow_pool.specs.declared.slots.Slot.{Slot}
-use Rattle.arch_defs.specs.declared.registers.GuestRoot.{GuestRoot}
+use Rattle.arch_defs.specs.declared.roots.GuestRoot.{GuestRoot}
 use Rattle.shadow_pool.specs.Slots.{AreFolded, AreSlots, AreTidy, ComesBefore, IsSlot, has_key, key_is, table_frames_for}
 use Rattle.shadow_pool.proofs.Ordering.{pairs_set}
 

@@ -2,19 +2,19 @@
 use Rattle.std.specs.Prelude.{ℕ, ◌≡◌, ◌+◌, ◌-◌, ◌*◌, ◌%◌, ◌≤◌, ◌&&◌, Bool, true, List, ◌∷◌, Some, None, length, nat_le, nat_lt, option_map}
 use Rattle.arch_defs.specs.declared.second_walks.SecondWalkEnd.TheVariants.{GuestPageFault}
 use Rattle.arch_defs.specs.declared.modes.Access.{Access}
-use Rattle.arch_defs.specs.declared.registers.GuestMode.TheVariants as mode
-use Rattle.arch_defs.specs.declared.registers.GuestRoot.{GuestRoot}
-use Rattle.arch_defs.specs.declared.registers.GuestRoot.TheVariants as root
-use Rattle.arch_defs.specs.declared.walks.Shape.TheVariants.{Sv39x4}
+use Rattle.arch_defs.specs.declared.roots.GuestRoot.{GuestRoot}
+use Rattle.arch_defs.specs.declared.roots.GuestRoot.TheVariants as root
 use Rattle.arch_defs.specs.Frames.{Apart, LieIn, Same, Within, in_blocks}
 use Rattle.arch_defs.specs.Layouts.{Layout, host_frames, named_by}
 use Rattle.arch_defs.specs.Memory.{ram_base, block_size}
 use Rattle.arch_defs.specs.Ram.{host_place}
+use Rattle.arch_defs.specs.Roots.{folded_mode}
 use Rattle.arch_defs.specs.SecondStage.{second_under, second_walk}
 use Rattle.arch_defs.specs.Spaces.{Space, entered}
 use Rattle.machine_laws.specs.FrontSpaces.{FrontIs}
 use Rattle.arch_defs.specs.CachedEntries.{second_by}
 use Rattle.shadow_pool.specs.Slots.{Pooled, TidyPool, front_root, pool_frames, room_of, spaces_of, table_frames_for}
+use Rattle.shadow_space.specs.Trees.{folded_shape}
 
 -- a pool stays tidy where the bytes of its own frames stay
 abbrev pub TidyPoolLasts : Type 0
@@ -28,7 +28,7 @@ FrontGivesEntries = (pool : Pooled) (memory : List ℕ) (front : Space) (others 
     (vmid address : ℕ) (access : Access)
     → TidyPool pool memory → LieIn (in_blocks pool.part.blocks) (length memory)
     → spaces_of pool ≡ front ∷ others
-    → second_under 0 memory mxr (root.Table mode.Sv39x4 vmid (front_root pool.slots)) address access
+    → second_under 0 memory mxr (root.Table folded_mode vmid (front_root pool.slots)) address access
     ≡ option_map (λ place. host_place pool.part.blocks (place - ram_base))
     (second_by front.entries mxr address access)
 
@@ -39,7 +39,7 @@ FrontMissesAreGuestPageFaults = (pool : Pooled) (memory : List ℕ) (front : Spa
     → TidyPool pool memory → LieIn (in_blocks pool.part.blocks) (length memory)
     → spaces_of pool ≡ front ∷ others
     → second_by front.entries mxr address access ≡ None
-    → second_walk 0 memory mxr Sv39x4 (front_root pool.slots) address access ≡ GuestPageFault
+    → second_walk 0 memory mxr folded_shape (front_root pool.slots) address access ≡ GuestPageFault
 
 -- the places that they give are of the guest's RAM, with the offsets that the addresses have in pages
 abbrev pub FrontGivesRam : Type 0

@@ -8,7 +8,6 @@ use Rattle.std.proofs.lemmas.List.Elements.{All-tail}
 use Rattle.arch_defs.specs.declared.cached.Entry.{Entry}
 use Rattle.arch_defs.specs.CachedEntries.{HasOtherPage, entry_at, filled, newest, without}
 use Rattle.shadow_space.specs.Leaves.{leaf_if, leaves}
-use Rattle.shadow_space.proofs.Lists.{newest_all}
 
 -- what holds of all
 pub all_removed : (P : Entry → Type 0) (xs : List Entry) (i : ℕ) → i < length xs → All P xs → All P (remove xs i)
@@ -59,6 +58,10 @@ without_one [] i d inside pages = absurd (omega (arith, inside))
 without_one (x ∷ xs) zero d inside pages = rw (eq-eqb x.page x.page refl) (without_none xs x.page (after_first x xs pages))
 without_one (x ∷ xs) (suc i) d inside pages =
     rw (ne_eqb x.page (get_or xs i d).page (pages 0 (suc i) d (omega arith) inside)) (ap (λ ys. x ∷ ys) (without_one xs i d (omega (arith, inside)) (pairs_tail x xs pages)))
+
+-- as many as there may be are all
+newest_all : (most : ℕ) (xs : List Entry) → length xs ≤ most → newest most xs ≡ xs
+newest_all most xs few = let none : length xs - most ≡ 0 = omega (arith, few) in ap (λ n. drop n xs) none
 
 -- a fill of a page that has an entry, and of one that has none
 pub filled_found : (most : ℕ) (xs : List Entry) (e d : Entry) (i : ℕ) → i < length xs → length xs ≤ most → AllPairs HasOtherPage xs → (get_or xs i d).page ≡ e.page → filled most xs e ≡ remove xs i ++ e ∷ []

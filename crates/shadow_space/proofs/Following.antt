@@ -16,7 +16,7 @@ use Rattle.shadow_space.specs.Folding.{LastIs, LieWithin}
 use Rattle.shadow_space.specs.Trees.{IsOwn, IsTree, Says, Table, Tree, entry_of, folded_shape, frames_of, pointer_of, prefix, slots, top}
 use Rattle.shadow_space.specs.Ways.{slot_of, table_prefix}
 use Rattle.shadow_space.proofs.Prefixes.{low_prefix, slot_whole}
-use Rattle.shadow_space.proofs.Slots.{own_frame}
+use Rattle.shadow_space.proofs.Slots.{own_frame, whole}
 use Rattle.shadow_space.proofs.Ways.{tree_own, tree_slot}
 use Rattle.stage_walk.proofs.EntryWords.{zero_maps_nothing, pointer_leads_below}
 use Rattle.table_words.specs.Entries.{pointer_word}
@@ -27,7 +27,8 @@ index_is : (level va : ℕ) → level ≤ top → va / 4096 < 2 ^ guest_page_bit
 index_is zero va low small = omega arith
 index_is (suc zero) va low small = omega arith
 index_is (suc (suc zero)) va low small = omega arith
-index_is (suc (suc (suc h))) va low small = absurd (omega (arith, low))
+index_is (suc (suc (suc zero))) va low small = omega arith
+index_is (suc (suc (suc (suc h)))) va low small = absurd (omega (arith, low))
 
 -- the frame of an entry's place
 place_frame : (f s : ℕ) → (512 * f + s) / 512 ≡ (4096 * f + 8 * s) / 4096
@@ -65,7 +66,7 @@ module _ (tables : Tables) (tree : Tree) (word leaf : ℕ → ℕ) (sound : IsTr
       (reads_here (suc h) f to here ∙ ap (λ n. Ok (pointer_of (tree.place h n))) (slot_whole h page to) ∙ ap (λ o. Ok (pointer_of o)) place)
 
   leaf_read : (f : ℕ) → tree.content f ≡ Table 0 (table_prefix 0 page) → reading (4096 * f + 8 * index folded_shape 0 va) ≡ Ok (leaf page)
-  leaf_read f here = let whole : 512 * (page / 512) + page % 512 ≡ page = omega arith in reads_here 0 f (omega arith) here ∙ ap (λ n. Ok (leaf n)) whole
+  leaf_read f here = reads_here 0 f (omega arith) here ∙ ap (λ n. Ok (leaf n)) (whole page)
 
   last_next : (f : ℕ) → tree.content f ≡ Table 0 (table_prefix 0 page) → next_of access (met_in reading folded_shape va 0 f) ≡ entry_next 0 access (pte_of (leaf page))
   last_next f here = ap (read_next 0 (4096 * f + 8 * index folded_shape 0 va) access) (leaf_read f here)
@@ -88,16 +89,11 @@ module _ (tables : Tables) (tree : Tree) (word leaf : ℕ → ℕ) (sound : IsTr
 
   -- without a table there is no leaf
   no_leaf : (h : ℕ) → suc h ≤ top → tree.place h (prefix h page) ≡ None → leaf page ≡ 0
-  no_leaf zero to none =
-      let whole : 512 * (page / 512) + page % 512 ≡ page = omega arith in
-      ap leaf (sym whole) ∙ says.nothing 0 (page / 512) (page % 512) to none (omega arith)
+  no_leaf zero to none = ap leaf (sym (whole page)) ∙ says.nothing 0 (page / 512) (page % 512) to none (omega arith)
   no_leaf (suc h) to none = by (λ is. no_leaf h (omega (arith, to)) is) (tree.place h (prefix h page)) refl
     where
-      whole : 512 * prefix (suc h) page + prefix h page % 512 ≡ prefix h page
-      whole = omega arith
-
       zeros : pointer_of (tree.place h (prefix h page)) ≡ 0
-      zeros = ap (λ n. pointer_of (tree.place h n)) (sym whole) ∙ says.nothing (suc h) (prefix (suc h) page) (prefix h page % 512) to none (omega arith)
+      zeros = ap (λ n. pointer_of (tree.place h n)) (sym (whole (prefix h page))) ∙ says.nothing (suc h) (prefix (suc h) page) (prefix h page % 512) to none (omega arith)
 
       by : (tree.place h (prefix h page) ≡ None → leaf page ≡ 0) → (o : Option ℕ) → tree.place h (prefix h page) ≡ o → leaf page ≡ 0
       by below None is = below is

@@ -8,7 +8,6 @@ pub mod Finding
 pub mod Following
 pub mod Giving
 pub mod Leafing
-pub mod Lists
 pub mod Numbers
 pub mod Partings
 pub mod Passing

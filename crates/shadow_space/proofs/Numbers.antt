@@ -6,12 +6,13 @@ use Rattle.arch_defs.specs.declared.cached.Entry.{Entry}
 use Rattle.shadow_space.specs.Held.{number_of}
 use Rattle.shadow_space.specs.Leaves.{leaves}
 use Rattle.shadow_space.specs.Trees.{prefix}
+use Rattle.shadow_space.proofs.Finding.{no_leaf}
 use Rattle.shadow_space.proofs.Slots.{same_or}
 
 one_if : (a b : ℕ) → a ≡ b → ◌≡◌ {A = ℕ} (cond (a == b) 1 0) 1
 one_if a b is = rw (eq-eqb a b is) refl
 
-none_if : (a b : ℕ) → a ≢ b → ◌≡◌ {A = ℕ} (cond (a == b) 1 0) 0
+pub none_if : (a b : ℕ) → a ≢ b → ◌≡◌ {A = ℕ} (cond (a == b) 1 0) 0
 none_if a b other = rw (ne_eqb a b other) refl
 
 pub number_push : (es : List Entry) (e : Entry) (h k : ℕ) → number_of (es ++ e ∷ []) h k ≡ number_of es h k + cond (prefix h e.page == k) 1 0
@@ -60,12 +61,8 @@ leaf_cons : (blocks : List ℕ) (e : Entry) (es : List Entry) (page : ℕ) → e
 unfolding leaves
 leaf_cons blocks e es page other = rw (ne_eqb e.page page other) refl
 
-leaf_nil : (blocks : List ℕ) (page : ℕ) → leaves blocks [] page ≡ 0
-unfolding leaves
-leaf_nil blocks page = refl
-
 pub no_leaves : (blocks : List ℕ) (es : List Entry) (k u : ℕ) → u < 512 → number_of es 0 k ≡ 0 → leaves blocks es (512 * k + u) ≡ 0
-no_leaves blocks [] k u small none = leaf_nil blocks (512 * k + u)
+no_leaves blocks [] k u small none = no_leaf blocks (512 * k + u)
 no_leaves blocks (e ∷ es) k u small none =
     leaf_cons blocks e es (512 * k + u) (λ is. omega (arith, number_cons e es 0 k, none, one_if (e.page / 512) k (in_table k u e.page small is)))
     ∙ no_leaves blocks es k u small (omega (arith, number_cons e es 0 k, none))

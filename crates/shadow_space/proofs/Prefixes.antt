@@ -1,10 +1,10 @@
 -- The levels of a page's tables.
-use Rattle.std.proofs.Common.{◌≡◌, ◌≢◌, ℕ, zero, suc, ◌+◌, ◌-◌, ◌*◌, ◌/◌, ◌%◌, ◌<◌, ◌≤◌, ◌^◌, ◌⊎◌, inl, inr, refl, sym, subst, arith}
+use Rattle.std.proofs.Common.{◌≡◌, ◌≢◌, ℕ, zero, suc, ◌+◌, ◌-◌, ◌*◌, ◌%◌, ◌<◌, ◌≤◌, ◌^◌, ◌⊎◌, inl, inr, refl, sym, subst, arith}
 use Rattle.std.proofs.lemmas.Bool.{eq-eqb, ne_eqb}
 use Rattle.arch_defs.specs.CachedEntries.{guest_page_bits}
 use Rattle.shadow_space.specs.Trees.{prefix, top}
 use Rattle.shadow_space.specs.Ways.{slot_of, table_prefix}
-use Rattle.shadow_space.proofs.Slots.{same_or}
+use Rattle.shadow_space.proofs.Slots.{same_or, whole}
 
 -- a table below the root has the page's prefix
 pub low_prefix : (h page : ℕ) → h < top → table_prefix h page ≡ prefix h page
@@ -18,9 +18,6 @@ root_slot h page is = rw (eq-eqb (suc h) top is) refl
 
 low_slot : (h page : ℕ) → suc h ≢ top → slot_of (suc h) page ≡ prefix h page % 512
 low_slot h page other = rw (ne_eqb (suc h) top other) refl
-
-whole : (n : ℕ) → 512 * (n / 512) + n % 512 ≡ n
-whole n = omega arith
 
 -- the prefixes of a page's tables are those of the tables above with the page's entries in them
 pub slot_whole : (h page : ℕ) → suc h ≤ top → 512 * table_prefix (suc h) page + slot_of (suc h) page ≡ prefix h page

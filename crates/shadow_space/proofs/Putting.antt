@@ -15,7 +15,7 @@ use Rattle.shadow_space.specs.declared.writing.Tables.{Tables}
 use Rattle.shadow_space.specs.Held.{Holds, HoldsList, KeepsTable, held_in, number_of}
 use Rattle.shadow_space.specs.Leaves.{leaf_word, leaves}
 use Rattle.shadow_space.specs.Trees.{HasTables, IsOwn, frames_of, most_entries, most_tables, slots, top}
-use Rattle.shadow_space.specs.Ways.{HasRoom, IsUnderWay, UnderWay, number_with}
+use Rattle.shadow_space.specs.Ways.{IsUnderWay, UnderWay, number_with}
 use Rattle.shadow_space.proofs.Adding.{low_slots}
 use Rattle.shadow_space.proofs.Counting.{counted_inside}
 use Rattle.shadow_space.proofs.Finding.{leaf_here, leaf_there}
@@ -30,9 +30,6 @@ use Rattle.table_words.proofs.Words.{only_word, word_here, word_there}
 
 module _ (tables : Tables) (blocks : List ℕ) (most : ℕ) (entries : List Entry) (frames : TableFrames) (memory : List ℕ) (e : Entry)
     (holds : HoldsList tables blocks most entries frames memory) (room : length entries < most) where
-  pub has_room : HasRoom tables most entries
-  has_room = record { count = holds.count; bound = holds.bound; room = room }
-
   -- before its tables are entered
   pub before : IsUnderWay tables blocks most entries e.page top (top + 1) [] (held_in frames memory)
   before = record {
@@ -159,7 +156,10 @@ module _ (tables : Tables) (blocks : List ℕ) (most : ℕ) (entries : List Entr
         subst (λ m. HasPut frames3 m) (sym m3_is)
         (subst (λ f. HasPut f (with_word m2 (512 * low + e.page % 512) value)) (sym frames_is) (put_with value is small))
 
--- so of a table as a whole, after its tables are entered
+-- so of a table as a whole, before its tables are entered and after
+pub entering : (tables : Tables) (old : CachedTable) (memory : List ℕ) (e : Entry) → Holds tables old memory → length old.entries < old.most → UnderWay tables old e.page top (top + 1) [] memory
+entering tables old memory e holds room = before tables old.part.blocks old.most old.entries old.frames memory e holds room
+
 module _ (tables : Tables) (old : CachedTable) (memory : List ℕ) (e : Entry) (holds : Holds tables old memory) (room : length old.entries < old.most) (can : CanFill old.part.blocks e)
     (others : All (λ x. HasOtherPage x e) old.entries) (between : CachedTable) (m1 way : List ℕ) (rest : between ≡ record old { frames = between.frames })
     (stands : UnderWay tables between e.page 0 0 way m1) (only : Only (frames_of tables) memory m1) where

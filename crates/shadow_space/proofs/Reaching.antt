@@ -1,7 +1,6 @@
 -- The frames that the root does not reach.
-use Rattle.std.proofs.Common.{◌≡◌, ◌≢◌, ℕ, zero, suc, ◌+◌, ◌-◌, ◌*◌, ◌/◌, ◌%◌, ◌<◌, ◌≤◌, ◌⊎◌, inl, inr, cond, ◌==◌, List, [], ◌∷◌, Option, Some, None, refl, sym, ap, subst, ◌∙◌, arith}
+use Rattle.std.proofs.Common.{◌≡◌, ◌≢◌, ℕ, zero, suc, ◌+◌, ◌-◌, ◌*◌, ◌/◌, ◌%◌, ◌<◌, ◌≤◌, ◌⊎◌, inl, inr, List, [], ◌∷◌, Option, Some, None, refl, sym, ap, subst, ◌∙◌, arith}
 use Rattle.std.specs.List.{All}
-use Rattle.std.proofs.lemmas.Bool.{ne_eqb}
 use Rattle.std.proofs.lemmas.List.Elements.{All-head, All-tail}
 use Rattle.arch_defs.specs.declared.cached.Entry.{Entry}
 use Rattle.arch_defs.specs.CachedEntries.{CanFill}
@@ -11,10 +10,10 @@ use Rattle.shadow_space.specs.Reaching.{FreeAreZeros, IsReached, IsReachedBy, Po
 use Rattle.shadow_space.specs.Shadows.{IsTidy, Shadow, Tidy, root_of, tables_in, IsShadow, shadow_of}
 use Rattle.shadow_space.specs.Trees.{Content, Free, Table, entry_of, pointer_of, prefix, slots, top}
 use Rattle.shadow_space.proofs.Adding.{low_slots}
-use Rattle.shadow_space.proofs.Numbers.{no_number_of, number_cons}
+use Rattle.shadow_space.proofs.Numbers.{no_number_of, none_if, number_cons}
 use Rattle.shadow_space.proofs.Prefixes.{few_prefixes}
 use Rattle.shadow_space.proofs.Ways.{tree_own}
-use Rattle.shadow_space.proofs.Slots.{other_slots, other_than_root, root_slots, same_or}
+use Rattle.shadow_space.proofs.Slots.{other_slots, other_than_root, root_slots, same_or, whole}
 use Rattle.shadow_space.proofs.Tidying.{tidy_parts, folded, tidy_kept}
 use Rattle.table_words.proofs.Pointers.{pointer_some}
 use Rattle.shadow_space.specs.declared.cached.CachedTable.{CachedTable}
@@ -23,9 +22,6 @@ use Rattle.shadow_space.specs.Folding.{Folded}
 use Rattle.table_words.specs.Words.{doubleword_at}
 
 -- the root has an entry for each table of the level below it
-none_if : (a b : ℕ) → a ≢ b → ◌≡◌ {A = ℕ} (cond (a == b) 1 0) 0
-none_if a b other = rw (ne_eqb a b other) refl
-
 few_tables : (blocks : List ℕ) (es : List Entry) (h k : ℕ) → suc h ≡ top → All (CanFill blocks) es → 0 < number_of es h k → k < 2048
 few_tables blocks [] h k last can some = absurd (omega (arith, no_number_of h k, some))
 few_tables blocks (e ∷ es) h k last can some = by (few_tables blocks es h k last (All-tail (CanFill blocks) e es can)) (same_or (prefix h e.page) k)
@@ -36,9 +32,6 @@ few_tables blocks (e ∷ es) h k last can some = by (few_tables blocks es h k la
 
 none_before : (k : ℕ) → 512 * 0 + k ≡ k
 none_before k = omega arith
-
-whole : (k : ℕ) → 512 * (k / 512) + k % 512 ≡ k
-whole k = omega arith
 
 root_reached : (memory : List ℕ) (tables : Tables) (n : ℕ) → n ≡ 0 → IsReachedBy memory tables n tables.root
 root_reached memory tables n is = subst (λ n. IsReachedBy memory tables n tables.root) (sym is) refl

@@ -1,5 +1,5 @@
 -- The doublewords of the frames of tables.
-use Rattle.std.proofs.Common.{◌≡◌, ◌≢◌, ℕ, ◌+◌, ◌*◌, ◌/◌, ◌<◌, ◌≤◌, ◌⊎◌, inl, inr, true, refl, sym, subst, ◌∙◌, arith}
+use Rattle.std.proofs.Common.{◌≡◌, ◌≢◌, ℕ, ◌+◌, ◌*◌, ◌/◌, ◌%◌, ◌<◌, ◌≤◌, ◌⊎◌, inl, inr, true, refl, sym, subst, ◌∙◌, arith}
 use Rattle.std.proofs.lemmas.Bool.{eq-eqb, ne_eqb}
 use Rattle.arch_defs.specs.Frames.{LieIn, within}
 use Rattle.arch_defs.proofs.FrameSets.{in_range, left_within, right_within}
@@ -14,6 +14,10 @@ root_slots tables f is = rw (eq-eqb f tables.root is) refl
 
 pub other_slots : (tables : Tables) (f : ℕ) → f ≢ tables.root → slots tables f ≡ 512
 other_slots tables f other = rw (ne_eqb f tables.root other) refl
+
+-- the quotient and the rest of a number by the entries of a table
+pub whole : (n : ℕ) → 512 * (n / 512) + n % 512 ≡ n
+whole n = omega arith
 
 -- the frame of a doubleword of the root, and of another frame
 root_frame : (root s : ℕ) → s < 2048 → (root ≤ (512 * root + s) / 512) × ((512 * root + s) / 512 < root + 4)

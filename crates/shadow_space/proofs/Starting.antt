@@ -10,6 +10,7 @@ use Rattle.shadow_space.specs.Leaves.{leaves}
 use Rattle.shadow_space.specs.Shadows.{AreZeros}
 use Rattle.shadow_space.specs.Trees.{Free, IsOwn, IsTree, RootIsApart, Says, Table, Tree, entry_of, frames_of, pointer_of, slots, top}
 use Rattle.shadow_space.proofs.Finding.{no_leaf}
+use Rattle.shadow_space.proofs.Numbers.{no_number_of}
 use Rattle.shadow_space.proofs.Slots.{other_than_root, own_frame, same_or}
 use Rattle.table_words.specs.Words.{doubleword_at}
 use Rattle.table_words.proofs.Words.{same_frame}
@@ -85,10 +86,6 @@ word_zero frames memory i zeros named =
     load_same memory [] (8 * i) 0 8
     (λ k h. zeros.each (8 * i + k) (subst (λ f. frames f ≡ true) (same_frame i (8 * i + k) (omega arith) (omega arith)) named))
 
-no_number : (h k : ℕ) → number_of [] h k ≡ 0
-unfolding number_of
-no_number h k = refl
-
 pub zeros_stand : (tables : Tables) (blocks memory : List ℕ) (frames : TableFrames) → RootIsApart tables → AreZeros (frames_of tables) memory
     → Stands tables (number_of []) (leaves blocks []) [] (held_in frames memory)
 zeros_stand tables blocks memory frames apart zeros = record {
@@ -98,7 +95,7 @@ zeros_stand tables blocks memory frames apart zeros = record {
       (λ f s own small. word_zero (frames_of tables) memory (512 * f + s) zeros (own_frame tables f s own small));
   counted = record {
     some = λ h k f low is. let a = low_place tables h k low in let b : None ≡ Some f = sym a ∙ is in absurd cc;
-    none = λ h k low is. no_number h k;
+    none = λ h k low is. no_number_of h k;
     free = λ j inside zero_is. rw (ne_eqb (tables.first + j) tables.root (other_than_root tables.root (tables.first + j) tables.first tables.count apart (omega arith) (omega (arith, inside)))) refl;
   };
   index = λ i e h. absurd (omega (arith, h));

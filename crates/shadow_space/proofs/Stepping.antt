@@ -30,9 +30,6 @@ pub record HasEntered (tables : Tables) (number number' : ℕ → ℕ → ℕ) (
   pub kept : IsKept new.frames count (total + 1)
   pub only : Only (frames_of tables) old.memory new.memory
 
-pub word_small : (f s size : ℕ) → f < 2 ^ 44 → s < 2048 → 512 * f + s < 2 ^ 60
-word_small f s size h h' = omega arith
-
 -- a table below the root is in one of the other frames
 pub low_range : (tables : Tables) (tree : Tree) (f h k : ℕ) → IsTree tables tree → tree.place h k ≡ Some f → h < top → (tables.first ≤ f) × (f < tables.first + tables.count)
 low_range tables tree f h k sound place low = by (sound.own f h k place)

@@ -4,7 +4,7 @@ use Rattle.std.proofs.lemmas.Bool.{cases_lt}
 use Rattle.std.proofs.lemmas.List.Edits.{get_or-remove_above, get_or-remove_below, length-remove}
 use Rattle.std.proofs.lemmas.List.Quantifiers.{all_pairs_remove}
 use Rattle.arch_defs.specs.declared.cached.Entry.{Entry}
-use Rattle.arch_defs.specs.CachedEntries.{CanFill, HasOtherPage, guest_page_bits}
+use Rattle.arch_defs.specs.CachedEntries.{CanFill, HasOtherPage}
 use Rattle.arch_defs.specs.Frames.{Only}
 use Rattle.arch_defs.proofs.FrameSets.{only_both}
 use Rattle.shadow_space.specs.declared.cached.CachedTable.{CachedTable}
@@ -13,7 +13,7 @@ use Rattle.shadow_space.specs.declared.writing.Tables.{Tables}
 use Rattle.shadow_space.specs.Held.{HasMovedUp, Holds, HoldsList, IsKept, KeepsTable, held_in, number_of}
 use Rattle.shadow_space.specs.Leaves.{leaves}
 use Rattle.shadow_space.specs.Trees.{HasTables, IsOwn, frames_of, prefix, slots, top}
-use Rattle.shadow_space.specs.Ways.{HasRoom, IsUnderWay, UnderWay, number_with}
+use Rattle.shadow_space.specs.Ways.{IsUnderWay, UnderWay, number_with}
 use Rattle.shadow_space.proofs.Adding.{low_slots}
 use Rattle.shadow_space.proofs.Editing.{all_removed, leaf_gone, leaf_other}
 use Rattle.shadow_space.proofs.Leafing.{leaf_says}
@@ -26,9 +26,6 @@ use Rattle.table_words.proofs.Words.{only_word, word_here, word_there}
 
 module _ (tables : Tables) (blocks : List ℕ) (most : ℕ) (entries : List Entry) (frames : TableFrames) (memory : List ℕ) (i : ℕ) (d : Entry)
     (holds : HoldsList tables blocks most entries frames memory) (inside : i < length entries) (page place : ℕ) (page_is : page ≡ (get_or entries i d).page) (place_is : place ≡ slice_index frames.places i) where
-  pub page_small : page < 2 ^ guest_page_bits
-  page_small = let small = (holds.fill i d inside).page in omega (arith, page_is, small)
-
   place_low : holds.stands.tree.place 0 (page / 512) ≡ Some (tables.first + place)
   place_low = ap (λ n. holds.stands.tree.place 0 (n / 512)) page_is ∙ holds.stands.index i d inside ∙ ap (λ n. Some (tables.first + n)) (sym place_is)
 
@@ -52,9 +49,6 @@ module _ (tables : Tables) (blocks : List ℕ) (most : ℕ) (entries : List Entr
 
   shorter : length (remove entries i) + 1 ≡ length entries
   shorter = length-remove entries i inside
-
-  pub left_room : HasRoom tables most (remove entries i)
-  left_room = record { count = holds.count; bound = holds.bound; room = omega (arith, shorter, holds.few) }
 
   -- without the leaf, and with the places of the others
   pub record HasLeft (frames1 : TableFrames) (m1 : List ℕ) : Type 0 where
@@ -149,9 +143,6 @@ module _ (tables : Tables) (blocks : List ℕ) (most : ℕ) (entries : List Entr
 module _ (tables : Tables) (old : CachedTable) (memory : List ℕ) (i : ℕ) (d : Entry) (holds : Holds tables old memory) (inside : i < length old.entries)
     (page place : ℕ) (page_is : page ≡ (get_or old.entries i d).page) (place_is : place ≡ slice_index old.frames.places i)
     (entries1 : List Entry) (entries_is : entries1 ≡ remove old.entries i) where
-  pub taking_room : HasRoom tables old.most entries1
-  taking_room = subst (HasRoom tables old.most) (sym entries_is) (left_room tables old.part.blocks old.most old.entries old.frames memory i d holds inside page place page_is place_is)
-
   pub record IsTaking (frames1 : TableFrames) (m1 : List ℕ) : Type 0 where
     pub stands : IsUnderWay tables old.part.blocks old.most entries1 page 0 (top + 1) [] (held_in frames1 m1)
     pub only : Only (frames_of tables) memory m1

@@ -11,7 +11,7 @@ use Rattle.arch_defs.specs.Frames.{Apart, LieIn, Same, within}
 use Rattle.arch_defs.specs.Layouts.{Layout, NamesEachOnce, space_frames}
 use Rattle.arch_defs.specs.Memory.{block_size, ram_base}
 use Rattle.arch_defs.specs.TableEntries.{pte_of, entry_next, is_aligned}
-use Rattle.arch_defs.specs.Walk.{EntryReading, path, walk}
+use Rattle.arch_defs.specs.Walk.{EntryReading, guest_bits, path, walk}
 use Rattle.arch_defs.proofs.FrameSets.{in_range}
 use Rattle.stage_walk.proofs.Levels.{walk_refused, walk_starts}
 use Rattle.shadow_space.specs.declared.cached.CachedTable.{CachedTable}
@@ -34,10 +34,6 @@ use Rattle.table_words.proofs.Readings.{entry_read}
 use Rattle.shadow_space.proofs.Finding.{found_has}
 use Rattle.shadow_space.proofs.Following.{Reads, folds, inside_root, last_is}
 use Rattle.shadow_space.proofs.Slots.{own_frame}
-
--- the bits of an address of a page
-abbrev address_bits : ℕ
-address_bits = 12 + guest_page_bits
 
 -- two ranges that are apart come one after the other
 ordered : (a m b n : ℕ) → 0 < m → 0 < n → Apart (within a m) (within b n) → (a + m ≤ b) ⊎ (b + n ≤ a)
@@ -167,10 +163,10 @@ leaf_is_end blocks access (Some e) small can =
 leaf_some : (blocks : List ℕ) (e : Entry) → leaf_word blocks e ≡ 0 → ⊥
 leaf_some blocks e zero = some_with_v (leaf_parts blocks e) refl zero
 
-low_page : (va : ℕ) → va / 4096 < 2 ^ guest_page_bits → va < 2 ^ address_bits
+low_page : (va : ℕ) → va / 4096 < 2 ^ guest_page_bits → va < 2 ^ guest_bits
 low_page va h = omega (arith, h)
 
-small_page : (va : ℕ) → va < 2 ^ address_bits → va / 4096 < 2 ^ guest_page_bits
+small_page : (va : ℕ) → va < 2 ^ guest_bits → va / 4096 < 2 ^ guest_page_bits
 small_page va h = omega (arith, h)
 
 module _ (space : Shadow) (memory : List ℕ) (tidy : IsTidy space memory) where
@@ -185,7 +181,7 @@ module _ (space : Shadow) (memory : List ℕ) (tidy : IsTidy space memory) where
   small_frames f own = own_small (tables_in space.part space.index) f (length memory) (tables_placed space (length memory) tidy.is tidy.lies) own
 
   -- no entry is of a page beyond these bits of address
-  no_entry : (va : ℕ) → 2 ^ address_bits ≤ va → entry_at (va / 4096) space.entries ≡ None
+  no_entry : (va : ℕ) → 2 ^ guest_bits ≤ va → entry_at (va / 4096) space.entries ≡ None
   no_entry va high = by (entry_at (va / 4096) space.entries) refl
     where
       by : (o : Option Entry) → entry_at (va / 4096) space.entries ≡ o → entry_at (va / 4096) space.entries ≡ None
@@ -197,16 +193,16 @@ module _ (space : Shadow) (memory : List ℕ) (tidy : IsTidy space memory) where
 
   walks : (reading : EntryReading) (va : ℕ) (access : Access) → ReadsIn (own_frames space) memory reading
       → walk reading (root_of space) folded_shape va access ≡ leaf_end space.part.blocks access (entry_at (va / 4096) space.entries)
-  walks reading va access reads = by (cases_lt va (2 ^ address_bits))
+  walks reading va access reads = by (cases_lt va (2 ^ guest_bits))
     where
-      by : (va < 2 ^ address_bits) ⊎ (2 ^ address_bits ≤ va) → walk reading (root_of space) folded_shape va access ≡ leaf_end space.part.blocks access (entry_at (va / 4096) space.entries)
+      by : (va < 2 ^ guest_bits) ⊎ (2 ^ guest_bits ≤ va) → walk reading (root_of space) folded_shape va access ≡ leaf_end space.part.blocks access (entry_at (va / 4096) space.entries)
       by (inl low) =
-          walk_starts reading (root_of space) folded_shape va access (lt-ltb va (2 ^ address_bits) low)
+          walk_starts reading (root_of space) folded_shape va access (lt-ltb va (2 ^ guest_bits) low)
           ∙ folds (tables_in space.part space.index) tidy.holds.stands.tree (doubleword_at memory) (leaves space.part.blocks space.entries)
           tidy.holds.stands.sound tidy.holds.stands.says small_frames reading (reads_words (tables_in space.part space.index) memory reading reads) va access (va / 4096) refl (small_page va low)
           (leaf_end space.part.blocks access (entry_at (va / 4096) space.entries)) (leaf_end_of (va / 4096) access)
       by (inr high) =
-          walk_refused reading (root_of space) folded_shape va access (le-ltb va (2 ^ address_bits) high)
+          walk_refused reading (root_of space) folded_shape va access (le-ltb va (2 ^ guest_bits) high)
           ∙ sym (ap (leaf_end space.part.blocks access) (no_entry va high))
 
   -- the leaf of an entry
@@ -224,9 +220,9 @@ module _ (space : Shadow) (memory : List ℕ) (tidy : IsTidy space memory) where
   leaf_last reading va access e reads found =
       let filled = can (va / 4096) e found in
       let page = filled.0.page in
-      let low : va < 2 ^ address_bits = low_page va (omega (arith, page, filled.1)) in
+      let low : va < 2 ^ guest_bits = low_page va (omega (arith, page, filled.1)) in
       let has = leaf_has (va / 4096) e found in
-      rw (lt-ltb va (2 ^ address_bits) low)
+      rw (lt-ltb va (2 ^ guest_bits) low)
       (last_is (tables_in space.part space.index) tidy.holds.stands.tree (doubleword_at memory) (leaves space.part.blocks space.entries)
       tidy.holds.stands.sound tidy.holds.stands.says small_frames reading (reads_words (tables_in space.part space.index) memory reading reads) va access (va / 4096) refl (small_page va low)
       (leaf_parts space.part.blocks e) has.0 has.1)
@@ -234,14 +230,14 @@ module _ (space : Shadow) (memory : List ℕ) (tidy : IsTidy space memory) where
   insides : (reading : EntryReading) (va : ℕ) (access : Access) → ReadsIn (own_frames space) memory reading
       → LieWithin (own_frames space) (path reading (root_of space) folded_shape va access)
   unfolding path
-  insides reading va access reads = by (cases_lt va (2 ^ address_bits))
+  insides reading va access reads = by (cases_lt va (2 ^ guest_bits))
     where
-      by : (va < 2 ^ address_bits) ⊎ (2 ^ address_bits ≤ va) → LieWithin (own_frames space) (path reading (root_of space) folded_shape va access)
+      by : (va < 2 ^ guest_bits) ⊎ (2 ^ guest_bits ≤ va) → LieWithin (own_frames space) (path reading (root_of space) folded_shape va access)
       by (inl low) =
-          rw (lt-ltb va (2 ^ address_bits) low)
+          rw (lt-ltb va (2 ^ guest_bits) low)
           (inside_root (tables_in space.part space.index) tidy.holds.stands.tree (doubleword_at memory) (leaves space.part.blocks space.entries)
           tidy.holds.stands.sound tidy.holds.stands.says small_frames reading (reads_words (tables_in space.part space.index) memory reading reads) va access (va / 4096) refl (small_page va low))
-      by (inr high) = rw (le-ltb va (2 ^ address_bits) high) tt
+      by (inr high) = rw (le-ltb va (2 ^ guest_bits) high) tt
 
 pub folded : TidyIsFolded
 folded space memory tidy =

@@ -2,16 +2,17 @@
 use Rattle.std.specs.Prelude.{ℕ, ◌≡◌, ◌≢◌, ◌+◌, ◌-◌, ◌*◌, ◌%◌, ◌<◌, ◌&&◌, Bool, true, List, Some, None, length, nat_le, nat_lt, option_map}
 use Rattle.arch_defs.specs.declared.second_walks.SecondWalkEnd.TheVariants.{GuestPageFault}
 use Rattle.arch_defs.specs.declared.modes.Access.{Access}
-use Rattle.arch_defs.specs.declared.registers.GuestRoot.TheVariants as root
+use Rattle.arch_defs.specs.declared.roots.GuestRoot.TheVariants as root
 use Rattle.arch_defs.specs.Frames.{Apart, Frames, LieIn, Same, Within, in_blocks}
 use Rattle.arch_defs.specs.Layouts.{Layout, host_frames, named_by, space_frames}
 use Rattle.arch_defs.specs.Memory.{ram_base, block_size, zeros}
 use Rattle.arch_defs.specs.Ram.{host_place}
+use Rattle.arch_defs.specs.Roots.{folded_mode}
 use Rattle.arch_defs.specs.SecondStage.{second_under, second_walk}
 use Rattle.arch_defs.specs.CachedEntries.{second_by}
 use Rattle.shadow_space.specs.Folding.{Folded}
 use Rattle.shadow_space.specs.Shadows.{AreZeros, Shadow, Tidy, own_frames, root_of}
-use Rattle.shadow_space.specs.Trees.{folded_mode, folded_shape}
+use Rattle.shadow_space.specs.Trees.{folded_shape}
 
 -- a space stays tidy where the bytes of its own frames stay
 abbrev pub TidyLasts : Type 0

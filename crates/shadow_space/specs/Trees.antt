@@ -3,10 +3,8 @@
 -- 8.5.1).
 use Rattle.std.specs.Prelude.{ℕ, zero, suc, ◌≡◌, ◌+◌, ◌*◌, ◌/◌, ◌<◌, ◌≤◌, ◌^◌, ◌⊎◌, ◌==◌, Option, Some, None, if◌then◌else◌}
 use Rattle.arch_defs.specs.Frames.{Frames, LieIn, joined, within}
-use Rattle.arch_defs.specs.declared.registers.GuestMode.{GuestMode}
-use Rattle.arch_defs.specs.declared.registers.GuestMode.TheVariants as mode
 use Rattle.arch_defs.specs.declared.walks.Shape.{Shape}
-use Rattle.arch_defs.specs.Roots.{guest_shape}
+use Rattle.arch_defs.specs.Roots.{folded_mode, guest_shape}
 use Rattle.guest_specs.specs.Needs.{tables_for}
 use Rattle.shadow_space.specs.declared.writing.Tables.{Tables}
 use Rattle.table_words.specs.Entries.{pointer_word}
@@ -28,15 +26,12 @@ RootIsApart tables = (tables.root + 4 ≤ tables.first) ⊎ (tables.first + tabl
 abbrev pub slots : Tables → ℕ → ℕ
 slots tables frame = if frame == tables.root then 2048 else 512
 
--- the mode by which a folded table is walked, its shape, and the level of its root (own)
-abbrev pub folded_mode : GuestMode
-folded_mode = mode.Sv39x4
-
+-- the shape of a folded table, and the level of its root (own)
 abbrev pub folded_shape : Shape
 folded_shape = guest_shape folded_mode
 
 abbrev pub top : ℕ
-top = 2
+top = 3
 
 -- the most entries of a space, and the most tables below its root (own)
 abbrev pub most_entries : ℕ

@@ -6,7 +6,7 @@ ghost use Rattle.shadow_space.specs.Trees.{top};
 ghost use Rattle.shadow_space.specs.Ways.{slot_of};
 
 /// The level of the root.
-pub const ROOT_LEVEL: usize = 2;
+pub const ROOT_LEVEL: usize = 3;
 
 /// How many levels there are.
 pub const LEVELS: usize = ROOT_LEVEL + 1;
@@ -21,6 +21,7 @@ pub fn slot_of(level: usize, page: u64) -> u64
     match level {
         0 => page % 512,
         1 => page / 512 % 512,
-        _ => page / 262_144,
+        2 => page / 262_144 % 512,
+        _ => page / 134_217_728,
     }
 }

@@ -18,7 +18,7 @@ use arch_defs::{Entry, Part, TABLES_PER_ENTRY};
 use phys_mem::PhysMem;
 use std::marker::Model;
 
-/// A guest's space of cached second-stage translations, with a table of the shape Sv39x4 in the frames that
+/// A guest's space of cached second-stage translations, with a table of the shape Sv48x4 in the frames that
 /// its part has for this space. The table gives exactly the entries, at their places in machine memory.
 ///
 /// Each call on memory asks that the space is tidy in it (`Tidy`), and leaves it so. Zeros are tidy for a new

@@ -22,7 +22,7 @@ pub struct Tables {
     pub count: u64,
 }
 
-// The leaf that an entry is folded into.
+/// The leaf that an entry is folded into.
 pub fn leaf_word(part: &Part, entry: &Entry) -> u64
     requires { CanFill part.now.blocks entry.now }
     ensures { result ≡ leaf_word part.now.blocks entry.now }
@@ -32,8 +32,8 @@ pub fn leaf_word(part: &Part, entry: &Entry) -> u64
     pte_word(&leaf_to(place / FRAME_SIZE, entry.r, entry.w, entry.x))
 }
 
-// One more entry in the table that doubleword i points to. Where it points to none, a free frame becomes it.
-// Tells the frame of the table.
+/// One more entry in the table that doubleword i points to. Where it points to none, a free frame becomes it.
+/// Tells the frame of the table.
 #[tactic(auto, unfolding(crate::specs::Held::table_entered, crate::specs::Held::entered_frame))]
 pub fn enter_table(frames: &mut TableFrames, mem: &mut PhysMem, first: u64, i: u64) -> u64
     requires inside { 8 * i + 8 ≤ length mem.old }
@@ -56,8 +56,8 @@ pub fn enter_table(frames: &mut TableFrames, mem: &mut PhysMem, first: u64, i: u
     frame
 }
 
-// One entry less in a frame's table, which doubleword i points to. A table without entries gives its frame
-// back.
+/// One entry less in a frame's table, which doubleword i points to. A table without entries gives its frame
+/// back.
 #[tactic(auto, unfolding(crate::specs::Held::departed))]
 pub fn leave_table(frames: &mut TableFrames, mem: &mut PhysMem, first: u64, i: u64, frame: u64)
     requires inside { 8 * i + 8 ≤ length mem.old }

@@ -4,7 +4,7 @@ use Rattle.std.proofs.lemmas.Nat.{pow_pos}
 use Rattle.arch_defs.specs.declared.modes.Access.{Access}
 use Rattle.arch_defs.specs.declared.modes.Trap.{Trap}
 use Rattle.arch_defs.specs.declared.walks.Shape.{Shape}
-use Rattle.arch_defs.specs.declared.walks.Shape.TheVariants.{Sv39, Sv39x4}
+use Rattle.arch_defs.specs.declared.walks.Shape.TheVariants.{Sv39, Sv48, Sv39x4, Sv48x4}
 use Rattle.arch_defs.specs.declared.walks.Pte.{Pte}
 use Rattle.arch_defs.specs.declared.walks.WalkEnd.TheVariants.{Leaf, PageFault}
 use Rattle.arch_defs.specs.declared.walks.Next.{Next}
@@ -94,7 +94,9 @@ path_is_linked reading root shape va access right = rw right (by shape)
   where
     by : (shape : Shape) → IsLinked reading shape va access (levels shape - 1) (path_from reading shape va access (levels shape) root) root
     by Sv39 = linked_from reading Sv39 va access 2 root
+    by Sv48 = linked_from reading Sv48 va access 3 root
     by Sv39x4 = linked_from reading Sv39x4 va access 2 root
+    by Sv48x4 = linked_from reading Sv48x4 va access 3 root
 
 -- and a linked list is that of the entries met
 only_linked : (reading : EntryReading) (shape : Shape) (va : ℕ) (access : Access) (ms : List Met) (level table : ℕ)
@@ -126,7 +128,9 @@ linked_is_path reading root shape va access ms right linked = rw right (by shape
   where
     by : (shape : Shape) → IsLinked reading shape va access (levels shape - 1) ms root → ms ≡ path_from reading shape va access (levels shape) root
     by Sv39 linked = only_linked reading Sv39 va access ms 2 root linked
+    by Sv48 linked = only_linked reading Sv48 va access ms 3 root linked
     by Sv39x4 linked = only_linked reading Sv39x4 va access ms 2 root linked
+    by Sv48x4 linked = only_linked reading Sv48x4 va access ms 3 root linked
 
 pub ends_by_levels : EndsByLevels
 ends_by_levels reading root shape va access = by (is_canonical shape va) refl

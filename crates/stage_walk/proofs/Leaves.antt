@@ -73,7 +73,18 @@ translated (suc (suc zero)) frame va small aligned = record {
     low zero below = omega arith
     low (suc zero) below = omega arith
     low (suc (suc i)) below = absurd (omega arith)
-translated (suc (suc (suc level))) frame va small aligned = absurd (omega arith)
+translated (suc (suc (suc zero))) frame va small aligned = record {
+  offset = omega arith;
+  low = low;
+  high = omega arith;
+}
+  where
+    low : (i : ℕ) → i < 3 → field (12 + 9 * i) 9 (4096 * frame + va % 2 ^ 39) ≡ field (12 + 9 * i) 9 va
+    low zero below = omega arith
+    low (suc zero) below = omega arith
+    low (suc (suc zero)) below = omega arith
+    low (suc (suc (suc i))) below = absurd (omega arith)
+translated (suc (suc (suc (suc level)))) frame va small aligned = absurd (omega arith)
 
 -- a pointer is no leaf
 pointer_leafless : (level : ℕ) (e : Pte) (leaf : LeafPte) → pointer_next level e ≢ Ends (Leaf leaf)

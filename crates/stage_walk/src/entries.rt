@@ -134,26 +134,22 @@ pub fn leaf_to(frame: u64, r: bool, w: bool, x: bool) -> Pte
     }
 }
 
-/// Whether the entry is one at all: V, no W without R, and no reserved bit.
+// Whether the entry is one at all: V, no W without R, and no reserved bit.
 fn is_valid(entry: &Pte) -> bool
     ensures { result ≡ is_valid entry.now }
 {
     entry.v && !(entry.w && !entry.r) && entry.reserved == 0
 }
 
-/// Whether a frame may be the first of a page of this level.
+// Whether a frame may be the first of a page of this level.
 fn is_aligned(level: u8, frame: u64) -> bool
     requires { level < most_levels }
     ensures { result ≡ is_aligned level frame }
 {
-    match level {
-        0 => true,
-        1 => frame % 512 == 0,
-        _ => frame % 262_144 == 0,
-    }
+    frame % (1 << (9 * level as u32)) == 0
 }
 
-/// Whether a leaf has A, and D for a store. The walker never writes them.
+// Whether a leaf has A, and D for a store. The walker never writes them.
 fn is_marked(access: Access, entry: &Pte) -> bool
     ensures { result ≡ is_marked access entry.now }
 {
@@ -163,7 +159,7 @@ fn is_marked(access: Access, entry: &Pte) -> bool
     }
 }
 
-/// What a leaf says.
+// What a leaf says.
 fn leaf_next(level: u8, access: Access, entry: &Pte) -> Next
     requires level { level < most_levels }
     requires frame { entry.now.frame < 2 ^ 44 }
@@ -183,7 +179,7 @@ fn leaf_next(level: u8, access: Access, entry: &Pte) -> Next
     }))
 }
 
-/// What a pointer says.
+// What a pointer says.
 fn pointer_next(level: u8, entry: &Pte) -> Next
     requires { entry.now.frame < 2 ^ 44 }
     ensures value { result ≡ pointer_next level entry.now }

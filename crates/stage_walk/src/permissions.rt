@@ -5,7 +5,7 @@ ghost use Rattle.arch_defs.specs.Permits.{has_right, may_touch_user_page, permit
 
 use arch_defs::{Access, LeafPte, Privilege};
 
-/// Whether a leaf has the right that an access needs.
+// Whether a leaf has the right that an access needs.
 fn has_right(mxr: bool, access: Access, leaf: &LeafPte) -> bool
     ensures { result ≡ has_right mxr access leaf.now }
 {
@@ -17,7 +17,7 @@ fn has_right(mxr: bool, access: Access, leaf: &LeafPte) -> bool
     }
 }
 
-/// Whether supervisor mode may make an access to a page with U.
+// Whether supervisor mode may make an access to a page with U.
 fn may_touch_user_page(sum: bool, access: Access) -> bool
     ensures { result ≡ may_touch_user_page sum access }
 {

@@ -11,12 +11,12 @@ pub fn levels(shape: Shape) -> u8
     ensures few { result ≤ most_levels }
 {
     match shape {
-        Shape::Sv39 => 3,
-        Shape::Sv39x4 => 3,
+        Shape::Sv39 | Shape::Sv39x4 => 3,
+        Shape::Sv48 | Shape::Sv48x4 => 4,
     }
 }
 
-/// How many entries a table of this level has: 512, but for Sv39x4's root, which has 2,048.
+// How many entries a table of this level has: 512, but for the root of Sv39x4 and of Sv48x4, which has 2,048.
 fn slots(shape: Shape, level: u8) -> u64
     requires { level < most_levels }
     ensures value { result ≡ 2 ^ index_bits shape level }
@@ -24,8 +24,14 @@ fn slots(shape: Shape, level: u8) -> u64
     ensures some { 0 < result }
 {
     match shape {
-        Shape::Sv39 => 512,
-        Shape::Sv39x4 => { if level == 2 { 2048 } else { 512 } }
+        Shape::Sv39 | Shape::Sv48 => 512,
+        Shape::Sv39x4 | Shape::Sv48x4 => {
+            if level + 1 == levels(shape) {
+                2048
+            } else {
+                512
+            }
+        }
     }
 }
 
@@ -40,13 +46,15 @@ pub fn place_of(shape: Shape, level: u8, table: u64, va: u64) -> u64
     4096 * table + 8 * index
 }
 
-/// Whether the upper bits of an address are as the shape wants them: Sv39 repeats bit 38, and Sv39x4
-/// has none above bit 40.
+/// Whether the upper bits of an address are as the shape wants them: Sv39 repeats bit 38, and Sv48 bit 47;
+/// Sv39x4 has none above bit 40, and Sv48x4 none above bit 49.
 pub fn is_canonical(shape: Shape, va: u64) -> bool
     ensures { result ≡ is_canonical shape va }
 {
     match shape {
         Shape::Sv39 => va < 0x40_0000_0000 || va >= 0xFFFF_FFC0_0000_0000,
+        Shape::Sv48 => va < 0x8000_0000_0000 || va >= 0xFFFF_8000_0000_0000,
         Shape::Sv39x4 => va < 0x200_0000_0000,
+        Shape::Sv48x4 => va < 0x4_0000_0000_0000,
     }
 }

@@ -9,7 +9,7 @@ use crate::fetching::Fetch;
 use crate::places::{is_canonical, levels, place_of};
 use arch_defs::{Access, Next, Shape, WalkEnd};
 
-/// What the entry for an address in the table of a frame says to the walk.
+// What the entry for an address in the table of a frame says to the walk.
 #[inline(always)]
 #[tactic(auto, using(arch_defs::proofs::Shapes::few_levels, crate::proofs::Fitting::next_fits))]
 fn visit<F: Fetch>(fetch: &F, shape: Shape, va: u64, access: Access, level: u8, table: u64) -> Next

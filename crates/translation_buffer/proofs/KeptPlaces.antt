@@ -3,10 +3,10 @@ use Rattle.std.proofs.Common.{cond, ◌≡◌, ℕ, zero, suc, ◌+◌, ◌-◌,
 use Rattle.std.specs.Prelude.{length}
 use Rattle.arch_defs.specs.declared.modes.Access.{Access}
 use Rattle.arch_defs.specs.declared.modes.Access.TheVariants.{Implicit}
-use Rattle.arch_defs.specs.declared.registers.GuestRoot.{GuestRoot}
-use Rattle.arch_defs.specs.declared.registers.GuestRoot.TheVariants as guest
-use Rattle.arch_defs.specs.declared.registers.SupervisorRoot.{SupervisorRoot}
-use Rattle.arch_defs.specs.declared.registers.SupervisorRoot.TheVariants as supervisor
+use Rattle.arch_defs.specs.declared.roots.GuestRoot.{GuestRoot}
+use Rattle.arch_defs.specs.declared.roots.GuestRoot.TheVariants as guest
+use Rattle.arch_defs.specs.declared.roots.SupervisorRoot.{SupervisorRoot}
+use Rattle.arch_defs.specs.declared.roots.SupervisorRoot.TheVariants as supervisor
 use Rattle.arch_defs.specs.declared.walks.Found.{Found}
 use Rattle.arch_defs.specs.declared.walks.Found.TheVariants.{Passes, PageFaults, MissesEntry}
 use Rattle.arch_defs.specs.declared.walks.Next.{Next}

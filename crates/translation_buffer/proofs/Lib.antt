@@ -4,4 +4,5 @@ pub mod DroppedSlots
 pub mod KeptPlaces
 pub mod KeptSlots
 pub mod OnePage
+pub mod SameContexts
 pub mod Stored

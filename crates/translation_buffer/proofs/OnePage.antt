@@ -5,10 +5,10 @@ use Rattle.std.proofs.lemmas.Bool.{le-leb, lt-ltb, ltb-true}
 use Rattle.std.proofs.lemmas.Nat.{mod-pow-add, pow-add}
 use Rattle.std.proofs.Math.Nat.{div-div-eq-div-mul}
 use Rattle.arch_defs.specs.declared.modes.Access.{Access}
-use Rattle.arch_defs.specs.declared.registers.GuestRoot.{GuestRoot}
-use Rattle.arch_defs.specs.declared.registers.GuestRoot.TheVariants as guest
-use Rattle.arch_defs.specs.declared.registers.SupervisorRoot.{SupervisorRoot}
-use Rattle.arch_defs.specs.declared.registers.SupervisorRoot.TheVariants as supervisor
+use Rattle.arch_defs.specs.declared.roots.GuestRoot.{GuestRoot}
+use Rattle.arch_defs.specs.declared.roots.GuestRoot.TheVariants as guest
+use Rattle.arch_defs.specs.declared.roots.SupervisorRoot.{SupervisorRoot}
+use Rattle.arch_defs.specs.declared.roots.SupervisorRoot.TheVariants as supervisor
 use Rattle.arch_defs.specs.declared.second_walks.SecondWalkEnd.TheVariants.{GuestPageFault, AccessFault}
 use Rattle.arch_defs.specs.declared.second_walks.SecondWalkEnd.TheVariants as walk_end
 use Rattle.arch_defs.specs.declared.walks.Found.TheVariants.{Passes, PageFaults}

@@ -118,7 +118,7 @@ impl Buffer {
         ensures { (before : Csrs) (mode_before : Mode) (memory : List ℕ)
             → Serves self.old before mode_before memory → Serves self.new csrs.now mode memory }
     {
-        if self.context == Context::of(csrs, mode) {
+        if self.context.is_context(&Context::of(csrs, mode)) {
             self.who = who_bits(privilege_of(csrs, mode));
         } else {
             self.restart(csrs, mode);

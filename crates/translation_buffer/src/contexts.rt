@@ -1,6 +1,6 @@
 // What translations are made under.
 
-ghost use Rattle.std.specs.Prelude.{◌≡◌};
+ghost use Rattle.std.specs.Prelude.{◌≡◌, IsTrue};
 ghost use Rattle.translation_buffer.specs.Places.{context_of};
 
 use arch_defs::{Csrs, GuestRoot, Mode, SupervisorRoot};
@@ -25,5 +25,16 @@ impl Context {
             second: second_root_of(csrs, mode),
             mxr: csrs.hs.status.mxr,
         }
+    }
+
+    /// Whether `other` is the same.
+    #[inline]
+    #[tactic(auto, using(crate::proofs::SameContexts::same_context))]
+    pub fn is_context(&self, other: &Context) -> bool
+        ensures { IsTrue result → self.now ≡ other.now }
+    {
+        self.first.is_root(other.first)
+            && self.second.is_root(other.second)
+            && self.mxr == other.mxr
     }
 }

@@ -6,10 +6,10 @@ ghost use Rattle.arch_defs.specs.Traps.{cause_of, entered_hs, entered_supervisor
 use crate::interrupts::vs_bit;
 use arch_defs::{Csrs, Level, Mode, Regs, SupervisorCsrs, Trap};
 
-/// What htinst shows of a fault of the implicit read of a first-stage entry (RV64).
+// What htinst shows of a fault of the implicit read of a first-stage entry (RV64).
 const IMPLICIT_READ: u64 = 0x3000;
 
-/// The bit of scause that says that the trap is an interrupt.
+// The bit of scause that says that the trap is an interrupt.
 const INTERRUPT: u64 = 1 << 63;
 
 /// Where a trap from this mode goes: to VS exactly with V = 1 where hedeleg, or hideleg for an interrupt,
@@ -18,7 +18,7 @@ const INTERRUPT: u64 = 1 << 63;
 pub fn target(csrs: &Csrs, mode: Mode, trap: &Trap) -> Level
     ensures { result ≡ target csrs.now mode trap.now }
 {
-    if is_virtual(mode) && is_delegated(csrs, trap.interrupt, trap.cause) {
+    if mode.is_virtual() && is_delegated(csrs, trap.interrupt, trap.cause) {
         Level::VS
     } else {
         Level::HS
@@ -34,11 +34,11 @@ pub fn enter_hs(csrs: &mut Csrs, regs: &mut Regs, mode: Mode, trap: &Trap) -> Mo
 {
     let cause = cause_of(trap.interrupt, trap.cause);
     let handler = handler_of(csrs.hs.tvec, trap.interrupt, trap.cause);
-    csrs.hs = entered_supervisor(csrs.hs, is_supervisor(mode), regs.pc, cause, trap.tval);
+    csrs.hs = entered_supervisor(csrs.hs, mode.is_supervisor(), regs.pc, cause, trap.tval);
     csrs.hstatus.gva = trap.gva;
-    csrs.hstatus.spv = is_virtual(mode);
-    if is_virtual(mode) {
-        csrs.hstatus.spvp = is_supervisor(mode);
+    csrs.hstatus.spv = mode.is_virtual();
+    if mode.is_virtual() {
+        csrs.hstatus.spvp = mode.is_supervisor();
     }
     csrs.htval = htval_of(trap);
     csrs.htinst = htinst_of(trap);
@@ -57,12 +57,12 @@ pub fn enter_vs(csrs: &mut Csrs, regs: &mut Regs, mode: Mode, trap: &Trap) -> Mo
     let code = vs_code_of(trap);
     let cause = cause_of(trap.interrupt, code);
     let handler = handler_of(csrs.vs.tvec, trap.interrupt, code);
-    csrs.vs = entered_supervisor(csrs.vs, is_supervisor(mode), regs.pc, cause, trap.tval);
+    csrs.vs = entered_supervisor(csrs.vs, mode.is_supervisor(), regs.pc, cause, trap.tval);
     regs.pc = handler;
     Mode::VS
 }
 
-/// The registers of the level that a trap goes to.
+// The registers of the level that a trap goes to.
 fn entered_supervisor(
     registers: SupervisorCsrs,
     supervisor: bool,
@@ -92,7 +92,7 @@ fn cause_of(interrupt: bool, code: u64) -> u64
     }
 }
 
-/// The base of tvec, or with mode 1 an interrupt's own place beyond it.
+// The base of tvec, or with mode 1 an interrupt's own place beyond it.
 fn handler_of(tvec: u64, interrupt: bool, code: u64) -> u64
     ensures { result ≡ handler_of tvec interrupt code }
 {
@@ -104,7 +104,7 @@ fn handler_of(tvec: u64, interrupt: bool, code: u64) -> u64
     }
 }
 
-/// Whether a trap is a guest-page fault: of a fetch, a load, or a store or atomic operation.
+// Whether a trap is a guest-page fault: of a fetch, a load, or a store or atomic operation.
 fn is_guest_page_fault(trap: &Trap) -> bool
     ensures { result ≡ is_guest_page_fault trap.now }
 {
@@ -131,7 +131,7 @@ fn htinst_of(trap: &Trap) -> u64
     }
 }
 
-/// The code that vscause gets: VS sees its interrupts as supervisor interrupts.
+// The code that vscause gets: VS sees its interrupts as supervisor interrupts.
 fn vs_code_of(trap: &Trap) -> u64
     ensures { result ≡ vs_code_of trap.now }
 {
@@ -150,17 +150,4 @@ fn is_delegated(csrs: &Csrs, interrupt: bool, code: u64) -> bool
     } else {
         code < 64 && (csrs.hedeleg >> code) & 1 == 1
     }
-}
-
-/// V, the virtualization mode.
-pub fn is_virtual(mode: Mode) -> bool
-    ensures { result ≡ is_virtual mode }
-{
-    matches!(mode, Mode::VS | Mode::VU)
-}
-
-fn is_supervisor(mode: Mode) -> bool
-    ensures { result ≡ is_supervisor mode }
-{
-    matches!(mode, Mode::HS | Mode::VS)
 }

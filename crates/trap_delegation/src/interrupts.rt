@@ -50,7 +50,7 @@ fn due_for_vs(csrs: &Csrs, mode: Mode) -> Option<u64>
     }
 }
 
-/// Whether the level takes interrupts from this mode.
+// Whether the level takes interrupts from this mode.
 fn takes(csrs: &Csrs, mode: Mode, level: Level) -> bool
     ensures { result ≡ takes csrs.now mode level }
 {
@@ -125,7 +125,7 @@ fn is_enabled(csrs: &Csrs, code: u64) -> bool
     supervisor_bit(csrs.sie, code) || vs_bit(csrs.hie, code)
 }
 
-/// The bit of a code in sip or sie.
+// The bit of a code in sip or sie.
 fn supervisor_bit(bits: Interrupts, code: u64) -> bool
     ensures { result ≡ supervisor_bit bits code }
 {

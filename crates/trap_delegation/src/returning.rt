@@ -3,7 +3,6 @@
 ghost use Rattle.std.specs.Prelude.{◌≡◌, IsTrue};
 ghost use Rattle.arch_defs.specs.Traps.{is_supervisor, mode_of, returned, returned_from_hs, returned_from_vs, returned_supervisor};
 
-use crate::entering::is_virtual;
 use arch_defs::{Csrs, Mode, Regs, SupervisorCsrs};
 
 /// Does SRET in HS or VS. Gives the mode that it returns to.
@@ -14,7 +13,7 @@ pub fn sret(csrs: &mut Csrs, regs: &mut Regs, mode: Mode) -> Mode
     ensures general { regs.new ≡ (returned csrs.old regs.old mode).regs }
     ensures level { result ≡ (returned csrs.old regs.old mode).mode }
 {
-    if is_virtual(mode) {
+    if mode.is_virtual() {
         return_from_vs(csrs, regs)
     } else {
         return_from_hs(csrs, regs)
@@ -44,7 +43,7 @@ fn return_from_vs(csrs: &mut Csrs, regs: &mut Regs) -> Mode
     mode
 }
 
-/// The registers of the level that SRET leaves.
+// The registers of the level that SRET leaves.
 fn left(registers: SupervisorCsrs) -> SupervisorCsrs
     ensures { result ≡ returned_supervisor registers }
 {

@@ -12,9 +12,8 @@ use crate::virtual_addresses::{leaf_address, unread};
 use arch_defs::{Access, Csrs, GuestRoot, Mode, SecondWalkEnd, Shape, Trap, WalkEnd};
 use phys_mem::Mem;
 use stage_walk::{Fetch, permits_second, walk};
-use trap_delegation::is_virtual;
 
-/// Memory as what a walk reads its entries from.
+// Memory as what a walk reads its entries from.
 #[derive_where(Clone, Copy)]
 struct Words<'a, M> {
     mem: &'a M,
@@ -132,7 +131,7 @@ pub fn bare<M: Mem>(mem: &M, address: u64, kind: Access) -> Option<u64>
 pub fn second_root_of(csrs: &Csrs, mode: Mode) -> GuestRoot
     ensures { result ≡ second_root_of csrs.now mode }
 {
-    if is_virtual(mode) {
+    if mode.is_virtual() {
         csrs.hgatp
     } else {
         GuestRoot::Bare

@@ -15,6 +15,6 @@ pub use laws::{memory_is_whole, ram_is_whole};
 pub use noting::{first_noted, second_noted};
 pub use phys_mem::Mem;
 pub use translating::translate;
-pub use traps::{guest_page_fault, guest_page_trap, missing_place_trap};
+pub use traps::{guest_page_trap, missing_place_trap};
 pub use virtual_addresses::{first_stage, found_by, leaf_address, privilege_of, supervisor_of};
 pub use walked_entries::entry_by_walk;

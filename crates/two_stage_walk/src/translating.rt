@@ -11,7 +11,6 @@ use crate::traps::missing_place_trap;
 use crate::virtual_addresses::first_stage;
 use arch_defs::{Access, Csrs, Found, MissingPlace, Mode, Trap};
 use phys_mem::Mem;
-use trap_delegation::{exception, page_fault};
 
 // The place of an access, or its trap, by what the first stage made of its address.
 fn placed_by<M: Mem>(
@@ -44,7 +43,7 @@ fn placed_by<M: Mem>(
                 },
             )),
         },
-        Found::PageFaults => Err(exception(mode, page_fault(access), va)),
+        Found::PageFaults => Err(Trap::of_exception(mode, access.faults().page, va)),
         Found::MissesEntry(place) => Err(missing_place_trap(
             mem,
             csrs,

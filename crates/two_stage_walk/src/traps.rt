@@ -1,27 +1,12 @@
 // The trap of an access for which the second stage has no place.
 
 ghost use Rattle.std.specs.Prelude.{◌≡◌};
-ghost use Rattle.arch_defs.specs.SecondStage.{guest_page_fault, guest_page_trap, is_implicit, missing_place_by, missing_place_trap};
+ghost use Rattle.arch_defs.specs.SecondStage.{guest_page_trap, is_implicit, missing_place_by, missing_place_trap};
 ghost use Rattle.two_stage_walk.specs.Places.{IsWhole};
 
 use crate::guest_addresses::{second_root_of, second_walk};
-use arch_defs::{
-    Access, Csrs, GuestRoot, INSTRUCTION_GUEST_PAGE_FAULT, LOAD_GUEST_PAGE_FAULT, MissingPlace,
-    STORE_GUEST_PAGE_FAULT, SecondWalkEnd, Trap,
-};
+use arch_defs::{Access, Csrs, GuestRoot, MissingPlace, SecondWalkEnd, Trap};
 use phys_mem::Mem;
-use trap_delegation::{exception, missing_place_fault};
-
-/// The code of the guest-page fault of an access.
-pub fn guest_page_fault(access: Access) -> u64
-    ensures { result ≡ guest_page_fault access }
-{
-    match access {
-        Access::Fetch => INSTRUCTION_GUEST_PAGE_FAULT,
-        Access::Load | Access::ExecLoad | Access::Implicit => LOAD_GUEST_PAGE_FAULT,
-        Access::Store => STORE_GUEST_PAGE_FAULT,
-    }
-}
 
 // Whether an access is the implicit read of a first-stage entry.
 fn is_implicit(kind: Access) -> bool
@@ -34,11 +19,11 @@ fn is_implicit(kind: Access) -> bool
 pub fn guest_page_trap(missing: &MissingPlace) -> Trap
     ensures { result ≡ guest_page_trap missing.now }
 {
-    let cause = guest_page_fault(missing.access);
+    let cause = missing.access.faults().guest_page;
     Trap {
         tval2: missing.address / 4,
         implicit: is_implicit(missing.kind),
-        ..exception(missing.mode, cause, missing.va)
+        ..Trap::of_exception(missing.mode, cause, missing.va)
     }
 }
 
@@ -48,7 +33,7 @@ fn missing_place_by(missing: &MissingPlace, end: SecondWalkEnd) -> Trap
 {
     match end {
         SecondWalkEnd::GuestPageFault => guest_page_trap(missing),
-        SecondWalkEnd::Leaf(_) | SecondWalkEnd::AccessFault => missing_place_fault(missing),
+        SecondWalkEnd::Leaf(_) | SecondWalkEnd::AccessFault => missing.access_fault(),
     }
 }
 
@@ -60,7 +45,7 @@ pub fn missing_place_trap<M: Mem>(mem: &M, csrs: &Csrs, missing: &MissingPlace) 
     ensures { result ≡ missing_place_trap csrs.now (M.base mem.now) (M.bytes mem.now) missing.now }
 {
     match second_root_of(csrs, missing.mode) {
-        GuestRoot::Bare => missing_place_fault(missing),
+        GuestRoot::Bare => missing.access_fault(),
         GuestRoot::Table { mode, ppn, .. } => {
             let mxr = csrs.hs.status.mxr;
             let end = second_walk(mem, mxr, mode.shape(), ppn, missing.address, missing.kind);

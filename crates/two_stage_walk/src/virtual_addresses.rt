@@ -16,8 +16,8 @@ use arch_defs::{
 use phys_mem::Mem;
 use stage_walk::{Fetch, permits_first, walk};
 
-/// Memory as what the first stage of a mode reads its entries from: each at the place that the second
-/// stage has for it.
+// Memory as what the first stage of a mode reads its entries from: each at the place that the second
+// stage has for it.
 #[derive_where(Clone, Copy)]
 struct Entries<'a, M> {
     mem: &'a M,
@@ -99,12 +99,7 @@ pub fn leaf_address(leaf: &LeafPte, va: u64) -> u64
     ensures offset { result % 4096 ≡ va % 4096 }
     ensures small { result < 2 ^ 56 }
 {
-    let first = 4096 * leaf.frame;
-    match leaf.level {
-        0 => first + va % 0x1000,
-        1 => first + va % 0x20_0000,
-        _ => first + va % 0x4000_0000,
-    }
+    4096 * leaf.frame + va % (1 << (12 + 9 * leaf.level as u32))
 }
 
 /// What the end of a first-stage walk is to an access.

@@ -47,7 +47,7 @@ impl Command {
         }
     }
 
-    /// Appends its doublewords.
+    // Appends its doublewords.
     fn append(&self, bytes: &mut Vec<u8>) -> Result<(), NoMemory>
         ensures { OnOk result (bytes.new.items ≡ bytes.old.items ++ command_bytes self.now) }
     {

@@ -4,14 +4,15 @@ use Rattle.std.proofs.Common.{◌≡◌, ℕ, None, Bool, true, false, refl}
 use Rattle.arch_defs.specs.declared.csr_names.CsrEnd.TheVariants.{Virtual as VirtualInstruction}
 use Rattle.arch_defs.specs.declared.modes.Mode.{Mode}
 use Rattle.arch_defs.specs.declared.modes.Mode.TheVariants.{HS, U, VS, VU}
-use Rattle.arch_defs.specs.declared.registers.GuestRoot.{GuestRoot}
+use Rattle.arch_defs.specs.declared.roots.GuestRoot.{GuestRoot}
 use Rattle.arch_defs.specs.declared.registers.Virtual.{Virtual}
 use Rattle.arch_defs.specs.CsrAccess.{reached, reached_by, reached_in_vs, reached_in_vu, read_csr}
 use Rattle.arch_defs.specs.CsrNames.{read_only_register, register_of}
 use Rattle.arch_defs.specs.Traps.{arrived, is_supervisor, is_virtual, mode_of, returned, returned_from_vs}
 use Rattle.op_defs.specs.declared.ops.Privileged.TheVariants.{Sret, Wfi, SfenceVma}
 use Rattle.machine_defs.specs.declared.events.Event.TheVariants.{System}
-use Rattle.machine_defs.specs.Outcomes.{Done, passed}
+use Rattle.arch_defs.specs.Registers.{passed}
+use Rattle.machine_defs.specs.Outcomes.{Done}
 use Rattle.machine_defs.specs.Privileges.{decided, privileged, refusal, refused, virtual_if}
 use Rattle.world_switch.specs.Hosting.{guest_state_of, hart_state_of}
 use Rattle.world_switch.specs.Laws.{FencesAlike, OwnMxr, ReturnsAlike, TimeIsLeft, WaitsAreLeft}

@@ -12,7 +12,7 @@ use Rattle.arch_defs.specs.declared.csr_names.Register.TheVariants.{Supervisor, 
 use Rattle.arch_defs.specs.declared.modes.Mode.{Mode}
 use Rattle.arch_defs.specs.declared.modes.Mode.TheVariants.{HS, U, VS, VU}
 use Rattle.arch_defs.specs.declared.registers.Csrs.{Csrs}
-use Rattle.arch_defs.specs.declared.registers.GuestRoot.{GuestRoot}
+use Rattle.arch_defs.specs.declared.roots.GuestRoot.{GuestRoot}
 use Rattle.arch_defs.specs.CsrAccess.{enable_shown, enable_written, interrupts_shown, interrupts_written, named_to_write, reached, reached_by, reached_in_vs, reached_in_vu, read_csr, shown, value_of, write_csr, written, written_by}
 use Rattle.arch_defs.specs.Bits.{bit}
 use Rattle.arch_defs.specs.CsrBits.{delegated, delegated_become, supervisor_interrupts}

@@ -1,20 +1,21 @@
 -- How the hart stands for a guest: with V = 0 its VS and VU for the guest's HS and U, with V = 1 for the
 -- guest's VS and VU.
-use Rattle.std.specs.Prelude.{ℕ, Bool, true, false, not, ◌&&◌, if◌then◌else◌}
+use Rattle.std.specs.Prelude.{ℕ, ◌+◌, ◌*◌, ◌%◌, Bool, true, false, not, ◌&&◌, ◌==◌, nat_lt, if◌then◌else◌}
 use Rattle.arch_defs.specs.declared.levels.Level.{Level}
 use Rattle.arch_defs.specs.declared.levels.Level.TheVariants as level
 use Rattle.arch_defs.specs.declared.modes.Mode.{Mode}
 use Rattle.arch_defs.specs.declared.registers.SupervisorCsrs.{SupervisorCsrs}
 use Rattle.arch_defs.specs.declared.registers.Csrs.{Csrs}
-use Rattle.arch_defs.specs.declared.registers.GuestRoot.{GuestRoot}
-use Rattle.arch_defs.specs.declared.registers.GuestMode.TheVariants.{Sv39x4}
-use Rattle.arch_defs.specs.declared.registers.GuestRoot.TheVariants.{Table}
+use Rattle.arch_defs.specs.declared.roots.GuestRoot.{GuestRoot}
+use Rattle.arch_defs.specs.declared.roots.GuestMode.{GuestMode}
+use Rattle.arch_defs.specs.declared.roots.GuestRoot.TheVariants.{Table}
 use Rattle.arch_defs.specs.declared.registers.HypervisorStatus.{HypervisorStatus}
 use Rattle.arch_defs.specs.declared.registers.Interrupts.{Interrupts}
 use Rattle.arch_defs.specs.declared.registers.Virtual.{Virtual}
 use Rattle.arch_defs.specs.CsrBits.{hedeleg_bits}
 use Rattle.arch_defs.specs.Layouts.{Layout}
 use Rattle.arch_defs.specs.Registers.{clear_hypervisor_status, clear_supervisor_status, csrs_at_reset, supervisor_at_reset}
+use Rattle.arch_defs.specs.Roots.{folded_mode, host_mode}
 use Rattle.arch_defs.specs.Traps.{is_supervisor, is_virtual, mode_of}
 use Rattle.machine_laws.specs.HostPlaces.{memory_place}
 use Rattle.machine_laws.specs.Renaming.{renamed}
@@ -92,14 +93,27 @@ hart_state_of root virt = record {
   reservation = virt.reservation;
 }
 
--- the second stage by the table whose root begins at a frame: Sv39x4 with VMID 0 (Privileged Architecture
--- 20211203, 8.2.10)
-abbrev pub table_from : ℕ → GuestRoot
-table_from frame = Table Sv39x4 0 frame
+-- whether a frame is the first of the root of one of a part's spaces
+abbrev pub is_space_root : Layout → ℕ → Bool
+is_space_root part frame =
+    nat_lt part.first_root frame
+    && (nat_lt frame (part.first_root + 4 * (1 + part.spaces)) && frame % 4 == 0)
 
--- that of the host table of the guest that has this part
+-- the mode of the table whose root begins at a frame: that of folded tables at a space's root, else that of the
+-- host table
+abbrev pub mode_at : Layout → ℕ → GuestMode
+mode_at part frame = if is_space_root part frame then folded_mode else host_mode
+
+-- the second stage by that table, with VMID 0 (Privileged Architecture 20211203, 8.2.10)
+abbrev pub root_at : Layout → ℕ → GuestRoot
+root_at part frame = Table (mode_at part frame) 0 frame
+
+-- that of the host table of the guest that has this part, and that of a space whose root begins at a frame
 abbrev pub host_root : Layout → GuestRoot
-host_root part = table_from part.first_root
+host_root part = Table host_mode 0 part.first_root
+
+abbrev pub space_root : ℕ → GuestRoot
+space_root frame = Table folded_mode 0 frame
 
 -- what the hart has for that guest under a root: its reservation is at the place in machine memory
 abbrev pub hart_state_in : Layout → GuestRoot → Virtual → Virtual

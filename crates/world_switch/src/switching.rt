@@ -5,30 +5,30 @@ ghost use Rattle.arch_defs.specs.Registers.{clear_hypervisor_status, clear_inter
 ghost use Rattle.arch_defs.specs.Traps.{is_virtual};
 ghost use Rattle.machine_laws.specs.HostPlaces.{in_ram, memory_place};
 ghost use Rattle.machine_laws.specs.Renaming.{ReservesWithin, renamed, reservation_renamed};
-ghost use Rattle.world_switch.specs.Hosting.{after_hs_trap, all_interrupts, guest_state_of, hart_state_in, hosted_csrs, hosted_mode, saved_csrs, saved_mode, supervisor_with, table_from};
+ghost use Rattle.world_switch.specs.Hosting.{after_hs_trap, all_interrupts, guest_state_of, hart_state_in, hosted_csrs, hosted_mode, is_space_root, root_at, saved_csrs, saved_mode, supervisor_with};
 ghost use Rattle.world_switch.specs.Laws.{Saves, SavesBack};
 
 use arch_defs::{
-    BLOCK_SIZE, Csrs, GuestMode, GuestRoot, HartState, HypervisorStatus, Interrupts, Mode, Part,
-    SupervisorCsrs, SupervisorRoot, SupervisorStatus, Virtual,
+    BLOCK_SIZE, Csrs, FOLDED_MODE, GuestRoot, HOST_MODE, HartState, HypervisorStatus, Interrupts,
+    Mode, Part, SupervisorCsrs, SupervisorRoot, SupervisorStatus, Virtual,
 };
 use csr_file::hedeleg_bits;
 use phys_mem::RAM_BASE;
-use trap_delegation::is_virtual;
 
-/// The exceptions that go to VS (codes 0 to 8, 12, 13 and 15): each that a guest with V = 0 takes, and each
-/// that a guest with V = 1 can delegate.
+// The exceptions that go to VS (codes 0 to 8, 12, 13 and 15): each that a guest with V = 0 takes, and each
+// that a guest with V = 1 can delegate.
 const OWN_EXCEPTIONS: u64 = 0xB1FF;
 
-/// Sets what the hart has for the guest that has this part: its VS and VU stand for the guest's HS and U
-/// with V = 0, and for its VS and VU with V = 1, under the table whose root begins at the frame `root`. The
+/// Sets what the hart has for the guest that has this part: its VS and VU stand for the guest's HS and U with
+/// V = 0, and for its VS and VU with V = 1, under the table whose root begins at the frame `root`: by the
+/// mode of folded tables where that is the root of one of the part's spaces, else by the host table's. The
 /// guest's reservation is at its place in machine memory.
 pub fn load(virt: &Virtual, part: &Part, root: u64, hart: &mut HartState)
     requires held { ReservesWithin (in_ram part.now.blocks) virt.now.reservation }
-    ensures has { hart.new ≡ hart_state_in part.now (table_from root) virt.now }
+    ensures has { hart.new ≡ hart_state_in part.now (root_at part.now root) virt.now }
     ensures saves { SavesBack part.now hart.new virt.now }
 {
-    if is_virtual(virt.mode) {
+    if virt.mode.is_virtual() {
         to_nested(virt, part, root, hart);
     } else {
         to_guest_hs(virt, part, root, hart);
@@ -39,9 +39,9 @@ pub fn load(virt: &Virtual, part: &Part, root: u64, hart: &mut HartState)
 pub fn to_guest_hs(virt: &Virtual, part: &Part, root: u64, hart: &mut HartState)
     requires own { is_virtual virt.now.mode ≡ false }
     requires held { ReservesWithin (in_ram part.now.blocks) virt.now.reservation }
-    ensures { hart.new ≡ hart_state_in part.now (table_from root) virt.now }
+    ensures { hart.new ≡ hart_state_in part.now (root_at part.now root) virt.now }
 {
-    set_csrs_of_hs(&virt.csrs, root, &mut hart.csrs);
+    set_csrs_of_hs(&virt.csrs, root_at(part, root), &mut hart.csrs);
     set_others(virt, part, hart);
 }
 
@@ -50,9 +50,9 @@ pub fn to_guest_hs(virt: &Virtual, part: &Part, root: u64, hart: &mut HartState)
 pub fn to_nested(virt: &Virtual, part: &Part, root: u64, hart: &mut HartState)
     requires nested { is_virtual virt.now.mode ≡ true }
     requires held { ReservesWithin (in_ram part.now.blocks) virt.now.reservation }
-    ensures { hart.new ≡ hart_state_in part.now (table_from root) virt.now }
+    ensures { hart.new ≡ hart_state_in part.now (root_at part.now root) virt.now }
 {
-    set_csrs_of_vs(&virt.csrs, root, &mut hart.csrs);
+    set_csrs_of_vs(&virt.csrs, root_at(part, root), &mut hart.csrs);
     set_others(virt, part, hart);
 }
 
@@ -72,7 +72,7 @@ fn set_others(virt: &Virtual, part: &Part, hart: &mut HartState)
 pub fn save(hart: &HartState, part: &Part, virt: &mut Virtual)
     ensures { Saves part.now hart.now virt.old virt.new }
 {
-    let nested = is_virtual(virt.mode);
+    let nested = virt.mode.is_virtual();
     save_csrs(&hart.csrs, nested, &mut virt.csrs);
     virt.regs = hart.regs;
     virt.mode = saved_mode(nested, hart.mode);
@@ -143,12 +143,25 @@ fn ram_place(part: &Part, place: u64) -> Option<u64>
     None
 }
 
-// Sv39x4, with VMID 0.
-fn table_from(frame: u64) -> GuestRoot
-    ensures { result ≡ table_from frame }
+// Whether a frame is the first of the root of one of the part's spaces.
+fn is_space_root(part: &Part, frame: u64) -> bool
+    ensures { result ≡ is_space_root part.now frame }
 {
+    let first = part.host_root();
+    first < frame && frame < first + 4 * (1 + part.spaces()) && frame % 4 == 0
+}
+
+// The table whose root begins at a frame, with VMID 0.
+fn root_at(part: &Part, frame: u64) -> GuestRoot
+    ensures { result ≡ root_at part.now frame }
+{
+    let mode = if is_space_root(part, frame) {
+        FOLDED_MODE
+    } else {
+        HOST_MODE
+    };
     GuestRoot::Table {
-        mode: GuestMode::Sv39x4,
+        mode,
         vmid: 0,
         ppn: frame,
     }
@@ -185,8 +198,8 @@ fn all_interrupts() -> Interrupts
 }
 
 // For a guest with V = 0. The host makes a WFI and an SRET of its HS.
-fn set_csrs_of_hs(csrs: &Csrs, root: u64, hart: &mut Csrs)
-    ensures { hart.new ≡ hosted_csrs (table_from root) false csrs.now }
+fn set_csrs_of_hs(csrs: &Csrs, root: GuestRoot, hart: &mut Csrs)
+    ensures { hart.new ≡ hosted_csrs root false csrs.now }
 {
     set_own_csrs(false, root, hart);
     hart.vs = csrs.hs;
@@ -200,8 +213,8 @@ fn set_csrs_of_hs(csrs: &Csrs, root: u64, hart: &mut Csrs)
 }
 
 // For a guest with V = 1, whose VS traps to its HS as the guest asks for. The host makes a WFI of its VS.
-fn set_csrs_of_vs(csrs: &Csrs, root: u64, hart: &mut Csrs)
-    ensures { hart.new ≡ hosted_csrs (table_from root) true csrs.now }
+fn set_csrs_of_vs(csrs: &Csrs, root: GuestRoot, hart: &mut Csrs)
+    ensures { hart.new ≡ hosted_csrs root true csrs.now }
 {
     set_own_csrs(csrs.hs.status.mxr, root, hart);
     hart.vs = csrs.vs;
@@ -217,7 +230,7 @@ fn set_csrs_of_vs(csrs: &Csrs, root: u64, hart: &mut Csrs)
 
 // Sets the registers of which the hart has its own: zero, but for MXR, the root of the second stage, and the
 // WFI of VS, which is a virtual instruction.
-fn set_own_csrs(mxr: bool, root: u64, hart: &mut Csrs)
+fn set_own_csrs(mxr: bool, root: GuestRoot, hart: &mut Csrs)
     ensures { hart.new ≡ record hart.old {
       hs = supervisor_with mxr;
       sie = clear_interrupts;
@@ -228,7 +241,7 @@ fn set_own_csrs(mxr: bool, root: u64, hart: &mut Csrs)
       htimedelta = 0;
       htval = 0;
       htinst = 0;
-      hgatp = table_from root;
+      hgatp = root;
       time = 0;
     } }
 {
@@ -241,7 +254,7 @@ fn set_own_csrs(mxr: bool, root: u64, hart: &mut Csrs)
     hart.htimedelta = 0;
     hart.htval = 0;
     hart.htinst = 0;
-    hart.hgatp = table_from(root);
+    hart.hgatp = root;
     hart.time = 0;
 }
 

@@ -13,7 +13,7 @@ returns-then-is_hosts-clause-takes c = λ yes.
       step = λ memory. record {
         ready = (is memory).0;
         step = rw (is memory).1 (machine_is c.args.guest.now c.tick.new.self _ memory (record { part = c.tick.ensures.keeps.part; pool = c.tick.ensures.keeps.pool })
-            (rw (c.take.ensures, c.interrupt_trap.ensures) at c.tick.ensures.platform));
+            (rw (c.take.ensures, c.of_interrupt.ensures) at c.tick.ensures.platform));
       };
       quiet = λ memory. record { trace = rw (is memory).1 refl; plain = rw (is memory).1 refl };
       none = λ memory. rw (is memory).1 refl;

@@ -1,7 +1,7 @@
 use Rattle.std.proofs.Common.{ap, sym}
 use Rattle.arch_defs.specs.Memory.{ram_base, reading_of}
 use Rattle.machine_defs.specs.Machine.{Platform}
-use Rattle.machine_defs.specs.Outcomes.{passed}
+use Rattle.arch_defs.specs.Registers.{passed}
 use Rattle.machine_defs.specs.Tries.{second_of}
 use Rattle.rv64_asm.specs.Words.{encoded}
 use Rattle.guest_exit.specs.View.{machine_of}

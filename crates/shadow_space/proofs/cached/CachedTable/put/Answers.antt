@@ -1,11 +1,11 @@
 use Rattle.std.proofs.Common.{arith, refl, ◌%◌}
 use Rattle.table_words.proofs.Words.{changed_then}
-use Rattle.shadow_space.proofs.Putting.{before, has_low, has_put_into}
+use Rattle.shadow_space.proofs.Putting.{entering, has_low, has_put_into}
 use Rattle.shadow_space.proofs.cached.CachedTable.put.Goals as goal
 
 pub enter_tables-way-requires-clause-stands : goal.enter_tables-way-requires-clause-stands
 enter_tables-way-requires-clause-stands c =
-    before c.args.tables.now c.args.self.now.part.blocks c.args.self.now.most c.args.self.now.entries c.args.self.now.frames c.args.mem.now c.args.entry c.requires.holds c.requires.room
+    entering c.args.tables.now c.args.self.now c.args.mem.now c.args.entry c.requires.holds c.requires.room
 
 pub overflow_mul-way : goal.overflow_mul-way
 overflow_mul-way c =
