@@ -11,7 +11,7 @@ use crate::told::Told;
 use no_memory::NoMemory;
 use std::alloc::Global;
 
-/// What the lines of a case have said so far.
+// What the lines of a case have said so far.
 #[derive(Drop)]
 struct Case<'a> {
     alloc: Global,

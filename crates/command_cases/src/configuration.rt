@@ -12,7 +12,7 @@ pub enum Turns<'a> {
     Pieces(&'a str),
 }
 
-/// The lines of a guest's table.
+// The lines of a guest's table.
 #[derive(Drop)]
 struct Guest {
     lines: Vec<String>,

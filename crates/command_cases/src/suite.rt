@@ -14,7 +14,7 @@ enum Kind {
     Table,
 }
 
-/// The lines from one that begins a part, a case or a table to its end.
+// The lines from one that begins a part, a case or a table to its end.
 #[derive(Drop)]
 struct Block<'a> {
     kind: Kind,
@@ -22,7 +22,7 @@ struct Block<'a> {
     lines: Vec<&'a str>,
 }
 
-/// What the lines of a file have said so far.
+// What the lines of a file have said so far.
 #[derive(Drop)]
 struct Suite<'a> {
     alloc: Global,

@@ -9,7 +9,7 @@ use crate::text::{push_shown, push_unescaped, quoted};
 use no_memory::NoMemory;
 use std::alloc::Global;
 
-/// The lines of the configuration that a row of three columns changes, behind that of the format.
+// The lines of the configuration that a row of three columns changes, behind that of the format.
 const LINES: [&str; 9] = [
     "quantum = 10000",
     "rounds = 1",
@@ -22,14 +22,14 @@ const LINES: [&str; 9] = [
     "console = 100",
 ];
 
-/// The commands that read a configuration.
+// The commands that read a configuration.
 const COMMANDS: [(&str, &str); 3] = [
     ("nesthv check k", "CHECK"),
     ("nesthv run k", "RUN"),
     ("nesthv replay k r", "REPLAY"),
 ];
 
-/// A table, and the template that its rows of two columns fill.
+// A table, and the template that its rows of two columns fill.
 #[derive(Drop)]
 struct Table {
     alloc: Global,

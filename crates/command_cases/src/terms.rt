@@ -5,7 +5,7 @@ ghost use Rattle.std.specs.Prelude.{◌≤◌};
 use crate::faults::Fault;
 use std::alloc::Global;
 
-/// A name, and the values that it stands for.
+// A name, and the values that it stands for.
 #[derive(Drop)]
 struct Meaning<'a> {
     name: &'a str,

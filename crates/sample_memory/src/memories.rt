@@ -1,6 +1,7 @@
 // Machine memory and a guest's part of it, as tests of several layers set them up.
 
 ghost use Rattle.std.specs.Prelude.{◌≡◌, ◌*◌, ◌≤◌, true, IfOk};
+ghost use Rattle.arch_defs.specs.Frames.{most_frames};
 ghost use Rattle.arch_defs.specs.Layouts.{names_each_once};
 ghost use Rattle.arch_defs.specs.Memory.{zeros};
 
@@ -11,7 +12,7 @@ use std::alloc::Global;
 /// So many frames of zeros.
 pub fn memory(alloc: Global, frames: u64) -> Result<PhysMem, NoMemory>
     requires some { 1 ≤ frames }
-    requires most { frames ≤ 131072 }
+    requires most { frames ≤ most_frames }
     ensures { IfOk result (λ m. m ≡ zeros (frames * 4096)) }
 {
     PhysMem::new(alloc, frames)

@@ -39,8 +39,8 @@ impl<'a> Line<'a> {
         register(self.operands[operand])
     }
 
-    /// The number that an operand is: decimal or with `0x` before it, with a minus or without, or of a letter,
-    /// as `'A'`.
+    /// The number that an operand is: decimal or with `0x` before it, with a minus or without, or of a
+    /// letter, as `'A'`.
     pub fn number(&self, operand: usize) -> Option<u64>
         requires { operand < 3 }
     {

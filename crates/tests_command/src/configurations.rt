@@ -170,9 +170,9 @@ static FAULTS: [Kept; 11] = [
         ..FAULT
     },
     Kept {
-        fault: ConfigFault::Frames { sum: 262_800 },
+        fault: ConfigFault::Frames { sum: 263_056 },
         number: 11,
-        value: Some(262_800),
+        value: Some(263_056),
         ..FAULT
     },
 ];

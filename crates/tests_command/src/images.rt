@@ -56,8 +56,8 @@ const DOUBLEWORDS: [(usize, u64); 6] = [
     (0x9000, 0x2000_045B),
 ];
 
-// A guest of a seed and a size: its image's length, and its hash by FNV-1a, of 64 bits. Another program made the
-// images.
+// A guest of a seed and a size: its image's length, and its hash by FNV-1a, of 64 bits. Another program made
+// the images.
 struct Hashed {
     seed: u64,
     size: u64,

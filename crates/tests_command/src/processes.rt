@@ -5,7 +5,7 @@ use std::env::FillError;
 use std::rt::Env;
 use std::test::Fail;
 
-/// A process with these arguments.
+// A process with these arguments.
 #[derive(Drop)]
 struct Given<'a> {
     arguments: &'a [&'a [u8]],

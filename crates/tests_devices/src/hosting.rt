@@ -5,7 +5,7 @@ ghost use Rattle.std.specs.Prelude.{◌≡◌, [], ◌∷◌, Some, true};
 ghost use Rattle.arch_defs.specs.Layouts.{names_each_once};
 ghost use Rattle.machine_laws.specs.HostPlaces.{in_ram};
 ghost use Rattle.machine_laws.specs.Renaming.{ReservesWithin};
-ghost use Rattle.world_switch.specs.Hosting.{hart_state_in, table_from};
+ghost use Rattle.world_switch.specs.Hosting.{hart_state_in, root_at};
 
 use arch_defs::{GuestMode, GuestRoot, HartState, Interrupts, Mode, Part, Virtual};
 use world_switch::{fix_up, load, save};
@@ -23,25 +23,26 @@ const ROOT: u64 = 8;
 
 const MODES: [Mode; 4] = [Mode::HS, Mode::U, Mode::VS, Mode::VU];
 
-// A part with these blocks.
+// A part with these blocks, and two spaces without entries.
 fn part_of(blocks: &[u32], first_root: u32, first_table: u32) -> Part
     requires { names_each_once (record {
       blocks = blocks.now;
       first_root = first_root;
       first_table = first_table;
-      spaces = 0;
+      spaces = 2;
       entries = 0;
     }) ≡ true }
     ensures { result.blocks ≡ blocks.now }
 {
-    Part::new(blocks, first_root, first_table, 0, 0)
+    Part::new(blocks, first_root, first_table, 2, 0)
 }
 
-// A part whose blocks are not in order.
+// A part whose blocks are not in order. The host's root is frame 8, the roots of the spaces are 12 and 16,
+// and each has four frames.
 fn part() -> Part
     ensures { result.blocks ≡ 5 ∷ 2 ∷ [] }
 {
-    part_of(&[5, 2], 8, 12)
+    part_of(&[5, 2], 8, 20)
 }
 
 // A guest in this mode whose registers differ from one another and from those at reset.
@@ -67,7 +68,7 @@ fn guest(mode: Mode) -> Virtual
 // What a hart has that had something else before.
 fn loaded_for(virt: &Virtual, part: &Part, root: u64) -> HartState
     requires { ReservesWithin (in_ram part.now.blocks) virt.now.reservation }
-    ensures { result ≡ hart_state_in part.now (table_from root) virt.now }
+    ensures { result ≡ hart_state_in part.now (root_at part.now root) virt.now }
 {
     let mut hart = Virtual::starting_at(Mode::VU, START);
     load(virt, part, root, &mut hart);
@@ -110,15 +111,62 @@ fn all_are(hedeleg: u64, codes: &[u32], bit: u64) -> bool {
     true
 }
 
-// hgatp has MODE 8 (Sv39x4), VMID 0 and for PPN the frame of the root (8.2.10).
-fn is_under_a_table(mode: Mode, root: u64) -> bool {
-    let hart = loaded_for(&guest(mode), &part(), root);
-    let table = GuestRoot::Table {
+// A frame from which the hart is to have a root, and the MODE of its hgatp.
+struct Table {
+    root: u64,
+    mode: GuestMode,
+}
+
+// The host's root; those of both spaces, which have four levels; frames within these, and those before and
+// behind the part's roots, which are the roots of none.
+static TABLES: [Table; 9] = [
+    Table {
+        root: 8,
         mode: GuestMode::Sv39x4,
+    },
+    Table {
+        root: 12,
+        mode: GuestMode::Sv48x4,
+    },
+    Table {
+        root: 16,
+        mode: GuestMode::Sv48x4,
+    },
+    Table {
+        root: 4,
+        mode: GuestMode::Sv39x4,
+    },
+    Table {
+        root: 11,
+        mode: GuestMode::Sv39x4,
+    },
+    Table {
+        root: 13,
+        mode: GuestMode::Sv39x4,
+    },
+    Table {
+        root: 19,
+        mode: GuestMode::Sv39x4,
+    },
+    Table {
+        root: 20,
+        mode: GuestMode::Sv39x4,
+    },
+    Table {
+        root: 24,
+        mode: GuestMode::Sv39x4,
+    },
+];
+
+// hgatp has MODE 8 (Sv39x4) or 9 (Sv48x4), VMID 0 and for PPN the frame of the root (8.2.10).
+fn is_under_a_table(mode: Mode, table: &Table) -> bool {
+    let hart = loaded_for(&guest(mode), &part(), table.root);
+    let root = GuestRoot::Table {
+        mode: table.mode,
         vmid: 0,
-        ppn: root,
+        ppn: table.root,
     };
-    hart.csrs.hgatp == table
+    hart.csrs.hgatp == root
 }
 
 // What the hart reserves for a guest that reserves eight bytes at this address, and what the guest has back.
@@ -201,8 +249,9 @@ fn hosted(rt: HostRuntime) {
 #[test]
 fn under_a_table(rt: HostRuntime) {
     for mode in MODES {
-        assert!(rt; is_under_a_table(mode, 8));
-        assert!(rt; is_under_a_table(mode, 24));
+        for table in &TABLES {
+            assert!(rt; is_under_a_table(mode, table), "{mode:?} at {}", table.root);
+        }
     }
 }
 

@@ -8,10 +8,10 @@ use sample_programs::places::{At, set_all, value_at};
 use sample_programs::{LineFault, words};
 use std::alloc::Global;
 
-// Where a program begins if its case does not say: at the start of memory, with vsatp and hgatp Bare.
+/// Where a program begins if its case does not say: at the start of memory, with vsatp and hgatp Bare.
 pub const START: u64 = 0;
 
-// A doubleword and its place, which x8 has.
+/// A doubleword and its place, which x8 has.
 pub const DATA: u64 = 0x1000;
 
 pub const HELD: u64 = 0xFEDC_BA98_7654_3210;
@@ -19,7 +19,7 @@ pub const HELD: u64 = 0xFEDC_BA98_7654_3210;
 // The most steps that a case makes, none of which ends by its limit unless it says so.
 const MOST: u64 = 100;
 
-// Why a run stops: an exit has the cause and tval of its trap.
+/// Why a run stops: an exit has the cause and tval of its trap.
 #[derive(Clone, Copy)]
 pub enum End {
     Limit,
@@ -29,7 +29,7 @@ pub enum End {
     Interrupt(u64),
 }
 
-// tval2 is the guest physical address divided by 4.
+/// tval2 is the guest physical address divided by 4.
 #[derive(Clone, Copy)]
 pub struct GuestPageFault {
     pub cause: u64,
@@ -68,7 +68,7 @@ pub struct Case {
     pub trace: Option<u64>,
 }
 
-// A run that makes no step.
+/// A run that makes no step.
 pub const CASE: Case = Case {
     name: "",
     frames: 2,
@@ -158,8 +158,8 @@ pub fn started(case: &Case) -> HartState {
     state
 }
 
-// The trap of a cause. With V = 1 stval has a guest virtual address but for an illegal or virtual instruction
-// and a call (8.6).
+/// The trap of a cause. With V = 1 stval has a guest virtual address but for an illegal or virtual
+/// instruction and a call (8.6).
 pub fn trap(cause: u64, tval: u64) -> Trap {
     Trap {
         cause,
@@ -197,8 +197,8 @@ pub fn stop_of(taken: u64, end: End) -> Stop {
     Stop { taken, why }
 }
 
-// Whether the hart does what a case says, counts it as one entry, and leaves all as it was where it makes no
-// step.
+/// Whether the hart does what a case says, counts it as one entry, and leaves all as it was where it makes no
+/// step.
 pub fn holds(alloc: Global, case: &Case) -> Result<bool, LineFault> {
     let mut memory = memory_of(alloc, case)?;
     let before = started(case);

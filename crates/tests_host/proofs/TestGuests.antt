@@ -1,5 +1,6 @@
 -- The guests of the tests.
 use Rattle.std.proofs.Common.{◌≡◌, zero, suc, ◌≤◌, [], ◌∷◌, ap, arith}
+use Rattle.arch_defs.specs.Frames.{most_frames}
 use Rattle.std.specs.List.{All}
 use Rattle.guest_specs.specs.Needs.{frames_needed, need_of}
 use Rattle.guest_specs.specs.declared.guests.GuestSpec.{GuestSpec}
@@ -17,11 +18,11 @@ two_bootable a b first second zero d h = first
 two_bootable a b first second (suc zero) d h = second
 two_bootable a b first second (suc (suc k)) d h = absurd (omega arith)
 
-small_frames : (a : GuestSpec) → IsSmall a → frames_needed (need_of a) ≡ 553
+small_frames : (a : GuestSpec) → IsSmall a → frames_needed (need_of a) ≡ 569
 small_frames a is = ap frames_needed is
 
-pub one_fits : (a : GuestSpec) → IsSmall a → frames_for (a ∷ []) ≤ 131072
+pub one_fits : (a : GuestSpec) → IsSmall a → frames_for (a ∷ []) ≤ most_frames
 one_fits a is = omega (arith, small_frames a is)
 
-pub two_fit : (a b : GuestSpec) → IsSmall a → IsSmall b → frames_for (a ∷ b ∷ []) ≤ 131072
+pub two_fit : (a b : GuestSpec) → IsSmall a → IsSmall b → frames_for (a ∷ b ∷ []) ≤ most_frames
 two_fit a b first second = omega (arith, small_frames a first, small_frames b second)

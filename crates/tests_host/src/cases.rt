@@ -57,7 +57,7 @@ pub struct Case {
     pub tally: Option<(u64, u64)>,
 }
 
-// A step of HS at the start of RAM at moment 0.
+/// A step of HS at the start of RAM at moment 0.
 pub const CASE: Case = Case {
     name: "",
     mode: Mode::HS,
@@ -84,12 +84,12 @@ pub const CASE: Case = Case {
     tally: None,
 };
 
-// Whether the steps of a case are made as it says.
+/// Whether the steps of a case are made as it says.
 pub fn holds(alloc: Global, case: &Case) -> Result<bool, LineFault> {
     holds_also(alloc, case, &[], &[])
 }
 
-// The same with more that the registers have before and after.
+/// The same with more that the registers have before and after.
 pub fn holds_also(
     alloc: Global,
     case: &Case,

@@ -18,6 +18,9 @@ const HANDLER: u64 = 0x8000_0100;
 // level 0 at 80009000.
 const TABLE: u64 = 0x8000_1000_0008_0004;
 
+// Sv48x4 with the same root, whose entry 0 names a table of level 2 at 8000C000.
+const TABLE_OF_FOUR: u64 = 0x9000_1000_0008_0004;
+
 // Pages 0 to 3 of the nested guest: its code at 80001000 (V, R, X, U, A); 8000A000, to be read and written
 // (V, R, W, U, A, D); the same with D clear; and a page past RAM, for every access (X too).
 const CODE: u64 = 0x2000_045B;
@@ -44,7 +47,17 @@ const WORDS: [(usize, u64); 8] = [
     (0xB000, 0x42),
 ];
 
-// The same with D clear on page 1.
+const WORDS_OF_FOUR: [(usize, u64); 7] = [
+    (0x4000, 0x2000_3001),
+    (0x8000, 0x2000_2401),
+    (0x9000, CODE),
+    (0x9008, DATA),
+    (0xA000, 0x41),
+    (0xB000, 0x42),
+    (0xC000, 0x2000_2001),
+];
+
+// Those of Sv39x4 with D clear on page 1.
 const CLEAN_WORDS: [(usize, u64); 8] = [
     (0x4000, 0x2000_2001),
     (0x8000, 0x2000_2401),
@@ -97,11 +110,19 @@ const FOLDED: Case = Case {
     ..CASE
 };
 
-static CASES: [Case; 5] = [
+static CASES: [Case; 7] = [
     // The SRET enters the space of hgatp, which is empty: the fetch and the load each lack their page's
     // entry, which is filled and is no step.
     Case {
         name: "misses are no steps",
+        made: &[STEPPED, RETRY, RETRY, HART],
+        gives: &[(At::Mode, VS), (At::Pc, 4), (At::X(10), 0x41)],
+        ..FOLDED
+    },
+    Case {
+        name: "misses under four levels",
+        words: &WORDS_OF_FOUR,
+        given: &[(HGATP, TABLE_OF_FOUR)],
         made: &[STEPPED, RETRY, RETRY, HART],
         gives: &[(At::Mode, VS), (At::Pc, 4), (At::X(10), 0x41)],
         ..FOLDED
@@ -122,6 +143,19 @@ static CASES: [Case; 5] = [
     Case {
         name: "fence of the page",
         more: &[(0x100, &FENCES_PAGE), (0x1000, &NESTED)],
+        made: &[
+            STEPPED, RETRY, RETRY, HART, STEPPED, HART, HART, STEPPED, STEPPED, RETRY, HART,
+        ],
+        gives: &[(At::X(11), 0x42)],
+        clock: 8,
+        steps: 8,
+        ..FOLDED
+    },
+    Case {
+        name: "fence of the page under four levels",
+        more: &[(0x100, &FENCES_PAGE), (0x1000, &NESTED)],
+        words: &WORDS_OF_FOUR,
+        given: &[(HGATP, TABLE_OF_FOUR)],
         made: &[
             STEPPED, RETRY, RETRY, HART, STEPPED, HART, HART, STEPPED, STEPPED, RETRY, HART,
         ],
@@ -264,6 +298,66 @@ fn faults_of_the_walk(rt: HostRuntime) -> Result<(), Fail> {
             fault.cause,
             fault.tval
         );
+    }
+    Ok(())
+}
+
+// A load from a guest physical address that the table of hgatp cannot translate.
+struct FarLoad {
+    hgatp: u64,
+    words: &'static [(usize, u64)],
+    address: u64,
+    htval: u64,
+}
+
+// Page 1 with bit 41 under Sv39x4, and with bit 50 under both: guest-page faults (8.5.1).
+static FAR_LOADS: [FarLoad; 3] = [
+    FarLoad {
+        hgatp: TABLE,
+        words: &WORDS,
+        address: 0x200_0000_1000,
+        htval: 0x80_0000_0400,
+    },
+    FarLoad {
+        hgatp: TABLE,
+        words: &WORDS,
+        address: 0x4_0000_0000_1000,
+        htval: 0x1_0000_0000_0400,
+    },
+    FarLoad {
+        hgatp: TABLE_OF_FOUR,
+        words: &WORDS_OF_FOUR,
+        address: 0x4_0000_0000_1000,
+        htval: 0x1_0000_0000_0400,
+    },
+];
+
+fn is_too_far(alloc: Global, load: &'static FarLoad) -> Result<bool, LineFault> {
+    let case = Case {
+        words: load.words,
+        made: &AFTER_FETCH,
+        ..FOLDED
+    };
+    holds_also(
+        alloc,
+        &case,
+        &[(HGATP, load.hgatp), (At::X(5), load.address)],
+        &[
+            (SCAUSE, 21),
+            (STVAL, load.address),
+            (HTVAL, load.htval),
+            (HTINST, 0),
+            (HSTATUS, XL | SPV | SPVP | GVA),
+            (At::Mode, HS),
+            (At::Pc, HANDLER),
+        ],
+    )
+}
+
+#[test]
+fn loads_beyond_the_table(rt: HostRuntime) -> Result<(), Fail> {
+    for load in &FAR_LOADS {
+        assert!(rt; is_too_far(rt.alloc(), load)?, "{:X}", load.address);
     }
     Ok(())
 }

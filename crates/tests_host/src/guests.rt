@@ -19,14 +19,13 @@ use phys_mem::{NoMemory, PhysMem, RAM_BASE};
 use sample_programs::places::{At, set_all};
 use sample_programs::{LineFault, words};
 use std::alloc::Global;
-use trap_delegation::is_virtual;
 use virtual_timer::Clock;
 
 // The frames of a machine memory of two blocks.
 const FRAMES: u64 = 1024;
 
 // A guest at the start of RAM, with one space of sixteen entries. Its RAM is block 1 of machine memory;
-// frames 0 to 40 have its tables.
+// frames 0 to 56 have its tables.
 fn at_start(alloc: Global, case: &Case) -> Result<Guest, NoMemory>
     ensures { IfOk result (λ g. (g.status ≡ Running) × (g.clock ≡ times_at_start) × (g.steps ≡ 0)
         × (g.virt.reservation ≡ None) × IsNewPool g.part g.pool) }
@@ -61,7 +60,7 @@ fn inputs(alloc: Global, moment: Option<u64>) -> Result<Vec<(u64, u8)>, NoMemory
     }
 }
 
-// The guest of a case, with more that its registers have, which are as the clock has them.
+/// The guest of a case, with more that its registers have, which are as the clock has them.
 pub fn guest(alloc: Global, case: &Case, given: &[(At, u64)]) -> Result<Guest, NoMemory>
     ensures { IfOk result (λ g. (g.status ≡ Running) × (g.clock.time ≤ 1000) × (g.steps ≡ 0)
         × (g.virt.reservation ≡ None) × IsNewPool g.part g.pool) }
@@ -81,7 +80,7 @@ pub fn guest(alloc: Global, case: &Case, given: &[(At, u64)]) -> Result<Guest, N
 fn folds(virt: &Virtual) -> bool
     ensures { result ≡ folds virt.now }
 {
-    is_virtual(virt.mode) && virt.csrs.hgatp.is_table()
+    virt.mode.is_virtual() && virt.csrs.hgatp.is_table()
 }
 
 // Machine memory with the guest's host table, if the guest's registers hold what they can store.
@@ -117,8 +116,8 @@ fn lay(memory: &mut PhysMem, part: &Part, image: &[u8]) -> bool
     true
 }
 
-// Machine memory with the guest's host table and this image, if it fits and the guest's registers hold what
-// they can store.
+/// Machine memory with the guest's host table and this image, if it fits and the guest's registers hold what
+/// they can store.
 pub fn placed(alloc: Global, guest: &Guest, image: &[u8]) -> Result<Option<PhysMem>, NoMemory>
     requires unreserved { guest.now.virt.reservation ≡ None }
     requires pool { IsNewPool guest.now.part guest.now.pool }
@@ -134,7 +133,7 @@ pub fn placed(alloc: Global, guest: &Guest, image: &[u8]) -> Result<Option<PhysM
     }
 }
 
-// The image of a case: its code from the start of RAM on, other code, and doublewords, at rising places.
+/// The image of a case: its code from the start of RAM on, other code, and doublewords, at rising places.
 pub fn image(alloc: Global, case: &Case) -> Result<Vec<u8>, LineFault> {
     let mut image = assembled(alloc, case.code)?;
     for &(at, lines) in case.more {

@@ -26,7 +26,7 @@ const TABLE: u64 = 0x8000_0000_0000_0003;
 // Sv39x4, VMID 1, with the root at 80004000.
 const GUEST_TABLE: u64 = 0x8000_1000_0008_0004;
 
-// A guest in VS with a handler at each level.
+/// A guest in VS with a handler at each level.
 pub const NESTED: Case = Case {
     mode: Mode::VS,
     setting: &[

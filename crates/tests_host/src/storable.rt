@@ -6,7 +6,7 @@ ghost use Rattle.machine_laws.specs.StorableStates.{IsStorable, stored_form, sup
 
 use arch_defs::{Csrs, GuestRoot, Reg, SupervisorCsrs, SupervisorRoot, Virtual};
 
-// Of a state that reserves nothing.
+/// Of a state that reserves nothing.
 pub fn is_storable(virt: &Virtual) -> bool
     requires unreserved { virt.now.reservation ≡ None }
     ensures { result ≡ true → IsStorable virt.now }

@@ -11,7 +11,7 @@ use phys_mem::{NoMemory, PhysMem};
 use rv64_hart::{Hart, Tally, Why};
 use std::alloc::Global;
 
-// Who made a step.
+/// Who made a step.
 #[derive(Clone, Copy, PartialEq, Eq)]
 pub enum By {
     // So many steps of one entry.
@@ -22,8 +22,8 @@ pub enum By {
     Host(Handled),
 }
 
-// So many tries of the guest's next steps, fewer where it does not go on, with who made each. An entry has at
-// most so many steps.
+/// So many tries of the guest's next steps, fewer where it does not go on, with who made each. An entry has
+/// at most so many steps.
 pub fn tries(
     alloc: Global,
     guest: &mut Guest,

@@ -214,10 +214,14 @@ fn sip_is_that_of_vs() -> bool {
     state.regs.x[5] == 0x222 && !pending.software && pending.timer && pending.external
 }
 
-fn satp_is_that_of_vs() -> bool {
-    let (_, state) = after(delegated(), Mode::VS, &writes(0x180, (8 << 60) + 3));
+fn satp_is_that_of_vs(mode: SupervisorMode) -> bool {
+    let value = match mode {
+        SupervisorMode::Sv39 => (8 << 60) + 3,
+        SupervisorMode::Sv48 => (9 << 60) + 3,
+    };
+    let (_, state) = after(delegated(), Mode::VS, &writes(0x180, value));
     let root = SupervisorRoot::Table {
-        mode: SupervisorMode::Sv39,
+        mode,
         asid: 0,
         ppn: 3,
     };
@@ -231,12 +235,14 @@ fn aliases_of_vs(rt: HostRuntime) {
     assert!(rt; sstatus_is_that_of_vs());
     assert!(rt; sie_is_that_of_vs());
     assert!(rt; sip_is_that_of_vs());
-    assert!(rt; satp_is_that_of_vs());
+    assert!(rt; satp_is_that_of_vs(SupervisorMode::Sv39));
+    assert!(rt; satp_is_that_of_vs(SupervisorMode::Sv48));
 }
 
 // A read, or a write of a value, in a mode, and how it is refused; satp in VS with VTVM (8.2.1).
-static REFUSALS: [(Mode, u16, Option<u64>, CsrEnd); 8] = [
+static REFUSALS: [(Mode, u16, Option<u64>, CsrEnd); 9] = [
     (Mode::VS, 0x180, Some((8 << 60) + 3), CsrEnd::Virtual),
+    (Mode::VS, 0x180, Some((9 << 60) + 3), CsrEnd::Virtual),
     (Mode::VS, 0x180, None, CsrEnd::Virtual),
     (Mode::VS, 0x240, Some(9), CsrEnd::Virtual),
     (Mode::U, 0xC01, None, CsrEnd::Illegal),
@@ -275,11 +281,14 @@ fn satp_with_vtvm(rt: HostRuntime) {
 }
 
 // What HS writes to the registers of VS and to its own of the rows from 600 on, and what these show (8.2):
-// vsscratch, vsatp, hedeleg, whose bits are those of codes 0 to 8, 12, 13 and 15, hideleg and hie, hvip,
-// htimedelta, and hcounteren.
-static WRITTEN: [(u16, u64, u64); 8] = [
+// vsscratch, vsatp by MODE 8 and 9, hgatp by the same, hedeleg, whose bits are those of codes 0 to 8, 12, 13
+// and 15, hideleg and hie, hvip, htimedelta, and hcounteren.
+static WRITTEN: [(u16, u64, u64); 11] = [
     (0x240, 9, 9),
     (0x280, (8 << 60) + 3, (8 << 60) + 3),
+    (0x280, (9 << 60) + 3, (9 << 60) + 3),
+    (0x680, (8 << 60) + 7, (8 << 60) + 4),
+    (0x680, (9 << 60) + 7, (9 << 60) + 4),
     (0x602, u64::MAX, 0xB1FF),
     (0x603, u64::MAX, 0x444),
     (0x604, u64::MAX, 0x444),

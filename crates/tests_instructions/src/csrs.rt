@@ -149,7 +149,7 @@ const ONES: u64 = u64::MAX;
 type Step = (Mode, u16, u64, Mode, u16, u64);
 
 // One after another on the same registers.
-static STEPS: [Step; 29] = [
+static STEPS: [Step; 33] = [
     (Mode::HS, 0x100, ONES, Mode::HS, 0x100, 0x2_000C_0122),
     (Mode::HS, 0x104, ONES, Mode::HS, 0x104, 0x222),
     (Mode::HS, 0x105, ONES, Mode::HS, 0x105, ONES - 2),
@@ -175,7 +175,9 @@ static STEPS: [Step; 29] = [
     (Mode::VS, 0x104, ONES, Mode::HS, 0x604, 0x044),
     (Mode::HS, 0x604, ONES, Mode::VS, 0x104, 0x022),
     (Mode::VS, 0x104, 0, Mode::HS, 0x604, 0x400),
-    // Roots: MODE 9 of satp has no effect, MODE 9 of hgatp is Bare, Bare is stored as 0.
+    // Roots: MODE 8 and 9 name a table, with an ASID of 16 bits, and of hgatp a VMID of 7 bits and a PPN
+    // whose lowest two bits are zero (4.1.11, 8.2.10, 8.2.18). MODE 10 of satp and of vsatp has no effect,
+    // MODE 10 of hgatp is Bare, Bare is stored as 0.
     (
         Mode::HS,
         0x180,
@@ -187,10 +189,18 @@ static STEPS: [Step; 29] = [
     (
         Mode::HS,
         0x180,
-        9 << 60 | 7,
+        10 << 60 | 7,
         Mode::HS,
         0x180,
         0x8FFF_F000_0000_0005,
+    ),
+    (
+        Mode::HS,
+        0x180,
+        9 << 60 | 0xFFFF << 44 | 6,
+        Mode::HS,
+        0x180,
+        0x9FFF_F000_0000_0006,
     ),
     (Mode::HS, 0x180, 7, Mode::HS, 0x180, 0),
     (
@@ -202,6 +212,22 @@ static STEPS: [Step; 29] = [
         0x8000_0000_0000_0003,
     ),
     (
+        Mode::VS,
+        0x180,
+        9 << 60 | ONES >> 4,
+        Mode::HS,
+        0x280,
+        0x9FFF_FFFF_FFFF_FFFF,
+    ),
+    (
+        Mode::HS,
+        0x280,
+        10 << 60 | 3,
+        Mode::VS,
+        0x180,
+        0x9FFF_FFFF_FFFF_FFFF,
+    ),
+    (
         Mode::HS,
         0x680,
         8 << 60 | ONES >> 4,
@@ -209,7 +235,15 @@ static STEPS: [Step; 29] = [
         0x680,
         0x8007_FFFF_FFFF_FFFC,
     ),
-    (Mode::HS, 0x680, 9 << 60 | 4, Mode::HS, 0x680, 0),
+    (
+        Mode::HS,
+        0x680,
+        9 << 60 | ONES >> 4,
+        Mode::HS,
+        0x680,
+        0x9007_FFFF_FFFF_FFFC,
+    ),
+    (Mode::HS, 0x680, 10 << 60 | 4, Mode::HS, 0x680, 0),
 ];
 
 fn shows(csrs: &mut Csrs, step: &Step) -> bool {

@@ -1,3 +1,5 @@
+// What a guest is given.
+
 use guest_specs::{Bytes, GuestSpec, Inputs, Name};
 use std::test::Fail;
 

@@ -1,3 +1,5 @@
+// Lines of assembly and their words.
+
 use sample_programs::{LineFault, words};
 use std::alloc::Global;
 

@@ -1,3 +1,5 @@
+// Parts of machine memory, and guests' needs.
+
 ghost use Rattle.std.specs.Prelude.{◌≡◌, true};
 ghost use Rattle.arch_defs.specs.Layouts.{names_each_once};
 
@@ -66,12 +68,13 @@ fn parts_at_the_edges_of_memory(rt: HostRuntime) {
     assert!(rt; place(&many, 0x3FF_FFFF) == Some(0x1F_FFFF));
 }
 
-// 512 + 5 + 36 frames, and sixteen times 16,384 + 5 + 36.
+// 512 for each block, 5 for the host's table, and for each space 4 and 3 for each entry: 512 + 5 + 52,
+// 16,384 + 5 + 52, 16,384 + 5 + 8 * 772 and 512 + 5 + 8 * 52.
 const NEEDS: [(u64, u64, u64, u64); 4] = [
-    (1, 1, 16, 553),
-    (32, 1, 16, 16_425),
-    (32, 8, 256, 20_517),
-    (1, 8, 16, 805),
+    (1, 1, 16, 569),
+    (32, 1, 16, 16_441),
+    (32, 8, 256, 22_565),
+    (1, 8, 16, 933),
 ];
 
 fn has_frames(need: &Need, frames: u64) -> bool {

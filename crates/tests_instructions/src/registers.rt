@@ -1,3 +1,5 @@
+// Registers and the states that they start in.
+
 use arch_defs::{Mode, Reg, Regs, Virtual};
 
 // A word that is all ones but for the five bits of a register, the lowest of these, and the register's

@@ -2,13 +2,11 @@
 // 20211203.
 
 use arch_defs::{
-    Access, Csrs, Interrupts, Level, MissingPlace, Mode, Regs, SupervisorCsrs, SupervisorStatus,
-    Trap,
+    Access, Csrs, FaultCodes, Interrupts, Level, MissingPlace, Mode, Regs, SupervisorCsrs,
+    SupervisorStatus, Trap,
 };
 use trap_delegation::{
-    access_fault, due_is_taken, enter_hs, enter_vs, entries_leave, has_guest_address,
-    interrupt_trap, misaligned_fault, missing_place_fault, page_fault, returns_restore, sret,
-    target, trap_targets,
+    due_is_taken, enter_hs, enter_vs, entries_leave, returns_restore, sret, target, trap_targets,
 };
 
 const START: u64 = 0x8000_0000;
@@ -47,7 +45,7 @@ fn exception(cause: u64) -> Trap {
 fn trap_of(cause: Cause) -> Trap {
     match cause {
         Cause::Exception(code) => exception(code),
-        Cause::Interrupt(code) => interrupt_trap(code),
+        Cause::Interrupt(code) => Trap::of_interrupt(code),
     }
 }
 
@@ -202,7 +200,7 @@ fn after_page_fault(mode: Mode, before: bool) -> Csrs {
         interrupt: false,
         tval: 0x1234,
         tval2: 0x400,
-        gva: has_guest_address(mode, 21),
+        gva: Trap::of_exception(mode, 21, 0x1234).gva,
         implicit: true,
     };
     enter_hs(&mut csrs, &mut regs, mode, &trap);
@@ -287,31 +285,34 @@ static GUEST_ADDRESSES: [(Mode, u64, bool); 9] = [
 #[test]
 fn guest_addresses_by_code(rt: HostRuntime) {
     for &(mode, code, answer) in &GUEST_ADDRESSES {
-        assert!(rt; has_guest_address(mode, code) == answer, "{code}");
+        assert!(rt; Trap::of_exception(mode, code, 0).gva == answer, "{code}");
     }
 }
 
-// The faults of a fetch, a load, a load of HLVX and a store: misaligned, access and page fault (table 4.2).
-static FAULTS: [(Access, u64, u64, u64); 4] = [
-    (Access::Fetch, 0, 1, 12),
-    (Access::Load, 4, 5, 13),
-    (Access::ExecLoad, 4, 5, 13),
-    (Access::Store, 6, 7, 15),
+// The faults of a fetch, a load, a load of HLVX and a store: misaligned, access, page and guest-page fault
+// (tables 4.2 and 8.6).
+static FAULTS: [(Access, [u64; 4]); 4] = [
+    (Access::Fetch, [0, 1, 12, 20]),
+    (Access::Load, [4, 5, 13, 21]),
+    (Access::ExecLoad, [4, 5, 13, 21]),
+    (Access::Store, [6, 7, 15, 23]),
 ];
 
-fn has_faults(access: Access, misaligned: u64, without_place: u64, untranslated: u64) -> bool {
-    misaligned_fault(access) == misaligned
-        && access_fault(access) == without_place
-        && page_fault(access) == untranslated
+fn has_faults(access: Access, codes: [u64; 4]) -> bool {
+    let [misaligned, access_fault, page, guest_page] = codes;
+    access.faults()
+        == FaultCodes {
+            misaligned,
+            access: access_fault,
+            page,
+            guest_page,
+        }
 }
 
 #[test]
 fn accesses_have_their_faults(rt: HostRuntime) {
-    for &(access, misaligned, without_place, untranslated) in &FAULTS {
-        assert!(rt;
-            has_faults(access, misaligned, without_place, untranslated),
-            "{access:?}"
-        );
+    for &(access, codes) in &FAULTS {
+        assert!(rt; has_faults(access, codes), "{access:?}");
     }
 }
 
@@ -328,7 +329,7 @@ fn missing_place_is_told(mode: Mode, gva: bool) -> bool {
     let mut want = exception(7);
     want.tval = 0x1238;
     want.gva = gva;
-    missing_place_fault(&missing_place) == want
+    missing_place.access_fault() == want
 }
 
 #[test]

@@ -1,3 +1,5 @@
+// Widths of accesses.
+
 use arch_defs::{Width, extend};
 
 // Worked out by hand: the low bytes alone count, and the highest of their bits is the sign.

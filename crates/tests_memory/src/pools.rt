@@ -4,6 +4,7 @@
 // machine memory.
 
 ghost use Rattle.std.specs.Prelude.{◌≡◌, ◌≤◌, ◌<◌, ◌^◌, length, IfOk, IfSome};
+ghost use Rattle.arch_defs.specs.Frames.{most_frames};
 ghost use Rattle.shadow_pool.specs.Slots.{TidyPool};
 
 use arch_defs::{Access, GuestMode, GuestRoot, Shape, TABLES_PER_ENTRY, WalkEnd};
@@ -30,7 +31,7 @@ fn empty_pool(
     entries: u64,
 ) -> Result<Option<Machine>, NoMemory>
     requires some { 1 ≤ frames }
-    requires most { frames ≤ 131072 }
+    requires most { frames ≤ most_frames }
     requires own { 0 < part.now.spaces }
     requires few { entries ≤ 256 }
     requires room { entries ≤ part.now.entries }
@@ -47,7 +48,7 @@ fn empty_pool(
     Ok(Some(Machine { mem, pool }))
 }
 
-/// How many entries each of two spaces has room for.
+// How many entries each of two spaces has room for.
 #[derive(Clone, Copy)]
 enum Room {
     Three,
@@ -67,20 +68,20 @@ fn machine_with(alloc: Global, room: Room) -> Result<Option<Machine>, NoMemory>
     ensures blocks { IfOk result (λ made. IfSome made (λ m. length m.pool.part.blocks ≡ 2)) }
 {
     match room {
-        Room::Three => empty_pool(alloc, &part(&[5, 3], 0, 12, 2, 3), 25, 3),
-        Room::Sixteen => empty_pool(alloc, &part(&[5, 3], 0, 12, 2, 16), 77, 16),
+        Room::Three => empty_pool(alloc, &part(&[5, 3], 0, 12, 2, 3), 31, 3),
+        Room::Sixteen => empty_pool(alloc, &part(&[5, 3], 0, 12, 2, 16), 109, 16),
     }
 }
 
 // The frame that the leaf of a page names under a root, if there is a leaf.
 fn frame_of(mem: &PhysMem, root: u64, page: u64) -> Option<u64>
     requires root { root < 2 ^ 44 }
-    requires page { page < 2 ^ 29 }
+    requires page { page < 2 ^ 38 }
 {
     match walk(
         &Words { mem },
         root,
-        Shape::Sv39x4,
+        Shape::Sv48x4,
         page * 4096,
         Access::Load,
     ) {
@@ -110,7 +111,7 @@ fn filled(machine: &mut Machine, key: GuestRoot, entry: Entry) -> u64
     ensures small { result < 2 ^ 44 }
 {
     let root = machine.pool.enter(&mut machine.mem, Key::of(key));
-    if entry.page >= 0x2000_0000 || entry.level > 2 {
+    if entry.page >= 0x40_0000_0000 || entry.level > 3 {
         return root;
     }
     if entry.frame < 0x8_0000 || entry.frame >= 0x8_0400 {
@@ -122,7 +123,8 @@ fn filled(machine: &mut Machine, key: GuestRoot, entry: Entry) -> u64
     root
 }
 
-// The values of hgatp of three guests' guests. The first two have the same VMID, the last two the same PPN.
+// The values of hgatp of four guests' guests. P and Q have the same VMID, Q and R the same PPN, and S differs
+// from P in its MODE alone.
 const P: GuestRoot = GuestRoot::Table {
     mode: GuestMode::Sv39x4,
     vmid: 1,
@@ -141,8 +143,14 @@ const R: GuestRoot = GuestRoot::Table {
     ppn: 0x8_0200,
 };
 
-/// What a fence names, and whether it leaves page 205, by a leaf of 512 pages, and page 400 of the space for
-/// VMID 1, and the same of that for VMID 2.
+const S: GuestRoot = GuestRoot::Table {
+    mode: GuestMode::Sv48x4,
+    vmid: 1,
+    ppn: 0x8_0100,
+};
+
+// What a fence names, and whether it leaves page 205, by a leaf of 512 pages, and page 400 of the space for
+// VMID 1, and the same of that for VMID 2.
 struct FenceCase {
     vmid: Option<u64>,
     page: Option<u64>,
@@ -232,16 +240,16 @@ type Row = (Call, GuestRoot, [u16; 3], GuestRoot, [u16; 3]);
 
 const NONE: GuestRoot = GuestRoot::Bare;
 
-// The pages that the sequences fill. Some of them share a lowest table, or the table above it.
+// The pages that the sequences fill. Some of them share a lowest table, or a table above it.
 const PAGES: [u64; 8] = [
     0,
     1,
     0x200,
     0x3FF,
-    0x4_0000,
     0x4_0200,
     0x8_0201,
-    0x1FFF_FFFF,
+    0x800_0201,
+    0x3F_FFFF_FFFF,
 ];
 
 // With room for two spaces, P's is kept while it is one of the last two that were entered, and empty when it
@@ -256,225 +264,305 @@ const TWO_SPACES: [Row; 6] = [
 ];
 
 const FIRST: [Row; 40] = [
-    (Call::Enter(P), P, [0, 0, 0], NONE, [0, 0, 0]),
+    (Call::Enter(Q), Q, [0, 0, 0], NONE, [0, 0, 0]),
     (
-        Call::Fence(None, Some(0x200)),
-        P,
+        Call::Fence(None, Some(0x3F_F800_0000)),
+        Q,
         [0, 0, 0],
         NONE,
         [0, 0, 0],
     ),
-    (Call::Fill(P, 0x8_0201, 2), P, [3, 0, 0], NONE, [0, 0, 0]),
+    (Call::Fill(Q, 0, 0), Q, [3, 0, 0], NONE, [0, 0, 0]),
+    (Call::Fill(S, 0x200, 0), S, [4, 0, 0], Q, [3, 0, 0]),
+    (Call::Fence(Some(2), Some(0)), S, [4, 0, 0], Q, [3, 0, 0]),
+    (Call::Enter(P), P, [0, 0, 0], S, [4, 0, 0]),
+    (Call::Fill(P, 0x3FF, 0), P, [7, 0, 0], S, [4, 0, 0]),
+    (Call::Fill(P, 0x200, 2), P, [7, 8, 0], S, [4, 0, 0]),
+    (Call::Fill(P, 0x200, 3), P, [7, 9, 0], S, [4, 0, 0]),
     (
-        Call::Fence(Some(1), Some(0x8_0201)),
-        P,
-        [0, 0, 0],
-        NONE,
-        [0, 0, 0],
-    ),
-    (Call::Fill(P, 0x200, 0), P, [5, 0, 0], NONE, [0, 0, 0]),
-    (Call::Fill(P, 0x8_0201, 0), P, [5, 6, 0], NONE, [0, 0, 0]),
-    (Call::Fill(P, 0x3FF, 0), P, [5, 6, 7], NONE, [0, 0, 0]),
-    (Call::Fill(P, 0x8_0201, 0), P, [5, 7, 8], NONE, [0, 0, 0]),
-    (Call::Fill(P, 1, 2), P, [7, 8, 9], NONE, [0, 0, 0]),
-    (
-        Call::Fence(Some(1), Some(0x8_0201)),
+        Call::Fence(Some(2), Some(0x5_FFFF)),
         P,
         [7, 9, 0],
-        NONE,
-        [0, 0, 0],
+        S,
+        [4, 0, 0],
     ),
-    (Call::Fill(P, 0x3FF, 0), P, [9, 11, 0], NONE, [0, 0, 0]),
-    (Call::Fill(P, 0x200, 0), P, [9, 11, 12], NONE, [0, 0, 0]),
-    (Call::Fill(P, 0x3FF, 0), P, [9, 12, 13], NONE, [0, 0, 0]),
-    (Call::Enter(R), R, [0, 0, 0], P, [9, 12, 13]),
+    (Call::Fill(P, 0, 0), P, [7, 9, 11], S, [4, 0, 0]),
+    (Call::Fill(P, 1, 1), P, [9, 11, 12], S, [4, 0, 0]),
+    (Call::Enter(S), S, [4, 0, 0], P, [9, 11, 12]),
+    (Call::Fence(None, None), S, [0, 0, 0], P, [0, 0, 0]),
+    (Call::Fill(S, 0x800_0201, 2), S, [15, 0, 0], P, [0, 0, 0]),
+    (Call::Fill(S, 0, 3), S, [15, 16, 0], P, [0, 0, 0]),
+    (Call::Fill(S, 1, 3), S, [15, 16, 17], P, [0, 0, 0]),
+    (Call::Enter(P), P, [0, 0, 0], S, [15, 16, 17]),
     (
-        Call::Fence(Some(1), Some(0x200)),
-        R,
-        [0, 0, 0],
+        Call::Fence(Some(1), Some(0x5_FFFF)),
         P,
-        [13, 0, 0],
+        [0, 0, 0],
+        S,
+        [15, 0, 0],
     ),
-    (Call::Fill(R, 0x200, 2), R, [16, 0, 0], P, [13, 0, 0]),
-    (Call::Enter(R), R, [16, 0, 0], P, [13, 0, 0]),
+    (Call::Fill(P, 1, 0), P, [20, 0, 0], S, [15, 0, 0]),
     (
-        Call::Fence(Some(1), Some(0x200)),
-        R,
-        [16, 0, 0],
+        Call::Fill(P, 0x3F_FFFF_FFFF, 3),
         P,
-        [13, 0, 0],
+        [20, 21, 0],
+        S,
+        [15, 0, 0],
     ),
-    (Call::Fill(R, 0x1FFF_FFFF, 2), R, [16, 19, 0], P, [13, 0, 0]),
-    (Call::Fill(R, 0x8_0201, 1), R, [16, 19, 20], P, [13, 0, 0]),
-    (Call::Enter(P), P, [13, 0, 0], R, [16, 19, 20]),
-    (Call::Fill(P, 1, 0), P, [13, 22, 0], R, [16, 19, 20]),
-    (Call::Fill(P, 0, 1), P, [13, 22, 23], R, [16, 19, 20]),
-    (Call::Fill(P, 0x3FF, 2), P, [22, 23, 24], R, [16, 19, 20]),
-    (Call::Fill(P, 0x4_0000, 1), P, [23, 24, 25], R, [16, 19, 20]),
-    (Call::Enter(P), P, [23, 24, 25], R, [16, 19, 20]),
-    (Call::Fill(P, 0x200, 0), P, [24, 25, 27], R, [16, 19, 20]),
-    (Call::Fill(P, 0, 0), P, [25, 27, 28], R, [16, 19, 20]),
-    (Call::Fill(P, 0x3FF, 1), P, [27, 28, 29], R, [16, 19, 20]),
-    (Call::Enter(Q), Q, [0, 0, 0], P, [27, 28, 29]),
-    (Call::Fill(R, 0x200, 2), R, [31, 0, 0], Q, [0, 0, 0]),
-    (Call::Fill(P, 0x8_0201, 2), P, [32, 0, 0], R, [31, 0, 0]),
-    (Call::Fill(P, 0x200, 2), P, [32, 33, 0], R, [31, 0, 0]),
-    (Call::Fill(Q, 0x1FFF_FFFF, 0), Q, [34, 0, 0], P, [32, 33, 0]),
+    (Call::Fill(P, 0x4_0200, 2), P, [20, 21, 22], S, [15, 0, 0]),
+    (Call::Fill(P, 0x4_0200, 1), P, [20, 21, 23], S, [15, 0, 0]),
     (
-        Call::Fence(Some(3), Some(0x200)),
+        Call::Fence(Some(2), Some(0x3F_FFFF_FFFF)),
+        P,
+        [20, 21, 23],
+        S,
+        [15, 0, 0],
+    ),
+    (Call::Fill(P, 0x200, 0), P, [21, 23, 25], S, [15, 0, 0]),
+    (Call::Enter(Q), Q, [0, 0, 0], P, [21, 23, 25]),
+    (Call::Fill(Q, 0x3FF, 2), Q, [27, 0, 0], P, [21, 23, 25]),
+    (Call::Fill(Q, 0x8_0201, 0), Q, [27, 28, 0], P, [21, 23, 25]),
+    (Call::Fill(Q, 1, 1), Q, [27, 28, 29], P, [21, 23, 25]),
+    (
+        Call::Fill(Q, 0x3F_FFFF_FFFF, 1),
         Q,
-        [34, 0, 0],
+        [28, 29, 30],
         P,
-        [32, 33, 0],
+        [21, 23, 25],
     ),
-    (Call::Enter(P), P, [32, 33, 0], Q, [34, 0, 0]),
-    (Call::Fill(P, 1, 0), P, [32, 33, 37], Q, [34, 0, 0]),
-    (Call::Enter(Q), Q, [34, 0, 0], P, [32, 33, 37]),
-    (Call::Fence(None, None), Q, [0, 0, 0], P, [0, 0, 0]),
-    (Call::Enter(R), R, [0, 0, 0], Q, [0, 0, 0]),
+    (
+        Call::Fence(None, Some(0x4_0200)),
+        Q,
+        [28, 29, 30],
+        P,
+        [21, 25, 0],
+    ),
+    (Call::Fill(Q, 0x200, 2), Q, [29, 30, 32], P, [21, 25, 0]),
+    (Call::Fill(S, 1, 0), S, [33, 0, 0], Q, [29, 30, 32]),
+    (Call::Fill(S, 0x8_0201, 0), S, [33, 34, 0], Q, [29, 30, 32]),
+    (Call::Fill(R, 0x4_0200, 0), R, [35, 0, 0], S, [33, 34, 0]),
+    (Call::Fill(R, 0x3FF, 0), R, [35, 36, 0], S, [33, 34, 0]),
+    (
+        Call::Fence(Some(2), Some(0x8_0201)),
+        R,
+        [35, 36, 0],
+        S,
+        [33, 34, 0],
+    ),
+    (
+        Call::Fill(R, 0x3F_FFFF_FFFF, 2),
+        R,
+        [35, 36, 38],
+        S,
+        [33, 34, 0],
+    ),
+    (
+        Call::Fill(R, 0x3F_FFFF_FFFF, 0),
+        R,
+        [35, 36, 39],
+        S,
+        [33, 34, 0],
+    ),
+    (Call::Enter(S), S, [33, 34, 0], R, [35, 36, 39]),
 ];
 
 const SECOND: [Row; 40] = [
-    (Call::Enter(Q), Q, [0, 0, 0], NONE, [0, 0, 0]),
-    (Call::Fill(Q, 0x200, 1), Q, [2, 0, 0], NONE, [0, 0, 0]),
-    (Call::Fill(Q, 0, 0), Q, [2, 3, 0], NONE, [0, 0, 0]),
-    (Call::Fence(Some(2), Some(0)), Q, [2, 3, 0], NONE, [0, 0, 0]),
-    (Call::Fill(Q, 0x200, 0), Q, [3, 5, 0], NONE, [0, 0, 0]),
+    (Call::Enter(P), P, [0, 0, 0], NONE, [0, 0, 0]),
+    (Call::Fill(P, 1, 3), P, [2, 0, 0], NONE, [0, 0, 0]),
+    (Call::Fill(S, 0x3FF, 0), S, [3, 0, 0], P, [2, 0, 0]),
+    (Call::Fence(Some(1), Some(0)), S, [3, 0, 0], P, [0, 0, 0]),
+    (Call::Fence(Some(1), None), S, [0, 0, 0], P, [0, 0, 0]),
     (
-        Call::Fence(None, Some(0x8_0201)),
-        Q,
-        [3, 5, 0],
-        NONE,
+        Call::Fence(Some(2), Some(0x800_0201)),
+        S,
         [0, 0, 0],
-    ),
-    (Call::Enter(P), P, [0, 0, 0], Q, [3, 5, 0]),
-    (Call::Fill(P, 0x200, 1), P, [8, 0, 0], Q, [3, 5, 0]),
-    (Call::Fill(P, 0x1FFF_FFFF, 1), P, [8, 9, 0], Q, [3, 5, 0]),
-    (Call::Fill(Q, 0x4_0200, 0), Q, [3, 5, 10], P, [8, 9, 0]),
-    (Call::Fill(Q, 0x3FF, 0), Q, [5, 10, 11], P, [8, 9, 0]),
-    (Call::Enter(R), R, [0, 0, 0], Q, [5, 10, 11]),
-    (Call::Fill(R, 0x3FF, 0), R, [13, 0, 0], Q, [5, 10, 11]),
-    (Call::Fill(P, 1, 0), P, [14, 0, 0], R, [13, 0, 0]),
-    (Call::Fill(P, 0, 2), P, [14, 15, 0], R, [13, 0, 0]),
-    (Call::Enter(Q), Q, [0, 0, 0], P, [14, 15, 0]),
-    (Call::Fence(None, Some(1)), Q, [0, 0, 0], P, [0, 0, 0]),
-    (Call::Fill(Q, 0x3FF, 1), Q, [18, 0, 0], P, [0, 0, 0]),
-    (Call::Fill(Q, 0x200, 0), Q, [18, 19, 0], P, [0, 0, 0]),
-    (
-        Call::Fence(Some(2), Some(0x2FF)),
-        Q,
-        [18, 19, 0],
         P,
         [0, 0, 0],
     ),
-    (Call::Fill(Q, 0x8_0201, 2), Q, [18, 19, 21], P, [0, 0, 0]),
-    (Call::Fill(Q, 0x1FFF_FFFF, 2), Q, [19, 21, 22], P, [0, 0, 0]),
-    (Call::Fill(P, 1, 2), P, [23, 0, 0], Q, [19, 21, 22]),
+    (Call::Enter(P), P, [0, 0, 0], S, [0, 0, 0]),
+    (Call::Fill(P, 0x200, 0), P, [8, 0, 0], S, [0, 0, 0]),
+    (Call::Fill(P, 0, 3), P, [8, 9, 0], S, [0, 0, 0]),
+    (Call::Fill(P, 0x4_0200, 1), P, [8, 9, 10], S, [0, 0, 0]),
+    (Call::Fill(S, 1, 0), S, [11, 0, 0], P, [8, 9, 10]),
+    (Call::Fill(P, 0x800_0201, 2), P, [9, 10, 12], S, [11, 0, 0]),
+    (Call::Fence(Some(2), Some(1)), P, [9, 10, 12], S, [11, 0, 0]),
+    (Call::Enter(P), P, [9, 10, 12], S, [11, 0, 0]),
+    (Call::Fill(P, 0, 0), P, [10, 12, 15], S, [11, 0, 0]),
+    (Call::Fill(P, 0x3FF, 3), P, [12, 15, 16], S, [11, 0, 0]),
     (
-        Call::Fence(Some(2), Some(0x3FF)),
+        Call::Fill(P, 0x3F_FFFF_FFFF, 3),
         P,
-        [23, 0, 0],
-        Q,
-        [19, 21, 22],
+        [15, 16, 17],
+        S,
+        [11, 0, 0],
     ),
-    (Call::Fill(P, 0, 2), P, [23, 25, 0], Q, [19, 21, 22]),
-    (Call::Fill(P, 0x200, 0), P, [23, 25, 26], Q, [19, 21, 22]),
-    (Call::Fence(None, Some(1)), P, [26, 0, 0], Q, [19, 21, 22]),
+    (Call::Fill(P, 0x200, 2), P, [16, 17, 18], S, [11, 0, 0]),
+    (Call::Fill(P, 0x8_0201, 1), P, [17, 18, 19], S, [11, 0, 0]),
+    (Call::Fill(P, 0x800_0201, 0), P, [18, 19, 20], S, [11, 0, 0]),
+    (Call::Enter(S), S, [11, 0, 0], P, [18, 19, 20]),
+    (Call::Fill(Q, 0x3FF, 0), Q, [22, 0, 0], S, [11, 0, 0]),
     (
-        Call::Fence(Some(1), Some(0x200)),
-        P,
-        [0, 0, 0],
+        Call::Fence(Some(2), Some(0x3F_F800_0000)),
         Q,
-        [21, 22, 0],
+        [22, 0, 0],
+        S,
+        [11, 0, 0],
     ),
-    (Call::Fill(P, 1, 0), P, [29, 0, 0], Q, [21, 22, 0]),
-    (Call::Fill(P, 1, 0), P, [30, 0, 0], Q, [21, 22, 0]),
-    (Call::Fill(P, 0x200, 2), P, [30, 31, 0], Q, [21, 22, 0]),
-    (Call::Fill(P, 0x200, 0), P, [30, 32, 0], Q, [21, 22, 0]),
-    (Call::Fill(R, 0x3FF, 2), R, [33, 0, 0], P, [30, 32, 0]),
     (
-        Call::Fence(None, Some(0x8_0201)),
+        Call::Fill(Q, 0x3F_FFFF_FFFF, 2),
+        Q,
+        [22, 24, 0],
+        S,
+        [11, 0, 0],
+    ),
+    (Call::Fill(Q, 0x200, 3), Q, [22, 24, 25], S, [11, 0, 0]),
+    (Call::Fence(Some(1), Some(1)), Q, [22, 24, 0], S, [0, 0, 0]),
+    (Call::Fence(None, Some(0x3FF)), Q, [24, 0, 0], S, [0, 0, 0]),
+    (Call::Fill(Q, 0, 3), Q, [24, 28, 0], S, [0, 0, 0]),
+    (Call::Fill(Q, 0x4_0200, 0), Q, [24, 28, 29], S, [0, 0, 0]),
+    (Call::Fill(R, 0, 1), R, [30, 0, 0], Q, [24, 28, 29]),
+    (Call::Fence(None, Some(0)), R, [0, 0, 0], Q, [24, 29, 0]),
+    (
+        Call::Fence(Some(1), Some(0x4_0200)),
         R,
-        [33, 0, 0],
-        P,
-        [30, 32, 0],
+        [0, 0, 0],
+        Q,
+        [24, 0, 0],
     ),
-    (Call::Fill(R, 0x4_0000, 1), R, [33, 35, 0], P, [30, 32, 0]),
-    (Call::Fill(R, 1, 0), R, [33, 35, 36], P, [30, 32, 0]),
-    (Call::Fill(P, 0x200, 0), P, [30, 37, 0], R, [33, 35, 36]),
-    (Call::Fill(P, 0x4_0000, 0), P, [30, 37, 38], R, [33, 35, 36]),
-    (Call::Fill(P, 0x3FF, 0), P, [37, 38, 39], R, [33, 35, 36]),
-    (Call::Fill(P, 0, 0), P, [38, 39, 40], R, [33, 35, 36]),
+    (Call::Fill(R, 0x200, 2), R, [33, 0, 0], Q, [24, 0, 0]),
+    (Call::Fill(R, 0, 0), R, [33, 34, 0], Q, [24, 0, 0]),
+    (Call::Fill(R, 0x200, 1), R, [34, 35, 0], Q, [24, 0, 0]),
+    (Call::Fill(P, 0x8_0201, 3), P, [36, 0, 0], R, [34, 35, 0]),
+    (Call::Fill(P, 0x8_0201, 0), P, [37, 0, 0], R, [34, 35, 0]),
+    (
+        Call::Fill(P, 0x3F_FFFF_FFFF, 0),
+        P,
+        [37, 38, 0],
+        R,
+        [34, 35, 0],
+    ),
+    (Call::Fill(P, 0x200, 0), P, [37, 38, 39], R, [34, 35, 0]),
+    (Call::Fill(R, 0x3FF, 3), R, [34, 35, 40], P, [37, 38, 39]),
 ];
 
 const THIRD: [Row; 40] = [
-    (Call::Enter(P), P, [0, 0, 0], NONE, [0, 0, 0]),
-    (Call::Fill(P, 0, 2), P, [2, 0, 0], NONE, [0, 0, 0]),
-    (Call::Fill(P, 1, 1), P, [2, 3, 0], NONE, [0, 0, 0]),
-    (Call::Fill(P, 0, 0), P, [3, 4, 0], NONE, [0, 0, 0]),
-    (Call::Fence(Some(1), Some(0)), P, [0, 0, 0], NONE, [0, 0, 0]),
-    (Call::Fill(P, 1, 2), P, [6, 0, 0], NONE, [0, 0, 0]),
-    (Call::Fill(P, 0x200, 0), P, [6, 7, 0], NONE, [0, 0, 0]),
-    (Call::Fill(P, 0, 0), P, [6, 7, 8], NONE, [0, 0, 0]),
-    (Call::Fill(P, 0x3FF, 0), P, [7, 8, 9], NONE, [0, 0, 0]),
-    (Call::Fill(P, 0, 0), P, [7, 9, 10], NONE, [0, 0, 0]),
-    (Call::Fill(P, 1, 0), P, [9, 10, 11], NONE, [0, 0, 0]),
-    (Call::Fill(P, 0x4_0200, 2), P, [10, 11, 12], NONE, [0, 0, 0]),
+    (Call::Enter(Q), Q, [0, 0, 0], NONE, [0, 0, 0]),
+    (Call::Fill(R, 0x3FF, 2), R, [2, 0, 0], Q, [0, 0, 0]),
+    (Call::Fill(S, 0x3F_FFFF_FFFF, 0), S, [3, 0, 0], R, [2, 0, 0]),
+    (Call::Enter(R), R, [2, 0, 0], S, [3, 0, 0]),
     (
-        Call::Fill(P, 0x1FFF_FFFF, 0),
-        P,
-        [11, 12, 13],
-        NONE,
+        Call::Fence(None, Some(0x3F_FFFF_FFFF)),
+        R,
+        [2, 0, 0],
+        S,
         [0, 0, 0],
     ),
-    (Call::Fill(P, 1, 0), P, [12, 13, 14], NONE, [0, 0, 0]),
-    (Call::Fill(P, 0x3FF, 1), P, [13, 14, 15], NONE, [0, 0, 0]),
-    (Call::Fill(Q, 0x3FF, 0), Q, [16, 0, 0], P, [13, 14, 15]),
-    (Call::Fence(None, Some(0x3FF)), Q, [0, 0, 0], P, [13, 14, 0]),
-    (Call::Fill(P, 1, 0), P, [13, 18, 0], Q, [0, 0, 0]),
-    (Call::Fill(P, 0, 1), P, [13, 18, 19], Q, [0, 0, 0]),
-    (Call::Fill(Q, 1, 0), Q, [20, 0, 0], P, [13, 18, 19]),
-    (Call::Fill(Q, 1, 0), Q, [21, 0, 0], P, [13, 18, 19]),
-    (Call::Fence(Some(1), Some(0)), Q, [21, 0, 0], P, [13, 18, 0]),
-    (Call::Fill(Q, 0, 1), Q, [21, 23, 0], P, [13, 18, 0]),
+    (Call::Fill(R, 0x3FF, 0), R, [6, 0, 0], S, [0, 0, 0]),
+    (Call::Fill(R, 1, 0), R, [6, 7, 0], S, [0, 0, 0]),
+    (Call::Fill(R, 0x3FF, 3), R, [7, 8, 0], S, [0, 0, 0]),
+    (Call::Fence(Some(2), None), R, [0, 0, 0], S, [0, 0, 0]),
+    (Call::Fill(S, 0x4_0200, 2), S, [10, 0, 0], R, [0, 0, 0]),
+    (Call::Fill(S, 0x8_0201, 1), S, [10, 11, 0], R, [0, 0, 0]),
     (
-        Call::Fence(None, Some(0x3FF)),
-        Q,
-        [21, 23, 0],
-        P,
-        [13, 18, 0],
+        Call::Fence(None, Some(0x800_0201)),
+        S,
+        [10, 11, 0],
+        R,
+        [0, 0, 0],
     ),
+    (Call::Fill(S, 0x4_0200, 0), S, [11, 13, 0], R, [0, 0, 0]),
+    (Call::Fill(P, 0x4_0200, 2), P, [14, 0, 0], S, [11, 13, 0]),
     (
-        Call::Fence(Some(2), Some(1)),
-        Q,
-        [21, 23, 0],
+        Call::Fill(S, 0x3F_FFFF_FFFF, 0),
+        S,
+        [11, 13, 15],
         P,
-        [13, 18, 0],
+        [14, 0, 0],
     ),
+    (Call::Fill(S, 0x800_0201, 0), S, [13, 15, 16], P, [14, 0, 0]),
+    (Call::Fill(S, 0x200, 0), S, [15, 16, 17], P, [14, 0, 0]),
+    (Call::Fill(S, 0x3FF, 2), S, [16, 17, 18], P, [14, 0, 0]),
+    (Call::Fill(S, 0x8_0201, 0), S, [17, 18, 19], P, [14, 0, 0]),
+    (Call::Fill(S, 0x4_0200, 0), S, [18, 19, 20], P, [14, 0, 0]),
+    (Call::Fill(S, 0x8_0201, 0), S, [18, 20, 21], P, [14, 0, 0]),
     (
-        Call::Fence(Some(3), Some(1)),
-        Q,
-        [21, 23, 0],
+        Call::Fence(Some(1), Some(0x8_0201)),
+        S,
+        [18, 20, 0],
         P,
-        [13, 18, 0],
+        [14, 0, 0],
     ),
-    (Call::Fill(Q, 0x8_0201, 1), Q, [21, 23, 27], P, [13, 18, 0]),
-    (Call::Fill(R, 0x8_0201, 0), R, [28, 0, 0], Q, [21, 23, 27]),
-    (Call::Fill(P, 1, 0), P, [29, 0, 0], R, [28, 0, 0]),
-    (Call::Fill(P, 0, 1), P, [29, 30, 0], R, [28, 0, 0]),
-    (Call::Enter(R), R, [28, 0, 0], P, [29, 30, 0]),
-    (Call::Fill(R, 0x4_0000, 0), R, [28, 32, 0], P, [29, 30, 0]),
-    (Call::Fill(R, 0x200, 0), R, [28, 32, 33], P, [29, 30, 0]),
-    (Call::Fill(Q, 1, 1), Q, [34, 0, 0], R, [28, 32, 33]),
-    (Call::Fill(Q, 0x4_0200, 0), Q, [34, 35, 0], R, [28, 32, 33]),
-    (Call::Fill(Q, 0x3FF, 2), Q, [34, 35, 36], R, [28, 32, 33]),
-    (Call::Fill(Q, 0x3FF, 2), Q, [34, 35, 37], R, [28, 32, 33]),
-    (Call::Fence(Some(3), None), Q, [34, 35, 37], R, [28, 32, 33]),
-    (Call::Enter(R), R, [28, 32, 33], Q, [34, 35, 37]),
-    (Call::Enter(P), P, [0, 0, 0], R, [28, 32, 33]),
+    (Call::Fill(S, 0, 2), S, [18, 20, 23], P, [14, 0, 0]),
+    (Call::Fill(S, 0x200, 3), S, [20, 23, 24], P, [14, 0, 0]),
+    (Call::Fill(S, 0x4_0200, 3), S, [23, 24, 25], P, [14, 0, 0]),
+    (
+        Call::Fill(S, 0x3F_FFFF_FFFF, 1),
+        S,
+        [24, 25, 26],
+        P,
+        [14, 0, 0],
+    ),
+    (Call::Fill(S, 0x4_0200, 3), S, [24, 26, 27], P, [14, 0, 0]),
+    (Call::Fill(P, 0x4_0200, 0), P, [28, 0, 0], S, [24, 26, 27]),
+    (Call::Fence(None, Some(0x200)), P, [28, 0, 0], S, [26, 0, 0]),
+    (Call::Fill(Q, 0x4_0200, 2), Q, [30, 0, 0], P, [28, 0, 0]),
+    (Call::Fill(Q, 0x800_0201, 0), Q, [30, 31, 0], P, [28, 0, 0]),
+    (Call::Fill(Q, 0, 1), Q, [30, 31, 32], P, [28, 0, 0]),
+    (Call::Fill(R, 0, 0), R, [33, 0, 0], Q, [30, 31, 32]),
+    (Call::Fill(R, 0x3FF, 3), R, [33, 34, 0], Q, [30, 31, 32]),
+    (Call::Fill(R, 0, 0), R, [34, 35, 0], Q, [30, 31, 32]),
+    (
+        Call::Fence(None, Some(0x2FF)),
+        R,
+        [35, 0, 0],
+        Q,
+        [30, 31, 32],
+    ),
+    (Call::Fill(Q, 1, 3), Q, [31, 32, 37], R, [35, 0, 0]),
+    (Call::Fence(None, Some(0)), Q, [31, 0, 0], R, [0, 0, 0]),
+    (
+        Call::Fence(Some(1), Some(0x3FF)),
+        Q,
+        [31, 0, 0],
+        R,
+        [0, 0, 0],
+    ),
+    (Call::Fill(Q, 0x3FF, 0), Q, [31, 40, 0], R, [0, 0, 0]),
 ];
 
-/// Calls in a new pool.
+// Two values that differ in MODE alone have a space each. A fence of their VMID reaches both, and one that
+// names another page of a leaf of level 3 drops the entry that is cached of it.
+const TWO_MODES: [Row; 9] = [
+    (Call::Fill(P, 0x200, 0), P, [1, 0, 0], NONE, [0, 0, 0]),
+    (Call::Enter(S), S, [0, 0, 0], P, [1, 0, 0]),
+    (Call::Fill(S, 0x200, 0), S, [3, 0, 0], P, [1, 0, 0]),
+    (Call::Fill(P, 1, 0), P, [1, 4, 0], S, [3, 0, 0]),
+    (
+        Call::Fence(Some(1), Some(0x200)),
+        P,
+        [4, 0, 0],
+        S,
+        [0, 0, 0],
+    ),
+    (Call::Fill(S, 0x3F_FFFF_FFFF, 3), S, [6, 0, 0], P, [4, 0, 0]),
+    (
+        Call::Fence(None, Some(0x3F_F7FF_FFFF)),
+        S,
+        [6, 0, 0],
+        P,
+        [4, 0, 0],
+    ),
+    (
+        Call::Fence(None, Some(0x3F_F800_0000)),
+        S,
+        [0, 0, 0],
+        P,
+        [4, 0, 0],
+    ),
+    (Call::Enter(R), R, [0, 0, 0], S, [0, 0, 0]),
+];
+
+// Calls in a new pool.
 struct Sequence {
     name: &'static str,
     room: Room,
@@ -483,11 +571,16 @@ struct Sequence {
 
 // A model of the definitions, written apart from them, made the last three. With three entries a space its
 // frames are as many as three pages with tables of their own need.
-static SEQUENCES: [Sequence; 4] = [
+static SEQUENCES: [Sequence; 5] = [
     Sequence {
         name: "two spaces",
         room: Room::Sixteen,
         rows: &TWO_SPACES,
+    },
+    Sequence {
+        name: "two modes",
+        room: Room::Sixteen,
+        rows: &TWO_MODES,
     },
     Sequence {
         name: "first",
@@ -585,7 +678,7 @@ fn frame_by(rows: &[Row], numbers: [u16; 3], page: u64) -> Option<u64> {
 // Whether a table gives of `PAGES` exactly what these calls filled.
 fn gives(mem: &PhysMem, root: u64, rows: &[Row], numbers: [u16; 3]) -> bool {
     for page in PAGES {
-        if root >= 0x1000_0000 || page >= 0x2000_0000 {
+        if root >= 0x1000_0000 || page >= 0x40_0000_0000 {
             return false;
         }
         if frame_of(mem, root, page) != frame_by(rows, numbers, page) {
@@ -674,7 +767,7 @@ fn has_space(alloc: Global, room: Room, rows: &[Row], key: GuestRoot) -> Result<
 }
 
 fn has_spaces(alloc: Global, room: Room, rows: &[Row]) -> Result<bool, NoMemory> {
-    for key in [P, Q, R] {
+    for key in [P, Q, R, S] {
         if !has_space(alloc, room, rows, key)? {
             return Ok(false);
         }

@@ -4,6 +4,7 @@
 // machine memory.
 
 ghost use Rattle.std.specs.Prelude.{◌≡◌, ◌*◌, ◌≤◌, ◌<◌, ◌^◌, length, IfOk, IfSome};
+ghost use Rattle.arch_defs.specs.Frames.{most_frames};
 ghost use Rattle.shadow_space.specs.Shadows.{Tidy};
 
 use arch_defs::{Access, LeafPte, Shape, TABLES_PER_ENTRY, WalkEnd};
@@ -29,7 +30,7 @@ fn empty_space(
     entries: u64,
 ) -> Result<Option<Machine>, NoMemory>
     requires some { 1 ≤ frames }
-    requires most { frames ≤ 131072 }
+    requires most { frames ≤ most_frames }
     requires own { 0 < part.now.spaces }
     requires few { entries ≤ 256 }
     requires room { entries ≤ part.now.entries }
@@ -45,7 +46,7 @@ fn empty_space(
     Ok(Some(Machine { mem, space }))
 }
 
-/// How many entries a space has room for.
+// How many entries a space has room for.
 #[derive(Clone, Copy)]
 enum Room {
     One,
@@ -59,9 +60,9 @@ fn machine_with(alloc: Global, room: Room) -> Result<Option<Machine>, NoMemory>
     ensures blocks { IfOk result (λ made. IfSome made (λ m. length m.space.part.blocks ≡ 2)) }
 {
     match room {
-        Room::One => empty_space(alloc, &part(&[5, 3], 0, 8, 1, 1), 11, 1),
-        Room::Two => empty_space(alloc, &part(&[5, 3], 0, 8, 1, 2), 13, 2),
-        Room::Sixteen => empty_space(alloc, &part(&[5, 3], 0, 8, 1, 16), 41, 16),
+        Room::One => empty_space(alloc, &part(&[5, 3], 0, 8, 1, 1), 12, 1),
+        Room::Two => empty_space(alloc, &part(&[5, 3], 0, 8, 1, 2), 15, 2),
+        Room::Sixteen => empty_space(alloc, &part(&[5, 3], 0, 8, 1, 16), 57, 16),
     }
 }
 
@@ -90,26 +91,29 @@ struct Case {
     steps: &'static [Step],
 }
 
-static CASES: [Case; 4] = [
-    // Page 80005 is in the table of level 0 of the pages from 80000 on, in that of level 1 at entry 0, and in
-    // the root at entry 2. The leaf has V, R, X, U and A.
+static CASES: [Case; 5] = [
+    // Page 1 8008 0605 is in the table of level 0 of the pages from 1 8008 0600 on, in that of level 1 at
+    // entry 3, in that of level 2 at entry 2, and in the root at entry 48, since the root's index has 11
+    // bits. The leaf has V, R, X, U and A.
     Case {
-        name: "a page in three tables",
+        name: "a page in four tables",
         room: Room::Sixteen,
         steps: &[
             Step::Root(4),
-            Step::Fill(0x8_0005, 0x8_0003, 1),
+            Step::Fill(0x1_8008_0605, 0x8_0003, 1),
             Step::Word(0x4000, 0),
-            Step::Word(0x4010, 0x2401),
-            Step::Word(0x9000, 0x2801),
-            Step::Word(0xA020, 0),
-            Step::Word(0xA028, 0x0028_0C5B),
-            Step::Word(0xA030, 0),
-            Step::Word(0xB000, 0),
+            Step::Word(0x4180, 0x2401),
+            Step::Word(0x9010, 0x2801),
+            Step::Word(0xA018, 0x2C01),
+            Step::Word(0xB020, 0),
+            Step::Word(0xB028, 0x0028_0C5B),
+            Step::Word(0xB030, 0),
+            Step::Word(0xC000, 0),
             Step::Word(0, 0),
             Step::Word(0x8000, 0),
-            Step::Loads(0x8_0005, Some(2563)),
-            Step::Loads(0x8_0006, None),
+            Step::Loads(0x1_8008_0605, Some(2563)),
+            Step::Loads(0x1_8008_0606, None),
+            Step::Loads(0x8_0605, None),
         ],
     },
     Case {
@@ -117,15 +121,15 @@ static CASES: [Case; 4] = [
         room: Room::Two,
         steps: &[
             Step::Fill(1, 0x8_0201, 0),
-            Step::Fill(0x1FFF_FFFF, 0x8_0202, 0),
+            Step::Fill(0x3F_FFFF_FFFF, 0x8_0202, 0),
             Step::Loads(1, Some(1537)),
-            Step::Entries(&[(1, 0x8_0201), (0x1FFF_FFFF, 0x8_0202)]),
+            Step::Entries(&[(1, 0x8_0201), (0x3F_FFFF_FFFF, 0x8_0202)]),
             Step::Fill(1, 0x8_0203, 0),
             Step::Loads(1, Some(1539)),
-            Step::Loads(0x1FFF_FFFF, Some(1538)),
+            Step::Loads(0x3F_FFFF_FFFF, Some(1538)),
             Step::Fill(2, 0x8_0204, 0),
             Step::Loads(1, Some(1539)),
-            Step::Loads(0x1FFF_FFFF, None),
+            Step::Loads(0x3F_FFFF_FFFF, None),
             Step::Loads(2, Some(1540)),
             Step::Wipe,
             Step::Loads(1, None),
@@ -151,6 +155,31 @@ static CASES: [Case; 4] = [
             Step::Cut(0x206),
             Step::Loads(0x206, None),
             Step::Loads(0x4_0000, Some(1544)),
+        ],
+    },
+    // Another page of a leaf of level 3 drops what is cached of it; the first page of the next one does not.
+    Case {
+        name: "the span of a leaf of level 3 is 134,217,728 pages",
+        room: Room::Sixteen,
+        steps: &[
+            Step::Fill(0x7FF_FFFF, 0x8_0209, 3),
+            Step::Fill(0x800_0000, 0x8_020A, 3),
+            Step::Fill(0x400_0000, 0x8_020B, 2),
+            Step::Fill(0x3F_FFFF_FFFF, 0x8_020C, 3),
+            Step::Cut(0x1000_0000),
+            Step::Loads(0x7FF_FFFF, Some(1545)),
+            Step::Loads(0x800_0000, Some(1546)),
+            Step::Cut(0),
+            Step::Loads(0x7FF_FFFF, None),
+            Step::Loads(0x800_0000, Some(1546)),
+            Step::Loads(0x400_0000, Some(1547)),
+            Step::Cut(0xFFF_FFFF),
+            Step::Loads(0x800_0000, None),
+            Step::Loads(0x400_0000, Some(1547)),
+            Step::Cut(0x3F_F7FF_FFFF),
+            Step::Loads(0x3F_FFFF_FFFF, Some(1548)),
+            Step::Cut(0x3F_F800_0000),
+            Step::Loads(0x3F_FFFF_FFFF, None),
         ],
     },
     Case {
@@ -183,7 +212,7 @@ fn filled(space: &mut Space, mem: &mut PhysMem, entry: Entry) -> bool
     ensures tidy { Tidy space.new mem.new }
     ensures blocks { length space.new.part.blocks ≡ 2 }
 {
-    if entry.page >= 0x2000_0000 || entry.level > 2 {
+    if entry.page >= 0x40_0000_0000 || entry.level > 3 {
         return false;
     }
     if entry.frame < 0x8_0000 || entry.frame >= 0x8_0400 {
@@ -198,14 +227,14 @@ fn filled(space: &mut Space, mem: &mut PhysMem, entry: Entry) -> bool
 
 // The end of a walk for an access at the start of a page.
 fn walked(mem: &PhysMem, page: u64, access: Access) -> WalkEnd
-    requires { page < 2 ^ 29 }
+    requires { page < 2 ^ 38 }
 {
-    walk(&Words { mem }, 4, Shape::Sv39x4, page * 4096, access)
+    walk(&Words { mem }, 4, Shape::Sv48x4, page * 4096, access)
 }
 
 // Whether an access to a page leads to a frame, by a leaf that can be written or not, or is a page fault.
 fn leads(mem: &PhysMem, page: u64, access: Access, frame: Option<u64>) -> bool {
-    if page >= 0x2000_0000 {
+    if page >= 0x40_0000_0000 {
         return false;
     }
     match (walked(mem, page, access), frame) {
@@ -280,7 +309,7 @@ fn spaces(rt: HostRuntime) -> Result<(), Fail> {
     Ok(())
 }
 
-// Fills the first page of each of so many spans of 262,144 pages, with the frames from 80000 on.
+// Fills the first page of each of so many spans of 134,217,728 pages, with the frames from 80000 on.
 fn fill_spans(space: &mut Space, mem: &mut PhysMem, count: u64)
     requires tidy { Tidy space.old mem.old }
     requires blocks { length space.old.part.blocks ≡ 2 }
@@ -289,7 +318,7 @@ fn fill_spans(space: &mut Space, mem: &mut PhysMem, count: u64)
     ensures blocks { length space.new.part.blocks ≡ 2 }
 {
     for i in 0..count {
-        filled(space, mem, entry(0x4_0000 * i, 0x8_0000 + i, 0, false));
+        filled(space, mem, entry(0x800_0000 * i, 0x8_0000 + i, 0, false));
     }
 }
 
@@ -321,13 +350,13 @@ fn changed_by_a_fill(alloc: Global) -> Result<Option<u64>, NoMemory> {
     };
     fill_spans(&mut space, &mut mem, 16);
     let are_there = leads(&mem, 0, Access::Load, Some(2560))
-        && leads(&mem, 0x3C_0000, Access::Load, Some(2575));
+        && leads(&mem, 0x7800_0000, Access::Load, Some(2575));
     let before = words_of(alloc, &mem)?;
     let are_same = differing(&mem, &before) == 0;
-    let is_filled = filled(&mut space, &mut mem, entry(0x40_0201, 0x8_0010, 0, false));
+    let is_filled = filled(&mut space, &mut mem, entry(0x8004_0201, 0x8_0010, 0, false));
     let is_moved = leads(&mem, 0, Access::Load, None)
-        && leads(&mem, 0x4_0000, Access::Load, Some(2561))
-        && leads(&mem, 0x40_0201, Access::Load, Some(2576));
+        && leads(&mem, 0x800_0000, Access::Load, Some(2561))
+        && leads(&mem, 0x8004_0201, Access::Load, Some(2576));
     if are_there && are_same && is_filled && is_moved {
         Ok(Some(differing(&mem, &before)))
     } else {
@@ -336,9 +365,11 @@ fn changed_by_a_fill(alloc: Global) -> Result<Option<u64>, NoMemory> {
 }
 
 // Sixteen pages, each in tables of its own, are as many as there may be. The next page has no table with
-// another one: its leaf and the pointers to its two tables are written, and those of page 0 are cleared.
+// another one: its leaf and the pointers to its three tables are written, and those of page 0 are cleared.
+// They differ in the index of each level, so each doubleword is another one, whichever frames the tables
+// have.
 #[test]
-fn a_fill_writes_six_doublewords(rt: HostRuntime) -> Result<(), Fail> {
-    assert!(rt; changed_by_a_fill(rt.alloc())? == Some(6));
+fn a_fill_writes_eight_doublewords(rt: HostRuntime) -> Result<(), Fail> {
+    assert!(rt; changed_by_a_fill(rt.alloc())? == Some(8));
     Ok(())
 }

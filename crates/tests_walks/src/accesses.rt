@@ -24,7 +24,7 @@ const STORED: u64 = 0x8899_AABB_0000_0001;
 // The reservation of the word at 100.
 const WORD: Option<(u64, u8)> = Some((0x100, 4));
 
-/// What an access is for, with x10 as rd, and FF00000001 as the value of a store.
+// What an access is for, with x10 as rd, and FF00000001 as the value of a store.
 #[derive(Clone, Copy)]
 enum What {
     Load,
@@ -50,8 +50,8 @@ fn purpose_of(what: What) -> Purpose {
     }
 }
 
-/// An instruction at the word at 100, by what is reserved before: x10, the doubleword at 100, and what is
-/// reserved afterwards.
+// An instruction at the word at 100, by what is reserved before: x10, the doubleword at 100, and what is
+// reserved afterwards.
 struct Case {
     name: &'static str,
     what: What,
@@ -232,8 +232,8 @@ enum End {
     Past,
 }
 
-/// An address of memory of sixteen frames without translation, and how an access of this width ends there: it
-/// is no multiple of the width, whether memory has the place or not, or it is past memory.
+// An address of memory of sixteen frames without translation, and how an access of this width ends there: it
+// is no multiple of the width, whether memory has the place or not, or it is past memory.
 struct Place {
     va: u64,
     width: Width,
@@ -273,7 +273,7 @@ static PLACES: [Place; 6] = [
     },
 ];
 
-/// A kind of access, and the codes of its faults.
+// A kind of access, and the codes of its faults.
 struct Codes {
     access: Access,
     misaligned: u64,

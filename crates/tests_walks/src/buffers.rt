@@ -37,12 +37,12 @@ static TABLES: [(u64, u64); 15] = [
     (0xE020, 0xCDF),
 ];
 
-/// The registers that count for a translation.
+// The registers that count for a translation.
 #[derive(Clone, Copy)]
 struct Setting {
     mode: Mode,
-    guest_table: bool,
-    table: bool,
+    guest_table: Option<GuestMode>,
+    table: Option<SupervisorMode>,
     sum: bool,
     vs_mxr: bool,
     mxr: bool,
@@ -50,8 +50,8 @@ struct Setting {
 
 const SUPERVISOR: Setting = Setting {
     mode: Mode::VS,
-    guest_table: true,
-    table: true,
+    guest_table: Some(GuestMode::Sv39x4),
+    table: Some(SupervisorMode::Sv39),
     sum: false,
     vs_mxr: false,
     mxr: false,
@@ -91,7 +91,7 @@ struct Case {
     steps: &'static [Step],
 }
 
-static CASES: [Case; 7] = [
+static CASES: [Case; 8] = [
     Case {
         name: "one walk serves all accesses of a kind to a page",
         start: SUPERVISOR,
@@ -179,13 +179,13 @@ static CASES: [Case; 7] = [
         steps: &[
             Step::Makes(Access::Fetch, 0x3010, End::Place(0xB010)),
             Step::Enter(Setting {
-                table: false,
+                table: None,
                 ..SUPERVISOR
             }),
             Step::Makes(Access::Fetch, 0x3010, End::Place(0xA010)),
             Step::Enter(Setting {
-                table: false,
-                guest_table: false,
+                table: None,
+                guest_table: None,
                 ..SUPERVISOR
             }),
             Step::Makes(Access::Fetch, 0x3010, End::Place(0x3010)),
@@ -196,6 +196,29 @@ static CASES: [Case; 7] = [
             Step::Makes(Access::Load, 0x3010, End::Place(0xB010)),
             Step::Enter(SUPERVISOR),
             Step::Makes(Access::Load, 0x3010, End::Fault(13, 0)),
+        ],
+    },
+    // With a level more, page 1 has no entry in the table that is then that of level 1: of the second stage
+    // for the read of vsatp's root, or of the first stage.
+    Case {
+        name: "another MODE of either root finds nothing",
+        start: SUPERVISOR,
+        steps: &[
+            Step::Makes(Access::Load, 0x1008, End::Place(0xA008)),
+            Step::Enter(Setting {
+                guest_table: Some(GuestMode::Sv48x4),
+                ..SUPERVISOR
+            }),
+            Step::Makes(Access::Load, 0x1008, End::ImplicitFault(21, 0x2000)),
+            Step::Enter(SUPERVISOR),
+            Step::Makes(Access::Load, 0x1008, End::Place(0xA008)),
+            Step::Enter(Setting {
+                table: Some(SupervisorMode::Sv48),
+                ..SUPERVISOR
+            }),
+            Step::Makes(Access::Load, 0x1008, End::Fault(13, 0)),
+            Step::Enter(SUPERVISOR),
+            Step::Makes(Access::Load, 0x1008, End::Place(0xA008)),
         ],
     },
     Case {
@@ -235,16 +258,16 @@ struct Trial {
 
 fn csrs_of(setting: &Setting) -> Csrs {
     let mut csrs = Csrs::at_reset();
-    if setting.guest_table {
+    if let Some(mode) = setting.guest_table {
         csrs.hgatp = GuestRoot::Table {
-            mode: GuestMode::Sv39x4,
+            mode,
             vmid: 1,
             ppn: 4,
         };
     }
-    if setting.table {
+    if let Some(mode) = setting.table {
         csrs.vs.atp = SupervisorRoot::Table {
-            mode: SupervisorMode::Sv39,
+            mode,
             asid: 0,
             ppn: 8,
         };

@@ -96,7 +96,7 @@ enum End {
     Virtual,
 }
 
-/// Under a value of hstatus, an instruction with its word, and its end in HS, U, VS and VU.
+// Under a value of hstatus, an instruction with its word, and its end in HS, U, VS and VU.
 struct Ends {
     name: &'static str,
     hstatus: u64,
@@ -224,7 +224,7 @@ fn ends_in_each_mode(rt: HostRuntime) {
     }
 }
 
-/// An instruction that is made, with CSRs that it finds, and the mode and values afterwards.
+// An instruction that is made, with CSRs that it finds, and the mode and values afterwards.
 struct Made {
     name: &'static str,
     mode: Mode,
@@ -409,8 +409,8 @@ fn registers_and_returns(rt: HostRuntime) {
     }
 }
 
-/// An instruction that is left to go on, or is made at once, with its word; how it ends in HS, and by how
-/// much pc goes on there.
+// An instruction that is left to go on, or is made at once, with its word; how it ends in HS, and by how
+// much pc goes on there.
 struct Other {
     name: &'static str,
     instruction: Instruction,

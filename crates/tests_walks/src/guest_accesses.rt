@@ -19,7 +19,7 @@ use std::alloc::Global;
 use std::test::Fail;
 use two_stage_walk::{memory_is_whole, ram_is_whole};
 
-/// An instruction with its address in x11: into x10, into x0, or a value from x12.
+// An instruction with its address in x11: into x10, into x0, or a value from x12.
 #[derive(Clone, Copy)]
 enum Made {
     Hlv(Width),
@@ -59,11 +59,11 @@ enum End {
     Refused(u64, u64),
 }
 
-/// An access to an address, and its end.
+// An access to an address, and its end.
 #[derive(Clone, Copy)]
 struct Row(Made, u64, End);
 
-/// Accesses in this order in memory of `TABLES`, in a mode, with these CSRs; and doublewords afterwards.
+// Accesses in this order in memory of `TABLES`, in a mode, with these CSRs; and doublewords afterwards.
 struct Case {
     name: &'static str,
     mode: Mode,
@@ -663,7 +663,7 @@ fn has_tables(ram: &mut Ram) -> bool
         && ram.set(0x8000_A000, 1, 65)
 }
 
-/// An access of VS to that page, in a mode and with these values of CSRs, and its end.
+// An access of VS to that page, in a mode and with these values of CSRs, and its end.
 struct InRam {
     name: &'static str,
     mode: Mode,

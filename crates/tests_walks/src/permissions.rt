@@ -56,7 +56,7 @@ const WITH_MXR: Privilege = Privilege {
     mxr: true,
 };
 
-/// Who accesses which leaf, and whether a fetch, a load, a store, HLVX and an implicit read are permitted.
+// Who accesses which leaf, and whether a fetch, a load, a store, HLVX and an implicit read are permitted.
 struct FirstStage {
     name: &'static str,
     who: Privilege,
@@ -142,7 +142,7 @@ fn first_is_right(case: &FirstStage) -> bool {
     true
 }
 
-/// Under sstatus.MXR or not, what the same five accesses may do with a leaf of the second stage.
+// Under sstatus.MXR or not, what the same five accesses may do with a leaf of the second stage.
 struct SecondStage {
     name: &'static str,
     mxr: bool,

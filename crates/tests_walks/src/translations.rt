@@ -34,6 +34,30 @@ fn csrs_for(guest_page: Option<u64>, page: Option<u64>) -> Csrs {
     csrs
 }
 
+// The registers of a guest whose roots are those for these modes.
+fn csrs_of(guest_mode: GuestMode, mode: Option<SupervisorMode>) -> Csrs {
+    let mut csrs = Csrs::at_reset();
+    csrs.hgatp = GuestRoot::Table {
+        mode: guest_mode,
+        vmid: 1,
+        ppn: match guest_mode {
+            GuestMode::Sv39x4 => 4,
+            GuestMode::Sv48x4 => 0,
+        },
+    };
+    if let Some(mode) = mode {
+        csrs.vs.atp = SupervisorRoot::Table {
+            mode,
+            asid: 0,
+            ppn: match mode {
+                SupervisorMode::Sv39 => 8,
+                SupervisorMode::Sv48 => 11,
+            },
+        };
+    }
+    csrs
+}
+
 // A trap of an access as VS or VU.
 fn trap(cause: u64, tval: u64, tval2: u64, implicit: bool) -> Trap {
     Trap {
@@ -53,7 +77,17 @@ const GUEST_ROOT: Option<u64> = Some(4);
 
 const ROOT: Option<u64> = Some(8);
 
-static TABLES: [(u64, u64); 19] = [
+static TABLES: [(u64, u64); 36] = [
+    // A root of four levels in the frames 0 to 3, whose entry 0 names that of three levels. Entries 1, 4 and
+    // 2,047 are leaves of 512 GiB, and entries 2, 3 and 5 leaves with a bit in one of the three lower parts
+    // of their page's number.
+    (0, 0x1001),
+    (8, 0xDF),
+    (0x10, 0x4DF),
+    (0x18, 0x8_00DF),
+    (0x20, 0xDF),
+    (0x28, 0x1000_00DF),
+    (0x3FF8, 0xDF),
     (0x4000, 0x2001),
     // Leaves of 1 GiB in entries 1 and 2,047 of the root, and one of 2 MiB in entry 1 of level 1.
     (0x4008, 0xDF),
@@ -71,12 +105,25 @@ static TABLES: [(u64, u64); 19] = [
     (0x9040, 0x30DF),
     (0x9048, 0x34DF),
     (0x9050, 0x38DF),
+    (0x9058, 0x3CDF),
     (0xC000, 0x2401),
+    (0xC800, 0x2401),
     (0xD000, 0x2801),
     // Pages 1 to 3 of the first stage: guest page 3, and the guest pages 3 and 6 only to be executed.
     (0xE008, 0xCCF),
     (0xE010, 0xC49),
     (0xE018, 0x1849),
+    // Pages 5 and 6: the guest physical addresses 2^41 and 2^50.
+    (0xE028, 0x80_0000_00CF),
+    (0xE030, 0x1_0000_0000_00CF),
+    // A root of four levels in guest page 11, whose entries 0, 1, 255 and 256 name that of three levels.
+    // Entry 2 is a leaf of 512 GiB, and entry 3 is one with a bit in the lowest part of its page's number.
+    (0xF000, 0x2001),
+    (0xF008, 0x2001),
+    (0xF010, 0xCF),
+    (0xF018, 0x4CF),
+    (0xF7F8, 0x2001),
+    (0xF800, 0x2001),
 ];
 
 // How a translation ends: the physical address, or the code of the fault with tval2.
@@ -228,6 +275,85 @@ static SECOND_STAGE: [Translation; 23] = [
     },
 ];
 
+// The second stage of four levels: a leaf of each level, the last page of 50 bits, and what is not found.
+static SECOND_STAGE_OF_FOUR: [Translation; 15] = [
+    Translation {
+        va: 0x3123,
+        access: Access::Load,
+        end: End::Place(0xA123),
+    },
+    Translation {
+        va: 0x20_A008,
+        access: Access::Store,
+        end: End::Place(0xA008),
+    },
+    Translation {
+        va: 0x4000_B010,
+        access: Access::Fetch,
+        end: End::Place(0xB010),
+    },
+    Translation {
+        va: 0x80_0000_F018,
+        access: Access::Load,
+        end: End::Place(0xF018),
+    },
+    Translation {
+        va: 0xC0_0000_F018,
+        access: Access::Load,
+        end: End::Fault(5, 0),
+    },
+    Translation {
+        va: 0x200_0000_F018,
+        access: Access::Store,
+        end: End::Place(0xF018),
+    },
+    Translation {
+        va: 0x3_FF80_0000_F018,
+        access: Access::Load,
+        end: End::Place(0xF018),
+    },
+    Translation {
+        va: 0x4_0000_0000_0000,
+        access: Access::Load,
+        end: End::Fault(21, 0x1_0000_0000_0000),
+    },
+    Translation {
+        va: 0xFFFF_FFFF_FFFF_F000,
+        access: Access::Store,
+        end: End::Fault(23, 0x3FFF_FFFF_FFFF_FC00),
+    },
+    Translation {
+        va: 0x100_0000_0000,
+        access: Access::Load,
+        end: End::Fault(21, 0x40_0000_0000),
+    },
+    Translation {
+        va: 0x180_0000_0008,
+        access: Access::Store,
+        end: End::Fault(23, 0x60_0000_0002),
+    },
+    Translation {
+        va: 0x280_0000_0000,
+        access: Access::Fetch,
+        end: End::Fault(20, 0xA0_0000_0000),
+    },
+    Translation {
+        va: 0x2000,
+        access: Access::Load,
+        end: End::Fault(21, 0x800),
+    },
+    Translation {
+        va: 0x80_0001_0000,
+        access: Access::Load,
+        end: End::Fault(5, 0),
+    },
+    Translation {
+        va: 0x40_0000,
+        access: Access::Store,
+        end: End::Fault(7, 0),
+    },
+];
+
 // Both stages, as VS: pages 1 and 2 are guest page 3, page 3 is guest page 6, page 4 is none.
 static BOTH_STAGES: [Translation; 8] = [
     Translation {
@@ -288,6 +414,15 @@ fn stages(rt: HostRuntime) -> Result<(), Fail> {
             case.va
         );
     }
+    let second_of_four = csrs_of(GuestMode::Sv48x4, None);
+    for case in &SECOND_STAGE_OF_FOUR {
+        let as_vs = is_right(&memory, &second_of_four, Mode::VS, case);
+        assert!(rt;
+            as_vs && is_right(&memory, &second_of_four, Mode::VU, case),
+            "second stage of four levels, {:X}",
+            case.va
+        );
+    }
     let both = csrs_for(GUEST_ROOT, ROOT);
     for case in &BOTH_STAGES {
         assert!(rt;
@@ -295,6 +430,212 @@ fn stages(rt: HostRuntime) -> Result<(), Fail> {
             "both stages, {:X}",
             case.va
         );
+    }
+    Ok(())
+}
+
+// The modes of both stages in four pairs.
+const PAIRS: [(SupervisorMode, GuestMode); 4] = [
+    (SupervisorMode::Sv39, GuestMode::Sv39x4),
+    (SupervisorMode::Sv39, GuestMode::Sv48x4),
+    (SupervisorMode::Sv48, GuestMode::Sv39x4),
+    (SupervisorMode::Sv48, GuestMode::Sv48x4),
+];
+
+// An access as VS, and its end under each pair of modes.
+struct Combined {
+    va: u64,
+    access: Access,
+    ends: &'static [End],
+}
+
+static COMBINED: [Combined; 16] = [
+    Combined {
+        va: 0x1010,
+        access: Access::Load,
+        ends: &[
+            End::Place(0xA010),
+            End::Place(0xA010),
+            End::Place(0xA010),
+            End::Place(0xA010),
+        ],
+    },
+    Combined {
+        va: 0x2010,
+        access: Access::Fetch,
+        ends: &[
+            End::Place(0xA010),
+            End::Place(0xA010),
+            End::Place(0xA010),
+            End::Place(0xA010),
+        ],
+    },
+    Combined {
+        va: 0x4010,
+        access: Access::Fetch,
+        ends: &[
+            End::Fault(12, 0),
+            End::Fault(12, 0),
+            End::Fault(12, 0),
+            End::Fault(12, 0),
+        ],
+    },
+    // A leaf of the first stage that gives 2^41, and one that gives 2^50.
+    Combined {
+        va: 0x5018,
+        access: Access::Load,
+        ends: &[
+            End::Fault(21, 0x80_0000_0006),
+            End::Place(0x18),
+            End::Fault(21, 0x80_0000_0006),
+            End::Place(0x18),
+        ],
+    },
+    Combined {
+        va: 0x5018,
+        access: Access::Store,
+        ends: &[
+            End::Fault(23, 0x80_0000_0006),
+            End::Place(0x18),
+            End::Fault(23, 0x80_0000_0006),
+            End::Place(0x18),
+        ],
+    },
+    Combined {
+        va: 0x6018,
+        access: Access::Load,
+        ends: &[
+            End::Fault(21, 0x1_0000_0000_0006),
+            End::Fault(21, 0x1_0000_0000_0006),
+            End::Fault(21, 0x1_0000_0000_0006),
+            End::Fault(21, 0x1_0000_0000_0006),
+        ],
+    },
+    // Both ends of the addresses that Sv39 does not have.
+    Combined {
+        va: 0x40_0000_1010,
+        access: Access::Load,
+        ends: &[
+            End::Fault(13, 0),
+            End::Fault(13, 0),
+            End::Place(0xA010),
+            End::Place(0xA010),
+        ],
+    },
+    Combined {
+        va: 0xFFFF_FFC0_0000_1010,
+        access: Access::Load,
+        ends: &[
+            End::Place(0xA010),
+            End::Place(0xA010),
+            End::Fault(13, 0),
+            End::Fault(13, 0),
+        ],
+    },
+    Combined {
+        va: 0x80_0000_1010,
+        access: Access::Store,
+        ends: &[
+            End::Fault(15, 0),
+            End::Fault(15, 0),
+            End::Place(0xA010),
+            End::Place(0xA010),
+        ],
+    },
+    // Both ends of those that Sv48 does not have.
+    Combined {
+        va: 0x7F80_0000_1010,
+        access: Access::Load,
+        ends: &[
+            End::Fault(13, 0),
+            End::Fault(13, 0),
+            End::Place(0xA010),
+            End::Place(0xA010),
+        ],
+    },
+    Combined {
+        va: 0x8000_0000_1010,
+        access: Access::Load,
+        ends: &[
+            End::Fault(13, 0),
+            End::Fault(13, 0),
+            End::Fault(13, 0),
+            End::Fault(13, 0),
+        ],
+    },
+    Combined {
+        va: 0xFFFF_7F80_0000_1010,
+        access: Access::Store,
+        ends: &[
+            End::Fault(15, 0),
+            End::Fault(15, 0),
+            End::Fault(15, 0),
+            End::Fault(15, 0),
+        ],
+    },
+    Combined {
+        va: 0xFFFF_8000_0000_1010,
+        access: Access::Load,
+        ends: &[
+            End::Fault(13, 0),
+            End::Fault(13, 0),
+            End::Place(0xA010),
+            End::Place(0xA010),
+        ],
+    },
+    // A leaf of the first stage at level 3, also with an address of its last half, and one with a low part.
+    Combined {
+        va: 0x100_0000_3010,
+        access: Access::Load,
+        ends: &[
+            End::Fault(13, 0),
+            End::Fault(13, 0),
+            End::Place(0xA010),
+            End::Place(0xA010),
+        ],
+    },
+    Combined {
+        va: 0x140_0000_3010,
+        access: Access::Load,
+        ends: &[
+            End::Fault(13, 0),
+            End::Fault(13, 0),
+            End::Fault(21, 0x10_0000_0C04),
+            End::Fault(21, 0x10_0000_0C04),
+        ],
+    },
+    Combined {
+        va: 0x180_0000_3010,
+        access: Access::Fetch,
+        ends: &[
+            End::Fault(12, 0),
+            End::Fault(12, 0),
+            End::Fault(12, 0),
+            End::Fault(12, 0),
+        ],
+    },
+];
+
+// The place among the pairs of the first one under which an access ends otherwise, if there is one.
+fn first_wrong_pair(memory: &PhysMem, case: &Combined) -> Option<usize> {
+    for i in 0..4 {
+        let (mode, guest_mode) = PAIRS[i];
+        let csrs = csrs_of(guest_mode, Some(mode));
+        let found = answer(memory, &csrs, Mode::VS, case.va, case.access);
+        match case.ends.get(i) {
+            Some(&end) if found == expected(case.va, end) => {}
+            _ => return Some(i),
+        }
+    }
+    None
+}
+
+#[test]
+fn modes_of_both_stages(rt: HostRuntime) -> Result<(), Fail> {
+    let memory = with_words(rt.alloc(), &TABLES)?;
+    for case in &COMBINED {
+        let wrong = first_wrong_pair(&memory, case);
+        assert!(rt; wrong.is_none(), "pair {wrong:?} of {:X}", case.va);
     }
     Ok(())
 }

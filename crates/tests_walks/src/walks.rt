@@ -1,16 +1,24 @@
-// Walks of one table (Privileged Architecture 20211203, 4.3.1, 4.3.2, 4.4.1 and 8.5.1). The entries of leaves
-// name frame 40000 (hexadecimal), the first of a page of each level.
+// Walks of one table (Privileged Architecture 20211203, 4.3.1, 4.3.2, 4.4.1, 4.5.1 and 8.5.1). The entries of
+// leaves name frame 8000000 (hexadecimal), the first of a page of each level.
 
-ghost use Rattle.std.specs.Prelude.{◌==◌, Ok, Err, if◌then◌else◌};
+ghost use Rattle.std.specs.Prelude.{◌==◌, ◌<◌, ◌^◌, Ok, Err, if◌then◌else◌};
 
 use arch_defs::{Access, Trap};
 use stage_walk::{Fetch, LeafPte, Shape, WalkEnd, leaf_to, pointer_to, pte_of, pte_word, walk};
 
-/// V, R, W, X, A and D.
-const LEAF: u64 = 0x1000_00CF;
+// V, R, W, X, A and D.
+const LEAF: u64 = 0x20_0000_00CF;
 
-/// Index 5 at level 2, 6 at level 1, 7 at level 0.
+// Index 5 at level 2, 6 at level 1, 7 at level 0.
 const ADDRESS: u64 = 0x1_40C0_7123;
+
+// The same behind index 9 at level 3.
+const ADDRESS_OF_FOUR: u64 = 0x481_40C0_7123;
+
+// The root of a table of three levels, and of one of four.
+const ROOT: u64 = 0x10;
+
+const ROOT_OF_FOUR: u64 = 8;
 
 const ACCESSES: [Access; 5] = [
     Access::Fetch,
@@ -20,13 +28,21 @@ const ACCESSES: [Access; 5] = [
     Access::Implicit,
 ];
 
-const LEVELS: [(Shape, u8); 6] = [
+const LEVELS: [(Shape, u8); 14] = [
     (Shape::Sv39, 0),
     (Shape::Sv39, 1),
     (Shape::Sv39, 2),
     (Shape::Sv39x4, 0),
     (Shape::Sv39x4, 1),
     (Shape::Sv39x4, 2),
+    (Shape::Sv48, 0),
+    (Shape::Sv48, 1),
+    (Shape::Sv48, 2),
+    (Shape::Sv48, 3),
+    (Shape::Sv48x4, 0),
+    (Shape::Sv48x4, 1),
+    (Shape::Sv48x4, 2),
+    (Shape::Sv48x4, 3),
 ];
 
 const UNREADABLE: Trap = Trap {
@@ -38,24 +54,29 @@ const UNREADABLE: Trap = Trap {
     implicit: false,
 };
 
-/// The entries of three tables for `ADDRESS`; no other can be read.
+// The entries of four tables for `ADDRESS_OF_FOUR`, of which the last three are those for `ADDRESS`; no
+// other can be read.
 #[derive(Clone, Copy)]
 struct Chain {
-    root: u64,
+    top: u64,
+    upper: u64,
     middle: u64,
     low: Result<u64, Trap>,
     otherwise: Trap,
 }
 
 impl Fetch for Chain {
-    ghost reading = { λ c place. if place == 0x1_0028 then Ok c.root
+    ghost reading = { λ c place. if place == 0x8048 then Ok c.top
+        else if place == 0x1_0028 then Ok c.upper
         else if place == 0x2_0030 then Ok c.middle
         else if place == 0x3_0038 then c.low
         else Err c.otherwise };
 
     fn pte_at(&self, place: u64) -> Result<u64, Trap> {
-        if place == 0x1_0028 {
-            Ok(self.root)
+        if place == 0x8048 {
+            Ok(self.top)
+        } else if place == 0x1_0028 {
+            Ok(self.upper)
         } else if place == 0x2_0030 {
             Ok(self.middle)
         } else if place == 0x3_0038 {
@@ -66,7 +87,7 @@ impl Fetch for Chain {
     }
 }
 
-/// The same entry at every place.
+// The same entry at every place.
 #[derive(Clone, Copy)]
 struct Everywhere {
     word: u64,
@@ -80,15 +101,39 @@ impl Fetch for Everywhere {
     }
 }
 
+fn has_four_levels(shape: Shape) -> bool {
+    matches!(shape, Shape::Sv48 | Shape::Sv48x4)
+}
+
+// The root from which a walk meets a chain's entries, and the address at which it does.
+fn root_of(shape: Shape) -> u64
+    ensures { result < 2 ^ 44 }
+{
+    if has_four_levels(shape) {
+        ROOT_OF_FOUR
+    } else {
+        ROOT
+    }
+}
+
+fn address_of(shape: Shape) -> u64 {
+    if has_four_levels(shape) {
+        ADDRESS_OF_FOUR
+    } else {
+        ADDRESS
+    }
+}
+
 // How a walk ends that meets this entry at a level, after pointers, and before a leaf.
 fn end_at(shape: Shape, level: u8, word: u64, access: Access) -> WalkEnd {
     let chain = Chain {
-        root: if level == 2 { word } else { 0x8001 },
+        top: if level == 3 { word } else { 0x4001 },
+        upper: if level == 2 { word } else { 0x8001 },
         middle: if level == 1 { word } else { 0xC001 },
         low: Ok(if level == 0 { word } else { LEAF }),
         otherwise: UNREADABLE,
     };
-    walk(&chain, 0x10, shape, ADDRESS, access)
+    walk(&chain, root_of(shape), shape, address_of(shape), access)
 }
 
 #[derive(Clone, Copy)]
@@ -108,7 +153,7 @@ const ALL: Rights = Rights {
 
 fn leaf(level: u8, rights: Rights) -> WalkEnd {
     WalkEnd::Leaf(LeafPte {
-        frame: 0x4_0000,
+        frame: 0x800_0000,
         level,
         r: rights.r,
         w: rights.w,
@@ -117,7 +162,7 @@ fn leaf(level: u8, rights: Rights) -> WalkEnd {
     })
 }
 
-/// What a leaf gives a store, and what any other access: none is a page fault.
+// What a leaf gives a store, and what any other access: none is a page fault.
 struct LeafCase {
     name: &'static str,
     word: u64,
@@ -134,25 +179,25 @@ static LEAVES: [LeafCase; 13] = [
     },
     LeafCase {
         name: "V clear",
-        word: 0x1000_00CE,
+        word: 0x20_0000_00CE,
         store: None,
         other: None,
     },
     LeafCase {
         name: "W without R, with X",
-        word: 0x1000_00CD,
+        word: 0x20_0000_00CD,
         store: None,
         other: None,
     },
     LeafCase {
         name: "W without R and X",
-        word: 0x1000_00C5,
+        word: 0x20_0000_00C5,
         store: None,
         other: None,
     },
     LeafCase {
         name: "R and X",
-        word: 0x1000_00CB,
+        word: 0x20_0000_00CB,
         store: Some(Rights {
             r: true,
             w: false,
@@ -168,7 +213,7 @@ static LEAVES: [LeafCase; 13] = [
     },
     LeafCase {
         name: "R",
-        word: 0x1000_00C3,
+        word: 0x20_0000_00C3,
         store: Some(Rights {
             r: true,
             w: false,
@@ -184,7 +229,7 @@ static LEAVES: [LeafCase; 13] = [
     },
     LeafCase {
         name: "R and W",
-        word: 0x1000_00C7,
+        word: 0x20_0000_00C7,
         store: Some(Rights {
             r: true,
             w: true,
@@ -200,7 +245,7 @@ static LEAVES: [LeafCase; 13] = [
     },
     LeafCase {
         name: "X",
-        word: 0x1000_00C9,
+        word: 0x20_0000_00C9,
         store: Some(Rights {
             r: false,
             w: false,
@@ -216,13 +261,13 @@ static LEAVES: [LeafCase; 13] = [
     },
     LeafCase {
         name: "A clear",
-        word: 0x1000_008F,
+        word: 0x20_0000_008F,
         store: None,
         other: None,
     },
     LeafCase {
         name: "D clear",
-        word: 0x1000_004F,
+        word: 0x20_0000_004F,
         store: None,
         other: Some(Rights {
             r: true,
@@ -233,7 +278,7 @@ static LEAVES: [LeafCase; 13] = [
     },
     LeafCase {
         name: "U",
-        word: 0x1000_00DF,
+        word: 0x20_0000_00DF,
         store: Some(Rights {
             r: true,
             w: true,
@@ -249,13 +294,13 @@ static LEAVES: [LeafCase; 13] = [
     },
     LeafCase {
         name: "G",
-        word: 0x1000_00EF,
+        word: 0x20_0000_00EF,
         store: Some(ALL),
         other: Some(ALL),
     },
     LeafCase {
         name: "the bits for software",
-        word: 0x1000_03CF,
+        word: 0x20_0000_03CF,
         store: Some(ALL),
         other: Some(ALL),
     },
@@ -281,16 +326,16 @@ fn leaf_is_right(case: &LeafCase, shape: Shape, level: u8) -> bool {
 
 // Leaves with one reserved bit (4.4.1).
 static RESERVED: [u64; 10] = [
-    0x0040_0000_1000_00CF,
-    0x0080_0000_1000_00CF,
-    0x0100_0000_1000_00CF,
-    0x0200_0000_1000_00CF,
-    0x0400_0000_1000_00CF,
-    0x0800_0000_1000_00CF,
-    0x1000_0000_1000_00CF,
-    0x2000_0000_1000_00CF,
-    0x4000_0000_1000_00CF,
-    0x8000_0000_1000_00CF,
+    0x0040_0020_0000_00CF,
+    0x0080_0020_0000_00CF,
+    0x0100_0020_0000_00CF,
+    0x0200_0020_0000_00CF,
+    0x0400_0020_0000_00CF,
+    0x0800_0020_0000_00CF,
+    0x1000_0020_0000_00CF,
+    0x2000_0020_0000_00CF,
+    0x4000_0020_0000_00CF,
+    0x8000_0020_0000_00CF,
 ];
 
 fn always_faults(word: u64, shape: Shape, level: u8) -> bool {
@@ -322,7 +367,7 @@ fn leaves(rt: HostRuntime) {
     }
 }
 
-/// An entry at a level, and what a load meets there.
+// An entry at a level, and what a load meets there.
 struct Met {
     level: u8,
     word: u64,
@@ -338,9 +383,10 @@ enum End {
 }
 
 // Pointers to the tables that `end_at` has: A, D and U are faults, as is a pointer at the last level. And
-// leaves of the frames 40001, 40100, 40200, 60000 and 80000, of which some are of no superpage (4.3.2, step
-// 6).
-static MET: [Met; 24] = [
+// leaves of the frames 40001, 40100, 40200, 60000 and 80000, and at level 3 of 8000000 and of 10000000 and of
+// frames between them that have one bit more, the lowest or the highest of each of the three lower parts of
+// the number: some are of no superpage (4.3.2, step 6).
+static MET: [Met; 37] = [
     Met {
         level: 2,
         word: 0x8001,
@@ -461,6 +507,71 @@ static MET: [Met; 24] = [
         word: 0x2000_00CF,
         end: End::Here,
     },
+    Met {
+        level: 3,
+        word: 0x4001,
+        end: End::Below,
+    },
+    Met {
+        level: 3,
+        word: 0x4021,
+        end: End::Below,
+    },
+    Met {
+        level: 3,
+        word: 0x4011,
+        end: End::PageFault,
+    },
+    Met {
+        level: 3,
+        word: 0x4041,
+        end: End::PageFault,
+    },
+    Met {
+        level: 3,
+        word: 0x4081,
+        end: End::PageFault,
+    },
+    Met {
+        level: 3,
+        word: 0x20_0000_00CF,
+        end: End::Here,
+    },
+    Met {
+        level: 3,
+        word: 0x20_0000_04CF,
+        end: End::PageFault,
+    },
+    Met {
+        level: 3,
+        word: 0x20_0004_00CF,
+        end: End::PageFault,
+    },
+    Met {
+        level: 3,
+        word: 0x20_0008_00CF,
+        end: End::PageFault,
+    },
+    Met {
+        level: 3,
+        word: 0x20_0800_00CF,
+        end: End::PageFault,
+    },
+    Met {
+        level: 3,
+        word: 0x20_1000_00CF,
+        end: End::PageFault,
+    },
+    Met {
+        level: 3,
+        word: 0x30_0000_00CF,
+        end: End::PageFault,
+    },
+    Met {
+        level: 3,
+        word: 0x40_0000_00CF,
+        end: End::Here,
+    },
 ];
 
 fn met_is_right(case: &Met, shape: Shape) -> bool {
@@ -475,18 +586,17 @@ fn met_is_right(case: &Met, shape: Shape) -> bool {
 #[test]
 fn pointers_and_superpages(rt: HostRuntime) {
     for case in &MET {
-        for shape in [Shape::Sv39, Shape::Sv39x4] {
+        for (shape, level) in LEVELS {
             assert!(rt;
-                met_is_right(case, shape),
-                "{:X} at level {}",
-                case.word,
-                case.level
+                level != case.level || met_is_right(case, shape),
+                "{:X} at level {level}",
+                case.word
             );
         }
     }
 }
 
-/// The word of a leaf with these rights and with U, A, V, and D where it may be written.
+// The word of a leaf with these rights and with U, A, V, and D where it may be written.
 struct LeafWord {
     rights: Rights,
     word: u64,
@@ -500,7 +610,7 @@ static LEAF_WORDS: [LeafWord; 4] = [
             x: true,
             u: true,
         },
-        word: 0x1000_00DF,
+        word: 0x20_0000_00DF,
     },
     LeafWord {
         rights: Rights {
@@ -509,7 +619,7 @@ static LEAF_WORDS: [LeafWord; 4] = [
             x: false,
             u: true,
         },
-        word: 0x1000_0053,
+        word: 0x20_0000_0053,
     },
     LeafWord {
         rights: Rights {
@@ -518,7 +628,7 @@ static LEAF_WORDS: [LeafWord; 4] = [
             x: false,
             u: true,
         },
-        word: 0x1000_00D7,
+        word: 0x20_0000_00D7,
     },
     LeafWord {
         rights: Rights {
@@ -527,13 +637,13 @@ static LEAF_WORDS: [LeafWord; 4] = [
             x: true,
             u: true,
         },
-        word: 0x1000_0059,
+        word: 0x20_0000_0059,
     },
 ];
 
 fn leaf_word_is_right(case: &LeafWord) -> bool {
     let Rights { r, w, x, .. } = case.rights;
-    pte_word(&leaf_to(0x4_0000, r, w, x)) == case.word
+    pte_word(&leaf_to(0x800_0000, r, w, x)) == case.word
 }
 
 // Words, and what they are where they are read and written again: each bit with a name, the highest frame and
@@ -563,15 +673,16 @@ fn words(rt: HostRuntime) {
     }
 }
 
-/// Whether a table of one gibibyte leaves has an address.
+// Whether a table whose root has leaves alone has an address.
 struct Bounds {
     shape: Shape,
     address: u64,
     found: bool,
 }
 
-// Bits 63 to 39 of an Sv39 address equal bit 38; an Sv39x4 address has 41 bits.
-static BOUNDS: [Bounds; 12] = [
+// Bits 63 to 39 of an Sv39 address equal bit 38, bits 63 to 48 of an Sv48 address bit 47; an Sv39x4 address
+// has 41 bits, an Sv48x4 address 50.
+static BOUNDS: [Bounds; 27] = [
     Bounds {
         shape: Shape::Sv39,
         address: 0,
@@ -632,26 +743,106 @@ static BOUNDS: [Bounds; 12] = [
         address: 0xFFFF_FFC0_0000_0000,
         found: false,
     },
+    Bounds {
+        shape: Shape::Sv48,
+        address: 0,
+        found: true,
+    },
+    Bounds {
+        shape: Shape::Sv48,
+        address: 0x0000_0040_0000_0000,
+        found: true,
+    },
+    Bounds {
+        shape: Shape::Sv48,
+        address: 0x0000_7FFF_FFFF_FFFF,
+        found: true,
+    },
+    Bounds {
+        shape: Shape::Sv48,
+        address: 0x0000_8000_0000_0000,
+        found: false,
+    },
+    Bounds {
+        shape: Shape::Sv48,
+        address: 0x0001_0000_0000_0000,
+        found: false,
+    },
+    Bounds {
+        shape: Shape::Sv48,
+        address: 0x7FFF_FFFF_FFFF_FFFF,
+        found: false,
+    },
+    Bounds {
+        shape: Shape::Sv48,
+        address: 0xFFFE_FFFF_FFFF_FFFF,
+        found: false,
+    },
+    Bounds {
+        shape: Shape::Sv48,
+        address: 0xFFFF_7FFF_FFFF_FFFF,
+        found: false,
+    },
+    Bounds {
+        shape: Shape::Sv48,
+        address: 0xFFFF_8000_0000_0000,
+        found: true,
+    },
+    Bounds {
+        shape: Shape::Sv48,
+        address: 0xFFFF_FFFF_FFFF_FFFF,
+        found: true,
+    },
+    Bounds {
+        shape: Shape::Sv48x4,
+        address: 0x0000_0200_0000_0000,
+        found: true,
+    },
+    Bounds {
+        shape: Shape::Sv48x4,
+        address: 0x0000_8000_0000_0000,
+        found: true,
+    },
+    Bounds {
+        shape: Shape::Sv48x4,
+        address: 0x0003_FFFF_FFFF_FFFF,
+        found: true,
+    },
+    Bounds {
+        shape: Shape::Sv48x4,
+        address: 0x0004_0000_0000_0000,
+        found: false,
+    },
+    Bounds {
+        shape: Shape::Sv48x4,
+        address: 0xFFFF_8000_0000_0000,
+        found: false,
+    },
 ];
+
+// The level of a root.
+fn top_level(shape: Shape) -> u8 {
+    if has_four_levels(shape) { 3 } else { 2 }
+}
 
 fn bounds_are_right(case: &Bounds) -> bool {
     let everywhere = Everywhere { word: LEAF };
-    let end = walk(&everywhere, 0x10, case.shape, case.address, Access::Load);
+    let end = walk(&everywhere, ROOT, case.shape, case.address, Access::Load);
     if case.found {
-        end == leaf(2, ALL)
+        end == leaf(top_level(case.shape), ALL)
     } else {
         end == WalkEnd::PageFault
     }
 }
 
-/// The place of the first entry that cannot be read, which tells the entries that were.
+// The place of the first entry that cannot be read, which tells the entries that were.
 struct Unread {
     shape: Shape,
     address: u64,
     place: u64,
 }
 
-static UNREAD: [Unread; 8] = [
+static UNREAD: [Unread; 18] = [
     Unread {
         shape: Shape::Sv39,
         address: 0xFFFF_FFC0_0000_0000,
@@ -692,11 +883,62 @@ static UNREAD: [Unread; 8] = [
         address: ADDRESS,
         place: 0x3_0038,
     },
+    Unread {
+        shape: Shape::Sv48,
+        address: 0xFFFF_8000_0000_0000,
+        place: 0x8800,
+    },
+    Unread {
+        shape: Shape::Sv48,
+        address: 0xFFFF_FFFF_FFFF_FFFF,
+        place: 0x8FF8,
+    },
+    Unread {
+        shape: Shape::Sv48x4,
+        address: 0x3_FF80_0000_0000,
+        place: 0xBFF8,
+    },
+    Unread {
+        shape: Shape::Sv48x4,
+        address: 0x1_0000_0000_0000,
+        place: 0x9000,
+    },
+    Unread {
+        shape: Shape::Sv48,
+        address: 0x480_0000_0000,
+        place: 0x1_0000,
+    },
+    Unread {
+        shape: Shape::Sv48x4,
+        address: 0x4FF_C000_0000,
+        place: 0x1_0FF8,
+    },
+    Unread {
+        shape: Shape::Sv48,
+        address: 0x481_4000_0000,
+        place: 0x2_0000,
+    },
+    Unread {
+        shape: Shape::Sv48x4,
+        address: 0x481_4000_0000,
+        place: 0x2_0000,
+    },
+    Unread {
+        shape: Shape::Sv48,
+        address: ADDRESS_OF_FOUR,
+        place: 0x3_0038,
+    },
+    Unread {
+        shape: Shape::Sv48x4,
+        address: ADDRESS_OF_FOUR,
+        place: 0x3_0038,
+    },
 ];
 
 fn unread_is_right(case: &Unread) -> bool {
     let chain = Chain {
-        root: 0x8001,
+        top: 0x4001,
+        upper: 0x8001,
         middle: 0xC001,
         low: Err(UNREADABLE),
         otherwise: UNREADABLE,
@@ -705,7 +947,13 @@ fn unread_is_right(case: &Unread) -> bool {
         place: case.place,
         trap: UNREADABLE,
     };
-    walk(&chain, 0x10, case.shape, case.address, Access::Store) == end
+    walk(
+        &chain,
+        root_of(case.shape),
+        case.shape,
+        case.address,
+        Access::Store,
+    ) == end
 }
 
 #[test]
