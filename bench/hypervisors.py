@@ -5,10 +5,10 @@ of the other guest's spaces and entries. It prints each difference and what the 
 where a section differs or a run ends with another status than 0.
 
 An image is a hypervisor and one or two nested guests. The hypervisor goes through a list of deeds: it stores entries
-in its first-stage and second-stage tables (loops, roots outside RAM, wrong bits, superpages of every level), puts
-random words at mapped places, writes registers, delegates, fences in every form, sets timers, waits, makes HLV, HLVX
-and HSV, and enters VS, VU and U. Its trap handler puts on the console what trapped, from where, and a hash of the
-registers, and goes on with the next deed.
+in its first-stage and second-stage tables of three and four levels (loops, roots outside RAM, wrong bits, superpages
+of every level), puts random words at mapped places, writes registers, delegates, fences in every form, sets timers,
+waits, makes HLV, HLVX and HSV, and enters VS, VU and U. Its trap handler puts on the console what trapped, from where,
+and a hash of the registers, and goes on with the next deed.
 """
 # Usage: bench/hypervisors.py [--first SEED] [--count N] [--steps N] [--jobs N] [--program PATH] [--keep FOLDER]
 #   --first SEED, --count N  the images of N seeds from SEED on; 0 and 10,000 if left out
@@ -33,11 +33,14 @@ RAM = 0x80000000
 BLOCK = 2097152
 
 # Where things begin in RAM: the trap handler, the deeds, their constants, second-stage tables, first-stage tables,
-# nested code, data. MIDDLES are tables of level 1, LASTS of level 0.
+# nested code, data. MIDDLES are tables of level 1, LASTS of level 0. The second root of each stage may have four
+# levels; its table of level 2 is HIGH, and at the first stage the guest's page 23. OWN is satp's root of four levels.
 HANDLER = 0x200
 DEEDS = 0x400
 CONSTANTS, ROOTS, MIDDLES, LASTS = 0x8000, 0x10000, 0x18000, 0x1C000
 FIRSTS, CODE, DATA, END = 0x20000, 0x28000, 0x30000, 0x38000
+HIGH, OWN = 0x1A000, 0x1B000
+SV39, SV48 = 8, 9  # MODE of satp and vsatp; of hgatp Sv39x4 and Sv48x4
 
 SSTATUS, SIE, STVEC, SCOUNTEREN, SSCRATCH, SEPC, SCAUSE, STVAL, SIP, SATP = (
     0x100, 0x104, 0x105, 0x106, 0x140, 0x141, 0x142, 0x143, 0x144, 0x180)
@@ -119,6 +122,8 @@ class Maker:
         self.inputs = sorted((self.random.choice([self.random.randrange(20), self.random.randrange(4000)]),
                               self.random.randrange(256)) for _ in range(self.random.randrange(5)))
         self.wild = self.random.choice([0.01, 0.05, 0.25])
+        # MODE of the second root of each stage; the first root of each has three levels.
+        self.guest_mode, self.supervisor_mode = self.random.choice([SV39, SV48]), self.random.choice([SV39, SV48])
         # Whether hgatp and fences are left alone for the most part, so that spaces fill up.
         self.is_calm = self.random.random() < 0.5
         self.bytes = bytearray(END)
@@ -186,30 +191,38 @@ class Maker:
         pointer = lambda offset: (RAM + offset >> 12) << 10 | 1
         for n, root in enumerate((ROOTS, ROOTS + 0x4000)):
             middle, last = MIDDLES + 0x1000 * n, LASTS + 0x1000 * n
-            self.double(root, pointer(middle))
+            top = HIGH if n == 1 and self.guest_mode == SV48 else root
+            if top != root:
+                self.double(root, pointer(top))
+            self.double(top, pointer(middle))
             self.double(middle, pointer(last))
             if self.random.random() < 0.7:
-                self.double(root + 16, ram << 10 | 0xDF)
+                self.double(top + 16, ram << 10 | 0xDF)
             for page in range(32):
                 offset = ((CODE if page < 8 else DATA if page < 16 else FIRSTS) + 0x1000 * (page % 8) if page < 24
                           else LASTS + 0x1000 * (page % 4) if page < 28 else DEEDS & ~0xFFF)
                 value = self.entry(True) if self.is_wild() else (RAM + offset >> 12) << 10 | 0xDF
                 self.double(last + 8 * page, value)
             for _ in range(self.random.randrange(6)):
-                self.double(self.random.choice([root, middle, last]) + 8 * self.random.randrange(40), self.entry(True))
-        # First stage: two roots, at the guest's pages 16 and 17; next levels at 18 and 20.
+                self.double(self.random.choice([root, top, middle, last]) + 8 * self.random.randrange(40),
+                            self.entry(True))
+        # First stage: two roots, at the guest's pages 16 and 17; next levels at 23, 18 and 20.
         for n in range(2):
             user = n == 1
             root, middle, last = FIRSTS + 0x1000 * n, FIRSTS + 0x1000 * (2 + n), FIRSTS + 0x1000 * (4 + n)
-            self.double(root, (18 + n) << 10 | 1)
+            top = FIRSTS + 0x7000 if user and self.supervisor_mode == SV48 else root
+            if top != root:
+                self.double(root, 23 << 10 | 1)
+            self.double(top, (18 + n) << 10 | 1)
             self.double(middle, (20 + n) << 10 | 1)
-            self.double(root + 16, ram << 10 | 0xCF)
+            self.double(top + 16, ram << 10 | 0xCF)
             for page in range(32):
                 self.double(last + 8 * page, self.entry(user) if self.is_wild()
                             else page << 10 | (0xDF if user else 0xCF))
         # satp's own tables, with RAM as one superpage, so that the hypervisor goes on under them.
         self.double(FIRSTS + 0x6000 + 16, ram << 10 | 0xCF)
         self.double(FIRSTS + 0x6000, (ram + (FIRSTS + 0x4000 >> 12)) << 10 | 1)
+        self.double(OWN, pointer(FIRSTS + 0x6000))
 
     # nested guests
 
@@ -290,22 +303,24 @@ class Maker:
 
     def root_value(self):
         r = self.random
-        number = r.choice([RAM + ROOTS >> 12] * 12 + [RAM + ROOTS + 0x4000 >> 12] * 8
+        second = RAM + ROOTS + 0x4000 >> 12
+        number = r.choice([RAM + ROOTS >> 12] * 12 + [second] * 8
                           + [(RAM >> 12) + self.blocks * 512 - 4, RAM + MIDDLES >> 12, 0, self.page_number()])
-        mode = r.choice([8] * 30 + [0, 9])
+        mode = r.choice([self.guest_mode if number == second else SV39] * 30 + [0, SV39, SV48, 10])
         return mode << 60 | r.choice([0, 1, 1, 2, 3, 9, 127]) << 44 | number
 
     def own_root_value(self):
         r = self.random
-        return r.choice([0, 0, 8 << 60 | r.choice([0, 1, 0xFFFF]) << 44
-                         | r.choice([16] * 6 + [17] * 6 + [18, 31, 40, RAM + FIRSTS >> 12, self.page_number()])])
+        number = r.choice([16] * 6 + [17] * 6 + [18, 31, 40, RAM + FIRSTS >> 12, self.page_number()])
+        mode = r.choice([self.supervisor_mode if number == 17 else SV39] * 30 + [SV39, SV48, 10])
+        return r.choice([0, 0, mode << 60 | r.choice([0, 1, 0xFFFF]) << 44 | number])
 
     def pointer(self):
         r = self.random
         mapped = 0x1000 * r.choice([r.randrange(8, 16), r.randrange(32)]) + 8 * r.randrange(512)
         return r.choice([mapped] * 12 + [0x1000 * r.randrange(34), 0x1000 * r.randrange(16) + 0xFFC,
                                          RAM + r.randrange(END) & ~7, RAM + self.blocks * BLOCK - 8,
-                                         r.randrange(1 << 41) & ~7, r.randrange(1 << 64)])
+                                         r.randrange(1 << r.choice([41, 48, 50])) & ~7, r.randrange(1 << 64)])
 
     def enter(self):
         """Enters a nested guest, or U."""
@@ -335,8 +350,9 @@ class Maker:
         if pick < 0.30 or self.is_calm and 0.48 <= pick < 0.71 and r.random() < 0.9:
             self.enter()
         elif pick < 0.48:
-            table = r.choice([ROOTS, ROOTS + 0x4000, MIDDLES, MIDDLES + 0x1000, LASTS, LASTS, LASTS, LASTS + 0x1000,
-                              FIRSTS, FIRSTS + 0x1000, FIRSTS + 0x2000, FIRSTS + 0x4000, FIRSTS + 0x5000])
+            table = r.choice([ROOTS, ROOTS + 0x4000, HIGH, MIDDLES, MIDDLES + 0x1000, LASTS, LASTS, LASTS,
+                              LASTS + 0x1000, FIRSTS, FIRSTS + 0x1000, FIRSTS + 0x2000, FIRSTS + 0x4000,
+                              FIRSTS + 0x5000, FIRSTS + 0x7000])
             self.constant(5, self.entry(table < FIRSTS or r.random() < 0.5))
             slot = r.choice([0, 2, r.randrange(8), r.randrange(8, 32), r.randrange(8, 32), r.randrange(512)])
             self.constant(6, RAM + table + 8 * slot)
@@ -359,7 +375,7 @@ class Maker:
                 (SIE, r.choice([0, 0x222, 0x20, 2])), (SIP, r.choice([0, 2])), (VSTVEC, r.choice([0x7000, 0x7001])),
                 (VSSTATUS, r.randrange(1 << 20)), (HTIMEDELTA, r.randrange(1 << 64)), (HCOUNTEREN, r.choice([0, 2])),
                 (SCOUNTEREN, r.choice([0, 2])), (VSIE, 0x222),
-                (SATP, r.choice([0, 8 << 60 | RAM + FIRSTS + 0x6000 >> 12]))])
+                (SATP, r.choice([0, SV39 << 60 | RAM + FIRSTS + 0x6000 >> 12, SV48 << 60 | RAM + OWN >> 12]))])
             self.constant(5, value)
             self.words.append(write_csr(number, 5))
         elif pick < 0.84:

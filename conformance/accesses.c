@@ -1,5 +1,6 @@
 /* Accesses through both stages: each kind, in VS and VU or as HLV and HSV make them, under tables of
-   random leaves. */
+   random leaves. A stage of four levels (Sv48, Sv48x4) has the root of three levels as its table of level 2
+   for the lowest 512 GiB, and another one for the rest. */
 #include "case.h"
 
 enum { V = 1, R = 2, W = 4, X = 8, USER = 16, GLOBAL = 32, A = 64, D = 128, GOOD = V | R | W | X | A | D };
@@ -7,28 +8,31 @@ enum { V = 1, R = 2, W = 4, X = 8, USER = 16, GLOBAL = 32, A = 64, D = 128, GOOD
 #define RAM_END 0x80400000ul
 #define IMAGE 0x80000000ul
 #define TABLES 0x40000000ul     /* the guest physical address of IMAGE */
-#define SV39 (8ul << 60)
+#define TOP 39
 #define GIGAPAGE 30
 #define MEGAPAGE 21
 #define PAGE 12
 
 typedef u64 table[512] __attribute__((aligned(4096)));
 /* First stage: of the address that is accessed, and of the stubs, which have their own addresses. */
-static table root, middle, leaves, stub_middle, stub_leaves;
+static table root, middle, leaves, stub_middle, stub_leaves, wide_root, upper;
 /* Second stage: of data, of the first stage's tables, and of the stubs. */
 static u64 guest_root[2048] __attribute__((aligned(16384)));
-static table data_middle, data_leaves, table_middle, table_leaves, guest_stub_middle, guest_stub_leaves;
+static u64 wide_guest_root[2048] __attribute__((aligned(16384)));
+static table guest_upper, data_middle, data_leaves, table_middle, table_leaves;
+static table guest_stub_middle, guest_stub_leaves;
 
 static struct {
     const char *name;
     u64 address, reached;       /* where the access goes, and where it arrives if all leaves permit it */
     u32 word;
     enum mode mode;
-    u64 first_bytes, status, hypervisor, guest_status;
+    u64 first_bytes, status, hypervisor, guest_status, first_leaf, second_leaf;
     int first_level, second_level, size;
     bool is_bare, is_flat;      /* without the first stage; without the second */
+    bool is_wide, is_guest_wide;        /* with a first stage of four levels; with a second */
     bool stores, fetches, needs_dirty, is_misaligned, is_failing_sc, has_extension;
-    u64 root_index, page, guest_index, data_slot;
+    u64 root_top, root_index, page, guest_top, guest_index, data_slot;
 } c;
 
 static u64 leaf_at(u64 address, u64 bits) { return address >> PAGE << 10 | bits; }
@@ -116,8 +120,33 @@ static void choose_status(void)
     c.hypervisor = (once_in(2) ? HSTATUS_SPVP : 0) | (c.mode == U || once_in(2) ? HSTATUS_HU : 0);
     c.is_bare = once_in(8);
     c.is_flat = once_in(8);
-    c.first_level = once_in(2) ? 0 : below(3);
-    c.second_level = once_in(2) ? 0 : below(3);
+    c.is_wide = may_have(SV48) && once_in(2);
+    c.is_guest_wide = may_have(SV48) && once_in(2);
+    c.first_level = once_in(2) ? 0 : below(c.is_wide ? 4 : 3);
+    c.second_level = once_in(2) ? 0 : below(c.is_guest_wide ? 4 : 3);
+}
+
+/* The indices into the roots of four levels. The lowest 512 GiB have the stubs, so no leaf spans these; one
+   of 512 GiB maps an address to the place that its low bits are. */
+static void choose_tops(void)
+{
+    static const unsigned short guest_tops[8] = { 0, 1, 3, 255, 256, 511, 1024, 2047 };
+    static const unsigned short root_tops[6] = { 0, 1, 5, 255, 256, 511 };
+    if (c.is_guest_wide && !c.is_flat) {
+        c.guest_top = guest_tops[c.second_level == 3 ? 1 + below(7) : below(8)];
+        c.guest_index = c.second_level == 3 ? 2 : c.guest_index & 511;
+    }
+    if (c.is_wide && !c.is_bare) {
+        c.root_top = root_tops[c.first_level == 3 ? 1 + below(5) : below(6)];
+        if (c.first_level == 3)
+            c.root_index = c.guest_index & 511;
+    }
+}
+
+/* The lowest bit of an address that is no part of an index into a table, or the one below it. */
+static u64 first_free_bit(void)
+{
+    return c.is_bare ? (c.is_guest_wide && !c.is_flat ? 50 : 38) : c.is_wide ? 47 : 38;
 }
 
 /* The address, and the places that it goes through if each leaf is good. */
@@ -132,15 +161,16 @@ static void choose_address(void)
     c.page = below(512);
     c.guest_index = c.is_flat ? 2 : guest_indices[below(10)];
     c.root_index = root_indices[below(7)];
+    choose_tops();
     u64 guest_page = c.is_bare || c.first_level > 0 ? c.page : below(512);
     c.data_slot = guest_page;
     u64 reached = c.is_flat || c.second_level > 0 ? guest_page : below(512);
-    c.address = (c.is_bare ? c.guest_index : c.root_index) << GIGAPAGE | 1ul << MEGAPAGE | c.page << PAGE
-        | offset;
-    if (!c.is_bare && c.root_index >= 256)
-        c.address |= -1ul << 39;
+    c.address = (c.is_bare ? c.guest_top : c.root_top) << TOP
+        | (c.is_bare ? c.guest_index : c.root_index) << GIGAPAGE | 1ul << MEGAPAGE | c.page << PAGE | offset;
+    if (!c.is_bare && (c.is_wide ? c.root_top : c.root_index) >= 256)
+        c.address |= -1ul << (c.is_wide ? 48 : 39);
     if (once_in(64))
-        c.address ^= 1ul << (38 + below(26));
+        c.address ^= 1ul << (first_free_bit() + below(64 - first_free_bit()));
     c.reached = DATA + (reached << PAGE) + offset;
 }
 
@@ -178,31 +208,40 @@ static u64 named(u64 place)
     if (once_in(64))
         entry ^= 1ul << (once_in(4) ? 54 + below(7) : below(10));
     if (once_in(128))
-        entry = leaf_at(once_in(2) ? RAM_END : 0x1000, V);
+        entry = leaf_at(once_in(2) ? RAM_END : 0x1000000000, V);
     return entry;
 }
 
-/* A leaf to a block of this level: now and then outside RAM, or at a place that is no multiple of its
-   size. */
+/* A leaf to a block of this level: now and then outside RAM, also as a guest physical address, or at a place
+   that is no multiple of its size. None leads to the image itself. */
 static u64 block_leaf(u64 block, int level, u64 bits)
 {
     if (once_in(64))
-        block = once_in(2) ? 0x1000000000 : 0;
+        block = once_in(2) ? 0x1000000000 : RAM_END;
     if (level > 0 && once_in(32))
         block |= 1ul << (PAGE + below(9 * (u64)level));
     return leaf_at(block, bits);
 }
 
+/* The table of level 2 of the address, at each stage. */
+static u64 *second_table(void) { return c.root_top != 0 ? upper : root; }
+static u64 *guest_second_table(void) { return c.guest_top != 0 ? guest_upper : guest_root; }
+
 /* Writes the first stage's entries of the address. Gives the leaf. */
 static u64 write_first_stage(void)
 {
     u64 bits = changed(GOOD | (is_supervisor() && !once_in(3) ? 0 : USER), &c.has_extension);
-    u64 gigapage = c.guest_index << GIGAPAGE;
-    u64 block = c.first_level == 2 ? gigapage : gigapage + (1ul << MEGAPAGE);
+    u64 gigapage = c.guest_top << TOP | c.guest_index << GIGAPAGE;
+    u64 block = c.first_level == 3 ? gigapage >> TOP << TOP
+        : c.first_level == 2 ? gigapage : gigapage + (1ul << MEGAPAGE);
     if (c.first_level == 0)
         block += c.data_slot << PAGE;
     u64 leaf = block_leaf(block, c.first_level, bits);
-    root[c.root_index] = c.first_level == 2 ? leaf : named(guest_place(middle));
+    if (may_have(SV48) && once_in(64))      /* a guest physical address of 42 to 50 bits */
+        leaf ^= 1ul << (39 + below(9));
+    if (c.root_top != 0)
+        wide_root[c.root_top] = c.first_level == 3 ? leaf : named(guest_place(upper));
+    second_table()[c.root_index] = c.first_level == 2 ? leaf : named(guest_place(middle));
     middle[1] = c.first_level == 1 ? leaf : named(guest_place(leaves));
     leaves[c.page] = leaf;
     return leaf;
@@ -212,11 +251,13 @@ static u64 write_first_stage(void)
 static u64 write_second_stage(void)
 {
     u64 bits = changed(GOOD | USER, &c.has_extension);
-    u64 block = c.second_level == 2 ? IMAGE : DATA;
+    u64 block = c.second_level == 3 ? 0 : c.second_level == 2 ? IMAGE : DATA;
     if (c.second_level == 0)
         block = c.reached & ~0xFFFul;
     u64 leaf = block_leaf(block, c.second_level, bits);
-    guest_root[c.guest_index] = c.second_level == 2 ? leaf : named((u64)data_middle);
+    if (c.guest_top != 0)
+        wide_guest_root[c.guest_top] = c.second_level == 3 ? leaf : named((u64)guest_upper);
+    guest_second_table()[c.guest_index] = c.second_level == 2 ? leaf : named((u64)data_middle);
     data_middle[1] = c.second_level == 1 ? leaf : named((u64)data_leaves);
     data_leaves[c.data_slot] = leaf;
     return leaf;
@@ -241,11 +282,13 @@ static bool write_tables(void)
 {
     bool rests = false;
     if (!c.is_bare)
-        rests |= may_be_set(write_first_stage(), c.needs_dirty);
+        rests |= may_be_set(c.first_leaf = write_first_stage(), c.needs_dirty);
     if (!c.is_flat) {
-        rests |= may_be_set(write_second_stage(), c.needs_dirty);
+        rests |= may_be_set(c.second_leaf = write_second_stage(), c.needs_dirty);
         rests |= may_be_set(write_table_leaf(middle), false) && !c.is_bare;
         rests |= may_be_set(write_table_leaf(leaves), false) && !c.is_bare;
+        if (c.root_top != 0)
+            rests |= may_be_set(write_table_leaf(upper), false);
         u64 level = below(16);
         guest_root[1] = level == 2 ? leaf_at(IMAGE, GOOD | USER) : leaf_at((u64)table_middle, V);
         table_middle[0] = level == 1 ? leaf_at(IMAGE, GOOD | USER) : leaf_at((u64)table_leaves, V);
@@ -255,21 +298,29 @@ static bool write_tables(void)
     stub_middle[0] = leaf_at(guest_place(stub_leaves), V);
     stub_leaves[((u64)stub_user >> PAGE) & 511] = user;
     stub_leaves[((u64)stub_supervisor >> PAGE) & 511] = leaf_at((u64)stub_supervisor, GOOD);
+    wide_root[0] = leaf_at(guest_place(root), V);
     return rests;
 }
 
 static void clear_tables(void)
 {
+    wide_root[c.root_top] = upper[c.root_index] = 0;
     root[c.root_index] = middle[1] = leaves[c.page] = 0;
+    wide_guest_root[c.guest_top] = guest_upper[c.guest_index & 511] = 0;
     guest_root[c.guest_index] = data_middle[1] = data_leaves[c.data_slot] = 0;
     guest_root[2] = leaf_at((u64)guest_stub_middle, V);
+    wide_guest_root[0] = leaf_at((u64)guest_root, V);
 }
 
 static void write_registers(void)
 {
     write_csr(VSSTATUS, c.guest_status);
-    write_csr(VSATP, c.is_bare ? 0 : SV39 | guest_place(root) >> PAGE);
-    write_csr(HGATP, c.is_flat ? 0 : SV39 | (u64)guest_root >> PAGE);
+    u64 first = c.is_wide ? (u64)SV48 << 60 | guest_place(wide_root) >> PAGE
+        : (u64)SV39 << 60 | guest_place(root) >> PAGE;
+    u64 second = c.is_guest_wide ? (u64)SV48 << 60 | (u64)wide_guest_root >> PAGE
+        : (u64)SV39 << 60 | (u64)guest_root >> PAGE;
+    write_csr(VSATP, c.is_bare ? 0 : first);
+    write_csr(HGATP, c.is_flat ? 0 : second);
     write_csr(HEDELEG, once_in(3) ? 0xB0F9 : 0);
     write_csr(VSTVEC, stub_supervisor + 4);
     write_csr(VSCAUSE, 0);
@@ -293,13 +344,12 @@ static void tell(const char *choice)
     told(c.name);
     told(mode_names[c.mode]);
     told_number("at", c.address);
-    told(c.is_bare ? "bare" : "sv39");
+    told(c.is_bare ? "bare" : c.is_wide ? "sv48" : "sv39");
     told_number("level", (u64)c.first_level);
-    told(c.is_flat ? "flat" : "sv39x4");
+    told(c.is_flat ? "flat" : c.is_guest_wide ? "sv48x4" : "sv39x4");
     told_number("level", (u64)c.second_level);
-    told_number("leaf", c.is_bare ? 0 : c.first_level == 2 ? root[c.root_index] : leaves[c.page]);
-    told_number("leaf", c.is_flat ? 0 : c.second_level == 2 ? guest_root[c.guest_index]
-                : data_leaves[c.data_slot]);
+    told_number("leaf", c.first_leaf);
+    told_number("leaf", c.second_leaf);
     told_number("sstatus", c.status);
     told_number("vsstatus", c.guest_status);
     told_number("hstatus", c.hypervisor);

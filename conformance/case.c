@@ -1,7 +1,7 @@
 #include "case.h"
 
-extern u64 parameters[4];
-enum { SEED, FIRST, COUNT, BLOCK };
+extern u64 parameters[5];
+enum { SEED, FIRST, COUNT, BLOCK, MODES };
 
 const char *const mode_names[4] = { "HS", "U", "VS", "VU" };
 struct hart hart;
@@ -37,6 +37,14 @@ static void put_decimal(u64 number)
     put((char)('0' + number % 10));
 }
 
+/* gcc calls it to clear a structure. */
+void *memset(void *bytes, int byte, u64 count)
+{
+    for (u64 done = 0; done < count; done++)
+        ((char *)bytes)[done] = (char)byte;
+    return bytes;
+}
+
 static u64 mixed(u64 number)
 {
     number = (number ^ number >> 30) * 0xBF58476D1CE4E5B9;
@@ -51,6 +59,8 @@ u64 any(void)
 }
 
 u64 below(u64 bound) { return (any() >> 32) * bound >> 32; }
+
+bool may_have(u64 mode) { return parameters[MODES] >> mode & 1; }
 
 void told(const char *words)
 {

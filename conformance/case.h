@@ -49,6 +49,10 @@ u64 any(void);
 u64 below(u64 bound);
 static inline bool once_in(u64 bound) { return below(bound) == 0; }
 
+/* MODE of satp, vsatp and hgatp, and whether cases may have it. They may have Sv39 always. */
+enum { SV39 = 8, SV48 = 9 };
+bool may_have(u64 mode);
+
 /* The line of a case. `told` are words that say what it is; `got` is a value that the standard decides,
    `chosen` one that rests on a choice. */
 void told(const char *words);

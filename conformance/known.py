@@ -3,7 +3,6 @@ each. docs/conformance.md has a table of them, with the sections of the standard
 """
 import judge
 
-ADDRESS_BIT_40 = 1 << 38        # of htval
 IMPLICIT = "3000"
 
 
@@ -37,8 +36,9 @@ def has_guest_code(found):
     return codes(found) in (("5", "21"), ("7", "23"), ("1", "20"), ("7", "21"))
 
 
-def refuses_bit_40(found):
-    return codes(found)[1] in ("20", "21", "23") and value(found.actual, "htval") & ADDRESS_BIT_40 != 0 and (
+def refuses_top_bit(found):
+    htval_bit = (49 if "sv48x4" in found.head.split() else 40) - 2
+    return codes(found)[1] in ("20", "21", "23") and value(found.actual, "htval") >> htval_bit & 1 == 1 and (
         value(found.expected, "htval") == 0)
 
 
@@ -53,7 +53,7 @@ def reads_tables_by_mxr(found):
 def takes_other_mxr(found):
     has_mxr = (status(found, "sstatus") | status(found, "vsstatus")) & 1 << 19 != 0
     return is_class(found, "load", "lr", "hlv") and has_mxr and codes(found) in (
-        ("done", "13"), ("done", "5"), ("done", "21"), ("21", "done"), ("21", "13"), ("21", "5"))
+        ("done", "13"), ("done", "5"), ("done", "21"), ("21", "done"), ("21", "13"), ("21", "5"), ("5", "13"))
 
 
 def wants_read(found):
@@ -117,7 +117,7 @@ def is_illegal_instruction_in_vu(found):
 
 
 REASONS = {"QEMU 7.2": [("amo", reads_first), ("hlv-code", has_access_code), ("guest-code", has_guest_code),
-                        ("bit-40", refuses_bit_40), ("implicit", has_load_code), ("hlv-sum", leaves_out_sum),
+                        ("top-bit", refuses_top_bit), ("implicit", has_load_code), ("hlv-sum", leaves_out_sum),
                         ("mxr", takes_other_mxr), ("mxr", reads_tables_by_mxr), ("hlvx", wants_read),
                         ("vu", is_illegal_in_vu), ("vsstatus", holds_more), ("vsie", sets_bit_below),
                         ("vsip", hides_pending),

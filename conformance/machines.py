@@ -12,6 +12,11 @@ TOP = os.path.dirname(FOLDER)
 # How many cases of each family have a stored report, and how many cases a sum is of.
 FAMILIES = {"accesses": 131072, "registers": 131072, "interrupts": 65536, "traps": 65536}
 BLOCK = 4096
+# MODEs of translation that a machine may have, as --modes gives them: Sv39 and Sv39x4 alone, or Sv48 and
+# Sv48x4 too, as nesthv. A family in which cases differ by these has a report for each.
+MODES = {"8": (8,), "8,9": (8, 9)}
+OURS = MODES["8,9"]
+BY_MODES = {"accesses", "registers"}
 BASE, SHIM, RAM_END = 0x80000000, 0x80800000, 0x80400000
 PARAMETERS = 16
 # At the start of RAM, for machines that start there in M: a jump to the shim.
@@ -23,18 +28,21 @@ class Failed(Exception):
 
 
 class Plan(NamedTuple):
-    """What an image runs: `count` cases from number `first` on; a sum for each `block` of them, or lines."""
+    """What an image runs: `count` cases from number `first` on; a sum for each `block` of them, or lines.
+    `modes` are the MODEs of translation that the cases may have."""
     family: str
     seed: int
     first: int
     count: int
     block: int
+    modes: tuple = OURS
 
 
 def image_of(plan):
     with open(os.path.join(FOLDER, f"{plan.family}.bin"), "rb") as file:
         image = bytearray(file.read())
-    struct.pack_into("<4Q", image, PARAMETERS, plan.seed, plan.first, plan.count, plan.block)
+    modes = sum(1 << mode for mode in plan.modes)
+    struct.pack_into("<5Q", image, PARAMETERS, plan.seed, plan.first, plan.count, plan.block, modes)
     return bytes(image)
 
 

@@ -8,7 +8,7 @@ enum kind {
     ADDRESS,                    /* holds addresses that Sv39 has, of instructions */
     CAUSE,                      /* holds codes of traps */
     UNNAMED,                    /* holds modes of translation: 0, or one that no machine has */
-    TABLE,                      /* holds modes of translation: 0, or Sv39 (Sv39x4) with a table below 2^32 */
+    TABLE,                      /* holds modes of translation: 0, or one with a table below 2^32 */
     ONLY_READ,
     CLOCK                       /* is only read too, and what it reads is left out */
 };
@@ -69,6 +69,8 @@ static const struct known *entry_of(u64 number)
     return 0;
 }
 
+static u64 mode_of(u64 bits) { return may_have(SV48) && bits & 1 ? SV48 : SV39; }
+
 /* A value that a register of this kind holds, as far as that is a matter of the kind. */
 static u64 value_for(enum kind kind)
 {
@@ -78,7 +80,7 @@ static u64 value_for(enum kind kind)
     case ADDRESS: return (u64)((int64_t)(value << 25) >> 25) & ~3ul;
     case CAUSE: return value & 1 ? 1ul << 63 | (1 + (value & 4)) : codes[value >> 1 & 7];
     case UNNAMED: return value & 1 ? (1 + (value >> 1 & 3)) << 60 | (value >> 3 & 0xFFFFF) : 0;
-    case TABLE: return value & 1 ? 8ul << 60 | (value >> 1 & 0xFFFFC) : 0;
+    case TABLE: return value & 1 ? mode_of(value >> 24) << 60 | (value >> 1 & 0xFFFFC) : 0;
     default: return value;
     }
 }

@@ -13,6 +13,7 @@ parameters:
     .dword  0                   # the number of the first case
     .dword  16                  # how many cases
     .dword  0                   # cases a sum; 0: a line a case
+    .dword  1 << 8              # a bit for each MODE of translation that cases may have
 start:
     la      sp, stack_top
     call    main

@@ -101,6 +101,58 @@ class Cases(unittest.TestCase):
         self.assertEqual(sums[1:], NESTHV.lines(Plan("accesses", 1, 32, 64, 32)))
 
 
+class Modes(unittest.TestCase):
+    """Cases with Sv39 and Sv39x4 alone, and with Sv48 and Sv48x4 too."""
+
+    def test_cases_have_the_modes_that_are_asked_for(self):
+        for modes, names in (((8,), {"bare", "sv39", "flat", "sv39x4"}),
+                             ((8, 9), {"bare", "sv39", "sv48", "flat", "sv39x4", "sv48x4"})):
+            lines = NESTHV.lines(Plan("accesses", 1, 0, 512, 0, modes))
+            self.assertEqual({word for line in lines for word in stages(line)}, names)
+        for modes, tops in (((8,), {8}), ((8, 9), {8, 9})):
+            lines = [line for number in (0x280, 0x680) for line in register_lines(number, modes)]
+            written = {value >> 60 for value in map(read_back, lines)}
+            self.assertEqual(written - {0}, tops)
+
+    def test_a_machine_without_sv48_has_a_report(self):
+        for family in machines.FAMILIES:
+            names = [family, f"{family}-sv48"] if family in machines.BY_MODES else [family]
+            for name in names:
+                self.assertTrue(os.path.isfile(os.path.join(FOLDER, "reports", f"{name}.report")), name)
+
+    def test_upper_bits_of_an_address_are_those_of_its_mode(self):
+        """Where they are not copies of bit 38 (4.4.1), or of bit 47 (4.5.1), it is a page fault."""
+        faults, count = {"12", "13", "15"}, 0
+        for line in NESTHV.lines(Plan("accesses", 1, 0, 2048, 0, (8, 9))):
+            case = judge.parsed(line)
+            words = case.head.split()
+            bits = {"sv39": 39, "sv48": 48}.get(stages(line)[0])
+            if bits is None or case.choice == "misaligned":
+                continue
+            address = int(words[3], 16)
+            if address >> bits - 1 not in (0, (1 << 65 - bits) - 1):
+                self.assertIn(judge.outcome_of(case.values), faults, line)
+                count += 1
+        self.assertGreater(count, 20)
+
+
+def stages(line):
+    """The words of a case of `accesses` that say which tables its stages have."""
+    words = line.split()
+    at = words.index("at")
+    return words[at + 2], words[at + 5]
+
+
+def register_lines(number, modes):
+    """The lines of csrrw, csrrs and csrrc in HS on a register."""
+    return [line for operation in (1, 2, 3) for seed in range(12)
+            for line in NESTHV.lines(Plan("registers", seed, operation << 14 | number, 1, 0, modes))]
+
+
+def read_back(line):
+    return int(judge.parsed(line).values["holds"], 16)
+
+
 class Judge(unittest.TestCase):
     LINE = "3 lw VS at 1000 - : cause=15 tval=1000 epc=0 hstatus=3C0 vscause=0 vstval=0 ~htval=400 ~htinst=0"
 
@@ -145,6 +197,7 @@ class Files(unittest.TestCase):
         for words, said in ((["nothing"], "there is no family nothing"),
                             (["--first", "0"], "--first wants one family"),
                             (["--first", "-1", "accesses"], ""), (["--lines", "accesses"], "want --first"),
+                            (["--modes", "9", "accesses"], "--modes: invalid choice"),
                             (["--count", "x", "--first", "0", "accesses"], "x is no number")):
             ran = run(*words)
             self.assertEqual((ran.returncode, ran.stdout), (2, ""), words)

@@ -106,7 +106,7 @@ def are_pairs_wrong(inputs):
 
 
 def frames_of(guest):
-    return 512 * guest["blocks"] + 5 + guest["spaces"] * (4 + 2 * guest["entries"])
+    return 512 * guest["blocks"] + 5 + guest["spaces"] * (4 + 3 * guest["entries"])
 
 
 def turns_wrong(document, count):

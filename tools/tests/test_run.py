@@ -40,7 +40,7 @@ class RunTest(ToolTest):
         self.put("other", LETTER_REPORT[:-2] + b"B\n")
         self.assertEqual(self.tool("tools/run", "run", path).stdout, LETTER_REPORT)
         self.assertEqual(self.tool("tools/run", "check", path).stdout,
-                         b"guest a image 20 frames 553\nframes 553\n")
+                         b"guest a image 20 frames 569\nframes 569\n")
         self.assertEqual(self.tool("tools/run", "replay", path, "report").stdout, b"same\n")
         ran = self.tool("tools/run", "replay", path, "other")
         self.assertEqual((ran.returncode, ran.stdout), (6, b"differs at 32\n"))
@@ -56,7 +56,7 @@ class RunTest(ToolTest):
                                              "console": "A"}])
         self.assertEqual((answer["status"], answer["proved"]), (0, True))
         answer = json.loads(self.tool("tools/run", "check", "--json", "a.toml").stdout)
-        self.assertEqual(answer["output"], "guest a image 20 frames 553\nframes 553\n")
+        self.assertEqual(answer["output"], "guest a image 20 frames 569\nframes 569\n")
 
     def test_expect(self):
         path = self.configure()

@@ -110,7 +110,7 @@ class QemuVersionTest(ToolTest):
         os.chmod(failing, 0o755)
         ran = self.tool("tools/qemu-compare", variables={"QEMU": failing})
         self.check_plain(ran, 1)
-        self.assertEqual(ran.stdout.decode().splitlines()[-1], "same=0 known=0 wrong=0 failed=16")
+        self.assertEqual(ran.stdout.decode().splitlines()[-1], "same=0 known=0 wrong=0 failed=17")
 
     def test_no_qemu(self):
         ran = self.tool("tools/qemu-run", self.configure(), variables={"QEMU": "none"})
