@@ -12,7 +12,7 @@ use Rattle.nesthv_top.specs.declared.ends.Ended.TheVariants as ended
 use Rattle.nesthv_top.specs.declared.ends.Job.{Job}
 use Rattle.nesthv_top.specs.declared.ends.RunEnd.TheVariants.{WriteFault}
 use Rattle.nesthv_top.specs.Endings.{GrewBy, CountsIfRun, ReadsFrom, SaysOfAccount}
-use Rattle.nesthv_top.specs.Plans.{Plan, config_name, entries_of, plan_in, planned, run_of, steps_of, work_plan}
+use Rattle.nesthv_top.specs.Plans.{Plan, entries_of, planned, run_of, steps_of, work_plan}
 use Rattle.nesthv_top.specs.Runnings.{CountsTurns, IsAccountFor}
 use Rattle.nesthv_top.specs.Seen.{IsJob, plan_seen}
 use Rattle.nesthv_top.proofs.Turning.{few_entries, few_steps}
@@ -20,7 +20,7 @@ use Rattle.nesthv_top.proofs.Working.{all_bootable, few_turns, turns_within}
 
 -- the plan of a job is that of its command
 abbrev IsPlanned : Option Files → FileCommand → Job → Type 0
-IsPlanned told command job = (f : Files) → told ≡ Some f → planned f (config_name command) ≡ Ok (plan_seen job)
+IsPlanned told command job = (f : Files) → told ≡ Some f → planned f command ≡ Some (plan_seen job)
 
 -- few turns of short lengths take few entries and steps
 pub bounded : (count : ℕ) (plan : Plan) (old new : Counts) → length plan.turns ≤ 2 ^ 20 → All (IsTurnWithin count) plan.turns → All IsBootable plan.guests
@@ -52,9 +52,9 @@ job_bounded job old new is grew = bounded _ (plan_seen job) old new is.limits.tu
 pub counted : {A : Type 0} (told : Option Files) (command : FileCommand) (job : Job) (a : A) (old new : Counts) → IsPlanned told command job → IsJob job
     → IsAccountFor {A = A} command (plan_seen job) (Ok a) old new → SaysOfAccount told (Some (OnFiles command)) ended.Done old new
 counted told (Run config) job a old new is job_is grew =
-    ran told (OnFiles (Run config)) (plan_seen job) old new (λ f t. ap plan_in (is f t)) (λ other e. cc) (job_bounded job old new job_is grew) grew
+    ran told (OnFiles (Run config)) (plan_seen job) old new is (λ other e. cc) (job_bounded job old new job_is grew) grew
 counted told (Replay config report) job a old new is job_is grew =
-    ran told (OnFiles (Replay config report)) (plan_seen job) old new (λ f t. ap plan_in (is f t)) (λ other e. cc) (job_bounded job old new job_is grew) grew
+    ran told (OnFiles (Replay config report)) (plan_seen job) old new is (λ other e. cc) (job_bounded job old new job_is grew) grew
 counted told (Check config) job a old new is job_is same = record {
   run = λ f t. tt;
   idle = tt;

@@ -1,11 +1,12 @@
 pub mod Accounting
-pub mod Asking
 pub mod CheckLines
+pub mod CommandReads
 pub mod Comparing
 pub mod Framing
-pub mod Imaging
+pub mod GuestReads
 pub mod Reporting
 pub mod Sectioning
+pub mod StepLists
 pub mod Telling
 pub mod TurnEvents
 pub mod Turning

@@ -13,7 +13,12 @@ use Rattle.run_config.specs.declared.faults.ConfigFault.{ConfigFault}
 use Rattle.nesthv_top.specs.declared.ends.Ended.{Ended}
 use Rattle.nesthv_top.specs.declared.ends.Ended.TheVariants.{Done, Differs, NoCommand, Refused, ReadFault, WriteFault, NoMemory}
 use Rattle.nesthv_top.specs.Endings.{HasPlan, IfRefusedWith, IfRun, IsFor, IsOfCommand, IsRefusal, IsReplay, ReadsFrom, SaysOfCause, SaysOfOut, SaysOfReads, Tells, WithPlan}
-use Rattle.nesthv_top.specs.Plans.{AllRunAsWritten, Plan, config_name, fault_in, fault_of, plan_in, plan_of, planned}
+use Rattle.run_config.specs.Accept.{accept}
+use Rattle.run_config.specs.Configurations.{Configuration}
+use Rattle.nesthv_top.specs.Contents.{config_of}
+use Rattle.nesthv_top.specs.Plans.{AllRunAsWritten, Plan, fault_of, plan_if, plan_of, planned}
+use Rattle.nesthv_top.specs.Reads.{file_steps}
+use Rattle.nesthv_top.specs.Steps.{fault_in}
 use Rattle.nesthv_top.specs.Statuses.{ArePlain, IsDone, IsNoCommand, status_of, verdict_status}
 use Rattle.nesthv_top.specs.Texts.{found_of, found_with, text_of}
 
@@ -70,12 +75,13 @@ found O told command WriteFault old new e says = not_done 4 (omega arith) (omega
 found O told command (NoMemory n) old new e says = not_done 5 (omega arith) (omega arith) e
 
 -- a command with a plan has no fault
-one_of_both : (r : Result Plan ConfigFault) → IsSome (plan_in r) → IsSome (fault_in r) → ⊥
-one_of_both (Ok plan) some fault = cc
-one_of_both (Err found) some fault = cc
+one_of_both : (f : Files) (fault : Option ConfigFault) (accepted : Result Configuration ConfigFault) → IsSome (plan_if f fault accepted) → IsSome fault → ⊥
+one_of_both f None accepted some fault = cc
+one_of_both f (Some found) accepted some fault = cc
 
 not_both : (f : Files) (command : Option Command) → IsSome (plan_of f command) → IsSome (fault_of f command) → ⊥
-not_both f (Some (OnFiles command)) some fault = one_of_both (planned f (config_name command)) some fault
+unfolding planned
+not_both f (Some (OnFiles command)) some fault = one_of_both f (fault_in (file_steps f command)) (accept (config_of f command)) some fault
 not_both f (Some (Work seed size)) some fault = cc
 not_both f None some fault = cc
 

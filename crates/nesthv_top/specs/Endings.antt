@@ -17,7 +17,8 @@ use Rattle.nesthv_top.specs.declared.ends.Ended.TheVariants.{Done, Differs, NoCo
 use Rattle.nesthv_top.specs.Lines.{usage_line, configuration_line, read_line, write_line, memory_line}
 use Rattle.run_config.specs.declared.faults.ConfigFault.{ConfigFault}
 use Rattle.nesthv_top.specs.Plans.{AllRunAsWritten, Plan, fault_of, plan_of, run_of, entries_of, steps_of, events_of}
-use Rattle.nesthv_top.specs.Reads.{asks_of, most_reads, AskedMore, BeginsWithConfig, IsFailedRead, IsWanting}
+use Rattle.nesthv_top.specs.Reads.{asks_of, most_reads, steps_for, BeginsWithConfig}
+use Rattle.nesthv_top.specs.Steps.{AskedMore, IsFailed, IsWanting}
 use Rattle.nesthv_top.specs.Statuses.{ArePlain}
 use Rattle.nesthv_top.specs.Texts.{found_of, text_of}
 use Rattle.nesthv_top.specs.Written.{IsLinePut}
@@ -96,8 +97,8 @@ IsFirstRead S command other old new = BeginsWithConfig command (S.asked old) (S.
 -- the reads that were made: all that the command asks for, or the first ones where one failed or memory was
 -- wanting
 abbrev pub IsAsked : Ended → Files → Option Command → Option (List Ask) → Option (List Ask) → Type 0
-IsAsked (ReadFault n) files command before after = IsFailedRead n (asks_of files command) before after
-IsAsked (NoMemory n) files command before after = IsWanting n files command before after
+IsAsked (ReadFault n) files command before after = IsFailed (steps_for files command) 0 n before after
+IsAsked (NoMemory n) files command before after = IsWanting (steps_for files command) n before after
 IsAsked other files command before after = AskedMore (asks_of files command) before after
 
 -- what an end says of the store

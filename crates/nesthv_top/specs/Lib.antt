@@ -1,3 +1,4 @@
+pub mod Contents
 pub mod Endings
 pub mod Ends
 pub mod Lines
@@ -7,6 +8,7 @@ pub mod Reads
 pub mod Runnings
 pub mod Seen
 pub mod Statuses
+pub mod Steps
 pub mod Texts
 pub mod Works
 pub mod Written

@@ -1,48 +1,61 @@
--- What is known of guests whose images were read.
-use Rattle.std.specs.List.{All}
-use Rattle.std.specs.Prelude.{◌≡◌, ℕ, ◌-◌, ◌<◌, ◌≤◌, List, Some, None, length, take}
-use Rattle.guest_turns.specs.Limits.{IsBootable}
+-- What was read for guests, and the guests that are made of it.
+use Rattle.std.specs.Prelude.{⊤, ◌≡◌, ◌+◌, ◌≤◌, ℕ, List, [], ◌∷◌, Result, Ok, length, map}
+use Rattle.arch_defs.specs.Frames.{most_frames}
+use Rattle.command_line.specs.Commands.{FileCommand}
 use Rattle.guest_specs.specs.declared.guests.GuestSpec.{GuestSpec}
-use Rattle.outside.specs.Asks.{Ask}
+use Rattle.guest_specs.specs.declared.needs.Need.{Need}
+use Rattle.guest_specs.specs.Needs.{frames_needed}
 use Rattle.outside.specs.Files.{Files}
 use Rattle.run_config.specs.declared.guests.GuestSettings.{GuestSettings}
-use Rattle.std.specs.Prelude.{Option}
-use Rattle.nesthv_top.specs.declared.ends.LoadEnd.{LoadEnd}
-use Rattle.nesthv_top.specs.declared.ends.LoadEnd.TheVariants.{Refused, ReadFault, NoMemory}
-use Rattle.nesthv_top.specs.Plans.{guests_of, images_fault}
-use Rattle.nesthv_top.specs.Reads.{AskedMore, image_asks, IsFailedRead}
-use Rattle.nesthv_top.specs.Seen.{names_in, names_of_guests}
+use Rattle.run_config.specs.Accept.{accept}
+use Rattle.run_config.specs.Configurations.{Configuration, IsWithinLimits}
+use Rattle.nesthv_top.specs.declared.ends.GuestFiles.{GuestFiles}
+use Rattle.nesthv_top.specs.declared.ends.FilesRead.{FilesRead}
+use Rattle.nesthv_top.specs.Contents.{config_of, guest_of, guest_ram_size, image_of, stored_of}
 
--- a guest of these settings, and guests
-pub record IsLoaded (settings : GuestSettings) (guest : GuestSpec) : Type 0 where
-  pub name : guest.name ≡ settings.name
-  pub bootable : IsBootable guest
+-- what the files say for a guest, and for guests
+abbrev pub read_for : Files → GuestSettings → GuestFiles
+read_for files settings = record { image = image_of files settings }
 
-pub record AreLoaded (settings : List GuestSettings) (guests : List GuestSpec) : Type 0 where
-  pub names : names_of_guests guests ≡ names_in settings
-  pub bootable : All IsBootable guests
+abbrev pub all_read_for : Files → List GuestSettings → List GuestFiles
+all_read_for files settings = map (read_for files) settings
 
--- all images were read and fit, and these are the guests with them
-pub record AreRead (files : Files) (settings : List GuestSettings) (guests : List GuestSpec)
-    (before after : Option (List Ask)) : Type 0 where
-  pub fault : images_fault files 0 settings ≡ None
-  pub guests_are : guests ≡ guests_of files settings
-  pub asked : AskedMore (image_asks files settings) before after
+-- what was read passes the tests of its guest
+pub record IsFitting (settings : GuestSettings) (read : GuestFiles) : Type 0 where
+  pub image : length read.image ≤ guest_ram_size settings
 
--- memory was wanting after the reads of the first n images, which fit
-pub record IsShortOf (n : ℕ) (files : Files) (settings : List GuestSettings)
-    (before after : Option (List Ask)) : Type 0 where
-  pub more : n < length settings
-  pub number : n ≤ length (image_asks files settings)
-  pub fault : images_fault files 0 (take n settings) ≡ None
-  pub asked : AskedMore (take n (image_asks files settings)) before after
+-- the same of guests, one after the other
+unfoldable pub AreFitting : List GuestSettings → List GuestFiles → Type 0
+AreFitting [] [] = ⊤
+AreFitting [] (read ∷ rest) = ⊥
+AreFitting (settings ∷ others) [] = ⊥
+AreFitting (settings ∷ others) (read ∷ rest) = IsFitting settings read × AreFitting others rest
 
--- how the reads of images stopped; the configuration's read was the first of all reads
-abbrev pub ReadsStopped :
-    Files → List GuestSettings → LoadEnd → Option (List Ask) → Option (List Ask) → Type 0
-ReadsStopped files settings (Refused found) before after =
-    (images_fault files 0 settings ≡ Some found) × AskedMore (image_asks files settings) before after
-ReadsStopped files settings (ReadFault n) before after =
-    IsFailedRead (n - 1) (image_asks files settings) before after
-ReadsStopped files settings (NoMemory n) before after =
-    (1 ≤ n) × IsShortOf (n - 1) files settings before after
+-- a guest of these settings, with what was read for it, and guests
+abbrev pub guest_with : GuestSettings → GuestFiles → GuestSpec
+guest_with settings read = guest_of settings read.image
+
+unfoldable pub guests_with : List GuestSettings → List GuestFiles → List GuestSpec
+guests_with [] all_read = []
+guests_with (settings ∷ others) [] = []
+guests_with (settings ∷ others) (read ∷ rest) = guest_with settings read ∷ guests_with others rest
+
+-- what guests of these settings need of machine memory, and the frames of all of them
+abbrev pub need_by : GuestSettings → Need
+need_by settings = record { blocks = settings.blocks; spaces = settings.spaces; entries = settings.entries }
+
+abbrev pub frames_by : List GuestSettings → ℕ
+frames_by [] = 0
+frames_by (settings ∷ others) = frames_needed (need_by settings) + frames_by others
+
+-- all that was read for a command is what the files say
+pub record IsAllRead (files : Files) (command : FileCommand) (read : FilesRead) : Type 0 where
+  pub config : accept (config_of files command) ≡ Ok read.config
+  pub guests : read.guests.items ≡ all_read_for files read.config.guests
+  pub stored : read.stored.items ≡ stored_of files command
+
+-- it passed all tests
+pub record IsTested (read : FilesRead) : Type 0 where
+  pub limits : IsWithinLimits read.config
+  pub guests : AreFitting read.config.guests read.guests.items
+  pub frames : frames_by read.config.guests ≤ most_frames

@@ -1,137 +1,58 @@
 -- What a command does with the files: the guests that it runs, their turns, and the report.
-use Rattle.std.specs.Prelude.{ℕ, ◌≡◌, ◌+◌, ◌*◌, ◌<◌, ◌≤◌, List, [], ◌∷◌, ◌++◌, Option, Some, None, Result, Ok, Err, Bool, length, map, nat_le, sum_by, unwrap_or}
-use Rattle.arch_defs.specs.Frames.{most_frames}
-use Rattle.arch_defs.specs.Memory.{block_size}
+use Rattle.std.specs.Prelude.{ℕ, ◌≡◌, ◌+◌, ◌<◌, ◌≤◌, List, [], ◌∷◌, ◌++◌, Option, Some, None, Result, Ok, Err, length, map, sum_by}
 use Rattle.command_line.specs.Commands.{Command, FileCommand, OnFiles, Run, Replay, Check, Work}
-use Rattle.guest_turns.specs.Hosted.{machine_at}
-use Rattle.guest_turns.specs.Limits.{frames_for}
-use Rattle.machine_defs.specs.declared.events.Event.{Event}
 use Rattle.guest_specs.specs.declared.guests.GuestSpec.{GuestSpec}
+use Rattle.guest_turns.specs.Hosted.{machine_at}
+use Rattle.guest_turns.specs.TurnLists.{entries_for, own_events, own_steps}
+use Rattle.machine_defs.specs.declared.events.Event.{Event}
 use Rattle.machine_defs.specs.Fills.{missing_entry, ready}
 use Rattle.machine_defs.specs.FreeMachines.{IsArchitectural}
 use Rattle.machine_defs.specs.Freshness.{UsesFresh}
 use Rattle.machine_defs.specs.Machine.{Machine, start}
 use Rattle.machine_defs.specs.Report.{section_of}
 use Rattle.machine_defs.specs.Runs.{run}
-use Rattle.outside.specs.Files.{Files, read_of}
+use Rattle.outside.specs.Files.{Files}
 use Rattle.run_config.specs.declared.faults.ConfigFault.{ConfigFault}
-use Rattle.run_config.specs.declared.faults.ConfigFault.TheVariants as fault
-use Rattle.run_config.specs.declared.guests.GuestSettings.{GuestSettings}
 use Rattle.run_config.specs.Accept.{accept}
 use Rattle.run_config.specs.Configurations.{Configuration}
-use Rattle.run_config.specs.Tests.{first_fault, unless}
-use Rattle.guest_turns.specs.TurnLists.{entries_for, own_events, own_steps}
 use Rattle.turn_plan.specs.Turns.{rounds_of}
 use Rattle.work_images.specs.Guests as generated
-
--- the first bytes of a file; one that is not there counts as empty
-abbrev pub content : Files → List ℕ → ℕ → List ℕ
-content files name most = unwrap_or (read_of (files.bytes_of name) files.absent_is_empty most) []
-
--- at most how many bytes of a configuration are asked for, and of a guest's image: one more than may be
-abbrev pub config_most : ℕ
-config_most = 65537
-
-abbrev pub guest_ram_size : GuestSettings → ℕ
-guest_ram_size guest = guest.blocks * block_size
-
-abbrev pub image_most : GuestSettings → ℕ
-image_most guest = guest_ram_size guest + 1
-
--- what is read of a guest's image
-abbrev pub image_of : Files → GuestSettings → List ℕ
-image_of files guest = content files guest.image (image_most guest)
-
--- whether an image is not longer than its guest's RAM
-abbrev pub image_fits : GuestSettings → List ℕ → Bool
-image_fits guest image = nat_le (length image) (guest_ram_size guest)
-
--- the fault of an image that is longer: the guest's number, and how many bytes were read (own)
-abbrev pub image_fault : ℕ → GuestSettings → List ℕ → Option ConfigFault
-image_fault number guest image = unless (image_fits guest image) (fault.ImageLong number (length image))
-
--- the first fault of the images of guests, in their order, after so many other guests
-unfoldable pub images_fault : Files → ℕ → List GuestSettings → Option ConfigFault
-images_fault files before [] = None
-images_fault files before (guest ∷ rest) = first_fault (
-    image_fault before guest (image_of files guest)
-    ∷ images_fault files (before + 1) rest
-    ∷ [])
-
--- a guest of these settings, with its image
-abbrev pub guest_of : GuestSettings → List ℕ → GuestSpec
-guest_of settings image = record {
-  name = settings.name;
-  image = image;
-  blocks = settings.blocks;
-  spaces = settings.spaces;
-  entries = settings.entries;
-  console = settings.console;
-  inputs = settings.inputs;
-}
-
-abbrev pub guests_of : Files → List GuestSettings → List GuestSpec
-guests_of files guests = map (λ guest. guest_of guest (image_of files guest)) guests
-
--- the fault of guests that need more frames than machine memory has, which is 131,072 (own)
-abbrev pub frames_fault : List GuestSpec → Option ConfigFault
-frames_fault guests = unless (nat_le (frames_for guests) most_frames) (fault.Frames (frames_for guests))
+use Rattle.nesthv_top.specs.Contents.{config_of, guests_of}
+use Rattle.nesthv_top.specs.Reads.{file_steps, steps_for}
+use Rattle.nesthv_top.specs.Steps.{fault_in}
 
 -- guests, and their turns
 pub record Plan : Type 0 where
   pub guests : List GuestSpec
   pub turns : List (ℕ × ℕ)
 
--- the plan, unless there is a fault
-abbrev pub plan_unless_fault : Option ConfigFault → Plan → Result Plan ConfigFault
-plan_unless_fault None plan = Ok plan
-plan_unless_fault (Some found) plan = Err found
+-- the plan of a configuration
+abbrev pub plan_by : Files → Configuration → Plan
+plan_by files c = record { guests = guests_of files c.guests; turns = c.turns }
 
--- the plan of a configuration, or the first fault of its images, and then of its frames (own)
-unfoldable pub planned_by : Files → Configuration → Result Plan ConfigFault
-planned_by files c =
-    let guests = guests_of files c.guests in
-    plan_unless_fault (first_fault (images_fault files 0 c.guests ∷ frames_fault guests ∷ []))
-    (record { guests = guests; turns = c.turns })
+-- the same of a configuration that is accepted, unless a step found a fault
+abbrev pub plan_if : Files → Option ConfigFault → Result Configuration ConfigFault → Option Plan
+plan_if files None (Ok c) = Some (plan_by files c)
+plan_if files None (Err found) = None
+plan_if files (Some found) accepted = None
 
-abbrev pub planned_if : Files → Result Configuration ConfigFault → Result Plan ConfigFault
-planned_if files (Ok c) = planned_by files c
-planned_if files (Err found) = Err found
-
--- the plan of the configuration of this name, or its first fault
-unfoldable pub planned : Files → List ℕ → Result Plan ConfigFault
-planned files name = planned_if files (accept (content files name config_most))
-
--- the one and the other
-abbrev pub plan_in : Result Plan ConfigFault → Option Plan
-plan_in (Ok plan) = Some plan
-plan_in (Err found) = None
-
-abbrev pub fault_in : Result Plan ConfigFault → Option ConfigFault
-fault_in (Ok plan) = None
-fault_in (Err found) = Some found
-
--- the configuration that a command on files names
-abbrev pub config_name : FileCommand → List ℕ
-config_name (Run config) = config
-config_name (Replay config report) = config
-config_name (Check config) = config
+-- the plan of a command on files, where no step finds a fault
+unfoldable pub planned : Files → FileCommand → Option Plan
+planned files command = plan_if files (fault_in (file_steps files command)) (accept (config_of files command))
 
 -- the plan of a seed and a size: the four guests that they give, and as many rounds as each has commands, of
 -- 1,000 steps for each guest (own)
 abbrev pub work_plan : ℕ → ℕ → Plan
 work_plan seed size = record { guests = generated.guests seed size; turns = rounds_of 4 1000 size }
 
--- the plan of a command, and the first fault of its configuration
+-- the plan of a command, and the first fault of its steps
 abbrev pub plan_of : Files → Option Command → Option Plan
-plan_of files (Some (OnFiles command)) = plan_in (planned files (config_name command))
+plan_of files (Some (OnFiles command)) = planned files command
 plan_of files (Some (Work seed size)) = Some (work_plan seed size)
 plan_of files None = None
 
 abbrev pub fault_of : Files → Option Command → Option ConfigFault
-fault_of files (Some (OnFiles command)) = fault_in (planned files (config_name command))
-fault_of files (Some (Work seed size)) = None
-fault_of files None = None
+fault_of files command = fault_in (steps_for files command)
 
 -- the plan that a command runs: a check runs none
 abbrev pub run_of : Files → Option Command → Option Plan

@@ -8,6 +8,7 @@ use Rattle.run_config.specs.declared.guests.GuestSettings.{GuestSettings}
 use Rattle.run_config.specs.Configurations.{IsWithinLimits}
 use Rattle.nesthv_top.specs.declared.ends.Job.{Job}
 use Rattle.nesthv_top.specs.declared.ends.Loaded.{Loaded}
+use Rattle.nesthv_top.specs.Loads.{frames_by}
 use Rattle.nesthv_top.specs.Plans.{Plan}
 
 abbrev pub plan_with : List GuestSpec → List (ℕ × ℕ) → Plan
@@ -31,4 +32,5 @@ pub record IsJob (job : Job) : Type 0 where
   pub limits : IsWithinLimits job.config
   pub names : names_of_guests job.guests.items ≡ names_in job.config.guests
   pub guests : All IsBootable job.guests.items
-  pub frames : frames_for job.guests.items ≤ most_frames
+  pub frames : frames_for job.guests.items ≡ frames_by job.config.guests
+  pub few : frames_for job.guests.items ≤ most_frames

@@ -8,8 +8,8 @@ use Rattle.outside.specs.Files.{Files}
 use Rattle.replay.specs.Comparisons.{verdict_of}
 use Rattle.replay.specs.declared.comparisons.Verdict.{Verdict}
 use Rattle.replay.specs.declared.comparisons.Verdict.TheVariants.{Same, Differs}
-use Rattle.nesthv_top.specs.Plans.{Plan, content, report_of}
-use Rattle.nesthv_top.specs.Reads.{report_most}
+use Rattle.nesthv_top.specs.Contents.{stored_of}
+use Rattle.nesthv_top.specs.Plans.{Plan, report_of}
 use Rattle.nesthv_top.specs.Works.{work_text}
 
 -- the line that says what a guest needs: its name, how long its image is, and its frames of machine memory
@@ -22,22 +22,16 @@ abbrev pub guest_checks : List GuestSpec → List ℕ
 guest_checks [] = []
 guest_checks (guest ∷ rest) = guest_check guest ++ guest_checks rest
 
-unfoldable pub frames_check : List GuestSpec → List ℕ
-frames_check guests = codes "frames " ++ decimal (frames_for guests) ++ codes "\n"
+unfoldable pub frames_check : ℕ → List ℕ
+frames_check frames = codes "frames " ++ decimal frames ++ codes "\n"
 
 abbrev pub check_text : Plan → List ℕ
-check_text plan = guest_checks plan.guests ++ frames_check plan.guests
+check_text plan = guest_checks plan.guests ++ frames_check (frames_for plan.guests)
 
 -- the line that says a verdict
 unfoldable pub verdict_line : Verdict → List ℕ
 verdict_line Same = codes "same\n"
 verdict_line (Differs n) = codes "differs at " ++ decimal n ++ codes "\n"
-
--- what is read of the stored report that a command names
-abbrev pub stored_of : Files → FileCommand → List ℕ
-stored_of files (Run config) = []
-stored_of files (Replay config report) = content files report report_most
-stored_of files (Check config) = []
 
 -- what a command on files finds with this stored report: a replay whether the report differs from it, the
 -- others nothing that differs

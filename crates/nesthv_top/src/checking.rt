@@ -3,6 +3,8 @@
 ghost use Rattle.std.specs.Prelude.{◌≡◌, ◌≤◌, length, is_ok, OnErr};
 ghost use Rattle.std.specs.List.{All};
 ghost use Rattle.guest_turns.specs.Limits.{IsBootable};
+ghost use Rattle.run_config.specs.Configurations.{IsGuestWithin};
+ghost use Rattle.nesthv_top.specs.Loads.{frames_by};
 ghost use Rattle.outside.specs.Faults.{Rose};
 ghost use Rattle.outside.specs.Pieces.{Puts};
 ghost use Rattle.nesthv_top.specs.Seen.{plan_seen, IsJob};
@@ -15,6 +17,7 @@ use arrayvec::ArrayVec;
 use itoa::Buffer;
 use machine_defs::GuestSpec;
 use outside::{Sink, SinkFault};
+use run_config::GuestSettings;
 
 /// Puts what the guests of a job need, a line for each, and one for all.
 #[tactic(auto, using(outside::proofs::Pieces::pieces, crate::proofs::CheckLines::jobs))]
@@ -22,10 +25,8 @@ pub fn check<O: Sink>(job: &Job, out: &mut O) -> Result<(), SinkFault>
     requires { IsJob job.now }
     ensures { PutsText O.Sink result out.old out.new (check_text (plan_seen job.now)) }
 {
-    match put_guests(job.guests.as_slice(), out) {
-        Ok(()) => out.put(frames_line(job.guests.as_slice()).as_slice()),
-        Err(fault) => Err(fault),
-    }
+    put_guests(job.guests.as_slice(), out)?;
+    out.put(frames_line(job.config.guests()).as_slice())
 }
 
 // Puts the line of each guest, in order.
@@ -35,10 +36,7 @@ fn put_guests<O: Sink>(guests: &[GuestSpec], out: &mut O) -> Result<(), SinkFaul
     ensures { PutsText O.Sink result out.old out.new (guest_checks guests.now) }
 {
     for guest in guests {
-        match out.put(guest_line(guest).as_slice()) {
-            Ok(()) => {}
-            Err(fault) => return Err(fault),
-        }
+        out.put(guest_line(guest).as_slice())?;
     }
     Ok(())
 }
@@ -70,10 +68,10 @@ fn guest_line(guest: &GuestSpec) -> ArrayVec<u8, 128>
 
 // The line of all guests.
 #[tactic(auto, unfolding(crate::specs::Texts::frames_check))]
-fn frames_line(guests: &[GuestSpec]) -> ArrayVec<u8, 64>
+fn frames_line(guests: &[GuestSettings]) -> ArrayVec<u8, 64>
     requires few { length guests.now ≤ 16 }
-    requires each { All IsBootable guests.now }
-    ensures { result.items ≡ frames_check guests.now }
+    requires each { All IsGuestWithin guests.now }
+    ensures { result.items ≡ frames_check (frames_by guests.now) }
 {
     let mut digits = Buffer::new();
     let mut line = ArrayVec::new();

@@ -1,6 +1,12 @@
 // How the steps of a command end.
 
-use machine_defs::GuestSpec;
+ghost use Rattle.std.specs.Prelude.{◌≡◌};
+ghost use Rattle.nesthv_top.specs.Ends.{ended_by};
+ghost use Rattle.nesthv_top.specs.declared.ends.RunEnd.TheVariants as run_end;
+
+use machine_defs::{Bytes, GuestSpec};
+use no_memory::NoMemory;
+use outside::SinkFault;
 use run_config::{Config, ConfigFault};
 
 /// Why a configuration gave no job. Reads are numbered from 1; want of memory tells how many were made.
@@ -9,6 +15,21 @@ pub enum LoadEnd {
     Refused(ConfigFault),
     ReadFault(u64),
     NoMemory(u64),
+}
+
+/// What was read for a guest: its image.
+#[derive(Drop)]
+pub struct GuestFiles {
+    pub image: Bytes,
+}
+
+/// All that was read for a command: its configuration, what was read for each guest, and the stored report
+/// that it names, which is nothing where it names none.
+#[derive(Drop)]
+pub struct FilesRead {
+    pub config: Config,
+    pub guests: Vec<GuestFiles>,
+    pub stored: Vec<u8>,
 }
 
 /// Guests to be run, with the configuration that says their names and their turns.
@@ -33,6 +54,22 @@ pub enum RunEnd {
     WriteFault,
 }
 
+impl From<NoMemory> for RunEnd {
+    ghost from_gives = { λ _ end. end ≡ run_end.NoMemory };
+
+    fn from(_: NoMemory) -> RunEnd {
+        RunEnd::NoMemory
+    }
+}
+
+impl From<SinkFault> for RunEnd {
+    ghost from_gives = { λ _ end. end ≡ run_end.WriteFault };
+
+    fn from(_: SinkFault) -> RunEnd {
+        RunEnd::WriteFault
+    }
+}
+
 /// How a command ended. `Differs` is the end of a replay that found a difference, and wrote so.
 #[derive(Clone, Copy)]
 pub enum Ended {
@@ -43,4 +80,16 @@ pub enum Ended {
     ReadFault(u64),
     WriteFault,
     NoMemory(u64),
+}
+
+impl From<LoadEnd> for Ended {
+    ghost from_gives = { λ end ended. ended ≡ ended_by end };
+
+    fn from(end: LoadEnd) -> Ended {
+        match end {
+            LoadEnd::Refused(fault) => Ended::Refused(fault),
+            LoadEnd::ReadFault(number) => Ended::ReadFault(number),
+            LoadEnd::NoMemory(reads) => Ended::NoMemory(reads),
+        }
+    }
 }

@@ -7,6 +7,7 @@ mod lines;
 mod loading;
 mod obeying;
 mod programs;
+mod reads;
 mod replaying;
 mod running;
 mod top;

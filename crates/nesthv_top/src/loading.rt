@@ -1,29 +1,33 @@
-// From a configuration's name to the job that it describes.
+// What a command names is read and tested, and then its guests are made.
 
-ghost use Rattle.std.specs.Prelude.{◌≡◌, ◌+◌, ◌^◌, ◌<◌, ◌≤◌, [], ◌∷◌, Some, None, length, IfOk, IfErr, OnOk, OnErr};
+ghost use Rattle.std.specs.Prelude.{◌≡◌, ◌^◌, ◌<◌, ◌≤◌, [], ◌∷◌, Some, Ok, length, IfOk, OnOk};
 ghost use Rattle.std.specs.List.{All};
 ghost use Rattle.command_line.specs.Commands.{OnFiles};
 ghost use Rattle.command_line.specs.Seen.{file_command_seen};
-ghost use Rattle.guest_turns.specs.Limits.{IsBootable, frames_for};
+ghost use Rattle.guest_turns.specs.Limits.{IsBootable};
 ghost use Rattle.outside.specs.Faults.{Rose};
 ghost use Rattle.outside.specs.Files.{Files};
 ghost use Rattle.run_config.specs.Accept.{accept};
-ghost use Rattle.run_config.specs.Configurations.{Configuration, IsGuestWithin, IsWithinLimits};
-ghost use Rattle.nesthv_top.specs.Endings.{SaysOfReads};
-ghost use Rattle.nesthv_top.specs.Ends.{AnswersAs, added_all, added_of, ended_by, ended_of, IfNoMemory, IfReadFailed, IfLoadRefused};
-ghost use Rattle.nesthv_top.specs.Loads.{AreLoaded, AreRead, IsLoaded, ReadsStopped};
-ghost use Rattle.nesthv_top.specs.Plans.{config_most, config_name, content, frames_fault, guest_of, guest_ram_size, image_fault, image_of, planned};
-ghost use Rattle.nesthv_top.specs.Reads.{ask, config_of, image_ask, report_asks, AskedMore, AskedSome};
+ghost use Rattle.run_config.specs.Configurations.{IsGuestWithin, IsWithinLimits};
+ghost use Rattle.nesthv_top.specs.Contents.{config_name, config_of, guest_ram_size, image_of, stored_of};
+ghost use Rattle.nesthv_top.specs.Endings.{IsFirstRead, SaysOfReads};
+ghost use Rattle.nesthv_top.specs.Ends.{ended_of, IfReadFailed, Leaves};
+ghost use Rattle.nesthv_top.specs.Loads.{all_read_for, frames_by, guest_with, guests_with, need_by, read_for, AreFitting, IsAllRead, IsFitting, IsTested};
+ghost use Rattle.nesthv_top.specs.Plans.{planned};
+ghost use Rattle.nesthv_top.specs.Reads.{config_steps, file_steps, frames_fault, guest_steps, guests_steps, image_step, report_steps};
 ghost use Rattle.nesthv_top.specs.Seen.{loaded_plan, IsJob};
-ghost use Rattle.nesthv_top.specs.Texts.{stored_of};
+ghost use Rattle.nesthv_top.specs.Steps.{ArePassed, EndAs};
 
-use crate::ends::{Job, LoadEnd, Loaded};
+use crate::ends::{FilesRead, GuestFiles, Job, LoadEnd, Loaded};
+use crate::reads::Reads;
 use arch_defs::{BLOCK_SIZE, MOST_FRAMES};
 use command_line::FileRequest;
+use guest_specs::Need;
 use machine_defs::{Bytes, GuestSpec, Inputs, Name};
-use outside::{Store, StoreFault};
+use no_memory::NoMemory;
+use outside::Store;
 use run_config::{Config, ConfigFault, GuestSettings, ReadEnd};
-use std::alloc::{AllocError, Global};
+use std::alloc::Global;
 
 // At most how many bytes of a configuration are asked for: one more than it may have.
 const CONFIG_MOST: u64 = 65_537;
@@ -31,37 +35,68 @@ const CONFIG_MOST: u64 = 65_537;
 // At most how many bytes of a stored report are asked for, which are those that it is compared by.
 const REPORT_MOST: u64 = 33_554_432;
 
-/// Reads what is asked for: a configuration, its images, and for a replay the stored report.
+/// The job of a command: its guests, made of what the files say, and for a replay the stored report.
 pub fn load<S: Store>(
     alloc: Global,
     request: FileRequest<'_>,
+    reads: &mut Reads,
     store: &mut S,
 ) -> Result<Loaded, LoadEnd>
+    requires none { reads.old.made ≡ 0 }
     ensures reads { SaysOfReads S.Store (Some (OnFiles (file_command_seen request.entry))) (ended_of result)
         store.old store.new }
-    ensures cause { IfReadFailed result (λ n. Rose (S.faults store.old) (S.faults store.new)) }
-    ensures planned { (files : Files) → S.files store.old ≡ Some files
-        → AnswersAs loaded_plan result (planned files (config_name (file_command_seen request.entry))) }
-    ensures stored { (files : Files) → S.files store.old ≡ Some files
-        → IfOk result (λ loaded. loaded.stored.items ≡ stored_of files (file_command_seen request.entry)) }
+    ensures passed { (files : Files) → S.files store.old ≡ Some files → OnOk result (ArePassed
+        (file_steps files (file_command_seen request.entry)) 0 (S.asked store.old)
+        reads.new.made (S.asked store.new)) }
+    ensures some { OnOk result (1 ≤ reads.new.made) }
+    ensures cause { IfReadFailed result (Rose (S.faults store.old) (S.faults store.new)) }
+    ensures planned { (files : Files) → S.files store.old ≡ Some files → IfOk result (λ loaded.
+        planned files (file_command_seen request.entry) ≡ Some (loaded_plan loaded)) }
+    ensures stored { (files : Files) → S.files store.old ≡ Some files → IfOk result (λ loaded.
+        loaded.stored.items ≡ stored_of files (file_command_seen request.entry)) }
     ensures job { IfOk result (λ loaded. IsJob loaded.job) }
 {
-    let config = match read_config(alloc, request, store) {
-        Ok(config) => config,
-        Err(end) => return Err(end),
-    };
-    let guests = match read_guests(alloc, config.guests(), store) {
-        Ok(guests) => guests,
-        Err(end) => return Err(end),
-    };
-    let stored = match read_stored(alloc, request, config.guests().len() as u64, store) {
-        Ok(stored) => stored,
-        Err(end) => return Err(end),
-    };
-    match frames_fault(guests.as_slice()) {
-        Some(fault) => Err(LoadEnd::Refused(fault)),
-        None => Ok(Loaded {
+    let FilesRead {
+        config,
+        guests,
+        stored,
+    } = read_files(alloc, request, reads, store)?;
+    match guests_made(alloc, config.guests(), guests) {
+        Ok(guests) => Ok(Loaded {
             job: Job { config, guests },
+            stored,
+        }),
+        Err(NoMemory) => Err(reads.no_memory()),
+    }
+}
+
+// Reads all files that a command names, and makes all tests of them.
+fn read_files<S: Store>(
+    alloc: Global,
+    request: FileRequest<'_>,
+    reads: &mut Reads,
+    store: &mut S,
+) -> Result<FilesRead, LoadEnd>
+    requires none { reads.old.made ≡ 0 }
+    ensures ends { (files : Files) → S.files store.old ≡ Some files → EndAs
+        (file_steps files (file_command_seen request.entry)) 0 (S.asked store.old) result
+        reads.new.made (S.asked store.new) }
+    ensures first { IsFirstRead S.Store (Some (OnFiles (file_command_seen request.entry))) (ended_of result)
+        store.old store.new }
+    ensures read { (files : Files) → S.files store.old ≡ Some files
+        → IfOk result (IsAllRead files (file_command_seen request.entry)) }
+    ensures tested { IfOk result IsTested }
+    ensures some { OnOk result (1 ≤ reads.new.made) }
+    ensures leaves { Leaves S.Store 18 result store.old store.new 0 reads.new.made }
+{
+    let config = read_config(alloc, request, reads, store)?;
+    let guests = read_guests(alloc, config.guests(), reads, store)?;
+    let stored = read_stored(alloc, request, reads, store)?;
+    match frames_fault(config.guests()) {
+        Some(fault) => Err(LoadEnd::Refused(fault)),
+        None => Ok(FilesRead {
+            config,
+            guests,
             stored,
         }),
     }
@@ -82,195 +117,136 @@ fn config_name<'a>(request: FileRequest<'a>) -> &'a str
 fn read_config<S: Store>(
     alloc: Global,
     request: FileRequest<'_>,
+    reads: &mut Reads,
     store: &mut S,
 ) -> Result<Config, LoadEnd>
-    ensures accepted { (files : Files) → S.files store.old ≡ Some files
-        → AnswersAs (λ (c : Configuration). c) result
-        (accept (config_of files (file_command_seen request.entry))) }
+    requires none { reads.old.made ≡ 0 }
+    ensures ends { (files : Files) → S.files store.old ≡ Some files → EndAs
+        (config_steps files (file_command_seen request.entry)) 0 (S.asked store.old) result
+        reads.new.made (S.asked store.new) }
+    ensures first { IsFirstRead S.Store (Some (OnFiles (file_command_seen request.entry))) (ended_of result)
+        store.old store.new }
+    ensures accepted { (files : Files) → S.files store.old ≡ Some files → IfOk result (λ config.
+        accept (config_of files (file_command_seen request.entry)) ≡ Ok config) }
     ensures limits { IfOk result IsWithinLimits }
-    ensures asked { OnOk result (AskedMore
-        (ask (config_name (file_command_seen request.entry)) config_most ∷ [])
-        (S.asked store.old) (S.asked store.new)) }
-    ensures ended { IfErr result (λ end.
-        SaysOfReads S.Store (Some (OnFiles (file_command_seen request.entry))) (ended_by end)
-        store.old store.new) }
-    ensures cause { IfReadFailed result (λ n. Rose (S.faults store.old) (S.faults store.new)) }
-    ensures stays { S.files store.new ≡ S.files store.old }
-    ensures count { S.faults store.old ≤ S.faults store.new }
+    ensures some { OnOk result (1 ≤ reads.new.made) }
+    ensures leaves { Leaves S.Store 1 result store.old store.new 0 reads.new.made }
 {
-    let bytes = match store.read(alloc, config_name(request), CONFIG_MOST) {
-        Ok(bytes) => bytes,
-        Err(StoreFault::Failed) => return Err(LoadEnd::ReadFault(1)),
-        Err(StoreFault::NoMemory) => return Err(LoadEnd::NoMemory(0)),
-    };
+    let bytes = reads.read(alloc, store, config_name(request), CONFIG_MOST)?;
     match run_config::read(alloc, bytes.as_slice()) {
         Ok(config) => Ok(config),
         Err(ReadEnd::Refused(fault)) => Err(LoadEnd::Refused(fault)),
-        Err(ReadEnd::NoMemory) => Err(LoadEnd::NoMemory(1)),
+        Err(ReadEnd::NoMemory) => Err(reads.no_memory()),
     }
 }
 
-// Reads the images of guests, in their order, up to the first that does not fit.
+// Reads the files of guests, in their order, up to the first that fails its test.
 fn read_guests<S: Store>(
     alloc: Global,
     settings: &[GuestSettings],
+    reads: &mut Reads,
     store: &mut S,
-) -> Result<Vec<GuestSpec>, LoadEnd>
+) -> Result<Vec<GuestFiles>, LoadEnd>
     requires some { 1 ≤ length settings.now }
     requires few { length settings.now ≤ 16 }
+    requires early { reads.old.made ≤ 1 }
     requires each { All IsGuestWithin settings.now }
-    ensures read { (files : Files) → S.files store.old ≡ Some files → IfOk result (λ guests.
-        AreRead files settings.now guests.items (S.asked store.old) (S.asked store.new)) }
-    ensures stopped { (files : Files) → S.files store.old ≡ Some files → IfErr result (λ end.
-        ReadsStopped files settings.now end (S.asked store.old) (S.asked store.new)) }
-    ensures asked { AskedSome (S.asked store.old) (S.asked store.new) }
-    ensures loaded { IfOk result (λ guests. AreLoaded settings.now guests.items) }
-    ensures cause { IfReadFailed result (λ n. (2 ≤ n) × (n ≤ 17)
-        × Rose (S.faults store.old) (S.faults store.new)) }
-    ensures memory { IfNoMemory result (λ n. 1 ≤ n) }
-    ensures stays { S.files store.new ≡ S.files store.old }
-    ensures count { S.faults store.old ≤ S.faults store.new }
+    ensures ends { (files : Files) → S.files store.old ≡ Some files → EndAs
+        (guests_steps files 0 settings.now) reads.old.made (S.asked store.old) result
+        reads.new.made (S.asked store.new) }
+    ensures read { (files : Files) → S.files store.old ≡ Some files
+        → IfOk result (λ guests. guests.items ≡ all_read_for files settings.now) }
+    ensures fitting { IfOk result (λ guests. AreFitting settings.now guests.items) }
+    ensures leaves { Leaves S.Store 16 result store.old store.new reads.old.made reads.new.made }
 {
     let Ok(mut guests) = Vec::with_capacity(alloc, settings.len()) else {
-        return Err(LoadEnd::NoMemory(1));
+        return Err(reads.no_memory());
     };
     for i in 0..settings.len() {
-        match read_guest(alloc, &settings[i], i as u32, store) {
-            Ok(guest) => guests.push_reserved(guest),
-            Err(end) => return Err(end),
-        }
+        guests.push_reserved(read_guest(alloc, &settings[i], i as u32, reads, store)?);
     }
     Ok(guests)
 }
 
-// Reads the image of a guest, before which there are so many others.
+// Reads the files of a guest of this number.
 fn read_guest<S: Store>(
     alloc: Global,
     settings: &GuestSettings,
-    before: u32,
+    guest: u32,
+    reads: &mut Reads,
     store: &mut S,
-) -> Result<GuestSpec, LoadEnd>
+) -> Result<GuestFiles, LoadEnd>
+    requires few { reads.old.made ≤ 32 }
     requires limits { IsGuestWithin settings.now }
-    requires few { before < 16 }
-    ensures guest { (files : Files) → S.files store.old ≡ Some files → IfOk result (λ guest.
-        (guest ≡ guest_of settings.now (image_of files settings.now))
-        × (image_fault before settings.now (image_of files settings.now) ≡ None)) }
-    ensures refused { (files : Files) → S.files store.old ≡ Some files → IfLoadRefused result (λ found.
-        image_fault before settings.now (image_of files settings.now) ≡ Some found) }
-    ensures loaded { IfOk result (λ guest. IsLoaded settings.now guest) }
-    ensures asked { AskedMore (added_of (image_ask settings.now) result)
-        (S.asked store.old) (S.asked store.new) }
-    ensures cause { IfReadFailed result (λ n. (n ≡ before + 2)
-        × Rose (S.faults store.old) (S.faults store.new)) }
-    ensures memory { IfNoMemory result (λ n. n ≡ before + 1) }
-    ensures stays { S.files store.new ≡ S.files store.old }
-    ensures count { S.faults store.old ≤ S.faults store.new }
+    ensures ends { (files : Files) → S.files store.old ≡ Some files → EndAs
+        (guest_steps files guest settings.now) reads.old.made (S.asked store.old) result
+        reads.new.made (S.asked store.new) }
+    ensures read { (files : Files) → S.files store.old ≡ Some files
+        → IfOk result (λ read. read ≡ read_for files settings.now) }
+    ensures fitting { IfOk result (IsFitting settings.now) }
+    ensures leaves { Leaves S.Store 1 result store.old store.new reads.old.made reads.new.made }
 {
-    let (name, inputs) = match copied(alloc, settings) {
-        Ok(copied) => copied,
-        Err(_) => return Err(LoadEnd::NoMemory(before as u64 + 1)),
-    };
-    let image = match read_image(alloc, settings, before, store) {
-        Ok(image) => image,
-        Err(end) => return Err(end),
-    };
-    Ok(GuestSpec {
-        name,
-        image,
-        blocks: settings.blocks,
-        spaces: settings.spaces,
-        entries: settings.entries,
-        console: settings.console,
-        inputs,
-    })
+    let image = read_image(alloc, settings, guest, reads, store)?;
+    Ok(GuestFiles { image })
 }
 
-// The name and the inputs of a guest, copied.
-fn copied(alloc: Global, settings: &GuestSettings) -> Result<(Name, Inputs), AllocError>
-    ensures { IfOk result (λ copied. (copied.0 ≡ settings.now.name) × (copied.1 ≡ settings.now.inputs)) }
-{
-    let name = Vec::from_slice(alloc, settings.name.as_slice())?;
-    let inputs = Vec::from_slice(alloc, settings.inputs.as_slice())?;
-    Ok((Name::from_vec(name), Inputs::from_vec(inputs)))
-}
-
-// Reads the image of a guest; it takes no memory after the read.
+// Reads the image of a guest of this number.
 fn read_image<S: Store>(
     alloc: Global,
     settings: &GuestSettings,
-    before: u32,
+    guest: u32,
+    reads: &mut Reads,
     store: &mut S,
 ) -> Result<Bytes, LoadEnd>
+    requires few { reads.old.made ≤ 32 }
     requires limits { IsGuestWithin settings.now }
-    requires few { before < 16 }
+    ensures ends { (files : Files) → S.files store.old ≡ Some files → EndAs
+        (image_step files guest settings.now ∷ []) reads.old.made (S.asked store.old) result
+        reads.new.made (S.asked store.new) }
     ensures image { (files : Files) → S.files store.old ≡ Some files
         → IfOk result (λ image. image ≡ image_of files settings.now) }
-    ensures refused { (files : Files) → S.files store.old ≡ Some files → IfLoadRefused result (λ found.
-        image_fault before settings.now (image_of files settings.now) ≡ Some found) }
     ensures fits { IfOk result (λ image. length image ≤ guest_ram_size settings.now) }
-    ensures asked { AskedMore (added_of (image_ask settings.now) result)
-        (S.asked store.old) (S.asked store.new) }
-    ensures cause { IfReadFailed result (λ n. (n ≡ before + 2)
-        × Rose (S.faults store.old) (S.faults store.new)) }
-    ensures memory { IfNoMemory result (λ n. n ≡ before + 1) }
-    ensures stays { S.files store.new ≡ S.files store.old }
-    ensures count { S.faults store.old ≤ S.faults store.new }
+    ensures leaves { Leaves S.Store 1 result store.old store.new reads.old.made reads.new.made }
 {
     let size = settings.blocks * BLOCK_SIZE;
-    let number = before as u64;
-    let bytes = match store.read(alloc, settings.image.as_str(), size + 1) {
-        Ok(bytes) => bytes,
-        Err(StoreFault::Failed) => return Err(LoadEnd::ReadFault(number + 2)),
-        Err(StoreFault::NoMemory) => return Err(LoadEnd::NoMemory(number + 1)),
-    };
+    let bytes = reads.read(alloc, store, settings.image.as_str(), size + 1)?;
     if bytes.len() as u64 <= size {
         Ok(Bytes::from_vec(bytes))
     } else {
         Err(LoadEnd::Refused(ConfigFault::ImageLong {
-            guest: before,
+            guest,
             bytes: bytes.len() as u32,
         }))
     }
 }
 
-// Reads the stored report, if one is named, after the configuration and so many images.
+// Reads the stored report, if one is named.
 fn read_stored<S: Store>(
     alloc: Global,
     request: FileRequest<'_>,
-    images: u64,
+    reads: &mut Reads,
     store: &mut S,
 ) -> Result<Vec<u8>, LoadEnd>
-    requires { images ≤ 16 }
+    requires few { reads.old.made ≤ 33 }
+    ensures ends { EndAs (report_steps (file_command_seen request.entry)) reads.old.made (S.asked store.old)
+        result reads.new.made (S.asked store.new) }
     ensures stored { (files : Files) → S.files store.old ≡ Some files
         → IfOk result (λ stored. stored.items ≡ stored_of files (file_command_seen request.entry)) }
-    ensures asked { AskedMore (added_all (report_asks (file_command_seen request.entry)) result)
-        (S.asked store.old) (S.asked store.new) }
-    ensures named { OnErr result (1 ≤ length (report_asks (file_command_seen request.entry))) }
-    ensures refused { IfLoadRefused result (λ found. ⊥) }
-    ensures cause { IfReadFailed result (λ n. (n ≡ images + 2)
-        × Rose (S.faults store.old) (S.faults store.new)) }
-    ensures memory { IfNoMemory result (λ n. n ≡ images + 1) }
-    ensures stays { S.files store.new ≡ S.files store.old }
-    ensures count { S.faults store.old ≤ S.faults store.new }
+    ensures leaves { Leaves S.Store 1 result store.old store.new reads.old.made reads.new.made }
 {
-    let report = match request {
-        FileRequest::Run { .. } | FileRequest::Check { .. } => return Ok(Vec::new(alloc)),
-        FileRequest::Replay { report, .. } => report,
-    };
-    match store.read(alloc, report, REPORT_MOST) {
-        Ok(stored) => Ok(stored),
-        Err(StoreFault::Failed) => Err(LoadEnd::ReadFault(images + 2)),
-        Err(StoreFault::NoMemory) => Err(LoadEnd::NoMemory(images + 1)),
+    match request {
+        FileRequest::Run { .. } | FileRequest::Check { .. } => Ok(Vec::new(alloc)),
+        FileRequest::Replay { report, .. } => reads.read(alloc, store, report, REPORT_MOST),
     }
 }
 
 // The fault of guests that need more frames than machine memory has.
-fn frames_fault(guests: &[GuestSpec]) -> Option<ConfigFault>
-    requires few { length guests.now ≤ 16 }
-    requires each { All IsBootable guests.now }
-    ensures { result ≡ frames_fault guests.now }
+fn frames_fault(settings: &[GuestSettings]) -> Option<ConfigFault>
+    requires few { length settings.now ≤ 16 }
+    requires each { All IsGuestWithin settings.now }
+    ensures { result ≡ frames_fault (frames_by settings.now) }
 {
-    let sum = frames_for(guests);
+    let sum = frames_for(settings);
     if sum <= MOST_FRAMES {
         None
     } else {
@@ -279,15 +255,66 @@ fn frames_fault(guests: &[GuestSpec]) -> Option<ConfigFault>
 }
 
 /// The frames of machine memory that guests need.
-pub fn frames_for(guests: &[GuestSpec]) -> u64
-    requires few { length guests.now ≤ 16 }
-    requires each { All IsBootable guests.now }
-    ensures frames { result ≡ frames_for guests.now }
+pub fn frames_for(settings: &[GuestSettings]) -> u64
+    requires few { length settings.now ≤ 16 }
+    requires each { All IsGuestWithin settings.now }
+    ensures frames { result ≡ frames_by settings.now }
     ensures most { result ≤ 2 ^ 20 }
 {
     let mut sum = 0;
-    for guest in guests {
-        sum += guest.need().frames();
+    for guest in settings {
+        sum += need(guest).frames();
     }
     sum
+}
+
+// What a guest of these settings needs of machine memory.
+fn need(settings: &GuestSettings) -> Need
+    ensures { result ≡ need_by settings.now }
+{
+    Need {
+        blocks: settings.blocks,
+        spaces: settings.spaces,
+        entries: settings.entries,
+    }
+}
+
+// The guests of these settings, with what was read for each.
+fn guests_made(
+    alloc: Global,
+    settings: &[GuestSettings],
+    read: Vec<GuestFiles>,
+) -> Result<Vec<GuestSpec>, NoMemory>
+    requires few { length settings.now ≤ 16 }
+    requires fitting { AreFitting settings.now read.items }
+    ensures { IfOk result (λ guests. guests.items ≡ guests_with settings.now read.items) }
+{
+    let mut guests = Vec::with_capacity(alloc, settings.len())?;
+    let mut i = 0;
+    for files in read {
+        guests.push(guest_made(alloc, &settings[i], files)?)?;
+        i += 1;
+    }
+    Ok(guests)
+}
+
+// The guest of these settings, with what was read for it.
+fn guest_made(
+    alloc: Global,
+    settings: &GuestSettings,
+    read: GuestFiles,
+) -> Result<GuestSpec, NoMemory>
+    ensures { IfOk result (λ guest. guest ≡ guest_with settings.now read) }
+{
+    let name = Vec::from_slice(alloc, settings.name.as_slice())?;
+    let inputs = Vec::from_slice(alloc, settings.inputs.as_slice())?;
+    Ok(GuestSpec {
+        name: Name::from_vec(name),
+        image: read.image,
+        blocks: settings.blocks,
+        spaces: settings.spaces,
+        entries: settings.entries,
+        console: settings.console,
+        inputs: Inputs::from_vec(inputs),
+    })
 }

@@ -6,15 +6,15 @@ ghost use Rattle.command_line.specs.Seen.{file_command_seen};
 ghost use Rattle.outside.specs.Faults.{Rose};
 ghost use Rattle.nesthv_top.specs.Endings.{IfReadFault, IfRun, IfWriteFault, IsOfCommand, SaysOfAccount, SaysOfCause, SaysOfOut, SaysOfReads};
 ghost use Rattle.nesthv_top.specs.Plans.{AllRunAsWritten};
-ghost use Rattle.nesthv_top.specs.Reads.{report_asks};
 ghost use Rattle.nesthv_top.specs.Runnings.{HasRoom, IsAccountFor};
 ghost use Rattle.nesthv_top.specs.Seen.{plan_seen, IsJob};
 ghost use Rattle.nesthv_top.specs.Texts.{found_with, text_with};
 ghost use Rattle.nesthv_top.specs.Written.{Writes};
 
 use crate::checking::check;
-use crate::ends::{Ended, Job, LoadEnd, Loaded, RunEnd};
+use crate::ends::{Ended, Job, Loaded, RunEnd};
 use crate::loading::load;
+use crate::reads::Reads;
 use crate::replaying::replay;
 use crate::running::run;
 use crate::works::work;
@@ -71,28 +71,16 @@ fn answer<S: Store, O: Sink>(
     ensures account { SaysOfAccount (S.files store.old) (Some (OnFiles (file_command_seen request.entry)))
         result tally.old tally.new }
 {
-    let Loaded { job, stored } = match load(alloc, request, store) {
+    let mut reads = Reads::new();
+    let Loaded { job, stored } = match load(alloc, request, &mut reads, store) {
         Ok(loaded) => loaded,
-        Err(LoadEnd::Refused(fault)) => return Ended::Refused(fault),
-        Err(LoadEnd::ReadFault(number)) => return Ended::ReadFault(number),
-        Err(LoadEnd::NoMemory(reads)) => return Ended::NoMemory(reads),
+        Err(end) => return Ended::from(end),
     };
-    let reads = 1 + job.guests.as_slice().len() as u64 + reports_read(request);
     match perform(alloc, request, job, stored.as_slice(), out, tally) {
         Ok(Verdict::Same) => Ended::Done,
         Ok(Verdict::Differs(_)) => Ended::Differs,
         Err(RunEnd::WriteFault) => Ended::WriteFault,
-        Err(RunEnd::NoMemory) => Ended::NoMemory(reads),
-    }
-}
-
-// How many stored reports are read.
-fn reports_read(request: FileRequest<'_>) -> u64
-    ensures { result ≡ length (report_asks (file_command_seen request.entry)) }
-{
-    match request {
-        FileRequest::Run { .. } | FileRequest::Check { .. } => 0,
-        FileRequest::Replay { .. } => 1,
+        Err(RunEnd::NoMemory) => Ended::from(reads.no_memory()),
     }
 }
 
@@ -117,14 +105,14 @@ fn perform<O: Sink>(
     ensures machines { IfRun (OnFiles (file_command_seen request.entry)) (AllRunAsWritten (plan_seen job)) }
 {
     match request {
-        FileRequest::Run { .. } => match run(alloc, job, out, tally) {
-            Ok(()) => Ok(Verdict::Same),
-            Err(end) => Err(end),
-        },
+        FileRequest::Run { .. } => {
+            run(alloc, job, out, tally)?;
+            Ok(Verdict::Same)
+        }
         FileRequest::Replay { .. } => replay(alloc, job, stored, out, tally),
-        FileRequest::Check { .. } => match check(&job, out) {
-            Ok(()) => Ok(Verdict::Same),
-            Err(_) => Err(RunEnd::WriteFault),
-        },
+        FileRequest::Check { .. } => {
+            check(&job, out)?;
+            Ok(Verdict::Same)
+        }
     }
 }

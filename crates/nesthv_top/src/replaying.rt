@@ -36,15 +36,10 @@ pub fn replay<O: Sink>(
     ensures machines { AllRunAsWritten (plan_seen job) }
 {
     let mut compare = Compare::new(stored);
-    match run(alloc, job, &mut compare, tally) {
-        Ok(()) => {}
-        Err(end) => return Err(end),
-    }
+    run(alloc, job, &mut compare, tally)?;
     let verdict = compare.verdict();
-    match out.put(verdict_line(verdict).as_slice()) {
-        Ok(()) => Ok(verdict),
-        Err(_) => Err(RunEnd::WriteFault),
-    }
+    out.put(verdict_line(verdict).as_slice())?;
+    Ok(verdict)
 }
 
 // The line that says a verdict.

@@ -36,14 +36,8 @@ pub fn run<O: Sink>(alloc: Global, job: Job, out: &mut O, tally: &mut Tally) -> 
     ensures machines { AllRunAsWritten (plan_seen job) }
 {
     let Job { config, guests } = job;
-    let host = match hosted(alloc, guests, config.turns().as_slice(), tally) {
-        Ok(host) => host,
-        Err(_) => return Err(RunEnd::NoMemory),
-    };
-    match put_sections(&host, config.guests(), out) {
-        Ok(()) => Ok(()),
-        Err(_) => Err(RunEnd::WriteFault),
-    }
+    let host = hosted(alloc, guests, config.turns().as_slice(), tally)?;
+    Ok(put_sections(&host, config.guests(), out)?)
 }
 
 /// Boots guests, and makes their turns.
@@ -112,10 +106,7 @@ fn put_sections<O: Sink>(
             status: host.status(i as u32),
             steps: host.steps(i as u32),
         };
-        match section(&line, host.console(i as u32), out) {
-            Ok(()) => {}
-            Err(fault) => return Err(fault),
-        }
+        section(&line, host.console(i as u32), out)?;
     }
     Ok(())
 }

@@ -49,14 +49,8 @@ pub fn work<O: Sink>(
     ensures account { IsAccountOf (work_plan seed size) result tally.old tally.new }
     ensures machines { AllRunAsWritten (work_plan seed size) }
 {
-    let host = match generated(alloc, seed, size, tally) {
-        Ok(host) => host,
-        Err(_) => return Err(RunEnd::NoMemory),
-    };
-    match put_work(seed, size, &host, out) {
-        Ok(()) => Ok(()),
-        Err(_) => Err(RunEnd::WriteFault),
-    }
+    let host = generated(alloc, seed, size, tally)?;
+    Ok(put_work(seed, size, &host, out)?)
 }
 
 // The guests of a seed and a size, after their turns.
@@ -98,10 +92,8 @@ fn put_work<O: Sink>(seed: u64, size: u64, host: &Host, out: &mut O) -> Result<(
     ensures { PutsText O.Sink result out.old out.new
         (work_heading seed size ++ lines_of host.now.machines) }
 {
-    match out.put(heading(seed, size).as_slice()) {
-        Ok(()) => put_lines(host, out),
-        Err(fault) => Err(fault),
-    }
+    out.put(heading(seed, size).as_slice())?;
+    put_lines(host, out)
 }
 
 // Puts the line of each guest, in order.
@@ -112,10 +104,7 @@ fn put_lines<O: Sink>(host: &Host, out: &mut O) -> Result<(), SinkFault>
     for i in 0..GUESTS {
         let g = i as u32;
         let line = sum_line(i, host.status(g), host.steps(g), host.console(g));
-        match out.put(line.as_slice()) {
-            Ok(()) => {}
-            Err(fault) => return Err(fault),
-        }
+        out.put(line.as_slice())?;
     }
     Ok(())
 }

@@ -1,21 +1,37 @@
-use Rattle.std.proofs.Common.{◌≡◌, Err, ◌∙◌, ap}
+use Rattle.std.proofs.Common.{rules, ◌≡◌, ◌∙◌, ◌+◌, Err, ap}
+use Rattle.nesthv_top.specs.declared.ends.LoadEnd.TheVariants.{NoMemory}
 use Rattle.command_line.specs.Seen.{file_command_seen}
-use Rattle.run_config.specs.Accept.{accept}
-use Rattle.nesthv_top.proofs.Asking.{config_stop, config_wanting, wanting_text}
+use Rattle.nesthv_top.proofs.CommandReads.{config_passed, config_refused, config_short, config_stopped, text_tested}
 use Rattle.nesthv_top.proofs.loading.read_config.Goals as goal
 
-pub returns-in-Err-Refused-clause-ended : goal.returns-in-Err-Refused-clause-ended
-returns-in-Err-Refused-clause-ended g c =
-    let read = c.in-Ok.ensures in
-    let refused = rw c.in-Err-Refused.field-0-is at c.in-Err-Refused.ensures.refused in
-    let here : accept c.in-Ok.bytes.items ≡ Err c.in-Err-Refused.fault = rw (← c.as_slice.ensures.value) refused in
-    config_stop g.S.Store (file_command_seen c.args.request) c.in-Ok.bytes.items c.in-Err-Refused.fault _ _ (rw c.config_name.ensures at read.bytes) here
-    (rw c.config_name.ensures at read.asked) read.stays read.count
+pub returns-in_err-bytes-clause-ends : goal.returns-in_err-bytes-clause-ends
+returns-in_err-bytes-clause-ends g c = λ files told.
+    let is : c.from_residual.result ≡ Err c.in_err-bytes.field-0.0 = search rules in
+    rw is (config_stopped files (file_command_seen c.args.request) c.in_err-bytes.field-0.0 (g.S.Store.asked c.args.store.now) (g.S.Store.asked c.read.new.store)
+    (rw (c.requires.none, c.config_name.ensures) at c.in_err-bytes.ensures.read))
 
-pub returns-clause-ended : goal.returns-clause-ended
-returns-clause-ended g c =
-    let read = c.in-Ok.ensures in
-    let text = wanting_text c.in-Ok.bytes.items c.read-2.result (rw c.as_slice.ensures.value at c.read-2.ensures.too_long) (rw c.as_slice.ensures.value at c.read-2.ensures.no_text)
-    (c.in-Err-NoMemory-read.is ∙ ap Err c.in-Err-NoMemory-read.field-0-is) in
-    config_wanting g.S.Store (file_command_seen c.args.request) c.in-Ok.bytes.items _ _ (rw c.config_name.ensures at read.bytes) text
-    (rw c.config_name.ensures at read.asked) read.stays read.count
+pub returns-in-Ok-clause-ends : goal.returns-in-Ok-clause-ends
+returns-in-Ok-clause-ends g c = λ files told.
+    let read = c.in_ok-bytes.ensures in
+    let bytes = rw c.config_name.ensures at (read.bytes files told) in
+    let text = text_tested c.in_ok-bytes.bytes.items c.read-2.result (rw c.as_slice.ensures.value at c.read-2.ensures.too_long) (rw c.as_slice.ensures.value at c.read-2.ensures.no_text) in
+    config_passed files (file_command_seen c.args.request) c.in-Ok.config c.read-2.result c.in-Ok.config c.read.new.self.made (g.S.Store.asked c.args.store.now) (g.S.Store.asked c.read.new.store)
+    (rw bytes at text) c.in-Ok.is (rw (c.as_slice.ensures.value, bytes) at c.in-Ok.ensures.accepted) (rw (c.requires.none, c.config_name.ensures) at read.read)
+
+pub returns-in-Err-Refused-clause-ends : goal.returns-in-Err-Refused-clause-ends
+returns-in-Err-Refused-clause-ends g c = λ files told.
+    let read = c.in_ok-bytes.ensures in
+    let bytes = rw c.config_name.ensures at (read.bytes files told) in
+    let text = text_tested c.in_ok-bytes.bytes.items c.read-2.result (rw c.as_slice.ensures.value at c.read-2.ensures.too_long) (rw c.as_slice.ensures.value at c.read-2.ensures.no_text) in
+    config_refused files (file_command_seen c.args.request) c.in-Err-Refused.fault c.read-2.result (g.S.Store.asked c.args.store.now) (g.S.Store.asked c.read.new.store)
+    (rw bytes at text) (c.in-Err-Refused.is ∙ ap Err c.in-Err-Refused.field-0-is)
+    (rw (c.as_slice.ensures.value, bytes) at (rw c.in-Err-Refused.field-0-is at c.in-Err-Refused.ensures.refused)) (rw c.config_name.ensures at read.read).1
+
+pub returns-clause-ends : goal.returns-clause-ends
+returns-clause-ends g c = λ files told.
+    let read = c.in_ok-bytes.ensures in
+    let bytes = rw c.config_name.ensures at (read.bytes files told) in
+    let text = text_tested c.in_ok-bytes.bytes.items c.read-2.result (rw c.as_slice.ensures.value at c.read-2.ensures.too_long) (rw c.as_slice.ensures.value at c.read-2.ensures.no_text) in
+    let is : c.no_memory.result ≡ NoMemory 1 = c.no_memory.ensures ∙ ap NoMemory (read.read.0 ∙ ap (λ n. n + 1) c.requires.none) in
+    rw is (config_short files (file_command_seen c.args.request) c.read-2.result (g.S.Store.asked c.args.store.now) (g.S.Store.asked c.read.new.store)
+    (rw bytes at text) (c.in-Err-NoMemory.is ∙ ap Err c.in-Err-NoMemory.field-0-is) (rw c.config_name.ensures at read.read).1)

@@ -1,9 +1,11 @@
+use Rattle.std.proofs.Common.{rules, ◌≡◌}
+use Rattle.nesthv_top.specs.declared.ends.Ended.TheVariants.{NoMemory}
 use Rattle.command_line.specs.Commands.{OnFiles}
 use Rattle.command_line.specs.Seen.{file_command_seen}
 use Rattle.replay.specs.declared.comparisons.Verdict.TheVariants.{Same}
 use Rattle.nesthv_top.specs.Seen.{plan_seen}
 use Rattle.nesthv_top.proofs.Accounting.{counted, counted_differing, counted_in_part}
-use Rattle.nesthv_top.proofs.Asking.{late_wanting}
+use Rattle.nesthv_top.proofs.CommandReads.{wanting_says}
 use Rattle.nesthv_top.proofs.Telling.{differing}
 use Rattle.nesthv_top.proofs.obeying.answer.Goals as goal
 
@@ -20,7 +22,7 @@ returns-in-Ok-Differs-clause-account g c =
 
 pub returns-in-Ok-Differs-clause-command : goal.returns-in-Ok-Differs-clause-command
 returns-in-Ok-Differs-clause-command g c =
-    differing (file_command_seen c.args.request) c.as_slice-2.result.now (plan_seen c.in-Ok.loaded.job) _
+    differing (file_command_seen c.args.request) c.as_slice.result.now (plan_seen c.in-Ok.loaded.job) _
     (rw c.in-Ok-Differs.field-0-is at c.in-Ok-Differs.ensures.found)
 
 pub returns-in-Err-WriteFault-clause-account : goal.returns-in-Err-WriteFault-clause-account
@@ -30,6 +32,5 @@ returns-in-Err-WriteFault-clause-account g c =
 
 pub returns-clause-reads : goal.returns-clause-reads
 returns-clause-reads g c =
-    rw c.as_slice.ensures.value
-    (late_wanting g.S.Store (file_command_seen c.args.request) (plan_seen c.in-Ok.loaded.job) c.reports_read.result c.args.store.now c.load.new.store
-    c.in-Ok.ensures.planned c.reports_read.ensures c.in-Ok.ensures.reads)
+    let is : c.from-in-Err-NoMemory.result ≡ NoMemory c.load.new.reads.made = search rules in
+    rw is (wanting_says g.S.Store (file_command_seen c.args.request) c.load.new.reads.made c.args.store.now c.load.new.store c.in-Ok.ensures.some c.in-Ok.ensures.passed c.in-Ok.ensures.reads)

@@ -2,10 +2,11 @@ use Rattle.std.proofs.Common.{◌≡◌, Some, subst, sym}
 use Rattle.command_line.specs.Commands.{OnFiles, Work, command_of}
 use Rattle.command_line.specs.Seen.{IsWork, file_command_seen}
 use Rattle.nesthv_top.specs.declared.ends.Ended.TheVariants.{Done, NoMemory, WriteFault}
-use Rattle.nesthv_top.specs.Endings.{SaysOfAccount}
+use Rattle.nesthv_top.specs.Endings.{SaysOfAccount, SaysOfReads}
 use Rattle.nesthv_top.specs.Plans.{work_plan}
 use Rattle.nesthv_top.specs.Runnings.{CountsTurns}
 use Rattle.nesthv_top.proofs.Accounting.{counted_work, in_part}
+use Rattle.nesthv_top.proofs.CommandReads.{nothing_read, work_done, work_unwritten}
 use Rattle.nesthv_top.proofs.Telling.{is_for}
 use Rattle.nesthv_top.proofs.obeying.obey.Goals as goal
 
@@ -44,3 +45,23 @@ returns-in-Err-NoMemory-clause-cause g c =
     let is : Some (Work seed size) ≡ command_of c.args.words.now
     = rw c.in-Ok-Some-Work.field-0-0-is at (rw c.in-Ok-Some-Work.field-0-is at c.in-Ok-Some-Work.ensures.request) in
     record { words = is_for c.args.words.now (Work seed size) (NoMemory 0) (sym is) tt; read = tt; write = tt }
+
+pub returns-in-Ok-clause-reads : goal.returns-in-Ok-clause-reads
+returns-in-Ok-clause-reads g c =
+    let seed = c.in-Ok-Some-Work.seed in let size = c.in-Ok-Some-Work.size in
+    let is : Some (Work seed size) ≡ command_of c.args.words.now
+    = rw c.in-Ok-Some-Work.field-0-0-is at (rw c.in-Ok-Some-Work.field-0-is at c.in-Ok-Some-Work.ensures.request) in
+    subst (λ command. SaysOfReads g.S.Store command Done c.args.store.now c.args.store.now) is (work_done g.S.Store seed size c.args.store.now)
+
+pub returns-in-Err-WriteFault-clause-reads : goal.returns-in-Err-WriteFault-clause-reads
+returns-in-Err-WriteFault-clause-reads g c =
+    let seed = c.in-Ok-Some-Work.seed in let size = c.in-Ok-Some-Work.size in
+    let is : Some (Work seed size) ≡ command_of c.args.words.now
+    = rw c.in-Ok-Some-Work.field-0-0-is at (rw c.in-Ok-Some-Work.field-0-is at c.in-Ok-Some-Work.ensures.request) in
+    subst (λ command. SaysOfReads g.S.Store command WriteFault c.args.store.now c.args.store.now) is (work_unwritten g.S.Store seed size c.args.store.now)
+
+pub returns-in-Err-NoMemory-clause-reads : goal.returns-in-Err-NoMemory-clause-reads
+returns-in-Err-NoMemory-clause-reads g c = nothing_read g.S.Store (command_of c.args.words.now) c.args.store.now
+
+pub returns-in-Err-clause-reads : goal.returns-in-Err-clause-reads
+returns-in-Err-clause-reads g c = nothing_read g.S.Store (command_of c.args.words.now) c.args.store.now

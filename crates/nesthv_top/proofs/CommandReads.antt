@@ -1,0 +1,389 @@
+-- The reads of a whole command, and what its ends say of them.
+use Rattle.std.specs.List.{All}
+use Rattle.std.proofs.Common.{◌≡◌, ◌∙◌, ◌⊎◌, inl, inr, ℕ, zero, suc, ◌+◌, ◌<◌, ◌≤◌, List, [], ◌∷◌, ◌++◌, Option, Some, None, Result, Ok, Err, Bool, true, false, nat_le, length, map, refl, ap, sym, subst, arith, append_assoc}
+use Rattle.std.specs.Str.{is_utf8}
+use Rattle.arch_defs.specs.Frames.{most_frames}
+use Rattle.command_line.specs.Commands.{Command, FileCommand, OnFiles, Run, Replay, Check, Work}
+use Rattle.std.specs.Borrow.{Bor}
+use Rattle.command_line.specs.declared.commands.FileRequest.{FileRequest}
+use Rattle.command_line.specs.declared.commands.FileRequest.TheVariants as request
+use Rattle.command_line.specs.Seen.{file_command_seen}
+use Rattle.guest_turns.specs.Limits.{IsBootable, frames_for}
+use Rattle.outside.specs.declared.stores.Store as stores
+use Rattle.outside.specs.Asks.{Ask}
+use Rattle.outside.specs.Faults.{Rose}
+use Rattle.outside.specs.Files.{Files}
+use Rattle.run_config.specs.declared.ends.ReadEnd.{ReadEnd}
+use Rattle.run_config.specs.declared.ends.ReadEnd.TheVariants as read_end
+use Rattle.run_config.specs.declared.faults.ConfigFault.{ConfigFault}
+use Rattle.run_config.specs.declared.faults.ConfigFault.TheVariants as fault
+use Rattle.run_config.specs.Accept.{accept}
+use Rattle.run_config.specs.Configurations.{Configuration, IsWithinLimits}
+use Rattle.run_config.specs.Tests.{first_fault, unless}
+use Rattle.nesthv_top.specs.declared.ends.Ended.{Ended}
+use Rattle.nesthv_top.specs.declared.ends.Ended.TheVariants as ended
+use Rattle.nesthv_top.specs.declared.ends.Job.{Job}
+use Rattle.nesthv_top.specs.declared.ends.FilesRead.{FilesRead}
+use Rattle.nesthv_top.specs.declared.ends.LoadEnd.{LoadEnd}
+use Rattle.nesthv_top.specs.declared.ends.LoadEnd.TheVariants.{Refused, ReadFault, NoMemory}
+use Rattle.nesthv_top.specs.Contents.{config_most, config_name, config_of, guests_of, stored_of}
+use Rattle.nesthv_top.specs.Endings.{IsFirstRead, SaysOfReads}
+use Rattle.nesthv_top.specs.Ends.{ended_by, ended_of, IfFailed, Leaves}
+use Rattle.nesthv_top.specs.Loads.{all_read_for, frames_by, guests_with, need_by, IsAllRead, IsTested}
+use Rattle.nesthv_top.specs.Plans.{planned, plan_if}
+use Rattle.nesthv_top.specs.Reads.{accepted_steps, ask, config_steps, fault_by, file_steps, frames_fault, guests_steps, reading, report_steps, steps_for, testing, text_fault, AskedSome, BeginsWithConfig}
+use Rattle.nesthv_top.specs.Seen.{plan_seen, IsJob}
+use Rattle.nesthv_top.specs.Steps.{Step, asks_in, asks_unless, fault_in, made_of, ArePassed, AskedMore, EndAs, IsNumberAfter, IsShort, ReadStopsAs, StopAs}
+use Rattle.nesthv_top.proofs.GuestReads.{all_bootable, made_names, made_frames, made_of_files, frames_of_files}
+use Rattle.nesthv_top.proofs.StepLists.{asked_none, asked_then, made_all, one_passed, one_stopped, passed_then, rose_since, stopped_first, stopped_later, test_passed, test_refused}
+
+-- what reads leave of a store, one after the other
+pub left_none : {X A : Type 0} (S : stores.Ghosts X) (a : A) (store : X) (made : ℕ) → Leaves S 0 (Ok a) store store made made
+left_none S a store made = record {
+  files = refl;
+  cause = tt;
+  count = omega arith;
+  asked = ([], asked_none (S.asked store));
+  numbers = (omega arith, omega arith);
+}
+
+rose_later : (end : LoadEnd) (before between after : ℕ) → before ≤ between → IfFailed end (Rose between after) → IfFailed end (Rose before after)
+rose_later (Refused found) before between after le rose = tt
+rose_later (ReadFault n) before between after le rose = rose_since before between after le rose
+rose_later (NoMemory n) before between after le rose = tt
+
+numbers_later : (first most all : ℕ) (end : LoadEnd) (made made' : ℕ) → made ≤ made' → made' ≤ made + first → first + most ≤ all
+    → IsNumberAfter most made' end → IsNumberAfter all made end
+numbers_later first most all (Refused found) made made' least few within numbers = tt
+numbers_later first most all (ReadFault n) made made' least few within numbers =
+    (omega (arith, least, numbers.0), omega (arith, few, within, numbers.1))
+numbers_later first most all (NoMemory n) made made' least few within numbers = omega (arith, least, numbers)
+
+both_asked : (before between after : Option (List Ask)) → AskedSome before between → AskedSome between after → AskedSome before after
+both_asked before between after (xs, one) (ys, two) = (xs ++ ys, asked_then xs ys before between after one two)
+
+-- passed, and then passed or stopped
+pub left_passed : {X A B C : Type 0} (S : stores.Ghosts X) (first most all : ℕ) (a : A) (b : B) (c : C) (old mid new : X) (made made' made'' : ℕ) → first + most ≤ all
+    → Leaves S first (Ok a) old mid made made' → Leaves S most (Ok b) mid new made' made'' → Leaves S all (Ok c) old new made made''
+left_passed S first most all a b c old mid new made made' made'' within one two = record {
+  files = two.files ∙ one.files;
+  cause = tt;
+  count = omega (arith, one.count, two.count);
+  asked = both_asked (S.asked old) (S.asked mid) (S.asked new) one.asked two.asked;
+  numbers = (omega (arith, one.numbers.0, two.numbers.0), omega (arith, within, one.numbers.1, two.numbers.1));
+}
+
+pub left_stopped : {X A B C : Type 0} (S : stores.Ghosts X) (first most all : ℕ) (a : A) (end : LoadEnd) (old mid new : X) (made made' made'' : ℕ) → first + most ≤ all
+    → Leaves S first (Ok a) old mid made made' → Leaves {X = X} {A = B} S most (Err end) mid new made' made'' → Leaves {X = X} {A = C} S all (Err end) old new made made''
+left_stopped S first most all a end old mid new made made' made'' within one two = record {
+  files = two.files ∙ one.files;
+  cause = rose_later end (S.faults old) (S.faults mid) (S.faults new) one.count two.cause;
+  count = omega (arith, one.count, two.count);
+  asked = both_asked (S.asked old) (S.asked mid) (S.asked new) one.asked two.asked;
+  numbers = numbers_later first most all end made made' one.numbers.0 one.numbers.1 within two.numbers;
+}
+
+-- stopped at once
+pub left_first : {X A B : Type 0} (S : stores.Ghosts X) (most all : ℕ) (end : LoadEnd) (old new : X) (made made' : ℕ) → most ≤ all
+    → Leaves {X = X} {A = A} S most (Err end) old new made made' → Leaves {X = X} {A = B} S all (Err end) old new made made'
+left_first S most all end old new made made' within one =
+    left_stopped {A = ℕ} S 0 most all 0 end old old new made made made' (omega (arith, within)) (left_none S 0 old made) one
+
+-- the first read was that of the configuration
+pub begins_then : {X : Type 0} (S : stores.Ghosts X) (command : FileCommand) (old mid new : X) → BeginsWithConfig (Some (OnFiles command)) (S.asked old) (S.asked mid)
+    → AskedSome (S.asked mid) (S.asked new) → BeginsWithConfig (Some (OnFiles command)) (S.asked old) (S.asked new)
+begins_then S command old mid new (failed, rest, begins) (more, asked) =
+    (failed, rest ++ more, asked_then (record { name = config_name command; most = 65537; failed = failed } ∷ rest) more (S.asked old) (S.asked mid) (S.asked new) begins asked)
+
+pub later_first : {X : Type 0} (S : stores.Ghosts X) (command : FileCommand) (n : ℕ) (old new : X) → 1 ≤ n → BeginsWithConfig (Some (OnFiles command)) (S.asked old) (S.asked new)
+    → IsFirstRead S (Some (OnFiles command)) (ended.NoMemory n) old new
+later_first S command zero old new some begins = absurd (omega (arith, some))
+later_first S command (suc n) old new some begins = begins
+
+pub first_then : {X A : Type 0} (S : stores.Ghosts X) (command : FileCommand) (most made made' : ℕ) (end : LoadEnd) (old mid new : X)
+    → BeginsWithConfig (Some (OnFiles command)) (S.asked old) (S.asked mid) → 1 ≤ made → Leaves {X = X} {A = A} S most (Err end) mid new made made'
+    → IsFirstRead S (Some (OnFiles command)) (ended_by end) old new
+first_then S command most made made' (Refused found) old mid new begins some left = begins_then S command old mid new begins left.asked
+first_then S command most made made' (ReadFault n) old mid new begins some left = begins_then S command old mid new begins left.asked
+first_then S command most made made' (NoMemory n) old mid new begins some left =
+    later_first S command n old new (omega (arith, some, left.numbers)) (begins_then S command old mid new begins left.asked)
+
+-- the reading of a configuration: whether its bytes are text
+at_most : (n : ℕ) → nat_le n 65536 ≡ true → n ≤ 65536
+at_most n e = grind (arith, e)
+
+above : (n : ℕ) → nat_le n 65536 ≡ false → 65536 < n
+above n e = grind (arith, e)
+
+text_passes : {A : Type 0} (bytes : List ℕ) (result : Result A ReadEnd) (short utf8 : Bool) → nat_le (length bytes) 65536 ≡ short → is_utf8 bytes ≡ utf8
+    → (65536 < length bytes → result ≡ Err (read_end.Refused fault.TooLong)) → (length bytes ≤ 65536 → is_utf8 bytes ≡ false → result ≡ Err (read_end.Refused fault.NotToml))
+    → (text_fault bytes ≡ None) ⊎ ((found : ConfigFault) × (text_fault bytes ≡ Some found) × (result ≡ Err (read_end.Refused found)))
+text_passes bytes result false utf8 e e' long no_text = inr (fault.TooLong, rw e refl, long (above (length bytes) e))
+text_passes bytes result true false e e' long no_text = inr (fault.NotToml, rw (e, e') refl, no_text (at_most (length bytes) e) e')
+text_passes bytes result true true e e' long no_text = inl (rw (e, e') refl)
+
+abbrev TextFault : {A : Type 0} → List ℕ → Result A ReadEnd → Type 0
+TextFault bytes result = (text_fault bytes ≡ None) ⊎ ((found : ConfigFault) × (text_fault bytes ≡ Some found) × (result ≡ Err (read_end.Refused found)))
+
+pub text_tested : {A : Type 0} (bytes : List ℕ) (result : Result A ReadEnd)
+    → (65536 < length bytes → result ≡ Err (read_end.Refused fault.TooLong)) → (length bytes ≤ 65536 → is_utf8 bytes ≡ false → result ≡ Err (read_end.Refused fault.NotToml))
+    → TextFault bytes result
+text_tested bytes result long no_text = text_passes bytes result (nat_le (length bytes) 65536) (is_utf8 bytes) refl refl long no_text
+
+no_fault_if_ok : {A : Type 0} (bytes : List ℕ) (result : Result A ReadEnd) (a : A) → TextFault bytes result → result ≡ Ok a → text_fault bytes ≡ None
+no_fault_if_ok bytes result a (inl none) ok = none
+no_fault_if_ok bytes result a (inr (found, is, refused)) ok = cc
+
+no_fault_if_short : {A : Type 0} (bytes : List ℕ) (result : Result A ReadEnd) → TextFault bytes result → result ≡ Err read_end.NoMemory → text_fault bytes ≡ None
+no_fault_if_short bytes result (inl none) short = none
+no_fault_if_short bytes result (inr (found, is, refused)) short = cc
+
+refused_first : {A : Type 0} (bytes : List ℕ) (result : Result A ReadEnd) (found : ConfigFault) → TextFault bytes result → result ≡ Err (read_end.Refused found)
+    → first_fault (text_fault bytes ∷ Some found ∷ []) ≡ Some found
+refused_first bytes result found (inl none) refused = rw none refl
+refused_first bytes result found (inr (other, is, refused')) refused =
+    let same : other ≡ found = cc in
+    rw (is, same) refl
+
+-- it is passed, refused, or memory is wanting to read it
+pub config_stopped : (f : Files) (command : FileCommand) (end : LoadEnd) (before after : Option (List Ask))
+    → ReadStopsAs (ask (config_name command) config_most) 0 before end after → StopAs (config_steps f command) 0 before end after
+config_stopped f command end before after stopped =
+    let text = text_fault (config_of f command) in
+    stopped_first (reading (ask (config_name command) config_most) text ∷ []) (testing (fault_by (accept (config_of f command))) ∷ []) 0 end before after
+    (one_stopped (ask (config_name command) config_most) text 0 end before after stopped)
+
+pub config_passed : {A : Type 0} (f : Files) (command : FileCommand) (c : Configuration) (result : Result A ReadEnd) (a : A) (made : ℕ) (before after : Option (List Ask))
+    → TextFault (config_of f command) result → result ≡ Ok a → accept (config_of f command) ≡ Ok c
+    → (made ≡ 0 + 1) × AskedMore (ask (config_name command) config_most ∷ []) before after → ArePassed (config_steps f command) 0 before made after
+config_passed f command c result a made before after text ok accepted read =
+    let first = one_passed (ask (config_name command) config_most) (text_fault (config_of f command)) 0 made before after read (no_fault_if_ok (config_of f command) result a text ok) in
+    let last = test_passed (fault_by (accept (config_of f command))) made after (rw accepted refl) in
+    passed_then (reading (ask (config_name command) config_most) (text_fault (config_of f command)) ∷ []) (testing (fault_by (accept (config_of f command))) ∷ [])
+    0 made made before after after first last
+
+pub config_refused : {A : Type 0} (f : Files) (command : FileCommand) (found : ConfigFault) (result : Result A ReadEnd) (before after : Option (List Ask))
+    → TextFault (config_of f command) result → result ≡ Err (read_end.Refused found) → accept (config_of f command) ≡ Err found
+    → AskedMore (ask (config_name command) config_most ∷ []) before after → StopAs (config_steps f command) 0 before (Refused found) after
+config_refused f command found result before after text refused accepted read = (
+  rw accepted (refused_first (config_of f command) result found text refused),
+  subst (λ asks. AskedMore (ask (config_name command) config_most ∷ asks) before after) (sym (nothing_else (text_fault (config_of f command)) (fault_by (accept (config_of f command))))) read,
+)
+  where
+    nothing_else : (one two : Option ConfigFault) → asks_unless one (made_of (testing two ∷ [])) ≡ []
+    nothing_else None None = refl
+    nothing_else None (Some found) = refl
+    nothing_else (Some found) two = refl
+
+pub config_short : {A : Type 0} (f : Files) (command : FileCommand) (result : Result A ReadEnd) (before after : Option (List Ask))
+    → TextFault (config_of f command) result → result ≡ Err read_end.NoMemory → AskedMore (ask (config_name command) config_most ∷ []) before after
+    → StopAs (config_steps f command) 0 before (NoMemory 1) after
+config_short f command result before after text short read = record {
+  passed = reading (ask (config_name command) config_most) (text_fault (config_of f command)) ∷ [];
+  rest = testing (fault_by (accept (config_of f command))) ∷ [];
+  split = refl;
+  fault = rw (no_fault_if_short (config_of f command) result text short) refl;
+  asked = read;
+  number = omega arith;
+  left = λ two. absurd (omega (arith, two));
+}
+
+-- a command that names no report
+abbrev IsRunOrCheck : FileRequest → Type 0
+IsRunOrCheck r = ((config : Bor (List ℕ)) × (r ≡ request.Run config)) ⊎ ((config : Bor (List ℕ)) × (r ≡ request.Check config))
+
+pub nothing_stored : (r : FileRequest) → IsRunOrCheck r → (report_steps (file_command_seen r) ≡ []) × ((f : Files) → stored_of f (file_command_seen r) ≡ [])
+nothing_stored r (inl (config, is)) = rw is (refl, λ f. refl)
+nothing_stored r (inr (config, is)) = rw is (refl, λ f. refl)
+
+-- the steps of a configuration that is accepted
+pub steps_are : (f : Files) (command : FileCommand) (c : Configuration) → accept (config_of f command) ≡ Ok c
+    → file_steps f command ≡ config_steps f command ++ guests_steps f 0 c.guests ++ report_steps command ++ testing (frames_fault (frames_by c.guests)) ∷ []
+unfolding file_steps
+steps_are f command c accepted =
+    let config = config_steps f command in
+    let guests = guests_steps f 0 c.guests in
+    let last : List Step = testing (frames_fault (frames_by c.guests)) ∷ [] in
+    ap (λ accepted. config ++ accepted_steps f command accepted) accepted
+    ∙ ap (λ frames. config ++ (guests ++ report_steps command ++ testing (frames_fault frames) ∷ [])) (frames_of_files f c.guests)
+    ∙ sym (append_assoc config (guests ++ report_steps command) last)
+    ∙ ap (λ steps. steps ++ last) (sym (append_assoc config guests (report_steps command)))
+
+-- all steps of a command, by where they stop
+pub config_stop : (f : Files) (command : FileCommand) (end : LoadEnd) (before after : Option (List Ask)) → StopAs (config_steps f command) 0 before end after
+    → StopAs (file_steps f command) 0 before end after
+unfolding file_steps
+config_stop f command end before after stopped = stopped_first (config_steps f command) (accepted_steps f command (accept (config_of f command))) 0 end before after stopped
+
+-- those of the configuration and of the guests were passed
+pub guests_passed : (f : Files) (command : FileCommand) (c : Configuration) (made made' : ℕ) (before between after : Option (List Ask))
+    → ArePassed (config_steps f command) 0 before made between → ArePassed (guests_steps f 0 c.guests) made between made' after
+    → ArePassed (config_steps f command ++ guests_steps f 0 c.guests) 0 before made' after
+guests_passed f command c made made' before between after one two = passed_then (config_steps f command) (guests_steps f 0 c.guests) 0 made made' before between after one two
+
+abbrev last_step : Configuration → List Step
+last_step c = testing (frames_fault (frames_by c.guests)) ∷ []
+
+pub guests_stop : (f : Files) (command : FileCommand) (c : Configuration) (end : LoadEnd) (made : ℕ) (before between after : Option (List Ask)) → accept (config_of f command) ≡ Ok c
+    → ArePassed (config_steps f command) 0 before made between → StopAs (guests_steps f 0 c.guests) made between end after → StopAs (file_steps f command) 0 before end after
+guests_stop f command c end made before between after accepted one stopped =
+    let guests = config_steps f command ++ guests_steps f 0 c.guests in
+    subst (λ steps. StopAs steps 0 before end after) (sym (steps_are f command c accepted))
+    (stopped_first (guests ++ report_steps command) (last_step c) 0 end before after
+    (stopped_first guests (report_steps command) 0 end before after
+    (stopped_later (config_steps f command) (guests_steps f 0 c.guests) 0 made end before between after one stopped)))
+
+pub report_stop : (f : Files) (command : FileCommand) (c : Configuration) (end : LoadEnd) (made : ℕ) (before between after : Option (List Ask)) → accept (config_of f command) ≡ Ok c
+    → ArePassed (config_steps f command ++ guests_steps f 0 c.guests) 0 before made between → StopAs (report_steps command) made between end after
+    → StopAs (file_steps f command) 0 before end after
+report_stop f command c end made before between after accepted one stopped =
+    let guests = config_steps f command ++ guests_steps f 0 c.guests in
+    subst (λ steps. StopAs steps 0 before end after) (sym (steps_are f command c accepted))
+    (stopped_first (guests ++ report_steps command) (last_step c) 0 end before after
+    (stopped_later guests (report_steps command) 0 made end before between after one stopped))
+
+pub frames_stop : (f : Files) (command : FileCommand) (c : Configuration) (found : ConfigFault) (made made' : ℕ) (before between after : Option (List Ask)) → accept (config_of f command) ≡ Ok c
+    → ArePassed (config_steps f command ++ guests_steps f 0 c.guests) 0 before made between → ArePassed (report_steps command) made between made' after
+    → frames_fault (frames_by c.guests) ≡ Some found → StopAs (file_steps f command) 0 before (Refused found) after
+frames_stop f command c found made made' before between after accepted one two refused =
+    let guests = config_steps f command ++ guests_steps f 0 c.guests in
+    subst (λ steps. StopAs steps 0 before (Refused found) after) (sym (steps_are f command c accepted))
+    (stopped_later (guests ++ report_steps command) (last_step c) 0 made' (Refused found) before after after
+    (passed_then guests (report_steps command) 0 made made' before between after one two) (test_refused (frames_fault (frames_by c.guests)) found made' after refused))
+
+pub all_passed : (f : Files) (command : FileCommand) (c : Configuration) (made made' : ℕ) (before between after : Option (List Ask)) → accept (config_of f command) ≡ Ok c
+    → ArePassed (config_steps f command ++ guests_steps f 0 c.guests) 0 before made between → ArePassed (report_steps command) made between made' after
+    → frames_fault (frames_by c.guests) ≡ None → ArePassed (file_steps f command) 0 before made' after
+all_passed f command c made made' before between after accepted one two none =
+    let guests = config_steps f command ++ guests_steps f 0 c.guests in
+    subst (λ steps. ArePassed steps 0 before made' after) (sym (steps_are f command c accepted))
+    (passed_then (guests ++ report_steps command) (last_step c) 0 made' made' before after after
+    (passed_then guests (report_steps command) 0 made made' before between after one two) (test_passed (frames_fault (frames_by c.guests)) made' after none))
+
+-- a test that refuses leaves what the reads before it left
+pub left_refused : {X A B : Type 0} (S : stores.Ghosts X) (most : ℕ) (a : A) (found : ConfigFault) (old new : X) (made made' : ℕ)
+    → Leaves S most (Ok a) old new made made' → Leaves {X = X} {A = B} S most (Err (Refused found)) old new made made'
+left_refused S most a found old new made made' left = record {
+  files = left.files;
+  cause = tt;
+  count = left.count;
+  asked = left.asked;
+  numbers = tt;
+}
+
+-- what the ends say of the reads
+pub stopped_says : {X A : Type 0} (S : stores.Ghosts X) (command : FileCommand) (end : LoadEnd) (old new : X) (made' : ℕ)
+    → ((f : Files) → S.files old ≡ Some f → StopAs (file_steps f command) 0 (S.asked old) end (S.asked new))
+    → IsFirstRead S (Some (OnFiles command)) (ended_by end) old new → Leaves {X = X} {A = A} S 18 (Err end) old new 0 made' → SaysOfReads S (Some (OnFiles command)) (ended_by end) old new
+stopped_says S command (Refused found) old new made' ends first left = record {
+  first = first;
+  reads = λ f told. (ends f told).1;
+  number = tt;
+  fault = λ f told. (ends f told).0;
+  stays = left.files;
+  count = left.count;
+}
+stopped_says S command (ReadFault n) old new made' ends first left = record {
+  first = first;
+  reads = λ f told. ends f told;
+  number = (omega (arith, left.numbers.0), omega (arith, left.numbers.1));
+  fault = λ f told. tt;
+  stays = left.files;
+  count = left.count;
+}
+stopped_says S command (NoMemory n) old new made' ends first left = record {
+  first = first;
+  reads = λ f told. inl (ends f told);
+  number = tt;
+  fault = λ f told. tt;
+  stays = left.files;
+  count = left.count;
+}
+
+pub passed_says : {X A : Type 0} (S : stores.Ghosts X) (command : FileCommand) (a : A) (old new : X) (made' : ℕ)
+    → ((f : Files) → S.files old ≡ Some f → ArePassed (file_steps f command) 0 (S.asked old) made' (S.asked new))
+    → IsFirstRead S (Some (OnFiles command)) ended.Done old new → Leaves S 18 (Ok a) old new 0 made' → SaysOfReads S (Some (OnFiles command)) ended.Done old new
+passed_says S command a old new made' passed first left = record {
+  first = first;
+  reads = λ f told.
+      let all = passed f told in
+      subst (λ asks. AskedMore asks (S.asked old) (S.asked new)) (sym (made_all (file_steps f command) all.fault)) all.asked;
+  number = tt;
+  fault = λ f told. tt;
+  stays = left.files;
+  count = left.count;
+}
+
+-- memory was wanting after all reads
+pub wanting_says : {X : Type 0} (S : stores.Ghosts X) (command : FileCommand) (made : ℕ) (old new : X) → 1 ≤ made
+    → ((f : Files) → S.files old ≡ Some f → ArePassed (file_steps f command) 0 (S.asked old) made (S.asked new))
+    → SaysOfReads S (Some (OnFiles command)) ended.Done old new → SaysOfReads S (Some (OnFiles command)) (ended.NoMemory made) old new
+wanting_says S command made old new some passed says = record {
+  first = later_first S command made old new some says.first;
+  reads = λ f told. inr (passed f told);
+  number = tt;
+  fault = λ f told. tt;
+  stays = says.stays;
+  count = says.count;
+}
+
+-- no read was made, as memory was wanting before
+pub nothing_read : {X : Type 0} (S : stores.Ghosts X) (command : Option Command) (store : X) → SaysOfReads S command (ended.NoMemory 0) store store
+nothing_read S command store = record {
+  first = asked_none (S.asked store);
+  reads = λ f told. inl (record {
+    passed = [];
+    rest = steps_for f command;
+    split = refl;
+    fault = refl;
+    asked = asked_none (S.asked store);
+    number = omega arith;
+    left = λ two. absurd (omega (arith, two));
+  });
+  number = tt;
+  fault = λ f told. tt;
+  stays = refl;
+  count = omega arith;
+}
+
+-- a work reads nothing
+pub work_done : {X : Type 0} (S : stores.Ghosts X) (seed size : ℕ) (store : X) → SaysOfReads S (Some (Work seed size)) ended.Done store store
+work_done S seed size store = record {
+  first = asked_none (S.asked store);
+  reads = λ f told. asked_none (S.asked store);
+  number = tt;
+  fault = λ f told. tt;
+  stays = refl;
+  count = omega arith;
+}
+
+pub work_unwritten : {X : Type 0} (S : stores.Ghosts X) (seed size : ℕ) (store : X) → SaysOfReads S (Some (Work seed size)) ended.WriteFault store store
+work_unwritten S seed size store = record {
+  first = asked_none (S.asked store);
+  reads = λ f told. asked_none (S.asked store);
+  number = tt;
+  fault = λ f told. tt;
+  stays = refl;
+  count = omega arith;
+}
+
+-- the plan and the job of what was read
+pub plan_read : (f : Files) (command : FileCommand) (read : FilesRead) (job : Job) → IsAllRead f command read → fault_in (file_steps f command) ≡ None
+    → job.config ≡ read.config → job.guests.items ≡ guests_with read.config.guests read.guests.items → planned f command ≡ Some (plan_seen job)
+unfolding planned
+plan_read f command read job is none config guests =
+    let made : job.guests.items ≡ guests_of f read.config.guests =
+    guests ∙ ap (guests_with read.config.guests) is.guests ∙ made_of_files f read.config.guests in
+    rw (none, is.config) (rw (made, config) refl)
+
+pub job_read : (read : FilesRead) (job : Job) → IsTested read → job.config ≡ read.config → job.guests.items ≡ guests_with read.config.guests read.guests.items → IsJob job
+job_read read job tested config guests =
+    let settings = read.config.guests in
+    let frames : frames_for job.guests.items ≡ frames_by settings = ap frames_for guests ∙ made_frames settings read.guests.items tested.guests in
+    record {
+      limits = subst IsWithinLimits (sym config) tested.limits;
+      names = rw (config, guests) (made_names settings read.guests.items tested.guests);
+      guests = subst (All IsBootable) (sym guests) (all_bootable settings read.guests.items tested.limits.each_guest tested.guests);
+      frames = frames ∙ ap (λ c. frames_by c.guests) (sym config);
+      few = rw frames tested.frames;
+    }
