@@ -1,7 +1,8 @@
 //! The list of turns of a run.
 
-ghost use Rattle.std.specs.Prelude.{◌≡◌, ◌*◌, ◌^◌, ◌≤◌, ◌++◌, IfOk, OnOk};
-ghost use Rattle.turn_plan.specs.Turns.{round_of, rounds_of};
+ghost use Rattle.std.specs.Prelude.{◌≡◌, ◌*◌, ◌^◌, ◌<◌, ◌≤◌, ◌++◌, All, length, IfOk, OnOk};
+ghost use Rattle.std.specs.List.{slice_index};
+ghost use Rattle.turn_plan.specs.Turns.{round_of, rounds_of, weighted_round, weighted_rounds};
 
 use no_memory::NoMemory;
 use std::alloc::Global;
@@ -49,6 +50,26 @@ impl Turns {
         Ok(Turns { pairs })
     }
 
+    /// `rounds` rounds, each of which gives each guest, in order, one turn of its weight times `quantum` steps.
+    /// The one error is out of memory.
+    #[tactic(auto, unfolding(crate::specs::Turns::weighted_rounds), using(crate::proofs::Rounds::weighted))]
+    pub fn of_weights(
+        alloc: Global,
+        weights: &[u64],
+        quantum: u64,
+        rounds: u64,
+    ) -> Result<Turns, NoMemory>
+        requires few { length weights.now * rounds ≤ 2 ^ 20 }
+        requires steps { All (λ weight. weight * quantum ≤ 2 ^ 32) weights.now }
+        ensures { IfOk result (λ turns. turns ≡ weighted_rounds weights.now quantum rounds) }
+    {
+        let mut pairs = Vec::new(alloc);
+        for _round in 0..rounds {
+            push_weighted_round(&mut pairs, weights, quantum)?;
+        }
+        Ok(Turns { pairs })
+    }
+
     /// The turns, lent.
     pub fn as_slice(&self) -> &[(u32, u64)]
         ensures { result.now ≡ self.now }
@@ -65,6 +86,33 @@ fn push_round(pairs: &mut Vec<(u32, u64)>, guests: u64, quantum: u64) -> Result<
 {
     for guest in 0..guests {
         pairs.push((guest as u32, quantum))?;
+    }
+    Ok(())
+}
+
+// The turn of a guest, by its weight.
+fn weighted_turn(weights: &[u64], guest: usize, quantum: u64) -> (u32, u64)
+    requires there { guest < length weights.now }
+    requires few { length weights.now ≤ 2 ^ 20 }
+    requires steps { All (λ weight. weight * quantum ≤ 2 ^ 32) weights.now }
+    ensures { result ≡ (guest, slice_index weights.now guest * quantum) }
+{
+    (guest as u32, weights[guest] * quantum)
+}
+
+// Adds one turn of each guest, by its weight.
+
+fn push_weighted_round(
+    pairs: &mut Vec<(u32, u64)>,
+    weights: &[u64],
+    quantum: u64,
+) -> Result<(), NoMemory>
+    requires few { length weights.now ≤ 2 ^ 20 }
+    requires steps { All (λ weight. weight * quantum ≤ 2 ^ 32) weights.now }
+    ensures { OnOk result (pairs.new.items ≡ pairs.old.items ++ weighted_round weights.now quantum) }
+{
+    for guest in 0..weights.len() {
+        pairs.push(weighted_turn(weights, guest, quantum))?;
     }
     Ok(())
 }
