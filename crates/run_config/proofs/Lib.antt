@@ -7,4 +7,5 @@ pub mod Known
 pub mod Pairing
 pub mod Tabling
 pub mod Texts
+pub mod Weighing
 pub mod Within

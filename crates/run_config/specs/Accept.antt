@@ -1,18 +1,22 @@
 -- Which bytes are a configuration, and of what: the tests in their order, and the first fault.
-use Rattle.std.specs.Prelude.{◌≡◌, ℤ, ℕ, suc, pos, nat_le, Bool, ◌&&◌, List, [], ◌∷◌, length, map, Option, Some, None, is_some, unwrap_or, option_map}
+use Rattle.std.specs.Prelude.{◌≡◌, ℤ, ℕ, suc, pos, nat_eq, nat_le, Bool, ◌&&◌, List, [], ◌∷◌, length, map, Option, Some, None, is_some, unwrap_or, option_map, if◌then◌else◌}
 use Rattle.std.specs.Prelude.{Result, Ok, Err}
 use Rattle.std.specs.Str.{is_utf8}
-use Rattle.toml.specs.Data.{Items, no_items, item, Members, no_members, as_array}
+use Rattle.toml.specs.Data.{Items, no_items, item, Members, no_members, as_array, as_integer}
 use Rattle.toml.specs.Parse.{parse_document}
 use Rattle.run_config.specs.declared.keys.ConfigKey.TheVariants as key
 use Rattle.run_config.specs.declared.faults.ConfigFault.{ConfigFault}
 use Rattle.run_config.specs.declared.faults.ConfigFault.TheVariants as fault
+use Rattle.run_config.specs.declared.formats.Format.{Format}
+use Rattle.run_config.specs.declared.formats.Format.TheVariants.{One, Two}
+use Rattle.run_config.specs.declared.guests.GuestSettings.{GuestSettings}
+use Rattle.run_config.specs.declared.schedules.Schedule.{Schedule}
 use Rattle.run_config.specs.Configurations.{Configuration, IsWithinLimits}
 use Rattle.run_config.specs.Guests.{guests_fault, settings_of}
 use Rattle.run_config.specs.Tables.{document_keys}
 use Rattle.run_config.specs.Tests.{unless, first_fault, missing}
-use Rattle.run_config.specs.Turns.{turns_at}
-use Rattle.run_config.specs.Values.{◌>>=◌, passes_if, value_at, number_within, has_only, tables_of}
+use Rattle.run_config.specs.Turns.{schedule_at, schedule_fault, turns_of}
+use Rattle.run_config.specs.Values.{◌>>=◌, passes_if, value_at, natural, has_only, tables_of}
 
 -- the document that the bytes spell: none where they are no UTF-8, or not TOML
 unfoldable pub tree_of : List ℕ → Option Members
@@ -42,32 +46,52 @@ guests_at document = do
 unfoldable pub guests_in : Members → List Members
 guests_in document = unwrap_or (guests_at document) []
 
--- `format` is the integer 1 (own)
-unfoldable pub has_format : Members → Bool
-has_format document = is_some (value_at key.Format document >>= number_within 1 1)
+-- the format of a number (own)
+unfoldable pub format_of : ℕ → Option Format
+format_of number = if nat_eq number 1 then Some One else if nat_eq number 2 then Some Two else None
+
+-- the format of a document, which must say it
+unfoldable pub format_at : Members → Option Format
+format_at document = value_at key.Format document >>= as_integer >>= natural >>= format_of
+
+-- the same, and format 1 where it says none
+unfoldable pub format_in : Members → Format
+format_in document = unwrap_or (format_at document) One
+
+-- the settings of the guests, and their weights
+unfoldable pub settings_in : Members → List GuestSettings
+settings_in document = map (settings_of (format_in document)) (guests_in document)
+
+abbrev pub weights_of : List GuestSettings → List ℕ
+weights_of guests = map (λ g. g.weight) guests
+
+-- how the turns of the guests are said
+unfoldable pub schedule_in : Members → Option Schedule
+schedule_in document = schedule_at (length (guests_in document)) document
 
 -- the first fault of a document that is found with no memory: by `format`, and where there is no `guest`
 -- (own)
 unfoldable pub head_fault : Members → Option ConfigFault
 head_fault document =
-    first_fault (unless (has_format document) fault.Format ∷ missing None document key.Guest ∷ [])
+    first_fault (unless (is_some (format_at document)) fault.Format ∷ missing None document key.Guest ∷ [])
 
 -- the first fault of a document (own)
 unfoldable pub document_fault : Members → Option ConfigFault
 document_fault document = first_fault (
-    unless (has_format document) fault.Format
+    unless (is_some (format_at document)) fault.Format
     ∷ missing None document key.Guest
     ∷ unless (is_some (guests_at document)) (fault.Range None key.Guest (array_length document))
-    ∷ guests_fault [] (guests_in document)
-    ∷ unless (is_some (turns_at (length (guests_in document)) document)) fault.Turns
-    ∷ unless (has_only document_keys document) (fault.Extra None)
+    ∷ guests_fault (format_in document) [] (guests_in document)
+    ∷ unless (is_some (schedule_in document)) fault.Turns
+    ∷ unless (has_only (document_keys (format_in document)) document) (fault.Extra None)
+    ∷ (schedule_in document >>= schedule_fault (weights_of (settings_in document)))
     ∷ [])
 
 -- what a document without a fault says
 unfoldable pub configuration_of : Members → Configuration
 configuration_of document = record {
-  guests = map settings_of (guests_in document);
-  turns = unwrap_or (turns_at (length (guests_in document)) document) [];
+  guests = settings_in document;
+  turns = unwrap_or (option_map (turns_of (weights_of (settings_in document))) (schedule_in document)) [];
 }
 
 -- the document that the bytes spell, and the empty one where they spell none

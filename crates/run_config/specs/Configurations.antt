@@ -3,11 +3,23 @@ use Rattle.std.specs.Prelude.{ℕ, ◌<◌, ◌≤◌, ◌^◌, List, length}
 use Rattle.std.specs.List.{All}
 use Rattle.guest_specs.specs.Inputs.{AreInputs}
 use Rattle.run_config.specs.declared.guests.GuestSettings.{GuestSettings}
+use Rattle.run_config.specs.declared.guests.InputSource.{InputSource}
+use Rattle.run_config.specs.declared.guests.InputSource.TheVariants.{Pairs, File}
 
 -- the guests in their order, and the turns: pairs of a guest's number and a number of steps
 pub record Configuration : Type 0 where
   pub guests : List GuestSettings
   pub turns : List (ℕ × ℕ)
+
+-- what a guest may be given: what a console may be given, each input a byte
+pub record AreByteInputs (pairs : List (ℕ × ℕ)) : Type 0 where
+  pub inputs : AreInputs pairs
+  pub bytes : All (λ input. input.1 < 256) pairs
+
+-- what holds of where inputs come from: they may be given, or the file has a name
+abbrev pub IsSourceWithin : InputSource → Type 0
+IsSourceWithin (Pairs inputs) = AreByteInputs inputs
+IsSourceWithin (File name) = (1 ≤ length name) × (length name ≤ 255)
 
 -- what holds of the settings of each guest that is accepted
 pub record IsGuestWithin (g : GuestSettings) : Type 0 where
@@ -22,8 +34,9 @@ pub record IsGuestWithin (g : GuestSettings) : Type 0 where
   pub entries_least : 16 ≤ g.entries
   pub entries_most : g.entries ≤ 256
   pub console_most : g.console ≤ 1048576
-  pub inputs : AreInputs g.inputs
-  pub inputs_bytes : All (λ input. input.1 < 256) g.inputs
+  pub weight_some : 1 ≤ g.weight
+  pub weight_most : g.weight ≤ 1000
+  pub input : IsSourceWithin g.input
 
 -- a turn of one of so many guests, of at most 2^32 steps
 pub record IsTurnWithin (guests : ℕ) (turn : ℕ × ℕ) : Type 0 where

@@ -1,14 +1,19 @@
 -- The tests of the guests, and their settings.
-use Rattle.std.specs.Prelude.{ℕ, ◌^◌, ◌-◌, nat_le, Bool, true, not, ◌&&◌, List, [], ◌∷◌, ◌++◌, length, map, bytes_eq, Option, Some, None, is_some, unwrap_or}
+use Rattle.std.specs.Prelude.{ℕ, ◌^◌, ◌-◌, nat_le, Bool, true, not, ◌&&◌, List, [], ◌∷◌, ◌++◌, length, map, bytes_eq, Option, Some, None, is_some, unwrap_or, option_map}
 use Rattle.std.specs.List.{list_any}
 use Rattle.toml.specs.Data.{Data, Members, as_array}
 use Rattle.run_config.specs.declared.keys.ConfigKey.TheVariants as key
 use Rattle.run_config.specs.declared.faults.ConfigFault.{ConfigFault}
 use Rattle.run_config.specs.declared.faults.ConfigFault.TheVariants as fault
+use Rattle.run_config.specs.declared.formats.Format.{Format}
+use Rattle.run_config.specs.declared.formats.Format.TheVariants.{One, Two}
 use Rattle.run_config.specs.declared.guests.GuestSettings.{GuestSettings}
-use Rattle.run_config.specs.Tables.{guest_table, guest_keys}
+use Rattle.run_config.specs.declared.guests.InputSource.{InputSource}
+use Rattle.run_config.specs.declared.guests.InputSource.TheVariants.{Pairs, File}
+use Rattle.run_config.specs.declared.keys.ConfigKey.{ConfigKey}
+use Rattle.run_config.specs.Tables.{Kind, guest_table, optional_table, guest_keys}
 use Rattle.run_config.specs.Tests.{unless, first_fault, missing, out_of_range}
-use Rattle.run_config.specs.Values.{◌>>=◌, passes_if, value_at, text_at, natural_at, is_name, has_only, pairs_within}
+use Rattle.run_config.specs.Values.{◌>>=◌, passes_if, value_at, text_at, text_within, natural_at, natural_or, is_name, has_only, pairs_within}
 
 -- the first number of each pair is at least that of the pair before, and that of the first pair at least this
 unfoldable pub rise_from : ℕ → List (ℕ × ℕ) → Bool
@@ -23,13 +28,23 @@ inputs_in value = do
   _ ← passes_if (nat_le (length inputs) 65536 && rise_from 0 inputs)
   Some inputs
 
--- the inputs of a guest, which may be absent
-abbrev pub optional_inputs : Option Data → Option (List (ℕ × ℕ))
-optional_inputs None = Some []
-optional_inputs (Some value) = inputs_in value
+-- where inputs come from: pairs in format 1, the file of a name of 1 to 255 bytes in format 2 (own)
+unfoldable pub source_in : Format → Data → Option InputSource
+source_in One value = option_map Pairs (inputs_in value)
+source_in Two value = option_map File (text_within 1 255 value)
 
-unfoldable pub inputs_at : Members → Option (List (ℕ × ℕ))
-inputs_at guest = optional_inputs (value_at key.Input guest)
+-- where the inputs of a guest come from: it has none where the key is absent
+abbrev pub optional_source : Format → Option Data → Option InputSource
+optional_source format None = Some (Pairs [])
+optional_source format (Some value) = source_in format value
+
+unfoldable pub input_at : Format → Members → Option InputSource
+input_at format guest = optional_source format (value_at key.Input guest)
+
+-- the weight of a guest, which format 1 does not know: 1 where the key is absent (own)
+unfoldable pub weight_at : Format → Members → ℕ
+weight_at One guest = 1
+weight_at Two guest = natural_or 1 key.Weight guest
 
 -- a name in its form, that no guest before has
 unfoldable pub is_new_name : List (List ℕ) → List ℕ → Bool
@@ -39,34 +54,45 @@ is_new_name names name = is_name name && not (list_any (bytes_eq name) names)
 unfoldable pub absent_key : ℕ → Members → Option ConfigFault
 absent_key number guest = first_fault (map (λ row. missing (Some number) guest row.0) guest_table)
 
--- the fault of the first value that is not of its kind
+-- the fault of the first value of these rows that is not of its kind
+abbrev pub wrong_among : ℕ → Members → List (ConfigKey × Kind) → Option ConfigFault
+wrong_among number guest rows = first_fault (map (out_of_range (Some number) guest) rows)
+
+-- of the keys that a guest must have, and of those that it may have after them
 unfoldable pub wrong_value : ℕ → Members → Option ConfigFault
-wrong_value number guest = first_fault (map (out_of_range number guest) guest_table)
+wrong_value number guest = wrong_among number guest guest_table
+
+unfoldable pub wrong_option : Format → ℕ → Members → Option ConfigFault
+wrong_option format number guest = wrong_among number guest (optional_table format)
 
 -- the first fault of a guest, after guests of these names (own)
-unfoldable pub guest_fault : List (List ℕ) → Members → Option ConfigFault
-guest_fault names guest = first_fault (
+unfoldable pub guest_fault : Format → List (List ℕ) → Members → Option ConfigFault
+guest_fault format names guest = first_fault (
     absent_key (length names) guest
     ∷ wrong_value (length names) guest
+    ∷ wrong_option format (length names) guest
     ∷ unless (is_new_name names (text_at key.Name guest)) (fault.Name (length names))
-    ∷ unless (is_some (inputs_at guest)) (fault.Input (length names))
-    ∷ unless (has_only guest_keys guest) (fault.Extra (Some (length names)))
+    ∷ unless (is_some (input_at format guest)) (fault.Input (length names))
+    ∷ unless (has_only (guest_keys format) guest) (fault.Extra (Some (length names)))
     ∷ [])
 
 -- the first fault of guests, in their order, after guests of these names
-unfoldable pub guests_fault : List (List ℕ) → List Members → Option ConfigFault
-guests_fault names [] = None
-guests_fault names (guest ∷ rest) =
-    first_fault (guest_fault names guest ∷ guests_fault (names ++ text_at key.Name guest ∷ []) rest ∷ [])
+unfoldable pub guests_fault : Format → List (List ℕ) → List Members → Option ConfigFault
+guests_fault format names [] = None
+guests_fault format names (guest ∷ rest) = first_fault (
+    guest_fault format names guest
+    ∷ guests_fault format (names ++ text_at key.Name guest ∷ []) rest
+    ∷ [])
 
 -- the settings of a guest that has no fault
-unfoldable pub settings_of : Members → GuestSettings
-settings_of guest = record {
+unfoldable pub settings_of : Format → Members → GuestSettings
+settings_of format guest = record {
   name = text_at key.Name guest;
   image = text_at key.Image guest;
   blocks = natural_at key.Blocks guest;
   spaces = natural_at key.Spaces guest;
   entries = natural_at key.Entries guest;
   console = natural_at key.Console guest;
-  inputs = unwrap_or (inputs_at guest) [];
+  weight = weight_at format guest;
+  input = unwrap_or (input_at format guest) (Pairs []);
 }

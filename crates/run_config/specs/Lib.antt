@@ -5,6 +5,7 @@ pub mod Faults
 pub mod Guests
 pub mod Kept
 pub mod Keys
+pub mod Records
 pub mod Seen
 pub mod Tables
 pub mod Tests

@@ -8,6 +8,7 @@ use Rattle.toml.specs.declared.value.Value.{Value}
 use Rattle.toml.specs.Data.{Members, as_str}
 use Rattle.run_config.specs.declared.faults.ConfigFault.{ConfigFault}
 use Rattle.run_config.specs.declared.guests.GuestSettings.{GuestSettings}
+use Rattle.run_config.specs.declared.guests.InputSource.{InputSource}
 use Rattle.run_config.specs.declared.keys.ConfigKey.TheVariants as key
 use Rattle.run_config.specs.declared.settings.GuestRef.{GuestRef}
 use Rattle.run_config.specs.declared.settings.GuestValues.{GuestValues}
@@ -29,14 +30,14 @@ pub record AreAt (v : GuestValues) (table : Members) : Type 0 where
   pub console : value_at key.Console table ≡ Some (view v.console.now)
 
 -- the fault of the first of these values that is not of its kind
-unfoldable pub wrong_among : ℕ → GuestValues → Option ConfigFault
-wrong_among number v = first_fault (
-    wrong_kind number (key.Name, any_text) (view v.name.now)
-    ∷ wrong_kind number (key.Image, text_of 1 255) (view v.image.now)
-    ∷ wrong_kind number (key.Blocks, integer_of 1 32) (view v.blocks.now)
-    ∷ wrong_kind number (key.Spaces, integer_of 1 8) (view v.spaces.now)
-    ∷ wrong_kind number (key.Entries, integer_of 16 256) (view v.entries.now)
-    ∷ wrong_kind number (key.Console, integer_of 0 1048576) (view v.console.now)
+unfoldable pub wrong_seen : ℕ → GuestValues → Option ConfigFault
+wrong_seen number v = first_fault (
+    wrong_kind (Some number) (key.Name, any_text) (view v.name.now)
+    ∷ wrong_kind (Some number) (key.Image, text_of 1 255) (view v.image.now)
+    ∷ wrong_kind (Some number) (key.Blocks, integer_of 1 32) (view v.blocks.now)
+    ∷ wrong_kind (Some number) (key.Spaces, integer_of 1 8) (view v.spaces.now)
+    ∷ wrong_kind (Some number) (key.Entries, integer_of 16 256) (view v.entries.now)
+    ∷ wrong_kind (Some number) (key.Console, integer_of 0 1048576) (view v.console.now)
     ∷ [])
 
 -- these are what the values are
@@ -57,16 +58,17 @@ pub record HasValues (r : GuestRef) (table : Members) : Type 0 where
   pub entries : r.entries ≡ natural_at key.Entries table
   pub console : r.console ≡ natural_at key.Console table
 
--- the settings of these values, with these inputs
-abbrev pub settings_seen : GuestRef → List (ℕ × ℕ) → GuestSettings
-settings_seen r inputs = record {
+-- the settings of these values, with this weight and these inputs
+abbrev pub settings_seen : GuestRef → ℕ → InputSource → GuestSettings
+settings_seen r weight input = record {
   name = r.name.now;
   image = r.image.now;
   blocks = r.blocks;
   spaces = r.spaces;
   entries = r.entries;
   console = r.console;
-  inputs = inputs;
+  weight = weight;
+  input = input;
 }
 
 -- the tables that these references point to

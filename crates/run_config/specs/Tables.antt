@@ -1,5 +1,7 @@
 -- The tables of the configuration: which keys there are, and what the value of each may be.
 use Rattle.std.specs.Prelude.{ℕ, List, [], ◌∷◌, ◌++◌, map}
+use Rattle.run_config.specs.declared.formats.Format.{Format}
+use Rattle.run_config.specs.declared.formats.Format.TheVariants.{One, Two}
 use Rattle.run_config.specs.declared.keys.ConfigKey.{ConfigKey}
 use Rattle.run_config.specs.declared.keys.ConfigKey.TheVariants as key
 
@@ -22,10 +24,15 @@ guest_table = (key.Name, any_text)
     ∷ (key.Console, integer_of 0 1048576)
     ∷ []
 
+-- the keys of the same kinds that a guest may have after these (own)
+abbrev pub optional_table : Format → List (ConfigKey × Kind)
+optional_table One = []
+optional_table Two = (key.Weight, integer_of 1 1000) ∷ []
+
 -- all keys that a guest may have: these and one more (own)
-abbrev pub guest_keys : List ConfigKey
-guest_keys = map (λ row. row.0) guest_table ++ key.Input ∷ []
+abbrev pub guest_keys : Format → List ConfigKey
+guest_keys format = map (λ row. row.0) (guest_table ++ optional_table format) ++ key.Input ∷ []
 
 -- all keys that the document may have (own)
-abbrev pub document_keys : List ConfigKey
-document_keys = key.Format ∷ key.Guest ∷ key.Turns ∷ key.Quantum ∷ key.Rounds ∷ []
+abbrev pub document_keys : Format → List ConfigKey
+document_keys format = key.Format ∷ key.Guest ∷ key.Turns ∷ key.Quantum ∷ key.Rounds ∷ []

@@ -23,9 +23,9 @@ unfoldable pub missing : Option ℕ → Members → ConfigKey → Option ConfigF
 missing guest table key = unless (is_some (value_at key table)) (fault.Missing guest key)
 
 -- a value must be of the kind that its row of the table says
-unfoldable pub wrong_kind : ℕ → ConfigKey × Kind → Data → Option ConfigFault
-wrong_kind guest row value = unless (is_of row.1 value) (fault.Range (Some guest) row.0 (as_integer value))
+unfoldable pub wrong_kind : Option ℕ → ConfigKey × Kind → Data → Option ConfigFault
+wrong_kind guest row value = unless (is_of row.1 value) (fault.Range guest row.0 (as_integer value))
 
 -- the same of the value at the key of a row, where there is one
-unfoldable pub out_of_range : ℕ → Members → ConfigKey × Kind → Option ConfigFault
+unfoldable pub out_of_range : Option ℕ → Members → ConfigKey × Kind → Option ConfigFault
 out_of_range guest table row = value_at row.0 table >>= wrong_kind guest row

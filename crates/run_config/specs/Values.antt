@@ -47,12 +47,23 @@ is_of any_text value = is_some (as_str value)
 is_of (text_of low high) value = option_map_or (has_length low high) (as_str value) false
 is_of (integer_of low high) value = is_some (number_within low high value)
 
+-- a text of at least and at most so many bytes, where a value is one
+unfoldable pub text_within : ℕ → ℕ → Data → Option (List ℕ)
+text_within low high value = do
+  text ← as_str value
+  _ ← passes_if (has_length low high text)
+  Some text
+
+-- the number at a key, and this one where there is none
+unfoldable pub natural_or : ℕ → ConfigKey → Members → ℕ
+natural_or absent key table = unwrap_or (value_at key table >>= as_integer >>= natural) absent
+
 -- the text at a key, and the number: nothing and 0 where there is none
 unfoldable pub text_at : ConfigKey → Members → List ℕ
 text_at key table = unwrap_or (value_at key table >>= as_str) []
 
-unfoldable pub natural_at : ConfigKey → Members → ℕ
-natural_at key table = unwrap_or (value_at key table >>= as_integer >>= natural) 0
+abbrev pub natural_at : ConfigKey → Members → ℕ
+natural_at = natural_or 0
 
 -- a name: 1 to 32 ASCII letters and digits (own)
 unfoldable pub is_name : List ℕ → Bool

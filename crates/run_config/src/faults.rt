@@ -12,7 +12,7 @@ pub enum ConfigFault {
     TooLong,
     /// The bytes are no TOML document.
     NotToml,
-    /// `format` is absent or not the integer 1.
+    /// `format` is absent, or neither the integer 1 nor 2.
     Format,
     /// A key is absent that must be there: in this guest, or in the document.
     Missing {
@@ -32,11 +32,12 @@ pub enum ConfigFault {
     },
     /// The turns are said in neither form or in both, or a value of them is wrong.
     Turns,
-    /// The inputs are not pairs of a moment and a byte, or a moment falls.
+    /// In format 1 the inputs are not pairs of a moment and a byte, or a moment falls; in format 2 they are no
+    /// text of 1 to 255 bytes.
     Input {
         guest: u32,
     },
-    /// There is a key that a guest, or the document, does not have.
+    /// There is a key that a guest, or the document, does not have in this format.
     Extra {
         guest: Option<u32>,
     },
@@ -49,10 +50,21 @@ pub enum ConfigFault {
     Frames {
         sum: u32,
     },
+    /// A file of inputs has a bad record, the first one with this number, from 0 on: it has fewer than 9 bytes,
+    /// a moment of 2^62 or more or less than the one before, or it is record 65,536. `read` never answers it.
+    InputFile {
+        guest: u32,
+        record: u32,
+    },
+    /// The weight times the quantum is more than 2^32: so much.
+    Weight {
+        guest: u32,
+        product: i64,
+    },
 }
 
 impl ConfigFault {
-    /// The number of the fault, from 1 to 11.
+    /// The number of the fault, from 1 to 13.
     #[tactic(auto, unfolding(crate::specs::Faults::fault_number))]
     pub fn number(self) -> u8
         ensures { result ≡ fault_number self }
@@ -69,6 +81,8 @@ impl ConfigFault {
             ConfigFault::TooLong => 9,
             ConfigFault::ImageLong { .. } => 10,
             ConfigFault::Frames { .. } => 11,
+            ConfigFault::InputFile { .. } => 12,
+            ConfigFault::Weight { .. } => 13,
         }
     }
 
@@ -83,7 +97,9 @@ impl ConfigFault {
             | ConfigFault::Extra { guest } => guest,
             ConfigFault::Name { guest }
             | ConfigFault::Input { guest }
-            | ConfigFault::ImageLong { guest, .. } => Some(guest),
+            | ConfigFault::ImageLong { guest, .. }
+            | ConfigFault::InputFile { guest, .. }
+            | ConfigFault::Weight { guest, .. } => Some(guest),
             ConfigFault::TooLong
             | ConfigFault::NotToml
             | ConfigFault::Format
@@ -104,7 +120,7 @@ impl ConfigFault {
     }
 
     /// The value that it keeps: the wrong integer, the length of a wrong array of guests, the bytes that were
-    /// read of an image, or the sum of the frames.
+    /// read of an image, the sum of the frames, the number of a bad record, or a weight times the quantum.
     #[tactic(auto, unfolding(crate::specs::Faults::fault_value))]
     pub fn value(self) -> Option<i64>
         ensures { result ≡ fault_value self }
@@ -113,6 +129,8 @@ impl ConfigFault {
             ConfigFault::Range { value, .. } => value,
             ConfigFault::ImageLong { bytes, .. } => Some(i64::from(bytes)),
             ConfigFault::Frames { sum } => Some(i64::from(sum)),
+            ConfigFault::InputFile { record, .. } => Some(i64::from(record)),
+            ConfigFault::Weight { product, .. } => Some(product),
             _ => None,
         }
     }

@@ -37,6 +37,15 @@ impl FileName {
     }
 }
 
+/// Where a guest's inputs come from.
+#[derive(Debug, Drop)]
+pub enum InputSource {
+    /// These pairs of a moment and a byte.
+    Pairs(Inputs),
+    /// A file of records, which `inputs` reads.
+    File(FileName),
+}
+
 /// What a configuration says of a guest.
 #[derive(Debug, Drop)]
 pub struct GuestSettings {
@@ -52,6 +61,8 @@ pub struct GuestSettings {
     pub entries: u64,
     /// How many bytes its console keeps.
     pub console: u64,
-    /// The bytes that come to its console, each with its moment.
-    pub inputs: Inputs,
+    /// How many times the quantum it has in each round.
+    pub weight: u64,
+    /// Where the bytes that come to its console are from.
+    pub input: InputSource,
 }

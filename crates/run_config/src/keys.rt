@@ -19,6 +19,7 @@ pub enum ConfigKey {
     Spaces,
     Entries,
     Console,
+    Weight,
     Input,
 }
 
@@ -40,6 +41,7 @@ impl ConfigKey {
             ConfigKey::Spaces => "spaces",
             ConfigKey::Entries => "entries",
             ConfigKey::Console => "console",
+            ConfigKey::Weight => "weight",
             ConfigKey::Input => "input",
         }
     }

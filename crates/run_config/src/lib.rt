@@ -1,14 +1,16 @@
-//! The configuration of a run, format 1: a TOML document that describes the guests and their turns.
+//! The configuration of a run, formats 1 and 2: a TOML document that describes the guests and their turns.
 //!
 //! `read` takes the bytes of the document. It answers the configuration that `accept` of
-//! `specs/Accept.antt` has for them, or the first fault.
+//! `specs/Accept.antt` has for them, or the first fault. `inputs` takes the bytes of a file of inputs.
 #![tactic(auto)]
 
 mod configuration;
 mod ends;
 mod faults;
+mod formats;
 mod guests;
-mod inputs;
+mod input_pairs;
+mod input_records;
 mod keys;
 mod pairs;
 mod reading;
@@ -19,7 +21,8 @@ mod values;
 pub use configuration::Config;
 pub use ends::ReadEnd;
 pub use faults::ConfigFault;
-pub use guests::{FileName, GuestSettings};
+pub use guests::{FileName, GuestSettings, InputSource};
+pub use input_records::{InputEnd, inputs};
 pub use keys::ConfigKey;
 pub use reading::{accepted_is_within_limits, read};
 pub use turn_plan::Turns;

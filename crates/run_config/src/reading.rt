@@ -5,7 +5,7 @@ ghost use Rattle.std.specs.Str.{is_utf8};
 ghost use Rattle.toml.specs.View.{view, items_view, table_view};
 ghost use Rattle.run_config.specs.declared.ends.ReadEnd.TheVariants.{NoMemory, Refused};
 ghost use Rattle.run_config.specs.declared.faults.ConfigFault.TheVariants as fault;
-ghost use Rattle.run_config.specs.Accept.{accept, array_length, configuration_of, document_fault, guests_at, guests_in, has_format, head_fault, tree_of, AcceptedIsWithinLimits};
+ghost use Rattle.run_config.specs.Accept.{accept, array_length, configuration_of, document_fault, format_at, guests_at, guests_in, head_fault, tree_of, AcceptedIsWithinLimits};
 ghost use Rattle.run_config.specs.Answers.{IfRefused};
 ghost use Rattle.run_config.specs.Configurations.{IsWithinLimits};
 ghost use Rattle.run_config.specs.Guests.{guests_fault, settings_of};
@@ -15,11 +15,12 @@ ghost use Rattle.run_config.specs.Values.{tables_of};
 use crate::configuration::Config;
 use crate::ends::ReadEnd;
 use crate::faults::ConfigFault;
+use crate::formats::Format;
 use crate::guests::GuestSettings;
 use crate::keys::ConfigKey;
-use crate::schedules::turns_at;
+use crate::schedules::{schedule_at, turns_of};
 use crate::settings::settings_of;
-use crate::values::{has_only, number_within, value_at};
+use crate::values::{has_only, natural, value_at};
 use std::alloc::{AllocError, Global};
 use toml::{Table, Value};
 
@@ -28,15 +29,6 @@ const MOST_BYTES: usize = 65_536;
 
 // The most guests.
 const MOST_GUESTS: usize = 16;
-
-// All keys that the document may have.
-const DOCUMENT_KEYS: [ConfigKey; 5] = [
-    ConfigKey::Format,
-    ConfigKey::Guest,
-    ConfigKey::Turns,
-    ConfigKey::Quantum,
-    ConfigKey::Rounds,
-];
 
 // The document that the bytes spell.
 #[tactic(auto, unfolding(crate::specs::Accept::tree_of), using(crate::proofs::Texts::texts))]
@@ -60,15 +52,15 @@ fn tree(alloc: Global, bytes: &[u8]) -> Result<Table, ReadEnd>
     }
 }
 
-// Whether `format` is the integer 1.
-#[tactic(auto, unfolding(crate::specs::Accept::has_format))]
-fn has_format(document: &Table) -> bool
-    ensures { result ≡ has_format (table_view document.now) }
+// The format of a document.
+#[tactic(auto, unfolding(crate::specs::Accept::format_at))]
+fn format_at(document: &Table) -> Option<Format>
+    ensures { result ≡ format_at (table_view document.now) }
 {
-    match value_at(document, ConfigKey::Format) {
-        Some(value) => number_within(1, 1, value).is_some(),
-        None => false,
-    }
+    let value = value_at(document, ConfigKey::Format)?;
+    let integer = value.as_integer()?;
+    let number = natural(integer)?;
+    Format::numbered(number)
 }
 
 // The tables that all of these values are.
@@ -122,16 +114,20 @@ fn array_length(document: &Table) -> Option<i64>
 
 // The settings of the guests whose tables these are.
 #[tactic(auto, unfolding(crate::specs::Guests::guests_fault), using(crate::proofs::Guesting::guests))]
-fn all_settings(alloc: Global, tables: &[&Table]) -> Result<Vec<GuestSettings>, ReadEnd>
+fn all_settings(
+    alloc: Global,
+    format: Format,
+    tables: &[&Table],
+) -> Result<Vec<GuestSettings>, ReadEnd>
     requires few { length tables.now ≤ 16 }
-    ensures passed { OnOk result (guests_fault [] (tables_seen tables.now) ≡ None) }
+    ensures passed { OnOk result (guests_fault format [] (tables_seen tables.now) ≡ None) }
     ensures count { IfOk result (λ gs. length gs.items ≡ length tables.now) }
-    ensures settings { IfOk result (λ gs. gs.items ≡ map settings_of (tables_seen tables.now)) }
-    ensures refused { IfRefused result (λ f. guests_fault [] (tables_seen tables.now) ≡ Some f) }
+    ensures settings { IfOk result (λ gs. gs.items ≡ map (settings_of format) (tables_seen tables.now)) }
+    ensures refused { IfRefused result (λ f. guests_fault format [] (tables_seen tables.now) ≡ Some f) }
 {
     let mut guests = Vec::new(alloc);
     for table in tables {
-        let guest = settings_of(alloc, guests.as_slice(), table)?;
+        let guest = settings_of(alloc, format, guests.as_slice(), table)?;
         guests.push(guest)?;
     }
     Ok(guests)
@@ -139,16 +135,16 @@ fn all_settings(alloc: Global, tables: &[&Table]) -> Result<Vec<GuestSettings>, 
 
 // The configuration that a document says. Want of memory never stands in the place of a refusal by `format`,
 // or of one where there is no `guest`.
-#[tactic(auto, unfolding(crate::specs::Accept::document_fault, crate::specs::Accept::head_fault, crate::specs::Accept::configuration_of, crate::specs::Accept::guests_in, crate::specs::Tests::missing))]
+#[tactic(auto, unfolding(crate::specs::Accept::document_fault, crate::specs::Accept::head_fault, crate::specs::Accept::configuration_of, crate::specs::Accept::guests_in, crate::specs::Accept::format_in, crate::specs::Accept::settings_in, crate::specs::Accept::schedule_in, crate::specs::Tests::missing))]
 fn configuration_of(alloc: Global, document: &Table) -> Result<Config, ReadEnd>
     ensures passed { OnOk result (document_fault (table_view document.now) ≡ None) }
     ensures configuration { IfOk result (λ c. c ≡ configuration_of (table_view document.now)) }
     ensures refused { IfRefused result (λ f. document_fault (table_view document.now) ≡ Some f) }
     ensures memory { IsErrOf result NoMemory → head_fault (table_view document.now) ≡ None }
 {
-    if !has_format(document) {
-        return Err(ReadEnd::Refused(ConfigFault::Format));
-    }
+    let Some(format) = format_at(document) else {
+        return Err(ReadEnd::Refused(ConfigFault::Format))
+    };
     if value_at(document, ConfigKey::Guest).is_none() {
         return Err(ReadEnd::Refused(ConfigFault::Missing {
             guest: None,
@@ -162,13 +158,14 @@ fn configuration_of(alloc: Global, document: &Table) -> Result<Config, ReadEnd>
             value: array_length(document),
         }))
     };
-    let guests = all_settings(alloc, tables.as_slice())?;
-    let Some(turns) = turns_at(alloc, guests.len() as u32, document)? else {
+    let guests = all_settings(alloc, format, tables.as_slice())?;
+    let Some(schedule) = schedule_at(alloc, guests.len() as u32, document)? else {
         return Err(ReadEnd::Refused(ConfigFault::Turns))
     };
-    if !has_only(document, &DOCUMENT_KEYS) {
+    if !has_only(document, format.document_keys()) {
         return Err(ReadEnd::Refused(ConfigFault::Extra { guest: None }));
     }
+    let turns = turns_of(alloc, guests.as_slice(), schedule)?;
     Ok(Config::new(guests, turns))
 }
 

@@ -6,32 +6,22 @@ ghost use Rattle.toml.specs.Data.{as_integer, as_str};
 ghost use Rattle.toml.specs.View.{view, table_view};
 ghost use Rattle.run_config.specs.declared.faults.ConfigFault.TheVariants as fault;
 ghost use Rattle.run_config.specs.Answers.{IfRefused};
-ghost use Rattle.run_config.specs.Guests.{absent_key, wrong_value, guest_fault, is_new_name, settings_of};
-ghost use Rattle.run_config.specs.Seen.{AreAt, AreReadFrom, HasValues, names_of, settings_seen, wrong_among};
+ghost use Rattle.run_config.specs.Guests.{absent_key, wrong_value, wrong_option, guest_fault, input_at, is_new_name, settings_of, weight_at};
+ghost use Rattle.run_config.specs.Seen.{AreAt, AreReadFrom, HasValues, names_of, settings_seen, wrong_seen};
 ghost use Rattle.run_config.specs.Tables.{any_text, text_of, integer_of};
-ghost use Rattle.run_config.specs.Tests.{first_fault, missing, wrong_kind};
-ghost use Rattle.run_config.specs.Values.{natural_at, number_within, text_at, value_at};
+ghost use Rattle.run_config.specs.Tests.{first_fault, missing, out_of_range, wrong_kind};
+ghost use Rattle.run_config.specs.Values.{natural_at, natural_or, number_within, text_at, value_at};
 
 use crate::ends::ReadEnd;
 use crate::faults::ConfigFault;
-use crate::guests::{FileName, GuestSettings};
-use crate::inputs::inputs_at;
+use crate::formats::Format;
+use crate::guests::{FileName, GuestSettings, InputSource};
+use crate::input_pairs::input_at;
 use crate::keys::ConfigKey;
 use crate::values::{has_length, has_only, is_name, number_within, value_at};
-use guest_specs::{Inputs, Name};
+use guest_specs::Name;
 use std::alloc::{AllocError, Global};
 use toml::{Table, Value};
-
-// All keys that a guest may have.
-const GUEST_KEYS: [ConfigKey; 7] = [
-    ConfigKey::Name,
-    ConfigKey::Image,
-    ConfigKey::Blocks,
-    ConfigKey::Spaces,
-    ConfigKey::Entries,
-    ConfigKey::Console,
-    ConfigKey::Input,
-];
 
 /// The values at the keys that a guest must have.
 #[derive(Clone, Copy)]
@@ -86,8 +76,8 @@ fn range_fault(guest: u32, key: ConfigKey, value: &Value) -> ConfigFault
 #[tactic(auto, unfolding(crate::specs::Tests::wrong_kind, crate::specs::Values::is_of))]
 fn text_in<'a>(value: &'a Value, guest: u32, key: ConfigKey) -> Result<&'a str, ConfigFault>
     ensures text { IfOk result (λ t. as_str (view value.now) ≡ Some t.now) }
-    ensures passed { OnOk result (wrong_kind guest (key, any_text) (view value.now) ≡ None) }
-    ensures refused { IfErr result (λ f. wrong_kind guest (key, any_text) (view value.now) ≡ Some f) }
+    ensures passed { OnOk result (wrong_kind (Some guest) (key, any_text) (view value.now) ≡ None) }
+    ensures refused { IfErr result (λ f. wrong_kind (Some guest) (key, any_text) (view value.now) ≡ Some f) }
 {
     match value.as_str() {
         Some(text) => Ok(text),
@@ -99,8 +89,8 @@ fn text_in<'a>(value: &'a Value, guest: u32, key: ConfigKey) -> Result<&'a str, 
 #[tactic(auto, unfolding(crate::specs::Tests::wrong_kind, crate::specs::Values::is_of))]
 fn file_name_in<'a>(value: &'a Value, guest: u32, key: ConfigKey) -> Result<&'a str, ConfigFault>
     ensures text { IfOk result (λ t. as_str (view value.now) ≡ Some t.now) }
-    ensures passed { OnOk result (wrong_kind guest (key, text_of 1 255) (view value.now) ≡ None) }
-    ensures refused { IfErr result (λ f. wrong_kind guest (key, text_of 1 255) (view value.now) ≡ Some f) }
+    ensures passed { OnOk result (wrong_kind (Some guest) (key, text_of 1 255) (view value.now) ≡ None) }
+    ensures refused { IfErr result (λ f. wrong_kind (Some guest) (key, text_of 1 255) (view value.now) ≡ Some f) }
 {
     let Some(text) = value.as_str() else {
         return Err(range_fault(guest, key, value))
@@ -122,9 +112,9 @@ fn number_in(
     high: u64,
 ) -> Result<u64, ConfigFault>
     ensures number { IfOk result (λ n. number_within low high (view value.now) ≡ Some n) }
-    ensures passed { OnOk result (wrong_kind guest (key, integer_of low high) (view value.now) ≡ None) }
+    ensures passed { OnOk result (wrong_kind (Some guest) (key, integer_of low high) (view value.now) ≡ None) }
     ensures refused { IfErr result (λ f.
-        wrong_kind guest (key, integer_of low high) (view value.now) ≡ Some f) }
+        wrong_kind (Some guest) (key, integer_of low high) (view value.now) ≡ Some f) }
 {
     match number_within(low, high, value) {
         Some(number) => Ok(number),
@@ -156,11 +146,11 @@ fn values_at<'a>(table: &'a Table, guest: u32) -> Result<GuestValues<'a>, Config
 }
 
 // The settings that these values are, where each is of its kind.
-#[tactic(auto, unfolding(crate::specs::Seen::wrong_among))]
+#[tactic(auto, unfolding(crate::specs::Seen::wrong_seen))]
 fn settings_in<'a>(values: GuestValues<'a>, guest: u32) -> Result<GuestRef<'a>, ConfigFault>
-    ensures of_kind { OnOk result (wrong_among guest values.entry ≡ None) }
+    ensures of_kind { OnOk result (wrong_seen guest values.entry ≡ None) }
     ensures settings { IfOk result (λ r. AreReadFrom r values.entry) }
-    ensures refused { IfErr result (λ f. wrong_among guest values.entry ≡ Some f) }
+    ensures refused { IfErr result (λ f. wrong_seen guest values.entry ≡ Some f) }
 {
     let name = text_in(values.name, guest, ConfigKey::Name)?;
     let image = file_name_in(values.image, guest, ConfigKey::Image)?;
@@ -191,6 +181,40 @@ fn values_of<'a>(table: &'a Table, guest: u32) -> Result<GuestRef<'a>, ConfigFau
     Ok(settings_in(values, guest)?)
 }
 
+// The number at a key that need not be there, within these limits: this one where it is absent.
+#[tactic(auto, unfolding(crate::specs::Tests::out_of_range, crate::specs::Values::natural_or))]
+fn number_or(
+    absent: u64,
+    table: &Table,
+    guest: u32,
+    key: ConfigKey,
+    low: u64,
+    high: u64,
+) -> Result<u64, ConfigFault>
+    ensures number { IfOk result (λ n. n ≡ natural_or absent key (table_view table.now)) }
+    ensures passed { OnOk result (out_of_range (Some guest) (table_view table.now) (key, integer_of low high) ≡ None) }
+    ensures refused { IfErr result (λ f.
+        out_of_range (Some guest) (table_view table.now) (key, integer_of low high) ≡ Some f) }
+{
+    match value_at(table, key) {
+        Some(value) => number_in(value, guest, key, low, high),
+        None => Ok(absent),
+    }
+}
+
+// The weight of a guest.
+#[tactic(auto, unfolding(crate::specs::Guests::weight_at, crate::specs::Guests::wrong_option))]
+fn weight_at(format: Format, table: &Table, guest: u32) -> Result<u64, ConfigFault>
+    ensures weight { IfOk result (λ n. n ≡ weight_at format (table_view table.now)) }
+    ensures passed { OnOk result (wrong_option format guest (table_view table.now) ≡ None) }
+    ensures refused { IfErr result (λ f. wrong_option format guest (table_view table.now) ≡ Some f) }
+{
+    match format {
+        Format::One => Ok(1),
+        Format::Two => number_or(1, table, guest, ConfigKey::Weight, 1, 1000),
+    }
+}
+
 // Whether a guest before has the name.
 fn is_taken(guests: &[GuestSettings], name: &str) -> bool
     ensures { result ≡ list_any (λ guest. bytes_eq name.now guest.name) guests.now }
@@ -212,9 +236,10 @@ fn is_new_name(guests: &[GuestSettings], name: &str) -> bool
 fn kept(
     alloc: Global,
     seen: GuestRef<'_>,
-    inputs: Vec<(u64, u8)>,
+    weight: u64,
+    input: InputSource,
 ) -> Result<GuestSettings, AllocError>
-    ensures { IfOk result (λ g. g ≡ settings_seen seen.entry inputs.items) }
+    ensures { IfOk result (λ g. g ≡ settings_seen seen.entry weight input) }
 {
     Ok(GuestSettings {
         name: Name::from_vec(Vec::from_slice(alloc, seen.name.as_bytes())?),
@@ -223,7 +248,8 @@ fn kept(
         spaces: seen.spaces,
         entries: seen.entries,
         console: seen.console,
-        inputs: Inputs::from_vec(inputs),
+        weight,
+        input,
     })
 }
 
@@ -231,25 +257,27 @@ fn kept(
 #[tactic(auto, unfolding(crate::specs::Guests::guest_fault, crate::specs::Guests::settings_of))]
 pub fn settings_of(
     alloc: Global,
+    format: Format,
     before: &[GuestSettings],
     table: &Table,
 ) -> Result<GuestSettings, ReadEnd>
     requires few { length before.now ≤ 16 }
-    ensures passed { OnOk result (guest_fault (names_of before.now) (table_view table.now) ≡ None) }
-    ensures settings { IfOk result (λ g. g ≡ settings_of (table_view table.now)) }
+    ensures passed { OnOk result (guest_fault format (names_of before.now) (table_view table.now) ≡ None) }
+    ensures settings { IfOk result (λ g. g ≡ settings_of format (table_view table.now)) }
     ensures refused { IfRefused result (λ f.
-        guest_fault (names_of before.now) (table_view table.now) ≡ Some f) }
+        guest_fault format (names_of before.now) (table_view table.now) ≡ Some f) }
 {
     let guest = before.len() as u32;
     let seen = values_of(table, guest)?;
+    let weight = weight_at(format, table, guest)?;
     if !is_new_name(before, seen.name) {
         return Err(ReadEnd::Refused(ConfigFault::Name { guest }));
     }
-    let Some(inputs) = inputs_at(alloc, table)? else {
+    let Some(input) = input_at(alloc, format, table)? else {
         return Err(ReadEnd::Refused(ConfigFault::Input { guest }))
     };
-    if !has_only(table, &GUEST_KEYS) {
+    if !has_only(table, format.guest_keys()) {
         return Err(ReadEnd::Refused(ConfigFault::Extra { guest: Some(guest) }));
     }
-    Ok(kept(alloc, seen, inputs)?)
+    Ok(kept(alloc, seen, weight, input)?)
 }

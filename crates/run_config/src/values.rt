@@ -7,7 +7,7 @@ ghost use Rattle.std.specs.List.{list_all, list_any};
 ghost use Rattle.toml.specs.Data.{get_member};
 ghost use Rattle.toml.specs.View.{view, table_view};
 ghost use Rattle.run_config.specs.Keys.{name_of};
-ghost use Rattle.run_config.specs.Values.{has_length, has_only, is_name, natural, number_within, value_at};
+ghost use Rattle.run_config.specs.Values.{has_length, has_only, is_name, natural, number_within, text_within, value_at};
 
 use crate::keys::ConfigKey;
 use toml::{Table, Value};
@@ -60,6 +60,19 @@ pub fn has_length(low: usize, high: usize, text: &str) -> bool
     ensures { result ≡ has_length low high text.now }
 {
     low <= text.len() && text.len() <= high
+}
+
+/// The text that a value is, where it has at least and at most so many bytes.
+#[tactic(auto, unfolding(crate::specs::Values::text_within))]
+pub fn text_within(low: usize, high: usize, value: &Value) -> Option<&str>
+    ensures { option_map (λ t. t.now) result ≡ text_within low high (view value.now) }
+{
+    let text = value.as_str()?;
+    if has_length(low, high, text) {
+        Some(text)
+    } else {
+        None
+    }
 }
 
 // Whether the text has letters and digits alone, all of them ASCII.

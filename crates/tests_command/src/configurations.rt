@@ -1,6 +1,7 @@
 // What is read of a configuration, and what its faults keep.
 
-use run_config::{ConfigFault, ConfigKey, GuestSettings, read};
+use run_config::{ConfigFault, ConfigKey, GuestSettings, InputEnd, InputSource, inputs, read};
+use std::alloc::Global;
 use std::test::Fail;
 use turn_plan::Turns;
 
@@ -12,7 +13,14 @@ struct Settings {
     spaces: u64,
     entries: u64,
     console: u64,
-    inputs: &'static [(u64, u8)],
+    weight: u64,
+    input: Source,
+}
+
+// Where its inputs come from.
+enum Source {
+    Pairs(&'static [(u64, u8)]),
+    File(&'static str),
 }
 
 static SETTINGS: [Settings; 3] = [
@@ -23,7 +31,8 @@ static SETTINGS: [Settings; 3] = [
         spaces: 1,
         entries: 16,
         console: 0,
-        inputs: &[],
+        weight: 1,
+        input: Source::Pairs(&[]),
     },
     Settings {
         name: b"Guest7",
@@ -32,7 +41,8 @@ static SETTINGS: [Settings; 3] = [
         spaces: 8,
         entries: 256,
         console: 1_048_576,
-        inputs: &[],
+        weight: 1,
+        input: Source::Pairs(&[]),
     },
     Settings {
         name: b"b",
@@ -41,7 +51,31 @@ static SETTINGS: [Settings; 3] = [
         spaces: 3,
         entries: 17,
         console: 5,
-        inputs: &[(3, 48), (3, 255), (9, 0)],
+        weight: 1,
+        input: Source::Pairs(&[(3, 48), (3, 255), (9, 0)]),
+    },
+];
+
+static SETTINGS_TWO: [Settings; 2] = [
+    Settings {
+        name: b"a",
+        image: "a.bin",
+        blocks: 1,
+        spaces: 1,
+        entries: 16,
+        console: 0,
+        weight: 1000,
+        input: Source::File("keys 1.bin"),
+    },
+    Settings {
+        name: b"b",
+        image: "b",
+        blocks: 2,
+        spaces: 3,
+        entries: 17,
+        console: 5,
+        weight: 1,
+        input: Source::Pairs(&[]),
     },
 ];
 
@@ -49,6 +83,10 @@ const EACH_VALUE: &str = "format=1\nturns=[[2,4294967296],[0,0],[2,7]]\n\
     guest=[{name='a',image='a.bin',blocks=1,spaces=1,entries=16,console=0},\
     {name='Guest7',image='dir/g 7.bin',blocks=32,spaces=8,entries=0x100,console=1_048_576},\
     {name='b',image='b',blocks=2,spaces=3,entries=17,console=5,input=[[3,48],[3,255],[9,0]]}]";
+
+const EACH_VALUE_TWO: &str = "format=2\nquantum=4294967\nrounds=2\n\
+    guest=[{name='a',image='a.bin',blocks=1,spaces=1,entries=16,console=0,weight=1_000,input='keys 1.bin'},\
+    {name='b',image='b',blocks=2,spaces=3,entries=17,console=5}]";
 
 const ROUNDS: &str = "format=1\nquantum=9\nrounds=2\n\
     guest=[{name='a',image='a',blocks=1,spaces=1,entries=16,console=0},\
@@ -61,7 +99,16 @@ fn are_read(guest: &GuestSettings, settings: &Settings) -> bool {
         && guest.spaces == settings.spaces
         && guest.entries == settings.entries
         && guest.console == settings.console
-        && guest.inputs.as_slice() == settings.inputs
+        && guest.weight == settings.weight
+        && is_from(&guest.input, &settings.input)
+}
+
+fn is_from(input: &InputSource, source: &Source) -> bool {
+    match (input, source) {
+        (InputSource::Pairs(inputs), Source::Pairs(pairs)) => inputs.as_slice() == *pairs,
+        (InputSource::File(file), Source::File(name)) => file.as_str() == *name,
+        _ => false,
+    }
 }
 
 #[test]
@@ -72,6 +119,85 @@ fn each_value(rt: HostRuntime) -> Result<(), Fail> {
     for (guest, settings) in config.guests().iter().zip(&SETTINGS) {
         assert!(rt; are_read(guest, settings));
     }
+    Ok(())
+}
+
+#[test]
+fn each_value_of_format_2(rt: HostRuntime) -> Result<(), Fail> {
+    let config = read(rt.alloc(), EACH_VALUE_TWO.as_bytes())?;
+    let turns = [(0, 4_294_967_000), (1, 4_294_967), (0, 4_294_967_000), (1, 4_294_967)];
+    assert!(rt; config.turns().as_slice() == turns.as_slice());
+    assert!(rt; config.guests().len() == 2);
+    for (guest, settings) in config.guests().iter().zip(&SETTINGS_TWO) {
+        assert!(rt; are_read(guest, settings));
+    }
+    Ok(())
+}
+
+// A file of inputs, and what is read of it.
+struct InputFile {
+    name: &'static str,
+    bytes: &'static [u8],
+    inputs: Result<&'static [(u64, u8)], u32>,
+}
+
+static INPUT_FILES: [InputFile; 6] = [
+    InputFile {
+        name: "empty",
+        bytes: b"",
+        inputs: Ok(&[]),
+    },
+    InputFile {
+        name: "two, at one moment",
+        bytes: b"\x01\x02\0\0\0\0\0\0A\x01\x02\0\0\0\0\0\0\xFF",
+        inputs: Ok(&[(513, 65), (513, 255)]),
+    },
+    InputFile {
+        name: "the last moment",
+        bytes: b"\xFF\xFF\xFF\xFF\xFF\xFF\xFF\x3F\0",
+        inputs: Ok(&[((1 << 62) - 1, 0)]),
+    },
+    InputFile {
+        name: "a moment too late",
+        bytes: b"\0\0\0\0\0\0\0\x40\0",
+        inputs: Err(0),
+    },
+    InputFile {
+        name: "a falling moment",
+        bytes: b"\x02\0\0\0\0\0\0\0A\x01\0\0\0\0\0\0\0A\0",
+        inputs: Err(1),
+    },
+    InputFile {
+        name: "a record of eight bytes",
+        bytes: b"\x02\0\0\0\0\0\0\0A\x03\0\0\0\0\0\0\0",
+        inputs: Err(1),
+    },
+];
+
+fn is_as_read(alloc: Global, file: &InputFile) -> bool {
+    match (inputs(alloc, file.bytes), &file.inputs) {
+        (Ok(inputs), Ok(wanted)) => inputs.as_slice() == *wanted,
+        (Err(InputEnd::Bad(record)), Err(wanted)) => record == *wanted,
+        _ => false,
+    }
+}
+
+#[test]
+fn input_files(rt: HostRuntime) {
+    for file in &INPUT_FILES {
+        assert!(rt; is_as_read(rt.alloc(), file), "{}", file.name);
+    }
+}
+
+// At most 65,536 records of zeros are inputs.
+#[test]
+fn most_records(rt: HostRuntime) -> Result<(), Fail> {
+    let mut bytes = Vec::new(rt.alloc());
+    bytes.resize(9 * 65_536, 0)?;
+    assert!(rt; inputs(rt.alloc(), bytes.as_slice())?.len() == 65_536);
+    bytes.push(0)?;
+    let last = matches!(inputs(rt.alloc(), bytes.as_slice()), Err(InputEnd::Bad(65_536)));
+    assert!(rt; last);
     Ok(())
 }
 
@@ -104,7 +230,7 @@ const FAULT: Kept = Kept {
     value: None,
 };
 
-static FAULTS: [Kept; 11] = [
+static FAULTS: [Kept; 13] = [
     FAULT,
     Kept {
         fault: ConfigFault::Format,
@@ -173,6 +299,26 @@ static FAULTS: [Kept; 11] = [
         fault: ConfigFault::Frames { sum: 263_056 },
         number: 11,
         value: Some(263_056),
+        ..FAULT
+    },
+    Kept {
+        fault: ConfigFault::InputFile {
+            guest: 1,
+            record: 65_536,
+        },
+        number: 12,
+        guest: Some(1),
+        value: Some(65_536),
+        ..FAULT
+    },
+    Kept {
+        fault: ConfigFault::Weight {
+            guest: 15,
+            product: 8_589_934_592,
+        },
+        number: 13,
+        guest: Some(15),
+        value: Some(8_589_934_592),
         ..FAULT
     },
 ];

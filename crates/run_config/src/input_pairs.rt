@@ -1,14 +1,18 @@
-//! The inputs of a guest.
+//! Where the inputs of a guest come from, in a document.
 
 ghost use Rattle.std.specs.Prelude.{◌≡◌, ◌^◌, ◌-◌, Option, option_map, IfOk};
 ghost use Rattle.toml.specs.Data.{as_array};
 ghost use Rattle.toml.specs.View.{view, table_view, items_view};
-ghost use Rattle.run_config.specs.Guests.{inputs_at, inputs_in, rise_from};
+ghost use Rattle.run_config.specs.declared.formats.Format.TheVariants.{One, Two};
+ghost use Rattle.run_config.specs.Guests.{input_at, inputs_in, rise_from, source_in};
 ghost use Rattle.run_config.specs.Values.{pair_within, pairs_within};
 
+use crate::formats::Format;
+use crate::guests::{FileName, InputSource};
 use crate::keys::ConfigKey;
 use crate::pairs::pair_within;
-use crate::values::value_at;
+use crate::values::{text_within, value_at};
+use guest_specs::Inputs;
 use std::alloc::{AllocError, Global};
 use toml::{Table, Value};
 
@@ -75,13 +79,43 @@ fn inputs_in(alloc: Global, value: &Value) -> Result<Option<Vec<(u64, u8)>>, All
     }
 }
 
-/// The inputs of a guest, where they are as they must be: none where the key is absent.
-#[tactic(auto, unfolding(crate::specs::Guests::inputs_at))]
-pub fn inputs_at(alloc: Global, guest: &Table) -> Result<Option<Vec<(u64, u8)>>, AllocError>
-    ensures { IfOk result (λ o. option_map (λ v. v.items) o ≡ inputs_at (table_view guest.now)) }
+// The name of the file that a value is, kept.
+#[tactic(auto, unfolding(crate::specs::Guests::source_in))]
+fn file_in(alloc: Global, value: &Value) -> Result<Option<InputSource>, AllocError>
+    ensures { IfOk result (λ o. o ≡ source_in Two (view value.now)) }
 {
-    match value_at(guest, ConfigKey::Input) {
-        Some(value) => inputs_in(alloc, value),
-        None => Ok(Some(Vec::new(alloc))),
+    let Some(name) = text_within(1, 255, value) else {
+        return Ok(None)
+    };
+    let name = FileName::from_string(String::from_str(alloc, name)?);
+    Ok(Some(InputSource::File(name)))
+}
+
+// The pairs that a value is, kept.
+#[tactic(auto, unfolding(crate::specs::Guests::source_in))]
+fn pairs_in(alloc: Global, value: &Value) -> Result<Option<InputSource>, AllocError>
+    ensures { IfOk result (λ o. o ≡ source_in One (view value.now)) }
+{
+    let Some(inputs) = inputs_in(alloc, value)? else {
+        return Ok(None)
+    };
+    Ok(Some(InputSource::Pairs(Inputs::from_vec(inputs))))
+}
+
+/// Where the inputs of a guest come from, where its key is as it must be: it has none where the key is absent.
+#[tactic(auto, unfolding(crate::specs::Guests::input_at))]
+pub fn input_at(
+    alloc: Global,
+    format: Format,
+    guest: &Table,
+) -> Result<Option<InputSource>, AllocError>
+    ensures { IfOk result (λ o. o ≡ input_at format (table_view guest.now)) }
+{
+    let Some(value) = value_at(guest, ConfigKey::Input) else {
+        return Ok(Some(InputSource::Pairs(Inputs::from_vec(Vec::new(alloc)))))
+    };
+    match format {
+        Format::One => pairs_in(alloc, value),
+        Format::Two => file_in(alloc, value),
     }
 }

@@ -2,7 +2,7 @@ use Rattle.std.proofs.Common.{◌≡◌, ◌-◌, ◌^◌, drop}
 use Rattle.toml.specs.View.{items_view}
 use Rattle.run_config.specs.Values.{pairs_within}
 use Rattle.run_config.proofs.Pairing.{goes_on}
-use Rattle.run_config.proofs.inputs.all_inputs.Given as goal
+use Rattle.run_config.proofs.input_pairs.all_inputs.Given as goal
 
 abbrev pub invariant-loop-value : goal.invariant-loop-value
 invariant-loop-value l =
