@@ -1,72 +1,78 @@
 -- What is accepted is within its limits: the turns, the guests, and the whole configuration.
-use Rattle.std.proofs.Common.{◌≡◌, ℕ, ◌*◌, ◌-◌, ◌^◌, ◌≤◌, nat_le, Bool, true, false, ◌&&◌, List, [], length, map, Option, Some, None, Ok, is_some, is_none, unwrap_or, if◌then◌else◌, refl, ap, ◌∙◌, sym, subst, arith}
+use Rattle.std.proofs.Common.{◌≡◌, ℕ, ◌*◌, ◌-◌, ◌^◌, ◌≤◌, nat_le, Bool, true, false, ◌&&◌, List, [], length, map, Option, Some, None, Ok, is_some, is_none, unwrap_or, option_map, if◌then◌else◌, refl, ap, ◌∙◌, sym, subst, arith}
 use Rattle.std.proofs.lemmas.Bool.{and_parts}
 use Rattle.std.proofs.lemmas.Bool.Decides.{nat_tests}
 use Rattle.std.proofs.lemmas.List.{length-map}
-use Rattle.std.proofs.lemmas.List.Elements.{All-weaker}
+use Rattle.std.proofs.lemmas.List.Elements.{All-get_or, All-weaker}
 use Rattle.std.proofs.lemmas.Option.{option_and_then_some, same_Some}
 use Rattle.std.specs.List.{All}
 use Rattle.toml.specs.Data.{Members, as_array, as_integer}
-use Rattle.turn_plan.specs.Turns.{rounds_of}
-use Rattle.turn_plan.proofs.Facts.{each_turn, length-rounds_of}
+use Rattle.turn_plan.proofs.Facts.{each_weighted_turn, length-weighted_rounds}
+use Rattle.run_config.specs.declared.formats.Format.{Format}
 use Rattle.run_config.specs.declared.keys.ConfigKey.TheVariants as key
 use Rattle.run_config.specs.declared.faults.ConfigFault.{ConfigFault}
 use Rattle.run_config.specs.declared.guests.GuestSettings.{GuestSettings}
-use Rattle.run_config.specs.Accept.{accept, configuration_fault, configuration_of, document_fault, document_of, guests_at, guests_in, has_format, tree_of, unless_fault}
-use Rattle.run_config.specs.Configurations.{Configuration, IsTurnWithin, IsWithinLimits}
+use Rattle.run_config.specs.declared.schedules.Schedule.{Schedule}
+use Rattle.run_config.specs.declared.schedules.Schedule.TheVariants.{Listed, Rounds}
+use Rattle.run_config.specs.Accept.{accept, configuration_fault, configuration_of, document_fault, document_of, format_at, format_in, guests_at, guests_in, schedule_in, settings_in, tree_of, unless_fault, weights_of}
+use Rattle.run_config.specs.Configurations.{Configuration, IsGuestWithin, IsTurnWithin, IsWithinLimits}
 use Rattle.run_config.specs.Guests.{guests_fault, settings_of}
+use Rattle.run_config.specs.Tables.{document_keys}
 use Rattle.run_config.specs.Tests.{missing, unless}
-use Rattle.run_config.specs.Turns.{listed_turns, quantum_and_rounds, turns_at, turns_by_rounds}
-use Rattle.run_config.specs.Values.{natural, number_within, pairs_within, passes_if, tables_of, value_at}
-use Rattle.run_config.proofs.Within.{IsAtMost, first_none, guests_within, holds-some, is_some_value, number_within-some, pairs_at_most, unless_none}
+use Rattle.run_config.specs.Turns.{listed_turns, quantum_and_rounds, schedule_at, schedule_fault, turns_of}
+use Rattle.run_config.specs.Values.{has_only, natural, number_within, pairs_within, passes_if, tables_of, value_at}
+use Rattle.run_config.proofs.Within.{IsAtMost, first_none, guests_within, holds-some, is_some_value, pairs_at_most, unless_none}
+use Rattle.run_config.proofs.Weighing.{all_light}
 
 record AreTurns (guests : ℕ) (turns : List (ℕ × ℕ)) : Type 0 where
   few : length turns ≤ 2 ^ 20
   each : All (IsTurnWithin guests) turns
 
-listed_within : (n : ℕ) (t : Members) (turns : List (ℕ × ℕ)) → 1 ≤ n → listed_turns n t ≡ Some turns → AreTurns n turns
+-- a schedule of so many guests: few turns that are within their limits, or few rounds
+abbrev IsScheduleOf : ℕ → Schedule → Type 0
+IsScheduleOf guests (Listed turns) = AreTurns guests turns
+IsScheduleOf guests (Rounds quantum rounds) = guests * rounds ≤ 2 ^ 20
+
+listed_within : (n : ℕ) (t : Members) (schedule : Schedule) → 1 ≤ n → listed_turns n t ≡ Some schedule → IsScheduleOf n schedule
 unfolding listed_turns
-listed_within n t turns some e =
-    option_and_then_some _ (passes_if (is_none (value_at key.Quantum t) && is_none (value_at key.Rounds t))) turns e (λ _ _ e.
-    option_and_then_some _ (value_at key.Turns t) turns e (λ value _ e.
-    option_and_then_some _ (as_array value) turns e (λ items _ e.
-    option_and_then_some _ (pairs_within (n - 1) (2 ^ 32) items) turns e (λ pairs is_pairs e.
-    option_and_then_some _ (passes_if (nat_le (length pairs) (2 ^ 20))) turns e (λ u held e.
+listed_within n t schedule some e =
+    option_and_then_some _ (passes_if (is_none (value_at key.Quantum t) && is_none (value_at key.Rounds t))) schedule e (λ _ _ e.
+    option_and_then_some _ (value_at key.Turns t) schedule e (λ value _ e.
+    option_and_then_some _ (as_array value) schedule e (λ items _ e.
+    option_and_then_some _ (pairs_within (n - 1) (2 ^ 32) items) schedule e (λ pairs is_pairs e.
+    option_and_then_some _ (passes_if (nat_le (length pairs) (2 ^ 20))) schedule e (λ u held e.
     let test = holds-some _ u held in
     let few : length pairs ≤ 2 ^ 20 = grind (arith, nat_tests, test) in
     let weaker : (p : ℕ × ℕ) → IsAtMost (n - 1) (2 ^ 32) p → IsTurnWithin n p = λ p most. record { guest = omega (arith, some, most.0); steps = most.1 } in
-    subst (AreTurns n) (same_Some pairs turns e) (record { few = few; each = All-weaker (IsAtMost (n - 1) (2 ^ 32)) (IsTurnWithin n) weaker pairs (pairs_at_most _ _ items pairs is_pairs) }))))))
+    subst (IsScheduleOf n) (same_Some (Listed pairs) schedule e) (record { few = few; each = All-weaker (IsAtMost (n - 1) (2 ^ 32)) (IsTurnWithin n) weaker pairs (pairs_at_most _ _ items pairs is_pairs) }))))))
 
-quantum_within : (t : Members) (pair : ℕ × ℕ) → quantum_and_rounds t ≡ Some pair → pair.0 ≤ 2 ^ 32
+rounds_within : (n : ℕ) (t : Members) (schedule : Schedule) → quantum_and_rounds n t ≡ Some schedule → IsScheduleOf n schedule
 unfolding quantum_and_rounds
-quantum_within t pair e =
-    option_and_then_some _ (value_at key.Quantum t) pair e (λ value _ e.
-    option_and_then_some _ (number_within 0 (2 ^ 32) value) pair e (λ quantum is_quantum e.
-    option_and_then_some _ (value_at key.Rounds t) pair e (λ rounds_value _ e.
-    option_and_then_some _ (as_integer rounds_value) pair e (λ integer _ e.
-    option_and_then_some _ (natural integer) pair e (λ rounds _ e.
-    subst (λ q. q.0 ≤ 2 ^ 32) (same_Some (quantum, rounds) pair e) (number_within-some 0 (2 ^ 32) value quantum is_quantum).1)))))
-
-rounds_within : (n : ℕ) (t : Members) (turns : List (ℕ × ℕ)) → turns_by_rounds n t ≡ Some turns → AreTurns n turns
-unfolding turns_by_rounds
-rounds_within n t turns e =
-    option_and_then_some _ (quantum_and_rounds t) turns e (λ pair is_pair e.
-    option_and_then_some _ (passes_if (nat_le (n * pair.1) (2 ^ 20))) turns e (λ u held e.
+rounds_within n t schedule e =
+    option_and_then_some _ (value_at key.Quantum t) schedule e (λ value _ e.
+    option_and_then_some _ (number_within 0 (2 ^ 32) value) schedule e (λ quantum _ e.
+    option_and_then_some _ (value_at key.Rounds t) schedule e (λ rounds_value _ e.
+    option_and_then_some _ (as_integer rounds_value) schedule e (λ integer _ e.
+    option_and_then_some _ (natural integer) schedule e (λ rounds _ e.
+    option_and_then_some _ (passes_if (nat_le (n * rounds) (2 ^ 20))) schedule e (λ u held e.
     let test = holds-some _ u held in
-    let few : n * pair.1 ≤ 2 ^ 20 = grind (arith, nat_tests, test) in
-    let quantum = quantum_within t pair is_pair in
-    subst (AreTurns n) (same_Some (rounds_of n pair.0 pair.1) turns e) (record {
-      few = rw (length-rounds_of n pair.0 pair.1) few;
-      each = each_turn (IsTurnWithin n) n pair.0 pair.1 (λ g below. record { guest = below; steps = quantum });
-    })))
+    let few : n * rounds ≤ 2 ^ 20 = grind (arith, nat_tests, test) in
+    subst (IsScheduleOf n) (same_Some (Rounds quantum rounds) schedule e) few))))))
 
-turns_within : (n : ℕ) (t : Members) (turns : List (ℕ × ℕ)) → 1 ≤ n → turns_at n t ≡ Some turns → AreTurns n turns
-unfolding turns_at
-turns_within n t turns some e = by_form (is_some (value_at key.Turns t)) e
+schedule_within : (n : ℕ) (t : Members) (schedule : Schedule) → 1 ≤ n → schedule_at n t ≡ Some schedule → IsScheduleOf n schedule
+unfolding schedule_at
+schedule_within n t schedule some e = by_form (is_some (value_at key.Turns t)) e
   where
-    by_form : (b : Bool) → (if b then listed_turns n t else turns_by_rounds n t) ≡ Some turns → AreTurns n turns
-    by_form true e = listed_within n t turns some e
-    by_form false e = rounds_within n t turns e
+    by_form : (b : Bool) → (if b then listed_turns n t else quantum_and_rounds n t) ≡ Some schedule → IsScheduleOf n schedule
+    by_form true e = listed_within n t schedule some e
+    by_form false e = rounds_within n t schedule e
+
+turns_within : (weights : List ℕ) (schedule : Schedule) → IsScheduleOf (length weights) schedule → schedule_fault weights schedule ≡ None → AreTurns (length weights) (turns_of weights schedule)
+turns_within weights (Listed turns) are none = are
+turns_within weights (Rounds quantum rounds) few none = record {
+  few = rw (length-weighted_rounds weights quantum rounds) few;
+  each = each_weighted_turn (IsTurnWithin (length weights)) weights quantum rounds (λ g below. record { guest = below; steps = All-get_or (λ weight. weight * quantum ≤ 2 ^ 32) weights g 0 below (all_light weights quantum none) });
+}
 
 guests_few : (t : Members) (gs : List Members) → guests_at t ≡ Some gs → (1 ≤ length gs) × (length gs ≤ 16)
 unfolding guests_at
@@ -86,41 +92,51 @@ guests_in_few t there =
     let (gs, is) = is_some_value (guests_at t) there in
     rw is (guests_few t gs is)
 
--- guests without a fault, and turns of so many guests
-settled : (t : Members) (gs : List Members) → (1 ≤ length gs) × (length gs ≤ 16) → guests_fault [] gs ≡ None → is_some (turns_at (length gs) t) ≡ true
-    → IsWithinLimits (record { guests = map settings_of gs; turns = unwrap_or (turns_at (length gs) t) [] })
-settled t gs few guests turns =
-    let (ts, is) = is_some_value (turns_at (length gs) t) turns in
-    let are : AreTurns (length gs) ts = turns_within (length gs) t ts few.0 is in
-    let count = length-map gs settings_of in
+-- guests without a fault, and a schedule of so many guests
+settled : (format : Format) (t : Members) (gs : List Members) (schedule : Schedule) → (1 ≤ length gs) × (length gs ≤ 16) → guests_fault format [] gs ≡ None → schedule_at (length gs) t ≡ Some schedule → schedule_fault (weights_of (map (settings_of format) gs)) schedule ≡ None
+    → IsWithinLimits (record { guests = map (settings_of format) gs; turns = turns_of (weights_of (map (settings_of format) gs)) schedule })
+settled format t gs schedule few guests is none =
+    let count = length-map gs (settings_of format) in
+    let weights = weights_of (map (settings_of format) gs) in
+    let many : length weights ≡ length gs = length-map (map (settings_of format) gs) (λ g. g.weight) ∙ count in
+    let are : IsScheduleOf (length gs) schedule = schedule_within (length gs) t schedule few.0 is in
+    let turns : AreTurns (length gs) (turns_of weights schedule) = subst (λ n. AreTurns n (turns_of weights schedule)) many (turns_within weights schedule (subst (λ n. IsScheduleOf n schedule) (sym many) are) none) in
     record {
       guests_some = rw count few.0;
       guests_most = rw count few.1;
-      each_guest = guests_within [] gs guests;
-      turns_most = rw is are.few;
-      each_turn = rw (count, is) are.each;
+      each_guest = guests_within format [] gs guests;
+      turns_most = turns.few;
+      each_turn = rw count turns.each;
     }
 
 -- the same of what is kept
-pub kept_within : (t : Members) (gs : List Members) (guests : List GuestSettings) (turns : List (ℕ × ℕ)) (count : ℕ) → 1 ≤ length guests → length guests ≤ 16 → guests_fault [] gs ≡ None → guests ≡ map settings_of gs → count ≡ length guests → turns_at count t ≡ Some turns
+pub kept_within : (format : Format) (t : Members) (gs : List Members) (guests : List GuestSettings) (schedule : Schedule) (turns : List (ℕ × ℕ)) (count : ℕ) → 1 ≤ length guests → length guests ≤ 16 → guests_fault format [] gs ≡ None → guests ≡ map (settings_of format) gs → count ≡ length guests → schedule_at count t ≡ Some schedule → schedule_fault (weights_of guests) schedule ≡ None → turns ≡ turns_of (weights_of guests) schedule
     → IsWithinLimits (record { guests = guests; turns = turns })
-kept_within t gs guests turns count some few passed is_guests is_count is_turns =
-    let same : length guests ≡ length gs = ap length is_guests ∙ length-map gs settings_of in
-    let at_count : turns_at (length gs) t ≡ Some turns = rw (← (is_count ∙ same)) is_turns in
-    let there : is_some (turns_at (length gs) t) ≡ true = rw at_count refl in
-    let all = settled t gs (omega arith, omega arith) passed there in
-    subst (λ gs. IsWithinLimits (record { guests = gs; turns = turns })) (sym is_guests)
-    (subst (λ o. IsWithinLimits (record { guests = map settings_of gs; turns = unwrap_or o [] })) at_count all)
+kept_within format t gs guests schedule turns count some few passed is_guests is_count is_schedule none is_turns =
+    let same : length guests ≡ length gs = ap length is_guests ∙ length-map gs (settings_of format) in
+    let at_count : schedule_at (length gs) t ≡ Some schedule = rw (← (is_count ∙ same)) is_schedule in
+    let none_of : schedule_fault (weights_of (map (settings_of format) gs)) schedule ≡ None = rw is_guests at none in
+    let all = settled format t gs schedule (omega arith, omega arith) passed at_count none_of in
+    rw (is_turns, is_guests) all
+
+-- the weights of guests without a fault
+pub kept_light : (format : Format) (gs : List Members) (guests : List GuestSettings) → guests_fault format [] gs ≡ None → guests ≡ map (settings_of format) gs → All (λ g. g.weight ≤ 1000) guests
+kept_light format gs guests passed is =
+    subst (All (λ g. g.weight ≤ 1000)) (sym is) (All-weaker IsGuestWithin (λ g. g.weight ≤ 1000) (λ g within. within.weight_most) _ (guests_within format [] gs passed))
 
 pub document_within : (t : Members) → document_fault t ≡ None → IsWithinLimits (configuration_of t)
-unfolding document_fault configuration_of
+unfolding document_fault configuration_of settings_in schedule_in
 document_within t none =
-    let (_, after_format) = first_none (unless (has_format t) _) _ none in
+    let (_, after_format) = first_none (unless (is_some (format_at t)) _) _ none in
     let (_, after_key) = first_none (missing None t key.Guest) _ after_format in
     let (there, after_range) = first_none (unless (is_some (guests_at t)) _) _ after_key in
-    let (guests, after_guests) = first_none (guests_fault [] (guests_in t)) _ after_range in
-    let (turns, _) = first_none (unless (is_some (turns_at (length (guests_in t)) t)) _) _ after_guests in
-    settled t (guests_in t) (guests_in_few t (unless_none _ _ there)) guests (unless_none _ _ turns)
+    let (guests, after_guests) = first_none (guests_fault (format_in t) [] (guests_in t)) _ after_range in
+    let (turns, after_turns) = first_none (unless (is_some (schedule_at (length (guests_in t)) t)) _) _ after_guests in
+    let (_, after_extra) = first_none (unless (has_only (document_keys (format_in t)) t) _) _ after_turns in
+    let (schedule, is) = is_some_value (schedule_at (length (guests_in t)) t) (unless_none _ _ turns) in
+    let (light, _) = first_none (schedule_fault (weights_of (map (settings_of (format_in t)) (guests_in t))) schedule) _ (rw is at after_extra) in
+    let all = settled (format_in t) t (guests_in t) schedule (guests_in_few t (unless_none _ _ there)) guests is light in
+    subst (λ o. IsWithinLimits (record { guests = map (settings_of (format_in t)) (guests_in t); turns = unwrap_or (option_map (turns_of (weights_of (map (settings_of (format_in t)) (guests_in t)))) o) [] })) (sym is) all
 
 unless_fault-ok : (o : Option ConfigFault) (c d : Configuration) → unless_fault o c ≡ Ok d → (o ≡ None) × (c ≡ d)
 unless_fault-ok None c d e = (refl, cc)

@@ -5,6 +5,7 @@ pub mod Guesting
 pub mod Items
 pub mod Known
 pub mod Pairing
+pub mod Recording
 pub mod Tabling
 pub mod Texts
 pub mod Weighing

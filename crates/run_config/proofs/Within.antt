@@ -1,5 +1,5 @@
 -- What is accepted is within its limits.
-use Rattle.std.proofs.Common.{◌≡◌, ℕ, zero, suc, ◌-◌, ◌^◌, ◌<◌, ◌≤◌, nat_le, Bool, true, false, ◌&&◌, not, List, [], ◌∷◌, ◌++◌, length, get_or, map, Option, Some, None, is_some, unwrap_or, refl, subst, arith}
+use Rattle.std.proofs.Common.{◌≡◌, ℕ, zero, suc, ◌-◌, ◌^◌, ◌<◌, ◌≤◌, nat_le, Bool, true, false, ◌&&◌, not, List, [], ◌∷◌, ◌++◌, length, get_or, map, Option, Some, None, is_some, unwrap_or, option_map, refl, subst, arith}
 use Rattle.std.proofs.lemmas.Bool.{and_parts}
 use Rattle.std.proofs.lemmas.Bool.Decides.{nat_tests}
 use Rattle.std.proofs.lemmas.List.Elements.{All-nil, All-cons, All-weaker}
@@ -13,11 +13,15 @@ use Rattle.toml.specs.Data.{Data, Items, no_items, item, Members, as_integer, as
 use Rattle.run_config.specs.declared.keys.ConfigKey.{ConfigKey}
 use Rattle.run_config.specs.declared.keys.ConfigKey.TheVariants as key
 use Rattle.run_config.specs.declared.faults.ConfigFault.{ConfigFault}
-use Rattle.run_config.specs.Guests.{absent_key, wrong_value, guest_fault, guests_fault, inputs_at, inputs_in, is_new_name, optional_inputs, rise_from, settings_of}
-use Rattle.run_config.specs.Configurations.{IsGuestWithin}
+use Rattle.run_config.specs.declared.formats.Format.{Format}
+use Rattle.run_config.specs.declared.formats.Format.TheVariants.{One, Two}
+use Rattle.run_config.specs.declared.guests.InputSource.{InputSource}
+use Rattle.run_config.specs.declared.guests.InputSource.TheVariants.{Pairs, File}
+use Rattle.run_config.specs.Guests.{absent_key, wrong_value, wrong_option, guest_fault, guests_fault, input_at, inputs_in, is_new_name, optional_source, rise_from, settings_of, source_in, weight_at}
+use Rattle.run_config.specs.Configurations.{AreByteInputs, IsGuestWithin, IsSourceWithin}
 use Rattle.run_config.specs.Tables.{Kind, any_text, text_of, integer_of}
 use Rattle.run_config.specs.Tests.{unless, first_fault, missing, out_of_range, wrong_kind}
-use Rattle.run_config.specs.Values.{passes_if, has_length, is_name, is_of, natural, natural_at, number_within, pair_within, pairs_within, text_at, two_items, value_at}
+use Rattle.run_config.specs.Values.{◌>>=◌, passes_if, has_length, is_name, is_of, natural, natural_at, natural_or, number_within, pair_within, pairs_within, text_at, text_within, two_items, value_at}
 use Rattle.run_config.proofs.Found.{number_found, text_found}
 
 -- of tests without a fault the first has none, and the others have none
@@ -50,18 +54,18 @@ number_within-some low high value n e =
     subst (λ k. (low ≤ k) × (k ≤ high)) same (least, most))))
 
 -- a key that is there, with a value of its kind
-pub found_of_kind : (g : Option ℕ) (i : ℕ) (t : Members) (k : ConfigKey) (kind : Kind) → missing g t k ≡ None → out_of_range i t (k, kind) ≡ None → (value : Data) × (value_at k t ≡ Some value) × (is_of kind value ≡ true)
+pub found_of_kind : (g i : Option ℕ) (t : Members) (k : ConfigKey) (kind : Kind) → missing g t k ≡ None → out_of_range i t (k, kind) ≡ None → (value : Data) × (value_at k t ≡ Some value) × (is_of kind value ≡ true)
 unfolding missing out_of_range wrong_kind
 found_of_kind g i t k kind there fits =
     let (value, is) = is_some_value (value_at k t) (unless_none _ _ there) in
     (value, is, unless_none _ _ (rw is at fits))
 
-number_row : (g : Option ℕ) (i : ℕ) (t : Members) (k : ConfigKey) (low high : ℕ) → missing g t k ≡ None → out_of_range i t (k, integer_of low high) ≡ None → (low ≤ natural_at k t) × (natural_at k t ≤ high)
+number_row : (g i : Option ℕ) (t : Members) (k : ConfigKey) (low high : ℕ) → missing g t k ≡ None → out_of_range i t (k, integer_of low high) ≡ None → (low ≤ natural_at k t) × (natural_at k t ≤ high)
 unfolding is_of
 number_row g i t k low high there fits =
     let (value, is, of) = found_of_kind g i t k (integer_of low high) there fits in
     let (n, number) = is_some_value (number_within low high value) of in
-    rw (← number_found k t low high value n is number) (number_within-some low high value n number)
+    rw (← number_found 0 k t low high value n is number) (number_within-some low high value n number)
 
 has_length-true : (low high : ℕ) (text : List ℕ) → has_length low high text ≡ true → (low ≤ length text) × (length text ≤ high)
 unfolding has_length
@@ -71,7 +75,7 @@ or_false : {A : Type 0} (test : A → Bool) (o : Option A) → option_map_or tes
 or_false test None e = cc
 or_false test (Some x) e = (x, refl, e)
 
-text_row : (g : Option ℕ) (i : ℕ) (t : Members) (k : ConfigKey) (low high : ℕ) → missing g t k ≡ None → out_of_range i t (k, text_of low high) ≡ None → (low ≤ length (text_at k t)) × (length (text_at k t) ≤ high)
+text_row : (g i : Option ℕ) (t : Members) (k : ConfigKey) (low high : ℕ) → missing g t k ≡ None → out_of_range i t (k, text_of low high) ≡ None → (low ≤ length (text_at k t)) × (length (text_at k t) ≤ high)
 unfolding is_of
 text_row g i t k low high there fits =
     let (value, is, of) = found_of_kind g i t k (text_of low high) there fits in
@@ -119,7 +123,7 @@ at_least least (p ∷ ps) e (suc j) d h =
     let later = at_least p.0 ps rises.1 j d (omega (arith, h)) in
     omega (arith, rises.0, later)
 
-rise_in_order : (least : ℕ) (ps : List (ℕ × ℕ)) → rise_from least ps ≡ true → IsNonDecreasingBy (λ p. p.0) ps
+pub rise_in_order : (least : ℕ) (ps : List (ℕ × ℕ)) → rise_from least ps ≡ true → IsNonDecreasingBy (λ p. p.0) ps
 rise_in_order least [] e i j d h inside = absurd (omega (arith, inside))
 rise_in_order least (p ∷ ps) e zero zero d h inside = omega arith
 rise_in_order least (p ∷ ps) e zero (suc j) d h inside = at_least p.0 ps (rest_rises least p ps e).1 j d (omega (arith, inside))
@@ -132,10 +136,9 @@ record HasInputs (ps : List (ℕ × ℕ)) : Type 0 where
   rise : rise_from 0 ps ≡ true
   within : All (IsAtMost (2 ^ 62 - 1) 255) ps
 
-inputs_fit : (o : Option Data) (ps : List (ℕ × ℕ)) → optional_inputs o ≡ Some ps → HasInputs ps
-unfolding inputs_in rise_from
-inputs_fit None ps e = subst HasInputs (same_Some [] ps e) (record { few = omega arith; rise = refl; within = All-nil _ })
-inputs_fit (Some value) ps e =
+inputs_fit : (value : Data) (ps : List (ℕ × ℕ)) → inputs_in value ≡ Some ps → HasInputs ps
+unfolding inputs_in
+inputs_fit value ps e =
     option_and_then_some _ (as_array value) ps e (λ items _ e.
     option_and_then_some _ (pairs_within (2 ^ 62 - 1) 255 items) ps e (λ inputs is_inputs e.
     option_and_then_some _ (passes_if (nat_le (length inputs) 65536 && rise_from 0 inputs)) ps e (λ u held e.
@@ -143,39 +146,97 @@ inputs_fit (Some value) ps e =
     let few : length inputs ≤ 65536 = grind (arith, nat_tests, parts.0) in
     subst HasInputs (same_Some inputs ps e) (record { few = few; rise = parts.1; within = pairs_at_most _ _ items inputs is_inputs }))))
 
-inputs_within : (t : Members) → is_some (inputs_at t) ≡ true → HasInputs (unwrap_or (inputs_at t) [])
-unfolding inputs_at
-inputs_within t e =
-    let (ps, is) = is_some_value (inputs_at t) e in
-    rw is (inputs_fit (value_at key.Input t) ps is)
+may_be_given : (ps : List (ℕ × ℕ)) → HasInputs ps → AreByteInputs ps
+may_be_given ps has = record {
+  inputs =
+      record {
+        count = has.few;
+        moments = All-weaker (IsAtMost (2 ^ 62 - 1) 255) (λ input. input.0 < 2 ^ 62) (λ p most. omega (arith, most.0)) ps has.within;
+        order = rise_in_order 0 ps has.rise;
+      };
+  bytes = All-weaker (IsAtMost (2 ^ 62 - 1) 255) (λ input. input.1 < 256) (λ p most. omega (arith, most.1)) ps has.within;
+}
 
-pub guest_within : (names : List (List ℕ)) (t : Members) → guest_fault names t ≡ None → IsGuestWithin (settings_of t)
+none_given : AreByteInputs []
+unfolding rise_from
+none_given = may_be_given [] (record { few = omega arith; rise = refl; within = All-nil _ })
+
+text_within-some : (low high : ℕ) (value : Data) (text : List ℕ) → text_within low high value ≡ Some text → (low ≤ length text) × (length text ≤ high)
+unfolding text_within
+text_within-some low high value text e =
+    option_and_then_some _ (as_str value) text e (λ found _ e.
+    option_and_then_some _ (passes_if (has_length low high found)) text e (λ u held e.
+    subst (λ x. (low ≤ length x) × (length x ≤ high)) (same_Some found text e) (has_length-true low high found (holds-some _ u held))))
+
+mapped : {A B : Type 0} (f : A → B) (o : Option A) (y : B) → option_map f o ≡ Some y → (x : A) × (o ≡ Some x) × (f x ≡ y)
+mapped f None y e = cc
+mapped f (Some x) y e = (x, refl, same_Some (f x) y e)
+
+source_fits : (format : Format) (value : Data) (source : InputSource) → source_in format value ≡ Some source → IsSourceWithin source
+unfolding source_in
+source_fits One value source e =
+    let (ps, is, same) = mapped Pairs (inputs_in value) source e in
+    subst IsSourceWithin same (may_be_given ps (inputs_fit value ps is))
+source_fits Two value source e =
+    let (name, is, same) = mapped File (text_within 1 255 value) source e in
+    subst IsSourceWithin same (text_within-some 1 255 value name is)
+
+optional_fits : (format : Format) (o : Option Data) (source : InputSource) → optional_source format o ≡ Some source → IsSourceWithin source
+optional_fits format None source e = subst IsSourceWithin (same_Some (Pairs []) source e) none_given
+optional_fits format (Some value) source e = source_fits format value source e
+
+source_within : (format : Format) (t : Members) → is_some (input_at format t) ≡ true → IsSourceWithin (unwrap_or (input_at format t) (Pairs []))
+unfolding input_at
+source_within format t e =
+    let (source, is) = is_some_value (input_at format t) e in
+    rw is (optional_fits format (value_at key.Input t) source is)
+
+-- a number that need not be there
+optional_row : (absent low high : ℕ) (i : Option ℕ) (t : Members) (k : ConfigKey) → low ≤ absent → absent ≤ high → out_of_range i t (k, integer_of low high) ≡ None → (low ≤ natural_or absent k t) × (natural_or absent k t ≤ high)
+unfolding out_of_range wrong_kind is_of natural_or
+optional_row absent low high i t k least most fits = by_value (value_at k t) refl fits
+  where
+    by_value : (o : Option Data) → value_at k t ≡ o → (o >>= wrong_kind i (k, integer_of low high)) ≡ None → (low ≤ natural_or absent k t) × (natural_or absent k t ≤ high)
+    by_value None is fits = rw is (least, most)
+    by_value (Some value) is fits =
+        let (n, number) = is_some_value (number_within low high value) (unless_none _ _ fits) in
+        rw (← number_found absent k t low high value n is number) (number_within-some low high value n number)
+
+weight_within : (format : Format) (n : ℕ) (t : Members) → wrong_option format n t ≡ None → (1 ≤ weight_at format t) × (weight_at format t ≤ 1000)
+unfolding wrong_option weight_at
+weight_within One n t e = (omega arith, omega arith)
+weight_within Two n t e =
+    let (fits, _) = first_none (out_of_range (Some n) t (key.Weight, integer_of 1 1000)) _ e in
+    optional_row 1 1 1000 (Some n) t key.Weight (omega arith) (omega arith) fits
+
+pub guest_within : (format : Format) (names : List (List ℕ)) (t : Members) → guest_fault format names t ≡ None → IsGuestWithin (settings_of format t)
 unfolding guest_fault absent_key wrong_value settings_of
-guest_within names t e =
+guest_within format names t e =
     let n = length names in
     let (absent, e) = first_none (absent_key n t) _ e in
     let (wrong, e) = first_none (wrong_value n t) _ e in
+    let (option, e) = first_none (wrong_option format n t) _ e in
     let (named, e) = first_none (unless (is_new_name names (text_at key.Name t)) _) _ e in
-    let (input, e) = first_none (unless (is_some (inputs_at t)) _) _ e in
+    let (input, e) = first_none (unless (is_some (input_at format t)) _) _ e in
     let (a-name, r) = first_none (missing (Some n) t key.Name) _ absent in
     let (a-image, r) = first_none (missing (Some n) t key.Image) _ r in
     let (a-blocks, r) = first_none (missing (Some n) t key.Blocks) _ r in
     let (a-spaces, r) = first_none (missing (Some n) t key.Spaces) _ r in
     let (a-entries, r) = first_none (missing (Some n) t key.Entries) _ r in
     let (a-console, r) = first_none (missing (Some n) t key.Console) _ r in
-    let (w-name, w) = first_none (out_of_range n t (key.Name, any_text)) _ wrong in
-    let (w-image, w) = first_none (out_of_range n t (key.Image, text_of 1 255)) _ w in
-    let (w-blocks, w) = first_none (out_of_range n t (key.Blocks, integer_of 1 32)) _ w in
-    let (w-spaces, w) = first_none (out_of_range n t (key.Spaces, integer_of 1 8)) _ w in
-    let (w-entries, w) = first_none (out_of_range n t (key.Entries, integer_of 16 256)) _ w in
-    let (w-console, w) = first_none (out_of_range n t (key.Console, integer_of 0 1048576)) _ w in
+    let (w-name, w) = first_none (out_of_range (Some n) t (key.Name, any_text)) _ wrong in
+    let (w-image, w) = first_none (out_of_range (Some n) t (key.Image, text_of 1 255)) _ w in
+    let (w-blocks, w) = first_none (out_of_range (Some n) t (key.Blocks, integer_of 1 32)) _ w in
+    let (w-spaces, w) = first_none (out_of_range (Some n) t (key.Spaces, integer_of 1 8)) _ w in
+    let (w-entries, w) = first_none (out_of_range (Some n) t (key.Entries, integer_of 16 256)) _ w in
+    let (w-console, w) = first_none (out_of_range (Some n) t (key.Console, integer_of 0 1048576)) _ w in
     let name = name-within names (text_at key.Name t) (unless_none _ _ named) in
-    let image = text_row (Some n) n t key.Image 1 255 a-image w-image in
-    let blocks = number_row (Some n) n t key.Blocks 1 32 a-blocks w-blocks in
-    let spaces = number_row (Some n) n t key.Spaces 1 8 a-spaces w-spaces in
-    let entries = number_row (Some n) n t key.Entries 16 256 a-entries w-entries in
-    let console = number_row (Some n) n t key.Console 0 1048576 a-console w-console in
-    let inputs = inputs_within t (unless_none _ _ input) in
+    let image = text_row (Some n) (Some n) t key.Image 1 255 a-image w-image in
+    let blocks = number_row (Some n) (Some n) t key.Blocks 1 32 a-blocks w-blocks in
+    let spaces = number_row (Some n) (Some n) t key.Spaces 1 8 a-spaces w-spaces in
+    let entries = number_row (Some n) (Some n) t key.Entries 16 256 a-entries w-entries in
+    let console = number_row (Some n) (Some n) t key.Console 0 1048576 a-console w-console in
+    let weight = weight_within format n t option in
     record {
       name_some = name.0;
       name_most = name.1;
@@ -188,19 +249,15 @@ guest_within names t e =
       entries_least = entries.0;
       entries_most = entries.1;
       console_most = console.1;
-      inputs =
-          record {
-            count = inputs.few;
-            moments = All-weaker (IsAtMost (2 ^ 62 - 1) 255) (λ input. input.0 < 2 ^ 62) (λ p most. omega (arith, most.0)) _ inputs.within;
-            order = rise_in_order 0 _ inputs.rise;
-          };
-      inputs_bytes = All-weaker (IsAtMost (2 ^ 62 - 1) 255) (λ input. input.1 < 256) (λ p most. omega (arith, most.1)) _ inputs.within;
+      weight_some = weight.0;
+      weight_most = weight.1;
+      input = source_within format t (unless_none _ _ input);
     }
 
-pub guests_within : (names : List (List ℕ)) (ts : List Members) → guests_fault names ts ≡ None → All IsGuestWithin (map settings_of ts)
+pub guests_within : (format : Format) (names : List (List ℕ)) (ts : List Members) → guests_fault format names ts ≡ None → All IsGuestWithin (map (settings_of format) ts)
 unfolding guests_fault
-guests_within names [] e = All-nil IsGuestWithin
-guests_within names (t ∷ ts) e =
-    let (here, e) = first_none (guest_fault names t) _ e in
-    let (more, e) = first_none (guests_fault (names ++ text_at key.Name t ∷ []) ts) _ e in
-    All-cons IsGuestWithin (settings_of t) (map settings_of ts) (guest_within names t here) (guests_within (names ++ text_at key.Name t ∷ []) ts more)
+guests_within format names [] e = All-nil IsGuestWithin
+guests_within format names (t ∷ ts) e =
+    let (here, e) = first_none (guest_fault format names t) _ e in
+    let (more, e) = first_none (guests_fault format (names ++ text_at key.Name t ∷ []) ts) _ e in
+    All-cons IsGuestWithin (settings_of format t) (map (settings_of format) ts) (guest_within format names t here) (guests_within format (names ++ text_at key.Name t ∷ []) ts more)

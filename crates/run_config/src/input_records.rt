@@ -49,6 +49,7 @@ fn record_at(bytes: &[u8], number: usize) -> &[u8]
     requires { 9 * number ≤ length bytes.now }
     ensures bytes { result.now ≡ record_at bytes.now number }
     ensures whole { 9 * number + 9 ≤ length bytes.now → length result.now ≡ 9 }
+    ensures only { 9 ≤ length result.now → 9 * number + 9 ≤ length bytes.now }
 {
     let rest = &bytes[RECORD_BYTES * number..];
     &rest[..rest.len().min(RECORD_BYTES)]
@@ -94,14 +95,15 @@ fn is_bad(bytes: &[u8], number: usize) -> bool
     requires { 9 * number ≤ length bytes.now }
     ensures { result ≡ is_bad bytes.now number }
 {
-    record_at(bytes, number).len() < RECORD_BYTES
-        || moment_at(bytes, number) >= MOMENTS_END
-        || moment_at(bytes, number) < moment_before(bytes, number)
-        || number == MOST_RECORDS
+    if record_at(bytes, number).len() < RECORD_BYTES {
+        return true;
+    }
+    let moment = moment_at(bytes, number);
+    moment >= MOMENTS_END || moment < moment_before(bytes, number) || number == MOST_RECORDS
 }
 
 // The number of the first bad record.
-#[tactic(auto, unfolding(crate::specs::Records::bad_record))]
+#[tactic(auto, using(crate::proofs::Recording::records))]
 fn bad_record(bytes: &[u8]) -> Option<u32>
     ensures { result ≡ bad_record bytes.now }
 {
@@ -114,7 +116,7 @@ fn bad_record(bytes: &[u8]) -> Option<u32>
 }
 
 // The inputs of records none of which is bad.
-#[tactic(auto, unfolding(crate::specs::Records::records_of))]
+#[tactic(auto, unfolding(crate::specs::Records::records_of), using(crate::proofs::Recording::each_whole))]
 fn all_records(alloc: Global, bytes: &[u8]) -> Result<Vec<(u64, u8)>, AllocError>
     requires { bad_record bytes.now ≡ None }
     ensures { IfOk result (λ v. v.items ≡ records_of bytes.now) }

@@ -4,7 +4,7 @@ use Rattle.std.specs.List.{range_with_len, repeat, slice_index}
 use Rattle.std.proofs.lemmas.List.FromFn.{map-range_with_len_more}
 use Rattle.turn_plan.specs.Turns.{round_of, rounds_of, weighted_round, weighted_rounds}
 
-place_more : (turn : ℕ → ℕ × ℕ) (turns start : List (ℕ × ℕ)) (guest : ℕ) → turns ≡ start ++ map turn (range_with_len 0 guest) → turns ++ turn guest ∷ [] ≡ start ++ map turn (range_with_len 0 (guest + 1))
+pub place_more : (turn : ℕ → ℕ × ℕ) (turns start : List (ℕ × ℕ)) (guest : ℕ) → turns ≡ start ++ map turn (range_with_len 0 guest) → turns ++ turn guest ∷ [] ≡ start ++ map turn (range_with_len 0 (guest + 1))
 place_more turn turns start guest e =
     rw e (append_assoc start _ _ ∙ ap (λ more. start ++ more) (sym (map-range_with_len_more turn 0 guest guest (omega arith))))
 
