@@ -1,12 +1,14 @@
 -- Weights times a quantum, one guest after the other.
-use Rattle.std.proofs.Common.{◌≡◌, ℕ, suc, ◌+◌, ◌*◌, ◌^◌, ◌<◌, ◌≤◌, pos, nat_le, Bool, true, false, List, [], ◌∷◌, length, drop, map, Option, Some, None, refl, arith}
+use Rattle.std.proofs.Common.{◌≡◌, ℕ, ◌+◌, ◌*◌, ◌^◌, ◌<◌, ◌≤◌, pos, nat_le, false, List, [], ◌∷◌, length, drop, map, Option, Some, None, refl, arith}
 use Rattle.std.proofs.lemmas.Bool.{le-leb}
 use Rattle.std.proofs.lemmas.Bool.Decides.{nat_tests}
 use Rattle.std.proofs.lemmas.List.{drop_all, drop_more}
-use Rattle.std.proofs.lemmas.List.Elements.{All-nil, All-cons}
+use Rattle.std.proofs.lemmas.List.Elements.{All-nil, All-cons, All-map}
 use Rattle.std.specs.List.{All, enumerate_from, slice_index}
 use Rattle.run_config.specs.declared.faults.ConfigFault.{ConfigFault}
 use Rattle.run_config.specs.declared.faults.ConfigFault.TheVariants as fault
+use Rattle.run_config.specs.declared.guests.GuestSettings.{GuestSettings}
+use Rattle.run_config.specs.Accept.{weights_of}
 use Rattle.run_config.specs.Tests.{first_fault, unless}
 use Rattle.run_config.specs.Turns.{too_long_turn, weights_fault}
 use Rattle.run_config.proofs.Within.{first_none, unless_none}
@@ -43,3 +45,7 @@ unfolding weights_fault
 all_light weights quantum e = light_from quantum 0 weights e
 
 pub ruleset weights = (weight_passes, weight_fails, all_weights)
+
+-- what holds of each guest's weight holds of each weight
+pub each_weight : (guests : List GuestSettings) → All (λ g. g.weight ≤ 1000) guests → All (λ weight. weight ≤ 1000) (weights_of guests)
+each_weight guests light = All-map (λ weight. weight ≤ 1000) (λ g. g.weight) guests light

@@ -1,5 +1,5 @@
 -- Which bytes are a configuration, and of what: the tests in their order, and the first fault.
-use Rattle.std.specs.Prelude.{◌≡◌, ℤ, ℕ, suc, pos, nat_eq, nat_le, Bool, ◌&&◌, List, [], ◌∷◌, length, map, Option, Some, None, is_some, unwrap_or, option_map, if◌then◌else◌}
+use Rattle.std.specs.Prelude.{◌≡◌, ℤ, ℕ, suc, pos, nat_eq, nat_le, ◌&&◌, List, [], ◌∷◌, length, map, Option, Some, None, is_some, unwrap_or, option_map, if◌then◌else◌}
 use Rattle.std.specs.Prelude.{Result, Ok, Err}
 use Rattle.std.specs.Str.{is_utf8}
 use Rattle.toml.specs.Data.{Items, no_items, item, Members, no_members, as_array, as_integer}

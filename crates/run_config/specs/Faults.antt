@@ -38,8 +38,8 @@ fault_key (Missing guest key) = Some key
 fault_key (Range guest key value) = Some key
 fault_key _ = None
 
--- the value that it keeps: the wrong integer, the length of a wrong array, the bytes read, the sum, the number
--- of the bad record, the steps (own)
+-- the value that it keeps: the wrong integer, the length of a wrong array, the bytes read, the sum, the bad
+-- record's number, the product (own)
 unfoldable pub fault_value : ConfigFault → Option ℤ
 fault_value (Range guest key value) = value
 fault_value (ImageLong guest bytes) = Some (pos bytes)

@@ -24,8 +24,8 @@ unfoldable pub moment_before : List ℕ → ℕ → ℕ
 moment_before bytes zero = 0
 moment_before bytes (suc number) = moment_at bytes number
 
--- a record is bad that has fewer than nine bytes, a moment of 2^62 or more or less than the one before, or that
--- is one too many (own)
+-- a record is bad that has fewer than nine bytes, or a moment of 2^62 or more or less than the one before, or
+-- that is one too many (own)
 unfoldable pub is_bad : List ℕ → ℕ → Bool
 is_bad bytes number =
     nat_lt (length (record_at bytes number)) 9
@@ -39,4 +39,5 @@ bad_record bytes = find (is_bad bytes) (range_with_len 0 (record_count bytes))
 
 -- the moment and the byte of each record
 unfoldable pub records_of : List ℕ → List (ℕ × ℕ)
-records_of bytes = map (λ number. (moment_at bytes number, byte_at bytes number)) (range_with_len 0 (record_count bytes))
+records_of bytes =
+    map (λ number. (moment_at bytes number, byte_at bytes number)) (range_with_len 0 (record_count bytes))

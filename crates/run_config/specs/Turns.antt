@@ -21,7 +21,8 @@ listed_turns guests document = do
   _ ← passes_if (nat_le (length turns) (2 ^ 20))
   Some (Listed turns)
 
--- the steps of a turn of weight 1, at most 2^32, and how many rounds there are: at most 2^20 turns in all (own)
+-- the steps of a turn of weight 1, at most 2^32, and how many rounds there are, of at most 2^20 turns in all
+-- (own)
 unfoldable pub quantum_and_rounds : ℕ → Members → Option Schedule
 quantum_and_rounds guests document = do
   quantum_value ← value_at key.Quantum document

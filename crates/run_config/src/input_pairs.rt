@@ -102,7 +102,7 @@ fn pairs_in(alloc: Global, value: &Value) -> Result<Option<InputSource>, AllocEr
     Ok(Some(InputSource::Pairs(Inputs::from_vec(inputs))))
 }
 
-/// Where the inputs of a guest come from, where its key is as it must be: it has none where the key is absent.
+/// Where the inputs of a guest come from, where the key is as it must be. Without the key there are none.
 #[tactic(auto, unfolding(crate::specs::Guests::input_at))]
 pub fn input_at(
     alloc: Global,

@@ -90,7 +90,8 @@ fn text_in<'a>(value: &'a Value, guest: u32, key: ConfigKey) -> Result<&'a str, 
 fn file_name_in<'a>(value: &'a Value, guest: u32, key: ConfigKey) -> Result<&'a str, ConfigFault>
     ensures text { IfOk result (λ t. as_str (view value.now) ≡ Some t.now) }
     ensures passed { OnOk result (wrong_kind (Some guest) (key, text_of 1 255) (view value.now) ≡ None) }
-    ensures refused { IfErr result (λ f. wrong_kind (Some guest) (key, text_of 1 255) (view value.now) ≡ Some f) }
+    ensures refused { IfErr result (λ f.
+        wrong_kind (Some guest) (key, text_of 1 255) (view value.now) ≡ Some f) }
 {
     let Some(text) = value.as_str() else {
         return Err(range_fault(guest, key, value))
@@ -112,7 +113,8 @@ fn number_in(
     high: u64,
 ) -> Result<u64, ConfigFault>
     ensures number { IfOk result (λ n. number_within low high (view value.now) ≡ Some n) }
-    ensures passed { OnOk result (wrong_kind (Some guest) (key, integer_of low high) (view value.now) ≡ None) }
+    ensures passed { OnOk result (
+        wrong_kind (Some guest) (key, integer_of low high) (view value.now) ≡ None) }
     ensures refused { IfErr result (λ f.
         wrong_kind (Some guest) (key, integer_of low high) (view value.now) ≡ Some f) }
 {
@@ -182,7 +184,7 @@ fn values_of<'a>(table: &'a Table, guest: u32) -> Result<GuestRef<'a>, ConfigFau
 }
 
 // The number at a key that need not be there, within these limits: this one where it is absent.
-#[tactic(auto, unfolding(crate::specs::Tests::out_of_range, crate::specs::Values::natural_or))]
+#[tactic(auto, unfolding(crate::specs::Tests::out_of_range, crate::specs::Values::natural_or), using(crate::proofs::Found::number_found))]
 fn number_or(
     absent: u64,
     table: &Table,
@@ -192,14 +194,16 @@ fn number_or(
     high: u64,
 ) -> Result<u64, ConfigFault>
     ensures number { IfOk result (λ n. n ≡ natural_or absent key (table_view table.now)) }
-    ensures passed { OnOk result (out_of_range (Some guest) (table_view table.now) (key, integer_of low high) ≡ None) }
+    ensures passed { OnOk result (
+        out_of_range (Some guest) (table_view table.now) (key, integer_of low high) ≡ None) }
     ensures refused { IfErr result (λ f.
         out_of_range (Some guest) (table_view table.now) (key, integer_of low high) ≡ Some f) }
 {
-    match value_at(table, key) {
-        Some(value) => number_in(value, guest, key, low, high),
-        None => Ok(absent),
-    }
+    let Some(value) = value_at(table, key) else {
+        return Ok(absent)
+    };
+    let number = number_in(value, guest, key, low, high)?;
+    Ok(number)
 }
 
 // The weight of a guest.
