@@ -1,9 +1,9 @@
 -- Weights times a quantum, one guest after the other.
-use Rattle.std.proofs.Common.{◌≡◌, ℕ, ◌+◌, ◌*◌, ◌^◌, ◌<◌, ◌≤◌, pos, nat_le, false, List, [], ◌∷◌, length, drop, map, Option, Some, None, refl, arith}
+use Rattle.std.proofs.Common.{◌≡◌, ℕ, ◌+◌, ◌*◌, ◌^◌, ◌<◌, ◌≤◌, pos, nat_le, false, List, [], ◌∷◌, get_or, length, drop, map, Option, Some, None, refl, arith}
 use Rattle.std.proofs.lemmas.Bool.{le-leb}
 use Rattle.std.proofs.lemmas.Bool.Decides.{nat_tests}
 use Rattle.std.proofs.lemmas.List.{drop_all, drop_more}
-use Rattle.std.proofs.lemmas.List.Elements.{All-nil, All-cons, All-map}
+use Rattle.std.proofs.lemmas.List.Elements.{All-nil, All-cons, All-get_or, All-map}
 use Rattle.std.specs.List.{All, enumerate_from, slice_index}
 use Rattle.run_config.specs.declared.faults.ConfigFault.{ConfigFault}
 use Rattle.run_config.specs.declared.faults.ConfigFault.TheVariants as fault
@@ -47,5 +47,5 @@ all_light weights quantum e = light_from quantum 0 weights e
 pub ruleset weights = (weight_passes, weight_fails, all_weights)
 
 -- what holds of each guest's weight holds of each weight
-pub each_weight : (guests : List GuestSettings) → All (λ g. g.weight ≤ 1000) guests → All (λ weight. weight ≤ 1000) (weights_of guests)
-each_weight guests light = All-map (λ weight. weight ≤ 1000) (λ g. g.weight) guests light
+pub light : (weights : List ℕ) (guests : List GuestSettings) → weights ≡ weights_of guests → All (λ g. g.weight ≤ 1000) guests → (k d : ℕ) → k < length weights → get_or weights k d ≤ 1000
+light weights guests is each k d within = All-get_or (λ weight. weight ≤ 1000) weights k d within (rw is (All-map (λ weight. weight ≤ 1000) (λ g. g.weight) guests each))

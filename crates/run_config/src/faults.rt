@@ -32,8 +32,8 @@ pub enum ConfigFault {
     },
     /// The turns are said in neither form or in both, or a value of them is wrong.
     Turns,
-    /// In format 1 the inputs are not pairs of a moment and a byte, or a moment falls. In format 2 they are not
-    /// the name of a file, a text of 1 to 255 bytes.
+    /// In format 1 the inputs are not pairs of a moment and a byte, or a moment falls. In format 2 they are
+    /// not the name of a file, a text of 1 to 255 bytes.
     Input {
         guest: u32,
     },
@@ -50,8 +50,9 @@ pub enum ConfigFault {
     Frames {
         sum: u32,
     },
-    /// A file of inputs has a bad record, the first with this number, from 0 on: it has fewer than 9 bytes, or a
-    /// moment of 2^62 or more or less than the one before, or it is record 65,536. `read` never answers it.
+    /// A file of inputs has a bad record, the first with this number, from 0 on: it has fewer than 9 bytes,
+    /// or a moment of 2^62 or more or less than the one before, or it is record 65,536. `read` never answers
+    /// it.
     InputFile {
         guest: u32,
         record: u32,

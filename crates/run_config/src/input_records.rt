@@ -132,8 +132,8 @@ fn all_records(alloc: Global, bytes: &[u8]) -> Result<Vec<(u64, u8)>, AllocError
 /// The inputs of a file: in each record of nine bytes a moment, eight bytes little endian, and then the byte
 /// that is there from this moment on.
 ///
-/// A record is bad that has fewer than nine bytes, or a moment of 2^62 or more or less than the one before, or
-/// the number 65,536. All records are tested before any memory is taken.
+/// A record is bad that has fewer than nine bytes, or a moment of 2^62 or more or less than the one before,
+/// or the number 65,536. All records are tested before any memory is taken.
 pub fn inputs(alloc: Global, bytes: &[u8]) -> Result<Vec<(u64, u8)>, InputEnd>
     ensures inputs { IfOk result (λ v. v.items ≡ records_of bytes.now) }
     ensures passed { OnOk result (bad_record bytes.now ≡ None) }

@@ -176,6 +176,7 @@ fn weights_fault(weights: &[u64], quantum: u64) -> Option<ConfigFault>
 }
 
 // The turns of rounds, unless a guest's weight is too much for the quantum.
+#[tactic(auto, using(crate::proofs::Weighing::light))]
 fn turns_by_rounds(
     alloc: Global,
     guests: &[GuestSettings],
