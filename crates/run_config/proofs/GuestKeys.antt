@@ -1,15 +1,12 @@
 -- The keys that a guest must have, in its table and among their values.
-use Rattle.std.proofs.Common.{◌≡◌, ℕ, [], ◌∷◌, Option, Some, None, refl}
+use Rattle.std.proofs.Common.{◌≡◌, ℕ, refl}
 use Rattle.toml.specs.Data.{Members}
-use Rattle.run_config.specs.declared.faults.ConfigFault.{ConfigFault}
-use Rattle.run_config.specs.declared.formats.Format.TheVariants.{Two}
 use Rattle.run_config.specs.declared.keys.ConfigKey.TheVariants as key
 use Rattle.run_config.specs.declared.settings.GuestRef.{GuestRef}
 use Rattle.run_config.specs.declared.settings.GuestValues.{GuestValues}
-use Rattle.run_config.specs.Guests.{wrong_option, wrong_value}
+use Rattle.run_config.specs.Guests.{wrong_value}
 use Rattle.run_config.specs.Seen.{AreAt, AreReadFrom, HasValues, wrong_seen}
-use Rattle.run_config.specs.Tables.{integer_of}
-use Rattle.run_config.specs.Tests.{first_fault, out_of_range}
+use Rattle.run_config.specs.Tests.{out_of_range}
 use Rattle.run_config.proofs.Found.{number_found, text_found}
 
 pub wrong_in_table : (number : ℕ) (v : GuestValues) (table : Members) → AreAt v table → wrong_value number table ≡ wrong_seen number v
@@ -25,12 +22,3 @@ has_values r v table at read = record {
   entries = number_found 0 key.Entries table _ _ _ _ at.entries read.entries;
   console = number_found 0 key.Console table _ _ _ _ at.console read.console;
 }
-
-only : (o : Option ConfigFault) → first_fault (o ∷ []) ≡ o
-only None = refl
-only (Some f) = refl
-
--- the one key of format 2 alone
-pub wrong_weight : (number : ℕ) (table : Members) → wrong_option Two number table ≡ out_of_range (Some number) table (key.Weight, integer_of 1 1000)
-unfolding wrong_option
-wrong_weight number table = only (out_of_range (Some number) table (key.Weight, integer_of 1 1000))
