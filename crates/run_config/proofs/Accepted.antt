@@ -14,11 +14,11 @@ use Rattle.run_config.specs.declared.faults.ConfigFault.{ConfigFault}
 use Rattle.run_config.specs.declared.guests.GuestSettings.{GuestSettings}
 use Rattle.run_config.specs.declared.schedules.Schedule.{Schedule}
 use Rattle.run_config.specs.declared.schedules.Schedule.TheVariants.{Listed, Rounds}
-use Rattle.run_config.specs.Accept.{accept, configuration_fault, configuration_of, document_fault, document_of, format_at, format_in, guests_at, guests_in, schedule_in, settings_in, tree_of, unless_fault, weights_of}
+use Rattle.run_config.specs.Accept.{accept, body_fault, configuration_fault, configuration_of, document_fault, document_of, format_in, guests_at, guests_in, head_fault, schedule_in, settings_in, tree_of, unless_fault, weights_of}
 use Rattle.run_config.specs.Configurations.{Configuration, IsGuestWithin, IsTurnWithin, IsWithinLimits}
 use Rattle.run_config.specs.Guests.{guests_fault, settings_of}
 use Rattle.run_config.specs.Tables.{document_keys}
-use Rattle.run_config.specs.Tests.{missing, unless}
+use Rattle.run_config.specs.Tests.{unless}
 use Rattle.run_config.specs.Turns.{listed_turns, quantum_and_rounds, schedule_at, schedule_fault, turns_of}
 use Rattle.run_config.specs.Values.{has_only, natural, number_within, pairs_within, passes_if, tables_of, value_at}
 use Rattle.run_config.proofs.Within.{IsAtMost, first_none, guests_within, holds-some, is_some_value, pairs_at_most, unless_none}
@@ -125,11 +125,11 @@ kept_light format gs guests passed is =
     subst (All (λ g. g.weight ≤ 1000)) (sym is) (All-weaker IsGuestWithin (λ g. g.weight ≤ 1000) (λ g within. within.weight_most) _ (guests_within format [] gs passed))
 
 pub document_within : (t : Members) → document_fault t ≡ None → IsWithinLimits (configuration_of t)
-unfolding document_fault configuration_of settings_in schedule_in
+unfolding document_fault body_fault configuration_of settings_in schedule_in
 document_within t none =
-    let (_, after_format) = first_none (unless (is_some (format_at t)) _) _ none in
-    let (_, after_key) = first_none (missing None t key.Guest) _ after_format in
-    let (there, after_range) = first_none (unless (is_some (guests_at t)) _) _ after_key in
+    let (_, after_head) = first_none (head_fault t) _ none in
+    let (body, _) = first_none (body_fault t) _ after_head in
+    let (there, after_range) = first_none (unless (is_some (guests_at t)) _) _ body in
     let (guests, after_guests) = first_none (guests_fault (format_in t) [] (guests_in t)) _ after_range in
     let (turns, after_turns) = first_none (unless (is_some (schedule_at (length (guests_in t)) t)) _) _ after_guests in
     let (_, after_extra) = first_none (unless (has_only (document_keys (format_in t)) t) _) _ after_turns in

@@ -75,17 +75,19 @@ unfoldable pub head_fault : Members → Option ConfigFault
 head_fault document =
     first_fault (unless (is_some (format_at document)) fault.Format ∷ missing None document key.Guest ∷ [])
 
--- the first fault of a document (own)
-unfoldable pub document_fault : Members → Option ConfigFault
-document_fault document = first_fault (
-    unless (is_some (format_at document)) fault.Format
-    ∷ missing None document key.Guest
-    ∷ unless (is_some (guests_at document)) (fault.Range None key.Guest (array_length document))
+-- the first of the faults that are found after these (own)
+unfoldable pub body_fault : Members → Option ConfigFault
+body_fault document = first_fault (
+    unless (is_some (guests_at document)) (fault.Range None key.Guest (array_length document))
     ∷ guests_fault (format_in document) [] (guests_in document)
     ∷ unless (is_some (schedule_in document)) fault.Turns
     ∷ unless (has_only (document_keys (format_in document)) document) (fault.Extra None)
     ∷ (schedule_in document >>= schedule_fault (weights_of (settings_in document)))
     ∷ [])
+
+-- the first fault of a document
+unfoldable pub document_fault : Members → Option ConfigFault
+document_fault document = first_fault (head_fault document ∷ body_fault document ∷ [])
 
 -- what a document without a fault says
 unfoldable pub configuration_of : Members → Configuration

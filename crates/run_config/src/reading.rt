@@ -1,11 +1,11 @@
 //! Reads a configuration.
 
-ghost use Rattle.std.specs.Prelude.{◌≡◌, ◌<◌, ◌≤◌, false, length, map, [], ◌∷◌, Some, None, Ok, Err, IfOk, IfSome, IsErrOf, OnOk, option_map};
+ghost use Rattle.std.specs.Prelude.{◌≡◌, ◌<◌, ◌≤◌, false, length, map, [], ◌∷◌, Some, None, Ok, Err, IfOk, IfSome, IfErr, IsErrOf, OnOk, option_map};
 ghost use Rattle.std.specs.Str.{is_utf8};
 ghost use Rattle.toml.specs.View.{view, items_view, table_view};
 ghost use Rattle.run_config.specs.declared.ends.ReadEnd.TheVariants.{NoMemory, Refused};
 ghost use Rattle.run_config.specs.declared.faults.ConfigFault.TheVariants as fault;
-ghost use Rattle.run_config.specs.Accept.{accept, array_length, configuration_of, document_fault, format_at, guests_at, guests_in, head_fault, tree_of, AcceptedIsWithinLimits};
+ghost use Rattle.run_config.specs.Accept.{accept, array_length, body_fault, configuration_of, document_fault, format_at, format_in, guests_at, guests_in, head_fault, tree_of, AcceptedIsWithinLimits};
 ghost use Rattle.run_config.specs.Answers.{IfRefused};
 ghost use Rattle.run_config.specs.Configurations.{IsWithinLimits};
 ghost use Rattle.run_config.specs.Guests.{guests_fault, settings_of};
@@ -133,24 +133,33 @@ fn all_settings(
     Ok(guests)
 }
 
-// The configuration that a document says. Want of memory never stands in the place of a refusal by `format`,
-// or of one where there is no `guest`.
-#[tactic(auto, unfolding(crate::specs::Accept::document_fault, crate::specs::Accept::head_fault, crate::specs::Accept::configuration_of, crate::specs::Accept::guests_in, crate::specs::Accept::format_in, crate::specs::Accept::settings_in, crate::specs::Accept::schedule_in, crate::specs::Tests::missing))]
-fn configuration_of(alloc: Global, document: &Table) -> Result<Config, ReadEnd>
-    ensures passed { OnOk result (document_fault (table_view document.now) ≡ None) }
-    ensures configuration { IfOk result (λ c. c ≡ configuration_of (table_view document.now)) }
-    ensures refused { IfRefused result (λ f. document_fault (table_view document.now) ≡ Some f) }
-    ensures memory { IsErrOf result NoMemory → head_fault (table_view document.now) ≡ None }
+// The format of a document that says one, and has the key of the guests.
+#[tactic(auto, unfolding(crate::specs::Accept::head_fault, crate::specs::Accept::format_in, crate::specs::Tests::missing))]
+fn head_of(document: &Table) -> Result<Format, ConfigFault>
+    ensures passed { OnOk result (head_fault (table_view document.now) ≡ None) }
+    ensures format { IfOk result (λ format. format ≡ format_in (table_view document.now)) }
+    ensures refused { IfErr result (λ f. head_fault (table_view document.now) ≡ Some f) }
 {
     let Some(format) = format_at(document) else {
-        return Err(ReadEnd::Refused(ConfigFault::Format))
+        return Err(ConfigFault::Format)
     };
     if value_at(document, ConfigKey::Guest).is_none() {
-        return Err(ReadEnd::Refused(ConfigFault::Missing {
+        return Err(ConfigFault::Missing {
             guest: None,
             key: ConfigKey::Guest,
-        }));
+        });
     }
+    Ok(format)
+}
+
+// The configuration that a document of this format says.
+#[tactic(auto, unfolding(crate::specs::Accept::body_fault, crate::specs::Accept::configuration_of, crate::specs::Accept::guests_in, crate::specs::Accept::settings_in, crate::specs::Accept::schedule_in))]
+fn body_of(alloc: Global, format: Format, document: &Table) -> Result<Config, ReadEnd>
+    requires { format ≡ format_in (table_view document.now) }
+    ensures passed { OnOk result (body_fault (table_view document.now) ≡ None) }
+    ensures configuration { IfOk result (λ c. c ≡ configuration_of (table_view document.now)) }
+    ensures refused { IfRefused result (λ f. body_fault (table_view document.now) ≡ Some f) }
+{
     let Some(tables) = guests_at(alloc, document)? else {
         return Err(ReadEnd::Refused(ConfigFault::Range {
             guest: None,
@@ -167,6 +176,19 @@ fn configuration_of(alloc: Global, document: &Table) -> Result<Config, ReadEnd>
     }
     let turns = turns_of(alloc, guests.as_slice(), schedule)?;
     Ok(Config::new(guests, turns))
+}
+
+// The configuration that a document says. Want of memory never stands in the place of a refusal by `format`,
+// or of one where there is no `guest`.
+#[tactic(auto, unfolding(crate::specs::Accept::document_fault))]
+fn configuration_of(alloc: Global, document: &Table) -> Result<Config, ReadEnd>
+    ensures passed { OnOk result (document_fault (table_view document.now) ≡ None) }
+    ensures configuration { IfOk result (λ c. c ≡ configuration_of (table_view document.now)) }
+    ensures refused { IfRefused result (λ f. document_fault (table_view document.now) ≡ Some f) }
+    ensures memory { IsErrOf result NoMemory → head_fault (table_view document.now) ≡ None }
+{
+    let format = head_of(document)?;
+    body_of(alloc, format, document)
 }
 
 /// Reads a configuration from its bytes: the one that `accept` has for them, or the first fault.
