@@ -37,10 +37,13 @@ def write(data):
 
 
 class Parser(argparse.ArgumentParser):
-    """Reads the words of a tool. A help text that cannot be written is an error."""
+    """Reads the words of a tool. A help text that cannot be written is an error. Where there are examples,
+    their lines and those of the description stay as they are."""
 
-    def __init__(self, description, usage=None):
-        super().__init__(prog=name(), description=description, usage=usage, allow_abbrev=False)
+    def __init__(self, description, usage=None, examples=None):
+        form = argparse.RawDescriptionHelpFormatter if examples else argparse.HelpFormatter
+        super().__init__(prog=name(), description=description, usage=usage, epilog=examples,
+                         formatter_class=form, allow_abbrev=False)
 
     def print_help(self, file=None):
         write(self.format_help().encode())
