@@ -5,6 +5,7 @@ import re
 import stat
 import tomllib
 
+import records
 import toml11
 
 BLOCK = 2097152
@@ -18,8 +19,9 @@ RANGES = {
     "spaces": "an integer from 1 to 8",
     "entries": "an integer from 16 to 256",
     "console": "an integer from 0 to 1,048,576",
+    "weight": "an integer from 1 to 1,000",
 }
-GUEST_KEYS = [*RANGES, "input"]
+GUEST_KEYS = {1: [*list(RANGES)[:-1], "input"], 2: [*RANGES, "input"]}
 FILE_KEYS = ["format", "guest", "turns", "quantum", "rounds"]
 
 
@@ -56,10 +58,36 @@ def guests_of(document):
     return [guest if isinstance(guest, dict) else {} for guest in guests]
 
 
+def format_of(document):
+    """The format of a document: 2, or 1 where it has another one or none."""
+    value = (document or {}).get("format")
+    return 2 if is_integer(value, 2, 2) else 1
+
+
+def file_name(value):
+    """A value that names a file, or none."""
+    return value if isinstance(value, str) and value and "\0" not in value else None
+
+
 def image_names(document):
     """The name of each guest's image, or none where there is no text."""
-    names = [guest.get("image") for guest in guests_of(document)]
-    return [name if isinstance(name, str) and name and "\0" not in name else None for name in names]
+    return [file_name(guest.get("image")) for guest in guests_of(document)]
+
+
+def guest_files(document):
+    """The files that a document's guests have, in the order in which they are read: for each what it is, in
+    words, and its name, or none where there is no text."""
+    files = []
+    for number, guest in enumerate(guests_of(document)):
+        files.append((f"the image of guest {number}", file_name(guest.get("image"))))
+        if format_of(document) == 2 and "input" in guest:
+            files.append((f"the input file of guest {number}", file_name(guest["input"])))
+    return files
+
+
+def file_names(document):
+    """The names of these files, as far as there is text."""
+    return [name for _, name in guest_files(document) if name]
 
 
 def nearest(word, words):
@@ -135,11 +163,16 @@ def turns_wrong(document, count):
         f"{count - 1} and steps from 0 to 4,294,967,296"
 
 
-def input_wrong(guest):
-    """What is wrong with a guest's inputs."""
+def input_wrong(guest, form):
+    """What is wrong with a guest's inputs in this format."""
     inputs = guest.get("input")
+    if form == 2:
+        pairs = ": `tools/inputs` makes it of a text; pairs are of `format = 1`"
+        return "in format 2 `input` is the name of a file, a text of 1 to 255 bytes" \
+            + (pairs if isinstance(inputs, list) else "")
     if not isinstance(inputs, list):
-        return "`input` is an array of pairs, `[[10, 72], [500, 105]]`"
+        return "`input` is an array of pairs, `[[10, 72], [500, 105]]`" \
+            + ("; the name of a file is of `format = 2`" if isinstance(inputs, str) else "")
     wrong = first_wrong(inputs, 2**62 - 1, 255)
     if wrong is not None:
         return f"element {wrong} of `input` is {inputs[wrong]!r}: it is to be [moment, byte], a moment " \
@@ -151,12 +184,35 @@ def input_wrong(guest):
     return "`input` has more than 65,536 pairs"
 
 
+def input_file_wrong(path, who, record):
+    """What is wrong with the record of this number in the input file at this path."""
+    what = f"record {record} of the input file {path} of {who}: "
+    try:
+        with open(path if os.path.isfile(path) else os.devnull, "rb") as file:
+            data = file.read(records.MOST_BYTES)
+    except (OSError, ValueError):
+        data = b""
+    wrong = records.first_wrong(data)
+    if wrong is None or wrong[0] != record:
+        return what + "it is to have 9 bytes: a moment, which is below 2^62 and not less than the one " \
+            "before, and a byte"
+    is_text = data.isascii() and b"\0" not in data
+    return what + wrong[1] + ("; the file is a text: `tools/inputs` makes records of it" if is_text else "")
+
+
+def weight_wrong(guest, who, quantum, product):
+    """Why a guest's turns have too many steps."""
+    return f"`weight` of {who} is {guest.get('weight')} and `quantum` is {quantum}, so each of its turns " \
+        f"would have {product} steps, and a turn has at most 4,294,967,296: lower one of the two, and have " \
+        "more `rounds`"
+
+
 class Guest:
     """The guest that a fault names, if it names one: its number, its table, and what it is called."""
 
     def __init__(self, document, number):
         guests = guests_of(document)
-        self.number = number
+        self.number, self.form = number, format_of(document)
         self.table = guests[number] if number is not None and number < len(guests) else {}
         self.before = guests[:number]
         name = self.table.get("name")
@@ -171,11 +227,17 @@ class Guest:
         shown = f"{value}" if value is not None else repr(self.table.get(key))
         return f"`{key}` of {self.who} is {shown}: it is to be {RANGES[key]}"
 
+    def meant(self, name, known):
+        """What a key may be meant as that is none of these."""
+        if self.number is not None and name in GUEST_KEYS[2]:
+            return " (a key of `format = 2`)"
+        return nearest(name, known)
+
     def extra_keys(self, document):
         """Which keys the guest, or without one the file, has and should not."""
         is_file = self.number is None
-        there, known = (document, FILE_KEYS) if is_file else (self.table, GUEST_KEYS)
-        extra = ", ".join(f"`{name}`{nearest(name, known)}" for name in there if name not in known)
+        there, known = (document, FILE_KEYS) if is_file else (self.table, GUEST_KEYS[self.form])
+        extra = ", ".join(f"`{name}`{self.meant(name, known)}" for name in there if name not in known)
         is_misplaced = not is_file and set(there) & set(FILE_KEYS)
         moved = "; keys of the file stand before the first `[[guest]]`" if is_misplaced else ""
         who = "the file" if is_file else self.who
@@ -191,7 +253,7 @@ def guests_wrong(document, value):
 
 
 def file_lacks(key, document):
-    said = {"format": "the file lacks `format = 1`",
+    said = {"format": "the file lacks `format = 1` or `format = 2`",
             "guest": "the file has no guest: write `[[guest]]` once for each, and its keys below"}
     return said[key] + misspelt(key, document, FILE_KEYS)
 
@@ -209,11 +271,12 @@ def of_configuration(folder, text, number, guest, key, value):
         case 1:
             return no_toml(why)
         case 2:
-            return "`format` is to be 1" if "format" in document else file_lacks("format", document)
+            return "`format` is to be 1 or 2" if "format" in document else file_lacks("format", document)
         case 3 if key == "guest":
             return file_lacks("guest", document)
         case 3:
-            return f"{named.who} lacks `{key}`: {RANGES[key]}{misspelt(key, named.table, GUEST_KEYS)}"
+            return f"{named.who} lacks `{key}`: {RANGES[key]}" \
+                + misspelt(key, named.table, GUEST_KEYS[named.form])
         case 4:
             return guests_wrong(document, value) if key == "guest" else named.value_wrong(key, value)
         case 5:
@@ -221,7 +284,7 @@ def of_configuration(folder, text, number, guest, key, value):
         case 6:
             return turns_wrong(document, len(guests))
         case 7:
-            return f"{named.who}: {input_wrong(named.table)}"
+            return f"{named.who}: {input_wrong(named.table, named.form)}"
         case 8:
             return named.extra_keys(document)
         case 9:
@@ -231,22 +294,28 @@ def of_configuration(folder, text, number, guest, key, value):
         case 11:
             needs = "; ".join(f"{index}: {frames_of(each)}" for index, each in enumerate(guests))
             return f"the guests need {value} frames of 4,096 bytes, and there are {FRAMES}. By guest: {needs}"
+        case 12:
+            return input_file_wrong(os.path.join(folder, named.table["input"]), named.who, value)
+        case 13:
+            return weight_wrong(named.table, named.who, document["quantum"], value)
     return ""
 
 
-def of_read(number, configuration, names, report):
-    """Why the read of the file of this number fails, where the guests' images have these names."""
+def of_read(number, configuration, document, report):
+    """Why the read of the file of this number fails, where the configuration has this document."""
     if number == 1:
         return f"the configuration {configuration} cannot be read{unreadable(configuration)}"
-    if not names:
-        return f"the image of guest {number - 2}{', or the stored report,' if report else ''} cannot be read"
-    if number >= 2 + len(names):
+    files = guest_files(document)
+    if not files:
+        return f"a file of a guest{', or the stored report,' if report else ''} cannot be read"
+    if number >= 2 + len(files):
         return f"the stored report {report} cannot be read{unreadable(report)}" if report else ""
-    name = names[number - 2]
+    what, name = files[number - 2]
     if name is None:
-        return f"the image of guest {number - 2} cannot be read"
+        return f"{what} cannot be read"
     path = os.path.join(os.path.dirname(configuration), name)
-    return f"the image {path} of guest {number - 2} cannot be read{unreadable(path)}"
+    what, whose = what.split(" of ")
+    return f"{what} {path} of {whose} cannot be read{unreadable(path)}"
 
 
 def unreadable(path):
@@ -274,7 +343,7 @@ def explained(line, configuration, text, report=None):
         folder = os.path.dirname(configuration)
         return of_configuration(folder, text, number, guest, found[3], value) if is_known else ""
     if found := re.match(r"nesthv: read fault (\d+)$", line):
-        return of_read(int(found[1]), configuration, image_names(parsed(text)[0]), report)
+        return of_read(int(found[1]), configuration, parsed(text)[0], report)
     if line.startswith("nesthv: usage: "):
         return "the name of a file is no UTF-8, which the program wants"
     if line == "nesthv: write fault":

@@ -16,7 +16,8 @@ MOST_IN_TURN = 2**32
 def sums_of(document):
     """The steps of each guest's own turns."""
     if "turns" not in document:
-        return [document["quantum"] * document["rounds"]] * len(document["guest"])
+        return [guest.get("weight", 1) * document["quantum"] * document["rounds"]
+                for guest in document["guest"]]
     return [sum(steps for guest, steps in document["turns"] if guest == number)
             for number in range(len(document["guest"]))]
 
@@ -38,7 +39,7 @@ def toml_of(value):
 
 def capped(document, most):
     """The text of this configuration, in which each guest makes at most `most` steps."""
-    lines = ["format = 1", f"turns = {turns_of(sums_of(document), most)}"]
+    lines = [f"format = {document['format']}", f"turns = {turns_of(sums_of(document), most)}"]
     for guest in document["guest"]:
         lines.append("[[guest]]")
         lines += [f"{key} = {toml_of(value)}" for key, value in guest.items()]

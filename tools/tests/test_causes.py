@@ -44,7 +44,7 @@ class ConfigurationTest(ToolTest):
         self.refused("lacks `entries`: an integer from 16 to 256 (is `entires` to be it?)", entries=None,
                      entires=16)
         self.refused("(is `quantun` to be it?)", front="format = 1\nquantun = 1\nrounds = 1\n")
-        self.refused("the file lacks `format = 1` (is `formta` to be it?)",
+        self.refused("the file lacks `format = 1` or `format = 2` (is `formta` to be it?)",
                      front="formta = 1\nquantum = 1\nrounds = 1\n")
         self.check_unsaid(self.refused("`zzz`", zzz=1), "is it to be")
 
