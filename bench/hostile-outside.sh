@@ -52,6 +52,11 @@ configured() {
     sed "s|^image = .*|image = \"$1\"|" first.toml >named.toml
 }
 
+# given NAME: the configuration in format 2 whose input file has this name
+given() {
+    sed "s|^format = 1|format = 2|; \$a input = \"$1\"" first.toml >named.toml
+}
+
 # Outputs that fail. `check` has two pieces, and `replay` one.
 for words in 'run first.toml' 'check first.toml' 'replay first.toml report' 'work 0 1'; do
     status=0
@@ -99,6 +104,18 @@ for name in none.bin place; do
     refused "$name as image of a check" 3 'nesthv: read fault 2' check named.toml
     refused "$name as image of a replay" 3 'nesthv: read fault 2' replay named.toml report
 done
+for name in none.inputs place; do
+    given "$name"
+    refused "$name as input file" 3 'nesthv: read fault 3' run named.toml
+    refused "$name as input file of a check" 3 'nesthv: read fault 3' check named.toml
+    refused "$name as input file of a replay" 3 'nesthv: read fault 3' replay named.toml report
+done
+given /dev/null
+refused 'a folder as report behind an input file' 3 'nesthv: read fault 4' replay named.toml place
+status=0
+"$program" run named.toml >out 2>err || status=$?
+ended 'an empty input file' 0 ''
+cmp -s out report || { wrong=$((wrong + 1)); echo 'an empty input file: another report'; }
 configured "$(printf 'i%.0s' $(seq 252)).bin"
 refused 'an image name of 256 bytes' 2 'nesthv: configuration fault 4 guest 0 key image' run named.toml
 for words in "run $long" "check $long"; do
@@ -155,6 +172,8 @@ for _ in $(seq 20); do
 done
 configured /dev/zero
 refused 'an image without end' 2 'nesthv: configuration fault 10 guest 0 value 2097153' run named.toml
+given /dev/zero
+refused 'an input file without end' 2 'nesthv: configuration fault 12 guest 0 value 65536' run named.toml
 
 # Less and less memory: the whole output or, with status 5, none of it.
 least=0

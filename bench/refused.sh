@@ -20,7 +20,7 @@ trap 'rm -rf "$folder"' EXIT
 cp examples/first/*.toml examples/first/*.bin "$folder"
 cd "$folder"
 "$program" run first.toml >report
-printf 'format = 2\n' >wrong.toml
+printf 'format = 3\n' >wrong.toml
 wrong=0
 calls=0
 
