@@ -1,4 +1,5 @@
-# Completion of bash for nesthv, nesthv-run and examples/run. Read it by `source tools/completion.bash`, or install it.
+# Completion of bash for nesthv, nesthv-run, nesthv-inputs and examples/run. Read it by `source tools/completion.bash`,
+# or install it.
 _nesthv() {
     if [ "$COMP_CWORD" -eq 1 ]; then
         mapfile -t COMPREPLY < <(compgen -W 'run replay check work' -- "$2")
@@ -30,5 +31,15 @@ _nesthv_run() {
     mapfile -t COMPREPLY < <(compgen -W "run replay check $names" -- "$2"; compgen -f -- "$2")
 }
 
+_nesthv_inputs() {
+    compopt -o filenames
+    if [[ $2 == -?* ]]; then
+        mapfile -t COMPREPLY < <(compgen -W '--text --help' -- "$2")
+    else
+        mapfile -t COMPREPLY < <(compgen -f -- "$2")
+    fi
+}
+
 complete -F _nesthv nesthv
+complete -F _nesthv_inputs nesthv-inputs tools/inputs
 complete -F _nesthv_run nesthv-run examples/run ./run tools/run
