@@ -2,10 +2,19 @@
 
 use crate::call::Left;
 use crate::configuration::Turns;
+use crate::formats::Form;
 use crate::text::push_lines;
 use crate::told::Told;
 use no_memory::NoMemory;
 use std::alloc::Global;
+
+/// A run: its words, its turns, and how its configuration is given.
+#[derive(Clone, Copy)]
+pub struct Run<'w, 'a> {
+    pub words: &'w str,
+    pub turns: Turns<'a>,
+    pub form: Form,
+}
 
 /// What the runs of an ask have left.
 #[derive(Drop)]
@@ -36,14 +45,9 @@ impl Answer {
         }
     }
 
-    /// Adds what a run with these turns has left. Its trace must be that of the first run, told or not.
-    pub fn add(
-        &mut self,
-        words: &str,
-        turns: Turns<'_>,
-        left: &Left<'_, '_>,
-    ) -> Result<(), NoMemory> {
-        let text = shown(*self.first.allocator(), self.told, words, left)?;
+    /// Adds what a run has left. Its trace must be that of the first run, told or not.
+    pub fn add(&mut self, run: Run<'_, '_>, left: &Left<'_, '_>) -> Result<(), NoMemory> {
+        let text = shown(*self.first.allocator(), self.told, run.words, left)?;
         let trace = left.tally.trace();
         self.count(left);
         match self.trace {
@@ -53,7 +57,7 @@ impl Answer {
             }
             Some(first) if first == trace && self.first.as_str() == text.as_str() => {}
             Some(_) => {
-                push_turns(&mut self.others, turns)?;
+                push_run(&mut self.others, run)?;
                 writeln!(self.others, "{text}trace 0x{trace:x}")?;
             }
         }
@@ -97,10 +101,14 @@ fn push_least(
     Ok(())
 }
 
-fn push_turns(text: &mut String, turns: Turns<'_>) -> Result<(), NoMemory> {
-    match turns {
-        Turns::Rounds { quantum, rounds } => writeln!(text, "by {quantum}x{rounds}")?,
-        Turns::Pieces(pieces) => writeln!(text, "by {pieces}")?,
+fn push_run(text: &mut String, run: Run<'_, '_>) -> Result<(), NoMemory> {
+    match run.turns {
+        Turns::Rounds { quantum, rounds } => write!(text, "by {quantum}x{rounds}")?,
+        Turns::Pieces(pieces) => write!(text, "by {pieces}")?,
+    }
+    match run.form {
+        Form::Written => text.push('\n')?,
+        Form::Two => text.push_str(" in format 2\n")?,
     }
     Ok(())
 }

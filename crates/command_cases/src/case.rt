@@ -1,10 +1,11 @@
 // A case: its files and its configuration, and what is asked of them.
 
-use crate::answer::Answer;
+use crate::answer::{Answer, Run};
 use crate::call::call;
 use crate::configuration::{Configuration, Turns};
 use crate::faults::Fault;
 use crate::files::Files;
+use crate::formats::{Form, in_format_two};
 use crate::script::Script;
 use crate::terms::Names;
 use crate::told::Told;
@@ -124,7 +125,7 @@ impl<'a> Case<'a> {
         let mut answer = Answer::new(self.alloc, self.told);
         for index in 0..self.runs(words) {
             let turns = self.configuration.run(index).ok_or(Fault::Line)?;
-            self.add_run(words, turns, &mut answer)?;
+            self.add_forms(words, turns, &mut answer)?;
         }
         answer.put(answers)?;
         self.script = Script::new();
@@ -132,16 +133,46 @@ impl<'a> Case<'a> {
         Ok(())
     }
 
-    fn add_run(
+    // Adds the run of a configuration as it is written, and that in format 2 where it means the same there.
+    fn add_forms(
         &mut self,
         words: &str,
         turns: Turns<'a>,
         answer: &mut Answer,
     ) -> Result<(), NoMemory> {
-        let configuration = self.configuration.text(turns)?;
-        self.files.set_configuration(configuration.as_str())?;
-        let left = call(self.alloc, words, &self.files, self.script)?;
-        answer.add(words, turns, &left)
+        let written = self.written(turns)?;
+        let form = Form::Written;
+        self.add_run(Run { words, turns, form }, written.as_slice(), answer)?;
+        if !reads_configuration(words) {
+            return Ok(());
+        }
+        if let Some(changed) = in_format_two(self.alloc, written.as_slice())? {
+            let form = Form::Two;
+            self.add_run(Run { words, turns, form }, changed.as_slice(), answer)?;
+        }
+        Ok(())
+    }
+
+    fn add_run(
+        &mut self,
+        run: Run<'_, 'a>,
+        configuration: &[u8],
+        answer: &mut Answer,
+    ) -> Result<(), NoMemory> {
+        self.files.set_configuration(configuration)?;
+        let left = call(self.alloc, run.words, &self.files, self.script)?;
+        answer.add(run, &left)
+    }
+
+    // The configuration: the file `k`, if there is one, else the text with these turns.
+    fn written(&self, turns: Turns<'a>) -> Result<Vec<u8>, NoMemory> {
+        match self.files.get("k") {
+            Some(bytes) => Ok(Vec::from_slice(self.alloc, bytes)?),
+            None => {
+                let text = self.configuration.text(turns)?;
+                Ok(Vec::from_slice(self.alloc, text.as_bytes())?)
+            }
+        }
     }
 
     // How many runs are made: one where no turns are made, or where a file has the configuration.
@@ -153,4 +184,10 @@ impl<'a> Case<'a> {
             1
         }
     }
+}
+
+fn reads_configuration(words: &str) -> bool {
+    words.starts_with("nesthv run k")
+        || words.starts_with("nesthv check k")
+        || words.starts_with("nesthv replay k")
 }

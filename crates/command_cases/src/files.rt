@@ -22,7 +22,7 @@ pub struct Files<'a> {
     name: &'a str,
     bytes: Vec<u8>,
     before: Vec<File<'a>>,
-    // What `k` gives where no file has that name.
+    // What `k` gives.
     configuration: Vec<u8>,
     // Whether every other name gives an empty file.
     is_complete: bool,
@@ -53,18 +53,20 @@ impl<'a> Files<'a> {
         }
     }
 
-    /// Sets what `k` gives where no file has that name.
-    pub fn set_configuration(&mut self, text: &str) -> Result<(), NoMemory> {
+    /// Sets what `k` gives, whatever file has that name.
+    pub fn set_configuration(&mut self, bytes: &[u8]) -> Result<(), NoMemory> {
         self.configuration.clear();
-        self.configuration.extend_from_slice(text.as_bytes())?;
+        self.configuration.extend_from_slice(bytes)?;
         Ok(())
     }
 
     /// What a read of this name gives, or none where that fails.
     pub fn given(&self, name: &str) -> Option<&[u8]> {
+        if name == "k" {
+            return Some(self.configuration.as_slice());
+        }
         match self.get(name) {
             Some(bytes) => Some(bytes),
-            None if name == "k" => Some(self.configuration.as_slice()),
             None if self.is_complete => Some(&[]),
             None => None,
         }

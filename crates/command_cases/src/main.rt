@@ -8,6 +8,7 @@ mod case;
 mod configuration;
 mod faults;
 mod files;
+mod formats;
 mod script;
 mod sink;
 mod store;

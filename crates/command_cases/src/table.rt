@@ -4,6 +4,7 @@ use crate::call::{Left, call};
 use crate::case::told_fault;
 use crate::faults::Fault;
 use crate::files::Files;
+use crate::formats::in_format_two;
 use crate::script::Script;
 use crate::text::{push_shown, push_unescaped, quoted};
 use no_memory::NoMemory;
@@ -85,27 +86,54 @@ impl Table {
     }
 }
 
-// The answer of the commands to a configuration, where every other file is empty.
+// The answer of the commands to a configuration, where every other file is empty, and whether another one comes
+// in format 2 where the configuration means the same there.
 fn push_answer(
     alloc: Global,
     configuration: Vec<u8>,
     answers: &mut String,
 ) -> Result<(), NoMemory> {
+    let changed = in_format_two(alloc, configuration.as_slice())?;
     let files = Files::with_configuration(alloc, configuration);
     let checked = call(alloc, "nesthv check k", &files, Script::new())?;
     if checked.status == 0 {
-        writeln!(answers, "accepted")?;
-        return Ok(());
+        answers.push_str("accepted")?;
+    } else {
+        push_refusal(alloc, &files, &checked, answers)?;
     }
-    push_fault(answers, checked.err.bytes())?;
-    for (words, name) in COMMANDS {
-        let left = call(alloc, words, &files, Script::new())?;
-        if !is_refused(&left, checked.err.bytes()) {
-            write!(answers, " BUT {name} DIFFERS")?;
+    if let Some(changed) = changed {
+        let files = Files::with_configuration(alloc, changed);
+        let other = call(alloc, "nesthv check k", &files, Script::new())?;
+        if !is_same(&checked, &other) {
+            answers.push_str(" BUT FORMAT 2 DIFFERS")?;
         }
     }
     answers.push('\n')?;
     Ok(())
+}
+
+// The fault that a check tells, and which command tells another one.
+fn push_refusal(
+    alloc: Global,
+    files: &Files<'_>,
+    checked: &Left<'_, '_>,
+    answers: &mut String,
+) -> Result<(), NoMemory> {
+    push_fault(answers, checked.err.bytes())?;
+    for (words, name) in COMMANDS {
+        let left = call(alloc, words, files, Script::new())?;
+        if !is_refused(&left, checked.err.bytes()) {
+            write!(answers, " BUT {name} DIFFERS")?;
+        }
+    }
+    Ok(())
+}
+
+fn is_same(one: &Left<'_, '_>, other: &Left<'_, '_>) -> bool {
+    one.status == other.status
+        && one.out.bytes() == other.out.bytes()
+        && one.err.bytes() == other.err.bytes()
+        && one.store.reads() == other.store.reads()
 }
 
 // Whether a call was refused with this line, with nothing read and written beside.

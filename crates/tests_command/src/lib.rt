@@ -11,6 +11,8 @@ mod configurations;
 #[cfg(test)]
 mod images;
 #[cfg(test)]
+mod input_files;
+#[cfg(test)]
 mod processes;
 #[cfg(test)]
 mod sections;
@@ -18,3 +20,5 @@ mod sections;
 mod sinks;
 #[cfg(test)]
 mod stores;
+#[cfg(test)]
+mod weights;
