@@ -50,8 +50,8 @@ impl Turns {
         Ok(Turns { pairs })
     }
 
-    /// `rounds` rounds, each of which gives each guest, in order, one turn of its weight times `quantum` steps.
-    /// The one error is out of memory.
+    /// `rounds` rounds, each of which gives each guest, in order, one turn of its weight times `quantum`
+    /// steps. The one error is out of memory.
     #[tactic(auto, unfolding(crate::specs::Turns::weighted_rounds), using(crate::proofs::Rounds::weighted))]
     pub fn of_weights(
         alloc: Global,
