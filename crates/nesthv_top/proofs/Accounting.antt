@@ -1,5 +1,5 @@
 -- The account of a command that was done.
-use Rattle.std.proofs.Common.{◌≡◌, ℕ, ◌≤◌, ◌^◌, List, Option, Some, Ok, Err, length, map, refl, ap, subst, sym, arith}
+use Rattle.std.proofs.Common.{◌≡◌, ℕ, ◌≤◌, ◌^◌, List, Option, Some, Ok, Err, length, map, refl, subst, sym, arith}
 use Rattle.std.specs.List.{All}
 use Rattle.command_line.specs.Commands.{Command, FileCommand, OnFiles, Run, Replay, Check, Work}
 use Rattle.guest_turns.specs.Limits.{IsBootable}

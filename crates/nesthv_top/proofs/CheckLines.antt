@@ -6,6 +6,7 @@ use Rattle.guest_specs.specs.declared.guests.GuestSpec.{GuestSpec}
 use Rattle.outside.specs.Pieces.{Appends, Puts}
 use Rattle.outside.proofs.Pieces.{appends_then, puts_stopped, puts_then}
 use Rattle.run_config.specs.declared.guests.GuestSettings.{GuestSettings}
+use Rattle.run_config.specs.declared.guests.InputSource.TheVariants.{Pairs}
 use Rattle.nesthv_top.specs.declared.ends.Job.{Job}
 use Rattle.nesthv_top.specs.Seen.{IsJob}
 use Rattle.nesthv_top.specs.Texts.{guest_check, guest_checks}
@@ -64,6 +65,6 @@ short_names job is i d inside =
     rw name (is.limits.each_guest i s there).name_most
   where
     no_settings : GuestSettings
-    no_settings = record { name = []; image = []; blocks = 0; spaces = 0; entries = 0; console = 0; inputs = [] }
+    no_settings = record { name = []; image = []; blocks = 0; spaces = 0; entries = 0; console = 0; weight = 0; input = Pairs [] }
 
 pub ruleset jobs = (few_guests, short_names)

@@ -1,9 +1,8 @@
 -- The reads of a whole command, and what its ends say of them.
 use Rattle.std.specs.List.{All}
-use Rattle.std.proofs.Common.{◌≡◌, ◌∙◌, ◌⊎◌, inl, inr, ℕ, zero, suc, ◌+◌, ◌<◌, ◌≤◌, List, [], ◌∷◌, ◌++◌, Option, Some, None, Result, Ok, Err, Bool, true, false, nat_le, length, map, refl, ap, sym, subst, arith, append_assoc}
+use Rattle.std.proofs.Common.{◌≡◌, ◌∙◌, ◌⊎◌, inl, inr, ℕ, zero, suc, ◌+◌, ◌<◌, ◌≤◌, List, [], ◌∷◌, ◌++◌, Option, Some, None, Result, Ok, Err, Bool, true, false, nat_le, length, refl, ap, sym, subst, arith, append_assoc}
 use Rattle.std.specs.Str.{is_utf8}
-use Rattle.arch_defs.specs.Frames.{most_frames}
-use Rattle.command_line.specs.Commands.{Command, FileCommand, OnFiles, Run, Replay, Check, Work}
+use Rattle.command_line.specs.Commands.{Command, FileCommand, OnFiles, Work}
 use Rattle.std.specs.Borrow.{Bor}
 use Rattle.command_line.specs.declared.commands.FileRequest.{FileRequest}
 use Rattle.command_line.specs.declared.commands.FileRequest.TheVariants as request
@@ -19,8 +18,7 @@ use Rattle.run_config.specs.declared.faults.ConfigFault.{ConfigFault}
 use Rattle.run_config.specs.declared.faults.ConfigFault.TheVariants as fault
 use Rattle.run_config.specs.Accept.{accept}
 use Rattle.run_config.specs.Configurations.{Configuration, IsWithinLimits}
-use Rattle.run_config.specs.Tests.{first_fault, unless}
-use Rattle.nesthv_top.specs.declared.ends.Ended.{Ended}
+use Rattle.run_config.specs.Tests.{first_fault}
 use Rattle.nesthv_top.specs.declared.ends.Ended.TheVariants as ended
 use Rattle.nesthv_top.specs.declared.ends.Job.{Job}
 use Rattle.nesthv_top.specs.declared.ends.FilesRead.{FilesRead}
@@ -28,12 +26,12 @@ use Rattle.nesthv_top.specs.declared.ends.LoadEnd.{LoadEnd}
 use Rattle.nesthv_top.specs.declared.ends.LoadEnd.TheVariants.{Refused, ReadFault, NoMemory}
 use Rattle.nesthv_top.specs.Contents.{config_most, config_name, config_of, guests_of, stored_of}
 use Rattle.nesthv_top.specs.Endings.{IsFirstRead, SaysOfReads}
-use Rattle.nesthv_top.specs.Ends.{ended_by, ended_of, IfFailed, Leaves}
-use Rattle.nesthv_top.specs.Loads.{all_read_for, frames_by, guests_with, need_by, IsAllRead, IsTested}
-use Rattle.nesthv_top.specs.Plans.{planned, plan_if}
+use Rattle.nesthv_top.specs.Ends.{ended_by, IfFailed, Leaves}
+use Rattle.nesthv_top.specs.Loads.{frames_by, guests_with, IsAllRead, IsTested}
+use Rattle.nesthv_top.specs.Plans.{planned}
 use Rattle.nesthv_top.specs.Reads.{accepted_steps, ask, config_steps, fault_by, file_steps, frames_fault, guests_steps, reading, report_steps, steps_for, testing, text_fault, AskedSome, BeginsWithConfig}
 use Rattle.nesthv_top.specs.Seen.{plan_seen, IsJob}
-use Rattle.nesthv_top.specs.Steps.{Step, asks_in, asks_unless, fault_in, made_of, ArePassed, AskedMore, EndAs, IsNumberAfter, IsShort, ReadStopsAs, StopAs}
+use Rattle.nesthv_top.specs.Steps.{Step, asks_unless, fault_in, made_of, ArePassed, AskedMore, IsNumberAfter, ReadStopsAs, StopAs}
 use Rattle.nesthv_top.proofs.GuestReads.{all_bootable, made_names, made_frames, made_of_files, frames_of_files}
 use Rattle.nesthv_top.proofs.StepLists.{asked_none, asked_then, made_all, one_passed, one_stopped, passed_then, rose_since, stopped_first, stopped_later, test_passed, test_refused}
 
@@ -274,7 +272,7 @@ left_refused S most a found old new made made' left = record {
 -- what the ends say of the reads
 pub stopped_says : {X A : Type 0} (S : stores.Ghosts X) (command : FileCommand) (end : LoadEnd) (old new : X) (made' : ℕ)
     → ((f : Files) → S.files old ≡ Some f → StopAs (file_steps f command) 0 (S.asked old) end (S.asked new))
-    → IsFirstRead S (Some (OnFiles command)) (ended_by end) old new → Leaves {X = X} {A = A} S 18 (Err end) old new 0 made' → SaysOfReads S (Some (OnFiles command)) (ended_by end) old new
+    → IsFirstRead S (Some (OnFiles command)) (ended_by end) old new → Leaves {X = X} {A = A} S 34 (Err end) old new 0 made' → SaysOfReads S (Some (OnFiles command)) (ended_by end) old new
 stopped_says S command (Refused found) old new made' ends first left = record {
   first = first;
   reads = λ f told. (ends f told).1;
@@ -302,7 +300,7 @@ stopped_says S command (NoMemory n) old new made' ends first left = record {
 
 pub passed_says : {X A : Type 0} (S : stores.Ghosts X) (command : FileCommand) (a : A) (old new : X) (made' : ℕ)
     → ((f : Files) → S.files old ≡ Some f → ArePassed (file_steps f command) 0 (S.asked old) made' (S.asked new))
-    → IsFirstRead S (Some (OnFiles command)) ended.Done old new → Leaves S 18 (Ok a) old new 0 made' → SaysOfReads S (Some (OnFiles command)) ended.Done old new
+    → IsFirstRead S (Some (OnFiles command)) ended.Done old new → Leaves S 34 (Ok a) old new 0 made' → SaysOfReads S (Some (OnFiles command)) ended.Done old new
 passed_says S command a old new made' passed first left = record {
   first = first;
   reads = λ f told.

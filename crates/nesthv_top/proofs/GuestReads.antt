@@ -1,29 +1,29 @@
 -- What is read for guests, one after the other, and the guests that are made of it.
 use Rattle.std.specs.List.{All}
-use Rattle.std.proofs.Common.{◌≡◌, ◌∙◌, ℕ, zero, suc, ◌+◌, ◌*◌, ◌<◌, ◌≤◌, List, [], ◌∷◌, ◌++◌, Option, Some, None, Result, Ok, Err, length, take, drop, get_or, map, refl, ap, sym, subst, arith, append_assoc, add-one, length-append}
+use Rattle.std.proofs.Common.{◌≡◌, ◌∙◌, ℕ, zero, suc, ◌+◌, ◌<◌, ◌≤◌, List, [], ◌∷◌, ◌++◌, Option, Some, None, length, take, drop, get_or, refl, ap, sym, subst, arith, append_assoc, add-one}
 use Rattle.std.proofs.lemmas.Bool.{le-leb, lt-leb}
 use Rattle.std.proofs.lemmas.List.{append-nil, map-append, take_all, take_more}
 use Rattle.std.proofs.lemmas.List.Elements.{All-nil, All-cons, All-head, All-tail}
-use Rattle.arch_defs.specs.Memory.{block_size}
-use Rattle.guest_specs.specs.declared.guests.GuestSpec.{GuestSpec}
+use Rattle.guest_specs.specs.Inputs.{AreInputs}
 use Rattle.guest_specs.specs.Needs.{frames_needed}
 use Rattle.guest_turns.specs.Limits.{IsBootable, frames_for}
-use Rattle.outside.specs.declared.stores.Store as stores
 use Rattle.outside.specs.Asks.{Ask}
 use Rattle.outside.specs.Files.{Files}
 use Rattle.run_config.specs.declared.faults.ConfigFault.TheVariants as fault
-use Rattle.run_config.specs.Configurations.{IsGuestWithin}
+use Rattle.run_config.specs.declared.guests.InputSource.{InputSource}
+use Rattle.run_config.specs.declared.guests.InputSource.TheVariants.{Pairs, File}
+use Rattle.run_config.specs.Configurations.{IsGuestWithin, IsSourceWithin}
+use Rattle.run_config.specs.Records.{bad_record}
+use Rattle.run_config.proofs.Recording.{records_are_inputs}
 use Rattle.run_config.specs.declared.guests.GuestSettings.{GuestSettings}
 use Rattle.nesthv_top.specs.declared.ends.GuestFiles.{GuestFiles}
 use Rattle.nesthv_top.specs.declared.ends.LoadEnd.{LoadEnd}
-use Rattle.nesthv_top.specs.declared.ends.LoadEnd.TheVariants.{Refused, ReadFault, NoMemory}
-use Rattle.nesthv_top.specs.Contents.{guest_ram_size, guests_of}
-use Rattle.nesthv_top.specs.Ends.{IfFailed, Leaves}
-use Rattle.nesthv_top.specs.Loads.{all_read_for, guest_with, frames_by, guests_with, need_by, read_for, AreFitting, IsFitting}
-use Rattle.nesthv_top.specs.Reads.{AskedSome, guest_steps, guests_steps, image_fault}
+use Rattle.nesthv_top.specs.Contents.{guest_ram_size, guests_of, inputs_from}
+use Rattle.nesthv_top.specs.Loads.{all_read_for, guest_with, frames_by, guests_with, need_by, read_for, AreFitting, AreGood, IsFitting}
+use Rattle.nesthv_top.specs.Reads.{guest_steps, guests_steps, image_fault, records_fault}
 use Rattle.nesthv_top.specs.Seen.{names_in, names_of_guests}
-use Rattle.nesthv_top.specs.Steps.{Step, asks_in, fault_in, ArePassed, AskedMore, EndAs, IsNumbered, IsShort, StopAs}
-use Rattle.nesthv_top.proofs.StepLists.{asked_none, asked_then, asks_then, none_passed, passed_then, rose_since, stopped_first, stopped_later}
+use Rattle.nesthv_top.specs.Steps.{ArePassed, IsShort, StopAs}
+use Rattle.nesthv_top.proofs.StepLists.{asked_none, none_passed, passed_then, stopped_first, stopped_later}
 
 -- whether an image fits
 pub image_fits : (number : ℕ) (guest : GuestSettings) (image : List ℕ) → length image ≤ guest_ram_size guest → image_fault number guest image ≡ None
@@ -32,6 +32,13 @@ image_fits number guest image fits = rw (le-leb (length image) (guest_ram_size g
 pub image_too_long : (number : ℕ) (guest : GuestSettings) (image : List ℕ) → guest_ram_size guest < length image
     → image_fault number guest image ≡ Some (fault.ImageLong number (length image))
 image_too_long number guest image long = rw (lt-leb (length image) (guest_ram_size guest) long) refl
+
+-- whether a file of inputs is good
+pub records_good : (number : ℕ) (bytes : List ℕ) → bad_record bytes ≡ None → records_fault number bytes ≡ None
+records_good number bytes none = rw none refl
+
+pub records_bad : (number found : ℕ) (bytes : List ℕ) → bad_record bytes ≡ Some found → records_fault number bytes ≡ Some (fault.InputFile number found)
+records_bad number found bytes bad = rw bad refl
 
 -- the steps of the first i guests, of the next one, and of those that follow
 steps_split : (files : Files) (before number i : ℕ) (guests : List GuestSettings) (d : GuestSettings) → i < length guests → number ≡ before + i
@@ -138,6 +145,14 @@ as_many [] (r ∷ read) fit = absurd fit
 as_many (s ∷ settings) [] fit = absurd fit
 as_many (s ∷ settings) (r ∷ read) fit = ap suc (as_many settings read fit.1)
 
+pub fitting_at : (settings : List GuestSettings) (read : List GuestFiles) (i : ℕ) (guest : GuestSettings) (one : GuestFiles) → AreFitting settings read → i < length settings
+    → guest ≡ get_or settings i guest → one ≡ get_or read i one → IsFitting guest one
+unfolding AreFitting
+fitting_at [] read i guest one fit inside is one_is = absurd (omega (arith, inside))
+fitting_at (s ∷ settings) [] i guest one fit inside is one_is = absurd fit
+fitting_at (s ∷ settings) (r ∷ read) zero guest one fit inside is one_is = rw (is, one_is) fit.0
+fitting_at (s ∷ settings) (r ∷ read) (suc i) guest one fit inside is one_is = fitting_at settings read i guest one fit.1 (omega (arith, inside)) is one_is
+
 -- the guests that are made
 pub made_none : (settings : List GuestSettings) → guests_with settings [] ≡ []
 unfolding guests_with
@@ -172,6 +187,10 @@ pub frames_of_files : (files : Files) (settings : List GuestSettings) → frames
 frames_of_files files [] = refl
 frames_of_files files (s ∷ settings) = ap (λ frames. frames_needed (need_by s) + frames) (frames_of_files files settings)
 
+inputs_good : (source : InputSource) (bytes : List ℕ) → IsSourceWithin source → AreGood source bytes → AreInputs (inputs_from source bytes)
+inputs_good (Pairs inputs) bytes within good = within.inputs
+inputs_good (File name) bytes within good = records_are_inputs bytes good
+
 made_bootable : (settings : GuestSettings) (read : GuestFiles) → IsGuestWithin settings → IsFitting settings read → IsBootable (guest_with settings read)
 made_bootable settings read within fit = record {
   some_block = within.blocks_some;
@@ -182,7 +201,7 @@ made_bootable settings read within fit = record {
   entries = within.entries_most;
   console = within.console_most;
   image = fit.image;
-  inputs = within.inputs;
+  inputs = inputs_good settings.input read.records within.input fit.records;
 }
 
 pub all_bootable : (settings : List GuestSettings) (read : List GuestFiles) → All IsGuestWithin settings → AreFitting settings read → All IsBootable (guests_with settings read)

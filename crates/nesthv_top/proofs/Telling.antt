@@ -1,5 +1,5 @@
 -- What a status tells, by the end that it stands for.
-use Rattle.std.proofs.Common.{cond, ◌≡◌, ◌≤◌, ◌⊎◌, inl, inr, ℕ, zero, suc, List, [], ◌∷◌, Option, Some, None, Result, Ok, Err, Bool, true, false, refl, sym, ap, subst, arith}
+use Rattle.std.proofs.Common.{cond, ◌≡◌, ◌≤◌, ◌⊎◌, inl, inr, ℕ, zero, suc, List, [], ◌∷◌, Option, Some, None, Result, Bool, true, false, refl, sym, ap, subst, arith}
 use Rattle.std.specs.List.{list_all}
 use Rattle.std.specs.Prelude.{IsSome, IsSomeAnd}
 use Rattle.command_line.specs.Commands.{Command, FileCommand, OnFiles, Run, Replay, Check, Work, asked_by, command_of, is_plain}

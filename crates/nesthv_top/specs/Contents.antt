@@ -1,10 +1,13 @@
--- What the files say that a command names: the configuration, the images, and the stored report.
+-- What the files say that a command names: the configuration, the images, the inputs, and the stored report.
 use Rattle.std.specs.Prelude.{ℕ, ◌+◌, ◌*◌, List, [], map, unwrap_or}
 use Rattle.arch_defs.specs.Memory.{block_size}
 use Rattle.command_line.specs.Commands.{FileCommand, Run, Replay, Check}
 use Rattle.guest_specs.specs.declared.guests.GuestSpec.{GuestSpec}
 use Rattle.outside.specs.Files.{Files, read_of}
 use Rattle.run_config.specs.declared.guests.GuestSettings.{GuestSettings}
+use Rattle.run_config.specs.declared.guests.InputSource.{InputSource}
+use Rattle.run_config.specs.declared.guests.InputSource.TheVariants.{Pairs, File}
+use Rattle.run_config.specs.Records.{records_of}
 
 -- the first bytes of a file; one that is not there counts as empty
 abbrev pub content : Files → List ℕ → ℕ → List ℕ
@@ -35,20 +38,35 @@ image_most guest = guest_ram_size guest + 1
 abbrev pub image_of : Files → GuestSettings → List ℕ
 image_of files guest = content files guest.image (image_most guest)
 
--- a guest of these settings, with its image
-abbrev pub guest_of : GuestSettings → List ℕ → GuestSpec
-guest_of settings image = record {
+-- at most how many bytes of a file of inputs are asked for: one more than 65,536 records have
+abbrev pub records_most : ℕ
+records_most = 589825
+
+-- what is read of the file that a guest's inputs come from, which is nothing where they come from none
+abbrev pub records_in : Files → InputSource → List ℕ
+records_in files (Pairs inputs) = []
+records_in files (File name) = content files name records_most
+
+-- the inputs that come from here, where these are the bytes of the file
+abbrev pub inputs_from : InputSource → List ℕ → List (ℕ × ℕ)
+inputs_from (Pairs inputs) bytes = inputs
+inputs_from (File name) bytes = records_of bytes
+
+-- a guest of these settings, with its image and the bytes of its file of inputs
+abbrev pub guest_of : GuestSettings → List ℕ → List ℕ → GuestSpec
+guest_of settings image records = record {
   name = settings.name;
   image = image;
   blocks = settings.blocks;
   spaces = settings.spaces;
   entries = settings.entries;
   console = settings.console;
-  inputs = settings.inputs;
+  inputs = inputs_from settings.input records;
 }
 
 abbrev pub guests_of : Files → List GuestSettings → List GuestSpec
-guests_of files guests = map (λ guest. guest_of guest (image_of files guest)) guests
+guests_of files guests =
+    map (λ guest. guest_of guest (image_of files guest) (records_in files guest.input)) guests
 
 -- at most how many bytes of a report are asked for, which are those that it is compared by
 abbrev pub report_most : ℕ

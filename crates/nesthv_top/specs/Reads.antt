@@ -1,19 +1,21 @@
 -- The steps of a command before it runs: which files it reads, and how it tests what they say.
-use Rattle.std.specs.Prelude.{ℕ, ◌+◌, List, [], ◌∷◌, ◌++◌, Option, Some, None, Result, Ok, Err, Bool, false, length, nat_le}
+use Rattle.std.specs.Prelude.{ℕ, ◌+◌, List, [], ◌∷◌, ◌++◌, Option, Some, None, option_map, Result, Ok, Err, Bool, false, length, nat_le}
 use Rattle.std.specs.Str.{is_utf8}
 use Rattle.arch_defs.specs.Frames.{most_frames}
 use Rattle.command_line.specs.Commands.{Command, FileCommand, OnFiles, Run, Replay, Check, Work}
-use Rattle.guest_specs.specs.declared.guests.GuestSpec.{GuestSpec}
 use Rattle.guest_turns.specs.Limits.{frames_for}
 use Rattle.outside.specs.Asks.{Ask}
 use Rattle.outside.specs.Files.{Files}
 use Rattle.run_config.specs.declared.faults.ConfigFault.{ConfigFault}
 use Rattle.run_config.specs.declared.faults.ConfigFault.TheVariants as fault
 use Rattle.run_config.specs.declared.guests.GuestSettings.{GuestSettings}
+use Rattle.run_config.specs.declared.guests.InputSource.{InputSource}
+use Rattle.run_config.specs.declared.guests.InputSource.TheVariants.{Pairs, File}
 use Rattle.run_config.specs.Accept.{accept}
 use Rattle.run_config.specs.Configurations.{Configuration}
+use Rattle.run_config.specs.Records.{bad_record}
 use Rattle.run_config.specs.Tests.{first_fault, unless}
-use Rattle.nesthv_top.specs.Contents.{config_most, config_name, config_of, guest_ram_size, guests_of, image_most, image_of, report_most}
+use Rattle.nesthv_top.specs.Contents.{config_most, config_name, content, config_of, guest_ram_size, guests_of, image_most, image_of, records_most, report_most}
 use Rattle.nesthv_top.specs.Steps.{Step, made_of, AskedMore}
 
 -- a read of a file, at most so many bytes of it
@@ -29,8 +31,10 @@ testing found = record { ask = None; fault = found }
 
 -- the fault of bytes that are too long for a configuration, or no text (own)
 abbrev pub text_fault : List ℕ → Option ConfigFault
-text_fault bytes =
-    first_fault (unless (nat_le (length bytes) 65536) fault.TooLong ∷ unless (is_utf8 bytes) fault.NotToml ∷ [])
+text_fault bytes = first_fault (
+    unless (nat_le (length bytes) 65536) fault.TooLong
+    ∷ unless (is_utf8 bytes) fault.NotToml
+    ∷ [])
 
 -- the fault of a configuration that is refused
 abbrev pub fault_by : Result Configuration ConfigFault → Option ConfigFault
@@ -55,9 +59,20 @@ abbrev pub image_step : Files → ℕ → GuestSettings → Step
 image_step files number guest =
     reading (ask guest.image (image_most guest)) (image_fault number guest (image_of files guest))
 
--- what is read for a guest
+-- the fault of a file of inputs with a bad record: the guest's number, and that of the first such record
+-- (own)
+abbrev pub records_fault : ℕ → List ℕ → Option ConfigFault
+records_fault number bytes = option_map (λ bad. fault.InputFile number bad) (bad_record bytes)
+
+-- the file that the inputs of a guest of this number come from, where they come from one
+abbrev pub input_steps : Files → ℕ → InputSource → List Step
+input_steps files number (Pairs inputs) = []
+input_steps files number (File name) =
+    reading (ask name records_most) (records_fault number (content files name records_most)) ∷ []
+
+-- what is read for a guest: its image, and then its file of inputs
 abbrev pub guest_steps : Files → ℕ → GuestSettings → List Step
-guest_steps files number guest = image_step files number guest ∷ []
+guest_steps files number guest = image_step files number guest ∷ input_steps files number guest.input
 
 -- the same of guests in their order, after so many others
 unfoldable pub guests_steps : Files → ℕ → List GuestSettings → List Step
@@ -98,9 +113,10 @@ steps_for files None = []
 abbrev pub asks_of : Files → Option Command → List Ask
 asks_of files command = made_of (steps_for files command)
 
--- the most reads of a command: a configuration, 16 images and a report
+-- the most reads of a command: a configuration, an image and a file of inputs of each of 16 guests, and a
+-- report
 abbrev pub most_reads : ℕ
-most_reads = 18
+most_reads = 34
 
 -- some reads were made
 abbrev pub AskedSome : Option (List Ask) → Option (List Ask) → Type 0

@@ -30,7 +30,7 @@ abbrev pub lines_of : List Machine → List ℕ
 lines_of machines = said_of line_of work_names machines
 
 -- an account has room for the entries and steps of a command
-pub record HasRoom (account : Counts) : Type 0 where
+pub record HasRoomForCommand (account : Counts) : Type 0 where
   pub entries : account.entries ≤ 2 ^ 61
   pub taken : account.taken ≤ 2 ^ 61
 

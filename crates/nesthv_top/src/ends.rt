@@ -17,10 +17,12 @@ pub enum LoadEnd {
     NoMemory(u64),
 }
 
-/// What was read for a guest: its image.
+/// What was read for a guest: its image, and the file that its inputs come from, which is nothing where they
+/// come from none.
 #[derive(Drop)]
 pub struct GuestFiles {
     pub image: Bytes,
+    pub records: Bytes,
 }
 
 /// All that was read for a command: its configuration, what was read for each guest, and the stored report

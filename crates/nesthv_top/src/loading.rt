@@ -9,12 +9,12 @@ ghost use Rattle.outside.specs.Faults.{Rose};
 ghost use Rattle.outside.specs.Files.{Files};
 ghost use Rattle.run_config.specs.Accept.{accept};
 ghost use Rattle.run_config.specs.Configurations.{IsGuestWithin, IsWithinLimits};
-ghost use Rattle.nesthv_top.specs.Contents.{config_name, config_of, guest_ram_size, image_of, stored_of};
+ghost use Rattle.nesthv_top.specs.Contents.{config_name, config_of, guest_ram_size, image_of, inputs_from, records_in, stored_of};
 ghost use Rattle.nesthv_top.specs.Endings.{IsFirstRead, SaysOfReads};
 ghost use Rattle.nesthv_top.specs.Ends.{ended_of, IfReadFailed, Leaves};
-ghost use Rattle.nesthv_top.specs.Loads.{all_read_for, frames_by, guest_with, guests_with, need_by, read_for, AreFitting, IsAllRead, IsFitting, IsTested};
+ghost use Rattle.nesthv_top.specs.Loads.{all_read_for, frames_by, guest_with, guests_with, need_by, read_for, AreFitting, AreGood, IsAllRead, IsFitting, IsTested};
 ghost use Rattle.nesthv_top.specs.Plans.{planned};
-ghost use Rattle.nesthv_top.specs.Reads.{config_steps, file_steps, frames_fault, guest_steps, guests_steps, image_step, report_steps};
+ghost use Rattle.nesthv_top.specs.Reads.{config_steps, file_steps, frames_fault, guest_steps, guests_steps, image_step, input_steps, report_steps};
 ghost use Rattle.nesthv_top.specs.Seen.{loaded_plan, IsJob};
 ghost use Rattle.nesthv_top.specs.Steps.{ArePassed, EndAs};
 
@@ -26,11 +26,16 @@ use guest_specs::Need;
 use machine_defs::{Bytes, GuestSpec, Inputs, Name};
 use no_memory::NoMemory;
 use outside::Store;
-use run_config::{Config, ConfigFault, GuestSettings, ReadEnd};
+use run_config::{
+    Config, ConfigFault, GuestSettings, InputEnd, InputSource, ReadEnd, bad_record, inputs,
+};
 use std::alloc::Global;
 
 // At most how many bytes of a configuration are asked for: one more than it may have.
 const CONFIG_MOST: u64 = 65_537;
+
+// At most how many bytes of a file of inputs are asked for: one more than 65,536 records have.
+const RECORDS_MOST: u64 = 589_825;
 
 // At most how many bytes of a stored report are asked for, which are those that it is compared by.
 const REPORT_MOST: u64 = 33_554_432;
@@ -87,7 +92,7 @@ fn read_files<S: Store>(
         → IfOk result (IsAllRead files (file_command_seen request.entry)) }
     ensures tested { IfOk result IsTested }
     ensures some { OnOk result (1 ≤ reads.new.made) }
-    ensures leaves { Leaves S.Store 18 result store.old store.new 0 reads.new.made }
+    ensures leaves { Leaves S.Store 34 result store.old store.new 0 reads.new.made }
 {
     let config = read_config(alloc, request, reads, store)?;
     let guests = read_guests(alloc, config.guests(), reads, store)?;
@@ -157,7 +162,7 @@ fn read_guests<S: Store>(
     ensures read { (files : Files) → S.files store.old ≡ Some files
         → IfOk result (λ guests. guests.items ≡ all_read_for files settings.now) }
     ensures fitting { IfOk result (λ guests. AreFitting settings.now guests.items) }
-    ensures leaves { Leaves S.Store 16 result store.old store.new reads.old.made reads.new.made }
+    ensures leaves { Leaves S.Store 32 result store.old store.new reads.old.made reads.new.made }
 {
     let Ok(mut guests) = Vec::with_capacity(alloc, settings.len()) else {
         return Err(reads.no_memory());
@@ -184,10 +189,11 @@ fn read_guest<S: Store>(
     ensures read { (files : Files) → S.files store.old ≡ Some files
         → IfOk result (λ read. read ≡ read_for files settings.now) }
     ensures fitting { IfOk result (IsFitting settings.now) }
-    ensures leaves { Leaves S.Store 1 result store.old store.new reads.old.made reads.new.made }
+    ensures leaves { Leaves S.Store 2 result store.old store.new reads.old.made reads.new.made }
 {
     let image = read_image(alloc, settings, guest, reads, store)?;
-    Ok(GuestFiles { image })
+    let records = read_records(alloc, &settings.input, guest, reads, store)?;
+    Ok(GuestFiles { image, records })
 }
 
 // Reads the image of a guest of this number.
@@ -217,6 +223,33 @@ fn read_image<S: Store>(
             guest,
             bytes: bytes.len() as u32,
         }))
+    }
+}
+
+// Reads the file that the inputs of a guest of this number come from, if they come from one.
+fn read_records<S: Store>(
+    alloc: Global,
+    input: &InputSource,
+    guest: u32,
+    reads: &mut Reads,
+    store: &mut S,
+) -> Result<Bytes, LoadEnd>
+    requires few { reads.old.made ≤ 33 }
+    ensures ends { (files : Files) → S.files store.old ≡ Some files → EndAs
+        (input_steps files guest input.now) reads.old.made (S.asked store.old) result
+        reads.new.made (S.asked store.new) }
+    ensures records { (files : Files) → S.files store.old ≡ Some files
+        → IfOk result (λ records. records ≡ records_in files input.now) }
+    ensures good { IfOk result (AreGood input.now) }
+    ensures leaves { Leaves S.Store 1 result store.old store.new reads.old.made reads.new.made }
+{
+    let InputSource::File(name) = input else {
+        return Ok(Bytes::from_vec(Vec::new(alloc)));
+    };
+    let bytes = reads.read(alloc, store, name.as_str(), RECORDS_MOST)?;
+    match bad_record(bytes.as_slice()) {
+        None => Ok(Bytes::from_vec(bytes)),
+        Some(record) => Err(LoadEnd::Refused(ConfigFault::InputFile { guest, record })),
     }
 }
 
@@ -304,10 +337,11 @@ fn guest_made(
     settings: &GuestSettings,
     read: GuestFiles,
 ) -> Result<GuestSpec, NoMemory>
+    requires fitting { IsFitting settings.now read }
     ensures { IfOk result (λ guest. guest ≡ guest_with settings.now read) }
 {
     let name = Vec::from_slice(alloc, settings.name.as_slice())?;
-    let inputs = Vec::from_slice(alloc, settings.inputs.as_slice())?;
+    let inputs = inputs_made(alloc, &settings.input, read.records.as_slice())?;
     Ok(GuestSpec {
         name: Name::from_vec(name),
         image: read.image,
@@ -317,4 +351,23 @@ fn guest_made(
         console: settings.console,
         inputs: Inputs::from_vec(inputs),
     })
+}
+
+// The inputs that come from here, where these are the bytes of the file.
+fn inputs_made(
+    alloc: Global,
+    input: &InputSource,
+    records: &[u8],
+) -> Result<Vec<(u64, u8)>, NoMemory>
+    requires good { AreGood input.now records.now }
+    ensures { IfOk result (λ inputs. inputs.items ≡ inputs_from input.now records.now) }
+{
+    match input {
+        InputSource::Pairs(pairs) => Ok(Vec::from_slice(alloc, pairs.as_slice())?),
+        InputSource::File(_) => match inputs(alloc, records) {
+            Ok(inputs) => Ok(inputs),
+            Err(InputEnd::NoMemory) => Err(NoMemory),
+            Err(InputEnd::Bad(_)) => unreachable!(),
+        },
+    }
 }

@@ -6,7 +6,7 @@ ghost use Rattle.command_line.specs.Seen.{file_command_seen};
 ghost use Rattle.outside.specs.Faults.{Rose};
 ghost use Rattle.nesthv_top.specs.Endings.{IfReadFault, IfRun, IfWriteFault, IsOfCommand, SaysOfAccount, SaysOfCause, SaysOfOut, SaysOfReads};
 ghost use Rattle.nesthv_top.specs.Plans.{AllRunAsWritten};
-ghost use Rattle.nesthv_top.specs.Runnings.{HasRoom, IsAccountFor};
+ghost use Rattle.nesthv_top.specs.Runnings.{HasRoomForCommand, IsAccountFor};
 ghost use Rattle.nesthv_top.specs.Seen.{plan_seen, IsJob};
 ghost use Rattle.nesthv_top.specs.Texts.{found_with, text_with};
 ghost use Rattle.nesthv_top.specs.Written.{Writes};
@@ -32,7 +32,7 @@ pub fn obey<S: Store, O: Sink>(
     out: &mut O,
     tally: &mut Tally,
 ) -> Ended
-    requires room { HasRoom tally.old }
+    requires room { HasRoomForCommand tally.old }
 
     ensures cause { SaysOfCause S.Store O.Sink words.now result store.old store.new out.old out.new }
     ensures reads { SaysOfReads S.Store (command_of words.now) result store.old store.new }
@@ -59,7 +59,7 @@ fn answer<S: Store, O: Sink>(
     out: &mut O,
     tally: &mut Tally,
 ) -> Ended
-    requires room { HasRoom tally.old }
+    requires room { HasRoomForCommand tally.old }
 
     ensures command { IsOfCommand (OnFiles (file_command_seen request.entry)) result }
     ensures read { IfReadFault result (λ n. Rose (S.faults store.old) (S.faults store.new)) }
@@ -94,7 +94,7 @@ fn perform<O: Sink>(
     tally: &mut Tally,
 ) -> Result<Verdict, RunEnd>
     requires job { IsJob job }
-    requires room { HasRoom tally.old }
+    requires room { HasRoomForCommand tally.old }
 
     ensures found { IfOk result (λ found.
         found ≡ found_with (file_command_seen request.entry) stored.now (plan_seen job)) }

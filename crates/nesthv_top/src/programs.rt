@@ -4,7 +4,7 @@ ghost use Rattle.std.specs.Prelude.{◌≡◌, IfOk, OnErr};
 ghost use Rattle.command_line.specs.Commands.{command_of};
 ghost use Rattle.nesthv_top.specs.Endings.{SaysOfAccount, SaysOfCause, SaysOfErr, SaysOfOut, SaysOfReads};
 ghost use Rattle.nesthv_top.specs.Lines.{memory_line};
-ghost use Rattle.nesthv_top.specs.Runnings.{HasRoom};
+ghost use Rattle.nesthv_top.specs.Runnings.{HasRoomForCommand};
 ghost use Rattle.nesthv_top.specs.Statuses.{IsStatusOf};
 ghost use Rattle.nesthv_top.specs.Written.{IsLinePut};
 
@@ -26,7 +26,7 @@ pub fn program<S: Store, O: Sink, E: Sink>(
     err: &mut E,
     tally: &mut Tally,
 ) -> u8
-    requires room { HasRoom tally.old }
+    requires room { HasRoomForCommand tally.old }
 
     // With words: the status is that of an end of the command, which says why it comes and what it leaves.
     ensures ended { IfOk words (λ words. IsStatusOf result (λ ended.

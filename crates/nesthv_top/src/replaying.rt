@@ -4,7 +4,7 @@ ghost use Rattle.std.specs.Prelude.{◌≡◌, ◌≤◌, IfOk, IsErrOf};
 ghost use Rattle.outside.specs.Faults.{Rose};
 ghost use Rattle.replay.specs.Comparisons.{verdict_of};
 ghost use Rattle.nesthv_top.specs.Plans.{AllRunAsWritten, report_of};
-ghost use Rattle.nesthv_top.specs.Runnings.{HasRoom, IsAccountOf};
+ghost use Rattle.nesthv_top.specs.Runnings.{HasRoomForCommand, IsAccountOf};
 ghost use Rattle.nesthv_top.specs.Seen.{plan_seen, IsJob};
 ghost use Rattle.nesthv_top.specs.Texts.{verdict_line};
 ghost use Rattle.nesthv_top.specs.Written.{Writes};
@@ -27,7 +27,7 @@ pub fn replay<O: Sink>(
     tally: &mut Tally,
 ) -> Result<Verdict, RunEnd>
     requires job { IsJob job }
-    requires room { HasRoom tally.old }
+    requires room { HasRoomForCommand tally.old }
 
     ensures verdict { IfOk result (λ found. found ≡ verdict_of stored.now (report_of (plan_seen job))) }
     ensures out { Writes O.Sink result out.old out.new

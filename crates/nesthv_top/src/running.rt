@@ -11,7 +11,7 @@ ghost use Rattle.guest_turns.specs.TurnLists.{entries_for, turn_events, with_tur
 ghost use Rattle.rv64_hart.specs.Counts.{IsRaisedBy};
 ghost use Rattle.run_config.specs.Configurations.{IsGuestWithin, IsTurnWithin};
 ghost use Rattle.nesthv_top.specs.Plans.{AllRunAsWritten, report_of, turn_steps};
-ghost use Rattle.nesthv_top.specs.Runnings.{sections_of, CountsTurns, HasRoom, IsAccountOf};
+ghost use Rattle.nesthv_top.specs.Runnings.{sections_of, CountsTurns, HasRoomForCommand, IsAccountOf};
 ghost use Rattle.nesthv_top.specs.Seen.{names_in, plan_seen, plan_with, IsJob};
 ghost use Rattle.nesthv_top.specs.Written.{PutsText, Writes};
 
@@ -29,7 +29,7 @@ use std::alloc::Global;
 /// Runs a job's guests, each for its turns, and puts the report.
 pub fn run<O: Sink>(alloc: Global, job: Job, out: &mut O, tally: &mut Tally) -> Result<(), RunEnd>
     requires job { IsJob job }
-    requires room { HasRoom tally.old }
+    requires room { HasRoomForCommand tally.old }
 
     ensures out { Writes O.Sink result out.old out.new (report_of (plan_seen job)) }
     ensures account { IsAccountOf (plan_seen job) result tally.old tally.new }
@@ -50,7 +50,7 @@ pub fn hosted(
     requires guests { AreBootable guests.items }
     requires few { length turns.now ≤ 2 ^ 20 }
     requires short { All (IsTurnWithin (length guests.items)) turns.now }
-    requires room { HasRoom tally.old }
+    requires room { HasRoomForCommand tally.old }
 
     ensures machines { IfOk result (λ host. host.machines ≡ with_turns turns.now (map start guests.items)) }
     ensures account { OnOk result (CountsTurns (plan_with guests.items turns.now) tally.old tally.new) }
@@ -72,7 +72,7 @@ fn run_turns(host: &mut Host, turns: &[(u32, u64)], tally: &mut Tally)
     requires rooms { All (λ m. m.entry_room ≤ 256) host.old.machines }
     requires few { length turns.now ≤ 2 ^ 20 }
     requires short { All (IsTurnWithin (length host.old.machines)) turns.now }
-    requires room { HasRoom tally.old }
+    requires room { HasRoomForCommand tally.old }
 
     ensures machines { host.new.machines ≡ with_turns turns.now host.old.machines }
     ensures entries_grow { tally.old.entries ≤ tally.new.entries }

@@ -6,7 +6,7 @@ ghost use Rattle.outside.specs.Faults.{Rose};
 ghost use Rattle.outside.specs.Pieces.{Appends};
 ghost use Rattle.nesthv_top.specs.Endings.{HasPlan, IfKnown, IfRun, IsRefusal, IsReplay, SaysOfAccount, SaysOfCause, SaysOfErr, SaysOfOut, SaysOfReads};
 ghost use Rattle.nesthv_top.specs.Plans.{AllRunAsWritten, plan_of};
-ghost use Rattle.nesthv_top.specs.Runnings.{HasRoom};
+ghost use Rattle.nesthv_top.specs.Runnings.{HasRoomForCommand};
 ghost use Rattle.nesthv_top.specs.Statuses.{status_of, verdict_status, IsDone, IsNoCommand, IsStatusOf};
 ghost use Rattle.nesthv_top.specs.Texts.{found_of, text_of};
 
@@ -28,7 +28,7 @@ pub fn nesthv<S: Store, O: Sink, E: Sink>(
     err: &mut E,
     tally: &mut Tally,
 ) -> u8
-    requires room { HasRoom tally.old }
+    requires room { HasRoomForCommand tally.old }
 
     // The headline: on status 0 and 6 the text of the command has been written: of a run, the report of the
     // guests' lone machines. Their runs are of the written architecture, their second-stage translations

@@ -7,7 +7,7 @@ ghost use Rattle.outside.specs.Pieces.{Puts};
 ghost use Rattle.turn_plan.specs.Turns.{rounds_of};
 ghost use Rattle.work_images.specs.Guests.{guest_name};
 ghost use Rattle.nesthv_top.specs.Plans.{work_plan, AllRunAsWritten};
-ghost use Rattle.nesthv_top.specs.Runnings.{lines_of, CountsTurns, HasRoom, IsAccountOf};
+ghost use Rattle.nesthv_top.specs.Runnings.{lines_of, CountsTurns, HasRoomForCommand, IsAccountOf};
 ghost use Rattle.nesthv_top.specs.Works.{sum_line, work_heading, work_text};
 ghost use Rattle.nesthv_top.specs.Written.{PutsText, Writes};
 
@@ -43,7 +43,7 @@ pub fn work<O: Sink>(
     requires seed { seed < 2 ^ 31 }
     requires some { 1 ≤ size }
     requires most { size ≤ 10000 }
-    requires room { HasRoom tally.old }
+    requires room { HasRoomForCommand tally.old }
 
     ensures out { Writes O.Sink result out.old out.new (work_text seed size) }
     ensures account { IsAccountOf (work_plan seed size) result tally.old tally.new }
@@ -58,7 +58,7 @@ fn generated(alloc: Global, seed: u64, size: u64, tally: &mut Tally) -> Result<H
     requires seed { seed < 2 ^ 31 }
     requires some { 1 ≤ size }
     requires most { size ≤ 10000 }
-    requires room { HasRoom tally.old }
+    requires room { HasRoomForCommand tally.old }
 
     ensures count { IfOk result (λ host. length host.machines ≡ 4) }
     ensures lines { IfOk result (λ host.

@@ -7,6 +7,7 @@ use Rattle.std.proofs.lemmas.List.{get_or-drop, get_or-take, length-drop, length
 use Rattle.std.proofs.lemmas.List.Elements.{All-nil, All-cons, All-get_or}
 use Rattle.std.proofs.lemmas.List.FromFn.{get_or-range_with_len, length-map-range_with_len, length-range_with_len}
 use Rattle.std.specs.List.{All, find, range_with_len, slice_index}
+use Rattle.guest_specs.specs.Inputs.{AreInputs}
 use Rattle.run_config.specs.Configurations.{AreByteInputs}
 use Rattle.run_config.specs.Guests.{rise_from}
 use Rattle.run_config.specs.Records.{bad_record, byte_at, is_bad, moment_at, moment_before, record_at, record_count, records_of}
@@ -128,19 +129,24 @@ unfolding byte_at record_at
 byte_small bytes small number =
     rw (get_or-take 9 (drop (9 * number) bytes) 8 0 (omega arith), get_or-drop (9 * number) bytes 8 0) (small (9 * number + 8))
 
--- the inputs of records none of which is bad, where each byte is one
-pub records_within : (bytes : List ℕ) → ((k : ℕ) → slice_index bytes k < 256) → bad_record bytes ≡ None → AreByteInputs (records_of bytes)
+-- the inputs of records none of which is bad
+pub records_are_inputs : (bytes : List ℕ) → bad_record bytes ≡ None → AreInputs (records_of bytes)
 unfolding records_of moment_before
-records_within bytes small none =
+records_are_inputs bytes none =
     let f : ℕ → ℕ × ℕ = λ k. (moment_at bytes k, byte_at bytes k) in
     let each = each_good bytes none in
     record {
-      inputs = record {
-        count = rw (length-map-range_with_len {X = ℕ × ℕ} f 0 (record_count bytes)) (few_records bytes none);
-        moments = all_at (λ input. input.0 < 2 ^ 62) f 0 (record_count bytes) (λ k least most. (each k (omega (arith, most))).early);
-        order = rise_in_order 0 (map f (range_with_len 0 (record_count bytes))) (rises bytes 0 (record_count bytes) (λ k least most. each k (omega (arith, most))));
-      };
-      bytes = all_at (λ input. input.1 < 256) f 0 (record_count bytes) (λ k least most. byte_small bytes small k);
+      count = rw (length-map-range_with_len {X = ℕ × ℕ} f 0 (record_count bytes)) (few_records bytes none);
+      moments = all_at (λ input. input.0 < 2 ^ 62) f 0 (record_count bytes) (λ k least most. (each k (omega (arith, most))).early);
+      order = rise_in_order 0 (map f (range_with_len 0 (record_count bytes))) (rises bytes 0 (record_count bytes) (λ k least most. each k (omega (arith, most))));
     }
+
+-- the same where each byte is one
+pub records_within : (bytes : List ℕ) → ((k : ℕ) → slice_index bytes k < 256) → bad_record bytes ≡ None → AreByteInputs (records_of bytes)
+unfolding records_of
+records_within bytes small none = record {
+  inputs = records_are_inputs bytes none;
+  bytes = all_at (λ input. input.1 < 256) (λ k. (moment_at bytes k, byte_at bytes k)) 0 (record_count bytes) (λ k least most. byte_small bytes small k);
+}
 
 pub ruleset records = (begins, first_rest, record_passes, record_fails, no_record, not_last)

@@ -102,9 +102,10 @@ fn is_bad(bytes: &[u8], number: usize) -> bool
     moment >= MOMENTS_END || moment < moment_before(bytes, number) || number == MOST_RECORDS
 }
 
-// The number of the first bad record.
+/// The number of the first bad record of a file of inputs, from 0 on. A record is bad that has fewer than
+/// nine bytes, a moment of 2^62 or more or less than the one before, or the number 65,536.
 #[tactic(auto, using(crate::proofs::Recording::records))]
-fn bad_record(bytes: &[u8]) -> Option<u32>
+pub fn bad_record(bytes: &[u8]) -> Option<u32>
     ensures { result ≡ bad_record bytes.now }
 {
     for number in 0..record_count(bytes) {
@@ -130,10 +131,8 @@ fn all_records(alloc: Global, bytes: &[u8]) -> Result<Vec<(u64, u8)>, AllocError
 }
 
 /// The inputs of a file: in each record of nine bytes a moment, eight bytes little endian, and then the byte
-/// that is there from this moment on.
-///
-/// A record is bad that has fewer than nine bytes, or a moment of 2^62 or more or less than the one before,
-/// or the number 65,536. All records are tested before any memory is taken.
+/// that is there from this moment on. It answers `Bad` exactly where `bad_record` finds one; all records are
+/// tested before any memory is taken.
 pub fn inputs(alloc: Global, bytes: &[u8]) -> Result<Vec<(u64, u8)>, InputEnd>
     ensures inputs { IfOk result (λ v. v.items ≡ records_of bytes.now) }
     ensures passed { OnOk result (bad_record bytes.now ≡ None) }

@@ -22,7 +22,7 @@ pub use configuration::Config;
 pub use ends::ReadEnd;
 pub use faults::ConfigFault;
 pub use guests::{FileName, GuestSettings, InputSource};
-pub use input_records::{InputEnd, inputs};
+pub use input_records::{InputEnd, bad_record, inputs};
 pub use keys::ConfigKey;
 pub use reading::{accepted_is_within_limits, read};
 pub use turn_plan::Turns;

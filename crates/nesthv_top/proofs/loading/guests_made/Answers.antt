@@ -2,7 +2,7 @@ use Rattle.std.proofs.Common.{◌≡◌, ◌<◌, length, get_or, ◌∙◌, sym
 use Rattle.std.proofs.lemmas.Iterator.Adapters.{YieldsList-from_vec}
 use Rattle.std.proofs.lemmas.Iterator.Consumers.{YieldsList-turn}
 use Rattle.std.proofs.lemmas.List.{length_push}
-use Rattle.nesthv_top.proofs.GuestReads.{as_many, made_more, made_none}
+use Rattle.nesthv_top.proofs.GuestReads.{as_many, fitting_at, made_more, made_none}
 use Rattle.nesthv_top.proofs.loading.guests_made.Goals as goal
 
 pub bounds-settings-i : goal.bounds-settings-i
@@ -24,6 +24,16 @@ loop-files-init c = record {
   index = omega arith;
   made = c.in_ok-guests.ensures.items ∙ sym (made_none c.args.settings.now);
 }
+
+pub guest_made-requires : goal.guest_made-requires
+guest_made-requires c =
+    let gives = c.into_iter-files-iterator.ensures.into_iter_gives in
+    let turn = YieldsList-turn (YieldsList-from_vec c.args.read.items gives.0 (gives.1 ∙ c.args.read.ok.0)) c.loop-files.yielded c.loop-files.files-iterator c.loop-files.yielded_by c.next.result c.next.new.self c.in-Some.files c.in-Some.is c.next.ensures.steps in
+    let inside : c.loop-files.i < length c.args.settings.now = omega (arith, turn.0, c.loop-files.invariant.index, as_many c.args.settings.now c.args.read.items c.requires.fitting) in
+    record {
+      fitting = fitting_at c.args.settings.now c.args.read.items c.loop-files.i c.index-settings-i.result c.in-Some.files c.requires.fitting inside c.index-settings-i.is
+          (rw c.loop-files.invariant.index turn.1);
+    }
 
 pub loop-files-preserved : goal.loop-files-preserved
 loop-files-preserved c =

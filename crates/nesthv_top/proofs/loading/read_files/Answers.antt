@@ -21,12 +21,12 @@ pub returns-in_err-guests-clause-first : goal.returns-in_err-guests-clause-first
 returns-in_err-guests-clause-first g c =
     let config = c.in_ok-config.ensures in
     let is : c.from_residual-in_err-guests.result ≡ Err c.in_err-guests.field-0.0 = search rules in
-    rw is (first_then g.S.Store (file_command_seen c.args.request) 16 _ _ c.in_err-guests.field-0.0 _ _ _ config.first config.some c.in_err-guests.ensures.leaves)
+    rw is (first_then g.S.Store (file_command_seen c.args.request) 32 _ _ c.in_err-guests.field-0.0 _ _ _ config.first config.some c.in_err-guests.ensures.leaves)
 
 pub returns-in_err-guests-clause-leaves : goal.returns-in_err-guests-clause-leaves
 returns-in_err-guests-clause-leaves g c =
     let is : c.from_residual-in_err-guests.result ≡ Err c.in_err-guests.field-0.0 = search rules in
-    rw is (left_stopped g.S.Store 1 16 18 c.in_ok-config.config c.in_err-guests.field-0.0 _ _ _ _ _ _ (omega arith) c.in_ok-config.ensures.leaves c.in_err-guests.ensures.leaves)
+    rw is (left_stopped g.S.Store 1 32 34 c.in_ok-config.config c.in_err-guests.field-0.0 _ _ _ _ _ _ (omega arith) c.in_ok-config.ensures.leaves c.in_err-guests.ensures.leaves)
 
 pub returns-in_err-stored-clause-ends : goal.returns-in_err-stored-clause-ends
 returns-in_err-stored-clause-ends g c = λ files told.
@@ -47,8 +47,8 @@ returns-in_err-stored-clause-first g c =
 pub returns-in_err-stored-clause-leaves : goal.returns-in_err-stored-clause-leaves
 returns-in_err-stored-clause-leaves g c =
     let is : c.from_residual-in_err-stored.result ≡ Err c.in_err-stored.field-0.0 = search rules in
-    rw is (left_stopped g.S.Store 17 1 18 c.in_ok-guests.guests c.in_err-stored.field-0.0 _ _ _ _ _ _ (omega arith)
-    (left_passed g.S.Store 1 16 17 c.in_ok-config.config c.in_ok-guests.guests c.in_ok-guests.guests _ _ _ _ _ _ (omega arith) c.in_ok-config.ensures.leaves c.in_ok-guests.ensures.leaves)
+    rw is (left_stopped g.S.Store 33 1 34 c.in_ok-guests.guests c.in_err-stored.field-0.0 _ _ _ _ _ _ (omega arith)
+    (left_passed g.S.Store 1 32 33 c.in_ok-config.config c.in_ok-guests.guests c.in_ok-guests.guests _ _ _ _ _ _ (omega arith) c.in_ok-config.ensures.leaves c.in_ok-guests.ensures.leaves)
     c.in_err-stored.ensures.leaves)
 
 pub returns-in-Some-clause-ends : goal.returns-in-Some-clause-ends
@@ -68,9 +68,9 @@ returns-in-Some-clause-first g c =
 
 pub returns-in-Some-clause-leaves : goal.returns-in-Some-clause-leaves
 returns-in-Some-clause-leaves g c =
-    left_refused g.S.Store 18 c.in_ok-stored.stored c.in-Some.fault _ _ _ _
-    (left_passed g.S.Store 17 1 18 c.in_ok-guests.guests c.in_ok-stored.stored c.in_ok-stored.stored _ _ _ _ _ _ (omega arith)
-    (left_passed g.S.Store 1 16 17 c.in_ok-config.config c.in_ok-guests.guests c.in_ok-guests.guests _ _ _ _ _ _ (omega arith) c.in_ok-config.ensures.leaves c.in_ok-guests.ensures.leaves)
+    left_refused g.S.Store 34 c.in_ok-stored.stored c.in-Some.fault _ _ _ _
+    (left_passed g.S.Store 33 1 34 c.in_ok-guests.guests c.in_ok-stored.stored c.in_ok-stored.stored _ _ _ _ _ _ (omega arith)
+    (left_passed g.S.Store 1 32 33 c.in_ok-config.config c.in_ok-guests.guests c.in_ok-guests.guests _ _ _ _ _ _ (omega arith) c.in_ok-config.ensures.leaves c.in_ok-guests.ensures.leaves)
     c.in_ok-stored.ensures.leaves)
 
 pub returns-in-None-clause-ends : goal.returns-in-None-clause-ends
@@ -90,6 +90,6 @@ returns-in-None-clause-first g c =
 
 pub returns-in-None-clause-leaves : goal.returns-in-None-clause-leaves
 returns-in-None-clause-leaves g c =
-    left_passed g.S.Store 17 1 18 c.in_ok-guests.guests c.in_ok-stored.stored _ _ _ _ _ _ _ (omega arith)
-    (left_passed g.S.Store 1 16 17 c.in_ok-config.config c.in_ok-guests.guests c.in_ok-guests.guests _ _ _ _ _ _ (omega arith) c.in_ok-config.ensures.leaves c.in_ok-guests.ensures.leaves)
+    left_passed g.S.Store 33 1 34 c.in_ok-guests.guests c.in_ok-stored.stored _ _ _ _ _ _ _ (omega arith)
+    (left_passed g.S.Store 1 32 33 c.in_ok-config.config c.in_ok-guests.guests c.in_ok-guests.guests _ _ _ _ _ _ (omega arith) c.in_ok-config.ensures.leaves c.in_ok-guests.ensures.leaves)
     c.in_ok-stored.ensures.leaves

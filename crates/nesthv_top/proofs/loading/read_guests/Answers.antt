@@ -1,4 +1,4 @@
-use Rattle.std.proofs.Common.{rules, ◌≡◌, ◌∙◌, ◌+◌, Err, refl, arith}
+use Rattle.std.proofs.Common.{rules, ◌≡◌, ◌∙◌, ◌+◌, ◌*◌, Err, refl, arith}
 use Rattle.nesthv_top.proofs.CommandReads.{left_none, left_passed, left_stopped}
 use Rattle.nesthv_top.proofs.GuestReads.{fitting_more, fitting_none, fitting_whole, read_more, read_none, read_stopped, read_whole, short_first}
 use Rattle.nesthv_top.proofs.loading.read_guests.Goals as goal
@@ -31,7 +31,7 @@ pub returns-in_err-read_guest-clause-leaves : goal.returns-in_err-read_guest-cla
 returns-in_err-read_guest-clause-leaves g c =
     let inv = c.loop-i.invariant in
     let is : c.from_residual.result ≡ Err c.in_err-read_guest.field-0.0 = search rules in
-    rw is (left_stopped g.S.Store c.loop-i.i 1 16 c.loop-i.guests c.in_err-read_guest.field-0.0 c.args.store.now c.loop-i.store c.read_guest.new.store
+    rw is (left_stopped g.S.Store (2 * c.loop-i.i) 2 32 c.loop-i.guests c.in_err-read_guest.field-0.0 c.args.store.now c.loop-i.store c.read_guest.new.store
     c.args.reads.now.made c.loop-i.reads.made c.read_guest.new.reads.made (omega (arith, c.loop-i-test.true, c.requires.few)) inv.leaves c.in_err-read_guest.ensures.leaves)
 
 pub loop-i-preserved : goal.loop-i-preserved
@@ -47,7 +47,7 @@ loop-i-preserved g c =
       fitting = rw items (fitting_more c.args.settings.now c.loop-i.i c.index-settings-i.result c.loop-i.guests.items c.in_ok-read_guest.field-0 c.loop-i-test.true c.index-settings-i.is inv.fitting one.fitting);
       room = omega (arith, c.push_reserved.ensures.capacity, inv.room);
       count = omega (arith, c.push_reserved.ensures.len, inv.count);
-      leaves = left_passed g.S.Store c.loop-i.i 1 (c.loop-i.i + 1) c.loop-i.guests c.in_ok-read_guest.field-0 _ c.args.store.now c.loop-i.store c.read_guest.new.store
+      leaves = left_passed g.S.Store (2 * c.loop-i.i) 2 (2 * (c.loop-i.i + 1)) c.loop-i.guests c.in_ok-read_guest.field-0 _ c.args.store.now c.loop-i.store c.read_guest.new.store
           c.args.reads.now.made c.loop-i.reads.made c.read_guest.new.reads.made (omega arith) inv.leaves one.leaves;
     }
 

@@ -1,5 +1,5 @@
 use Rattle.std.specs.Prelude.{vec_capacity}
-use Rattle.std.proofs.Common.{◌≡◌, ◌≤◌, Some, Ok, length, take}
+use Rattle.std.proofs.Common.{◌≡◌, ◌*◌, ◌≤◌, Some, Ok, length, take}
 use Rattle.outside.specs.Files.{Files}
 use Rattle.nesthv_top.specs.Ends.{Leaves}
 use Rattle.nesthv_top.specs.Loads.{AreFitting}
@@ -13,5 +13,5 @@ invariant-loop-i g l = record {
   fitting : AreFitting (take l.i l.settings) l.guests.items;
   room : length l.settings ≤ vec_capacity l.guests;
   count : length l.guests.items ≡ l.i;
-  leaves : Leaves g.S.Store l.i (Ok l.guests) l.fn.store l.store l.fn.reads.made l.reads.made;
+  leaves : Leaves g.S.Store (2 * l.i) (Ok l.guests) l.fn.store l.store l.fn.reads.made l.reads.made;
 }
