@@ -5,6 +5,7 @@ enum { SEED, FIRST, COUNT, BLOCK, MODES };
 
 const char *const mode_names[4] = { "HS", "U", "VS", "VU" };
 struct hart hart;
+u64 handler = (u64)trap;
 static u64 state, sums[2];
 static bool has_lines;
 
@@ -93,23 +94,31 @@ void got_or_chosen(bool is_chosen, const char *name, u64 value)
 void got(const char *name, u64 value) { got_or_chosen(false, name, value); }
 void chosen(const char *name, u64 value) { got_or_chosen(true, name, value); }
 
-static u32 *stub_of(enum mode mode)
+u32 *stub_of(enum mode mode)
 {
     return mode == HS ? stub_hypervisor : mode == VS ? stub_supervisor : stub_user;
 }
 
-void make(enum mode mode, u32 word, u64 status, u64 hypervisor)
+void put_words(u32 *place, const u32 *words, u64 count)
 {
-    u32 *stub = stub_of(mode);
-    if (*stub != word) {
-        *stub = word;
-        __asm__ volatile("fence.i" : : : "memory");
-    }
-    write_csr(STVEC, trap);
-    write_csr(SEPC, stub);
+    bool is_there = true;
+    for (u64 at = 0; at < count; at++)
+        is_there &= place[at] == words[at];
+    if (is_there)
+        return;
+    for (u64 at = 0; at < count; at++)
+        place[at] = words[at];
+    __asm__ volatile("fence.i" : : : "memory");
+}
+
+/* Goes into the mode at this place, and keeps what it comes to. */
+static void make_at(u32 *place, enum mode mode, u64 status, u64 hypervisor)
+{
+    write_csr(STVEC, handler);
+    write_csr(SEPC, place);
     write_csr(HSTATUS, hypervisor | (mode >= VS ? HSTATUS_SPV : 0));
     write_csr(SSTATUS, status | (mode == HS || mode == VS ? SSTATUS_SPP : 0));
-    hart.pc = (u64)stub;
+    hart.pc = (u64)place;
     enter();
     bool trapped = hart.trapped != 0;
     hart.cause = trapped ? read_csr(SCAUSE) : NO_TRAP;
@@ -121,11 +130,24 @@ void make(enum mode mode, u32 word, u64 status, u64 hypervisor)
     hart.sstatus = read_csr(SSTATUS);
 }
 
+void make(enum mode mode, u32 word, u64 status, u64 hypervisor)
+{
+    u32 *stub = stub_of(mode);
+    put_words(stub, &word, 1);
+    make_at(stub, mode, status, hypervisor);
+}
+
+void make_all(enum mode mode, const u32 *words, u64 count, u64 status, u64 hypervisor)
+{
+    u32 *stub = stub_of(mode) + LONG / sizeof(u32), end = mode == HS ? JUMP_BACK : ECALL;
+    put_words(stub, words, count);
+    put_words(stub + count, &end, 1);
+    make_at(stub, mode, status, hypervisor);
+}
+
 u64 place(u64 address)
 {
-    if (address >> 12 == hart.pc >> 12 || address >> 12 == (u64)stub_supervisor >> 12)
-        return address & 4095;
-    return address;
+    return address - (u64)stub_supervisor < 3 * 4096 ? address & 4095 : address;
 }
 
 u64 plain_htinst(u32 word)

@@ -26,11 +26,11 @@ static void tell(enum mode mode, u64 status)
 {
     told("nop");
     told(mode_names[mode]);
-    told_number("sie", read_csr(SIE));
-    told_number("hie", read_csr(HIE));
-    told_number("sip", read_csr(SIP));
-    told_number("hvip", read_csr(HVIP));
-    told_number("hideleg", read_csr(HIDELEG));
+    told_number("sie", read_csr(SIE) & 0x222);
+    told_number("hie", read_csr(HIE) & 0x444);
+    told_number("sip", read_csr(SIP) & 0x222);
+    told_number("hvip", read_csr(HVIP) & 0x444);
+    told_number("hideleg", read_csr(HIDELEG) & 0x444);
     told_number("sstatus", status);
     told_number("vsstatus", read_csr(VSSTATUS) & 0xC0122);
     told("-");

@@ -58,7 +58,7 @@ def difference(expected, actual):
         return Difference(expected.split()[0], "no such line", (("line", expected, actual),), "", {}, {})
     values = tuple((name, here.values[name], there.values[name]) for name in here.values
                    if here.values[name] != there.values[name])
-    if here.choice != "-":
+    if here.choice != "-" and all(name.startswith("~") for name, _, _ in values):
         choice = here.choice
     else:
         choices = [choice_of(name, *two, there.values) for name, *two in values]
@@ -76,12 +76,14 @@ def class_of(instruction):
 
 
 def outcome_of(values):
-    """The code of a case's trap, in decimal, or `done` where it makes its instruction."""
+    """The code of a case's trap, in decimal, of an interrupt behind `i`, or `done` where it makes its
+    instruction."""
     cause, guest = (int(next((values[name] for name in (key, "~" + key) if name in values), "0"), 16)
                     for key in ("cause", "vscause"))
-    if guest:
-        return f"{guest}"
-    return "done" if cause in (8, 10, 0xFF) else f"{cause}"
+    code = guest or cause
+    if code >> 63:
+        return f"i{code & 63}"
+    return "done" if guest == 0 and cause in (8, 10, 0xFF) else f"{code}"
 
 
 def group_of(found):

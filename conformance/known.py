@@ -84,21 +84,30 @@ def holds_more(found):
     return register_of(found) == 0x200 and names <= {"reads", "other", "holds", "besides", "before"}
 
 
+def written(found):
+    """The name of the interrupt register that a case of `aliases` writes, or an empty text."""
+    words = found.head.split()
+    return {("VS", "sie"): "vsie", ("VS", "sip"): "vsip"}.get((words[1], words[2]), words[2])
+
+
 def sets_bit_below(found):
     names = {name for name, _, _ in found.values}
-    writes = status(found, "value") & 0x444 != 0
-    return register_of(found) == 0x204 and names <= {"holds", "~besides"} and writes
+    if register_of(found) in (0x204, 0x244):
+        is_one = names <= {"holds", "~besides"}
+    else:
+        is_one = written(found) in ("vsie", "vsip") and names <= {
+            "hie", "vsie", "hip", "hvip", "vsip", "reads", "cause", "epc", "vscause", "vsepc"}
+    return is_one and status(found, "value") & 0x444 != 0
 
 
 def hides_pending(found):
-    names = [name for name, _, _ in found.values]
-    return is_class(found, "nop") and names == ["vsip"] and value(found.actual, "vsip") & 0x220 == 0
+    names = {name for name, _, _ in found.values}
+    return names and names <= {"vsip", "reads"} and value(found.actual, "vsip") & 0x220 == 0
 
 
 def takes_lowest(found):
     expected, actual = codes(found)
-    return is_class(found, "nop") and expected.isdigit() and actual.isdigit() and (
-        int(actual) >> 63 == 1 and int(actual) < int(expected))
+    return expected[0] == "i" == actual[0] and int(actual[1:]) < int(expected[1:])
 
 
 def has_older_word(found):
@@ -116,18 +125,20 @@ def is_illegal_instruction_in_vu(found):
         found.head.split()[0] in ("sret", "sfence.vma", "hfence.vvma", "hfence.gvma"))
 
 
-REASONS = {"QEMU 7.2": [("amo", reads_first), ("hlv-code", has_access_code), ("guest-code", has_guest_code),
-                        ("top-bit", refuses_top_bit), ("implicit", has_load_code), ("hlv-sum", leaves_out_sum),
-                        ("mxr", takes_other_mxr), ("mxr", reads_tables_by_mxr), ("hlvx", wants_read),
-                        ("vu", is_illegal_in_vu), ("vsstatus", holds_more), ("vsie", sets_bit_below),
-                        ("vsip", hides_pending),
-                        ("priority", takes_lowest), ("stval", has_older_word), ("code-1", has_code_below),
-                        ("vu", is_illegal_instruction_in_vu)]}
+def has_code_of_other_mode(found):
+    return is_class(found, "hlv", "hlvx", "hsv") and codes(found) in (("2", "22"), ("22", "2"))
 
 
-def reason(machine, found):
-    """The name of the known difference that this is one of, or an empty text."""
-    for version, reasons in REASONS.items():
-        if machine.startswith(version + "."):
-            return next((name for name, is_one in reasons if is_one(found)), "")
-    return ""
+def leaves_out_vtvm(found):
+    return found.head.split()[1:4] == ["VS", "register", "180"] and codes(found) == ("22", "done")
+
+
+REASONS = {
+    "QEMU 7.2": [
+        ("amo", reads_first), ("hlv-code", has_access_code), ("guest-code", has_guest_code),
+        ("top-bit", refuses_top_bit), ("implicit", has_load_code), ("hlv-sum", leaves_out_sum),
+        ("mxr", takes_other_mxr), ("mxr", reads_tables_by_mxr), ("hlvx", wants_read),
+        ("vu", is_illegal_in_vu), ("vsstatus", holds_more), ("vsip", hides_pending), ("vsie", sets_bit_below),
+        ("priority", takes_lowest), ("stval", has_older_word), ("code-1", has_code_below),
+        ("vu", is_illegal_instruction_in_vu), ("old-block", has_code_of_other_mode),
+        ("vtvm", leaves_out_vtvm)]}

@@ -191,7 +191,7 @@ void one_case(u64 index)
     told(mode_names[c.mode]);
     told_number("register", c.number);
     told_number("value", c.value);
-    told_number("hideleg", read_csr(HIDELEG));
+    told_number("hideleg", read_csr(HIDELEG) & 0x444);
     told(c.is_extra ? "register" : c.is_illegal ? "legal" : "-");
     told(":");
     hart.a1 = c.value;

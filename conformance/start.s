@@ -3,7 +3,8 @@
     .option norelax
     .equ    SAVED, 13 * 8
     .section .text.start
-    .globl  _start, parameters, enter, trap, back, stub_supervisor, stub_user, stub_hypervisor
+    .globl  _start, parameters, enter, trap, back, vectors
+    .globl  stub_supervisor, stub_user, stub_hypervisor, guest_vectors
 _start:
     j       start
     nop
@@ -58,8 +59,21 @@ left:
     addi    sp, sp, SAVED
     ret
 
+    .balign 256
+vectors:                        # the traps of each code into HS, where stvec is vectored
+    .rept   16
+    jal     t1, vectored
+    .endr
+vectored:                       # t1: behind the entry
+    la      t0, vectors
+    sub     t1, t1, t0
+    srli    t1, t1, 2
+    la      t0, hart
+    j       left
+
 # Each has a place for the instruction of a case. Behind it the case ends: by ECALL, or in HS by a jump to
-# `back`. At stub_supervisor + 16 is where traps into VS go.
+# `back`. At stub_supervisor + 16 is where traps into VS go, and at `guest_vectors` where vstvec is vectored.
+# Several instructions stand at 0x100 of each.
     .section .stubs, "awx"
     .balign 4096
 stub_supervisor:
@@ -68,6 +82,11 @@ stub_supervisor:
     nop
     nop
     ecall
+    .balign 1024
+guest_vectors:
+    .rept   16
+    ecall
+    .endr
     .balign 4096
 stub_user:
     nop

@@ -17,6 +17,7 @@ sys.path.insert(0, FOLDER)
 sys.dont_write_bytecode = True
 import judge
 import machines
+import standard
 from machines import Plan
 
 NESTHV = machines.Nesthv(os.path.join(machines.TOP, "dist", "nesthv"))
@@ -25,22 +26,6 @@ GUEST_SUPERVISOR = {0x200, 0x204, 0x205, 0x240, 0x241, 0x242, 0x243, 0x244, 0x28
 HYPERVISOR = {0x600, 0x602, 0x603, 0x604, 0x605, 0x606, 0x607, 0x60A, 0x643, 0x644, 0x645, 0x64A, 0x680,
               0xE12}
 ILLEGAL, VIRTUAL, DONE = "2", "22", "done"
-
-
-def interrupt(words):
-    """The code of the interrupt that a case takes, as its handler sees it, by 8.2.3 of the standard."""
-    mode, told = words[1], {words[at]: int(words[at + 1], 16) for at in range(2, len(words) - 1, 2)}
-    pending = told["sie"] & told["sip"] | told["hie"] & told["hvip"]
-    hypervisors, guests = pending & ~told["hideleg"], pending & told["hideleg"]
-    if mode != "HS" or told["sstatus"] & 0x20:
-        for code in (9, 1, 5, 12, 10, 2, 6):
-            if hypervisors >> code & 1:
-                return code
-    if mode == "VU" or mode == "VS" and told["vsstatus"] & 2:
-        for code in (10, 2, 6):
-            if guests >> code & 1:
-                return code - 1
-    return None
 
 
 def run(*words):
@@ -85,9 +70,9 @@ class Cases(unittest.TestCase):
     def test_interrupts_are_taken_in_the_order_of_the_standard(self):
         for line in NESTHV.lines(Plan("interrupts", 1, 0, 1024, 0)):
             case = judge.parsed(line)
-            expected = interrupt(case.head.split())
-            actual = judge.outcome_of(case.values)
-            self.assertEqual(actual, DONE if expected is None else str(1 << 63 | expected), line)
+            words = case.head.split()
+            taken = standard.interrupt(words[1], standard.told(words))
+            self.assertEqual(judge.outcome_of(case.values), f"i{taken[0]}" if taken else DONE, line)
 
     def test_a_case_is_the_same_behind_any_other(self):
         for family in machines.FAMILIES:
@@ -174,9 +159,10 @@ class Judge(unittest.TestCase):
         self.assertEqual(self.verdict(("htinst=0", "htinst=3000")), "")
         self.assertEqual(self.verdict(("lw VS", "ld VS")), "")
 
-    def test_marked_cases_are_choices(self):
-        line = self.LINE.replace("- :", "svade :")
+    def test_marked_values_of_marked_cases_are_choices(self):
+        line = self.LINE.replace("- :", "svade :").replace(" cause", " ~cause")
         self.assertEqual(judge.difference(line, line.replace("cause=15", "cause=D")).choice, "svade")
+        self.assertEqual(judge.difference(line, line.replace("epc=0", "epc=4")).choice, "")
 
     def test_noise_is_no_case(self):
         for noise in ("", "panic", "3", "3 lw VS :", "x lw VS - : cause=1"):
