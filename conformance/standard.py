@@ -3,13 +3,21 @@ what the program makes of them. Sections are those of Privileged Architecture 20
 """
 import re
 
-SIE, SPIE = 2, 0x20
+SIE, SPIE, SPP = 2, 0x20, 0x100
+GVA, SPV, SPVP, VTSR = 0x40, 0x80, 0x100, 1 << 22
+NOWHERE = 0x1000000000          # an address outside RAM
+HANDLER, TABLE = 0x10, 0x400    # where traps into VS go, and where they go if vstvec is vectored
+NO_TRAP = 0xFF
 
 
 def told(words):
     """The numbers of a case's words, by the word before each."""
     pairs = re.findall(r"([a-z]+) ([0-9A-F]+)(?= |$)", " ".join(words))
     return {name: int(number, 16) for name, number in pairs}
+
+
+def is_virtual(mode):
+    return mode in ("VS", "VU")
 
 
 def interrupt(mode, state):
@@ -24,3 +32,143 @@ def interrupt(mode, state):
             if pending & state["hideleg"] & 1 << code:
                 return code - 1, True
     return None
+
+
+def after_return(status):
+    """sstatus or vsstatus behind SRET, by 3.1.6.1."""
+    return status & ~(SIE | SPP) | SPIE | (SIE if status & SPIE else 0)
+
+
+def after_trap(status, is_supervisor):
+    """sstatus or vsstatus behind a trap from this privilege, by 3.1.6.1."""
+    return status & ~(SIE | SPIE | SPP) | (SPIE if status & SIE else 0) | (SPP if is_supervisor else 0)
+
+
+def trapped(mode, code, state):
+    """The registers behind an exception, by 8.2.1, 8.2.2 and 8.6.2. Where it goes to VS, the handler there
+    ends by ECALL."""
+    values = dict(state)
+    if is_virtual(mode) and state["hedeleg"] >> code & 1:
+        values["vscause"], values["vsstatus"] = code, after_trap(state["vsstatus"], mode == "VS")
+        return trapped("VS", 10, values | {"hedeleg": 0})
+    values["cause"], values["sstatus"] = code, after_trap(state["sstatus"], mode in ("HS", "VS"))
+    hypervisor = state["hstatus"] & ~(GVA | SPV)
+    if is_virtual(mode):
+        hypervisor = hypervisor & ~SPVP | SPV | (SPVP if mode == "VS" else 0) | (GVA if code in (1, 3) else 0)
+    values["hstatus"] = hypervisor
+    return values
+
+
+def ended(mode, state):
+    """The registers at the call that ends a case, or in HS at its jump."""
+    return trapped(mode, 10 if mode == "VS" else 8, state) if mode != "HS" else state | {"cause": NO_TRAP}
+
+
+def of_returns(words):
+    """SRET, by 3.3.2, 8.2.1 and 8.6.4."""
+    mode, target, state = words[1], words[3], told(words)
+    state["vscause"] = 0
+    if mode != "HS":
+        state["sstatus"] = after_return(state["sstatus"])
+    if mode == "U":
+        values = trapped(mode, 2, state)
+    elif mode == "VU" or mode == "VS" and state["hstatus"] & VTSR:
+        values = trapped(mode, 22, state)
+    else:
+        name = "sstatus" if mode == "HS" else "vsstatus"
+        state[name] = after_return(state[name])
+        state["hstatus"] &= ~SPV
+        is_nowhere = state["at"] == NOWHERE
+        values = trapped(target, 1, state) if is_nowhere else ended(target, state)
+    return {name: values[name] for name in ("cause", "sstatus", "hstatus", "vscause", "vsstatus")}
+
+
+def exception(name, mode):
+    """The code of an instruction's exception, by 3.1.15 and 8.6.1; or none."""
+    if name == "hlv.d":
+        return {"HS": None, "U": 2}.get(mode, 22)
+    codes = {"ebreak": 3, "zeros": 2, "mret": 2, "ecall": 10 if mode == "VS" else 8}
+    return codes.get(name, None if mode == "HS" else codes["ecall"])
+
+
+def of_vectors(words):
+    """Where a trap begins, by 4.1.2 and 8.2.13. `entry` is 1 more than the entry's number."""
+    mode, state = words[1], told(words)
+    taken = interrupt(mode, state)
+    if taken is None:
+        code, is_guests, number = exception(words[0], mode), False, 0
+        if code is None:
+            return {"cause": NO_TRAP, "entry": 0, "vscause": 0}
+        is_guests = is_virtual(mode) and state["hedeleg"] >> code & 1
+    else:
+        code, is_guests = taken
+        number, code = code, code | 1 << 63
+    if is_guests:
+        return {"cause": 10, "entry": 1, "vscause": code, "epc": TABLE + 4 * number * state["vstvec"]}
+    return {"cause": code, "entry": 1 + number * state["stvec"], "vscause": 0}
+
+
+def written(name, value, state):
+    """The registers of interrupts behind a write of one of them, by 4.1.3, 8.2.2, 8.2.3 and 8.2.12."""
+    state = dict(state)
+    moved = value << 1 & state["hideleg"]
+    if name == "sie":
+        state["sie"] = value & 0x222
+    elif name == "sip":
+        state["sip"] = value & 2
+    elif name == "hie":
+        state["hie"] = value & 0x444
+    elif name == "hip":
+        state["hvip"] = state["hvip"] & ~4 | value & 4
+    elif name == "hvip":
+        state["hvip"] = value & 0x444
+    elif name == "vsie":
+        state["hie"] = state["hie"] & ~state["hideleg"] | moved
+    else:
+        state["hvip"] = state["hvip"] & ~(state["hideleg"] & 4) | moved & 4
+    return state
+
+
+def shown(state):
+    """What all registers of interrupts read, by the same sections."""
+    return {"sie": state["sie"], "sip": state["sip"], "hie": state["hie"], "hip": state["hvip"],
+            "hvip": state["hvip"], "vsie": (state["hie"] & state["hideleg"]) >> 1,
+            "vsip": (state["hvip"] & state["hideleg"]) >> 1}
+
+
+def of_aliases(words):
+    """A write of a register of interrupts. In VS those of S are those of VS, and an interrupt may come before
+    the write or behind it."""
+    operation, mode, name = words[:3]
+    state = told(words) | {"sstatus": 0}
+    taken = interrupt(mode, state)
+    if taken is None:
+        name = f"v{name}" if mode == "VS" else name
+        reads = shown(state)[name]
+        value = {"csrrw": state["value"], "csrrs": reads | state["value"],
+                 "csrrc": reads & ~state["value"]}[operation]
+        state = written(name, value, state)
+        taken = interrupt(mode, state)
+    else:
+        reads = 0
+    expected = shown(state) | {"reads": reads, "vscause": 0}
+    if taken is None:
+        return expected | {"cause": NO_TRAP if mode == "HS" else 10}
+    code, is_guests = taken
+    return expected | ({"cause": 10, "vscause": 1 << 63 | code} if is_guests else {"cause": 1 << 63 | code})
+
+
+def of_clock(words):
+    """A read or write of time, by 4.1.5, 8.2.6, 8.2.7, 8.6.1 and, for a write, 2.1."""
+    operation, mode = words[:2]
+    counters = {name: number & 2 for name, number in told(words).items() if name.endswith("counteren")}
+    is_open = (mode in ("HS", "U") or counters["hcounteren"]) and (
+        mode in ("HS", "VS") or counters["scounteren"])
+    if operation == "csrrw" or not is_open and mode == "U":
+        cause = 2
+    else:
+        cause = {"HS": NO_TRAP, "VS": 10}.get(mode, 8) if is_open else 22
+    return {"cause": cause, "within": 1}
+
+
+DECIDED = {"returns": of_returns, "vectors": of_vectors, "aliases": of_aliases, "clock": of_clock}

@@ -74,6 +74,13 @@ class Cases(unittest.TestCase):
             taken = standard.interrupt(words[1], standard.told(words))
             self.assertEqual(judge.outcome_of(case.values), f"i{taken[0]}" if taken else DONE, line)
 
+    def test_cases_are_as_the_standard_says(self):
+        for family, decided in standard.DECIDED.items():
+            for line in NESTHV.lines(Plan(family, 1, 0, 1024, 0)):
+                case = judge.parsed(line)
+                for name, value in decided(case.head.split()).items():
+                    self.assertEqual(int(case.values[name], 16), value, f"{name} of {line}")
+
     def test_a_case_is_the_same_behind_any_other(self):
         for family in machines.FAMILIES:
             whole = NESTHV.lines(Plan(family, 7, 900, 96, 0))
