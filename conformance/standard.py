@@ -171,4 +171,52 @@ def of_clock(words):
     return {"cause": cause, "within": 1}
 
 
-DECIDED = {"returns": of_returns, "vectors": of_vectors, "aliases": of_aliases, "clock": of_clock}
+def of_pairs(words):
+    """LR and SC, by 8.2 and 8.3 of the unprivileged standard: the SC of a loop of these instructions succeeds
+    at last; one without a reservation fails, and writes nothing; each writes exactly where it answers 0."""
+    kind, state = words[0], told(words)
+    if kind not in ("loop", "read", "again", "alone"):
+        return {"agrees": 1}
+    size, shift = int(words[4]), (state["at"] & 4) * 8
+    mask = (1 << size * 8) - 1
+    before, value = state["before"] >> shift & mask, state["value"]
+    loaded = before if before >> size * 8 - 1 == 0 else before - mask - 1
+    made = {0x00B60633: loaded + value, 0x00B64633: loaded ^ value, 0x00B66633: loaded | value,
+            0x00B67633: loaded & value, 0x00058613: value}.get(state.get("word"), value) & mask
+    if kind in ("read", "alone"):
+        made = before
+    memory = state["before"] & ~(mask << shift) | made << shift
+    return {"a2": {"loop": 0, "read": loaded % (1 << 64)}.get(kind, 1), "memory": memory}
+
+
+def is_ordered(change, is_global, fence, address, space):
+    """Whether a change is seen, by 4.2.1, 8.2.10 and 8.3.2."""
+    if change in ("bare", "flag") or fence == "both":
+        return True
+    if change == "remapped" or "other" in (address, space):
+        return False
+    if address == "own" and change in ("table", "root", "guest-table", "guest-root"):
+        return False
+    if change.startswith("guest-"):
+        return fence == "hfence.gvma"
+    return fence in ("sfence.vma", "hfence.vvma") and not (is_global and space == "own")
+
+
+def of_fences(words):
+    """What both accesses come to: page A or B, or a fault of the first stage, F1, or of the second, F2."""
+    change, mode, first, second = words[:4]
+    kind = change.removeprefix("guest-")
+    fault = 0xF2 if change.startswith("guest-") else 0xF1
+    old = {"made": fault, "flag": 0xA if first == "fetch" else fault}.get(kind, 0xA)
+    new = {"made": 0xA, "flag": 0xA, "dropped": fault,
+           "rights": 0xA if second == "fetch" else fault}.get(kind, 0xB)
+    expected = {"first": old, "either": 1}
+    if is_ordered(change, words[8] == "global", *words[9:12]):
+        codes = {0xF1: {"fetch": 12, "store": 15}.get(second, 13),
+                 0xF2: {"fetch": 20, "store": 23}.get(second, 21)}
+        expected |= {"seen": new, "cause": codes.get(new, {"HS": NO_TRAP, "VS": 10}.get(mode, 8))}
+    return expected
+
+
+DECIDED = {"returns": of_returns, "vectors": of_vectors, "aliases": of_aliases, "clock": of_clock,
+           "pairs": of_pairs, "fences": of_fences}
