@@ -28,8 +28,17 @@ def reads_first(found):
     return is_class(found, "amo") and expected in ("7", "15", "23") and actual in ("5", "13", "21")
 
 
+def uses(found):
+    """The two accesses of a case of `fences`, or nothing."""
+    words = found.head.split()
+    return words[2:4] if words[3:5] and words[4] == "level" else []
+
+
 def has_access_code(found):
-    return is_class(found, "hlv", "hlvx", "hsv") and codes(found) in (("13", "5"), ("15", "7"))
+    is_first = [name for name, _, _ in found.values] == ["first"] and uses(found)[:1] == ["hlv"]
+    is_second = is_class(found, "hlv", "hlvx", "hsv") or uses(found)[1:] == ["hlv"]
+    return is_first and value(found.actual, "first") == 0x500 or (
+        is_second and codes(found) in (("13", "5"), ("15", "7")))
 
 
 def has_guest_code(found):
@@ -54,6 +63,10 @@ def takes_other_mxr(found):
     has_mxr = (status(found, "sstatus") | status(found, "vsstatus")) & 1 << 19 != 0
     return is_class(found, "load", "lr", "hlv") and has_mxr and codes(found) in (
         ("done", "13"), ("done", "5"), ("done", "21"), ("21", "done"), ("21", "13"), ("21", "5"), ("5", "13"))
+
+
+def leaves_out_guest_mxr(found):
+    return found.head.split()[0] == "flag" and uses(found)[1:] == ["hlv"] and codes(found) == ("done", "5")
 
 
 def wants_read(found):
@@ -95,7 +108,7 @@ def sets_bit_below(found):
     if register_of(found) in (0x204, 0x244):
         is_one = names <= {"holds", "~besides"}
     else:
-        is_one = written(found) in ("vsie", "vsip") and names <= {
+        is_one = written(found) in ("vsie", "vsip") and names & {"hie", "hip"} and names <= {
             "hie", "vsie", "hip", "hvip", "vsip", "reads", "cause", "epc", "vscause", "vsepc"}
     return is_one and status(found, "value") & 0x444 != 0
 
@@ -133,6 +146,58 @@ def leaves_out_vtvm(found):
     return found.head.split()[1:4] == ["VS", "register", "180"] and codes(found) == ("22", "done")
 
 
+def keeps_old_root(found):
+    names = [name for name, _, _ in found.values]
+    return found.head.split()[0] == "bare" and uses(found)[1:] == ["hlv"] and names == ["seen"]
+
+
+def writes_and_fails(found):
+    words = found.head.split()
+    return words[0] == "size" and words[3:7] == ["bytes", "8", "bytes", "4"] and (
+        value(found.actual, "agrees") == 0 and value(found.actual, "failed") == 1)
+
+
+def reads_through_second_stage(found):
+    return is_class(found, "amo") and codes(found) in (("15", "23"), ("15", "7"))
+
+
+def has_fetch_code(found):
+    return is_class(found, "hlvx") and codes(found) in (("13", "12"), ("21", "12"), ("5", "1"))
+
+
+def refuses_user_pages(found):
+    return is_class(found, "hlvx") and codes(found) == ("done", "12") and (
+        status(found, "vsstatus") & 1 << 18 != 0 and status(found, "hstatus") & 1 << 8 != 0)
+
+
+def clears_gva(found):
+    return is_class(found, "ebreak") and [name for name, _, _ in found.values] == ["hstatus"] and (
+        value(found.expected, "hstatus") ^ value(found.actual, "hstatus") == judge.GVA)
+
+
+def has_older_word_of_mret(found):
+    return is_class(found, "mret") and [name for name, _, _ in found.values] in (["tval"], ["vstval"])
+
+
+def is_illegal_sret_in_vu(found):
+    return found.head.split()[:2] == ["sret", "VU"] and (
+        2 in (value(found.actual, "cause"), value(found.actual, "vscause")))
+
+
+def shows_more_of_hvip(found):
+    names = {name.lstrip("~") for name, _, _ in found.values}
+    if register_of(found) == 0x645:
+        return names <= {"reads", "other", "holds", "besides", "before"}
+    return names <= {"hvip", "reads"} and value(found.expected, "hvip") ^ value(found.actual, "hvip") == 2
+
+
+def shows_timer(found):
+    names = {name.lstrip("~") for name, _, _ in found.values}
+    bit = {0x244: 0x20, 0x644: 0x40}.get(register_of(found), 0)
+    return names <= {"reads", "holds", "before", "besides"} and (
+        (value(found.actual, "reads") | value(found.actual, "holds")) & bit != 0)
+
+
 REASONS = {
     "QEMU 7.2": [
         ("amo", reads_first), ("hlv-code", has_access_code), ("guest-code", has_guest_code),
@@ -141,4 +206,19 @@ REASONS = {
         ("vu", is_illegal_in_vu), ("vsstatus", holds_more), ("vsip", hides_pending), ("vsie", sets_bit_below),
         ("priority", takes_lowest), ("stval", has_older_word), ("code-1", has_code_below),
         ("vu", is_illegal_instruction_in_vu), ("old-block", has_code_of_other_mode),
-        ("vtvm", leaves_out_vtvm)]}
+        ("vtvm", leaves_out_vtvm), ("mxr", leaves_out_guest_mxr), ("vsatp", keeps_old_root),
+        ("sc-size", writes_and_fails)],
+    "QEMU 10.0": [
+        ("amo-stage", reads_through_second_stage), ("hlvx-code", has_fetch_code),
+        ("hlvx-sum", refuses_user_pages), ("gva", clears_gva), ("stval", has_older_word_of_mret),
+        ("vu", is_illegal_sret_in_vu),
+        ("hvip", shows_more_of_hvip), ("vstip", shows_timer), ("vsie", sets_bit_below),
+        ("priority", takes_lowest), ("vsstatus", holds_more), ("sc-size", writes_and_fails)]}
+
+
+def reason(machine, found):
+    """The name of the known difference that this is one of, or an empty text."""
+    for version, reasons in REASONS.items():
+        if machine.startswith(version + "."):
+            return next((name for name, is_one in reasons if is_one(found)), "")
+    return ""
