@@ -1,6 +1,7 @@
 """What the tests of the tools share: a folder for each test, configurations and images in it, and the
 tools."""
 import os
+import signal
 import struct
 import subprocess
 import sys
@@ -17,6 +18,11 @@ LETTER = struct.pack("<5I", 0x00100893, 0x04100513, 0x73, 0x00800893, 0x73)
 LETTER_REPORT = b"guest a stopped steps 5 bytes 1\nA\n"
 LOOP = struct.pack("<I", 0x6F)  # jal zero, 0
 GUEST = {"name": '"a"', "image": '"a.bin"', "blocks": 1, "spaces": 1, "entries": 16, "console": 100}
+
+
+def take_interrupts():
+    """In a new process: takes SIGINT, which a shell may have its commands in the background ignore."""
+    signal.signal(signal.SIGINT, signal.SIG_DFL)
 
 
 class ToolTest(unittest.TestCase):

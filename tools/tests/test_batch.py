@@ -6,7 +6,7 @@ import subprocess
 import time
 from xml.etree import ElementTree
 
-from helper import LETTER, LETTER_REPORT, LOOP, TOOLS, ToolTest
+from helper import LETTER, LETTER_REPORT, LOOP, TOOLS, ToolTest, take_interrupts
 
 ENDLESS = "format = 1\nquantum = 4294967296\nrounds = 1000\n"
 
@@ -163,6 +163,7 @@ class BatchTest(ToolTest):
         self.configure("kept/b.toml", front=ENDLESS, image='"loop.bin"')
         started = subprocess.Popen([f"{TOOLS}/batch", os.path.join(self.folder, "kept")],
                                    stdout=subprocess.PIPE, stderr=subprocess.PIPE,
+                                   preexec_fn=take_interrupts,
                                    env={**os.environ, "NESTHV": f"{TOOLS}/../dist/nesthv"})
         self.assertEqual(started.stdout.readline(), b"PASS a.toml\n")
         started.send_signal(signal.SIGINT)

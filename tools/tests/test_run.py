@@ -9,7 +9,7 @@ import sys
 import threading
 import time
 
-from helper import LETTER, LETTER_REPORT, LOOP, PROGRAM, TOOLS, TOP, ToolTest
+from helper import LETTER, LETTER_REPORT, LOOP, PROGRAM, TOOLS, TOP, ToolTest, take_interrupts
 
 INLINE = """format = 1
 quantum = 1000
@@ -327,7 +327,8 @@ class StreamTest(ToolTest):
     def test_interrupt(self):
         self.put("a.bin", LOOP)
         path = self.configure(front="format = 1\nquantum = 4294967296\nrounds = 1000\n")
-        started = subprocess.Popen([f"{TOOLS}/run", path], stdout=subprocess.PIPE, stderr=subprocess.PIPE)
+        started = subprocess.Popen([f"{TOOLS}/run", path], stdout=subprocess.PIPE, stderr=subprocess.PIPE,
+                                   preexec_fn=take_interrupts)
         started.stderr.readline()  # which program it takes
         time.sleep(0.3)
         started.send_signal(signal.SIGINT)
