@@ -211,7 +211,7 @@ REASONS = {
     "QEMU 10.0": [
         ("amo-stage", reads_through_second_stage), ("hlvx-code", has_fetch_code),
         ("hlvx-sum", refuses_user_pages), ("gva", clears_gva), ("stval", has_older_word_of_mret),
-        ("vu", is_illegal_sret_in_vu),
+        ("vu", is_illegal_sret_in_vu), ("vu", is_illegal_in_vu),
         ("hvip", shows_more_of_hvip), ("vstip", shows_timer), ("vsie", sets_bit_below),
         ("priority", takes_lowest), ("vsstatus", holds_more), ("sc-size", writes_and_fails)]}
 
