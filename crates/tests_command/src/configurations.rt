@@ -1,7 +1,6 @@
 // What is read of a configuration, and what its faults keep.
 
-use run_config::{ConfigFault, ConfigKey, GuestSettings, InputEnd, InputSource, inputs, read};
-use std::alloc::Global;
+use run_config::{ConfigFault, ConfigKey, GuestSettings, InputSource, read};
 use std::test::Fail;
 use turn_plan::Turns;
 
@@ -131,73 +130,6 @@ fn each_value_of_format_2(rt: HostRuntime) -> Result<(), Fail> {
     for (guest, settings) in config.guests().iter().zip(&SETTINGS_TWO) {
         assert!(rt; are_read(guest, settings));
     }
-    Ok(())
-}
-
-// A file of inputs, and what is read of it.
-struct InputFile {
-    name: &'static str,
-    bytes: &'static [u8],
-    inputs: Result<&'static [(u64, u8)], u32>,
-}
-
-static INPUT_FILES: [InputFile; 6] = [
-    InputFile {
-        name: "empty",
-        bytes: b"",
-        inputs: Ok(&[]),
-    },
-    InputFile {
-        name: "two, at one moment",
-        bytes: b"\x01\x02\0\0\0\0\0\0A\x01\x02\0\0\0\0\0\0\xFF",
-        inputs: Ok(&[(513, 65), (513, 255)]),
-    },
-    InputFile {
-        name: "the last moment",
-        bytes: b"\xFF\xFF\xFF\xFF\xFF\xFF\xFF\x3F\0",
-        inputs: Ok(&[((1 << 62) - 1, 0)]),
-    },
-    InputFile {
-        name: "a moment too late",
-        bytes: b"\0\0\0\0\0\0\0\x40\0",
-        inputs: Err(0),
-    },
-    InputFile {
-        name: "a falling moment",
-        bytes: b"\x02\0\0\0\0\0\0\0A\x01\0\0\0\0\0\0\0A\0",
-        inputs: Err(1),
-    },
-    InputFile {
-        name: "a record of eight bytes",
-        bytes: b"\x02\0\0\0\0\0\0\0A\x03\0\0\0\0\0\0\0",
-        inputs: Err(1),
-    },
-];
-
-fn is_as_read(alloc: Global, file: &InputFile) -> bool {
-    match (inputs(alloc, file.bytes), &file.inputs) {
-        (Ok(inputs), Ok(wanted)) => inputs.as_slice() == *wanted,
-        (Err(InputEnd::Bad(record)), Err(wanted)) => record == *wanted,
-        _ => false,
-    }
-}
-
-#[test]
-fn input_files(rt: HostRuntime) {
-    for file in &INPUT_FILES {
-        assert!(rt; is_as_read(rt.alloc(), file), "{}", file.name);
-    }
-}
-
-// At most 65,536 records of zeros are inputs.
-#[test]
-fn most_records(rt: HostRuntime) -> Result<(), Fail> {
-    let mut bytes = Vec::new(rt.alloc());
-    bytes.resize(9 * 65_536, 0)?;
-    assert!(rt; inputs(rt.alloc(), bytes.as_slice())?.len() == 65_536);
-    bytes.push(0)?;
-    let last = matches!(inputs(rt.alloc(), bytes.as_slice()), Err(InputEnd::Bad(65_536)));
-    assert!(rt; last);
     Ok(())
 }
 
