@@ -124,7 +124,12 @@ fn each_value(rt: HostRuntime) -> Result<(), Fail> {
 #[test]
 fn each_value_of_format_2(rt: HostRuntime) -> Result<(), Fail> {
     let config = read(rt.alloc(), EACH_VALUE_TWO.as_bytes())?;
-    let turns = [(0, 4_294_967_000), (1, 4_294_967), (0, 4_294_967_000), (1, 4_294_967)];
+    let turns = [
+        (0, 4_294_967_000),
+        (1, 4_294_967),
+        (0, 4_294_967_000),
+        (1, 4_294_967),
+    ];
     assert!(rt; config.turns().as_slice() == turns.as_slice());
     assert!(rt; config.guests().len() == 2);
     for (guest, settings) in config.guests().iter().zip(&SETTINGS_TWO) {
