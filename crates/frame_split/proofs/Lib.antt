@@ -1,3 +1,4 @@
 pub mod Between
 pub mod Sums
 pub mod Sharing
+pub mod Spare

@@ -8,7 +8,7 @@ use Rattle.arch_defs.specs.Layouts.{Layout, NamesEachOnce, named_by, in_tables, 
 use Rattle.guest_specs.specs.Needs.{tables_for}
 use Rattle.arch_defs.proofs.FrameSets.{apart_sym}
 use Rattle.frame_split.specs.declared.planning.Free.{Free}
-use Rattle.frame_split.specs.Shares.{ArePairwiseApart, IsSplit, LiesBetween, IsOrdered, SoFar, after_need, blocks_of_all, roots_of_all, tables_of_all}
+use Rattle.frame_split.specs.Shares.{ArePairwiseApart, BlocksLieBelow, IsSplit, LiesBetween, IsOrdered, RootsLieFrom, SoFar, after_need, blocks_of_all, roots_of_all, tables_of_all}
 use Rattle.frame_split.proofs.Between.{parts_apart, between_wider, between_later, between_lies, blocks_between, roots_between, tables_between}
 use Rattle.frame_split.proofs.Sums.{blocks_more, roots_more, tables_more}
 
@@ -53,6 +53,7 @@ so_far_none needs start frames blocks roots tables aligned = record {
   apart = λ i j d h. absurd (omega (arith, h));
   once = λ i d h. absurd (omega (arith, h));
   between = λ i d h. absurd (omega (arith, h));
+  ends = refl;
   blocks = blocks;
   roots = roots;
   tables = tables;
@@ -71,6 +72,7 @@ so_far_more needs i parts start free frames need part so h is meets once between
   between = λ k d k_in. each_push (LiesBetween start (after_need need free)) parts part
       (λ m e m_in. between_wider start free (after_need need free) (get_or parts m e) on (so.between m e (omega (arith, m_in, so.count))))
       (between_later start free (after_need need free) part so.from between) k d (omega (arith, k_in, so.count));
+  ends = omega (arith, so.ends, block_step);
   blocks = omega (arith, so.blocks, block_step);
   roots = omega (arith, so.roots, root_step);
   tables = omega (arith, so.tables, table_step);
@@ -134,3 +136,15 @@ so_far_all needs parts start free frames so = record {
         by (inl h) = let x = roots_between start free (get_or parts j d) g lies h in x.0
         by (inr h) =
             let x = tables_between start free (get_or parts j d) g lies h in omega (arith, x.0, order.roots, so.from.1)
+
+-- the blocks end behind all needs, and the roots begin at the start's
+pub blocks_below : (needs : List Need) (parts : List Layout) (start free : Free) (frames : ℕ) → SoFar needs (length needs) parts start free frames
+    → BlocksLieBelow (start.block + blocks_of_all needs) parts
+blocks_below needs parts start free frames so i j d h inside =
+    let lies = so.between i d (omega (arith, h, so.count)) in
+    let below = lies.blocks_to j inside in
+    omega (arith, below, so.ends)
+
+pub roots_from : (needs : List Need) (parts : List Layout) (start free : Free) (frames : ℕ) → SoFar needs (length needs) parts start free frames
+    → RootsLieFrom start.root parts
+roots_from needs parts start free frames so i d h = let lies = so.between i d (omega (arith, h, so.count)) in lies.roots_from

@@ -13,6 +13,10 @@ abbrev pub frames_of_all : List Need → ℕ
 frames_of_all [] = 0
 frames_of_all (need ∷ needs) = frames_needed need + frames_of_all needs
 
+-- and with so many spare blocks beside
+abbrev pub frames_with : List Need → ℕ → ℕ
+frames_with needs spare = frames_of_all needs + 512 * spare
+
 abbrev pub AreNeeds : List Need → Type 0
 AreNeeds needs = (i : ℕ) (d : Need) → i < length needs → IsNeed (get_or needs i d)
 
@@ -90,6 +94,24 @@ abbrev pub tables_of_all : List Need → ℕ
 tables_of_all [] = 0
 tables_of_all (need ∷ needs) = 1 + need.spaces * tables_for need.entries + tables_of_all needs
 
+-- the blocks of all parts have numbers below one, and their roots begin at a frame or behind it
+abbrev pub BlocksLieBelow : ℕ → List Layout → Type 0
+BlocksLieBelow block parts = (i j : ℕ) (d : Layout) → i < length parts
+    → j < length (get_or parts i d).blocks → slice_index (get_or parts i d).blocks j < block
+
+abbrev pub RootsLieFrom : ℕ → List Layout → Type 0
+RootsLieFrom frame parts =
+    (i : ℕ) (d : Layout) → i < length parts → frame ≤ (get_or parts i d).first_root
+
+-- so many spare blocks from a first one on lie between the blocks of all parts and their roots: in no part, and
+-- in memory of so many frames
+pub record LeavesSpare (first spare : ℕ) (parts : List Layout) (frames : ℕ) : Type 0 where
+  pub behind : BlocksLieBelow first parts
+  pub before : RootsLieFrom (512 * (first + spare)) parts
+  pub apart : (k i : ℕ) (d : Layout) → k < spare → i < length parts
+      → Apart (in_blocks ((first + k) ∷ [])) (named_by (get_or parts i d))
+  pub lies : (k : ℕ) → k < spare → LieIn (in_blocks ((first + k) ∷ [])) (frames * 4096)
+
 -- the parts of the needs so far, from one place to another, and what is still to be shared out up to the ends
 pub record SoFar (needs : List Need) (done : ℕ) (parts : List Layout) (start free : Free) (frames : ℕ)
     : Type 0 where
@@ -98,13 +120,15 @@ pub record SoFar (needs : List Need) (done : ℕ) (parts : List Layout) (start f
   pub apart : ArePairwiseApart parts
   pub once : (i : ℕ) (d : Layout) → i < done → NamesEachOnce (get_or parts i d)
   pub between : (i : ℕ) (d : Layout) → i < done → LiesBetween start free (get_or parts i d)
+  pub ends : free.block + blocks_of_all (drop done needs) ≡ start.block + blocks_of_all needs
   pub blocks : 512 * (free.block + blocks_of_all (drop done needs)) ≤ start.root
   pub roots : free.root + 4 * roots_of_all (drop done needs) ≤ start.table
   pub tables : free.table + tables_of_all (drop done needs) ≤ frames
   pub aligned : free.root % 4 ≡ 0
   pub from : (start.block ≤ free.block) × (start.root ≤ free.root) × (start.table ≤ free.table)
 
--- why there is no plan: the needs sum to too much, or they don't and memory is wanting
-abbrev pub Causes : PlanFault → List Need → Type 0
-Causes NoMemory needs = frames_of_all needs ≤ most_frames
-Causes (TooMuch sum) needs = (sum ≡ frames_of_all needs) × (most_frames < sum)
+-- why there is no plan, by the frames that all would need: they are too many, or they aren't and memory is
+-- wanting
+abbrev pub Causes : PlanFault → ℕ → Type 0
+Causes NoMemory all = all ≤ most_frames
+Causes (TooMuch sum) all = (sum ≡ all) × (most_frames < sum)

@@ -4,16 +4,18 @@ ghost use Rattle.std.specs.Prelude.{◌≡◌, ℕ, ◌+◌, ◌*◌, ◌%◌, �
 ghost use Rattle.arch_defs.specs.Frames.{most_frames};
 ghost use Rattle.arch_defs.specs.Layouts.{NamesEachOnce, Meets};
 ghost use Rattle.guest_specs.specs.Needs.{tables_for, IsNeed};
-ghost use Rattle.frame_split.specs.Shares.{AreNeeds, Causes, IsSplit, LiesBetween, after_need, frames_of_all, blocks_of_all, most_tables, roots_of_all, tables_of_all};
+ghost use Rattle.frame_split.specs.Shares.{AreNeeds, BlocksLieBelow, Causes, IsSplit, LeavesSpare, LiesBetween, after_need, blocks_of_all, frames_with, most_tables, RootsLieFrom, roots_of_all, tables_of_all};
 
 use crate::faults::PlanFault;
 use arch_defs::{BLOCK_FRAMES, MOST_BLOCKS, MOST_FRAMES, Need, Part, TABLES_PER_ENTRY};
 use std::alloc::Global;
 
-/// The parts of guests, in their order, and the frames of machine memory that they lie in.
+/// The parts of guests, in their order, how many blocks they have, which is also the first spare block, and the
+/// frames of machine memory that all lie in.
 #[derive(Drop)]
 pub struct Split {
     pub parts: Vec<Part>,
+    pub blocks: u64,
     pub frames: u64,
 }
 
@@ -34,29 +36,37 @@ struct Totals {
 }
 
 /// Shares out machine memory: each guest gets a part of the size that it needs, all blocks come first,
-/// then all roots, then all other tables. It answers `TooMuch`, with the sum, exactly where the needs sum to
-/// more than 131,072 frames, and else may answer `NoMemory`.
-pub fn plan(alloc: Global, needs: &[Need]) -> Result<Split, PlanFault>
+/// then so many spare blocks that are in no part, then all roots, then all other tables. It answers `TooMuch`,
+/// with the sum, exactly where the needs and the spare blocks sum to more than 131,072 frames, and else may
+/// answer `NoMemory`.
+pub fn plan(alloc: Global, needs: &[Need], spare: u64) -> Result<Split, PlanFault>
     requires few { length needs.now ≤ 16 }
     requires needs { AreNeeds needs.now }
+    requires spare { spare ≤ 32 }
     ensures split { IfOk result (λ s. IsSplit needs.now s.parts.items s.frames) }
-    ensures frames { IfOk result (λ s. s.frames ≡ frames_of_all needs.now) }
+    ensures blocks { IfOk result (λ s. s.blocks ≡ blocks_of_all needs.now) }
+    ensures spare { IfOk result (λ s. LeavesSpare s.blocks spare s.parts.items s.frames) }
+    ensures frames { IfOk result (λ s. s.frames ≡ frames_with needs.now spare) }
     ensures fits { IfOk result (λ s. s.frames ≤ most_frames) }
-    ensures refused { IfErr result (λ fault. Causes fault needs.now) }
+    ensures refused { IfErr result (λ fault. Causes fault (frames_with needs.now spare)) }
 {
     let totals = all_needed(needs);
-    let frames = BLOCK_FRAMES * totals.blocks + 4 * totals.roots + totals.tables;
+    let root = BLOCK_FRAMES * (totals.blocks + spare);
+    let frames = root + 4 * totals.roots + totals.tables;
     if frames > MOST_FRAMES {
         return Err(PlanFault::TooMuch(frames));
     }
-    let root = BLOCK_FRAMES * totals.blocks;
     let start = Free {
         block: 0,
         root,
         table: root + 4 * totals.roots,
     };
     match share(alloc, needs, start, frames) {
-        Some(parts) => Ok(Split { parts, frames }),
+        Some(parts) => Ok(Split {
+            parts,
+            blocks: totals.blocks,
+            frames,
+        }),
         None => Err(PlanFault::NoMemory),
     }
 }
@@ -105,7 +115,10 @@ fn share(alloc: Global, needs: &[Need], start: Free, frames: u64) -> Option<Vec<
     requires tables { start.table + tables_of_all needs.now ≤ frames }
     requires aligned { start.root % 4 ≡ 0 }
     requires most { frames < 2 ^ 32 }
-    ensures { IfSome result (λ parts. IsSplit needs.now parts.items frames) }
+    ensures split { IfSome result (λ parts. IsSplit needs.now parts.items frames) }
+    ensures blocks { IfSome result (λ parts. BlocksLieBelow (start.block + blocks_of_all needs.now)
+        parts.items) }
+    ensures roots { IfSome result (λ parts. RootsLieFrom start.root parts.items) }
 {
     let Ok(mut parts) = Vec::with_capacity(alloc, needs.len()) else {
         return None;

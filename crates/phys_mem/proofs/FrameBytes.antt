@@ -1,14 +1,15 @@
 -- Bytes that lie in frames of one length, one frame after the other.
-use Rattle.std.proofs.Common.{◌≡◌, ℕ, zero, suc, ◌+◌, ◌*◌, ◌/◌, ◌%◌, ◌<◌, ◌≤◌, List, [], ◌∷◌, ◌++◌, length, get_or, set, take, drop, replicate, refl, sym, ap, ◌∙◌, arith, length-append}
-use Rattle.std.specs.List.{concat}
+use Rattle.std.proofs.Common.{◌≡◌, ℕ, zero, suc, ◌+◌, ◌-◌, ◌*◌, ◌/◌, ◌%◌, ◌<◌, ◌≤◌, List, [], ◌∷◌, ◌++◌, length, get_or, set, take, drop, replicate, refl, sym, ap, ◌∙◌, arith, length-append}
+use Rattle.std.specs.List.{concat, copy_within}
+use Rattle.std.proofs.Math.Nat.{le_of_mul-le-mul_right, mul_assoc}
 use Rattle.std.proofs.Math.Seq.{split_at, take-append-add, drop-append-add, take-append_seam}
-use Rattle.std.proofs.lemmas.List.{append_assoc, length-take-le, length-set, get_or-set_same, take-append-le, drop-append-le, take-set, drop-set-lt, drop_at, replicate-append-replicate}
-use Rattle.std.proofs.lemmas.List.Elements.{All-take}
+use Rattle.std.proofs.lemmas.List.{append_assoc, length-drop, length-take-le, length-set, get_or-set_same, take-append-drop, take-append-le, drop-append-le, take-set, drop-set-lt, drop_at, replicate-append-replicate}
+use Rattle.std.proofs.lemmas.List.Elements.{All-append, All-drop, All-take}
 use Rattle.std.proofs.lemmas.List.Folds.{concat-append}
 use Rattle.std.proofs.lemmas.Nat.{div-add-mod', div-mul-add, div_below}
 use Rattle.arch_defs.specs.Memory.{pasted, zeros}
 use Rattle.phys_mem.specs.MemoryBytes.{AreWhole}
-use Rattle.phys_mem.proofs.PiecesLaid.{length_zeros, pasted_over}
+use Rattle.phys_mem.proofs.PiecesLaid.{length_zeros, pasted_over, taken_front}
 
 -- three lists: what lies before a frame, the frame, what lies after it
 taken_between : (before frame after : List ℕ) (p k : ℕ) → length before ≡ p → k ≤ length frame
@@ -125,3 +126,75 @@ module _ (n : ℕ) (frames : List (List ℕ)) (memory : List ℕ) (some : 0 < n)
   frame_copied from to frame source target named =
       frame_filled to frame target (frame_long from frame source named)
       ∙ ap (pasted memory (to * n)) (frame_shown from frame source named)
+
+-- the first frames, and those behind them
+first_and_rest : (k : ℕ) (frames : List (List ℕ)) → concat frames ≡ concat (take k frames) ++ concat (drop k frames)
+first_and_rest k frames = sym (ap concat (take-append-drop k frames)) ∙ concat-append (take k frames) (drop k frames)
+
+first_frames : (n k : ℕ) (frames : List (List ℕ)) → AreWhole n frames → k ≤ length frames → concat (take k frames) ≡ take (k * n) (concat frames)
+first_frames n k frames whole h =
+    sym (ap (take (k * n)) (first_and_rest k frames) ∙ taken_front (concat (take k frames)) (concat (drop k frames)) (k * n) (length_before n k frames whole h))
+
+last_frames : (n k : ℕ) (frames : List (List ℕ)) → AreWhole n frames → k ≤ length frames → concat (drop k frames) ≡ drop (k * n) (concat frames)
+last_frames n k frames whole h =
+    sym (ap (drop (k * n)) (first_and_rest k frames) ∙ drop_at (concat (take k frames)) (concat (drop k frames)) (k * n) (length_before n k frames whole h))
+
+-- frames laid over others
+module _ (n : ℕ) (frames : List (List ℕ)) (whole : AreWhole n frames) (from to count : ℕ) (source : from + count ≤ length frames) (target : to + count ≤ length frames) where
+  abbrev is_whole : List ℕ → Type 0
+  is_whole frame = length frame ≡ n
+
+  rest : AreWhole n (drop from frames)
+  rest = All-drop is_whole from frames whole
+
+  enough : count ≤ length (drop from frames)
+  enough = omega (arith, length-drop from frames, source)
+
+  piece_is : concat (take count (drop from frames)) ≡ take (count * n) (drop (from * n) (concat frames))
+  piece_is = first_frames n count (drop from frames) rest enough ∙ ap (take (count * n)) (last_frames n from frames whole (omega (arith, source)))
+
+  piece_long : length (concat (take count (drop from frames))) ≡ count * n
+  piece_long = length_before n count (drop from frames) rest enough
+
+  frames_laid : concat (copy_within frames from (from + count) to) ≡ pasted (concat frames) (to * n) (take (count * n) (drop (from * n) (concat frames)))
+  frames_laid =
+      let number : from + count - from ≡ count = omega arith in
+      let end : (to + count) * n ≡ to * n + count * n = grind arith in
+      let long = piece_long in
+      ap (λ k. concat (take to frames ++ take k (drop from frames) ++ drop (to + k) frames)) number
+      ∙ concat-append (take to frames ++ take count (drop from frames)) (drop (to + count) frames)
+      ∙ ap (λ bytes. bytes ++ concat (drop (to + count) frames)) (concat-append (take to frames) (take count (drop from frames)))
+      ∙ ap (λ bytes. bytes ++ concat (take count (drop from frames)) ++ concat (drop (to + count) frames)) (first_frames n to frames whole (omega (arith, target)))
+      ∙ ap (λ bytes. take (to * n) (concat frames) ++ concat (take count (drop from frames)) ++ bytes)
+      (last_frames n (to + count) frames whole target ∙ ap (λ k. drop k (concat frames)) (end ∙ ap (λ k. to * n + k) (sym long)))
+      ∙ ap (pasted (concat frames) (to * n)) piece_is
+
+  frames_whole : AreWhole n (copy_within frames from (from + count) to)
+  frames_whole =
+      All-append is_whole (take to frames ++ take (from + count - from) (drop from frames)) (drop (to + (from + count - from)) frames)
+      (All-append is_whole (take to frames) (take (from + count - from) (drop from frames)) (All-take is_whole to frames whole) (All-take is_whole (from + count - from) (drop from frames) rest))
+      (All-drop is_whole (to + (from + count - from)) frames whole)
+
+-- so of blocks of k frames
+module _ (n k size : ℕ) (frames : List (List ℕ)) (memory : List ℕ) (some : 0 < n) (whole : AreWhole n frames) (is : concat frames ≡ memory) (block : k * n ≡ size) where
+  frames_of_block : (b : ℕ) → (b * k) * n ≡ b * size
+  frames_of_block b = mul_assoc b k n ∙ ap (λ s. b * s) block
+
+  pub block_inside : (b : ℕ) → b * size + size ≤ length memory → b * k + k ≤ length frames
+  block_inside b fits =
+      le_of_mul-le-mul_right {m = b * k + k} {n = length frames} {k = n} (omega (arith, fits, frames_of_block b, block, both (b * k) k, ap length (sym is), length_frames n frames whole)) some
+    where
+      both : (x y : ℕ) → (x + y) * n ≡ x * n + y * n
+      both x y = grind arith
+
+  pub block_copied : (from to : ℕ) → from * size + size ≤ length memory → to * size + size ≤ length memory
+      → concat (copy_within frames (from * k) (from * k + k) (to * k)) ≡ pasted memory (to * size) (take size (drop (from * size) memory))
+  block_copied from to source target =
+      frames_laid n frames whole (from * k) (to * k) k (block_inside from source) (block_inside to target)
+      ∙ ap (λ bytes. pasted bytes (to * k * n) (take (k * n) (drop (from * k * n) bytes))) is
+      ∙ ap (λ place. pasted memory place (take (k * n) (drop (from * k * n) memory))) (frames_of_block to)
+      ∙ ap (λ place. pasted memory (to * size) (take (k * n) (drop place memory))) (frames_of_block from)
+      ∙ ap (λ long. pasted memory (to * size) (take long (drop (from * size) memory))) block
+
+  pub block_whole : (from to : ℕ) → from * size + size ≤ length memory → to * size + size ≤ length memory → AreWhole n (copy_within frames (from * k) (from * k + k) (to * k))
+  block_whole from to source target = frames_whole n frames whole (from * k) (to * k) k (block_inside from source) (block_inside to target)

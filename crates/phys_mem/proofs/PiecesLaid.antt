@@ -13,7 +13,7 @@ pub pasted_over : (bytes piece : List ℕ) → length piece ≡ length bytes →
 pasted_over bytes piece e =
     ap (λ l. piece ++ l) (drop_all (0 + length piece) bytes (omega arith)) ∙ append-nil piece
 
-taken_front : (a b : List ℕ) (n : ℕ) → length a ≡ n → take n (a ++ b) ≡ a
+pub taken_front : (a b : List ℕ) (n : ℕ) → length a ≡ n → take n (a ++ b) ≡ a
 taken_front a b n e = rw (← e) (take-append_seam a b)
 
 left_behind : (a b : List ℕ) (n k : ℕ) → length a ≡ n → drop (n + k) (a ++ b) ≡ drop k b

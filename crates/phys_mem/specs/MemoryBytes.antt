@@ -2,7 +2,7 @@
 use Rattle.std.specs.Prelude.{ℕ, ◌≡◌, ◌+◌, ◌-◌, ◌*◌, ◌⊎◌, Bool, ◌&&◌, List, Option, Some, None, length, take, drop, nat_le, if◌then◌else◌}
 use Rattle.std.specs.List.{All}
 use Rattle.byteorder.specs.Endian.{little_bytes}
-use Rattle.arch_defs.specs.Memory.{load, pasted}
+use Rattle.arch_defs.specs.Memory.{block_size, load, pasted}
 
 -- the widths of an access, in bytes
 abbrev pub IsWidth : ℕ → Type 0
@@ -24,6 +24,10 @@ bytes_with base bytes at n value =
 -- the bytes of a frame
 abbrev pub frame_of : ℕ → List ℕ → List ℕ
 frame_of n bytes = take 4096 (drop (n * 4096) bytes)
+
+-- the bytes of a block
+abbrev pub block_of : ℕ → List ℕ → List ℕ
+block_of n bytes = take block_size (drop (n * block_size) bytes)
 
 -- frames of so many bytes each
 abbrev pub AreWhole : ℕ → List (List ℕ) → Type 0

@@ -3,12 +3,12 @@
 ghost use Rattle.std.specs.Prelude.{◌≡◌, ℕ, ◌+◌, ◌*◌, ◌%◌, ◌<◌, ◌≤◌, ⊤, length, IfOk};
 ghost use Rattle.byteorder.specs.Endian.{little_bytes};
 ghost use Rattle.arch_defs.specs.Frames.{most_frames};
-ghost use Rattle.arch_defs.specs.Memory.{load, pasted, zeros};
-ghost use Rattle.phys_mem.specs.MemoryBytes.{IsWidth, is_inside, number_at, bytes_with, frame_of};
+ghost use Rattle.arch_defs.specs.Memory.{block_size, load, pasted, zeros};
+ghost use Rattle.phys_mem.specs.MemoryBytes.{IsWidth, is_inside, number_at, block_of, bytes_with, frame_of};
 
 use crate::accesses::Mem;
-use crate::slices::{bytes_of, clear, number, paste};
-use arch_defs::FRAME_SIZE;
+use crate::slices::{bytes_of, clear, copy_frames, number, paste};
+use arch_defs::{BLOCK_FRAMES, BLOCK_SIZE, FRAME_SIZE};
 use byteorder::{ByteOrder, LittleEndian};
 use no_memory::NoMemory;
 use std::alloc::Global;
@@ -119,6 +119,26 @@ impl PhysMem {
         ensures { self.new ≡ pasted self.old (to * 4096) (frame_of from self.old) }
     {
         self.frames[to as usize] = self.frames[from as usize];
+    }
+
+    /// Fills a block with zeros.
+    pub fn zero_block(&mut self, n: u64)
+        requires { n * block_size + block_size ≤ length self.old }
+        ensures { self.new ≡ pasted self.old (n * block_size) (zeros block_size) }
+    {
+        let _ = &self.frames;
+        self.clear(n * BLOCK_SIZE, BLOCK_SIZE);
+    }
+
+    /// Fills a block with the bytes of another one.
+    pub fn copy_block(&mut self, from: u64, to: u64)
+        requires from { from * block_size + block_size ≤ length self.old }
+        requires to { to * block_size + block_size ≤ length self.old }
+        ensures { self.new ≡ pasted self.old (to * block_size) (block_of from self.old) }
+    {
+        let count = BLOCK_FRAMES as usize;
+        let frames = self.frames.as_mut_slice();
+        copy_frames(frames, from as usize * count, to as usize * count, count);
     }
 
     /// Fills so many bytes from a place on with zeros.

@@ -1,6 +1,7 @@
 // Numbers and pieces in slices of bytes.
 
 ghost use Rattle.std.specs.Prelude.{◌≡◌, ℕ, ◌+◌, ◌≤◌, length, take, drop};
+ghost use Rattle.std.specs.List.{copy_within};
 ghost use Rattle.byteorder.specs.Endian.{little_bytes};
 ghost use Rattle.arch_defs.specs.Memory.{load, pasted, zeros};
 ghost use Rattle.phys_mem.specs.MemoryBytes.{IsWidth};
@@ -50,4 +51,14 @@ pub fn clear(bytes: &mut [u8], at: usize, count: usize)
     ensures { bytes.new ≡ pasted bytes.old at (zeros count) }
 {
     bytes[at..at + count].fill(0);
+}
+
+/// Lays so many frames from one on over as many others.
+pub fn copy_frames(frames: &mut [[u8; 4096]], from: usize, to: usize, count: usize)
+    requires from { from + count ≤ length frames.old }
+    requires to { to + count ≤ length frames.old }
+    ensures frames { frames.new ≡ copy_within frames.old from (from + count) to }
+    ensures size { length frames.new ≡ length frames.old }
+{
+    frames.copy_within(from..from + count, to);
 }

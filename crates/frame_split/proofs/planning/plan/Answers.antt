@@ -1,4 +1,6 @@
-use Rattle.std.proofs.Common.{arith}
+use Rattle.std.proofs.Common.{◌≡◌, ◌+◌, ◌*◌, arith, subst}
+use Rattle.frame_split.specs.Shares.{BlocksLieBelow, blocks_of_all}
+use Rattle.frame_split.proofs.Spare.{spare_left}
 use Rattle.frame_split.proofs.Sums.{frames_sum}
 use Rattle.frame_split.proofs.planning.plan.Goals as goal
 
@@ -20,3 +22,11 @@ returns-in-None-clause-refused c =
       c.all_needed-totals.ensures.tables,
       c.if-frames-gt-MOST_FRAMES.false,
     )
+
+pub returns-in-Some-clause-spare : goal.returns-in-Some-clause-spare
+returns-in-Some-clause-spare c =
+    let first : 0 + blocks_of_all c.args.needs.now ≡ c.all_needed-totals.result.blocks = omega (arith, c.all_needed-totals.ensures.blocks) in
+    let given = c.in-Some.ensures in
+    spare_left c.args.needs.now c.in-Some.parts.items c.all_needed-totals.result.blocks c.args.spare
+    (512 * (c.all_needed-totals.result.blocks + c.args.spare) + 4 * c.all_needed-totals.result.roots + c.all_needed-totals.result.tables)
+    given.split (subst (λ block. BlocksLieBelow block c.in-Some.parts.items) first given.blocks) given.roots (omega arith)

@@ -2,7 +2,7 @@ use Rattle.std.proofs.Common.{◌≡◌, ◌++◌, [], ◌∷◌, length, arith,
 use Rattle.std.proofs.lemmas.List.{get_or_default}
 use Rattle.guest_specs.specs.declared.needs.Need.{Need}
 use Rattle.frame_split.specs.Shares.{SoFar}
-use Rattle.frame_split.proofs.Sharing.{so_far_none, so_far_more, so_far_all}
+use Rattle.frame_split.proofs.Sharing.{blocks_below, roots_from, so_far_none, so_far_more, so_far_all}
 use Rattle.frame_split.proofs.Sums.{blocks_more, roots_more}
 use Rattle.frame_split.proofs.planning.share.Goals as goal
 
@@ -48,8 +48,20 @@ loop-i-preserved c =
     c.loop-i.invariant c.loop-i-test.true (get_or_default c.args.needs.now c.loop-i.i (record { blocks = 0; spaces = 0; entries = 0 }) need c.loop-i-test.true)
     c.part_at-part.ensures.meets c.part_at-part.ensures.once c.part_at-part.ensures.between)
 
-pub returns : goal.returns
-returns c =
+pub returns-clause-split : goal.returns-clause-split
+returns-clause-split c =
     let last : c.loop-i.i ≡ length c.args.needs.now = omega (arith, c.loop-i-test.false, c.loop-i.auto.i-end) in
     so_far_all c.args.needs.now c.loop-i.parts.items c.args.start c.loop-i.free c.args.frames
+    (subst (λ i. SoFar c.args.needs.now i c.loop-i.parts.items c.args.start c.loop-i.free c.args.frames) last c.loop-i.invariant)
+
+pub returns-clause-blocks : goal.returns-clause-blocks
+returns-clause-blocks c =
+    let last : c.loop-i.i ≡ length c.args.needs.now = omega (arith, c.loop-i-test.false, c.loop-i.auto.i-end) in
+    blocks_below c.args.needs.now c.loop-i.parts.items c.args.start c.loop-i.free c.args.frames
+    (subst (λ i. SoFar c.args.needs.now i c.loop-i.parts.items c.args.start c.loop-i.free c.args.frames) last c.loop-i.invariant)
+
+pub returns-clause-roots : goal.returns-clause-roots
+returns-clause-roots c =
+    let last : c.loop-i.i ≡ length c.args.needs.now = omega (arith, c.loop-i-test.false, c.loop-i.auto.i-end) in
+    roots_from c.args.needs.now c.loop-i.parts.items c.args.start c.loop-i.free c.args.frames
     (subst (λ i. SoFar c.args.needs.now i c.loop-i.parts.items c.args.start c.loop-i.free c.args.frames) last c.loop-i.invariant)
