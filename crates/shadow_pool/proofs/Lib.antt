@@ -6,6 +6,8 @@ pub mod Filling
 pub mod Front
 pub mod Fronting
 pub mod Keys
+pub mod Listing
 pub mod Making
+pub mod Moving
 pub mod Ordering
 pub mod Tidying

@@ -41,7 +41,7 @@ module _ (part : Layout) (most : ℕ) (slots : List Slot) (are : AreSlots part m
       by (inl before) = (are.order j k d before h').index
       by (inr after) = λ same. (are.order k j d (omega (arith, after, other)) h).index (sym same)
 
-  frames_apart : (j k : ℕ) (d : Slot) → j < length slots → k < length slots → j ≢ k → Apart (own_frames (get_or slots j d).space) (own_frames (get_or slots k d).space)
+  pub frames_apart : (j k : ℕ) (d : Slot) → j < length slots → k < length slots → j ≢ k → Apart (own_frames (get_or slots j d).space) (own_frames (get_or slots k d).space)
   frames_apart j k d h h' other =
       let own = are.own in
       let first = (are.each j d h).index in

@@ -1,8 +1,10 @@
 -- A pool: tables for spaces, some of which are for a value of hgatp.
 use Rattle.std.specs.Prelude.{ℕ, ◌≡◌, ◌≢◌, ◌+◌, ◌*◌, ◌<◌, ◌≤◌, Bool, true, false, List, [], ◌∷◌, Option, Some, None, length}
+use Rattle.std.specs.Option.{is_none}
 use Rattle.std.specs.List.{All, AllPairs, filter_map, slice_index_or}
 use Rattle.arch_defs.specs.declared.cached.Entry.{Entry}
 use Rattle.arch_defs.specs.declared.roots.GuestRoot.{GuestRoot}
+use Rattle.arch_defs.specs.declared.roots.GuestRoot.TheVariants as guest_root
 use Rattle.arch_defs.specs.Frames.{Frames, LieIn, Only, joined, within}
 use Rattle.arch_defs.specs.Layouts.{Layout, NamesEachOnce, no_part, space_frames}
 use Rattle.guest_specs.specs.Needs.{tables_for}
@@ -31,6 +33,17 @@ space_of slot = space_if slot.key slot.space.entries
 -- the spaces that tables have
 abbrev pub spaces_in : List Slot → List Space
 spaces_in slots = filter_map (λ slot. space_of slot) slots
+
+-- whether a table is in no use
+abbrev pub is_spare : Slot → Bool
+is_spare slot = is_none slot.key
+
+-- the space of a number, the front one's being 0
+abbrev pub no_space : Space
+no_space = record { key = guest_root.Bare; entries = [] }
+
+abbrev pub space_at : List Space → ℕ → Space
+space_at spaces i = slice_index_or spaces i no_space
 
 -- the frame of the first table's root
 abbrev pub front_root : List Slot → ℕ

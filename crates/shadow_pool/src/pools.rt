@@ -1,14 +1,17 @@
 // A pool of spaces.
 
-ghost use Rattle.std.specs.Prelude.{◌≡◌, ◌<◌, ◌≤◌, ◌%◌, ◌^◌, ℕ, List, [], length, IfOk};
+ghost use Rattle.std.specs.Prelude.{◌≡◌, ◌<◌, ◌≤◌, ◌%◌, ◌^◌, ℕ, List, [], length, slice_index_or, IfOk};
+ghost use Rattle.arch_defs.specs.declared.cached.Entry.{Entry};
 ghost use Rattle.arch_defs.specs.CachedEntries.{CanFill};
-ghost use Rattle.arch_defs.specs.Frames.{LieIn};
+ghost use Rattle.arch_defs.specs.Frames.{LieIn, Only};
 ghost use Rattle.arch_defs.specs.Spaces.{entered, fenced};
 ghost use Rattle.machine_defs.specs.Fills.{filled_front};
+ghost use Rattle.shadow_space.specs.Moves.{IsMovedPart};
 ghost use Rattle.shadow_space.specs.Shadows.{AreZeros};
-ghost use Rattle.shadow_pool.specs.Slots.{AreFolded, AreSpare, KeepsPool, TidyPool, front_root, pool_frames, room_of, spaces_of};
+ghost use Rattle.shadow_pool.specs.Moves.{pool_in_part};
+ghost use Rattle.shadow_pool.specs.Slots.{AreFolded, AreSpare, KeepsPool, TidyPool, front_root, pool_frames, room_of, space_at, spaces_of};
 
-use crate::slots::{Slot, enter, fence, fill};
+use crate::slots::{Slot, enter, entries_at, fence, fill, key_at, move_to, used};
 use arch_defs::{Entry, Fence, Key, Part};
 use no_memory::NoMemory;
 use phys_mem::PhysMem;
@@ -108,6 +111,54 @@ impl Pool {
         ensures folded { AreFolded self.new.slots mem.new }
     {
         fence(self.slots.as_mut_slice(), mem, &named);
+    }
+
+    /// How many spaces there are.
+    pub fn held(&self) -> u64
+        ensures { result ≡ length (spaces_of self.now) }
+    {
+        used(self.slots.as_slice()) as u64
+    }
+
+    /// The value of hgatp that a space is for. Space 0 is the front one, and those after it come in the order
+    /// in which they were last entered, the latest first.
+    pub fn key(&self, i: u64) -> Key
+        requires { i < length (spaces_of self.now) }
+        ensures { result ≡ (space_at (spaces_of self.now) i).key }
+    {
+        key_at(self.slots.as_slice(), i as usize)
+    }
+
+    /// How many entries a space has.
+    pub fn len(&self, i: u64) -> u64
+        requires { i < length (spaces_of self.now) }
+        ensures { result ≡ length (space_at (spaces_of self.now) i).entries }
+    {
+        entries_at(self.slots.as_slice(), i as usize).len() as u64
+    }
+
+    /// An entry of a space, entry 0 being the oldest.
+    pub fn entry(&self, i: u64, j: u64) -> Entry
+        requires space { i < length (spaces_of self.now) }
+        requires entry { j < length (space_at (spaces_of self.now) i).entries }
+        ensures { (d : Entry) → result ≡ slice_index_or (space_at (spaces_of self.now) i).entries j d }
+    {
+        entries_at(self.slots.as_slice(), i as usize)[j as usize]
+    }
+
+    /// Takes over a part that differs from the kept one in the numbers of its blocks alone, of which it has as
+    /// many, and folds each leaf of all spaces anew for it. The lists stay.
+    pub fn moved(&mut self, mem: &mut PhysMem, part: &Part)
+        requires tidy { TidyPool self.old mem.old }
+        requires part { IsMovedPart self.old.part part.now }
+        ensures pool { self.new ≡ pool_in_part part.now self.old }
+        ensures spaces { spaces_of self.new ≡ spaces_of self.old }
+        ensures root { front_root self.new.slots ≡ front_root self.old.slots }
+        ensures only { Only (pool_frames self.old) mem.old mem.new }
+        ensures tidy { TidyPool self.new mem.new }
+        ensures folded { AreFolded self.new.slots mem.new }
+    {
+        move_to(self.slots.as_mut_slice(), mem, part);
     }
 }
 

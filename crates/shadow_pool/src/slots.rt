@@ -1,15 +1,18 @@
 // The tables of a pool, those of the most recently entered spaces first.
 
 ghost use Rattle.std.specs.Prelude.{◌≡◌, [], ◌∷◌, ◌<◌, Some, length, option_map, remove, slice_index_or};
-ghost use Rattle.std.specs.List.{position};
+ghost use Rattle.std.specs.List.{AllPairs, position};
 ghost use Rattle.arch_defs.specs.CachedEntries.{CanFill};
+ghost use Rattle.arch_defs.specs.Frames.{Only};
 ghost use Rattle.arch_defs.specs.Spaces.{entered, fenced, fenced_space, names_vmid};
 ghost use Rattle.machine_defs.specs.Fills.{filled_front};
+ghost use Rattle.shadow_space.specs.Moves.{IsMovedPart};
 ghost use Rattle.shadow_space.specs.Shadows.{KeepsSpace, Tidy};
 ghost use Rattle.shadow_pool.specs.declared.slots.Slot.{Slot};
-ghost use Rattle.shadow_pool.specs.Slots.{AreFolded, KeepsPool, TidyPool, front_root, has_key, most_of, part_of, pool_of, space_of, spaces_in};
+ghost use Rattle.shadow_pool.specs.Moves.{pool_in_part};
+ghost use Rattle.shadow_pool.specs.Slots.{AreFolded, ComesBefore, KeepsPool, TidyPool, front_root, has_key, is_spare, most_of, part_of, pool_frames, pool_of, space_at, space_of, spaces_in};
 
-use arch_defs::{Entry, Fence, Key};
+use arch_defs::{Entry, Fence, Key, Part};
 use phys_mem::PhysMem;
 use shadow_space::Space;
 
@@ -54,6 +57,55 @@ fn has_key(slot: &Slot, key: Key) -> bool
         None => false,
         Some(other) => other.is_key(key),
     }
+}
+
+/// How many spaces there are, which is where the first table stands that is in no use.
+#[tactic(auto, using(crate::proofs::Listing::used_some, crate::proofs::Listing::used_none))]
+pub fn used(slots: &[Slot]) -> usize
+    requires { AllPairs ComesBefore slots.now }
+    ensures { result ≡ length (spaces_in slots.now) }
+{
+    match first_spare(slots) {
+        Some(i) => i,
+        None => slots.len(),
+    }
+}
+
+// The place of the first table that is in no use.
+fn first_spare(slots: &[Slot]) -> Option<usize>
+    ensures { result ≡ position is_spare slots.now }
+{
+    slots.iter().position(|slot| is_spare(slot))
+}
+
+// Whether a table is in no use.
+fn is_spare(slot: &Slot) -> bool
+    ensures { result ≡ is_spare slot.now }
+{
+    slot.key.is_none()
+}
+
+/// The value of hgatp that space i is for.
+#[tactic(auto, using(crate::proofs::Listing::few_spaces, crate::proofs::Listing::key_is))]
+pub fn key_at(slots: &[Slot], i: usize) -> Key
+    requires order { AllPairs ComesBefore slots.now }
+    requires space { i < length (spaces_in slots.now) }
+    ensures { result ≡ (space_at (spaces_in slots.now) i).key }
+{
+    match slots[i].key {
+        Some(key) => key,
+        None => unreachable!(),
+    }
+}
+
+/// The entries of space i, the oldest first.
+#[tactic(auto, using(crate::proofs::Listing::few_spaces, crate::proofs::Listing::entries_are))]
+pub fn entries_at(slots: &[Slot], i: usize) -> &[Entry]
+    requires order { AllPairs ComesBefore slots.now }
+    requires space { i < length (spaces_in slots.now) }
+    ensures { result.now ≡ (space_at (spaces_in slots.now) i).entries }
+{
+    slots[i].space.entries()
 }
 
 // Moves a table to the front.
@@ -120,6 +172,23 @@ fn fence_one(slot: &mut Slot, mem: &mut PhysMem, fence: &Fence)
     match fence.page {
         None => slot.space.wipe(mem),
         Some(page) => slot.space.cut(mem, page),
+    }
+}
+
+/// Folds the leaves of all tables anew, for a part with other blocks.
+pub fn move_to(slots: &mut [Slot], mem: &mut PhysMem, part: &Part)
+    requires tidy { TidyPool (pool_of slots.old) mem.old }
+    requires part { IsMovedPart (part_of slots.old) part.now }
+    ensures pool { pool_of slots.new ≡ pool_in_part part.now (pool_of slots.old) }
+    ensures spaces { spaces_in slots.new ≡ spaces_in slots.old }
+    ensures root { front_root slots.new ≡ front_root slots.old }
+    ensures only { Only (pool_frames (pool_of slots.old)) mem.old mem.new }
+    ensures tidy { TidyPool (pool_of slots.new) mem.new }
+    ensures folded { AreFolded slots.new mem.new }
+{
+    part.names_each_once();
+    for i in 0..slots.len() {
+        slots[i].space.moved(mem, part);
     }
 }
 

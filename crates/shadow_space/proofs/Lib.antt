@@ -15,6 +15,7 @@ pub mod Placing
 pub mod Prefixes
 pub mod Putting
 pub mod Reaching
+pub mod Refolding
 pub mod Removing
 pub mod Slots
 pub mod Starting

@@ -2,6 +2,7 @@ pub mod Folding
 pub mod Held
 pub mod Laws
 pub mod Leaves
+pub mod Moves
 pub mod Reaching
 pub mod Shadows
 pub mod Trees

@@ -6,6 +6,7 @@ ghost use Rattle.arch_defs.specs.CachedEntries.{CanFill, HasOtherPage, filled, g
 ghost use Rattle.arch_defs.specs.Frames.{Only};
 ghost use Rattle.arch_defs.specs.Spaces.{names_page};
 ghost use Rattle.shadow_space.specs.Held.{Holds, KeepsTable};
+ghost use Rattle.shadow_space.specs.Leaves.{leaf_word};
 ghost use Rattle.shadow_space.specs.Trees.{frames_of, top};
 ghost use Rattle.shadow_space.specs.Ways.{HasRoom, UnderWay};
 ghost use Rattle.table_words.specs.Words.{changed, with_word};
@@ -173,6 +174,22 @@ impl CachedTable {
             self.take_out(mem, tables, i);
         }
     }
+
+    /// Writes each entry's leaf anew, for the blocks of another part, which has as many.
+    pub fn move_to(&mut self, mem: &mut PhysMem, tables: &Tables, part: &Part)
+        requires holds { Holds tables.now self.old mem.old }
+        requires number { length part.now.blocks ≡ length self.old.part.blocks }
+        ensures table { self.new ≡ record self.old { part = part.now } }
+        ensures holds { Holds tables.now self.new mem.new }
+        ensures only { Only (frames_of tables.now) mem.old mem.new }
+    {
+        for i in 0..self.entries.len() {
+            let entry = self.entries.at(i);
+            let low = tables.first + self.frames.place(i);
+            write_leaf(mem, part, &entry, low);
+        }
+        self.part = *part;
+    }
 }
 
 // Clears the leaf of a page in the lowest table of a frame.
@@ -183,4 +200,16 @@ fn clear_leaf(mem: &mut PhysMem, frame: u64, page: u64)
     ensures changed { changed mem.old mem.new ≤ 1 }
 {
     set_word(mem, 512 * frame + page % 512, 0);
+}
+
+// Writes the leaf of an entry, for the blocks of a part, in the lowest table of a frame.
+fn write_leaf(mem: &mut PhysMem, part: &Part, entry: &Entry, frame: u64)
+    requires entry { CanFill part.now.blocks entry.now }
+    requires inside { 8 * (512 * frame + entry.now.page % 512) + 8 ≤ length mem.old }
+    requires small { frame < 2 ^ 44 }
+    ensures memory { mem.new
+        ≡ with_word mem.old (512 * frame + entry.now.page % 512) (leaf_word part.now.blocks entry.now) }
+    ensures word { leaf_word part.now.blocks entry.now < 2 ^ 64 }
+{
+    set_word(mem, 512 * frame + entry.page % 512, leaf_word(part, entry));
 }

@@ -1,12 +1,13 @@
 // A space.
 
 ghost use Rattle.std.specs.Prelude.{◌≡◌, ℕ, ◌+◌, ◌-◌, ◌*◌, ◌%◌, ◌<◌, ◌≤◌, ◌^◌, [], List, length};
-ghost use Rattle.arch_defs.specs.Frames.{LieIn};
+ghost use Rattle.arch_defs.specs.Frames.{LieIn, Only};
 ghost use Rattle.arch_defs.specs.Layouts.{NamesEachOnce, space_frames};
 ghost use Rattle.arch_defs.specs.CachedEntries.{CanFill, cut_by, filled};
 ghost use Rattle.shadow_space.specs.Folding.{Folded};
+ghost use Rattle.shadow_space.specs.Moves.{IsMovedPart, in_part};
 ghost use Rattle.shadow_space.specs.Reaching.{FreeAreZeros};
-ghost use Rattle.shadow_space.specs.Shadows.{AreZeros, HasSmallNumbers, KeepsSpace, Tidy, root_of, tables_in};
+ghost use Rattle.shadow_space.specs.Shadows.{AreZeros, HasSmallNumbers, KeepsSpace, Tidy, own_frames, root_of, tables_in};
 ghost use Rattle.shadow_space.specs.Trees.{most_entries, top};
 ghost use Rattle.table_words.specs.Words.{changed};
 
@@ -124,6 +125,22 @@ impl Space {
     {
         let tables = tables_of(&self.table.part, self.index);
         self.table.drop_named(mem, &tables, None);
+    }
+
+    /// Takes over a part that differs from the kept one in the numbers of its blocks alone, of which it has as
+    /// many, and folds each leaf anew for it. The list stays.
+    pub fn moved(&mut self, mem: &mut PhysMem, part: &Part)
+        requires tidy { Tidy self.old mem.old }
+        requires part { IsMovedPart self.old.part part.now }
+        ensures space { self.new ≡ in_part part.now self.old }
+        ensures only { Only (own_frames self.old) mem.old mem.new }
+        ensures tidy { Tidy self.new mem.new }
+        ensures folded { Folded self.new mem.new }
+        ensures zeros { FreeAreZeros self.new mem.new }
+    {
+        numbers_of(part);
+        let tables = tables_of(&self.table.part, self.index);
+        self.table.move_to(mem, &tables, part);
     }
 }
 

@@ -1,0 +1,27 @@
+use Rattle.std.proofs.Common.{arith}
+use Rattle.shadow_pool.proofs.Moving.{has_moved, moves_next, moves_none}
+use Rattle.shadow_pool.proofs.slots.move_to.Goals as goal
+
+pub loop-i-init : goal.loop-i-init
+loop-i-init c = record { done = moves_none c.args.part.now c.args.slots.now c.args.mem.now c.requires.tidy c.requires.part }
+
+pub loop-i-preserved : goal.loop-i-preserved
+loop-i-preserved c = record {
+  done = moves_next c.args.part.now c.args.slots.now c.args.mem.now c.requires.tidy c.requires.part c.loop-i.i c.loop-i.slots c.loop-i.mem c.loop-i.invariant.done c.loop-i-test.true c.index-slots-i.result
+      c.moved.new.self c.moved.new.mem c.moved.ensures.space c.moved.ensures.only c.moved.ensures.tidy;
+}
+
+pub returns-clause-pool : goal.returns-clause-pool
+returns-clause-pool c = (has_moved c.args.part.now c.args.slots.now c.args.mem.now c.loop-i.i c.loop-i.slots c.loop-i.mem c.requires.tidy c.requires.part c.names_each_once.ensures c.loop-i.invariant.done (omega (arith, c.loop-i-test.false))).pool
+
+pub returns-clause-spaces : goal.returns-clause-spaces
+returns-clause-spaces c = (has_moved c.args.part.now c.args.slots.now c.args.mem.now c.loop-i.i c.loop-i.slots c.loop-i.mem c.requires.tidy c.requires.part c.names_each_once.ensures c.loop-i.invariant.done (omega (arith, c.loop-i-test.false))).spaces
+
+pub returns-clause-root : goal.returns-clause-root
+returns-clause-root c = (has_moved c.args.part.now c.args.slots.now c.args.mem.now c.loop-i.i c.loop-i.slots c.loop-i.mem c.requires.tidy c.requires.part c.names_each_once.ensures c.loop-i.invariant.done (omega (arith, c.loop-i-test.false))).root
+
+pub returns-clause-tidy : goal.returns-clause-tidy
+returns-clause-tidy c = (has_moved c.args.part.now c.args.slots.now c.args.mem.now c.loop-i.i c.loop-i.slots c.loop-i.mem c.requires.tidy c.requires.part c.names_each_once.ensures c.loop-i.invariant.done (omega (arith, c.loop-i-test.false))).tidy
+
+pub returns-clause-folded : goal.returns-clause-folded
+returns-clause-folded c = (has_moved c.args.part.now c.args.slots.now c.args.mem.now c.loop-i.i c.loop-i.slots c.loop-i.mem c.requires.tidy c.requires.part c.names_each_once.ensures c.loop-i.invariant.done (omega (arith, c.loop-i-test.false))).folded
