@@ -1,0 +1,4 @@
+pub mod Blocks
+pub mod Copies
+pub mod RamMoving
+pub mod Stages
