@@ -5,6 +5,7 @@ use Rattle.std.proofs.lemmas.Bool.{and_parts, leb-true, ltb-true}
 use Rattle.arch_defs.specs.declared.cached.Entry.{Entry}
 use Rattle.arch_defs.specs.declared.modes.Access.{Access}
 use Rattle.arch_defs.specs.declared.modes.Trap.{Trap}
+use Rattle.arch_defs.specs.declared.registers.Csrs.{Csrs}
 use Rattle.arch_defs.specs.declared.roots.GuestMode.{GuestMode}
 use Rattle.arch_defs.specs.declared.roots.GuestMode.TheVariants.{Sv39x4, Sv48x4}
 use Rattle.arch_defs.specs.declared.roots.GuestRoot.{GuestRoot}
@@ -22,13 +23,14 @@ use Rattle.arch_defs.specs.TableEntries.{entry_next, is_aligned, is_leaf, is_mar
 use Rattle.arch_defs.specs.Walk.{guest_bits, EntryReading, end_of, is_canonical, later, leaf_address, levels, most_level, most_levels, or_else, path, path_from, place_of, read_next, walk}
 use Rattle.arch_defs.specs.CachedEntries.{CanFill, guest_page_bits}
 use Rattle.arch_defs.specs.WalkedEntries.{entry_by_table, entry_by_walk, entry_under}
+use Rattle.machine_laws.specs.Keys.{IsOfTable, page_bits}
 use Rattle.machine_laws.specs.Laws.{FillsCanBeMade}
 use Rattle.arch_defs.proofs.Shapes.{few_levels}
 use Rattle.machine_laws.proofs.Cached.{IsGiven, given}
 
--- what holds of each leaf that a walk ends at
-record IsSound (leaf : LeafPte) : Type 0 where
-  pub level : leaf.level ≤ most_level
+-- what holds of each leaf that a walk of so many levels ends at
+record IsSound (count : ℕ) (leaf : LeafPte) : Type 0 where
+  pub level : leaf.level < count
   pub right : (leaf.r || leaf.x) ≡ true
   pub write : leaf.w ≡ true → leaf.r ≡ true
 
@@ -47,43 +49,48 @@ writes true true false z valid is = absurd cc
 writes true false r z valid is = absurd cc
 writes false w r z valid is = absurd cc
 
-sound_entry : (level : ℕ) (kind : Access) (e : Pte) (leaf : LeafPte) → level ≤ most_level → entry_next level kind e ≡ Ends (Leaf leaf) → IsSound leaf
+sound_entry : (count level : ℕ) (kind : Access) (e : Pte) (leaf : LeafPte) → level < count → entry_next level kind e ≡ Ends (Leaf leaf) → IsSound count leaf
 unfolding entry_next
-sound_entry level kind e leaf low is =
+sound_entry count level kind e leaf low is =
     let at = ends_at (is_valid e) (is_leaf e) (is_aligned level e.frame && is_marked kind e) (e.a || e.d || e.u || level == 0) (leaf_pte level e) leaf e.frame is in
     rw (← at.2) (record { level = low; right = at.1; write = λ written. writes e.v e.w e.r (e.reserved == 0) at.0 (and_parts e.w e.d written).0 })
 
-sound_path : (reading : EntryReading) (shape : Shape) (va : ℕ) (kind : Access) (leaf : LeafPte) (level table : ℕ) → level ≤ most_levels
-    → end_of kind (path_from reading shape va kind level table) ≡ Leaf leaf → IsSound leaf
+sound_path : (count : ℕ) (reading : EntryReading) (shape : Shape) (va : ℕ) (kind : Access) (leaf : LeafPte) (level table : ℕ) → level ≤ count
+    → end_of kind (path_from reading shape va kind level table) ≡ Leaf leaf → IsSound count leaf
 unfolding path_from end_of
-sound_path reading shape va kind leaf zero table low is = absurd cc
-sound_path reading shape va kind leaf (suc level) table low is =
-    by (place_of shape level table va) (reading (place_of shape level table va)) (λ t. sound_path reading shape va kind leaf level t (omega arith)) is
+sound_path count reading shape va kind leaf zero table low is = absurd cc
+sound_path count reading shape va kind leaf (suc level) table low is =
+    by (place_of shape level table va) (reading (place_of shape level table va)) (λ t. sound_path count reading shape va kind leaf level t (omega arith)) is
   where
-    next : (next : Next) → (next ≡ Ends (Leaf leaf) → IsSound leaf) → ((t : ℕ) → end_of kind (path_from reading shape va kind level t) ≡ Leaf leaf → IsSound leaf)
-        → or_else (end_of kind (later (path_from reading shape va kind level) next)) next ≡ Leaf leaf → IsSound leaf
+    next : (next : Next) → (next ≡ Ends (Leaf leaf) → IsSound count leaf) → ((t : ℕ) → end_of kind (path_from reading shape va kind level t) ≡ Leaf leaf → IsSound count leaf)
+        → or_else (end_of kind (later (path_from reading shape va kind level) next)) next ≡ Leaf leaf → IsSound count leaf
     next (Ends end) here deeper is = here (ap Ends is)
     next (Below t) here deeper is = deeper t is
 
-    by : (at : ℕ) (read : Result ℕ Trap) → ((t : ℕ) → end_of kind (path_from reading shape va kind level t) ≡ Leaf leaf → IsSound leaf)
-        → or_else (end_of kind (later (path_from reading shape va kind level) (read_next level at kind read))) (read_next level at kind read) ≡ Leaf leaf → IsSound leaf
-    by at (Ok word) deeper is = next (entry_next level kind (pte_of word)) (sound_entry level kind (pte_of word) leaf (omega arith)) deeper is
+    by : (at : ℕ) (read : Result ℕ Trap) → ((t : ℕ) → end_of kind (path_from reading shape va kind level t) ≡ Leaf leaf → IsSound count leaf)
+        → or_else (end_of kind (later (path_from reading shape va kind level) (read_next level at kind read))) (read_next level at kind read) ≡ Leaf leaf → IsSound count leaf
+    by at (Ok word) deeper is = next (entry_next level kind (pte_of word)) (sound_entry count level kind (pte_of word) leaf (omega arith)) deeper is
     by at (Err trap) deeper is = absurd cc
 
 -- the pages that a mode's tables translate
-small_page : (mode : GuestMode) (va : ℕ) → is_canonical (guest_shape mode) va ≡ true → va / 4096 < 2 ^ guest_page_bits
+small_page : (mode : GuestMode) (va : ℕ) → is_canonical (guest_shape mode) va ≡ true → va / 4096 < 2 ^ page_bits mode
 small_page Sv39x4 va is = let small = ltb-true va (2 ^ 41) is in omega (arith, small)
 small_page Sv48x4 va is = let small = ltb-true va (2 ^ guest_bits) is in omega (arith, small)
 
 sound_walk : (reading : EntryReading) (mode : GuestMode) (ppn va : ℕ) (kind : Access) (leaf : LeafPte) → walk reading ppn (guest_shape mode) va kind ≡ Leaf leaf
-    → (va / 4096 < 2 ^ guest_page_bits) × IsSound leaf
+    → (va / 4096 < 2 ^ page_bits mode) × IsSound (levels (guest_shape mode)) leaf
 unfolding walk path end_of
 sound_walk reading mode ppn va kind leaf is = by (is_canonical (guest_shape mode) va) refl is
   where
     by : (right : Bool) → is_canonical (guest_shape mode) va ≡ right → end_of kind (cond right (path_from reading (guest_shape mode) va kind (levels (guest_shape mode)) ppn) []) ≡ Leaf leaf
-        → (va / 4096 < 2 ^ guest_page_bits) × IsSound leaf
-    by true right is = (small_page mode va right, sound_path reading (guest_shape mode) va kind leaf (levels (guest_shape mode)) ppn (few_levels (guest_shape mode)) is)
+        → (va / 4096 < 2 ^ page_bits mode) × IsSound (levels (guest_shape mode)) leaf
+    by true right is = (small_page mode va right, sound_path (levels (guest_shape mode)) reading (guest_shape mode) va kind leaf (levels (guest_shape mode)) ppn (omega arith) is)
     by false right is = absurd cc
+
+-- are among those of any mode
+any_page : (mode : GuestMode) (page : ℕ) → page < 2 ^ page_bits mode → page < 2 ^ guest_page_bits
+any_page Sv39x4 page is = omega arith
+any_page Sv48x4 page is = is
 
 can_fill : (mxr : Bool) (ram blocks : List ℕ) (mode : GuestMode) (ppn address : ℕ) (kind : Access) (e : Entry) (leaf : LeafPte) → length ram ≡ length blocks * block_size
     → IsGiven mxr ram (guest_shape mode) ppn address kind e leaf → CanFill blocks e
@@ -93,10 +100,10 @@ can_fill mxr ram blocks mode ppn address kind e leaf size g =
     let low : ram_base ≤ leaf_address leaf address / 4096 * 4096 = leb-true ram_base (leaf_address leaf address / 4096 * 4096) parts.0 in
     let high : leaf_address leaf address / 4096 * 4096 + 4096 ≤ ram_base + length ram = leb-true (leaf_address leaf address / 4096 * 4096 + 4096) (ram_base + length ram) parts.1 in
     let one : CanFill blocks (entry_under leaf address) = record {
-      page = sound.0;
+      page = any_page mode (address / 4096) sound.0;
       from = low;
       to = below (leaf_address leaf address / 4096 * 4096) (length ram) (length blocks * block_size) size high;
-      level = sound.1.level;
+      level = low_level leaf.level (levels (guest_shape mode)) sound.1.level (few_levels (guest_shape mode));
       right = sound.1.right;
       write = sound.1.write;
     } in
@@ -105,6 +112,9 @@ can_fill mxr ram blocks mode ppn address kind e leaf size g =
     below : (place size other : ℕ) → size ≡ other → place + 4096 ≤ ram_base + size → place < ram_base + other
     below place size other same h = omega arith
 
+    low_level : (level count : ℕ) → level < count → count ≤ most_levels → level ≤ most_level
+    low_level level count under few = omega arith
+
 pub fills_can_be_made : FillsCanBeMade
 unfolding entry_by_walk
 fills_can_be_made csrs ram blocks address kind e size found = by csrs.hgatp found
@@ -112,3 +122,14 @@ fills_can_be_made csrs ram blocks address kind e size found = by csrs.hgatp foun
     by : (hgatp : GuestRoot) → entry_by_table csrs.hs.status.mxr ram address kind hgatp ≡ Some e → CanFill blocks e
     by root.Bare is = absurd cc
     by (root.Table mode vmid ppn) is = let g = given csrs.hs.status.mxr ram (guest_shape mode) ppn address kind e is in can_fill csrs.hs.status.mxr ram blocks mode ppn address kind e g.0 size g.1
+
+-- and one that the table of its walk can give
+pub of_table : (csrs : Csrs) (ram : List ℕ) (address : ℕ) (kind : Access) (e : Entry) → entry_by_walk csrs ram address kind ≡ Some e → IsOfTable csrs.hgatp e
+unfolding entry_by_walk
+of_table csrs ram address kind e found = by csrs.hgatp found
+  where
+    by : (hgatp : GuestRoot) → entry_by_table csrs.hs.status.mxr ram address kind hgatp ≡ Some e → IsOfTable hgatp e
+    by root.Bare is = absurd cc
+    by (root.Table mode vmid ppn) is = let g = given csrs.hs.status.mxr ram (guest_shape mode) ppn address kind e is in
+        let sound = sound_walk (memory_words ram_base ram) mode (guest_root_frame ppn) address kind g.0 g.1.walked in
+        rw g.1.is (sound.0, sound.1.level)

@@ -16,6 +16,7 @@ pub mod HostPlaces
 pub mod InRam
 pub mod KeptByRuns
 pub mod KeyedEntries
+pub mod Keys
 pub mod Leaves
 pub mod OpWidths
 pub mod Orderly
@@ -30,4 +31,5 @@ pub mod StorableRuns
 pub mod StorableStates
 pub mod StoredForms
 pub mod TryEnds
+pub mod UnreadInputs
 pub mod Walks

@@ -91,7 +91,7 @@ atp_stored kept v is = by (supervisor_mode_of (field 60 4 v))
     by (Some mode) = atp_table mode (field 44 16 v) (field 0 44 v) (omega arith) (omega arith)
     by None = either AtpStored (field 60 4 v == 0) supervisor.Bare kept atp_bare is
 
-abbrev HgatpStored : GuestRoot → Type 0
+abbrev pub HgatpStored : GuestRoot → Type 0
 HgatpStored root = guest_root_of (hgatp_bits root) ≡ root
 
 hgatp_bare : HgatpStored guest.Bare
@@ -120,7 +120,7 @@ hgatp_table mode vmid ppn of_7 whole of_44 = by (guest_mode_number mode) (guest_
         let last : field 2 42 (number * 2 ^ 60 + vmid % 2 ^ 7 * 2 ^ 44 + field 2 42 ppn * 2 ^ 2) * 2 ^ 2 ≡ ppn = omega (arith, whole, of_44) in
         rw (high, is, first, last) refl
 
-hgatp_stored : (v : ℕ) → HgatpStored (guest_root_of v)
+pub hgatp_stored : (v : ℕ) → HgatpStored (guest_root_of v)
 unfolding guest_root_of
 hgatp_stored v = by (guest_mode_of (field 60 4 v))
   where
@@ -175,7 +175,7 @@ hypervisor_stored csrs Htval v is = λ i. record (is i) { htval = v }
 hypervisor_stored csrs Htinst v is = λ i. record (is i) { htinst = v }
 hypervisor_stored csrs Hgatp v is = λ i. record (is i) { hgatp = hgatp_stored v i }
 
-written_stored : (csrs : Csrs) (r : Register) (v : ℕ) → CsrsStored csrs → CsrsStored (written csrs r v)
+pub written_stored : (csrs : Csrs) (r : Register) (v : ℕ) → CsrsStored csrs → CsrsStored (written csrs r v)
 unfolding written
 written_stored csrs (Supervisor r) v is = λ i. record (is i) { hs = supervisor_stored csrs.hs r v (ap (λ c. c.hs) is) i }
 written_stored csrs (VirtualSupervisor r) v is = λ i. record (is i) { vs = supervisor_stored csrs.vs r v (ap (λ c. c.vs) is) i }

@@ -3,6 +3,8 @@ pub mod EachEntry
 pub mod InstructionEnds
 pub mod StorableStates
 pub mod Keeping
+pub mod Keys
+pub mod UnreadInputs
 -- Fills of a step, and how many there are
 pub mod Budgets
 pub mod FrontSpaces

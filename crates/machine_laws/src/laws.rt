@@ -4,11 +4,13 @@ ghost use Rattle.machine_laws.specs.Budgets.{BudgetIsSmall, FillGoes, FillIsNoEv
 ghost use Rattle.machine_laws.specs.Caching.{FencedByWalks, FoldingRunsAreActive, GuestsAreArchitectural, GuestsCacheFresh, GuestsUseFresh, RunsAreArchitectural, RunsCacheFresh, RunsUseFresh, UncachedByWalks};
 ghost use Rattle.machine_laws.specs.HostPlaces.{OnlyRamChanges, PlacesAreRenamed, RamIsRenamed, RamIsStored};
 ghost use Rattle.machine_laws.specs.Keeping.{FillKeepsOrderly, RunKeepsOrderly, StartIsOrderly, TryKeepsOrderly};
+ghost use Rattle.machine_laws.specs.Keys.{RunKeepsKeys, RunKeepsTables, StartHasKeys};
 ghost use Rattle.machine_laws.specs.Laws.{EventsCompose, FewFills, FillsAreWalks, FillsCanBeMade, FillsGoOn, FillsServeThePage, FillsSuffice, FillsSufficeForGuests, FlatIsRam, FlatMissesNothing, FoldsByFront, FrontGivesPlaces, InterruptedMissesNothing, MissingEntriesAreRead, MoreChangeNothing, OnlySpaces, PageHasOneEntry, RunsCompose, StepsEndByRule, StepsGoOn, StepsSettle, StopsAreFaults, TriesChangeSpaces, TriesEndByRule};
 ghost use Rattle.machine_laws.specs.Renaming.{CoreKeepsWithin, RenamedCore};
 ghost use Rattle.machine_laws.specs.Reservations.{FillKeepsInRam, GivesRamAlone, RunKeepsInRam, StartIsInRam, TryKeepsInRam};
 ghost use Rattle.machine_laws.specs.ShortRuns.{FencedFaults, FencedFaultsFreely, MayDropStale, MayUseStale, StaleIsUsed};
 ghost use Rattle.machine_laws.specs.StorableStates.{FillStaysStorable, RunKeepsStorable, StartIsStorable, TryKeepsStorable};
+ghost use Rattle.machine_laws.specs.UnreadInputs.{RunKeepsInputs, StartHasInputs};
 
 /// Runs compose: a run of `a` steps and then of `b` is a run of `a + b`, and so are its events.
 pub fn runs_compose()
@@ -133,6 +135,23 @@ pub fn machines_stay_storable()
     ensures filled { FillStaysStorable }
     ensures tried { TryKeepsStorable }
     ensures runs { RunKeepsStorable }
+{}
+
+/// Each space is for a value of hgatp that can be stored and names a table, and its entries are such as a
+/// table of this MODE can give: their pages have 29 bits or 38, and their levels are below 3 or 4. So it is at
+/// a guest's start, and after a run of any number of steps.
+pub fn spaces_stay_keyed()
+    ensures start { StartHasKeys }
+    ensures keys { RunKeepsKeys }
+    ensures entries { RunKeepsTables }
+{}
+
+/// The inputs that are unread are such as a guest may be given: at most 65,536, their moments below 2^62 and
+/// none less than the one before. So it is at a guest's start, whose inputs they are, and after a run of any
+/// number of steps.
+pub fn inputs_stay_in_order()
+    ensures start { StartHasInputs }
+    ensures runs { RunKeepsInputs }
 {}
 
 /// Every run of a lone machine is architectural: it is one that a machine may make which caches second-stage
