@@ -10,9 +10,9 @@ use crate::reach::{named, named_to_write};
 use crate::supervisors::{supervisor_shown, write_supervisor};
 use arch_defs::{CsrEnd, Csrs, Mode, Register};
 
-// What a register shows.
+/// What a register shows.
 #[tactic(auto, unfolding(arch_defs::specs::CsrAccess::shown))]
-fn shown(csrs: &Csrs, register: Register) -> u64
+pub fn shown(csrs: &Csrs, register: Register) -> u64
     ensures { result ≡ shown csrs.now register }
 {
     match register {
@@ -26,9 +26,9 @@ fn shown(csrs: &Csrs, register: Register) -> u64
     }
 }
 
-// Changes what a write of a register changes.
+/// Changes what a write of a register changes.
 #[tactic(auto, unfolding(arch_defs::specs::CsrAccess::written))]
-fn write_register(csrs: &mut Csrs, register: Register, value: u64)
+pub fn write_register(csrs: &mut Csrs, register: Register, value: u64)
     ensures { csrs.new ≡ written csrs.old register value }
 {
     match register {

@@ -9,7 +9,7 @@ mod names;
 mod reach;
 mod supervisors;
 
-pub use access::{read, write};
+pub use access::{read, shown, write, write_register};
 pub use arch_defs::CsrEnd;
 pub use hypervisors::hedeleg_bits;
 pub use laws::{illegal_as_in_hs, leaves_others, reads_back, reads_what_was_written};

@@ -1,0 +1,67 @@
+-- A front that is compared with the bytes that a machine was read from.
+use Rattle.std.specs.Prelude.{bytes_eq}
+use Rattle.std.specs.Bool.{Decides}
+use Rattle.std.proofs.Common.{◌≡◌, ℕ, ◌-◌, inl, inr, Bool, true, false, cond, List, [], ◌∷◌, length, take, drop, refl, ap, ◌∙◌, sym, arith}
+use Rattle.std.proofs.lemmas.Bool.{false≢true}
+use Rattle.std.proofs.lemmas.Slice.Eq.{bytes_eq-Decides}
+use Rattle.guest_save.proofs.ReadMachines.{ram_begins}
+use Rattle.guest_save.proofs.RoundTrip.{front_decides}
+use Rattle.guest_save.specs.Forms.{form, front_form}
+use Rattle.guest_save.specs.Reading.{machine_in}
+use Rattle.machine_defs.specs.Machine.{Machine}
+use Rattle.outside.specs.Faults.{Rose}
+use Rattle.outside.specs.Pieces.{Appends}
+use Rattle.replay.specs.declared.comparisons.Verdict.{Verdict}
+use Rattle.replay.specs.declared.comparisons.Verdict.TheVariants.{Same, Differs}
+use Rattle.replay.specs.Comparisons.{Comparison, Saw, agreeing, verdict_of}
+
+-- a comparison that has seen nothing
+compared_nothing : (expected : List ℕ) → Saw (record { expected = expected; place = 0; differs = false }) []
+unfolding agreeing
+compared_nothing [] = record { place = refl; differs = refl }
+compared_nothing (a ∷ expected) = record { place = refl; differs = refl }
+
+-- what it says after a text was put
+pub says_of_text : (first last : Comparison) (expected text : List ℕ) (found : Verdict) → first ≡ record { expected = expected; place = 0; differs = false }
+    → Appends Saw first last text → last.expected ≡ first.expected → ((bytes : List ℕ) → Saw last bytes → found ≡ verdict_of last.expected bytes)
+    → found ≡ verdict_of expected text
+says_of_text first last expected text found new put same says =
+    let began : Saw first [] = rw new (compared_nothing expected) in
+    says text (put [] began) ∙ ap (λ (e : List ℕ). verdict_of e text) (same ∙ ap (λ (c : Comparison). c.expected) new)
+
+-- that it is the same is said exactly of what was expected
+pub same_is : (expected text : List ℕ) → Same ≡ verdict_of expected text → expected ≡ text
+same_is expected text = by (bytes_eq expected text) (bytes_eq-Decides expected text)
+  where
+    by : (b : Bool) → Decides b (expected ≡ text) → Same ≡ cond b Same (Differs (agreeing expected text)) → expected ≡ text
+    by true tells said = tells.0 refl
+    by false tells said = absurd cc
+
+pub differs_is : (expected text : List ℕ) (n : ℕ) → Differs n ≡ verdict_of expected text → expected ≡ text → ⊥
+differs_is expected text n = by (bytes_eq expected text) (bytes_eq-Decides expected text)
+  where
+    by : (b : Bool) → Decides b (expected ≡ text) → Differs n ≡ cond b Same (Differs (agreeing expected text)) → expected ≡ text → ⊥
+    by true tells said = absurd cc
+    by false tells said = λ same. absurd (false≢true (tells.1 same))
+
+-- what the comparison of a front says of a whole form
+pub record TellsForm (m : Machine) (bytes : List ℕ) (found : Verdict) : Type 0 where
+  pub same : Same ≡ found → form m ≡ bytes
+  pub differs : (n : ℕ) → Differs n ≡ found → form m ≡ bytes → ⊥
+
+pub tells_form : (m : Machine) (bytes : List ℕ) (k : ℕ) (first last : Comparison) (found : Verdict) → m ≡ machine_in bytes → k ≡ length bytes - length m.ram
+    → first ≡ record { expected = take k bytes; place = 0; differs = false } → Appends Saw first last (front_form m) → last.expected ≡ first.expected
+    → ((seen : List ℕ) → Saw last seen → found ≡ verdict_of last.expected seen) → TellsForm m bytes found
+tells_form m bytes k first last found read place new put stays says =
+    let begins = ram_begins bytes m read in
+    let decides = front_decides m bytes k (omega (arith, place)) (begins.1 ∙ ap (λ (n : ℕ). drop n bytes) (sym place)) in
+    let is = says_of_text first last (take k bytes) (front_form m) found new put stays says in
+    record {
+      same = λ same. decides.0 (sym (same_is (take k bytes) (front_form m) (same ∙ is)));
+      differs = λ n differs whole. differs_is (take k bytes) (front_form m) n (differs ∙ is) (sym (decides.1 whole));
+    }
+
+-- a count of faults that stands at 0 did not rise
+pub never_rose : {P : Type 0} → Rose 0 0 → P
+never_rose (inl a) = absurd (omega (arith, a))
+never_rose (inr b) = absurd (omega (arith, b))

@@ -1,0 +1,134 @@
+-- A machine that can be saved goes on, and that of each guest can be saved at its start.
+use Rattle.std.specs.List.{All, list_all}
+use Rattle.std.specs.Prelude.{nat_lt}
+use Rattle.std.proofs.Common.{◌≡◌, ℕ, ◌+◌, ◌-◌, ◌*◌, ◌^◌, ◌≤◌, true, List, [], ◌∷◌, ◌++◌, length, replicate, refl, ap, ◌∙◌, sym, arith, length-append}
+use Rattle.std.proofs.lemmas.Bool.{and_parts, ltb-true, true≢false}
+use Rattle.std.proofs.lemmas.List.{length-replicate}
+use Rattle.std.proofs.lemmas.List.Elements.{All-append, All-cons, All-nil, All-weaker}
+use Rattle.arch_defs.specs.declared.cached.Entry.{Entry}
+use Rattle.arch_defs.specs.declared.roots.GuestMode.TheVariants.{Sv39x4, Sv48x4}
+use Rattle.arch_defs.specs.declared.roots.GuestRoot.{GuestRoot}
+use Rattle.arch_defs.specs.declared.roots.GuestRoot.TheVariants.{Bare, Table}
+use Rattle.arch_defs.specs.CsrAccess.{enable_shown, hypervisor_shown, interrupts_shown, shown, supervisor_shown}
+use Rattle.arch_defs.specs.CsrBits.{epc_bits, hedeleg_bits, hgatp_bits, hip_bits, hstatus_bits, satp_bits, sip_bits, sstatus_bits, tvec_bits}
+use Rattle.arch_defs.specs.Memory.{loaded, zeros}
+use Rattle.arch_defs.specs.Spaces.{Space}
+use Rattle.guest_save.proofs.RoundTrip.{round_trip}
+use Rattle.guest_save.specs.Headers.{blocks_of, head_numbers, header_numbers, header_of, numbered, state_numbers}
+use Rattle.guest_save.specs.Laws.{CanStart, ResumedGoesOn, SavableGoesOn, SavableIsFilled, SavedUseFresh, StartIsSavable}
+use Rattle.guest_save.specs.Savable.{Fits, IsSavableEntry, IsSavableSpace, pages_of, top_level_of}
+use Rattle.guest_specs.specs.declared.guests.GuestSpec.{GuestSpec}
+use Rattle.machine_defs.specs.Machine.{Machine, start}
+use Rattle.machine_defs.specs.Runs.{run}
+use Rattle.machine_laws.proofs.FreshRuns.{runs_use_fresh}
+use Rattle.machine_laws.proofs.InRam.{start_is_in_ram}
+use Rattle.machine_laws.proofs.Running.{runs_compose}
+use Rattle.machine_laws.proofs.StorableRuns.{start_is_storable}
+use Rattle.machine_laws.specs.Reservations.{IsInRam}
+
+entry_in_ram : (key : GuestRoot) (size : ℕ) (e : Entry) → IsSavableEntry key size e → IsInRam size e
+entry_in_ram key size e is = is.frame
+
+space_in_ram : (size room : ℕ) (s : Space) → IsSavableSpace size room s → All (IsInRam size) s.entries
+space_in_ram size room s is = All-weaker (IsSavableEntry s.key size) (IsInRam size) (entry_in_ram s.key size) s.entries is.entries
+
+pub savable_goes_on : SavableGoesOn
+savable_goes_on m savable = record {
+  orderly = record {
+    entries = omega (arith, savable.sizes.some_entries);
+    spaces = savable.sizes.some_space;
+    front = savable.front;
+  };
+  caches = All-weaker (IsSavableSpace (length m.ram) m.entry_room) (λ s. All (IsInRam (length m.ram)) s.entries)
+      (space_in_ram (length m.ram) m.entry_room) m.spaces savable.spaces;
+  reserves = savable.reservation;
+  whole = omega (arith, savable.sizes.whole);
+}
+
+pages_few : (key : GuestRoot) → pages_of key ≤ 2 ^ 38
+pages_few Bare = omega arith
+pages_few (Table Sv39x4 vmid ppn) = omega arith
+pages_few (Table Sv48x4 vmid ppn) = omega arith
+
+level_low : (key : GuestRoot) → top_level_of key ≤ 3
+level_low Bare = omega arith
+level_low (Table Sv39x4 vmid ppn) = omega arith
+level_low (Table Sv48x4 vmid ppn) = omega arith
+
+pub savable_is_filled : SavableIsFilled
+savable_is_filled key blocks e is = record {
+  page = omega (arith, is.page, pages_few key);
+  from = omega (arith, is.frame.0);
+  to = omega (arith, is.frame.1);
+  level = omega (arith, is.level, level_low key);
+  right = is.right;
+  write = is.write;
+}
+
+-- the numbers of the start
+fit_by_test : (ns : List ℕ) → list_all (λ n. nat_lt n (2 ^ 64)) ns ≡ true → All Fits ns
+fit_by_test [] is = All-nil Fits
+fit_by_test (n ∷ ns) is =
+    let parts = and_parts (nat_lt n (2 ^ 64)) (list_all (λ n. nat_lt n (2 ^ 64)) ns) is in
+    All-cons Fits n ns (ltb-true n (2 ^ 64) parts.0) (fit_by_test ns parts.1)
+
+loaded_length : (size : ℕ) (image : List ℕ) → length image ≤ size → length (loaded size image) ≡ size
+unfolding loaded zeros
+loaded_length size image fits = omega (arith, length-append image (replicate (size - length image) 0), length-replicate {A = ℕ} (size - length image) 0)
+
+head_fits : (guest : GuestSpec) → CanStart guest → blocks_of (start guest) ≡ guest.blocks → All Fits (head_numbers (header_of (start guest)))
+unfolding start
+head_fits guest can blocks =
+    let rest : List ℕ = 0 ∷ 0 ∷ 0 ∷ 18446744073709551615 ∷ 0 ∷ 2147483648 ∷ [] in
+    All-cons Fits (blocks_of (start guest)) (guest.spaces ∷ guest.entries ∷ guest.console ∷ rest) (omega (arith, blocks, can.blocks))
+    (All-cons Fits guest.spaces (guest.entries ∷ guest.console ∷ rest) (omega (arith, can.spaces))
+    (All-cons Fits guest.entries (guest.console ∷ rest) (omega (arith, can.entries))
+    (All-cons Fits guest.console rest (omega (arith, can.console)) (fit_by_test rest refl))))
+
+rest_fit : (guest : GuestSpec) → All Fits (numbered (start guest).platform.virt.regs ++ state_numbers (start guest).platform.virt)
+unfolding start shown supervisor_shown interrupts_shown enable_shown hypervisor_shown sstatus_bits sip_bits tvec_bits epc_bits satp_bits hstatus_bits hedeleg_bits hip_bits hgatp_bits
+rest_fit guest = fit_by_test (numbered (start guest).platform.virt.regs ++ state_numbers (start guest).platform.virt) refl
+
+numbers_fit : (guest : GuestSpec) → CanStart guest → blocks_of (start guest) ≡ guest.blocks → All Fits (header_numbers (header_of (start guest)))
+numbers_fit guest can blocks =
+    All-append Fits (head_numbers (header_of (start guest))) (numbered (start guest).platform.virt.regs ++ state_numbers (start guest).platform.virt)
+    (head_fits guest can blocks) (rest_fit guest)
+
+pub start_is_savable : StartIsSavable
+unfolding start
+start_is_savable guest can =
+    let m = start guest in
+    let ram : length m.ram ≡ guest.blocks * 2097152 = loaded_length (guest.blocks * 2097152) guest.image can.image in
+    let blocks : blocks_of m ≡ guest.blocks = omega (arith, ram) in
+    record {
+      sizes = record {
+        whole = omega (arith, ram, blocks);
+        some_block = omega (arith, blocks, can.some_block);
+        most_blocks = omega (arith, blocks, can.blocks);
+        some_space = can.some_space;
+        most_spaces = can.spaces;
+        some_entries = can.some_entries;
+        most_entries = can.entries;
+        most_console = can.console;
+      };
+      console = omega arith;
+      inputs = can.inputs;
+      registers = length-replicate {A = ℕ} 32 0;
+      virt = start_is_storable guest;
+      numbers = numbers_fit guest can blocks;
+      lines = refl;
+      steps = omega arith;
+      clock = omega arith;
+      reservation = (start_is_in_ram guest).1;
+      few = omega arith;
+      spaces = All-nil (IsSavableSpace (length m.ram) m.entry_room);
+      keys = λ i j d before within. absurd (omega arith);
+      front = λ folds. absurd (true≢false (sym folds));
+    }
+
+-- a machine that was read goes on as the one that was saved
+pub resumed_goes_on : ResumedGoesOn
+resumed_goes_on m a b savable = ap (λ (read : Machine). run read b) (round_trip (run m a) savable) ∙ runs_compose m a b
+
+pub saved_use_fresh : SavedUseFresh
+saved_use_fresh saved n m k orderly none is = runs_use_fresh m (k + n) orderly none

@@ -1,0 +1,13 @@
+pub mod Bits
+pub mod Buffering
+pub mod Comparing
+pub mod CountedParts
+pub mod Eights
+pub mod GoingOn
+pub mod Parsing
+pub mod ReadMachines
+pub mod RoundTrip
+pub mod StoredRegisters
+pub mod Testing
+pub mod Viewing
+pub mod WrittenRam

@@ -1,0 +1,87 @@
+-- What reading gives by itself, whatever the bytes are.
+use Rattle.std.specs.List.{All}
+use Rattle.std.specs.Prelude.{nat_le}
+use Rattle.std.proofs.Common.{◌≡◌, ℕ, zero, suc, ◌+◌, ◌-◌, ◌*◌, ◌≤◌, Bool, List, length, take, drop, min, refl, ap, ◌∙◌, sym, arith}
+use Rattle.std.proofs.Math.Nat.{min-le_right}
+use Rattle.std.proofs.lemmas.Bool.{cond_both, leb-true}
+use Rattle.std.proofs.lemmas.List.{drop-drop, drop_min, length-drop}
+use Rattle.std.proofs.lemmas.List.Elements.{All-cons, All-nil}
+use Rattle.arch_defs.specs.CsrBits.{guest_root_of, hgatp_bits}
+use Rattle.guest_save.proofs.Eights.{items_length}
+use Rattle.guest_save.proofs.StoredRegisters.{read_is_stored}
+use Rattle.guest_save.specs.Headers.{header_in}
+use Rattle.guest_save.specs.Numbers.{number_in, numbers_in}
+use Rattle.guest_save.specs.Reading.{after_space, after_spaces, capped, count_in, from_console, from_inputs, from_spaces, input_of, inputs_in, machine_in, machine_with, space_in, spaces_in}
+use Rattle.guest_save.specs.Registers.{csrs_in}
+use Rattle.guest_save.specs.Tests.{IsRead}
+use Rattle.machine_defs.specs.Machine.{Machine, with_lines}
+use Rattle.machine_laws.proofs.StoredForms.{hgatp_stored}
+use Rattle.machine_laws.specs.StorableStates.{stored_form}
+
+capped_most : (most n : ℕ) → capped most n ≤ most
+capped_most most n = cond_both (nat_le n most) n most (λ (x : ℕ). x ≤ most) (λ is. leb-true n most is) (λ is. omega arith)
+
+lines_stored : (ns : List ℕ) (time : ℕ) (timer external : Bool) → stored_form (with_lines (csrs_in ns) time timer external) ≡ with_lines (csrs_in ns) time timer external
+lines_stored ns time timer external = let is = read_is_stored ns in let lines = with_lines (csrs_in ns) time timer external in
+    λ i. record (is i) { sip = lines.sip; time = time }
+
+keys_stored : (count : ℕ) (bytes : List ℕ) → All (λ s. guest_root_of (hgatp_bits s.key) ≡ s.key) (spaces_in count bytes)
+unfolding spaces_in
+keys_stored zero bytes = All-nil (λ s. guest_root_of (hgatp_bits s.key) ≡ s.key)
+keys_stored (suc count) bytes =
+    All-cons (λ s. guest_root_of (hgatp_bits s.key) ≡ s.key) (space_in bytes) (spaces_in count (after_space bytes))
+    (hgatp_stored (number_in bytes)) (keys_stored count (after_space bytes))
+
+parts_read : (ns console : List ℕ) (count : ℕ) (bytes : List ℕ) (spaces : ℕ) (rest ram : List ℕ) → count ≤ 65536
+    → IsRead (machine_with (header_in ns) console (inputs_in count bytes) (spaces_in spaces rest) ram)
+unfolding header_in
+parts_read ns console count bytes spaces rest ram few = record {
+  x0 = refl;
+  csrs = lines_stored (drop 41 ns) _ _ _;
+  lines = refl;
+  inputs = omega (arith, items_length input_of 9 count bytes, few);
+  keys = keys_stored spaces rest;
+}
+
+pub read_is : (bytes : List ℕ) → IsRead (machine_in bytes)
+unfolding machine_in from_console from_inputs from_spaces
+read_is bytes =
+    let first = drop 584 bytes in
+    let console = count_in 1048576 first in
+    let second = drop console (drop 8 first) in
+    let inputs = count_in 65536 second in
+    let third = drop (9 * inputs) (drop 8 second) in
+    let spaces = count_in 8 third in
+    parts_read (numbers_in 72 (drop 8 bytes)) (take console (drop 8 first)) inputs (drop 8 second) spaces (drop 8 third) (after_spaces spaces (drop 8 third))
+    (capped_most 65536 (number_in second))
+
+-- RAM is an end of the bytes
+abbrev pub IsEnd : List ℕ → List ℕ → Type 0
+IsEnd rest bytes = (k : ℕ) × (k ≤ length bytes) × (rest ≡ drop k bytes)
+
+end_all : (bytes : List ℕ) → IsEnd bytes bytes
+end_all bytes = (0, omega arith, refl)
+
+end_drop : (n : ℕ) (rest bytes : List ℕ) → IsEnd rest bytes → IsEnd (drop n rest) bytes
+end_drop n rest bytes (k, within, is) =
+    (min (k + n) (length bytes), min-le_right (k + n) (length bytes), ap (λ (xs : List ℕ). drop n xs) is ∙ drop-drop n k bytes ∙ sym (drop_min (k + n) bytes))
+
+end_spaces : (count : ℕ) (rest bytes : List ℕ) → IsEnd rest bytes → IsEnd (after_spaces count rest) bytes
+unfolding after_spaces
+end_spaces zero rest bytes is = is
+end_spaces (suc count) rest bytes is = end_spaces count (after_space rest) bytes (end_drop _ _ bytes (end_drop 16 rest bytes is))
+
+pub ram_is_end : (bytes : List ℕ) → IsEnd (machine_in bytes).ram bytes
+unfolding machine_in from_console from_inputs from_spaces
+ram_is_end bytes =
+    end_spaces _ _ bytes (end_drop 8 _ bytes (end_drop _ _ bytes (end_drop 8 _ bytes (end_drop _ _ bytes (end_drop 8 _ bytes (end_drop 584 bytes bytes (end_all bytes)))))))
+
+-- so it begins where as many bytes are left as it has
+pub ram_begins : (bytes : List ℕ) (m : Machine) → m ≡ machine_in bytes → (length m.ram ≤ length bytes) × (m.ram ≡ drop (length bytes - length m.ram) bytes)
+ram_begins bytes m is = by m (rw is (ram_is_end bytes))
+  where
+    by : (m : Machine) → IsEnd m.ram bytes → (length m.ram ≤ length bytes) × (m.ram ≡ drop (length bytes - length m.ram) bytes)
+    by m (k, within, is) =
+        let size : length m.ram ≡ length bytes - k = ap length is ∙ length-drop k bytes in
+        let place : k ≡ length bytes - length m.ram = omega (arith, size, within) in
+        (omega (arith, size), is ∙ ap (λ (n : ℕ). drop n bytes) place)

@@ -1,0 +1,9 @@
+-- A machine as its parts in code say it.
+use Rattle.std.proofs.Common.{◌≡◌, sym}
+use Rattle.guest_save.specs.declared.machine_parts.MachineParts.TheInside.{Inside}
+use Rattle.guest_save.specs.Headers.{header_of}
+use Rattle.guest_save.specs.View.{HasBlocks, machine_of}
+
+-- its header is the one that is kept
+pub header_same : (parts : Inside) → HasBlocks parts → header_of (machine_of parts) ≡ parts.header
+header_same parts blocks = λ i. record parts.header { blocks = sym blocks i }

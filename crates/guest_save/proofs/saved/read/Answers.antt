@@ -1,0 +1,17 @@
+use Rattle.std.proofs.Common.{ap, ◌∙◌, subst, sym}
+use Rattle.std.proofs.lemmas.Bool.{false≢true}
+use Rattle.guest_save.proofs.ReadMachines.{read_is}
+use Rattle.guest_save.proofs.RoundTrip.{bad_exactly}
+use Rattle.guest_save.specs.Forms.{form}
+use Rattle.guest_save.specs.Savable.{IsSavable}
+use Rattle.guest_save.specs.Tests.{IsRead}
+use Rattle.guest_save.proofs.saved.read.Goals as goal
+
+pub is_saved-requires-clause-read : goal.is_saved-requires-clause-read
+is_saved-requires-clause-read c = subst IsRead (sym c.in_ok-parts.ensures) (read_is c.args.bytes.now)
+
+pub returns-then-not-is_saved-clause-bad : goal.returns-then-not-is_saved-clause-bad
+returns-then-not-is_saved-clause-bad c = λ is.
+    let read = c.in_ok-parts.ensures in
+    bad_exactly c.args.bytes.now
+    (λ savable same. absurd (false≢true (sym c.if-not-is_saved.true ∙ c.is_saved.ensures.1 (subst IsSavable (sym read) savable, ap form read ∙ same))))

@@ -1,0 +1,12 @@
+use Rattle.std.specs.Prelude.{Err}
+use Rattle.std.proofs.Common.{◌≡◌, rules}
+use Rattle.guest_save.proofs.Buffering.{buffers_stopped, buffers_then}
+use Rattle.guest_save.proofs.writing.append_inputs_on.Goals as goal
+
+pub returns-in_err-append_inputs : goal.returns-in_err-append_inputs
+returns-in_err-append_inputs g c =
+    let is : c.from_residual.result ≡ Err c.in_err-append_inputs.field-0.0 = search rules in
+    rw is ((buffers_stopped g.O.Sink c.in_err-append_inputs.field-0.0 c.args.out.now c.append_inputs.new.out c.args.held.now.items c.append_inputs.new.held.items _ _ (rw c.inputs.ensures at c.in_err-append_inputs.ensures)))
+
+pub returns : goal.returns
+returns g c = (buffers_then g.O.Sink tt c.append_from_spaces.result c.args.out.now c.append_inputs.new.out c.append_from_spaces.new.out c.args.held.now.items c.append_inputs.new.held.items c.append_from_spaces.new.held.items _ _ (rw c.inputs.ensures at c.in_ok-append_inputs.ensures) c.append_from_spaces.ensures)

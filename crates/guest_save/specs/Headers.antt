@@ -1,0 +1,93 @@
+-- The header of a form: the 72 numbers that a form of each machine has (own).
+use Rattle.std.specs.Prelude.{ℕ, ◌/◌, ◌%◌, List, [], ◌∷◌, ◌++◌, Option, Some, None, length, drop, take, slice_index, ◌==◌, if◌then◌else◌}
+use Rattle.arch_defs.specs.declared.modes.Mode.{Mode}
+use Rattle.arch_defs.specs.declared.modes.Mode.TheVariants.{HS, U, VS, VU}
+use Rattle.arch_defs.specs.declared.registers.Regs.{Regs}
+use Rattle.arch_defs.specs.declared.registers.Virtual.{Virtual}
+use Rattle.arch_defs.specs.Memory.{block_size}
+use Rattle.guest_specs.specs.declared.statuses.Status.{Status}
+use Rattle.guest_specs.specs.declared.statuses.Status.TheVariants.{Running, Waiting, Stopped}
+use Rattle.guest_save.specs.declared.headers.Header.{Header}
+use Rattle.guest_save.specs.Registers.{csr_numbers, csrs_in}
+use Rattle.machine_defs.specs.Machine.{Machine}
+
+abbrev pub status_number : Status → ℕ
+status_number Running = 0
+status_number Waiting = 1
+status_number Stopped = 2
+
+abbrev pub mode_number : Mode → ℕ
+mode_number HS = 0
+mode_number U = 1
+mode_number VS = 2
+mode_number VU = 3
+
+-- a reservation: its width and its address, or twice 0
+abbrev pub reservation_numbers : Option (ℕ × ℕ) → List ℕ
+reservation_numbers None = 0 ∷ 0 ∷ []
+reservation_numbers (Some (place, bytes)) = bytes ∷ place ∷ []
+
+-- sizes, progress, mode and pc
+abbrev pub head_numbers : Header → List ℕ
+head_numbers h =
+    h.blocks ∷ h.spaces ∷ h.entries ∷ h.console ∷ status_number h.status ∷ h.steps ∷ h.time ∷ h.timer
+    ∷ mode_number h.state.mode ∷ h.state.regs.pc ∷ []
+
+-- control and status registers, and the reservation
+abbrev pub state_numbers : Virtual → List ℕ
+state_numbers state = csr_numbers state.csrs ++ reservation_numbers state.reservation
+
+-- x1 to x31
+abbrev pub numbered : Regs → List ℕ
+numbered regs = take 31 (drop 1 regs.x)
+
+-- all of them
+abbrev pub header_numbers : Header → List ℕ
+header_numbers h = head_numbers h ++ (numbered h.state.regs ++ state_numbers h.state)
+
+-- how many blocks of RAM a machine has
+abbrev pub blocks_of : Machine → ℕ
+blocks_of m = length m.ram / block_size
+
+-- the header of a machine
+abbrev pub header_of : Machine → Header
+header_of m = record {
+  blocks = blocks_of m;
+  spaces = m.space_room;
+  entries = m.entry_room;
+  console = m.platform.console.room;
+  status = m.platform.status;
+  steps = m.platform.steps;
+  time = m.platform.clock.time;
+  timer = m.platform.clock.timer;
+  state = m.platform.virt;
+}
+
+-- a status, a mode and a reservation, whatever the numbers are
+abbrev pub status_of : ℕ → Status
+status_of n = if n == 0 then Running else if n == 1 then Waiting else Stopped
+
+abbrev pub mode_of : ℕ → Mode
+mode_of n = if n == 0 then HS else if n == 1 then U else if n == 2 then VS else VU
+
+abbrev pub reservation_of : ℕ → ℕ → Option (ℕ × ℕ)
+reservation_of width place = if width == 0 then None else Some (place, width % 256)
+
+-- the header of 72 numbers
+unfoldable pub header_in : List ℕ → Header
+header_in ns = record {
+  blocks = slice_index ns 0;
+  spaces = slice_index ns 1;
+  entries = slice_index ns 2;
+  console = slice_index ns 3;
+  status = status_of (slice_index ns 4);
+  steps = slice_index ns 5;
+  time = slice_index ns 6;
+  timer = slice_index ns 7;
+  state = record {
+    regs = record { x = 0 ∷ take 31 (drop 10 ns); pc = slice_index ns 9 };
+    csrs = csrs_in (drop 41 ns);
+    mode = mode_of (slice_index ns 8);
+    reservation = reservation_of (slice_index ns 70) (slice_index ns 71);
+  };
+}

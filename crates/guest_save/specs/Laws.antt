@@ -1,0 +1,82 @@
+-- Laws of the form.
+use Rattle.std.specs.Prelude.{ℕ, ◌≡◌, ◌+◌, ◌*◌, ◌%◌, ◌≤◌, List, [], length, take, drop}
+use Rattle.arch_defs.specs.declared.cached.Entry.{Entry}
+use Rattle.arch_defs.specs.declared.roots.GuestRoot.{GuestRoot}
+use Rattle.arch_defs.specs.CachedEntries.{CanFill}
+use Rattle.arch_defs.specs.Memory.{block_size}
+use Rattle.guest_save.specs.Forms.{form, front_form}
+use Rattle.guest_save.specs.Reading.{machine_in}
+use Rattle.guest_save.specs.Registers.{csrs_in}
+use Rattle.guest_save.specs.Savable.{IsSavable, IsSavableEntry}
+use Rattle.guest_specs.specs.declared.guests.GuestSpec.{GuestSpec}
+use Rattle.guest_specs.specs.Inputs.{AreInputs}
+use Rattle.machine_defs.specs.Freshness.{UsesFresh}
+use Rattle.machine_defs.specs.Machine.{Machine, start}
+use Rattle.machine_defs.specs.Runs.{run}
+use Rattle.machine_laws.specs.Keeping.{IsOrderly}
+use Rattle.machine_laws.specs.Reservations.{CachesInRam, ReservesInRam}
+use Rattle.machine_laws.specs.StorableStates.{stored_form}
+
+-- the form of a machine that can be saved gives it back
+abbrev pub RoundTrip : Type 0
+RoundTrip = (m : Machine) → IsSavable m → machine_in (form m) ≡ m
+
+-- bytes are no savable machine's form where the machine that they give cannot be saved, or has another form
+abbrev pub BadExactly : Type 0
+BadExactly = (bytes : List ℕ) → (IsSavable (machine_in bytes) → form (machine_in bytes) ≡ bytes → ⊥)
+    → (m : Machine) → IsSavable m → form m ≡ bytes → ⊥
+
+-- the front of a machine's form comes first, so bytes whose end is its RAM are its form exactly where their
+-- front is its front
+abbrev pub FrontDecides : Type 0
+FrontDecides = (m : Machine) (bytes : List ℕ) (k : ℕ) → k ≤ length bytes → m.ram ≡ drop k bytes
+    → (front_form m ≡ take k bytes → form m ≡ bytes) × (form m ≡ bytes → front_form m ≡ take k bytes)
+
+-- registers that were read are as they can be stored, whatever the numbers are
+abbrev pub ReadIsStored : Type 0
+ReadIsStored = (ns : List ℕ) → stored_form (csrs_in ns) ≡ csrs_in ns
+
+-- a machine that can go on: it is orderly, what it caches and reserves is in its RAM, and that is of whole
+-- pages
+pub record CanGoOn (m : Machine) : Type 0 where
+  pub orderly : IsOrderly m
+  pub caches : CachesInRam m
+  pub reserves : ReservesInRam m
+  pub whole : length m.ram % 4096 ≡ 0
+
+-- a machine that can be saved can go on, and its entries can be filled
+abbrev pub SavableGoesOn : Type 0
+SavableGoesOn = (m : Machine) → IsSavable m → CanGoOn m
+
+abbrev pub SavableIsFilled : Type 0
+SavableIsFilled = (key : GuestRoot) (blocks : List ℕ) (e : Entry)
+    → IsSavableEntry key (length blocks * block_size) e → CanFill blocks e
+
+-- a guest that is within the limits, and whose image fits (own)
+pub record CanStart (guest : GuestSpec) : Type 0 where
+  pub some_block : 1 ≤ guest.blocks
+  pub blocks : guest.blocks ≤ 32
+  pub some_space : 1 ≤ guest.spaces
+  pub spaces : guest.spaces ≤ 8
+  pub some_entries : 16 ≤ guest.entries
+  pub entries : guest.entries ≤ 256
+  pub console : guest.console ≤ 1048576
+  pub image : length guest.image ≤ guest.blocks * block_size
+  pub inputs : AreInputs guest.inputs
+
+-- the machine of such a guest at its start can be saved
+abbrev pub StartIsSavable : Type 0
+StartIsSavable = (guest : GuestSpec) → CanStart guest → IsSavable (start guest)
+
+-- a run of a and then of b steps, saved between, is the run of both
+abbrev pub ResumedGoesOn : Type 0
+ResumedGoesOn = (m : Machine) (a b : ℕ) → IsSavable (run m a)
+    → run (machine_in (form (run m a))) b ≡ run m (a + b)
+
+-- what a machine that was read uses is fresh, in each run without spaces at its begin of which it is a state
+abbrev pub UsesFreshSince : Machine → ℕ → Type 0
+UsesFreshSince saved n = (m : Machine) (k : ℕ) → IsOrderly m → m.spaces ≡ [] → saved ≡ run m k
+    → UsesFresh m (k + n)
+
+abbrev pub SavedUseFresh : Type 0
+SavedUseFresh = (saved : Machine) (n : ℕ) → UsesFreshSince saved n

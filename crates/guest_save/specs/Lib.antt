@@ -1,0 +1,11 @@
+pub mod Buffers
+pub mod Forms
+pub mod Headers
+pub mod Laws
+pub mod Needs
+pub mod Numbers
+pub mod Reading
+pub mod Registers
+pub mod Savable
+pub mod Tests
+pub mod View

@@ -1,0 +1,108 @@
+-- The machine that any bytes give. Past their end a number is 0, and a count that is too large counts what
+-- may be there; whether the bytes are a machine's form is tested by writing the form again.
+use Rattle.std.specs.Prelude.{ℕ, zero, suc, ◌*◌, List, [], ◌∷◌, drop, take, slice_index, nat_le, if◌then◌else◌}
+use Rattle.arch_defs.specs.declared.cached.Entry.{Entry}
+use Rattle.arch_defs.specs.Bits.{bit, field}
+use Rattle.arch_defs.specs.CsrBits.{guest_root_of}
+use Rattle.arch_defs.specs.Spaces.{Space}
+use Rattle.guest_save.specs.declared.headers.Header.{Header}
+use Rattle.guest_save.specs.Headers.{header_in}
+use Rattle.guest_save.specs.Numbers.{items_in, number_in, numbers_in}
+use Rattle.machine_defs.specs.Machine.{Machine, Platform, with_pending_lines}
+
+-- how many console bytes, inputs and spaces a machine may have, and how many entries a space
+abbrev pub most_console : ℕ
+most_console = 1048576
+
+abbrev pub most_inputs : ℕ
+most_inputs = 65536
+
+abbrev pub most_spaces : ℕ
+most_spaces = 8
+
+abbrev pub most_entries : ℕ
+most_entries = 256
+
+abbrev pub capped : ℕ → ℕ → ℕ
+capped most n = if nat_le n most then n else most
+
+-- the count that bytes begin with
+abbrev pub count_in : ℕ → List ℕ → ℕ
+count_in most bytes = capped most (number_in bytes)
+
+abbrev pub input_of : List ℕ → ℕ × ℕ
+input_of bytes = (number_in bytes, slice_index (drop 8 bytes) 0)
+
+abbrev pub inputs_in : ℕ → List ℕ → List (ℕ × ℕ)
+inputs_in count bytes = items_in input_of 9 count bytes
+
+abbrev pub entry_of : List ℕ → Entry
+entry_of ns = let flags = slice_index ns 2 in record {
+  page = slice_index ns 0;
+  frame = slice_index ns 1;
+  r = bit 0 flags;
+  w = bit 1 flags;
+  x = bit 2 flags;
+  level = field 3 8 flags;
+}
+
+abbrev pub entry_in : List ℕ → Entry
+entry_in bytes = entry_of (numbers_in 3 bytes)
+
+abbrev pub entries_in : ℕ → List ℕ → List Entry
+entries_in count bytes = items_in entry_in 24 count bytes
+
+abbrev pub entry_count : List ℕ → ℕ
+entry_count bytes = count_in most_entries (drop 8 bytes)
+
+abbrev pub space_in : List ℕ → Space
+space_in bytes =
+    record { key = guest_root_of (number_in bytes); entries = entries_in (entry_count bytes) (drop 16 bytes) }
+
+-- what is left after a space, and after so many
+abbrev pub after_space : List ℕ → List ℕ
+after_space bytes = drop (24 * entry_count bytes) (drop 16 bytes)
+
+unfoldable pub spaces_in : ℕ → List ℕ → List Space
+spaces_in zero bytes = []
+spaces_in (suc k) bytes = space_in bytes ∷ spaces_in k (after_space bytes)
+
+unfoldable pub after_spaces : ℕ → List ℕ → List ℕ
+after_spaces zero bytes = bytes
+after_spaces (suc k) bytes = after_spaces k (after_space bytes)
+
+-- the platform of a header, with the bits that the clock and the console set
+abbrev pub platform_in : Header → List ℕ → List (ℕ × ℕ) → Platform
+platform_in h bytes inputs = with_pending_lines (record {
+  virt = h.state;
+  clock = record { time = h.time; timer = h.timer };
+  console = record { bytes = bytes; room = h.console; inputs = inputs };
+  steps = h.steps;
+  status = h.status;
+})
+
+-- the machine of its parts
+abbrev pub machine_with : Header → List ℕ → List (ℕ × ℕ) → List Space → List ℕ → Machine
+machine_with h console inputs spaces ram = record {
+  platform = platform_in h console inputs;
+  ram = ram;
+  spaces = spaces;
+  space_room = h.spaces;
+  entry_room = h.entries;
+}
+
+-- the machine of the parts before each part, and of the bytes from it on. RAM is what is left
+unfoldable pub from_spaces : Header → List ℕ → List (ℕ × ℕ) → List ℕ → Machine
+from_spaces h console inputs bytes = let k = count_in most_spaces bytes in
+    machine_with h console inputs (spaces_in k (drop 8 bytes)) (after_spaces k (drop 8 bytes))
+
+unfoldable pub from_inputs : Header → List ℕ → List ℕ → Machine
+from_inputs h console bytes = let k = count_in most_inputs bytes in
+    from_spaces h console (inputs_in k (drop 8 bytes)) (drop (9 * k) (drop 8 bytes))
+
+unfoldable pub from_console : Header → List ℕ → Machine
+from_console h bytes = let k = count_in most_console bytes in
+    from_inputs h (take k (drop 8 bytes)) (drop k (drop 8 bytes))
+
+unfoldable pub machine_in : List ℕ → Machine
+machine_in bytes = from_console (header_in (numbers_in 72 (drop 8 bytes))) (drop 584 bytes)

@@ -1,0 +1,21 @@
+// Laws of forms.
+
+ghost use Rattle.guest_save.specs.Laws.{BadExactly, FrontDecides, ReadIsStored, ResumedGoesOn, RoundTrip, SavableGoesOn, SavableIsFilled, SavedUseFresh, StartIsSavable};
+
+/// The form of a machine that can be saved gives it back, and other bytes than such a form are bad.
+pub fn reading_is_exact()
+    ensures machine { RoundTrip }
+    ensures bad { BadExactly }
+    ensures front { FrontDecides }
+    ensures stored { ReadIsStored }
+{}
+
+/// A machine that was read goes on as the one that was saved, and the machine of each guest can be saved at
+/// its start.
+pub fn saved_machines_go_on()
+    ensures goes_on { SavableGoesOn }
+    ensures filled { SavableIsFilled }
+    ensures start { StartIsSavable }
+    ensures resumed { ResumedGoesOn }
+    ensures fresh { SavedUseFresh }
+{}

@@ -1,0 +1,20 @@
+// Machines as bytes: the form of a machine, and the machine of bytes.
+#![tactic(auto)]
+
+mod buffers;
+mod headers;
+mod items;
+mod laws;
+mod machine_parts;
+mod numbers;
+mod registers;
+mod savable;
+mod saved;
+mod snapshots;
+mod writing;
+
+pub use headers::Header;
+pub use laws::{reading_is_exact, saved_machines_go_on};
+pub use saved::{SaveEnd, Saved, read};
+pub use snapshots::Snapshot;
+pub use writing::put;

@@ -1,0 +1,159 @@
+// A saved machine.
+
+ghost use Rattle.std.specs.Prelude.{◌≡◌, ◌↔◌, IfOk, IsErrOf, IsTrue};
+ghost use Rattle.guest_save.specs.declared.saved.SaveEnd.TheVariants.{NoMemory, Bad};
+ghost use Rattle.guest_save.specs.Forms.{form, front_form};
+ghost use Rattle.guest_save.specs.Needs.{need_of};
+ghost use Rattle.guest_save.specs.Reading.{machine_in};
+ghost use Rattle.guest_save.specs.Savable.{IsSavable};
+ghost use Rattle.guest_save.specs.Tests.{IsRead};
+ghost use Rattle.machine_defs.specs.Machine.{Machine};
+
+use crate::headers::Header;
+use crate::machine_parts::{MachineParts, machine_in};
+use crate::savable::is_savable;
+use crate::snapshots::Snapshot;
+use crate::writing::put_front;
+use arch_defs::{Entry, GuestRoot, Need};
+use replay::{Compare, Verdict};
+use std::alloc::Global;
+use std::marker::Model;
+use thiserror::Error;
+
+/// Why bytes give no saved machine.
+#[derive(Clone, Copy, Debug, PartialEq, Eq, Error)]
+pub enum SaveEnd {
+    #[error("out of memory")]
+    NoMemory,
+    #[error("the bytes are no saved machine")]
+    Bad,
+}
+
+impl From<no_memory::NoMemory> for SaveEnd {
+    ghost from_gives = { λ _ end. end ≡ NoMemory };
+
+    fn from(_: no_memory::NoMemory) -> SaveEnd {
+        SaveEnd::NoMemory
+    }
+}
+
+/// A machine that was read, and that can be saved.
+#[derive(Drop)]
+pub struct Saved {
+    parts: MachineParts,
+}
+
+impl Model for Saved {
+    ghost use Rattle.machine_defs.specs.Machine.{Machine};
+    ghost use Rattle.guest_save.specs.Savable.{IsSavable};
+
+    ghost Value = { Machine };
+
+    ghost view = { λ s. s.parts };
+
+    ghost invariant = { λ s. IsSavable s.parts };
+}
+
+impl Saved {
+    /// What the machine needs of machine memory.
+    pub fn need(&self) -> Need
+        ensures { result ≡ need_of self.now }
+    {
+        Need {
+            blocks: self.parts.header.blocks,
+            spaces: self.parts.header.spaces,
+            entries: self.parts.header.entries,
+        }
+    }
+
+    /// All bytes of its RAM.
+    pub fn ram(&self) -> &[u8]
+        ensures { result.now ≡ self.now.ram }
+    {
+        self.parts.ram.as_slice()
+    }
+
+    /// The machine can be saved.
+    pub fn can_be_saved(&self)
+        ensures { IsSavable self.now }
+    {
+        let _ = &self.parts;
+    }
+}
+
+impl Snapshot for Saved {
+    ghost machine = { λ m. m };
+
+    fn header(&self) -> Header {
+        self.parts.header()
+    }
+
+    fn console(&self) -> &[u8] {
+        self.parts.console()
+    }
+
+    fn inputs(&self) -> &[(u64, u8)] {
+        self.parts.inputs()
+    }
+
+    fn held(&self) -> u64 {
+        self.parts.held()
+    }
+
+    fn key(&self, space: u64) -> GuestRoot {
+        self.parts.key(space)
+    }
+
+    fn len(&self, space: u64) -> u64 {
+        self.parts.len(space)
+    }
+
+    fn entry(&self, space: u64, place: u64) -> Entry {
+        self.parts.entry(space, place)
+    }
+
+    fn block(&self, number: u64) -> &[u8] {
+        self.parts.block(number)
+    }
+}
+
+// Whether the form of a machine that was read is the bytes that it was read from. RAM is what is left of
+// them, so it is not compared.
+fn has_form(parts: &MachineParts, bytes: &[u8]) -> bool
+    requires { parts.now ≡ machine_in bytes.now }
+    ensures { IsTrue result ↔ (form parts.now ≡ bytes.now) }
+{
+    let front = bytes.len() - parts.ram.len();
+    let mut compare = Compare::new(&bytes[..front]);
+    match put_front(parts, &mut compare) {
+        Ok(()) => matches!(compare.verdict(), Verdict::Same),
+        Err(_) => false,
+    }
+}
+
+// Whether a machine that was read can be saved, and its form is the bytes.
+fn is_saved(parts: &MachineParts, bytes: &[u8]) -> bool
+    requires read { IsRead parts.now }
+    requires bytes { parts.now ≡ machine_in bytes.now }
+    ensures { IsTrue result ↔ (IsSavable parts.now × (form parts.now ≡ bytes.now)) }
+{
+    is_savable(parts) && has_form(parts, bytes)
+}
+
+/// The machine of these bytes, where they are the form of a machine that can be saved.
+///
+/// # Errors
+///
+/// Out of memory; `Bad` exactly where they are no such form.
+pub fn read(alloc: Global, bytes: &[u8]) -> Result<Saved, SaveEnd>
+    ensures machine { IfOk result (λ saved. saved ≡ machine_in bytes.now) }
+    ensures savable { IfOk result IsSavable }
+    ensures form { IfOk result (λ saved. form saved ≡ bytes.now) }
+    ensures bad { IsErrOf result Bad → (m : Machine) → IsSavable m → form m ≡ bytes.now → ⊥ }
+{
+    let parts = machine_in(alloc, bytes)?;
+    if !is_saved(&parts, bytes) {
+        return Err(SaveEnd::Bad);
+    }
+    Ok(Saved { parts })
+}
