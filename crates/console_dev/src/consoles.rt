@@ -1,7 +1,6 @@
 // The console of a guest.
 
 ghost use Rattle.std.specs.Prelude.{◌≡◌, ◌≢◌, ◌↔◌, ◌<◌, ◌≤◌, [], ◌∷◌, ◌++◌, true, false, length, not, All, IfOk, IsTrue};
-ghost use Rattle.std.specs.List.Sorted.{IsNonDecreasingBy};
 ghost use Rattle.arch_defs.specs.Consoles.{has_room};
 ghost use Rattle.guest_specs.specs.Inputs.{AreInputs};
 ghost use Rattle.arch_defs.specs.Inputs.{arrived_byte, has_input, next_input, unread_after};
@@ -44,9 +43,29 @@ impl Console {
         requires inputs { AreInputs inputs.items }
         ensures { IfOk result (λ c. c ≡ record { bytes = []; room = room; inputs = inputs.items }) }
     {
-        let bytes = Vec::with_capacity(alloc, room as usize)?;
+        Console::resume(alloc, room, &[], inputs)
+    }
+
+    /// A console with room for so many bytes, which has these already, and these inputs, all unread: one that
+    /// goes on from there.
+    ///
+    /// # Errors
+    ///
+    /// Out of memory.
+    pub fn resume(
+        alloc: Global,
+        room: u64,
+        bytes: &[u8],
+        inputs: Vec<(u64, u8)>,
+    ) -> Result<Console, NoMemory>
+        requires room { length bytes.now ≤ room }
+        requires inputs { AreInputs inputs.items }
+        ensures { IfOk result (λ c. c ≡ record { bytes = bytes.now; room = room; inputs = inputs.items }) }
+    {
+        let mut put = Vec::with_capacity(alloc, room as usize)?;
+        put.extend_from_slice(bytes)?;
         Ok(Console {
-            bytes,
+            bytes: put,
             room,
             inputs,
             read: 0,
@@ -113,15 +132,16 @@ impl Console {
 
     /// The bytes that were put.
     pub fn bytes(&self) -> &[u8]
-        ensures { result.now ≡ self.now.bytes }
+        ensures bytes { result.now ≡ self.now.bytes }
+        ensures within { length result.now ≤ self.now.room }
     {
         self.bytes.as_slice()
     }
 
-    /// The inputs that are unread, in the order of their moments.
+    /// The inputs that are unread, in the order of their moments: such as a console may be given.
     pub fn unread(&self) -> &[(u64, u8)]
         ensures inputs { result.now ≡ self.now.inputs }
-        ensures order { IsNonDecreasingBy (λ input. input.0) result.now }
+        ensures given { AreInputs result.now }
     {
         &self.inputs.as_slice()[self.read..]
     }

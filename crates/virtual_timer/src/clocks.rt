@@ -41,10 +41,14 @@ impl Clock {
     pub fn new() -> Clock
         ensures { result ≡ times_at_start }
     {
-        Clock {
-            time: 0,
-            timer: u64::MAX,
-        }
+        Clock::at(0, u64::MAX)
+    }
+
+    /// A clock at a time, with its timer at a moment: one that goes on from there.
+    pub fn at(now: u64, timer: u64) -> Clock
+        ensures { result ≡ record { time = now; timer = timer } }
+    {
+        Clock { time: now, timer }
     }
 
     /// Sets the timer to a moment.
@@ -59,6 +63,13 @@ impl Clock {
         ensures { result ≡ self.now.time }
     {
         self.time
+    }
+
+    /// The timer's moment, ahead or not.
+    pub fn timer(&self) -> u64
+        ensures { result ≡ self.now.timer }
+    {
+        self.timer
     }
 
     /// Whether the timer interrupt is pending: the time is at least the timer.

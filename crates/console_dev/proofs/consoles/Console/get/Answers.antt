@@ -7,5 +7,5 @@ pub returns-in_default-clause-none : goal.returns-in_default-clause-none
 returns-in_default-clause-none c =
     let inputs = c.args.self.now.inputs in
     let none : has_input inputs c.args.clock ≡ false = search rules in
-    let order = rw c.unread.ensures.inputs at c.unread.ensures.order in
+    let order = rw c.unread.ensures.inputs at c.unread.ensures.given.order in
     (λ _. (none_exactly inputs c.args.clock order).0 none, λ _. refl)
