@@ -19,11 +19,11 @@ use Rattle.machine_defs.specs.Runs.{event_in, left_by, plain_count, run, step, s
 use Rattle.machine_defs.specs.Tries.{try}
 use Rattle.machine_laws.proofs.TryEnds.{Calls, Fences, Halts, Makes, Passes, Takes}
 use Rattle.guest_exit.specs.HartEntry.{Lasts}
-use Rattle.guest_exit.specs.HartSteps.{host_takes, is_hosts}
+use Rattle.guest_exit.specs.HartSteps.{is_hosts}
 use Rattle.guest_exit.proofs.Entries.{run_further}
 use Rattle.guest_exit.proofs.Interrupts.{none_pending_waits}
 use Rattle.guest_exit.proofs.SomeEnds.{SomeEnd, some_end}
-use Rattle.guest_turns.specs.Calm.{AreCalm, ClearStepsAreCalm, IsClear}
+use Rattle.guest_turns.specs.Calm.{ClearStepsAreCalm, IsClear}
 use Rattle.guest_turns.proofs.Current.{left_current}
 use Rattle.guest_turns.proofs.Steps.{same_platform}
 use Rattle.guest_turns.proofs.Tries.{try_step}

@@ -3,9 +3,12 @@ pub mod Among
 pub mod CalmSteps
 pub mod ClearSteps
 pub mod Current
+pub mod Flags
+pub mod Leaving
 pub mod Parts
 pub mod Placing
 pub mod Rooms
+pub mod Shifting
 pub mod Starting
 pub mod Steps
 pub mod Tries

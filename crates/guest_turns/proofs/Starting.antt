@@ -1,21 +1,21 @@
 -- Guests at their start, in their parts of machine memory.
-use Rattle.std.proofs.Common.{true, ◌≡◌, ◌≢◌, ℕ, ◌+◌, ◌*◌, ◌<◌, ◌≤◌, ◌^◌, ◌⊎◌, inl, inr, List, [], ◌∷◌, ◌++◌, None, length, get_or, map, refl, ap, sym, subst, ◌∙◌, arith}
+use Rattle.std.proofs.Common.{true, ◌≡◌, ◌≢◌, ℕ, ◌+◌, ◌*◌, ◌<◌, ◌≤◌, ◌^◌, ◌⊎◌, inl, inr, Bool, false, ◌-◌, List, [], ◌∷◌, ◌++◌, None, length, get_or, map, refl, ap, sym, subst, ◌∙◌, arith}
 use Rattle.std.specs.List.{All}
-use Rattle.std.proofs.lemmas.Bool.{cases_eq}
+use Rattle.std.proofs.lemmas.Bool.{both_ways, cases_eq}
 use Rattle.std.proofs.lemmas.List.{ext_get_or, get_or-map, get_or_append_left, get_or_default, get_or_push, length-map, length_push}
-use Rattle.arch_defs.specs.Frames.{Frames, LieIn, Only, Same, Within, in_blocks, most_frames}
+use Rattle.arch_defs.specs.Frames.{Apart, Frames, LieIn, Only, Same, Within, in_blocks, most_frames, within}
 use Rattle.arch_defs.specs.Layouts.{Layout, NamesEachOnce, host_frames, in_tables, named_by, no_part}
 use Rattle.arch_defs.specs.Memory.{block_size, loaded, zeros}
 use Rattle.guest_specs.specs.Needs.{IsNeed, need_of}
 use Rattle.arch_defs.specs.Ram.{ram_of}
 use Rattle.arch_defs.specs.Spaces.{Space}
-use Rattle.arch_defs.proofs.FrameSets.{apart_sym, apart_within, kept, left_within, only_both, only_more, same_fewer}
+use Rattle.arch_defs.proofs.FrameSets.{apart_sym, apart_within, kept, left_within, only_both, only_more, range_parts, same_fewer}
 use Rattle.arch_defs.proofs.Images.{length_zeros}
 use Rattle.arch_defs.proofs.RamBlocks.{blocks_lie_in, ram_kept}
 use Rattle.arch_defs.proofs.Rooms.{first_lies}
 use Rattle.machine_laws.specs.Keeping.{IsOrderly}
 use Rattle.machine_laws.proofs.Orderly.{start_is_orderly}
-use Rattle.frame_split.specs.Shares.{AreNeeds, IsSplit}
+use Rattle.frame_split.specs.Shares.{AreNeeds, IsSplit, LeavesSpare, MeetEach, frames_with}
 use Rattle.host_tables.specs.HostTable.{IsHostTable}
 use Rattle.host_tables.specs.Walks.{IsHeld}
 use Rattle.host_tables.proofs.Held.{host_in_part, host_in_tables, table_stays}
@@ -34,9 +34,9 @@ use Rattle.shadow_space.specs.Shadows.{AreZeros}
 use Rattle.shadow_space.proofs.Clearing.{zeros_at}
 use Rattle.guest_exit.specs.declared.guests.Guest.{Guest}
 use Rattle.guest_exit.specs.View.{machine_of, platform_of}
-use Rattle.guest_turns.specs.Hosted.{no_machine}
-use Rattle.guest_turns.specs.Hosting.{AreAtStart, AreHosted, AreLaidOut, IsAtStart, IsHosted, parts_of, space_tables}
-use Rattle.guest_turns.specs.Limits.{IsBootable, frames_for, needs_of}
+use Rattle.guest_turns.specs.Hosted.{is_set, no_machine}
+use Rattle.guest_turns.specs.Hosting.{AreAtStart, AreHosted, AreLaidOut, IsAtStart, IsFree, IsHosted, parts_of, space_tables}
+use Rattle.guest_turns.specs.Limits.{IsBootable, needs_of}
 use Rattle.guest_turns.proofs.Among.{machines_of}
 use Rattle.guest_turns.proofs.Placing.{part_ram_kept}
 
@@ -50,9 +50,29 @@ are_needs (guest ∷ guests) each i d h =
     let inside : i < length (guest ∷ guests) = rw (length-map (guest ∷ guests) need_of) at h in
     rw (get_or-map need_of (guest ∷ guests) i guest d inside) (is_need (get_or (guest ∷ guests) i guest) (each i guest inside))
 
-pub some_frames : (guests : List GuestSpec) → 1 ≤ length guests → 1 ≤ frames_for guests
-some_frames [] some = absurd (omega arith)
-some_frames (guest ∷ guests) some = omega arith
+pub some_frames : (guests : List GuestSpec) (spare : ℕ) → 1 ≤ length guests → 1 ≤ frames_with (needs_of guests) spare
+some_frames [] spare some = absurd (omega arith)
+some_frames (guest ∷ guests) spare some = omega arith
+
+-- a part of the size that a guest needs
+pub record IsSized (guest : GuestSpec) (part : Layout) : Type 0 where
+  pub blocks : length part.blocks ≡ guest.blocks
+  pub spaces : part.spaces ≡ guest.spaces
+  pub entries : part.entries ≡ guest.entries
+
+pub sized : (guests : List GuestSpec) (parts : List Layout) (i : ℕ) (guest : GuestSpec) (part : Layout) → MeetEach (needs_of guests) parts → i < length guests
+    → guest ≡ get_or guests i guest → part ≡ get_or parts i part → IsSized guest part
+sized guests parts i guest part meet inside guest_is part_is = record {
+  blocks = ap (λ part. length part.blocks) part_is ∙ (meet i (need_of guest) part needed).blocks ∙ ap (λ need. need.blocks) need_is ∙ ap (λ guest. guest.blocks) (sym guest_is);
+  spaces = ap (λ part. part.spaces) part_is ∙ (meet i (need_of guest) part needed).spaces ∙ ap (λ need. need.spaces) need_is ∙ ap (λ guest. guest.spaces) (sym guest_is);
+  entries = ap (λ part. part.entries) part_is ∙ (meet i (need_of guest) part needed).entries ∙ ap (λ need. need.entries) need_is ∙ ap (λ guest. guest.entries) (sym guest_is);
+}
+  where
+    needed : i < length (needs_of guests)
+    needed = rw (length-map guests need_of) inside
+
+    need_is : get_or (needs_of guests) i (need_of guest) ≡ need_of (get_or guests i guest)
+    need_is = get_or-map need_of guests i guest (need_of guest) inside
 
 -- a part for a guest, in memory of so many bytes
 pub record IsPartFor (guest : GuestSpec) (part : Layout) (size : ℕ) : Type 0 where
@@ -68,21 +88,18 @@ pub part_for : (guests : List GuestSpec) (parts : List Layout) (frames i : ℕ) 
     → IsPartFor guest part (frames * 4096)
 part_for guests parts frames i guest part each split inside guest_is part_is = record {
   bootable = subst IsBootable (sym guest_is) (each i guest inside);
-  blocks = ap (λ part. length part.blocks) part_is ∙ (split.meet i (need_of guest) part needed).blocks ∙ ap (λ need. need.blocks) need_is ∙ ap (λ guest. guest.blocks) (sym guest_is);
-  spaces = ap (λ part. part.spaces) part_is ∙ (split.meet i (need_of guest) part needed).spaces ∙ ap (λ need. need.spaces) need_is ∙ ap (λ guest. guest.spaces) (sym guest_is);
-  entries = ap (λ part. part.entries) part_is ∙ (split.meet i (need_of guest) part needed).entries ∙ ap (λ need. need.entries) need_is ∙ ap (λ guest. guest.entries) (sym guest_is);
+  blocks = size.blocks;
+  spaces = size.spaces;
+  entries = size.entries;
   once = subst NamesEachOnce (sym part_is) sound.0;
   lies = subst (λ part. LieIn (named_by part) (frames * 4096)) (sym part_is) sound.1;
 }
   where
-    needed : i < length (needs_of guests)
-    needed = rw (length-map guests need_of) inside
-
-    need_is : get_or (needs_of guests) i (need_of guest) ≡ need_of (get_or guests i guest)
-    need_is = get_or-map need_of guests i guest (need_of guest) inside
+    size : IsSized guest part
+    size = sized guests parts i guest part split.meet inside guest_is part_is
 
     sound : NamesEachOnce (get_or parts i part) × LieIn (named_by (get_or parts i part)) (frames * 4096)
-    sound = split.sound i part (rw split.count needed)
+    sound = split.sound i part (rw split.count (rw (length-map guests need_of) inside))
 
 pub parts_count : (guests : List GuestSpec) (parts : List Layout) (frames : ℕ) → IsSplit (needs_of guests) parts frames → length parts ≡ length guests
 parts_count guests parts frames split = split.count ∙ length-map guests need_of
@@ -97,6 +114,7 @@ none_laid guests parts size memory is = record {
   ram = λ i s d h. absurd (omega (arith, h));
   tables = λ i d h. absurd (omega (arith, h));
   spaces = λ i d h. record { each = λ at own. rw is (zeros_at size at) };
+  others = λ frames apart. record { each = λ at own. rw is (zeros_at size at) };
 }
 
 -- the frames for the tables of a part's spaces are of the part, apart from its blocks and its host table
@@ -123,7 +141,15 @@ pub laid_more : (guests : List GuestSpec) (parts : List Layout) (frames i : ℕ)
     → ram_of part.blocks between ≡ loaded (length part.blocks * block_size) guest.image → Only (in_blocks part.blocks) memory between
     → IsHostTable part new → Only (host_frames part) between new → AreLaidOut guests parts (i + 1) new
 laid_more guests parts frames i guest part memory between new split size inside guest_is part_is for laid ram blocks table tables =
-    record { ram = rams; tables = each_table; spaces = each_spaces }
+    record {
+      ram = rams;
+      tables = each_table;
+      spaces = each_spaces;
+      others = λ frames apart.
+          zeros_kept frames memory new
+          (kept frames (named_by part) memory new (subst (λ part. Apart frames (named_by part)) (at_i part) (apart i part (rw count inside))) only)
+          (laid.others frames apart);
+    }
   where
     count : length parts ≡ length guests
     count = split.count ∙ length-map guests need_of
@@ -293,17 +319,47 @@ machine_at_start spec part guest memory at ram =
     as_parts (platform_of guest) (ram_of guest.part.blocks memory) (spaces_of guest.pool) (room_of guest.pool) guest.pool.most spec at.platform
     (ap (λ part. ram_of part.blocks memory) at.own_part ∙ ram) at.pool.spaces at.spaces at.entries
 
+-- a spare block is free
+module _ (parts : List Layout) (specs : List GuestSpec) (first spare frames : ℕ) (memory : List ℕ) (leaves : LeavesSpare first spare parts frames) (size : length memory ≡ frames * 4096)
+    (laid : AreLaidOut specs parts (length specs) memory) where
+  spare_free : (k : ℕ) → k < spare → IsFree (first + k) parts memory
+  spare_free k few = record {
+    lies = subst (LieIn (in_blocks ((first + k) ∷ []))) (sym size) (leaves.lies k few);
+    apart = λ i d h. leaves.apart k i d few h;
+    zero = laid.others (in_blocks ((first + k) ∷ [])) (λ i d h. leaves.apart k i d few h);
+  }
+
+  is_free : (block : ℕ) → within first spare block ≡ true → IsFree block parts memory
+  is_free block inside =
+      let range = range_parts first spare block inside in
+      let place : first + (block - first) ≡ block = omega (arith, range.0) in
+      subst (λ block. IsFree block parts memory) place (spare_free (block - first) (omega (arith, range.0, range.1)))
+
 -- what was booted
-pub record AreBooted (specs : List GuestSpec) (parts : List Layout) (guests : List Guest) (memory : List ℕ) : Type 0 where
-  pub hosted : AreHosted guests memory
+pub record AreBooted (specs : List GuestSpec) (parts : List Layout) (guests : List Guest) (retired free : List Bool) (memory : List ℕ) : Type 0 where
+  pub hosted : AreHosted guests retired free memory
   pub machines : machines_of guests memory ≡ map start specs
   pub parts_are : parts_of guests ≡ parts
 
-booted_from : (first : GuestSpec) (one : Guest) (specs : List GuestSpec) (parts : List Layout) (frames : ℕ) (guests : List Guest) (memory : List ℕ) → length specs ≤ 16
-    → All IsBootable specs → IsSplit (needs_of specs) parts frames → frames ≤ most_frames → length memory ≡ frames * 4096 → AreLaidOut specs parts (length specs) memory
-    → AreAtStart specs parts guests → AreBooted specs parts guests memory
-booted_from first one specs parts frames guests memory few bootable split most size laid at =
-    record { hosted = record { few = rw at.count few; each = each; apart = rw parts_are split.apart }; machines = machines; parts_are = parts_are }
+-- the flags of no guest, and of the spare blocks alone, are set
+pub record AreFlags (first spare : ℕ) (retired free : List Bool) : Type 0 where
+  pub none : (g : ℕ) → is_set retired g ≡ false
+  pub spares : (block : ℕ) → is_set free block ≡ within first spare block
+
+booted_from : (first : GuestSpec) (one : Guest) (specs : List GuestSpec) (parts : List Layout) (frames block spare : ℕ) (guests : List Guest) (retired free : List Bool) (memory : List ℕ) → length specs ≤ 16
+    → All IsBootable specs → IsSplit (needs_of specs) parts frames → LeavesSpare block spare parts frames → AreFlags block spare retired free → frames ≤ most_frames → length memory ≡ frames * 4096
+    → AreLaidOut specs parts (length specs) memory → AreAtStart specs parts guests → AreBooted specs parts guests retired free memory
+booted_from first one specs parts frames block spare guests retired free memory few bootable split leaves flags most size laid at = record {
+  hosted = record {
+    few = rw at.count few;
+    each = λ i d h active. each i d h;
+    gone = λ i d h set. absurd (both_ways (is_set retired i) (flags.none i) set);
+    apart = rw parts_are split.apart;
+    spare = λ b set. subst (λ parts. IsFree b parts memory) (sym parts_are) (is_free parts specs block spare frames memory leaves size laid b (sym (flags.spares b) ∙ set));
+  };
+  machines = machines;
+  parts_are = parts_are;
+}
   where
     count : length parts ≡ length specs
     count = split.count ∙ length-map specs need_of
@@ -341,13 +397,13 @@ booted_from first one specs parts frames guests memory few bootable split most s
         ∙ machine_at_start (get_or specs i first) (get_or parts i no_part) (get_or guests i one) memory (at.each i first no_part one inside) (laid.ram i first no_part inside)
         ∙ sym (get_or-map start specs i first no_machine inside))
 
-pub booted : (specs : List GuestSpec) (parts : List Layout) (frames : ℕ) (guests : List Guest) (memory : List ℕ) → 1 ≤ length specs → length specs ≤ 16
-    → All IsBootable specs → IsSplit (needs_of specs) parts frames → frames ≤ most_frames → length memory ≡ frames * 4096 → AreLaidOut specs parts (length specs) memory
-    → AreAtStart specs parts guests → AreBooted specs parts guests memory
-booted [] parts frames guests memory some few bootable split most size laid at = absurd (omega arith)
-booted (first ∷ specs) parts frames [] memory some few bootable split most size laid at = absurd (omega (arith, at.count))
-booted (first ∷ specs) parts frames (one ∷ guests) memory some few bootable split most size laid at =
-    booted_from first one (first ∷ specs) parts frames (one ∷ guests) memory few bootable split most size laid at
+pub booted : (specs : List GuestSpec) (parts : List Layout) (frames block spare : ℕ) (guests : List Guest) (retired free : List Bool) (memory : List ℕ) → 1 ≤ length specs → length specs ≤ 16
+    → All IsBootable specs → IsSplit (needs_of specs) parts frames → LeavesSpare block spare parts frames → AreFlags block spare retired free → frames ≤ most_frames → length memory ≡ frames * 4096
+    → AreLaidOut specs parts (length specs) memory → AreAtStart specs parts guests → AreBooted specs parts guests retired free memory
+booted [] parts frames block spare guests retired free memory some few bootable split leaves flags most size laid at = absurd (omega arith)
+booted (first ∷ specs) parts frames block spare [] retired free memory some few bootable split leaves flags most size laid at = absurd (omega (arith, at.count))
+booted (first ∷ specs) parts frames block spare (one ∷ guests) retired free memory some few bootable split leaves flags most size laid at =
+    booted_from first one (first ∷ specs) parts frames block spare (one ∷ guests) retired free memory few bootable split leaves flags most size laid at
 
 -- so no step is made
 steps_zero : (specs : List GuestSpec) → All (λ m. m.platform.steps ≡ 0) (map start specs)
@@ -370,12 +426,12 @@ rooms_of (first ∷ specs) each i d inside =
     rw (get_or-map start (first ∷ specs) i first d there, room_of_start (get_or (first ∷ specs) i first)) (each i first there).entries
 
 -- all of it, with the slices that the calls take
-pub booted_by : (specs : List GuestSpec) (shared laid_out : List GuestSpec) (parts laid_parts start_parts : List Layout) (frames : ℕ) (guests : List Guest)
-    (fresh memory : List ℕ) → 1 ≤ length specs → length specs ≤ 16 → All IsBootable specs → frames_for specs ≤ most_frames → shared ≡ specs → laid_out ≡ specs → laid_parts ≡ parts → start_parts ≡ parts
-    → IsSplit (needs_of shared) parts frames → frames ≡ frames_for shared → fresh ≡ zeros (frames * 4096) → length memory ≡ length fresh
-    → AreLaidOut laid_out laid_parts (length laid_out) memory → AreAtStart specs start_parts guests → AreBooted specs parts guests memory
-booted_by specs shared laid_out parts laid_parts start_parts frames guests fresh memory some few bootable most shared_is laid_is laid_parts_are start_parts_are split frames_are fresh_is size laid started =
-    booted specs parts (frames_for specs) guests memory some few bootable
-    (rw (frames_are, shared_is) at split) most
-    (size ∙ ap length fresh_is ∙ length_zeros (frames * 4096) ∙ ap (λ n. n * 4096) (frames_are ∙ ap frames_for shared_is))
+pub booted_by : (specs : List GuestSpec) (shared laid_out : List GuestSpec) (parts laid_parts start_parts : List Layout) (frames block spare : ℕ) (guests : List Guest) (retired free : List Bool)
+    (fresh memory : List ℕ) → 1 ≤ length specs → length specs ≤ 16 → All IsBootable specs → frames_with (needs_of specs) spare ≤ most_frames → shared ≡ specs → laid_out ≡ specs → laid_parts ≡ parts → start_parts ≡ parts
+    → IsSplit (needs_of shared) parts frames → LeavesSpare block spare parts frames → frames ≡ frames_with (needs_of shared) spare → AreFlags block spare retired free → fresh ≡ zeros (frames * 4096) → length memory ≡ length fresh
+    → AreLaidOut laid_out laid_parts (length laid_out) memory → AreAtStart specs start_parts guests → AreBooted specs parts guests retired free memory
+booted_by specs shared laid_out parts laid_parts start_parts frames block spare guests retired free fresh memory some few bootable most shared_is laid_is laid_parts_are start_parts_are split leaves frames_are flags fresh_is size laid started =
+    booted specs parts frames block spare guests retired free memory some few bootable
+    (rw shared_is at split) leaves flags (subst (λ n. n ≤ most_frames) (sym (frames_are ∙ ap (λ specs. frames_with (needs_of specs) spare) shared_is)) most)
+    (size ∙ ap length fresh_is ∙ length_zeros (frames * 4096))
     (rw (laid_is, laid_parts_are) at laid) (rw start_parts_are at started)

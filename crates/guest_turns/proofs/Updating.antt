@@ -21,3 +21,8 @@ updated_other zero zero change (x ∷ xs) d other = absurd (other refl)
 updated_other zero (suc j) change (x ∷ xs) d other = refl
 updated_other (suc i) zero change (x ∷ xs) d other = refl
 updated_other (suc i) (suc j) change (x ∷ xs) d other = updated_other i j change xs d (λ e. other (ap suc e))
+
+pub updated_none : {X : Type 0} (i : ℕ) (xs : List X) → updated i (λ x. x) xs ≡ xs
+updated_none i [] = refl
+updated_none zero (x ∷ xs) = refl
+updated_none (suc i) (x ∷ xs) = ap (λ ys. x ∷ ys) (updated_none i xs)

@@ -1,6 +1,7 @@
--- What contracts see of a host: the lone machines of its guests, in order, the part of each of them, and
--- machine memory.
-use Rattle.std.specs.Prelude.{ℕ, List, [], get_or}
+-- What contracts see of a host: the lone machines of its guests, in order, the part of each of them, machine
+-- memory, which blocks of it are free, and which guests have retired.
+use Rattle.std.specs.Prelude.{◌≡◌, ℕ, Bool, true, false, List, [], ◌∷◌, get_or, slice_set}
+use Rattle.std.specs.List.{count_by, position_or_len}
 use Rattle.arch_defs.specs.declared.modes.Mode.TheVariants.{HS}
 use Rattle.arch_defs.specs.Clocks.{times_at_start}
 use Rattle.arch_defs.specs.Layouts.{Layout, no_part}
@@ -12,6 +13,30 @@ pub record Hosted : Type 0 where
   pub machines : List Machine
   pub parts : List Layout
   pub memory : List ℕ
+  pub free : List Bool
+  pub retired : List Bool
+
+-- nothing is shared out anew: each part, which blocks are free, and who has retired are as they were
+pub record KeepsShares (old new : Hosted) : Type 0 where
+  pub parts : new.parts ≡ old.parts
+  pub free : new.free ≡ old.free
+  pub retired : new.retired ≡ old.retired
+
+-- whether the flag of a block or a guest is set: past the end none is
+abbrev pub is_set : List Bool → ℕ → Bool
+is_set flags i = get_or flags i false
+
+-- how many are set, and the lowest one that is
+abbrev pub count_set : List Bool → ℕ
+count_set flags = count_by (λ flag. flag) flags
+
+abbrev pub lowest : List Bool → ℕ
+lowest flags = position_or_len (λ flag. flag) flags
+
+-- the flags with those of these blocks set
+abbrev pub with_free : List ℕ → List Bool → List Bool
+with_free [] free = free
+with_free (block ∷ blocks) free = with_free blocks (slice_set free block true)
 
 -- a machine without memory that has stopped: that of a guest that there is not
 unfoldable pub no_machine : Machine

@@ -1,12 +1,11 @@
 -- What a host keeps of its guests in machine memory.
-use Rattle.std.specs.Prelude.{ℕ, ◌≡◌, ◌+◌, ◌*◌, ◌^◌, ◌<◌, ◌≤◌, List, length, get_or, map}
-use Rattle.std.specs.List.{All}
-use Rattle.arch_defs.specs.Frames.{Frames, Only}
-use Rattle.arch_defs.specs.Layouts.{Layout}
+use Rattle.std.specs.Prelude.{ℕ, ◌≡◌, ◌+◌, ◌*◌, ◌^◌, ◌<◌, ◌≤◌, Bool, true, false, List, [], ◌∷◌, length, get_or, map}
+use Rattle.arch_defs.specs.Frames.{Apart, Frames, LieIn, Only, in_blocks}
+use Rattle.arch_defs.specs.Layouts.{Layout, named_by}
 use Rattle.arch_defs.specs.Memory.{block_size, loaded}
 use Rattle.arch_defs.specs.Ram.{ram_of}
 use Rattle.machine_laws.specs.Budgets.{Goes}
-use Rattle.frame_split.specs.Shares.{ArePairwiseApart}
+use Rattle.frame_split.specs.Shares.{ArePairwiseApart, IsSplit}
 use Rattle.host_tables.specs.HostTable.{IsHostTable}
 use Rattle.guest_specs.specs.declared.guests.GuestSpec.{GuestSpec}
 use Rattle.guest_specs.specs.declared.statuses.Status.TheVariants.{Running}
@@ -20,6 +19,8 @@ use Rattle.guest_exit.specs.declared.hart_exit.Handled.{Handled}
 use Rattle.guest_exit.specs.declared.hart_exit.Handled.TheVariants.{Stepped, Retry, Waits, Stopped}
 use Rattle.guest_exit.specs.Starting.{IsNewPool}
 use Rattle.guest_exit.specs.View.{IsPlaced, KeepsLayout, changed_by, machine_of, platform_of}
+use Rattle.guest_turns.specs.Hosted.{is_set}
+use Rattle.guest_turns.specs.Limits.{needs_of}
 
 -- a guest is in machine memory, its clock is bounded by its steps, and the registers that the clock sets are
 -- as the clock sets them
@@ -31,11 +32,27 @@ pub record IsHosted (guest : Guest) (memory : List ℕ) : Type 0 where
 abbrev pub parts_of : List Guest → List Layout
 parts_of guests = map (λ guest. guest.part) guests
 
--- each of at most 16 guests is, and no frame is in the parts of two of them
-pub record AreHosted (guests : List Guest) (memory : List ℕ) : Type 0 where
+-- a guest that has retired has no blocks, and its machine the room that it had
+pub record IsGone (guest : Guest) : Type 0 where
+  pub blocks : guest.part.blocks ≡ []
+  pub room : guest.pool.most ≤ 256
+
+-- a block is free: it lies in memory, is in no part, and has zeros
+pub record IsFree (block : ℕ) (parts : List Layout) (memory : List ℕ) : Type 0 where
+  pub lies : LieIn (in_blocks (block ∷ [])) (length memory)
+  pub apart : (i : ℕ) (d : Layout) → i < length parts
+      → Apart (in_blocks (block ∷ [])) (named_by (get_or parts i d))
+  pub zero : AreZeros (in_blocks (block ∷ [])) memory
+
+-- of at most 16 guests each is in machine memory, or has retired; no frame is in the parts of two of them,
+-- and the free blocks are free
+pub record AreHosted (guests : List Guest) (retired free : List Bool) (memory : List ℕ) : Type 0 where
   pub few : length guests ≤ 16
-  pub each : All (λ guest. IsHosted guest memory) guests
+  pub each : (i : ℕ) (d : Guest) → i < length guests → is_set retired i ≡ false
+      → IsHosted (get_or guests i d) memory
+  pub gone : (i : ℕ) (d : Guest) → i < length guests → is_set retired i ≡ true → IsGone (get_or guests i d)
   pub apart : ArePairwiseApart (parts_of guests)
+  pub spare : (block : ℕ) → is_set free block ≡ true → IsFree block (parts_of guests) memory
 
 -- a guest and machine memory after so many steps of its lone machine
 pub record HasRun (old : Guest) (memory : List ℕ) (k : ℕ) (new : Guest) (changed : List ℕ) : Type 0 where
@@ -86,8 +103,14 @@ pub record AreAtStart (specs : List GuestSpec) (parts : List Layout)
 abbrev pub space_tables : Layout → Frames
 space_tables part = slots.table_frames_for part part.spaces
 
+-- parts for these guests, in memory of so many bytes
+pub record HaveParts (specs : List GuestSpec) (parts : List Layout) (size : ℕ) : Type 0 where
+  pub frames : ℕ
+  pub split : IsSplit (needs_of specs) parts frames
+  pub whole : size ≡ frames * 4096
+
 -- the RAM of so many guests in machine memory is their images, and their host tables are written; the frames
--- for the tables of all guests' spaces are zeros
+-- for the tables of all guests' spaces are zeros, and so are those that are in no part
 pub record AreLaidOut (specs : List GuestSpec) (parts : List Layout) (done : ℕ)
     (memory : List ℕ) : Type 0 where
   pub ram : (i : ℕ) (s : GuestSpec) (d : Layout) → i < done
@@ -95,3 +118,6 @@ pub record AreLaidOut (specs : List GuestSpec) (parts : List Layout) (done : ℕ
       ≡ loaded ((get_or specs i s).blocks * block_size) (get_or specs i s).image
   pub tables : (i : ℕ) (d : Layout) → i < done → IsHostTable (get_or parts i d) memory
   pub spaces : (i : ℕ) (d : Layout) → i < length parts → AreZeros (space_tables (get_or parts i d)) memory
+  pub others : (frames : Frames)
+      → ((i : ℕ) (d : Layout) → i < length parts → Apart frames (named_by (get_or parts i d)))
+      → AreZeros frames memory

@@ -10,7 +10,9 @@ hosted host = record {
   machines = map (λ guest. machine_of guest host.memory) host.guests.items;
   parts = parts_of host.guests.items;
   memory = host.memory;
+  free = host.free;
+  retired = host.retired;
 }
 
 abbrev pub IsHost : Inside → Type 0
-IsHost host = AreHosted host.guests.items host.memory
+IsHost host = AreHosted host.guests.items host.retired host.free host.memory

@@ -1,11 +1,11 @@
 // Guests in machine memory, at their start.
 
-ghost use Rattle.std.specs.Prelude.{◌≡◌, ◌*◌, ◌≤◌, length, All, IfOk};
+ghost use Rattle.std.specs.Prelude.{◌≡◌, ◌≤◌, length, All, IfOk};
 ghost use Rattle.arch_defs.specs.Frames.{most_frames};
 ghost use Rattle.arch_defs.specs.Memory.{zeros};
-ghost use Rattle.frame_split.specs.Shares.{IsSplit};
-ghost use Rattle.guest_turns.specs.Hosting.{AreAtStart, AreLaidOut, IsAtStart};
-ghost use Rattle.guest_turns.specs.Limits.{IsBootable, frames_for, needs_of};
+ghost use Rattle.frame_split.specs.Shares.{IsSplit, LeavesSpare, MeetEach, blocks_of_all, frames_with};
+ghost use Rattle.guest_turns.specs.Hosting.{AreAtStart, AreLaidOut, HaveParts, IsAtStart};
+ghost use Rattle.guest_turns.specs.Limits.{IsBootable, needs_of};
 
 use arch_defs::{Mode, Need, Part, Virtual};
 use console_dev::Console;
@@ -19,16 +19,19 @@ use phys_mem::{PhysMem, RAM_BASE};
 use std::alloc::Global;
 use virtual_timer::Clock;
 
-/// The parts of guests.
-pub fn share(alloc: Global, guests: &[GuestSpec]) -> Result<Split, NoMemory>
+/// The parts of guests, and so many spare blocks.
+pub fn share(alloc: Global, guests: &[GuestSpec], spare: u64) -> Result<Split, NoMemory>
     requires few { length guests.now ≤ 16 }
     requires each { All IsBootable guests.now }
-    requires frames { frames_for guests.now ≤ most_frames }
+    requires spare { spare ≤ 32 }
+    requires frames { frames_with (needs_of guests.now) spare ≤ most_frames }
     ensures split { IfOk result (λ split. IsSplit (needs_of guests.now) split.parts.items split.frames) }
-    ensures frames { IfOk result (λ split. split.frames ≡ frames_for guests.now) }
+    ensures blocks { IfOk result (λ split. split.blocks ≡ blocks_of_all (needs_of guests.now)) }
+    ensures spare { IfOk result (λ split. LeavesSpare split.blocks spare split.parts.items split.frames) }
+    ensures frames { IfOk result (λ split. split.frames ≡ frames_with (needs_of guests.now) spare) }
 {
     let needs = needs(alloc, guests)?;
-    match plan(alloc, needs.as_slice()) {
+    match plan(alloc, needs.as_slice(), spare) {
         Ok(split) => Ok(split),
         Err(PlanFault::NoMemory) => Err(NoMemory),
         Err(PlanFault::TooMuch(_)) => unreachable!(),
@@ -49,8 +52,8 @@ fn needs(alloc: Global, guests: &[GuestSpec]) -> Result<Vec<Need>, NoMemory>
 /// Loads the guests' images into their parts, and writes their host tables.
 pub fn lay_out(memory: &mut PhysMem, guests: &[GuestSpec], parts: &[Part])
     requires each { All IsBootable guests.now }
-    requires split { IsSplit (needs_of guests.now) parts.now (frames_for guests.now) }
-    requires zeros { memory.old ≡ zeros (frames_for guests.now * 4096) }
+    requires parts { HaveParts guests.now parts.now (length memory.old) }
+    requires zeros { memory.old ≡ zeros (length memory.old) }
     ensures laid { AreLaidOut guests.now parts.now (length guests.now) memory.new }
     ensures size { length memory.new ≡ length memory.old }
 {
@@ -69,7 +72,8 @@ pub fn guests_at_start(
     parts: &[Part],
 ) -> Result<Vec<Guest>, NoMemory>
     requires each { All IsBootable specs.items }
-    requires split { IsSplit (needs_of specs.items) parts.now (frames_for specs.items) }
+    requires parts { MeetEach (needs_of specs.items) parts.now }
+    requires count { length parts.now ≡ length specs.items }
     ensures { IfOk result (λ guests. AreAtStart specs.items parts.now guests.items) }
 {
     let mut guests = Vec::with_capacity(alloc, specs.len())?;

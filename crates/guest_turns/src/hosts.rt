@@ -1,18 +1,22 @@
 // The host of the guests.
 
-ghost use Rattle.std.specs.Prelude.{◌≡◌, ◌≢◌, ◌+◌, ◌^◌, ◌<◌, ◌≤◌, length, map, All, IfOk};
-ghost use Rattle.arch_defs.specs.Frames.{Only};
+ghost use Rattle.std.specs.Prelude.{◌≡◌, ◌≢◌, ℕ, ◌+◌, ◌^◌, ◌<◌, ◌≤◌, ◌↔◌, true, false, length, map, All, IfErr, IfOk, IsErr};
+ghost use Rattle.arch_defs.specs.Frames.{Only, most_frames, within};
 ghost use Rattle.arch_defs.specs.Layouts.{named_by};
-ghost use Rattle.frame_split.specs.Shares.{IsSplit};
+ghost use Rattle.frame_split.specs.Shares.{IsSplit, blocks_of_all, frames_with};
 ghost use Rattle.guest_specs.specs.declared.statuses.Status.TheVariants.{Running};
 ghost use Rattle.machine_defs.specs.Machine.{start};
 ghost use Rattle.machine_defs.specs.Runs.{run};
 ghost use Rattle.guest_turns.specs.Account.{Accounted, HasRoomForTurn};
-ghost use Rattle.guest_turns.specs.Hosted.{machine_at, part_at};
+ghost use Rattle.guest_turns.specs.Hosted.{count_set, is_set, lowest, machine_at, part_at, KeepsShares};
 ghost use Rattle.guest_turns.specs.Limits.{AreBootable, frames_for, needs_of};
+ghost use Rattle.guest_turns.specs.Moves.{HasMoved, HasRetired};
 ghost use Rattle.guest_turns.specs.TurnLists.{updated};
 
 use crate::booting::{guests_at_start, lay_out, share};
+use crate::free_blocks::FreeBlocks;
+use crate::relocation::{MoveFault, Moves, shift};
+use crate::retirement::vacate;
 use crate::turning::turn_of;
 use guest_exit::Guest;
 use machine_defs::{GuestSpec, Status};
@@ -22,13 +26,19 @@ use rv64_hart::{Hart, Tally};
 use std::alloc::Global;
 use std::marker::Model;
 
+/// The most guests.
+const MOST_GUESTS: usize = 16;
+
 /// Guests on one hart in one machine memory, which contracts see as their lone machines, with the part of
-/// memory that each guest has, and the bytes of memory. All memory of a run is taken by `boot`.
+/// memory that each guest has, the bytes of memory, which blocks of it are free, and which guests have
+/// retired. All memory of a run is taken by `boot` or `boot_spare`.
 #[derive(Drop)]
 pub struct Host {
     hart: Hart,
     memory: PhysMem,
     guests: Vec<Guest>,
+    free: FreeBlocks,
+    retired: [bool; MOST_GUESTS],
 }
 
 impl Model for Host {
@@ -45,15 +55,36 @@ impl Model for Host {
 
 impl Host {
     /// The guests' machines at their start, in order, each in a part of machine memory of the size that it
-    /// needs. No frame is in two parts. It may answer out of memory.
+    /// needs. No frame is in two parts, and no block is free. It may answer out of memory.
     pub fn boot(alloc: Global, guests: Vec<GuestSpec>) -> Result<Host, NoMemory>
         requires bootable { AreBootable guests.items }
         ensures machines { IfOk result (λ host. host.machines ≡ map start guests.items) }
         ensures parts { IfOk result (λ host. IsSplit (needs_of guests.items) host.parts
             (frames_for guests.items)) }
         ensures fresh { IfOk result (λ host. All (λ m. m.platform.steps ≡ 0) host.machines) }
+        ensures active { IfOk result (λ host. (g : ℕ) → is_set host.retired g ≡ false) }
+        ensures flags { IfOk result (λ host. length host.retired ≡ 16) }
+        ensures free { IfOk result (λ host. count_set host.free ≡ 0) }
     {
-        let split = share(alloc, guests.as_slice())?;
+        Host::boot_spare(alloc, guests, 0)
+    }
+
+    /// The same, with so many free blocks behind those of all parts, which lie in no part.
+    pub fn boot_spare(alloc: Global, guests: Vec<GuestSpec>, spare: u64) -> Result<Host, NoMemory>
+        requires bootable { AreBootable guests.items }
+        requires spare { spare ≤ 32 }
+        requires frames { frames_with (needs_of guests.items) spare ≤ most_frames }
+        ensures machines { IfOk result (λ host. host.machines ≡ map start guests.items) }
+        ensures parts { IfOk result (λ host. IsSplit (needs_of guests.items) host.parts
+            (frames_with (needs_of guests.items) spare)) }
+        ensures fresh { IfOk result (λ host. All (λ m. m.platform.steps ≡ 0) host.machines) }
+        ensures active { IfOk result (λ host. (g : ℕ) → is_set host.retired g ≡ false) }
+        ensures flags { IfOk result (λ host. length host.retired ≡ 16) }
+        ensures free { IfOk result (λ host. (block : ℕ) → is_set host.free block
+            ≡ within (blocks_of_all (needs_of guests.items)) spare block) }
+        ensures count { IfOk result (λ host. count_set host.free ≡ spare) }
+    {
+        let split = share(alloc, guests.as_slice(), spare)?;
         let mut memory = PhysMem::new(alloc, split.frames)?;
         lay_out(&mut memory, guests.as_slice(), split.parts.as_slice());
         let guests = guests_at_start(alloc, guests, split.parts.as_slice())?;
@@ -61,6 +92,8 @@ impl Host {
             hart: Hart::new(),
             memory,
             guests,
+            free: FreeBlocks::from(split.blocks, spare),
+            retired: [false; MOST_GUESTS],
         })
     }
 
@@ -79,15 +112,43 @@ impl Host {
         let _ = &self.guests;
     }
 
-    /// Makes at most `k` steps of a guest's machine, and answers how many: `k`, or fewer only where the
-    /// machine does not go on, because it has stopped or waits for good. All other machines stay as they
-    /// were, and no byte outside the guest's part changes. The tally gets the account of the hart.
+    /// Whether a guest has retired.
+    pub fn has_retired(&self, g: u32) -> bool
+        requires { g < length self.now.machines }
+        ensures { result ≡ is_set self.now.retired g }
+    {
+        let _ = &self.guests;
+        self.retired[g as usize]
+    }
+
+    /// How many blocks of memory a guest has.
+    pub fn blocks(&self, g: u32) -> u64
+        requires { g < length self.now.machines }
+        ensures value { result ≡ length (part_at self.now.parts g).blocks }
+        ensures most { result ≤ 32 }
+    {
+        self.guests[g as usize].part.blocks().len() as u64
+    }
+
+    /// How many blocks are free.
+    pub fn free_blocks(&self) -> u64
+        ensures value { result ≡ count_set self.now.free }
+        ensures most { result ≤ 256 }
+    {
+        self.free.count()
+    }
+
+    /// Makes at most `k` steps of the machine of a guest that has not retired, and answers how many: `k`, or
+    /// fewer only where the machine does not go on, because it has stopped or waits for good. All other
+    /// machines stay as they were, and no byte outside the guest's part changes. The tally gets the account
+    /// of the hart.
     pub fn turn(&mut self, g: u32, k: u64, tally: &mut Tally) -> u64
         requires guest { g < length self.old.machines }
+        requires active { is_set self.old.retired g ≡ false }
         requires steps { (machine_at self.old.machines g).platform.steps + k ≤ 2 ^ 61 }
         requires room { HasRoomForTurn (machine_at self.old.machines g) k tally.old }
         ensures machines { self.new.machines ≡ updated g (λ m. run m k) self.old.machines }
-        ensures parts { self.new.parts ≡ self.old.parts }
+        ensures shares { KeepsShares self.old self.new }
         ensures isolated { Only (named_by (part_at self.old.parts g)) self.old.memory self.new.memory }
         ensures made { (machine_at self.old.machines g).platform.steps + result
             ≡ (machine_at self.new.machines g).platform.steps }
@@ -99,6 +160,57 @@ impl Host {
     {
         let guest = &mut self.guests[g as usize];
         turn_of(guest, &mut self.hart, &mut self.memory, k, tally)
+    }
+
+    /// Moves a block of a guest that has not retired to the lowest free block of machine memory. All lone
+    /// machines are the same, and the old block is free. It answers `NoSpare` exactly where no block is free,
+    /// and then changes nothing.
+    pub fn relocate(&mut self, g: u32, block: u64, moves: &mut Moves) -> Result<(), MoveFault>
+        requires guest { g < length self.old.machines }
+        requires active { is_set self.old.retired g ≡ false }
+        requires block { block < length (part_at self.old.parts g).blocks }
+        requires room { moves.old < 2 ^ 62 }
+        ensures none { IsErr result ↔ (count_set self.old.free ≡ 0) }
+        ensures stays { IfErr result (λ fault. (self.new ≡ self.old) × (moves.new ≡ moves.old)) }
+        ensures moved { IfOk result (λ done. HasMoved self.old g block (lowest self.old.free) self.new) }
+        ensures moves { IfOk result (λ done. moves.new ≡ moves.old + 1) }
+    {
+        match self.free.lowest() {
+            None => Err(MoveFault::NoSpare),
+            Some(to) => {
+                self.move_to(g, block, to);
+                moves.raise();
+                Ok(())
+            }
+        }
+    }
+
+    // Moves a block of a guest to a free block.
+    fn move_to(&mut self, g: u32, block: u64, to: u32)
+        requires guest { g < length self.old.machines }
+        requires active { is_set self.old.retired g ≡ false }
+        requires block { block < length (part_at self.old.parts g).blocks }
+        requires free { is_set self.old.free to ≡ true }
+        ensures { HasMoved self.old g block to self.new }
+    {
+        self.free.has_each_block();
+        let guest = &mut self.guests[g as usize];
+        let from = guest.part.blocks()[block as usize];
+        shift(guest, &mut self.memory, block as usize, to);
+        self.free.exchange(to, from);
+    }
+
+    /// Retires a guest: its blocks are zeros and free then, and it has no more turns. What its machine has
+    /// done stays to be told.
+    pub fn retire(&mut self, g: u32)
+        requires guest { g < length self.old.machines }
+        requires active { is_set self.old.retired g ≡ false }
+        ensures { HasRetired self.old g self.new }
+    {
+        self.free.has_each_block();
+        let guest = &mut self.guests[g as usize];
+        vacate(guest, &mut self.memory, &mut self.free);
+        self.retired[g as usize] = true;
     }
 
     /// Whether a guest's machine goes on.

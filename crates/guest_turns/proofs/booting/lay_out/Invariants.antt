@@ -1,10 +1,6 @@
-use Rattle.std.proofs.Common.{◌≡◌, ◌*◌, length}
+use Rattle.std.proofs.Common.{◌≡◌, length}
 use Rattle.guest_turns.specs.Hosting.{AreLaidOut}
-use Rattle.guest_turns.specs.Limits.{frames_for}
 use Rattle.guest_turns.proofs.booting.lay_out.Given as goal
 
 abbrev pub invariant-loop-i : goal.invariant-loop-i
-invariant-loop-i l = record {
-  laid : AreLaidOut l.guests l.parts l.i l.memory;
-  size : length l.memory ≡ frames_for l.guests * 4096;
-}
+invariant-loop-i l = record { laid : AreLaidOut l.guests l.parts l.i l.memory; size : length l.memory ≡ length l.fn.memory }
