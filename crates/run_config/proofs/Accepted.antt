@@ -9,19 +9,20 @@ use Rattle.std.specs.List.{All}
 use Rattle.toml.specs.Data.{Members, as_array, as_integer}
 use Rattle.turn_plan.proofs.Facts.{each_weighted_turn, length-weighted_rounds}
 use Rattle.run_config.specs.declared.formats.Format.{Format}
+use Rattle.run_config.specs.declared.formats.Format.TheVariants.{One, Two}
 use Rattle.run_config.specs.declared.keys.ConfigKey.TheVariants as key
 use Rattle.run_config.specs.declared.faults.ConfigFault.{ConfigFault}
 use Rattle.run_config.specs.declared.guests.GuestSettings.{GuestSettings}
 use Rattle.run_config.specs.declared.schedules.Schedule.{Schedule}
 use Rattle.run_config.specs.declared.schedules.Schedule.TheVariants.{Listed, Rounds}
-use Rattle.run_config.specs.Accept.{accept, body_fault, configuration_fault, configuration_of, document_fault, document_of, format_in, guests_at, guests_in, head_fault, schedule_in, settings_in, tree_of, unless_fault, weights_of}
+use Rattle.run_config.specs.Accept.{accept, body_fault, configuration_fault, configuration_of, document_fault, document_of, format_in, guests_at, guests_in, head_fault, schedule_in, settings_in, spare_at, tree_of, unless_fault, weights_of}
 use Rattle.run_config.specs.Configurations.{Configuration, IsGuestWithin, IsTurnWithin, IsWithinLimits}
 use Rattle.run_config.specs.Guests.{guests_fault, settings_of}
-use Rattle.run_config.specs.Tables.{document_keys}
-use Rattle.run_config.specs.Tests.{unless}
+use Rattle.run_config.specs.Tables.{document_keys, document_table, integer_of}
+use Rattle.run_config.specs.Tests.{unless, out_of_range, wrong_among}
 use Rattle.run_config.specs.Turns.{listed_turns, quantum_and_rounds, schedule_at, schedule_fault, turns_of}
 use Rattle.run_config.specs.Values.{has_only, natural, number_within, pairs_within, passes_if, tables_of, value_at}
-use Rattle.run_config.proofs.Within.{IsAtMost, first_none, guests_within, holds-some, is_some_value, pairs_at_most, unless_none}
+use Rattle.run_config.proofs.Within.{IsAtMost, first_none, guests_within, holds-some, is_some_value, optional_row, pairs_at_most, unless_none}
 use Rattle.run_config.proofs.Weighing.{all_light}
 
 record AreTurns (guests : ℕ) (turns : List (ℕ × ℕ)) : Type 0 where
@@ -92,10 +93,17 @@ guests_in_few t there =
     let (gs, is) = is_some_value (guests_at t) there in
     rw is (guests_few t gs is)
 
--- guests without a fault, and a schedule of so many guests
-settled : (format : Format) (t : Members) (gs : List Members) (schedule : Schedule) → (1 ≤ length gs) × (length gs ≤ 16) → guests_fault format [] gs ≡ None → schedule_at (length gs) t ≡ Some schedule → schedule_fault (weights_of (map (settings_of format) gs)) schedule ≡ None
-    → IsWithinLimits (record { guests = map (settings_of format) gs; turns = turns_of (weights_of (map (settings_of format) gs)) schedule })
-settled format t gs schedule few guests is none =
+spare_within : (format : Format) (t : Members) → wrong_among None t (document_table format) ≡ None → spare_at format t ≤ 32
+unfolding spare_at
+spare_within One t e = omega arith
+spare_within Two t e =
+    let (fits, _) = first_none (out_of_range None t (key.Spare, integer_of 0 32)) _ e in
+    (optional_row 0 0 32 None t key.Spare (omega arith) (omega arith) fits).1
+
+-- guests without a fault, a schedule of so many guests, and spare blocks
+settled : (format : Format) (t : Members) (gs : List Members) (schedule : Schedule) → (1 ≤ length gs) × (length gs ≤ 16) → wrong_among None t (document_table format) ≡ None → guests_fault format [] gs ≡ None → schedule_at (length gs) t ≡ Some schedule → schedule_fault (weights_of (map (settings_of format) gs)) schedule ≡ None
+    → IsWithinLimits (record { guests = map (settings_of format) gs; turns = turns_of (weights_of (map (settings_of format) gs)) schedule; spare = spare_at format t })
+settled format t gs schedule few fits guests is none =
     let count = length-map gs (settings_of format) in
     let weights = weights_of (map (settings_of format) gs) in
     let many : length weights ≡ length gs = length-map (map (settings_of format) gs) (λ g. g.weight) ∙ count in
@@ -107,17 +115,18 @@ settled format t gs schedule few guests is none =
       each_guest = guests_within format [] gs guests;
       turns_most = turns.few;
       each_turn = rw count turns.each;
+      spare_most = spare_within format t fits;
     }
 
 -- the same of what is kept
-pub kept_within : (format : Format) (t : Members) (gs : List Members) (guests : List GuestSettings) (schedule : Schedule) (turns : List (ℕ × ℕ)) (count : ℕ) → 1 ≤ length guests → length guests ≤ 16 → guests_fault format [] gs ≡ None → guests ≡ map (settings_of format) gs → count ≡ length guests → schedule_at count t ≡ Some schedule → schedule_fault (weights_of guests) schedule ≡ None → turns ≡ turns_of (weights_of guests) schedule
-    → IsWithinLimits (record { guests = guests; turns = turns })
-kept_within format t gs guests schedule turns count some few passed is_guests is_count is_schedule none is_turns =
+pub kept_within : (format : Format) (t : Members) (gs : List Members) (guests : List GuestSettings) (schedule : Schedule) (turns : List (ℕ × ℕ)) (spare count : ℕ) → 1 ≤ length guests → length guests ≤ 16 → wrong_among None t (document_table format) ≡ None → guests_fault format [] gs ≡ None → guests ≡ map (settings_of format) gs → count ≡ length guests → schedule_at count t ≡ Some schedule → schedule_fault (weights_of guests) schedule ≡ None → turns ≡ turns_of (weights_of guests) schedule → spare ≡ spare_at format t
+    → IsWithinLimits (record { guests = guests; turns = turns; spare = spare })
+kept_within format t gs guests schedule turns spare count some few fits passed is_guests is_count is_schedule none is_turns is_spare =
     let same : length guests ≡ length gs = ap length is_guests ∙ length-map gs (settings_of format) in
     let at_count : schedule_at (length gs) t ≡ Some schedule = rw (← (is_count ∙ same)) is_schedule in
     let none_of : schedule_fault (weights_of (map (settings_of format) gs)) schedule ≡ None = rw is_guests at none in
-    let all = settled format t gs schedule (omega arith, omega arith) passed at_count none_of in
-    rw (is_turns, is_guests) all
+    let all = settled format t gs schedule (omega arith, omega arith) fits passed at_count none_of in
+    rw (is_turns, is_guests, is_spare) all
 
 -- the weights of guests without a fault
 pub kept_light : (format : Format) (gs : List Members) (guests : List GuestSettings) → guests_fault format [] gs ≡ None → guests ≡ map (settings_of format) gs → All (λ g. g.weight ≤ 1000) guests
@@ -130,13 +139,14 @@ document_within t none =
     let (_, after_head) = first_none (head_fault t) _ none in
     let (body, _) = first_none (body_fault t) _ after_head in
     let (there, after_range) = first_none (unless (is_some (guests_at t)) _) _ body in
-    let (guests, after_guests) = first_none (guests_fault (format_in t) [] (guests_in t)) _ after_range in
+    let (fits, after_spare) = first_none (wrong_among None t (document_table (format_in t))) _ after_range in
+    let (guests, after_guests) = first_none (guests_fault (format_in t) [] (guests_in t)) _ after_spare in
     let (turns, after_turns) = first_none (unless (is_some (schedule_at (length (guests_in t)) t)) _) _ after_guests in
     let (_, after_extra) = first_none (unless (has_only (document_keys (format_in t)) t) _) _ after_turns in
     let (schedule, is) = is_some_value (schedule_at (length (guests_in t)) t) (unless_none _ _ turns) in
     let (light, _) = first_none (schedule_fault (weights_of (map (settings_of (format_in t)) (guests_in t))) schedule) _ (rw is at after_extra) in
-    let all = settled (format_in t) t (guests_in t) schedule (guests_in_few t (unless_none _ _ there)) guests is light in
-    subst (λ o. IsWithinLimits (record { guests = map (settings_of (format_in t)) (guests_in t); turns = unwrap_or (option_map (turns_of (weights_of (map (settings_of (format_in t)) (guests_in t)))) o) [] })) (sym is) all
+    let all = settled (format_in t) t (guests_in t) schedule (guests_in_few t (unless_none _ _ there)) fits guests is light in
+    subst (λ o. IsWithinLimits (record { guests = map (settings_of (format_in t)) (guests_in t); turns = unwrap_or (option_map (turns_of (weights_of (map (settings_of (format_in t)) (guests_in t)))) o) []; spare = spare_at (format_in t) t })) (sym is) all
 
 unless_fault-ok : (o : Option ConfigFault) (c d : Configuration) → unless_fault o c ≡ Ok d → (o ≡ None) × (c ≡ d)
 unless_fault-ok None c d e = (refl, cc)

@@ -192,7 +192,7 @@ source_within format t e =
     rw is (optional_fits format (value_at key.Input t) source is)
 
 -- a number that need not be there
-optional_row : (absent low high : ℕ) (i : Option ℕ) (t : Members) (k : ConfigKey) → low ≤ absent → absent ≤ high → out_of_range i t (k, integer_of low high) ≡ None → (low ≤ natural_or absent k t) × (natural_or absent k t ≤ high)
+pub optional_row : (absent low high : ℕ) (i : Option ℕ) (t : Members) (k : ConfigKey) → low ≤ absent → absent ≤ high → out_of_range i t (k, integer_of low high) ≡ None → (low ≤ natural_or absent k t) × (natural_or absent k t ≤ high)
 unfolding out_of_range wrong_kind is_of natural_or
 optional_row absent low high i t k least most fits = by_value (value_at k t) refl fits
   where

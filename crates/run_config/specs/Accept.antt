@@ -13,10 +13,10 @@ use Rattle.run_config.specs.declared.guests.GuestSettings.{GuestSettings}
 use Rattle.run_config.specs.declared.schedules.Schedule.{Schedule}
 use Rattle.run_config.specs.Configurations.{Configuration, IsWithinLimits}
 use Rattle.run_config.specs.Guests.{guests_fault, settings_of}
-use Rattle.run_config.specs.Tables.{document_keys}
-use Rattle.run_config.specs.Tests.{unless, first_fault, missing}
+use Rattle.run_config.specs.Tables.{document_table, document_keys}
+use Rattle.run_config.specs.Tests.{unless, first_fault, missing, wrong_among}
 use Rattle.run_config.specs.Turns.{schedule_at, schedule_fault, turns_of}
-use Rattle.run_config.specs.Values.{◌>>=◌, passes_if, value_at, natural, has_only, tables_of}
+use Rattle.run_config.specs.Values.{◌>>=◌, passes_if, value_at, natural, natural_at, has_only, tables_of}
 
 -- the document that the bytes spell: none where they are no UTF-8, or not TOML
 unfoldable pub tree_of : List ℕ → Option Members
@@ -65,6 +65,11 @@ settings_in document = map (settings_of (format_in document)) (guests_in documen
 abbrev pub weights_of : List GuestSettings → List ℕ
 weights_of guests = map (λ g. g.weight) guests
 
+-- how many spare blocks there are, which format 1 does not know: none where the key is absent (own)
+unfoldable pub spare_at : Format → Members → ℕ
+spare_at One document = 0
+spare_at Two document = natural_at key.Spare document
+
 -- how the turns of the guests are said
 unfoldable pub schedule_in : Members → Option Schedule
 schedule_in document = schedule_at (length (guests_in document)) document
@@ -79,6 +84,7 @@ head_fault document =
 unfoldable pub body_fault : Members → Option ConfigFault
 body_fault document = first_fault (
     unless (is_some (guests_at document)) (fault.Range None key.Guest (array_length document))
+    ∷ wrong_among None document (document_table (format_in document))
     ∷ guests_fault (format_in document) [] (guests_in document)
     ∷ unless (is_some (schedule_in document)) fault.Turns
     ∷ unless (has_only (document_keys (format_in document)) document) (fault.Extra None)
@@ -94,6 +100,7 @@ unfoldable pub configuration_of : Members → Configuration
 configuration_of document = record {
   guests = settings_in document;
   turns = unwrap_or (option_map (turns_of (weights_of (settings_in document))) (schedule_in document)) [];
+  spare = spare_at (format_in document) document;
 }
 
 -- the document that the bytes spell, and the empty one where they spell none

@@ -6,10 +6,12 @@ use Rattle.run_config.specs.declared.guests.GuestSettings.{GuestSettings}
 use Rattle.run_config.specs.declared.guests.InputSource.{InputSource}
 use Rattle.run_config.specs.declared.guests.InputSource.TheVariants.{Pairs, File}
 
--- the guests in their order, and the turns: pairs of a guest's number and a number of steps
+-- the guests in their order, the turns, which are pairs of a guest's number and a number of steps, and how many
+-- spare blocks there are
 pub record Configuration : Type 0 where
   pub guests : List GuestSettings
   pub turns : List (ℕ × ℕ)
+  pub spare : ℕ
 
 -- what a guest may be given: what a console may be given, each input a byte
 pub record AreByteInputs (pairs : List (ℕ × ℕ)) : Type 0 where
@@ -50,3 +52,4 @@ pub record IsWithinLimits (c : Configuration) : Type 0 where
   pub each_guest : All IsGuestWithin c.guests
   pub turns_most : length c.turns ≤ 2 ^ 20
   pub each_turn : All (IsTurnWithin (length c.guests)) c.turns
+  pub spare_most : c.spare ≤ 32

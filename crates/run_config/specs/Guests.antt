@@ -10,9 +10,8 @@ use Rattle.run_config.specs.declared.formats.Format.TheVariants.{One, Two}
 use Rattle.run_config.specs.declared.guests.GuestSettings.{GuestSettings}
 use Rattle.run_config.specs.declared.guests.InputSource.{InputSource}
 use Rattle.run_config.specs.declared.guests.InputSource.TheVariants.{Pairs, File}
-use Rattle.run_config.specs.declared.keys.ConfigKey.{ConfigKey}
-use Rattle.run_config.specs.Tables.{Kind, guest_table, optional_table, guest_keys}
-use Rattle.run_config.specs.Tests.{unless, first_fault, missing, out_of_range}
+use Rattle.run_config.specs.Tables.{guest_table, optional_table, guest_keys}
+use Rattle.run_config.specs.Tests.{unless, first_fault, missing, wrong_among}
 use Rattle.run_config.specs.Values.{◌>>=◌, passes_if, value_at, text_at, text_within, natural_at, natural_or, is_name, has_only, pairs_within}
 
 -- the first number of each pair is at least that of the pair before, and that of the first pair at least this
@@ -54,16 +53,13 @@ is_new_name names name = is_name name && not (list_any (bytes_eq name) names)
 unfoldable pub absent_key : ℕ → Members → Option ConfigFault
 absent_key number guest = first_fault (map (λ row. missing (Some number) guest row.0) guest_table)
 
--- the fault of the first value of these rows that is not of its kind
-abbrev pub wrong_among : ℕ → Members → List (ConfigKey × Kind) → Option ConfigFault
-wrong_among number guest rows = first_fault (map (out_of_range (Some number) guest) rows)
-
--- of the keys that a guest must have, and of those that it may have after them
+-- the fault of the first value that is not of its kind: of the keys that a guest must have, and of those that
+-- it may have after them
 unfoldable pub wrong_value : ℕ → Members → Option ConfigFault
-wrong_value number guest = wrong_among number guest guest_table
+wrong_value number guest = wrong_among (Some number) guest guest_table
 
 unfoldable pub wrong_option : Format → ℕ → Members → Option ConfigFault
-wrong_option format number guest = wrong_among number guest (optional_table format)
+wrong_option format number guest = wrong_among (Some number) guest (optional_table format)
 
 -- the first fault of a guest, after guests of these names (own)
 unfoldable pub guest_fault : Format → List (List ℕ) → Members → Option ConfigFault

@@ -33,6 +33,12 @@ optional_table Two = (key.Weight, integer_of 1 1000) ∷ []
 abbrev pub guest_keys : Format → List ConfigKey
 guest_keys format = map (λ row. row.0) (guest_table ++ optional_table format) ++ key.Input ∷ []
 
+-- the keys of the same kinds that the document may have beside those with tests of their own (own)
+abbrev pub document_table : Format → List (ConfigKey × Kind)
+document_table One = []
+document_table Two = (key.Spare, integer_of 0 32) ∷ []
+
 -- all keys that the document may have (own)
 abbrev pub document_keys : Format → List ConfigKey
-document_keys format = key.Format ∷ key.Guest ∷ key.Turns ∷ key.Quantum ∷ key.Rounds ∷ []
+document_keys format =
+    key.Format ∷ key.Guest ∷ key.Turns ∷ key.Quantum ∷ key.Rounds ∷ map (λ row. row.0) (document_table format)

@@ -1,5 +1,5 @@
 -- Tests in their order, and the first fault that they find.
-use Rattle.std.specs.Prelude.{ℕ, Bool, true, false, List, [], ◌∷◌, Option, Some, None, is_some}
+use Rattle.std.specs.Prelude.{ℕ, Bool, true, false, List, [], ◌∷◌, map, Option, Some, None, is_some}
 use Rattle.toml.specs.Data.{Data, Members, as_integer}
 use Rattle.run_config.specs.declared.keys.ConfigKey.{ConfigKey}
 use Rattle.run_config.specs.declared.faults.ConfigFault.{ConfigFault}
@@ -29,3 +29,7 @@ wrong_kind guest row value = unless (is_of row.1 value) (fault.Range guest row.0
 -- the same of the value at the key of a row, where there is one
 unfoldable pub out_of_range : Option ℕ → Members → ConfigKey × Kind → Option ConfigFault
 out_of_range guest table row = value_at row.0 table >>= wrong_kind guest row
+
+-- the fault of the first value of these rows that is not of its kind
+abbrev pub wrong_among : Option ℕ → Members → List (ConfigKey × Kind) → Option ConfigFault
+wrong_among guest table rows = first_fault (map (out_of_range guest table) rows)

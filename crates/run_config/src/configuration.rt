@@ -7,11 +7,12 @@ use crate::guests::GuestSettings;
 use std::marker::Model;
 use turn_plan::Turns;
 
-/// A configuration that was accepted: the guests in their order, and the turns.
+/// A configuration that was accepted: the guests in their order, the turns, and how many spare blocks there are.
 #[derive(Debug, Drop)]
 pub struct Config {
     guests: Vec<GuestSettings>,
     turns: Turns,
+    spare: u64,
 }
 
 impl Model for Config {
@@ -27,12 +28,16 @@ impl Model for Config {
 }
 
 impl Config {
-    /// The guests and the turns of a configuration.
-    pub(crate) fn new(guests: Vec<GuestSettings>, turns: Turns) -> Config
-        requires { IsWithinLimits (record { guests = guests.items; turns = turns }) }
-        ensures { result ≡ record { guests = guests.items; turns = turns } }
+    /// The configuration of these guests and turns, with so many spare blocks.
+    pub(crate) fn new(guests: Vec<GuestSettings>, turns: Turns, spare: u64) -> Config
+        requires { IsWithinLimits (record { guests = guests.items; turns = turns; spare = spare }) }
+        ensures { result ≡ record { guests = guests.items; turns = turns; spare = spare } }
     {
-        Config { guests, turns }
+        Config {
+            guests,
+            turns,
+            spare,
+        }
     }
 
     /// The guests, in their order.
@@ -51,13 +56,21 @@ impl Config {
         &self.turns
     }
 
+    /// How many spare blocks there are, each of 2,097,152 bytes: 0 to 32, and 0 in format 1.
+    pub fn spare(&self) -> u64
+        ensures spare { result ≡ self.now.spare }
+        ensures limits { IsWithinLimits self.now }
+    {
+        self.spare
+    }
+
     /// The guests and the turns, given back.
     pub fn into_parts(self) -> (Vec<GuestSettings>, Turns)
         ensures guests { result.0.items ≡ self.guests }
         ensures turns { result.1 ≡ self.turns }
         ensures limits { IsWithinLimits self }
     {
-        let Config { guests, turns } = self;
+        let Config { guests, turns, .. } = self;
         (guests, turns)
     }
 }

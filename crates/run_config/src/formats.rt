@@ -28,8 +28,8 @@ static GUEST_KEYS_TWO: [ConfigKey; 8] = [
     ConfigKey::Input,
 ];
 
-// All keys that the document may have.
-static DOCUMENT_KEYS: [ConfigKey; 5] = [
+// All keys that the document may have, in each format.
+static DOCUMENT_KEYS_ONE: [ConfigKey; 5] = [
     ConfigKey::Format,
     ConfigKey::Guest,
     ConfigKey::Turns,
@@ -37,7 +37,16 @@ static DOCUMENT_KEYS: [ConfigKey; 5] = [
     ConfigKey::Rounds,
 ];
 
-/// A format of configurations. Format 2 has weights, and takes a guest's inputs from a file.
+static DOCUMENT_KEYS_TWO: [ConfigKey; 6] = [
+    ConfigKey::Format,
+    ConfigKey::Guest,
+    ConfigKey::Turns,
+    ConfigKey::Quantum,
+    ConfigKey::Rounds,
+    ConfigKey::Spare,
+];
+
+/// A format of configurations. Format 2 has weights and spare blocks, and takes a guest's inputs from a file.
 #[derive(Clone, Copy)]
 pub enum Format {
     One,
@@ -71,6 +80,9 @@ impl Format {
     pub(crate) fn document_keys(self) -> &'static [ConfigKey]
         ensures { result.now ≡ document_keys self }
     {
-        &DOCUMENT_KEYS
+        match self {
+            Format::One => &DOCUMENT_KEYS_ONE,
+            Format::Two => &DOCUMENT_KEYS_TWO,
+        }
     }
 }

@@ -12,6 +12,7 @@ mod guests;
 mod input_pairs;
 mod input_records;
 mod keys;
+mod kinds;
 mod pairs;
 mod reading;
 mod schedules;

@@ -5,11 +5,13 @@ ghost use Rattle.std.specs.Str.{is_utf8};
 ghost use Rattle.toml.specs.View.{view, items_view, table_view};
 ghost use Rattle.run_config.specs.declared.ends.ReadEnd.TheVariants.{NoMemory, Refused};
 ghost use Rattle.run_config.specs.declared.faults.ConfigFault.TheVariants as fault;
-ghost use Rattle.run_config.specs.Accept.{accept, array_length, body_fault, configuration_of, document_fault, format_at, format_in, guests_at, guests_in, head_fault, tree_of, AcceptedIsWithinLimits};
+ghost use Rattle.run_config.specs.Accept.{accept, array_length, body_fault, configuration_of, document_fault, format_at, format_in, guests_at, guests_in, head_fault, spare_at, tree_of, AcceptedIsWithinLimits};
 ghost use Rattle.run_config.specs.Answers.{IfRefused};
 ghost use Rattle.run_config.specs.Configurations.{IsWithinLimits};
 ghost use Rattle.run_config.specs.Guests.{guests_fault, settings_of};
 ghost use Rattle.run_config.specs.Seen.{tables_seen};
+ghost use Rattle.run_config.specs.Tables.{document_table};
+ghost use Rattle.run_config.specs.Tests.{wrong_among};
 ghost use Rattle.run_config.specs.Values.{tables_of};
 
 use crate::configuration::Config;
@@ -18,6 +20,7 @@ use crate::faults::ConfigFault;
 use crate::formats::Format;
 use crate::guests::GuestSettings;
 use crate::keys::ConfigKey;
+use crate::kinds::number_or;
 use crate::schedules::{schedule_at, turns_of};
 use crate::settings::settings_of;
 use crate::values::{has_only, natural, value_at};
@@ -112,6 +115,21 @@ fn array_length(document: &Table) -> Option<i64>
     Some(items.len() as i64)
 }
 
+// How many spare blocks there are.
+#[tactic(auto, unfolding(crate::specs::Accept::spare_at))]
+fn spare_at(format: Format, document: &Table) -> Result<u64, ConfigFault>
+    ensures spare { IfOk result (λ n. n ≡ spare_at format (table_view document.now)) }
+    ensures passed { OnOk result (
+        wrong_among None (table_view document.now) (document_table format) ≡ None) }
+    ensures refused { IfErr result (λ f.
+        wrong_among None (table_view document.now) (document_table format) ≡ Some f) }
+{
+    match format {
+        Format::One => Ok(0),
+        Format::Two => number_or(0, document, None, ConfigKey::Spare, 0, 32),
+    }
+}
+
 // The settings of the guests whose tables these are.
 #[tactic(auto, unfolding(crate::specs::Guests::guests_fault), using(crate::proofs::Guesting::guests))]
 fn all_settings(
@@ -167,6 +185,7 @@ fn body_of(alloc: Global, format: Format, document: &Table) -> Result<Config, Re
             value: array_length(document),
         }))
     };
+    let spare = spare_at(format, document)?;
     let guests = all_settings(alloc, format, tables.as_slice())?;
     let Some(schedule) = schedule_at(alloc, guests.len() as u32, document)? else {
         return Err(ReadEnd::Refused(ConfigFault::Turns))
@@ -175,7 +194,7 @@ fn body_of(alloc: Global, format: Format, document: &Table) -> Result<Config, Re
         return Err(ReadEnd::Refused(ConfigFault::Extra { guest: None }));
     }
     let turns = turns_of(alloc, guests.as_slice(), schedule)?;
-    Ok(Config::new(guests, turns))
+    Ok(Config::new(guests, turns, spare))
 }
 
 // The configuration that a document says. Want of memory never stands in the place of a refusal by `format`,

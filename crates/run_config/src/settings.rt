@@ -2,15 +2,12 @@
 
 ghost use Rattle.std.specs.Prelude.{◌≡◌, ◌≤◌, [], ◌∷◌, bytes_eq, length, Some, None, IfOk, IfErr, OnOk};
 ghost use Rattle.std.specs.List.{list_any};
-ghost use Rattle.toml.specs.Data.{as_integer, as_str};
 ghost use Rattle.toml.specs.View.{view, table_view};
-ghost use Rattle.run_config.specs.declared.faults.ConfigFault.TheVariants as fault;
 ghost use Rattle.run_config.specs.Answers.{IfRefused};
 ghost use Rattle.run_config.specs.Guests.{absent_key, wrong_value, wrong_option, guest_fault, input_at, is_new_name, settings_of, weight_at};
 ghost use Rattle.run_config.specs.Seen.{AreAt, AreReadFrom, HasValues, names_of, settings_seen, wrong_seen};
-ghost use Rattle.run_config.specs.Tables.{any_text, text_of, integer_of};
-ghost use Rattle.run_config.specs.Tests.{first_fault, missing, out_of_range, wrong_kind};
-ghost use Rattle.run_config.specs.Values.{natural_at, natural_or, number_within, text_at, value_at};
+ghost use Rattle.run_config.specs.Tests.{first_fault, missing};
+ghost use Rattle.run_config.specs.Values.{value_at};
 
 use crate::ends::ReadEnd;
 use crate::faults::ConfigFault;
@@ -18,7 +15,8 @@ use crate::formats::Format;
 use crate::guests::{FileName, GuestSettings, InputSource};
 use crate::input_pairs::input_at;
 use crate::keys::ConfigKey;
-use crate::values::{has_length, has_only, is_name, number_within, value_at};
+use crate::kinds::{file_name_in, number_in, number_or, text_in};
+use crate::values::{has_only, is_name, value_at};
 use guest_specs::Name;
 use std::alloc::{AllocError, Global};
 use toml::{Table, Value};
@@ -61,69 +59,6 @@ fn required<'a>(table: &'a Table, guest: u32, key: ConfigKey) -> Result<&'a Valu
     }
 }
 
-// The fault of a value that is not as its key's row of the table says.
-fn range_fault(guest: u32, key: ConfigKey, value: &Value) -> ConfigFault
-    ensures { result ≡ fault.Range (Some guest) key (as_integer (view value.now)) }
-{
-    ConfigFault::Range {
-        guest: Some(guest),
-        key,
-        value: value.as_integer(),
-    }
-}
-
-// The text that a value is.
-#[tactic(auto, unfolding(crate::specs::Tests::wrong_kind, crate::specs::Values::is_of))]
-fn text_in<'a>(value: &'a Value, guest: u32, key: ConfigKey) -> Result<&'a str, ConfigFault>
-    ensures text { IfOk result (λ t. as_str (view value.now) ≡ Some t.now) }
-    ensures passed { OnOk result (wrong_kind (Some guest) (key, any_text) (view value.now) ≡ None) }
-    ensures refused { IfErr result (λ f. wrong_kind (Some guest) (key, any_text) (view value.now) ≡ Some f) }
-{
-    match value.as_str() {
-        Some(text) => Ok(text),
-        None => Err(range_fault(guest, key, value)),
-    }
-}
-
-// The file name that a value is: a text of 1 to 255 bytes.
-#[tactic(auto, unfolding(crate::specs::Tests::wrong_kind, crate::specs::Values::is_of))]
-fn file_name_in<'a>(value: &'a Value, guest: u32, key: ConfigKey) -> Result<&'a str, ConfigFault>
-    ensures text { IfOk result (λ t. as_str (view value.now) ≡ Some t.now) }
-    ensures passed { OnOk result (wrong_kind (Some guest) (key, text_of 1 255) (view value.now) ≡ None) }
-    ensures refused { IfErr result (λ f.
-        wrong_kind (Some guest) (key, text_of 1 255) (view value.now) ≡ Some f) }
-{
-    let Some(text) = value.as_str() else {
-        return Err(range_fault(guest, key, value))
-    };
-    if has_length(1, 255, text) {
-        Ok(text)
-    } else {
-        Err(range_fault(guest, key, value))
-    }
-}
-
-// The number that a value is, within these limits.
-#[tactic(auto, unfolding(crate::specs::Tests::wrong_kind, crate::specs::Values::is_of))]
-fn number_in(
-    value: &Value,
-    guest: u32,
-    key: ConfigKey,
-    low: u64,
-    high: u64,
-) -> Result<u64, ConfigFault>
-    ensures number { IfOk result (λ n. number_within low high (view value.now) ≡ Some n) }
-    ensures passed { OnOk result (
-        wrong_kind (Some guest) (key, integer_of low high) (view value.now) ≡ None) }
-    ensures refused { IfErr result (λ f.
-        wrong_kind (Some guest) (key, integer_of low high) (view value.now) ≡ Some f) }
-{
-    match number_within(low, high, value) {
-        Some(number) => Ok(number),
-        None => Err(range_fault(guest, key, value)),
-    }
-}
-
 // The values at the keys that a guest must have, where each of these keys is there.
 #[tactic(auto, unfolding(crate::specs::Guests::absent_key))]
 fn values_at<'a>(table: &'a Table, guest: u32) -> Result<GuestValues<'a>, ConfigFault>
@@ -154,12 +89,18 @@ fn settings_in<'a>(values: GuestValues<'a>, guest: u32) -> Result<GuestRef<'a>, 
     ensures settings { IfOk result (λ r. AreReadFrom r values.entry) }
     ensures refused { IfErr result (λ f. wrong_seen guest values.entry ≡ Some f) }
 {
-    let name = text_in(values.name, guest, ConfigKey::Name)?;
-    let image = file_name_in(values.image, guest, ConfigKey::Image)?;
-    let blocks = number_in(values.blocks, guest, ConfigKey::Blocks, 1, 32)?;
-    let spaces = number_in(values.spaces, guest, ConfigKey::Spaces, 1, 8)?;
-    let entries = number_in(values.entries, guest, ConfigKey::Entries, 16, 256)?;
-    let console = number_in(values.console, guest, ConfigKey::Console, 0, 1_048_576)?;
+    let name = text_in(values.name, Some(guest), ConfigKey::Name)?;
+    let image = file_name_in(values.image, Some(guest), ConfigKey::Image)?;
+    let blocks = number_in(values.blocks, Some(guest), ConfigKey::Blocks, 1, 32)?;
+    let spaces = number_in(values.spaces, Some(guest), ConfigKey::Spaces, 1, 8)?;
+    let entries = number_in(values.entries, Some(guest), ConfigKey::Entries, 16, 256)?;
+    let console = number_in(
+        values.console,
+        Some(guest),
+        ConfigKey::Console,
+        0,
+        1_048_576,
+    )?;
     Ok(GuestRef {
         name,
         image,
@@ -183,29 +124,6 @@ fn values_of<'a>(table: &'a Table, guest: u32) -> Result<GuestRef<'a>, ConfigFau
     Ok(settings_in(values, guest)?)
 }
 
-// The number at a key that need not be there, within these limits: this one where it is absent.
-#[tactic(auto, unfolding(crate::specs::Tests::out_of_range, crate::specs::Values::natural_or), using(crate::proofs::Found::number_found))]
-fn number_or(
-    absent: u64,
-    table: &Table,
-    guest: u32,
-    key: ConfigKey,
-    low: u64,
-    high: u64,
-) -> Result<u64, ConfigFault>
-    ensures number { IfOk result (λ n. n ≡ natural_or absent key (table_view table.now)) }
-    ensures passed { OnOk result (
-        out_of_range (Some guest) (table_view table.now) (key, integer_of low high) ≡ None) }
-    ensures refused { IfErr result (λ f.
-        out_of_range (Some guest) (table_view table.now) (key, integer_of low high) ≡ Some f) }
-{
-    let Some(value) = value_at(table, key) else {
-        return Ok(absent)
-    };
-    let number = number_in(value, guest, key, low, high)?;
-    Ok(number)
-}
-
 // The weight of a guest.
 #[tactic(auto, unfolding(crate::specs::Guests::weight_at, crate::specs::Guests::wrong_option))]
 fn weight_at(format: Format, table: &Table, guest: u32) -> Result<u64, ConfigFault>
@@ -215,7 +133,7 @@ fn weight_at(format: Format, table: &Table, guest: u32) -> Result<u64, ConfigFau
 {
     match format {
         Format::One => Ok(1),
-        Format::Two => number_or(1, table, guest, ConfigKey::Weight, 1, 1000),
+        Format::Two => number_or(1, table, Some(guest), ConfigKey::Weight, 1, 1000),
     }
 }
 
