@@ -1,6 +1,8 @@
-// Makes the words, the files, the streams and the tally that the program takes, and ends with its answer.
+// Makes the words, the files, the streams, the tally and the count of moves that the program takes, and ends
+// with its answer.
 #![tactic(auto)]
 
+use guest_turns::Moves;
 use nesthv_top::program;
 use outside::{FileStore, ProcessArguments, StdSink, words_of};
 use rv64_hart::Tally;
@@ -12,6 +14,7 @@ fn main(rt: HostRuntime) -> ExitCode {
     let mut out = StdSink::new(rt.stdout());
     let mut err = StdSink::new(rt.stderr());
     let mut tally = Tally::new();
+    let mut moves = Moves::new();
     ExitCode::from(program(
         rt.alloc(),
         words,
@@ -19,5 +22,6 @@ fn main(rt: HostRuntime) -> ExitCode {
         &mut out,
         &mut err,
         &mut tally,
+        &mut moves,
     ))
 }

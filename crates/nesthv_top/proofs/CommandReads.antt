@@ -1,6 +1,6 @@
 -- The reads of a whole command, and what its ends say of them.
 use Rattle.std.specs.List.{All}
-use Rattle.std.proofs.Common.{◌≡◌, ◌∙◌, ◌⊎◌, inl, inr, ℕ, zero, suc, ◌+◌, ◌<◌, ◌≤◌, List, [], ◌∷◌, ◌++◌, Option, Some, None, Result, Ok, Err, Bool, true, false, nat_le, length, refl, ap, sym, subst, arith, append_assoc}
+use Rattle.std.proofs.Common.{◌≡◌, ◌∙◌, ◌⊎◌, inl, inr, ℕ, zero, suc, ◌+◌, ◌*◌, ◌<◌, ◌≤◌, List, [], ◌∷◌, ◌++◌, Option, Some, None, Result, Ok, Err, Bool, true, false, nat_le, length, refl, ap, sym, subst, arith, append_assoc}
 use Rattle.std.specs.Str.{is_utf8}
 use Rattle.command_line.specs.Commands.{Command, FileCommand, OnFiles, Work}
 use Rattle.std.specs.Borrow.{Bor}
@@ -27,7 +27,7 @@ use Rattle.nesthv_top.specs.declared.ends.LoadEnd.TheVariants.{Refused, ReadFaul
 use Rattle.nesthv_top.specs.Contents.{config_most, config_name, config_of, guests_of, stored_of}
 use Rattle.nesthv_top.specs.Endings.{IsFirstRead, SaysOfReads}
 use Rattle.nesthv_top.specs.Ends.{ended_by, IfFailed, Leaves}
-use Rattle.nesthv_top.specs.Loads.{frames_by, guests_with, IsAllRead, IsTested}
+use Rattle.nesthv_top.specs.Loads.{config_frames, frames_by, guests_with, IsAllRead, IsTested}
 use Rattle.nesthv_top.specs.Plans.{planned}
 use Rattle.nesthv_top.specs.Reads.{accepted_steps, ask, config_steps, fault_by, file_steps, frames_fault, guests_steps, reading, report_steps, steps_for, testing, text_fault, AskedSome, BeginsWithConfig}
 use Rattle.nesthv_top.specs.Seen.{plan_seen, IsJob}
@@ -196,14 +196,14 @@ nothing_stored r (inr (config, is)) = rw is (refl, λ f. refl)
 
 -- the steps of a configuration that is accepted
 pub steps_are : (f : Files) (command : FileCommand) (c : Configuration) → accept (config_of f command) ≡ Ok c
-    → file_steps f command ≡ config_steps f command ++ guests_steps f 0 c.guests ++ report_steps command ++ testing (frames_fault (frames_by c.guests)) ∷ []
+    → file_steps f command ≡ config_steps f command ++ guests_steps f 0 c.guests ++ report_steps command ++ testing (frames_fault (config_frames c)) ∷ []
 unfolding file_steps
 steps_are f command c accepted =
     let config = config_steps f command in
     let guests = guests_steps f 0 c.guests in
-    let last : List Step = testing (frames_fault (frames_by c.guests)) ∷ [] in
+    let last : List Step = testing (frames_fault (config_frames c)) ∷ [] in
     ap (λ accepted. config ++ accepted_steps f command accepted) accepted
-    ∙ ap (λ frames. config ++ (guests ++ report_steps command ++ testing (frames_fault frames) ∷ [])) (frames_of_files f c.guests)
+    ∙ ap (λ frames. config ++ (guests ++ report_steps command ++ testing (frames_fault (frames + 512 * c.spare)) ∷ [])) (frames_of_files f c.guests)
     ∙ sym (append_assoc config (guests ++ report_steps command) last)
     ∙ ap (λ steps. steps ++ last) (sym (append_assoc config guests (report_steps command)))
 
@@ -220,7 +220,7 @@ pub guests_passed : (f : Files) (command : FileCommand) (c : Configuration) (mad
 guests_passed f command c made made' before between after one two = passed_then (config_steps f command) (guests_steps f 0 c.guests) 0 made made' before between after one two
 
 abbrev last_step : Configuration → List Step
-last_step c = testing (frames_fault (frames_by c.guests)) ∷ []
+last_step c = testing (frames_fault (config_frames c)) ∷ []
 
 pub guests_stop : (f : Files) (command : FileCommand) (c : Configuration) (end : LoadEnd) (made : ℕ) (before between after : Option (List Ask)) → accept (config_of f command) ≡ Ok c
     → ArePassed (config_steps f command) 0 before made between → StopAs (guests_steps f 0 c.guests) made between end after → StopAs (file_steps f command) 0 before end after
@@ -242,21 +242,21 @@ report_stop f command c end made before between after accepted one stopped =
 
 pub frames_stop : (f : Files) (command : FileCommand) (c : Configuration) (found : ConfigFault) (made made' : ℕ) (before between after : Option (List Ask)) → accept (config_of f command) ≡ Ok c
     → ArePassed (config_steps f command ++ guests_steps f 0 c.guests) 0 before made between → ArePassed (report_steps command) made between made' after
-    → frames_fault (frames_by c.guests) ≡ Some found → StopAs (file_steps f command) 0 before (Refused found) after
+    → frames_fault (config_frames c) ≡ Some found → StopAs (file_steps f command) 0 before (Refused found) after
 frames_stop f command c found made made' before between after accepted one two refused =
     let guests = config_steps f command ++ guests_steps f 0 c.guests in
     subst (λ steps. StopAs steps 0 before (Refused found) after) (sym (steps_are f command c accepted))
     (stopped_later (guests ++ report_steps command) (last_step c) 0 made' (Refused found) before after after
-    (passed_then guests (report_steps command) 0 made made' before between after one two) (test_refused (frames_fault (frames_by c.guests)) found made' after refused))
+    (passed_then guests (report_steps command) 0 made made' before between after one two) (test_refused (frames_fault (config_frames c)) found made' after refused))
 
 pub all_passed : (f : Files) (command : FileCommand) (c : Configuration) (made made' : ℕ) (before between after : Option (List Ask)) → accept (config_of f command) ≡ Ok c
     → ArePassed (config_steps f command ++ guests_steps f 0 c.guests) 0 before made between → ArePassed (report_steps command) made between made' after
-    → frames_fault (frames_by c.guests) ≡ None → ArePassed (file_steps f command) 0 before made' after
+    → frames_fault (config_frames c) ≡ None → ArePassed (file_steps f command) 0 before made' after
 all_passed f command c made made' before between after accepted one two none =
     let guests = config_steps f command ++ guests_steps f 0 c.guests in
     subst (λ steps. ArePassed steps 0 before made' after) (sym (steps_are f command c accepted))
     (passed_then (guests ++ report_steps command) (last_step c) 0 made' made' before after after
-    (passed_then guests (report_steps command) 0 made made' before between after one two) (test_passed (frames_fault (frames_by c.guests)) made' after none))
+    (passed_then guests (report_steps command) 0 made made' before between after one two) (test_passed (frames_fault (config_frames c)) made' after none))
 
 -- a test that refuses leaves what the reads before it left
 pub left_refused : {X A B : Type 0} (S : stores.Ghosts X) (most : ℕ) (a : A) (found : ConfigFault) (old new : X) (made made' : ℕ)
@@ -383,5 +383,5 @@ job_read read job tested config guests =
       names = rw (config, guests) (made_names settings read.guests.items tested.guests);
       guests = subst (All IsBootable) (sym guests) (all_bootable settings read.guests.items tested.limits.each_guest tested.guests);
       frames = frames ∙ ap (λ c. frames_by c.guests) (sym config);
-      few = rw frames tested.frames;
+      few = rw (frames, config) tested.frames;
     }

@@ -4,7 +4,9 @@ pub mod CommandReads
 pub mod Comparing
 pub mod Framing
 pub mod GuestReads
+pub mod MovingTurns
 pub mod Reporting
+pub mod RetiredMachines
 pub mod Sectioning
 pub mod StepLists
 pub mod Telling

@@ -16,6 +16,7 @@ use Rattle.guest_turns.proofs.Updating.{length_updated, updated_other}
 use Rattle.run_config.specs.Configurations.{IsTurnWithin}
 use Rattle.rv64_hart.specs.Counts.{Counts, IsRaisedBy}
 use Rattle.nesthv_top.specs.Plans.{turn_steps}
+use Rattle.nesthv_top.specs.Runnings.{CountsTurnsOf}
 
 -- after the first i of these turns
 pub record TurnsLeft (turns : List (ℕ × ℕ)) (first : List Machine) (began : Counts) (i : ℕ) (ms : List Machine) (tally : Counts) : Type 0 where
@@ -44,7 +45,7 @@ entries_more : (ms : List Machine) (g k : ℕ) (turns : List (ℕ × ℕ))
     → entries_for ms ((g, k) ∷ turns) ≡ turn_entries (machine_at ms g).entry_room k + entries_for ms turns
 entries_more ms g k turns = sum_by-cons (λ turn. turn_entries (machine_at ms turn.0).entry_room turn.1) (g, k) turns
 
-left_is : (turns : List (ℕ × ℕ)) (i g k : ℕ) (d : ℕ × ℕ) → i < length turns → get_or turns i d ≡ (g, k) → drop i turns ≡ (g, k) ∷ drop (i + 1) turns
+pub left_is : (turns : List (ℕ × ℕ)) (i g k : ℕ) (d : ℕ × ℕ) → i < length turns → get_or turns i d ≡ (g, k) → drop i turns ≡ (g, k) ∷ drop (i + 1) turns
 left_is turns i g k d inside is = drop-cons turns i d inside ∙ rw (is, add-one i) refl
 
 events_more : (g k : ℕ) (turns : List (ℕ × ℕ)) (ms : List Machine)
@@ -178,12 +179,22 @@ bounded count turns first began i d ms tally few within inside left =
     (few_steps count turns few within, ap turn_steps (left_is turns i turn.0 turn.1 d inside refl) ∙ steps_more turn.0 turn.1 (drop (i + 1) turns))
 
 -- no turn is left
-pub taken_in_all : (turns : List (ℕ × ℕ)) (first : List Machine) (began : Counts) (i : ℕ) (ms : List Machine) (tally : Counts) → length turns ≤ i
+taken_in_all : (turns : List (ℕ × ℕ)) (first : List Machine) (began : Counts) (i : ℕ) (ms : List Machine) (tally : Counts) → length turns ≤ i
     → TurnsLeft turns first began i ms tally → began.taken + plain_count (turn_events turns first) ≤ tally.taken
 taken_in_all turns first began i ms tally end left =
     let all = rw (drop_all i turns end) at left.taken_least in omega (arith, all)
 
-pub traced_in_all : (turns : List (ℕ × ℕ)) (first : List Machine) (began : Counts) (i : ℕ) (ms : List Machine) (tally : Counts) → length turns ≤ i
+traced_in_all : (turns : List (ℕ × ℕ)) (first : List Machine) (began : Counts) (i : ℕ) (ms : List Machine) (tally : Counts) → length turns ≤ i
     → TurnsLeft turns first began i ms tally → IsRaisedBy (trace_of (turn_events turns first)) began.trace tally.trace
 traced_in_all turns first began i ms tally end left =
     let all = rw (drop_all i turns end) at left.trace in omega (arith, all)
+
+pub counted_turns : (turns : List (ℕ × ℕ)) (first : List Machine) (began : Counts) (i : ℕ) (ms : List Machine) (tally : Counts) → length turns ≤ i
+    → TurnsLeft turns first began i ms tally → CountsTurnsOf first turns began tally
+counted_turns turns first began i ms tally end left = record {
+  entries_grow = left.entries_grow;
+  entries_most = omega (arith, left.entries_most);
+  taken_most = omega (arith, left.taken_most);
+  taken_least = taken_in_all turns first began i ms tally end left;
+  trace = traced_in_all turns first began i ms tally end left;
+}

@@ -17,6 +17,7 @@ use Rattle.nesthv_top.specs.declared.ends.Ended.TheVariants.{Done, Differs, NoCo
 use Rattle.nesthv_top.specs.Lines.{usage_line, configuration_line, read_line, write_line, memory_line}
 use Rattle.run_config.specs.declared.faults.ConfigFault.{ConfigFault}
 use Rattle.nesthv_top.specs.Plans.{AllRunAsWritten, Plan, fault_of, plan_of, run_of, entries_of, steps_of, events_of}
+use Rattle.nesthv_top.specs.Runnings.{moves_for}
 use Rattle.nesthv_top.specs.Reads.{asks_of, most_reads, steps_for, BeginsWithConfig}
 use Rattle.nesthv_top.specs.Steps.{AskedMore, IsFailed, IsWanting}
 use Rattle.nesthv_top.specs.Statuses.{ArePlain}
@@ -205,3 +206,18 @@ pub record SaysOfAccount (told : Option Files) (command : Option Command) (ended
   pub bound : GrewBy (2 ^ 61) (2 ^ 52) old new
   pub most : IfKnown told command (λ files.
       GrewBy (entries_of (run_of files command)) (steps_of (run_of files command)) old new)
+
+-- a run to its end moved a block after each turn, where there are spare blocks
+abbrev pub MovesIfRun : Option Plan → Ended → ℕ → ℕ → Type 0
+MovesIfRun plan Done old new = IfSome plan (λ p. new ≡ old + moves_for p)
+MovesIfRun plan Differs old new = IfSome plan (λ p. new ≡ old + moves_for p)
+MovesIfRun plan other old new = ⊤
+
+-- what an end says of the count of moved blocks
+pub record SaysOfMoves (told : Option Files) (command : Option Command) (ended : Ended) (old new : ℕ)
+    : Type 0 where
+  pub run : IfKnown told command (λ files. MovesIfRun (run_of files command) ended old new)
+  pub idle : IsIdle ended old new
+  pub check : IsCheck command → new ≡ old
+  pub grow : old ≤ new
+  pub most : new ≤ old + 2 ^ 20

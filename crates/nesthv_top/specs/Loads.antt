@@ -1,5 +1,5 @@
 -- What was read for guests, and the guests that are made of it.
-use Rattle.std.specs.Prelude.{⊤, ◌≡◌, ◌+◌, ◌≤◌, ℕ, List, [], ◌∷◌, None, Ok, length, map}
+use Rattle.std.specs.Prelude.{⊤, ◌≡◌, ◌+◌, ◌*◌, ◌≤◌, ℕ, List, [], ◌∷◌, None, Ok, length, map}
 use Rattle.arch_defs.specs.Frames.{most_frames}
 use Rattle.command_line.specs.Commands.{FileCommand}
 use Rattle.guest_specs.specs.declared.guests.GuestSpec.{GuestSpec}
@@ -11,7 +11,7 @@ use Rattle.run_config.specs.declared.guests.InputSource.{InputSource}
 use Rattle.run_config.specs.declared.guests.InputSource.TheVariants.{Pairs, File}
 use Rattle.run_config.specs.Records.{bad_record}
 use Rattle.run_config.specs.Accept.{accept}
-use Rattle.run_config.specs.Configurations.{IsWithinLimits}
+use Rattle.run_config.specs.Configurations.{Configuration, IsWithinLimits}
 use Rattle.nesthv_top.specs.declared.ends.GuestFiles.{GuestFiles}
 use Rattle.nesthv_top.specs.declared.ends.FilesRead.{FilesRead}
 use Rattle.nesthv_top.specs.Contents.{config_of, guest_of, guest_ram_size, image_of, records_in, stored_of}
@@ -58,6 +58,10 @@ abbrev pub frames_by : List GuestSettings → ℕ
 frames_by [] = 0
 frames_by (settings ∷ others) = frames_needed (need_by settings) + frames_by others
 
+-- the frames that a configuration needs, 512 for each spare block
+abbrev pub config_frames : Configuration → ℕ
+config_frames c = frames_by c.guests + 512 * c.spare
+
 -- all that was read for a command is what the files say
 pub record IsAllRead (files : Files) (command : FileCommand) (read : FilesRead) : Type 0 where
   pub config : accept (config_of files command) ≡ Ok read.config
@@ -68,4 +72,4 @@ pub record IsAllRead (files : Files) (command : FileCommand) (read : FilesRead) 
 pub record IsTested (read : FilesRead) : Type 0 where
   pub limits : IsWithinLimits read.config
   pub guests : AreFitting read.config.guests read.guests.items
-  pub frames : frames_by read.config.guests ≤ most_frames
+  pub frames : config_frames read.config ≤ most_frames

@@ -1,8 +1,9 @@
 -- What a command does with the files: the guests that it runs, their turns, and the report.
-use Rattle.std.specs.Prelude.{ℕ, ◌≡◌, ◌+◌, ◌<◌, ◌≤◌, List, [], ◌∷◌, ◌++◌, Option, Some, None, Result, Ok, Err, length, map, sum_by}
+use Rattle.std.specs.Prelude.{ℕ, ◌≡◌, ◌+◌, ◌*◌, ◌<◌, ◌≤◌, List, [], ◌∷◌, ◌++◌, Option, Some, None, Result, Ok, Err, length, map, sum_by}
 use Rattle.command_line.specs.Commands.{Command, FileCommand, OnFiles, Run, Replay, Check, Work}
 use Rattle.guest_specs.specs.declared.guests.GuestSpec.{GuestSpec}
 use Rattle.guest_turns.specs.Hosted.{machine_at}
+use Rattle.guest_turns.specs.Limits.{frames_for}
 use Rattle.guest_turns.specs.TurnLists.{entries_for, own_events, own_steps}
 use Rattle.machine_defs.specs.declared.events.Event.{Event}
 use Rattle.machine_defs.specs.Fills.{missing_entry, ready}
@@ -21,14 +22,20 @@ use Rattle.nesthv_top.specs.Contents.{config_of, guests_of}
 use Rattle.nesthv_top.specs.Reads.{file_steps, steps_for}
 use Rattle.nesthv_top.specs.Steps.{fault_in}
 
--- guests, and their turns
+-- guests, their turns, and how many spare blocks there are beside those of the guests. The report speaks of
+-- the guests and the turns alone
 pub record Plan : Type 0 where
   pub guests : List GuestSpec
   pub turns : List (ℕ × ℕ)
+  pub spare : ℕ
+
+-- the frames of machine memory that it needs, 512 for each spare block
+abbrev pub plan_frames : Plan → ℕ
+plan_frames plan = frames_for plan.guests + 512 * plan.spare
 
 -- the plan of a configuration
 abbrev pub plan_by : Files → Configuration → Plan
-plan_by files c = record { guests = guests_of files c.guests; turns = c.turns }
+plan_by files c = record { guests = guests_of files c.guests; turns = c.turns; spare = c.spare }
 
 -- the same of a configuration that is accepted, unless a step found a fault
 abbrev pub plan_if : Files → Option ConfigFault → Result Configuration ConfigFault → Option Plan
@@ -43,7 +50,8 @@ planned files command = plan_if files (fault_in (file_steps files command)) (acc
 -- the plan of a seed and a size: the four guests that they give, and as many rounds as each has commands, of
 -- 1,000 steps for each guest (own)
 abbrev pub work_plan : ℕ → ℕ → Plan
-work_plan seed size = record { guests = generated.guests seed size; turns = rounds_of 4 1000 size }
+work_plan seed size =
+    record { guests = generated.guests seed size; turns = rounds_of 4 1000 size; spare = 0 }
 
 -- the plan of a command, and the first fault of its steps
 abbrev pub plan_of : Files → Option Command → Option Plan

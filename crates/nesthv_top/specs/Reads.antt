@@ -1,5 +1,5 @@
 -- The steps of a command before it runs: which files it reads, and how it tests what they say.
-use Rattle.std.specs.Prelude.{ℕ, ◌+◌, List, [], ◌∷◌, ◌++◌, Option, Some, None, option_map, Result, Ok, Err, Bool, false, length, nat_le}
+use Rattle.std.specs.Prelude.{ℕ, ◌+◌, ◌*◌, List, [], ◌∷◌, ◌++◌, Option, Some, None, option_map, Result, Ok, Err, Bool, false, length, nat_le}
 use Rattle.std.specs.Str.{is_utf8}
 use Rattle.arch_defs.specs.Frames.{most_frames}
 use Rattle.command_line.specs.Commands.{Command, FileCommand, OnFiles, Run, Replay, Check, Work}
@@ -86,7 +86,7 @@ report_steps (Run config) = []
 report_steps (Replay config report) = reading (ask report report_most) None ∷ []
 report_steps (Check config) = []
 
--- the fault of guests that need more frames than machine memory has, which is 131,072 (own)
+-- the fault of guests and spare blocks that need more frames than machine memory has, which is 131,072 (own)
 abbrev pub frames_fault : ℕ → Option ConfigFault
 frames_fault frames = unless (nat_le frames most_frames) (fault.Frames frames)
 
@@ -94,7 +94,7 @@ frames_fault frames = unless (nat_le frames most_frames) (fault.Frames frames)
 abbrev pub accepted_steps : Files → FileCommand → Result Configuration ConfigFault → List Step
 accepted_steps files command (Ok c) = guests_steps files 0 c.guests
     ++ report_steps command
-    ++ testing (frames_fault (frames_for (guests_of files c.guests)))
+    ++ testing (frames_fault (frames_for (guests_of files c.guests) + 512 * c.spare))
     ∷ []
 accepted_steps files command (Err found) = []
 

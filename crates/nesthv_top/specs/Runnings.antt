@@ -1,7 +1,10 @@
 -- What a run of a plan leaves: its account, and the report of machines.
-use Rattle.std.specs.Prelude.{◌≡◌, ℕ, ◌+◌, ◌^◌, ◌≤◌, List, [], ◌∷◌, ◌++◌, map, Result, Ok, Err}
-use Rattle.std.specs.List.{range_with_len}
+use Rattle.std.specs.Prelude.{◌≡◌, ℕ, ◌+◌, ◌^◌, ◌<◌, ◌≤◌, zero, suc, ◌==◌, Bool, true, false, List, [], ◌∷◌, ◌++◌, length, map, Result, Ok, Err}
+use Rattle.std.specs.List.{All, count_by, range_with_len}
 use Rattle.command_line.specs.Commands.{FileCommand, Run, Replay, Check}
+use Rattle.guest_turns.specs.Hosted.{Hosted, count_set, is_set, part_at}
+use Rattle.guest_turns.specs.Moves.{emptied}
+use Rattle.guest_turns.specs.TurnLists.{entries_for, turn_events}
 use Rattle.machine_defs.specs.Runs.{plain_count, trace_of}
 use Rattle.rv64_hart.specs.Counts.{Counts, IsRaisedBy}
 use Rattle.nesthv_top.specs.declared.ends.RunEnd.{RunEnd}
@@ -29,10 +32,60 @@ work_names = map guest_name (range_with_len 0 4)
 abbrev pub lines_of : List Machine → List ℕ
 lines_of machines = said_of line_of work_names machines
 
+-- a machine as a host has it: without its RAM where its guest has retired
+abbrev pub hosted_one : Bool → Machine → Machine
+hosted_one true m = emptied m
+hosted_one false m = m
+
+-- machines as a host has them, by which of their guests have retired
+unfoldable pub hosted_as : List Bool → List Machine → List Machine
+hosted_as retired [] = []
+hosted_as [] (m ∷ machines) = m ∷ machines
+hosted_as (flag ∷ retired) (m ∷ machines) = hosted_one flag m ∷ hosted_as retired machines
+
+-- how many blocks a plan moves: one after each turn, where there are spare blocks
+abbrev pub moves_by : ℕ → List (ℕ × ℕ) → ℕ
+moves_by zero turns = 0
+moves_by (suc spare) turns = length turns
+
+abbrev pub moves_for : Plan → ℕ
+moves_for plan = moves_by plan.spare plan.turns
+
+-- how many of these turns are a guest's
+abbrev pub own_turns : ℕ → List (ℕ × ℕ) → ℕ
+own_turns g turns = count_by (λ turn. turn.0 == g) turns
+
 -- an account has room for the entries and steps of a command
 pub record HasRoomForCommand (account : Counts) : Type 0 where
   pub entries : account.entries ≤ 2 ^ 61
   pub taken : account.taken ≤ 2 ^ 61
+
+-- the account of turns of machines
+pub record CountsTurnsOf (machines : List Machine) (turns : List (ℕ × ℕ)) (old new : Counts) : Type 0 where
+  pub entries_grow : old.entries ≤ new.entries
+  pub entries_most : new.entries ≤ old.entries + entries_for machines turns
+  pub taken_most : new.taken ≤ old.taken + turn_steps turns
+  pub taken_least : old.taken + plain_count (turn_events turns machines) ≤ new.taken
+  pub trace : IsRaisedBy (trace_of (turn_events turns machines)) old.trace new.trace
+
+-- a host as it is booted: no machine has made a step, no guest has retired, and rooms are small
+pub record IsReady (host : Hosted) : Type 0 where
+  pub fresh : All (λ m. m.platform.steps ≡ 0) host.machines
+  pub active : (g : ℕ) → is_set host.retired g ≡ false
+  pub rooms : All (λ m. m.entry_room ≤ 256) host.machines
+
+-- each guest of a host that has not retired has a block
+pub record HaveBlocks (host : Hosted) : Type 0 where
+  pub count : length host.parts ≡ length host.machines
+  pub some : (g : ℕ) → g < length host.machines → is_set host.retired g ≡ false
+      → 1 ≤ length (part_at host.parts g).blocks
+
+-- blocks of a host can move: one is free. It has few guests, and a flag for each of sixteen
+pub record CanMove (host : Hosted) : Type 0 where
+  pub blocks : HaveBlocks host
+  pub free : 1 ≤ count_set host.free
+  pub guests : length host.machines ≤ 16
+  pub flags : length host.retired ≡ 16
 
 -- the account of a plan's turns
 pub record CountsTurns (plan : Plan) (old new : Counts) : Type 0 where
@@ -49,8 +102,20 @@ IsAccountOf plan (Ok a) old new = CountsTurns plan old new
 IsAccountOf plan (Err WriteFault) old new = CountsTurns plan old new
 IsAccountOf plan (Err NoMemory) old new = new ≡ old
 
+-- how many blocks a run moved; where memory was wanting, none
+abbrev pub IsMovedBy : {A : Type 0} → Plan → Result A RunEnd → ℕ → ℕ → Type 0
+IsMovedBy plan (Ok a) old new = new ≡ old + moves_for plan
+IsMovedBy plan (Err WriteFault) old new = new ≡ old + moves_for plan
+IsMovedBy plan (Err NoMemory) old new = new ≡ old
+
 -- the same for what is asked for: a check runs nothing
 abbrev pub IsAccountFor : {A : Type 0} → FileCommand → Plan → Result A RunEnd → Counts → Counts → Type 0
 IsAccountFor (Run config) plan result old new = IsAccountOf plan result old new
 IsAccountFor (Replay config report) plan result old new = IsAccountOf plan result old new
 IsAccountFor (Check config) plan result old new = new ≡ old
+
+-- the same for what is asked for: a check moves nothing
+abbrev pub IsMovedFor : {A : Type 0} → FileCommand → Plan → Result A RunEnd → ℕ → ℕ → Type 0
+IsMovedFor (Run config) plan result old new = IsMovedBy plan result old new
+IsMovedFor (Replay config report) plan result old new = IsMovedBy plan result old new
+IsMovedFor (Check config) plan result old new = new ≡ old

@@ -1,7 +1,7 @@
 -- The plan that the program's own values stand for.
 use Rattle.std.specs.List.{All}
 use Rattle.arch_defs.specs.Frames.{most_frames}
-use Rattle.std.specs.Prelude.{◌≡◌, ◌≤◌, ℕ, List, map}
+use Rattle.std.specs.Prelude.{◌≡◌, ◌+◌, ◌*◌, ◌≤◌, ℕ, List, map}
 use Rattle.guest_specs.specs.declared.guests.GuestSpec.{GuestSpec}
 use Rattle.guest_turns.specs.Limits.{IsBootable, frames_for}
 use Rattle.run_config.specs.declared.guests.GuestSettings.{GuestSettings}
@@ -11,11 +11,11 @@ use Rattle.nesthv_top.specs.declared.ends.Loaded.{Loaded}
 use Rattle.nesthv_top.specs.Loads.{frames_by}
 use Rattle.nesthv_top.specs.Plans.{Plan}
 
-abbrev pub plan_with : List GuestSpec → List (ℕ × ℕ) → Plan
-plan_with guests turns = record { guests = guests; turns = turns }
+abbrev pub plan_with : List GuestSpec → List (ℕ × ℕ) → ℕ → Plan
+plan_with guests turns spare = record { guests = guests; turns = turns; spare = spare }
 
 abbrev pub plan_seen : Job → Plan
-plan_seen job = plan_with job.guests.items job.config.turns
+plan_seen job = plan_with job.guests.items job.config.turns job.config.spare
 
 abbrev pub loaded_plan : Loaded → Plan
 loaded_plan loaded = plan_seen loaded.job
@@ -33,4 +33,4 @@ pub record IsJob (job : Job) : Type 0 where
   pub names : names_of_guests job.guests.items ≡ names_in job.config.guests
   pub guests : All IsBootable job.guests.items
   pub frames : frames_for job.guests.items ≡ frames_by job.config.guests
-  pub few : frames_for job.guests.items ≤ most_frames
+  pub few : frames_for job.guests.items + 512 * job.config.spare ≤ most_frames

@@ -2,14 +2,13 @@
 use Rattle.std.specs.Prelude.{ℕ, List, [], ◌∷◌, ◌++◌, length, codes, decimal}
 use Rattle.guest_specs.specs.Needs.{frames_needed, need_of}
 use Rattle.command_line.specs.Commands.{Command, FileCommand, OnFiles, Run, Replay, Check, Work}
-use Rattle.guest_turns.specs.Limits.{frames_for}
 use Rattle.guest_specs.specs.declared.guests.GuestSpec.{GuestSpec}
 use Rattle.outside.specs.Files.{Files}
 use Rattle.replay.specs.Comparisons.{verdict_of}
 use Rattle.replay.specs.declared.comparisons.Verdict.{Verdict}
 use Rattle.replay.specs.declared.comparisons.Verdict.TheVariants.{Same, Differs}
 use Rattle.nesthv_top.specs.Contents.{stored_of}
-use Rattle.nesthv_top.specs.Plans.{Plan, report_of}
+use Rattle.nesthv_top.specs.Plans.{Plan, plan_frames, report_of}
 use Rattle.nesthv_top.specs.Works.{work_text}
 
 -- the line that says what a guest needs: its name, how long its image is, and its frames of machine memory
@@ -26,7 +25,7 @@ unfoldable pub frames_check : ℕ → List ℕ
 frames_check frames = codes "frames " ++ decimal frames ++ codes "\n"
 
 abbrev pub check_text : Plan → List ℕ
-check_text plan = guest_checks plan.guests ++ frames_check (frames_for plan.guests)
+check_text plan = guest_checks plan.guests ++ frames_check (plan_frames plan)
 
 -- the line that says a verdict
 unfoldable pub verdict_line : Verdict → List ℕ

@@ -3,8 +3,7 @@
 ghost use Rattle.std.specs.Prelude.{◌≡◌, ◌≤◌, length, is_ok, OnErr};
 ghost use Rattle.std.specs.List.{All};
 ghost use Rattle.guest_turns.specs.Limits.{IsBootable};
-ghost use Rattle.run_config.specs.Configurations.{IsGuestWithin};
-ghost use Rattle.nesthv_top.specs.Loads.{frames_by};
+ghost use Rattle.nesthv_top.specs.Loads.{config_frames};
 ghost use Rattle.outside.specs.Faults.{Rose};
 ghost use Rattle.outside.specs.Pieces.{Puts};
 ghost use Rattle.nesthv_top.specs.Seen.{plan_seen, IsJob};
@@ -12,12 +11,12 @@ ghost use Rattle.nesthv_top.specs.Texts.{check_text, frames_check, guest_check, 
 ghost use Rattle.nesthv_top.specs.Written.{PutsText};
 
 use crate::ends::Job;
-use crate::loading::frames_for;
+use crate::loading::config_frames;
 use arrayvec::ArrayVec;
 use itoa::Buffer;
 use machine_defs::GuestSpec;
 use outside::{Sink, SinkFault};
-use run_config::GuestSettings;
+use run_config::Config;
 
 /// Puts what the guests of a job need, a line for each, and one for all.
 #[tactic(auto, using(outside::proofs::Pieces::pieces, crate::proofs::CheckLines::jobs))]
@@ -26,7 +25,7 @@ pub fn check<O: Sink>(job: &Job, out: &mut O) -> Result<(), SinkFault>
     ensures { PutsText O.Sink result out.old out.new (check_text (plan_seen job.now)) }
 {
     put_guests(job.guests.as_slice(), out)?;
-    out.put(frames_line(job.config.guests()).as_slice())
+    out.put(frames_line(&job.config).as_slice())
 }
 
 // Puts the line of each guest, in order.
@@ -68,15 +67,13 @@ fn guest_line(guest: &GuestSpec) -> ArrayVec<u8, 128>
 
 // The line of all guests.
 #[tactic(auto, unfolding(crate::specs::Texts::frames_check))]
-fn frames_line(guests: &[GuestSettings]) -> ArrayVec<u8, 64>
-    requires few { length guests.now ≤ 16 }
-    requires each { All IsGuestWithin guests.now }
-    ensures { result.items ≡ frames_check (frames_by guests.now) }
+fn frames_line(config: &Config) -> ArrayVec<u8, 64>
+    ensures { result.items ≡ frames_check (config_frames config.now) }
 {
     let mut digits = Buffer::new();
     let mut line = ArrayVec::new();
     line.try_extend_from_slice(b"frames ").unwrap();
-    line.try_extend_from_slice(digits.format(frames_for(guests)).as_bytes())
+    line.try_extend_from_slice(digits.format(config_frames(config)).as_bytes())
         .unwrap();
     line.try_extend_from_slice(b"\n").unwrap();
     line

@@ -12,7 +12,7 @@ ghost use Rattle.run_config.specs.Configurations.{IsGuestWithin, IsWithinLimits}
 ghost use Rattle.nesthv_top.specs.Contents.{config_name, config_of, guest_ram_size, image_of, inputs_from, records_in, stored_of};
 ghost use Rattle.nesthv_top.specs.Endings.{IsFirstRead, SaysOfReads};
 ghost use Rattle.nesthv_top.specs.Ends.{ended_of, IfReadFailed, Leaves};
-ghost use Rattle.nesthv_top.specs.Loads.{all_read_for, frames_by, guest_with, guests_with, need_by, read_for, AreFitting, AreGood, IsAllRead, IsFitting, IsTested};
+ghost use Rattle.nesthv_top.specs.Loads.{all_read_for, config_frames, frames_by, guest_with, guests_with, need_by, read_for, AreFitting, AreGood, IsAllRead, IsFitting, IsTested};
 ghost use Rattle.nesthv_top.specs.Plans.{planned};
 ghost use Rattle.nesthv_top.specs.Reads.{config_steps, file_steps, frames_fault, guest_steps, guests_steps, image_step, input_steps, report_steps};
 ghost use Rattle.nesthv_top.specs.Seen.{loaded_plan, IsJob};
@@ -20,7 +20,7 @@ ghost use Rattle.nesthv_top.specs.Steps.{ArePassed, EndAs};
 
 use crate::ends::{FilesRead, GuestFiles, Job, LoadEnd, Loaded};
 use crate::reads::Reads;
-use arch_defs::{BLOCK_SIZE, MOST_FRAMES};
+use arch_defs::{BLOCK_FRAMES, BLOCK_SIZE, MOST_FRAMES};
 use command_line::FileRequest;
 use guest_specs::Need;
 use machine_defs::{Bytes, GuestSpec, Inputs, Name};
@@ -97,7 +97,7 @@ fn read_files<S: Store>(
     let config = read_config(alloc, request, reads, store)?;
     let guests = read_guests(alloc, config.guests(), reads, store)?;
     let stored = read_stored(alloc, request, reads, store)?;
-    match frames_fault(config.guests()) {
+    match frames_fault(&config) {
         Some(fault) => Err(LoadEnd::Refused(fault)),
         None => Ok(FilesRead {
             config,
@@ -273,13 +273,11 @@ fn read_stored<S: Store>(
     }
 }
 
-// The fault of guests that need more frames than machine memory has.
-fn frames_fault(settings: &[GuestSettings]) -> Option<ConfigFault>
-    requires few { length settings.now ≤ 16 }
-    requires each { All IsGuestWithin settings.now }
-    ensures { result ≡ frames_fault (frames_by settings.now) }
+// The fault of a configuration that needs more frames than machine memory has.
+fn frames_fault(config: &Config) -> Option<ConfigFault>
+    ensures { result ≡ frames_fault (config_frames config.now) }
 {
-    let sum = frames_for(settings);
+    let sum = config_frames(config);
     if sum <= MOST_FRAMES {
         None
     } else {
@@ -287,8 +285,16 @@ fn frames_fault(settings: &[GuestSettings]) -> Option<ConfigFault>
     }
 }
 
-/// The frames of machine memory that guests need.
-pub fn frames_for(settings: &[GuestSettings]) -> u64
+/// The frames of machine memory that a configuration needs, 512 for each spare block.
+pub fn config_frames(config: &Config) -> u64
+    ensures frames { result ≡ config_frames config.now }
+    ensures most { result ≤ 2 ^ 21 }
+{
+    frames_for(config.guests()) + BLOCK_FRAMES * config.spare()
+}
+
+// The frames of machine memory that guests need.
+fn frames_for(settings: &[GuestSettings]) -> u64
     requires few { length settings.now ≤ 16 }
     requires each { All IsGuestWithin settings.now }
     ensures frames { result ≡ frames_by settings.now }

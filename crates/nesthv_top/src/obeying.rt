@@ -1,12 +1,12 @@
 // From a command to its end.
 
-ghost use Rattle.std.specs.Prelude.{◌≡◌, ◌≤◌, Some, IfOk, IsErrOf, length};
+ghost use Rattle.std.specs.Prelude.{◌^◌, ◌≡◌, ◌≤◌, Some, IfOk, IsErrOf, length};
 ghost use Rattle.command_line.specs.Commands.{OnFiles, command_of};
 ghost use Rattle.command_line.specs.Seen.{file_command_seen};
 ghost use Rattle.outside.specs.Faults.{Rose};
-ghost use Rattle.nesthv_top.specs.Endings.{IfReadFault, IfRun, IfWriteFault, IsOfCommand, SaysOfAccount, SaysOfCause, SaysOfOut, SaysOfReads};
+ghost use Rattle.nesthv_top.specs.Endings.{IfReadFault, IfRun, IfWriteFault, IsOfCommand, SaysOfAccount, SaysOfCause, SaysOfMoves, SaysOfOut, SaysOfReads};
 ghost use Rattle.nesthv_top.specs.Plans.{AllRunAsWritten};
-ghost use Rattle.nesthv_top.specs.Runnings.{HasRoomForCommand, IsAccountFor};
+ghost use Rattle.nesthv_top.specs.Runnings.{HasRoomForCommand, IsAccountFor, IsMovedFor};
 ghost use Rattle.nesthv_top.specs.Seen.{plan_seen, IsJob};
 ghost use Rattle.nesthv_top.specs.Texts.{found_with, text_with};
 ghost use Rattle.nesthv_top.specs.Written.{Writes};
@@ -19,6 +19,7 @@ use crate::replaying::replay;
 use crate::running::run;
 use crate::works::work;
 use command_line::{FileRequest, Request, request_of};
+use guest_turns::Moves;
 use outside::{Sink, Store, Word};
 use replay::Verdict;
 use rv64_hart::Tally;
@@ -31,16 +32,19 @@ pub fn obey<S: Store, O: Sink>(
     store: &mut S,
     out: &mut O,
     tally: &mut Tally,
+    moves: &mut Moves,
 ) -> Ended
     requires room { HasRoomForCommand tally.old }
+    requires moves { moves.old ≤ 2 ^ 61 }
 
     ensures cause { SaysOfCause S.Store O.Sink words.now result store.old store.new out.old out.new }
     ensures reads { SaysOfReads S.Store (command_of words.now) result store.old store.new }
     ensures out { SaysOfOut O.Sink (S.files store.old) (command_of words.now) result out.old out.new }
     ensures account { SaysOfAccount (S.files store.old) (command_of words.now) result tally.old tally.new }
+    ensures moves { SaysOfMoves (S.files store.old) (command_of words.now) result moves.old moves.new }
 {
     match request_of(alloc, words) {
-        Ok(Some(Request::OnFiles(request))) => answer(alloc, request, store, out, tally),
+        Ok(Some(Request::OnFiles(request))) => answer(alloc, request, store, out, tally, moves),
         Ok(Some(Request::Work { seed, size })) => match work(alloc, seed, size, out, tally) {
             Ok(()) => Ended::Done,
             Err(RunEnd::WriteFault) => Ended::WriteFault,
@@ -58,8 +62,10 @@ fn answer<S: Store, O: Sink>(
     store: &mut S,
     out: &mut O,
     tally: &mut Tally,
+    moves: &mut Moves,
 ) -> Ended
     requires room { HasRoomForCommand tally.old }
+    requires moves { moves.old ≤ 2 ^ 61 }
 
     ensures command { IsOfCommand (OnFiles (file_command_seen request.entry)) result }
     ensures read { IfReadFault result (λ n. Rose (S.faults store.old) (S.faults store.new)) }
@@ -70,13 +76,15 @@ fn answer<S: Store, O: Sink>(
         result out.old out.new }
     ensures account { SaysOfAccount (S.files store.old) (Some (OnFiles (file_command_seen request.entry)))
         result tally.old tally.new }
+    ensures moves { SaysOfMoves (S.files store.old) (Some (OnFiles (file_command_seen request.entry)))
+        result moves.old moves.new }
 {
     let mut reads = Reads::new();
     let Loaded { job, stored } = match load(alloc, request, &mut reads, store) {
         Ok(loaded) => loaded,
         Err(end) => return Ended::from(end),
     };
-    match perform(alloc, request, job, stored.as_slice(), out, tally) {
+    match perform(alloc, request, job, stored.as_slice(), out, tally, moves) {
         Ok(Verdict::Same) => Ended::Done,
         Ok(Verdict::Differs(_)) => Ended::Differs,
         Err(RunEnd::WriteFault) => Ended::WriteFault,
@@ -92,9 +100,11 @@ fn perform<O: Sink>(
     stored: &[u8],
     out: &mut O,
     tally: &mut Tally,
+    moves: &mut Moves,
 ) -> Result<Verdict, RunEnd>
     requires job { IsJob job }
     requires room { HasRoomForCommand tally.old }
+    requires moves { moves.old ≤ 2 ^ 61 }
 
     ensures found { IfOk result (λ found.
         found ≡ found_with (file_command_seen request.entry) stored.now (plan_seen job)) }
@@ -102,14 +112,16 @@ fn perform<O: Sink>(
         (text_with (file_command_seen request.entry) stored.now (plan_seen job)) }
     ensures account { IsAccountFor (file_command_seen request.entry) (plan_seen job) result
         tally.old tally.new }
+    ensures moved { IsMovedFor (file_command_seen request.entry) (plan_seen job) result
+        moves.old moves.new }
     ensures machines { IfRun (OnFiles (file_command_seen request.entry)) (AllRunAsWritten (plan_seen job)) }
 {
     match request {
         FileRequest::Run { .. } => {
-            run(alloc, job, out, tally)?;
+            run(alloc, job, out, tally, moves)?;
             Ok(Verdict::Same)
         }
-        FileRequest::Replay { .. } => replay(alloc, job, stored, out, tally),
+        FileRequest::Replay { .. } => replay(alloc, job, stored, out, tally, moves),
         FileRequest::Check { .. } => {
             check(&job, out)?;
             Ok(Verdict::Same)

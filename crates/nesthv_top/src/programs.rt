@@ -1,8 +1,8 @@
 // The whole program.
 
-ghost use Rattle.std.specs.Prelude.{◌≡◌, IfOk, OnErr};
+ghost use Rattle.std.specs.Prelude.{◌≤◌, ◌^◌, ◌≡◌, IfOk, OnErr};
 ghost use Rattle.command_line.specs.Commands.{command_of};
-ghost use Rattle.nesthv_top.specs.Endings.{SaysOfAccount, SaysOfCause, SaysOfErr, SaysOfOut, SaysOfReads};
+ghost use Rattle.nesthv_top.specs.Endings.{SaysOfAccount, SaysOfCause, SaysOfErr, SaysOfMoves, SaysOfOut, SaysOfReads};
 ghost use Rattle.nesthv_top.specs.Lines.{memory_line};
 ghost use Rattle.nesthv_top.specs.Runnings.{HasRoomForCommand};
 ghost use Rattle.nesthv_top.specs.Statuses.{IsStatusOf};
@@ -11,6 +11,7 @@ ghost use Rattle.nesthv_top.specs.Written.{IsLinePut};
 use crate::ends::Ended;
 use crate::lines::tell;
 use crate::top::{nesthv, status_of};
+use guest_turns::Moves;
 use no_memory::NoMemory;
 use outside::{Sink, Store, Word};
 use rv64_hart::Tally;
@@ -25,8 +26,10 @@ pub fn program<S: Store, O: Sink, E: Sink>(
     out: &mut O,
     err: &mut E,
     tally: &mut Tally,
+    moves: &mut Moves,
 ) -> u8
     requires room { HasRoomForCommand tally.old }
+    requires moves { moves.old ≤ 2 ^ 61 }
 
     // With words: the status is that of an end of the command, which says why it comes and what it leaves.
     ensures ended { IfOk words (λ words. IsStatusOf result (λ ended.
@@ -34,7 +37,8 @@ pub fn program<S: Store, O: Sink, E: Sink>(
         × SaysOfReads S.Store (command_of words.items) ended store.old store.new
         × SaysOfOut O.Sink (S.files store.old) (command_of words.items) ended out.old out.new
         × SaysOfErr E.Sink ended err.old err.new
-        × SaysOfAccount (S.files store.old) (command_of words.items) ended tally.old tally.new)) }
+        × SaysOfAccount (S.files store.old) (command_of words.items) ended tally.old tally.new
+        × SaysOfMoves (S.files store.old) (command_of words.items) ended moves.old moves.new)) }
 
     // Without words.
     ensures status { OnErr words (result ≡ 5) }
@@ -42,9 +46,10 @@ pub fn program<S: Store, O: Sink, E: Sink>(
     ensures store { OnErr words (store.new ≡ store.old) }
     ensures out { OnErr words (out.new ≡ out.old) }
     ensures account { OnErr words (tally.new ≡ tally.old) }
+    ensures moves { OnErr words (moves.new ≡ moves.old) }
 {
     match words {
-        Ok(words) => nesthv(alloc, words.as_slice(), store, out, err, tally),
+        Ok(words) => nesthv(alloc, words.as_slice(), store, out, err, tally, moves),
         Err(NoMemory) => {
             let ended = Ended::NoMemory(0);
             tell(ended, err);

@@ -1,10 +1,10 @@
 // A run whose report is compared with a stored one.
 
-ghost use Rattle.std.specs.Prelude.{◌≡◌, ◌≤◌, IfOk, IsErrOf};
+ghost use Rattle.std.specs.Prelude.{◌^◌, ◌≡◌, ◌≤◌, IfOk, IsErrOf};
 ghost use Rattle.outside.specs.Faults.{Rose};
 ghost use Rattle.replay.specs.Comparisons.{verdict_of};
 ghost use Rattle.nesthv_top.specs.Plans.{AllRunAsWritten, report_of};
-ghost use Rattle.nesthv_top.specs.Runnings.{HasRoomForCommand, IsAccountOf};
+ghost use Rattle.nesthv_top.specs.Runnings.{HasRoomForCommand, IsAccountOf, IsMovedBy};
 ghost use Rattle.nesthv_top.specs.Seen.{plan_seen, IsJob};
 ghost use Rattle.nesthv_top.specs.Texts.{verdict_line};
 ghost use Rattle.nesthv_top.specs.Written.{Writes};
@@ -12,6 +12,7 @@ ghost use Rattle.nesthv_top.specs.Written.{Writes};
 use crate::ends::{Job, RunEnd};
 use crate::running::run;
 use arrayvec::ArrayVec;
+use guest_turns::Moves;
 use itoa::Buffer;
 use outside::Sink;
 use replay::{Compare, Verdict};
@@ -25,18 +26,21 @@ pub fn replay<O: Sink>(
     stored: &[u8],
     out: &mut O,
     tally: &mut Tally,
+    moves: &mut Moves,
 ) -> Result<Verdict, RunEnd>
     requires job { IsJob job }
     requires room { HasRoomForCommand tally.old }
+    requires moves { moves.old ≤ 2 ^ 61 }
 
     ensures verdict { IfOk result (λ found. found ≡ verdict_of stored.now (report_of (plan_seen job))) }
     ensures out { Writes O.Sink result out.old out.new
         (verdict_line (verdict_of stored.now (report_of (plan_seen job)))) }
     ensures account { IsAccountOf (plan_seen job) result tally.old tally.new }
+    ensures moved { IsMovedBy (plan_seen job) result moves.old moves.new }
     ensures machines { AllRunAsWritten (plan_seen job) }
 {
     let mut compare = Compare::new(stored);
-    run(alloc, job, &mut compare, tally)?;
+    run(alloc, job, &mut compare, tally, moves)?;
     let verdict = compare.verdict();
     out.put(verdict_line(verdict).as_slice())?;
     Ok(verdict)

@@ -1,10 +1,10 @@
 // The top call.
 
-ghost use Rattle.std.specs.Prelude.{◌≡◌, ◌⊎◌, IsSome};
+ghost use Rattle.std.specs.Prelude.{◌≤◌, ◌^◌, ◌≡◌, ◌⊎◌, IsSome};
 ghost use Rattle.command_line.specs.Commands.{command_of};
 ghost use Rattle.outside.specs.Faults.{Rose};
 ghost use Rattle.outside.specs.Pieces.{Appends};
-ghost use Rattle.nesthv_top.specs.Endings.{HasPlan, IfKnown, IfRun, IsRefusal, IsReplay, SaysOfAccount, SaysOfCause, SaysOfErr, SaysOfOut, SaysOfReads};
+ghost use Rattle.nesthv_top.specs.Endings.{HasPlan, IfKnown, IfRun, IsRefusal, IsReplay, SaysOfAccount, SaysOfCause, SaysOfErr, SaysOfMoves, SaysOfOut, SaysOfReads};
 ghost use Rattle.nesthv_top.specs.Plans.{AllRunAsWritten, plan_of};
 ghost use Rattle.nesthv_top.specs.Runnings.{HasRoomForCommand};
 ghost use Rattle.nesthv_top.specs.Statuses.{status_of, verdict_status, IsDone, IsNoCommand, IsStatusOf};
@@ -13,6 +13,7 @@ ghost use Rattle.nesthv_top.specs.Texts.{found_of, text_of};
 use crate::ends::Ended;
 use crate::lines::tell;
 use crate::obeying::obey;
+use guest_turns::Moves;
 use outside::{Sink, Store, Word};
 use rv64_hart::Tally;
 use std::alloc::Global;
@@ -27,8 +28,10 @@ pub fn nesthv<S: Store, O: Sink, E: Sink>(
     out: &mut O,
     err: &mut E,
     tally: &mut Tally,
+    moves: &mut Moves,
 ) -> u8
     requires room { HasRoomForCommand tally.old }
+    requires moves { moves.old ≤ 2 ^ 61 }
 
     // The headline: on status 0 and 6 the text of the command has been written: of a run, the report of the
     // guests' lone machines. Their runs are of the written architecture, their second-stage translations
@@ -57,9 +60,10 @@ pub fn nesthv<S: Store, O: Sink, E: Sink>(
         × SaysOfReads S.Store (command_of words.now) ended store.old store.new
         × SaysOfOut O.Sink (S.files store.old) (command_of words.now) ended out.old out.new
         × SaysOfErr E.Sink ended err.old err.new
-        × SaysOfAccount (S.files store.old) (command_of words.now) ended tally.old tally.new) }
+        × SaysOfAccount (S.files store.old) (command_of words.now) ended tally.old tally.new
+        × SaysOfMoves (S.files store.old) (command_of words.now) ended moves.old moves.new) }
 {
-    let ended = obey(alloc, words, store, out, tally);
+    let ended = obey(alloc, words, store, out, tally, moves);
     tell(ended, err);
     status_of(ended)
 }

@@ -14,7 +14,7 @@ ghost use Rattle.nesthv_top.specs.Written.{PutsText, Writes};
 use crate::ends::RunEnd;
 use crate::running::hosted;
 use arrayvec::ArrayVec;
-use guest_turns::Host;
+use guest_turns::{Host, Moves};
 use itoa::Buffer;
 use machine_defs::Status;
 use machine_laws::{fills_suffice, runs_are_architectural, runs_are_fresh};
@@ -73,7 +73,7 @@ fn generated(alloc: Global, seed: u64, size: u64, tally: &mut Tally) -> Result<H
     runs_are_fresh();
     let guests = guests(alloc, seed, size)?;
     let turns = rounds(alloc, size)?;
-    let host = hosted(alloc, guests, turns.as_slice(), tally)?;
+    let host = hosted(alloc, guests, turns.as_slice(), 0, tally, &mut Moves::new())?;
     Ok(host)
 }
 

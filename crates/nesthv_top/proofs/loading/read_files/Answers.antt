@@ -1,6 +1,6 @@
-use Rattle.std.proofs.Common.{rules, ◌≡◌, ◌∙◌, Err, Some, None, ap, sym, arith}
+use Rattle.std.proofs.Common.{rules, ◌≡◌, ◌∙◌, Err, Some, None, sym, arith}
 use Rattle.command_line.specs.Seen.{file_command_seen}
-use Rattle.nesthv_top.specs.Loads.{frames_by}
+use Rattle.nesthv_top.specs.Loads.{config_frames}
 use Rattle.nesthv_top.specs.Reads.{frames_fault}
 use Rattle.nesthv_top.proofs.CommandReads.{all_passed, begins_then, config_stop, first_then, frames_stop, guests_passed, guests_stop, left_passed, left_refused, left_stopped, report_stop}
 use Rattle.nesthv_top.proofs.loading.read_files.Goals as goal
@@ -55,8 +55,7 @@ pub returns-in-Some-clause-ends : goal.returns-in-Some-clause-ends
 returns-in-Some-clause-ends g c = λ files told.
     let config = c.in_ok-config.ensures in
     let guests = rw c.guests.ensures.guests at (c.in_ok-guests.ensures.ends files (config.leaves.files ∙ told)) in
-    let refused : frames_fault (frames_by c.in_ok-config.config.guests) ≡ Some c.in-Some.fault =
-    ap (λ settings. frames_fault (frames_by settings)) (sym c.guests-2.ensures.guests) ∙ sym c.frames_fault.ensures ∙ c.in-Some.is in
+    let refused : frames_fault (config_frames c.in_ok-config.config) ≡ Some c.in-Some.fault = sym c.frames_fault.ensures ∙ c.in-Some.is in
     frames_stop files (file_command_seen c.args.request) c.in_ok-config.config c.in-Some.fault _ _ _ _ _ (config.accepted files told)
     (guests_passed files (file_command_seen c.args.request) c.in_ok-config.config _ _ _ _ _ (config.ends files told) guests) c.in_ok-stored.ensures.ends refused
 
@@ -77,8 +76,7 @@ pub returns-in-None-clause-ends : goal.returns-in-None-clause-ends
 returns-in-None-clause-ends g c = λ files told.
     let config = c.in_ok-config.ensures in
     let guests = rw c.guests.ensures.guests at (c.in_ok-guests.ensures.ends files (config.leaves.files ∙ told)) in
-    let none : frames_fault (frames_by c.in_ok-config.config.guests) ≡ None =
-    ap (λ settings. frames_fault (frames_by settings)) (sym c.guests-2.ensures.guests) ∙ sym c.frames_fault.ensures ∙ c.in-None.is in
+    let none : frames_fault (config_frames c.in_ok-config.config) ≡ None = sym c.frames_fault.ensures ∙ c.in-None.is in
     all_passed files (file_command_seen c.args.request) c.in_ok-config.config _ _ _ _ _ (config.accepted files told)
     (guests_passed files (file_command_seen c.args.request) c.in_ok-config.config _ _ _ _ _ (config.ends files told) guests) c.in_ok-stored.ensures.ends none
 
