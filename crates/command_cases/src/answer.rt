@@ -26,6 +26,7 @@ pub struct Answer {
     // Of the last run.
     entries: u64,
     taken: u64,
+    moves: u64,
     // The least of all runs.
     least_entries: u64,
     least_taken: u64,
@@ -40,6 +41,7 @@ impl Answer {
             others: String::new(alloc),
             entries: 0,
             taken: 0,
+            moves: 0,
             least_entries: u64::MAX,
             least_taken: u64::MAX,
         }
@@ -67,6 +69,7 @@ impl Answer {
     fn count(&mut self, left: &Left<'_, '_>) {
         self.entries = left.tally.entries();
         self.taken = left.tally.taken();
+        self.moves = left.moves.count();
         self.least_entries = self.least_entries.min(self.entries);
         self.least_taken = self.least_taken.min(self.taken);
     }
@@ -79,6 +82,9 @@ impl Answer {
         }
         if self.told.taken {
             writeln!(text, "taken {}", self.taken)?;
+        }
+        if self.told.moves {
+            writeln!(text, "moves {}", self.moves)?;
         }
         push_least(text, "entries", self.told.least_entries, self.least_entries)?;
         push_least(text, "taken", self.told.least_taken, self.least_taken)?;
@@ -109,6 +115,7 @@ fn push_run(text: &mut String, run: Run<'_, '_>) -> Result<(), NoMemory> {
     match run.form {
         Form::Written => text.push('\n')?,
         Form::Two => text.push_str(" in format 2\n")?,
+        Form::Spare(spare) => writeln!(text, " with {spare} spare")?,
     }
     Ok(())
 }

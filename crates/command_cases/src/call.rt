@@ -4,6 +4,7 @@ use crate::files::Files;
 use crate::script::Script;
 use crate::sink::ScriptedSink;
 use crate::store::ScriptedStore;
+use guest_turns::Moves;
 use nesthv_top::program;
 use no_memory::NoMemory;
 use outside::Word;
@@ -18,6 +19,7 @@ pub struct Left<'f, 'a> {
     pub out: ScriptedSink,
     pub err: ScriptedSink,
     pub tally: Tally,
+    pub moves: Moves,
 }
 
 /// Calls the program with the words of this text.
@@ -36,13 +38,17 @@ pub fn call<'f, 'a>(
     let mut out = ScriptedSink::new(alloc, script.out);
     let mut err = ScriptedSink::new(alloc, script.err);
     let mut tally = Tally::new();
-    let status = program(alloc, words, &mut store, &mut out, &mut err, &mut tally);
+    let mut moves = Moves::new();
+    let status = program(
+        alloc, words, &mut store, &mut out, &mut err, &mut tally, &mut moves,
+    );
     Ok(Left {
         status,
         store,
         out,
         err,
         tally,
+        moves,
     })
 }
 

@@ -133,7 +133,8 @@ impl<'a> Case<'a> {
         Ok(())
     }
 
-    // Adds the run of a configuration as it is written, and that in format 2 where it means the same there.
+    // Adds the run of a configuration as it is written, that in format 2 where it means the same there, and
+    // those with the spare blocks that the case names.
     fn add_forms(
         &mut self,
         words: &str,
@@ -149,6 +150,25 @@ impl<'a> Case<'a> {
         if let Some(changed) = in_format_two(self.alloc, written.as_slice())? {
             let form = Form::Two;
             self.add_run(Run { words, turns, form }, changed.as_slice(), answer)?;
+        }
+        if self.files.get("k").is_some() {
+            return Ok(());
+        }
+        self.add_spares(words, turns, answer)
+    }
+
+    fn add_spares(
+        &mut self,
+        words: &str,
+        turns: Turns<'a>,
+        answer: &mut Answer,
+    ) -> Result<(), NoMemory> {
+        for index in 0..self.configuration.spares() {
+            if let Some(spare) = self.configuration.spare(index) {
+                let text = self.configuration.text_with_spare(turns, spare)?;
+                let form = Form::Spare(spare);
+                self.add_run(Run { words, turns, form }, text.as_bytes(), answer)?;
+            }
         }
         Ok(())
     }

@@ -23,8 +23,11 @@ struct Guest {
 pub struct Configuration<'a> {
     alloc: Global,
     format: u64,
+    spare: Option<u64>,
     guests: Vec<Guest>,
     runs: Vec<Turns<'a>>,
+    // How many spare blocks there are where the runs are made once more.
+    spares: Vec<u64>,
 }
 
 impl<'a> Configuration<'a> {
@@ -41,8 +44,10 @@ impl<'a> Configuration<'a> {
         Ok(Configuration {
             alloc,
             format: 1,
+            spare: None,
             guests: vec![in alloc; table_of(alloc, "a")?]?,
             runs: vec![in alloc; whole, stepwise]?,
+            spares: Vec::new(alloc),
         })
     }
 
@@ -56,10 +61,22 @@ impl<'a> Configuration<'a> {
         self.runs.get(index).copied()
     }
 
+    /// How many times each run is made once more, with other numbers of spare blocks.
+    pub fn spares(&self) -> usize {
+        self.spares.len()
+    }
+
+    /// How many spare blocks the run of this index has that is made once more.
+    pub fn spare(&self, index: usize) -> Option<u64> {
+        self.spares.get(index).copied()
+    }
+
     /// Obeys a line, if it is about the configuration.
     pub fn obey(&mut self, word: &str, rest: &'a str) -> Result<bool, Fault> {
         let obeyed = match word {
             "format" => self.set_format(rest),
+            "spare" => self.set_spare(rest),
+            "also" => self.add_spares(rest),
             "guest" => self.add_guest(rest),
             "config" => self.change(rest),
             "runs" => self.set_runs(rest),
@@ -69,9 +86,26 @@ impl<'a> Configuration<'a> {
         obeyed.map(|()| true)
     }
 
-    /// The text of the configuration with these turns.
+    /// The text of the configuration with these turns, as it is written.
     pub fn text(&self, turns: Turns<'a>) -> Result<String, NoMemory> {
-        let mut text = format!(in self.alloc; "format = {}\n", self.format)?;
+        self.text_in(self.format, self.spare, turns)
+    }
+
+    /// The text of the configuration with these turns, in format 2 with so many spare blocks.
+    pub fn text_with_spare(&self, turns: Turns<'a>, spare: u64) -> Result<String, NoMemory> {
+        self.text_in(2, Some(spare), turns)
+    }
+
+    fn text_in(
+        &self,
+        format: u64,
+        spare: Option<u64>,
+        turns: Turns<'a>,
+    ) -> Result<String, NoMemory> {
+        let mut text = format!(in self.alloc; "format = {format}\n")?;
+        if let Some(spare) = spare {
+            writeln!(text, "spare = {spare}")?;
+        }
         match turns {
             Turns::Rounds { quantum, rounds } => {
                 write!(text, "quantum = {quantum}\nrounds = {rounds}\n")?
@@ -86,6 +120,20 @@ impl<'a> Configuration<'a> {
 
     fn set_format(&mut self, text: &str) -> Result<(), Fault> {
         self.format = number(text).ok_or(Fault::Line)?;
+        Ok(())
+    }
+
+    fn set_spare(&mut self, text: &str) -> Result<(), Fault> {
+        self.spare = Some(number(text).ok_or(Fault::Line)?);
+        Ok(())
+    }
+
+    // `spare N ..`.
+    fn add_spares(&mut self, text: &str) -> Result<(), Fault> {
+        let numbers = text.strip_prefix("spare ").ok_or(Fault::Line)?;
+        for spare in numbers.split_whitespace() {
+            self.spares.push(number(spare).ok_or(Fault::Line)?)?;
+        }
         Ok(())
     }
 

@@ -4,15 +4,17 @@ use no_memory::NoMemory;
 use std::alloc::Global;
 use std::str;
 
-/// How a configuration is given to the program: as it is written, or in format 2 in place of format 1.
+/// How a configuration is given to the program: as it is written, in format 2 in place of format 1, or in
+/// format 2 with so many spare blocks.
 #[derive(Clone, Copy)]
 pub enum Form {
     Written,
     Two,
+    Spare(u64),
 }
 
-/// The configuration in format 2, where it is of format 1 and means the same in both: it has neither inputs nor
-/// weights.
+/// The configuration in format 2, where it is of format 1 and means the same in both: it has neither inputs
+/// nor weights, and names no spare blocks.
 pub fn in_format_two(alloc: Global, configuration: &[u8]) -> Result<Option<Vec<u8>>, NoMemory> {
     let Some((front, back)) = parts(configuration) else {
         return Ok(None);
@@ -26,8 +28,10 @@ pub fn in_format_two(alloc: Global, configuration: &[u8]) -> Result<Option<Vec<u
 // What stands before and behind the format of such a configuration.
 fn parts(configuration: &[u8]) -> Option<(&str, &str)> {
     let text = str::from_utf8(configuration).ok()?;
-    if text.contains("input") || text.contains("weight") {
-        return None;
+    for key in ["input", "weight", "spare"] {
+        if text.contains(key) {
+            return None;
+        }
     }
     match text.split_once("format = 1") {
         Some(parts) => Some(parts),

@@ -86,8 +86,8 @@ impl Table {
     }
 }
 
-// The answer of the commands to a configuration, where every other file is empty, and whether another one comes
-// in format 2 where the configuration means the same there.
+// The answer of the commands to a configuration, where every other file is empty, and whether another one
+// comes in format 2 where the configuration means the same there.
 fn push_answer(
     alloc: Global,
     configuration: Vec<u8>,

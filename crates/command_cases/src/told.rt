@@ -10,6 +10,7 @@ pub struct Told {
     pub asked: bool,
     pub entries: bool,
     pub taken: bool,
+    pub moves: bool,
     pub least_entries: Option<u64>,
     pub least_taken: Option<u64>,
 }
@@ -23,6 +24,7 @@ impl Told {
             asked: false,
             entries: false,
             taken: false,
+            moves: false,
             least_entries: None,
             least_taken: None,
         }
@@ -49,6 +51,7 @@ impl Told {
                 "asked" => self.asked = true,
                 "entries" => self.entries = true,
                 "taken" => self.taken = true,
+                "moves" => self.moves = true,
                 _ => return None,
             }
         }

@@ -167,7 +167,7 @@ const FAULT: Kept = Kept {
     value: None,
 };
 
-static FAULTS: [Kept; 13] = [
+static FAULTS: [Kept; 14] = [
     FAULT,
     Kept {
         fault: ConfigFault::Format,
@@ -194,6 +194,17 @@ static FAULTS: [Kept; 13] = [
         guest: Some(0),
         key: Some(ConfigKey::Entries),
         value: Some(15),
+    },
+    Kept {
+        fault: ConfigFault::Range {
+            guest: None,
+            key: ConfigKey::Spare,
+            value: Some(33),
+        },
+        number: 4,
+        key: Some(ConfigKey::Spare),
+        value: Some(33),
+        ..FAULT
     },
     Kept {
         fault: ConfigFault::Name { guest: 1 },

@@ -19,6 +19,8 @@ mod sections;
 #[cfg(test)]
 mod sinks;
 #[cfg(test)]
+mod spare_blocks;
+#[cfg(test)]
 mod stores;
 #[cfg(test)]
 mod weights;

@@ -60,6 +60,32 @@ fn are_others_given(console: &mut Console) -> bool {
         && console.unread().len() == 0
 }
 
+// A console that goes on with the byte and the unread inputs of another.
+fn goes_on(alloc: Global) -> Result<bool, NoMemory> {
+    let mut left = Console::new(alloc, 2, inputs(alloc)?)?;
+    let is_left = left.put(b'A') && left.get(3) == Some(b'a');
+    let mut unread = Vec::new(alloc);
+    unread.extend_from_slice(left.unread())?;
+    let mut console = Console::resume(alloc, 2, left.bytes(), unread)?;
+    Ok(
+        is_left
+            && console.bytes() == b"A".as_slice()
+            && console.unread() == [(3, b'b'), (9, b'c')].as_slice()
+            && !console.is_full()
+            && console.put(b'B')
+            && console.is_full()
+            && !console.put(b'C')
+            && console.bytes() == b"AB".as_slice()
+            && are_others_given(&mut console),
+    )
+}
+
+#[test]
+fn goes_on_with_what_another_left(rt: HostRuntime) -> Result<(), Fail> {
+    assert!(rt; goes_on(rt.alloc())?);
+    Ok(())
+}
+
 #[test]
 fn keeps_what_is_put(rt: HostRuntime) -> Result<(), Fail> {
     assert!(rt; is_kept(rt.alloc())?);

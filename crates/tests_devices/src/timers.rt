@@ -50,6 +50,28 @@ fn comes_to_its_timer_by_steps(rt: HostRuntime) {
     assert!(rt; shows(&clock, 10, true, None));
 }
 
+// A clock that goes on from 123, with its timer behind, at its time, at the next step, and far off.
+#[test]
+fn goes_on_from_a_time_and_a_timer(rt: HostRuntime) {
+    for (timer, due, next) in [
+        (0, true, None),
+        (123, true, None),
+        (124, false, Some(124)),
+        (u64::MAX, false, Some(18_446_744_073_709_551_615)),
+    ] {
+        let mut clock = Clock::at(123, timer);
+        assert!(rt;
+            shows(&clock, 123, due, next) && clock.timer() == timer,
+            "timer {timer}"
+        );
+        clock.step();
+        assert!(rt;
+            clock.now() == 124 && clock.timer() == timer,
+            "timer {timer}"
+        );
+    }
+}
+
 // How a wait at clock 0 ends, and the clock after it.
 fn waited(timer: bool, external: bool, moment: u64, input: Option<u64>) -> (WaitEnd, u64)
     requires timer { 0 < moment }

@@ -1,28 +1,28 @@
 -- The guests of the tests.
-use Rattle.std.proofs.Common.{◌≡◌, zero, suc, ◌≤◌, [], ◌∷◌, ap, arith}
-use Rattle.arch_defs.specs.Frames.{most_frames}
+use Rattle.std.proofs.Common.{◌≡◌, zero, suc, ◌*◌, ◌≤◌, List, [], ◌∷◌, length, refl, ap, arith}
 use Rattle.std.specs.List.{All}
 use Rattle.guest_specs.specs.Needs.{frames_needed, need_of}
 use Rattle.guest_specs.specs.declared.guests.GuestSpec.{GuestSpec}
-use Rattle.guest_turns.specs.Limits.{IsBootable, frames_for}
+use Rattle.guest_turns.specs.Limits.{AreBootable, IsBootable, frames_for}
 
-abbrev IsSmall : GuestSpec → Type 0
+abbrev pub IsSmall : GuestSpec → Type 0
 IsSmall spec = need_of spec ≡ record { blocks = 1; spaces = 1; entries = 16 }
-
-pub one_bootable : (a : GuestSpec) → IsBootable a → All IsBootable (a ∷ [])
-one_bootable a is zero d h = is
-one_bootable a is (suc k) d h = absurd (omega arith)
-
-pub two_bootable : (a b : GuestSpec) → IsBootable a → IsBootable b → All IsBootable (a ∷ b ∷ [])
-two_bootable a b first second zero d h = first
-two_bootable a b first second (suc zero) d h = second
-two_bootable a b first second (suc (suc k)) d h = absurd (omega arith)
 
 small_frames : (a : GuestSpec) → IsSmall a → frames_needed (need_of a) ≡ 569
 small_frames a is = ap frames_needed is
 
-pub one_fits : (a : GuestSpec) → IsSmall a → frames_for (a ∷ []) ≤ most_frames
-one_fits a is = omega (arith, small_frames a is)
+frames_of_many : (guests : List GuestSpec) → All IsSmall guests → frames_for guests ≡ 569 * length guests
+frames_of_many [] each = refl
+frames_of_many (a ∷ guests) each =
+    omega (arith, small_frames a (each zero a (omega arith)), frames_of_many guests (λ i d h. each (suc i) d (omega (arith, h))))
 
-pub two_fit : (a b : GuestSpec) → IsSmall a → IsSmall b → frames_for (a ∷ b ∷ []) ≤ most_frames
-two_fit a b first second = omega (arith, small_frames a first, small_frames b second)
+pub many_fit : (guests : List GuestSpec) → length guests ≤ 16 → All IsSmall guests → frames_for guests ≤ 9104
+many_fit guests few small = omega (arith, frames_of_many guests small, few)
+
+pub many_bootable : (guests : List GuestSpec) → 1 ≤ length guests → length guests ≤ 16 → All IsBootable guests → All IsSmall guests → AreBootable guests
+many_bootable guests some few each small = record {
+  some = some;
+  few = few;
+  each = each;
+  frames = omega (arith, many_fit guests few small);
+}

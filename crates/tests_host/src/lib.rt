@@ -16,6 +16,8 @@ mod interrupts;
 #[cfg(test)]
 mod loads;
 #[cfg(test)]
+mod moves;
+#[cfg(test)]
 mod nested;
 #[cfg(test)]
 mod steps;

@@ -1,7 +1,7 @@
 // Turns of guests.
 
-ghost use Rattle.std.specs.Prelude.{◌≡◌, ◌≤◌, length, IfOk};
-ghost use Rattle.guest_turns.specs.Limits.{IsBootable};
+ghost use Rattle.std.specs.Prelude.{◌≡◌, ◌≤◌, length, IfOk, IfSome};
+ghost use Rattle.guest_turns.specs.Limits.{AreBootable, IsBootable, frames_for};
 ghost use Rattle.guest_specs.specs.Needs.{need_of};
 
 use guest_turns::Host;
@@ -13,7 +13,7 @@ use std::test::Fail;
 
 // Puts `A` and stops. The three words that are not ECALL are the hart's steps, made in an entry up to each
 // ECALL: their pcs sum to 3 * 8000_0000 + 10, and they themselves to 4A0_1639.
-const PUTS_A: [u8; 20] = [
+pub const PUTS_A: [u8; 20] = [
     0x93, 0x08, 0x10, 0x00, // 00100893: addi x17, x0, 1
     0x13, 0x05, 0x10, 0x04, // 04100513: addi x10, x0, 65
     0x73, 0x00, 0x00, 0x00, // 00000073: ecall
@@ -24,7 +24,7 @@ const PUTS_A: [u8; 20] = [
 const TRACE: u64 = 0x1_84A0_1649;
 
 // Reserves its first word, stores there on condition, puts a digit that tells whether it failed, and stops.
-const RESERVES: [u8; 32] = [
+pub const RESERVES: [u8; 32] = [
     0x97, 0x02, 0x00, 0x00, // 00000297: auipc x5, 0
     0x2F, 0xA3, 0x02, 0x10, // 1002A32F: lr.w x6, (x5)
     0x2F, 0xA5, 0x02, 0x18, // 1802A52F: sc.w x10, x0, (x5)
@@ -54,19 +54,18 @@ const LOOPS: [u8; 4] = [0x6F, 0x00, 0x00, 0x00];
 
 // A turn of the guest of this number, of at most so many steps, and how many it makes.
 #[derive(Clone, Copy)]
-struct Turn(u32, u64, u64);
+pub struct Turn(pub u32, pub u64, pub u64);
 
 // What is told of a guest after the turns: its status, its steps and its console.
 #[derive(Clone, Copy)]
-struct Told(Status, u64, &'static [u8]);
+pub struct Told(pub Status, pub u64, pub &'static [u8]);
 
-const AT_START: Told = Told(Status::Running, 0, b"");
+pub const AT_START: Told = Told(Status::Running, 0, b"");
 
-// The images of one guest or of two, their turns, and what is told of them and by the tally then.
+// The guests' images, their turns, and what is told of them and by the tally then.
 struct Case {
     name: &'static str,
-    first: &'static [u8],
-    second: Option<&'static [u8]>,
+    images: &'static [&'static [u8]],
     turns: &'static [Turn],
     told: &'static [Told],
     // Entries and steps.
@@ -77,8 +76,7 @@ struct Case {
 static CASES: [Case; 9] = [
     Case {
         name: "a guest at its start",
-        first: &PUTS_A,
-        second: None,
+        images: &[&PUTS_A],
         turns: &[],
         told: &[AT_START],
         counts: Some((0, 0)),
@@ -86,8 +84,7 @@ static CASES: [Case; 9] = [
     },
     Case {
         name: "a guest puts a byte and stops",
-        first: &PUTS_A,
-        second: None,
+        images: &[&PUTS_A],
         turns: &[Turn(0, 10, 5)],
         told: &[Told(Status::Stopped, 5, b"A")],
         counts: Some((2, 3)),
@@ -95,8 +92,7 @@ static CASES: [Case; 9] = [
     },
     Case {
         name: "a turn of a guest that has stopped",
-        first: &PUTS_A,
-        second: None,
+        images: &[&PUTS_A],
         turns: &[Turn(0, 10, 5), Turn(0, 10, 0)],
         told: &[Told(Status::Stopped, 5, b"A")],
         counts: Some((2, 3)),
@@ -105,8 +101,7 @@ static CASES: [Case; 9] = [
     // The other guest stays at its start.
     Case {
         name: "turns in pieces",
-        first: &PUTS_A,
-        second: Some(&PUTS_A),
+        images: &[&PUTS_A, &PUTS_A],
         turns: &[Turn(0, 3, 3), Turn(0, 0, 0), Turn(0, 2, 2)],
         told: &[Told(Status::Stopped, 5, b"A"), AT_START],
         counts: None,
@@ -116,8 +111,7 @@ static CASES: [Case; 9] = [
     // access fault, as which the host takes the guest-page fault of the hart.
     Case {
         name: "two guests by rounds",
-        first: &PUTS_A,
-        second: Some(&[]),
+        images: &[&PUTS_A, &[]],
         turns: &[
             Turn(0, 1, 1),
             Turn(1, 1, 1),
@@ -144,8 +138,7 @@ static CASES: [Case; 9] = [
     // Another guest's store on condition, at the same address, neither finds a reservation nor ends one.
     Case {
         name: "reservations apart",
-        first: &RESERVES,
-        second: Some(&STORES),
+        images: &[&RESERVES, &STORES],
         turns: &[Turn(0, 2, 2), Turn(1, 7, 7), Turn(0, 6, 6)],
         told: &[
             Told(Status::Stopped, 8, b"0"),
@@ -158,8 +151,7 @@ static CASES: [Case; 9] = [
     // enabled.
     Case {
         name: "a step is not made",
-        first: &WAITS,
-        second: None,
+        images: &[&WAITS],
         turns: &[Turn(0, 10, 0), Turn(0, 10, 0)],
         told: &[Told(Status::Waiting, 0, b"")],
         counts: Some((1, 0)),
@@ -167,8 +159,7 @@ static CASES: [Case; 9] = [
     },
     Case {
         name: "a calm turn is one entry",
-        first: &LOOPS,
-        second: None,
+        images: &[&LOOPS],
         turns: &[Turn(0, 10_000, 10_000)],
         told: &[Told(Status::Running, 10_000, b"")],
         counts: Some((1, 10_000)),
@@ -176,8 +167,7 @@ static CASES: [Case; 9] = [
     },
     Case {
         name: "two guests at their start",
-        first: &PUTS_A,
-        second: Some(&PUTS_A),
+        images: &[&PUTS_A, &PUTS_A],
         turns: &[],
         told: &[AT_START, AT_START],
         counts: Some((0, 0)),
@@ -187,7 +177,7 @@ static CASES: [Case; 9] = [
 
 // A guest of one block, with room for one console byte.
 fn guest(alloc: Global, image: &[u8]) -> Result<GuestSpec, NoMemory>
-    requires { length image.now ≤ 32 }
+    requires { length image.now ≤ 256 }
     ensures bootable { IfOk result IsBootable }
     ensures need { IfOk result (λ spec. need_of spec ≡ record { blocks = 1; spaces = 1; entries = 16 }) }
 {
@@ -202,40 +192,43 @@ fn guest(alloc: Global, image: &[u8]) -> Result<GuestSpec, NoMemory>
     })
 }
 
-// A host of one such guest, and one of two.
-fn one(alloc: Global, image: &[u8]) -> Result<Host, NoMemory>
-    requires { length image.now ≤ 32 }
+// Guests with these images, if each image is within the limits of a test.
+#[tactic(auto, using(crate::proofs::TestGuests::many_bootable, crate::proofs::TestGuests::many_fit))]
+pub fn guests(alloc: Global, images: &[&[u8]]) -> Result<Option<Vec<GuestSpec>>, NoMemory>
+    requires some { 1 ≤ length images.now }
+    requires few { length images.now ≤ 16 }
+    ensures bootable { IfOk result (λ found. IfSome found (λ guests. AreBootable guests.items)) }
+    ensures frames { IfOk result (λ found. IfSome found (λ guests. frames_for guests.items ≤ 9104)) }
 {
-    Host::boot(alloc, vec![in alloc; guest(alloc, image)?]?)
+    let mut guests = Vec::with_capacity(alloc, images.len())?;
+    for &image in images {
+        if image.len() > 256 {
+            return Ok(None);
+        }
+        guests.push(guest(alloc, image)?)?;
+    }
+    Ok(Some(guests))
 }
 
-fn two(alloc: Global, first: &[u8], second: &[u8]) -> Result<Host, NoMemory>
-    requires first { length first.now ≤ 32 }
-    requires second { length second.now ≤ 32 }
-{
-    Host::boot(
-        alloc,
-        vec![in alloc; guest(alloc, first)?, guest(alloc, second)?]?,
-    )
-}
-
-// The host of a case, if its images are within the limits of a test.
+// The host of a case, if it is within the limits of a test.
 fn booted(alloc: Global, case: &Case) -> Result<Option<Host>, NoMemory> {
-    if case.first.len() > 32 {
+    if case.images.is_empty() || case.images.len() > 16 {
         return Ok(None);
     }
-    match case.second {
-        Some(second) if second.len() <= 32 => Ok(Some(two(alloc, case.first, second)?)),
-        Some(_) => Ok(None),
-        None => Ok(Some(one(alloc, case.first)?)),
+    match guests(alloc, case.images)? {
+        Some(guests) => Ok(Some(Host::boot(alloc, guests)?)),
+        None => Ok(None),
     }
 }
 
 // Whether a turn makes what it is to make, within the limits of a test.
-fn makes(host: &mut Host, turn: Turn, tally: &mut Tally) -> bool {
+pub fn makes(host: &mut Host, turn: Turn, tally: &mut Tally) -> bool {
     let Turn(guest, most, made) = turn;
     host.rooms_are_small();
-    if guest >= host.count() || most > 10_000 || host.steps(guest) > 1000 {
+    if guest >= host.count() || host.has_retired(guest) {
+        return false;
+    }
+    if most > 10_000 || host.steps(guest) > 1000 {
         return false;
     }
     if tally.entries() > 1000 || tally.taken() > 1000 {
@@ -262,8 +255,8 @@ fn tells(host: &Host, g: u32, told: Told) -> bool {
 }
 
 // Whether these are all guests.
-fn tells_all(host: &Host, told: &[Told]) -> bool {
-    for (&told, g) in told.iter().zip(0..8) {
+pub fn tells_all(host: &Host, told: &[Told]) -> bool {
+    for (&told, g) in told.iter().zip(0..16) {
         if !tells(host, g, told) {
             return false;
         }

@@ -1,4 +1,5 @@
-// How machine memory is shared out, by hand: blocks come first, then roots of four frames, then other tables.
+// How machine memory is shared out, by hand: blocks come first, then spare ones, then roots of four frames,
+// then other tables.
 
 ghost use Rattle.std.specs.Prelude.{◌≡◌, true};
 ghost use Rattle.frame_split.specs.Shares.{AreNeeds};
@@ -16,10 +17,12 @@ struct Share {
     entries: u64,
 }
 
-// What guests need, the frames of their plan or those that are too many, and some of the parts.
+// What guests need, with so many spare blocks, the frames of their plan or those that are too many, and some
+// of the parts.
 struct Case {
     name: &'static str,
     needs: &'static [Need],
+    spare: u64,
     frames: Result<u64, u64>,
     shares: &'static [Share],
 }
@@ -36,21 +39,24 @@ const LARGE: Need = Need {
     entries: 16,
 };
 
-static CASES: [Case; 4] = [
+const PAIR: [Need; 2] = [
+    Need {
+        blocks: 2,
+        spaces: 1,
+        entries: 16,
+    },
+    Need {
+        blocks: 1,
+        spaces: 2,
+        entries: 20,
+    },
+];
+
+static CASES: [Case; 8] = [
     Case {
         name: "two guests: three blocks, five roots, and tables of 49 and 121 frames",
-        needs: &[
-            Need {
-                blocks: 2,
-                spaces: 1,
-                entries: 16,
-            },
-            Need {
-                blocks: 1,
-                spaces: 2,
-                entries: 20,
-            },
-        ],
+        needs: &PAIR,
+        spare: 0,
         frames: Ok(1726),
         shares: &[
             Share {
@@ -74,6 +80,7 @@ static CASES: [Case; 4] = [
     Case {
         name: "sixteen guests of one block: 16 times 569 frames",
         needs: &[SMALL; 16],
+        spare: 0,
         frames: Ok(9104),
         shares: &[Share {
             place: 15,
@@ -87,13 +94,60 @@ static CASES: [Case; 4] = [
     Case {
         name: "sixteen guests of 32 blocks are too many",
         needs: &[LARGE; 16],
+        spare: 0,
         frames: Err(263_056),
         shares: &[],
     },
     Case {
         name: "no guests need no frames",
         needs: &[],
+        spare: 0,
         frames: Ok(0),
+        shares: &[],
+    },
+    Case {
+        name: "three spare blocks lie between the blocks of two guests and their roots",
+        needs: &PAIR,
+        spare: 3,
+        frames: Ok(3262),
+        shares: &[
+            Share {
+                place: 0,
+                blocks: &[0, 1],
+                host_root: 3072,
+                host_table: 3092,
+                spaces: 1,
+                entries: 16,
+            },
+            Share {
+                place: 1,
+                blocks: &[2],
+                host_root: 3080,
+                host_table: 3141,
+                spaces: 2,
+                entries: 20,
+            },
+        ],
+    },
+    Case {
+        name: "seven guests of 32 blocks and 31 spare ones fit",
+        needs: &[LARGE; 7],
+        spare: 31,
+        frames: Ok(130_959),
+        shares: &[],
+    },
+    Case {
+        name: "with 32 spare ones they are too many",
+        needs: &[LARGE; 7],
+        spare: 32,
+        frames: Err(131_471),
+        shares: &[],
+    },
+    Case {
+        name: "spare blocks alone",
+        needs: &[],
+        spare: 32,
+        frames: Ok(16_384),
         shares: &[],
     },
 ];
@@ -111,9 +165,9 @@ fn are_needs(needs: &[Need]) -> bool
     true
 }
 
-fn split(alloc: Global, needs: &[Need]) -> Option<Result<Split, PlanFault>> {
-    if needs.len() <= 16 && are_needs(needs) {
-        Some(plan(alloc, needs))
+fn split(alloc: Global, needs: &[Need], spare: u64) -> Option<Result<Split, PlanFault>> {
+    if needs.len() <= 16 && spare <= 32 && are_needs(needs) {
+        Some(plan(alloc, needs, spare))
     } else {
         None
     }
@@ -138,7 +192,7 @@ fn has_shares(split: &Split, shares: &[Share]) -> bool {
 }
 
 fn is_right(alloc: Global, case: &Case) -> bool {
-    match (split(alloc, case.needs), case.frames) {
+    match (split(alloc, case.needs, case.spare), case.frames) {
         (Some(Ok(split)), Ok(frames)) => {
             split.frames == frames
                 && split.parts.len() == case.needs.len()

@@ -1,6 +1,7 @@
 // A guest's image in its RAM, and the host's table that leads to it. RAM is the blocks 2 and 0, in this
 // order, of a memory of three.
 
+use arch_defs::BLOCK_SIZE;
 use guest_loader::{fits, load};
 use host_tables::{Part, PhysMem, build, frame_of};
 use sample_memory::{has_words, memory, part, put};
@@ -111,4 +112,45 @@ fn frames_of_addresses(rt: HostRuntime) {
     for &(gpa, frame) in &FRAMES {
         assert!(rt; frame_of(&part, gpa) == frame, "{gpa:X}");
     }
+}
+
+// Copies a block to another one, and clears it, where both lie in memory.
+fn moved(memory: &mut PhysMem, from: u64, to: u64) -> bool {
+    let blocks = memory.size() / BLOCK_SIZE;
+    if from >= blocks || to >= blocks {
+        return false;
+    }
+    memory.copy_block(from, to);
+    memory.zero_block(from);
+    true
+}
+
+static BEFORE_MOVE: [(u64, u64); 6] = [
+    (0, NINES),
+    (0x1F_FFF8, NINES),
+    (0x20_0000, SEVENS),
+    (0x3F_FFF8, SEVENS),
+    (0x40_0000, 5),
+    (0x5F_FFF8, 5),
+];
+
+// Block 0 has gone to block 2, and is zeros; block 1 stays.
+static AFTER_MOVE: [(u64, u64); 7] = [
+    (0, 0),
+    (0x1F_FFF8, 0),
+    (0x20_0000, SEVENS),
+    (0x3F_FFF8, SEVENS),
+    (0x40_0000, NINES),
+    (0x40_0008, 0),
+    (0x5F_FFF8, NINES),
+];
+
+#[test]
+fn a_block_moves(rt: HostRuntime) -> Result<(), Fail> {
+    let mut memory = memory(rt.alloc(), 1536)?;
+    for &(at, word) in &BEFORE_MOVE {
+        put(&mut memory, at, word);
+    }
+    assert!(rt; moved(&mut memory, 0, 2) && has_words(&memory, &AFTER_MOVE));
+    Ok(())
 }

@@ -108,6 +108,7 @@ fn filled(machine: &mut Machine, key: GuestRoot, entry: Entry) -> u64
     requires blocks { length machine.old.pool.part.blocks ≡ 2 }
     ensures tidy { TidyPool machine.new.pool machine.new.mem }
     ensures blocks { length machine.new.pool.part.blocks ≡ 2 }
+    ensures part { machine.new.pool.part ≡ machine.old.pool.part }
     ensures small { result < 2 ^ 44 }
 {
     let root = machine.pool.enter(&mut machine.mem, Key::of(key));
@@ -626,6 +627,54 @@ fn enters(call: Call, key: GuestRoot) -> bool {
     }
 }
 
+// Whether entry j of space i is the one that the call with this number filled.
+fn is_filled_by(pool: &Pool, i: u64, j: u64, rows: &[Row], number: u16) -> bool {
+    if i >= pool.held() || j >= pool.len(i) {
+        return false;
+    }
+    let filled = pool.entry(i, j);
+    match rows.get((number as usize).wrapping_sub(1)) {
+        Some(&(Call::Fill(_, page, level), ..)) => {
+            filled == entry(page, 0x8_0000 + number as u64, level)
+        }
+        _ => false,
+    }
+}
+
+// Whether space i is for this value of hgatp and has the entries that these calls filled, and no others.
+fn is_listed(pool: &Pool, i: u64, rows: &[Row], key: GuestRoot, numbers: [u16; 3]) -> bool {
+    if i >= pool.held() {
+        return key == NONE;
+    }
+    if pool.key(i) != Key::of(key) || pool.len(i) != count(numbers) as u64 {
+        return false;
+    }
+    for j in 0..3 {
+        if numbers[j] != 0 && !is_filled_by(pool, i, j as u64, rows, numbers[j]) {
+            return false;
+        }
+    }
+    true
+}
+
+// How many numbers are not 0.
+fn count(numbers: [u16; 3]) -> usize
+    ensures { result ≤ 3 }
+{
+    (numbers[0] != 0) as usize + (numbers[1] != 0) as usize + (numbers[2] != 0) as usize
+}
+
+// Whether a pool tells the spaces that the last of these rows lists, after their calls.
+fn tells_spaces(pool: &Pool, rows: &[Row]) -> bool {
+    let Some(row) = rows.last() else {
+        return false;
+    };
+    let &(_, first, first_numbers, second, second_numbers) = row;
+    pool.held() <= 2
+        && is_listed(pool, 0, rows, first, first_numbers)
+        && is_listed(pool, 1, rows, second, second_numbers)
+}
+
 // Makes the calls of these rows, and answers the root of a value of hgatp when it was last entered.
 fn made(machine: &mut Machine, rows: &[Row], key: GuestRoot) -> Option<u64>
     requires tidy { TidyPool machine.old.pool machine.old.mem }
@@ -690,8 +739,7 @@ fn gives(mem: &PhysMem, root: u64, rows: &[Row], numbers: [u16; 3]) -> bool {
 
 // The numbers that are left in a space with room for so many where a few pages more are filled.
 fn left_after(numbers: [u16; 3], more: usize, most: usize) -> [u16; 3] {
-    let held = (numbers[0] != 0) as usize + (numbers[1] != 0) as usize + (numbers[2] != 0) as usize;
-    let dropped = (held + more.min(3)).saturating_sub(most);
+    let dropped = (count(numbers) + more.min(3)).saturating_sub(most);
     let mut left = numbers;
     for i in 0..3 {
         if i < dropped {
@@ -741,9 +789,9 @@ fn is_kept(machine: &mut Machine, key: GuestRoot, root: u64, is_front: bool) -> 
     was_front == is_front && machine.pool.enter(&mut machine.mem, Key::of(key)) == root
 }
 
-// Whether after these rows a value of hgatp has the space that the last row lists: its table, also before it
-// is entered again, its root, its place, and the order of its entries. One that is not listed gets an empty
-// space.
+// Whether after these rows the pool tells the spaces that the last row lists, and a value of hgatp has its
+// space: its table, also before it is entered again, its root, its place, and the order of its entries. One
+// that is not listed gets an empty space.
 fn has_space(alloc: Global, room: Room, rows: &[Row], key: GuestRoot) -> Result<bool, NoMemory> {
     let Some(mut machine) = machine_with(alloc, room)? else {
         return Ok(false);
@@ -752,6 +800,9 @@ fn has_space(alloc: Global, room: Room, rows: &[Row], key: GuestRoot) -> Result<
     let Some(row) = rows.last() else {
         return Ok(false);
     };
+    if !tells_spaces(&machine.pool, rows) {
+        return Ok(false);
+    }
     match (listed(row, key), root) {
         (Some(numbers), Some(root)) => Ok(
             gives(&machine.mem, root, rows, numbers)
@@ -793,5 +844,31 @@ fn sequences(rt: HostRuntime) -> Result<(), Fail> {
         let wrong = first_wrong(rt.alloc(), sequence)?;
         assert!(rt; wrong.is_none(), "sequence {}: {wrong:?}", sequence.name);
     }
+    Ok(())
+}
+
+// Whether a page of block 5 and one of block 3, in two spaces, have the same frames of their blocks where
+// block 7 is in the place of block 5, also after the space that is not in front is entered again.
+fn move_is_right(alloc: Global) -> Result<bool, NoMemory> {
+    let before = part(&[5, 3], 0, 12, 2, 16);
+    let after = part(&[7, 3], 0, 12, 2, 16);
+    let Some(mut machine) = empty_pool(alloc, &before, 109, 16)? else {
+        return Ok(false);
+    };
+    let first = filled(&mut machine, P, entry(0x205, 0x8_0003, 1));
+    let second = filled(&mut machine, R, entry(0x400, 0x8_0204, 0));
+    machine.pool.moved(&mut machine.mem, &after);
+    let in_front = machine.pool.root() == second;
+    let again = machine.pool.enter(&mut machine.mem, Key::of(P)) == first;
+    let mem = &machine.mem;
+    let leaves = frame_of(mem, first, 0x205) == Some(3587)
+        && frame_of(mem, second, 0x400) == Some(1540)
+        && frame_of(mem, first, 0x400).is_none();
+    Ok(in_front && again && leaves)
+}
+
+#[test]
+fn a_move_folds_anew(rt: HostRuntime) -> Result<(), Fail> {
+    assert!(rt; move_is_right(rt.alloc())?);
     Ok(())
 }

@@ -211,6 +211,7 @@ fn filled(space: &mut Space, mem: &mut PhysMem, entry: Entry) -> bool
     requires blocks { length space.old.part.blocks ≡ 2 }
     ensures tidy { Tidy space.new mem.new }
     ensures blocks { length space.new.part.blocks ≡ 2 }
+    ensures part { space.new.part ≡ space.old.part }
 {
     if entry.page >= 0x40_0000_0000 || entry.level > 3 {
         return false;
@@ -371,5 +372,39 @@ fn changed_by_a_fill(alloc: Global) -> Result<Option<u64>, NoMemory> {
 #[test]
 fn a_fill_writes_eight_doublewords(rt: HostRuntime) -> Result<(), Fail> {
     assert!(rt; changed_by_a_fill(rt.alloc())? == Some(8));
+    Ok(())
+}
+
+// Whether three pages, two of block 5 and one of block 3, have the same frames of their blocks where block 7
+// is in the place of block 5. The list stays, and so does what an entry permits.
+fn move_is_right(alloc: Global) -> Result<bool, NoMemory> {
+    let before = part(&[5, 3], 0, 8, 1, 16);
+    let after = part(&[7, 3], 0, 8, 1, 16);
+    let Some(Machine { mut mem, mut space }) = empty_space(alloc, &before, 57, 16)? else {
+        return Ok(false);
+    };
+    filled(&mut space, &mut mem, entry(1, 0x8_0003, 0, false));
+    filled(&mut space, &mut mem, entry(0x4_0201, 0x8_0004, 0, false));
+    filled(
+        &mut space,
+        &mut mem,
+        entry(0x3F_FFFF_FFFF, 0x8_0205, 0, false),
+    );
+    space.moved(&mut mem, &after);
+    let leaves = leads(&mem, 1, Access::Load, Some(3587))
+        && leads(&mem, 0x4_0201, Access::Load, Some(3588))
+        && leads(&mem, 0x3F_FFFF_FFFF, Access::Load, Some(1541))
+        && leads(&mem, 1, Access::Store, None);
+    let list = [
+        (1, 0x8_0003),
+        (0x4_0201, 0x8_0004),
+        (0x3F_FFFF_FFFF, 0x8_0205),
+    ];
+    Ok(leaves && has_entries(&space, &list) && space.root() == 4)
+}
+
+#[test]
+fn a_move_folds_anew(rt: HostRuntime) -> Result<(), Fail> {
+    assert!(rt; move_is_right(rt.alloc())?);
     Ok(())
 }

@@ -1,0 +1,12 @@
+use Rattle.std.proofs.Common.{◌≡◌, length}
+use Rattle.std.specs.List.{All}
+use Rattle.guest_turns.specs.Limits.{IsBootable}
+use Rattle.tests_host.proofs.TestGuests.{IsSmall}
+use Rattle.tests_host.proofs.turns.guests.Given as goal
+
+abbrev pub invariant-loop-image : goal.invariant-loop-image
+invariant-loop-image l = record {
+  count : length l.guests.items ≡ l.image-index;
+  bootable : All IsBootable l.guests.items;
+  small : All IsSmall l.guests.items;
+}
