@@ -6,6 +6,7 @@ case ${1:-} in
 esac
 program=$(tools/program || true)
 console=0
+spare=
 folder=$(mktemp -d)
 trap 'rm -rf "$folder"' EXIT
 
@@ -23,14 +24,19 @@ put() {
 }
 
 # configure IMAGE GUESTS QUANTUM SPACES ENTRIES: GUESTS guests with this image, which make `steps` steps together, in
-# turns of QUANTUM steps; at most 2^20 turns. Each has a console of `console` bytes. `made` is how many steps they make
+# turns of QUANTUM steps; at most 2^20 turns. Each has a console of `console` bytes, and there are `spare` spare blocks,
+# where it names a number. `made` is how many steps they make
 configure() {
     local guest rounds=$((steps / ($2 * $3)))
     if ((rounds * $2 > 1048576)); then
         rounds=$((1048576 / $2))
     fi
     made=$((rounds * $2 * $3))
-    printf 'format = 1\nquantum = %d\nrounds = %d\n' "$3" "$rounds" >"$folder/run.toml"
+    local head='format = 1'
+    if [ -n "$spare" ]; then
+        head="format = 2"$'\n'"spare = $spare"
+    fi
+    printf '%s\nquantum = %d\nrounds = %d\n' "$head" "$3" "$rounds" >"$folder/run.toml"
     for ((guest = 0; guest < $2; guest++)); do
         cat >>"$folder/run.toml" <<TOML
 [[guest]]

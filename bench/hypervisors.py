@@ -1,8 +1,9 @@
 #!/usr/bin/env python3
 """Makes hostile guest hypervisors from seeds, and runs each in several ways whose sections must be byte for byte the
 same: alone in one turn, alone in turns of random lengths, and beside another guest in random turns, with two choices
-of the other guest's spaces and entries. It prints each difference and what the guests reached, and ends with status 1
-where a section differs or a run ends with another status than 0.
+of the other guest's spaces and entries, and with spare blocks, so that RAM moves after each turn. It prints each
+difference and what the guests reached, and ends with status 1 where a section differs or a run ends with another status
+than 0.
 
 An image is a hypervisor and one or two nested guests. The hypervisor goes through a list of deeds: it stores entries
 in its first-stage and second-stage tables of three and four levels (loops, roots outside RAM, wrong bits, superpages
@@ -424,11 +425,16 @@ class Maker:
         for i, value in enumerate(self.constants):
             self.double(CONSTANTS + 8 * i, value)
 
-    def table(self, name, spaces, entries):
-        """The guest's table in a configuration."""
+    def table(self, name, spaces, entries, from_file=False):
+        """The guest's table in a configuration: in format 2 its inputs come from a file."""
         pairs = ", ".join(f"[{moment}, {byte}]" for moment, byte in self.inputs)
+        given = f'"{name}.inputs"' if from_file else f"[{pairs}]"
         return (f'[[guest]]\nname = "{name}"\nimage = "{name}.bin"\nblocks = {self.blocks}\nspaces = {spaces}\n'
-                f"entries = {entries}\nconsole = 20000\n" + (f"input = [{pairs}]\n" if pairs else ""))
+                f"entries = {entries}\nconsole = 20000\n" + (f"input = {given}\n" if pairs else ""))
+
+    def records(self):
+        """The bytes of a file of the guest's inputs."""
+        return b"".join(struct.pack("<QB", moment, byte) for moment, byte in self.inputs)
 
 
 def turns_of(chance, steps, guests):
@@ -493,21 +499,26 @@ def tried(task):
     differences = []
     with tempfile.TemporaryDirectory(dir="/dev/shm" if os.path.isdir("/dev/shm") else None) as folder:
         for name, maker in (("a", one), ("b", other)):
-            with open(os.path.join(folder, name + ".bin"), "wb") as file:
-                file.write(maker.bytes)
+            for ending, data in ((".bin", maker.bytes), (".inputs", maker.records())):
+                with open(os.path.join(folder, name + ending), "wb") as file:
+                    file.write(data)
         a = one.table("a", one.spaces, one.entries)
         pair = lambda spaces, entries: a + other.table("b", spaces, entries)
+        one_form = "format = 1\n"
         ways = [
-            ("in one turn", f"turns = [[0, {steps}]]\n" + a),
-            ("in random turns", turns_of(chance, steps, 1) + a),
-            ("beside another guest", turns_of(chance, steps, 2) + pair(other.spaces, other.entries)),
+            ("in one turn", one_form + f"turns = [[0, {steps}]]\n" + a),
+            ("in random turns", one_form + turns_of(chance, steps, 1) + a),
+            ("beside another guest", one_form + turns_of(chance, steps, 2) + pair(other.spaces, other.entries)),
             ("beside it with other spaces",
-             turns_of(chance, steps, 2) + pair(1 + chance.randrange(8), chance.choice([16, 32, 100]))),
+             one_form + turns_of(chance, steps, 2) + pair(1 + chance.randrange(8), chance.choice([16, 32, 100]))),
+            ("with spare blocks",
+             f"format = 2\nspare = {chance.choice([1, 2, 3])}\n" + turns_of(chance, steps, 2)
+             + one.table("a", one.spaces, one.entries, True) + other.table("b", other.spaces, other.entries, True)),
         ]
         first = None
         for way, text in ways:
             try:
-                section = run(program, folder, "format = 1\n" + text)[0]
+                section = run(program, folder, text)[0]
             except (Ended, ValueError, IndexError) as error:
                 section = ([str(error).encode()], b"")
                 differences.append(f"seed {seed} {way}: {error}")
@@ -550,7 +561,7 @@ def main():
                 print(difference, flush=True)
     for what, count in sorted(counts.items()):
         print(f"{what}: {count}")
-    print(f"{options.count} images, each run 4 times: {differences} differences")
+    print(f"{options.count} images, each run 5 times: {differences} differences")
     return 1 if differences else 0
 
 

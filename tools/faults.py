@@ -9,6 +9,7 @@ import records
 import toml11
 
 BLOCK = 2097152
+BLOCK_FRAMES = 512
 FRAMES = 131072
 MOST_BYTES = 65536  # of a configuration
 MOST_BLOCKS = 32
@@ -21,8 +22,10 @@ RANGES = {
     "console": "an integer from 0 to 1,048,576",
     "weight": "an integer from 1 to 1,000",
 }
+FILE_RANGES = {"spare": "an integer from 0 to 32"}
 GUEST_KEYS = {1: [*list(RANGES)[:-1], "input"], 2: [*RANGES, "input"]}
-FILE_KEYS = ["format", "guest", "turns", "quantum", "rounds"]
+FILE_KEYS = {1: ["format", "guest", "turns", "quantum", "rounds"]}
+FILE_KEYS[2] = [*FILE_KEYS[1], *FILE_RANGES]
 
 
 def text_of(path):
@@ -96,6 +99,11 @@ def nearest(word, words):
     return f" (is it to be `{found[0]}`?)" if found else ""
 
 
+def meant(word, known, known_in_2):
+    """What a key may be meant as that is none of those of its format, by these and those of format 2."""
+    return " (a key of `format = 2`)" if word in known_in_2 else nearest(word, known)
+
+
 def misspelt(key, table, known):
     """The key of a table that may be meant as this one, which it lacks, in words, or nothing."""
     found = difflib.get_close_matches(key, [name for name in table if name not in known], 1)
@@ -134,7 +142,16 @@ def are_pairs_wrong(inputs):
 
 
 def frames_of(guest):
-    return 512 * guest["blocks"] + 5 + guest["spaces"] * (4 + 3 * guest["entries"])
+    return BLOCK_FRAMES * guest["blocks"] + 5 + guest["spaces"] * (4 + 3 * guest["entries"])
+
+
+def too_many_frames(document, frames):
+    """Why the guests and the spare blocks of a document have no room."""
+    needs = "; ".join(f"{index}: {frames_of(each)}" for index, each in enumerate(guests_of(document)))
+    spare = document.get("spare", 0)
+    are_needed = f"the guests and the spare blocks need {frames}" if spare else f"the guests need {frames}"
+    beside = f"; `spare = {spare}`: {BLOCK_FRAMES * spare}" if spare else ""
+    return f"{are_needed} frames of 4,096 bytes, and there are {FRAMES}. By guest: {needs}{beside}"
 
 
 def turns_wrong(document, count):
@@ -143,13 +160,13 @@ def turns_wrong(document, count):
     if turns is not None and pair:
         return f"there are both `turns` and `{pair[0]}`: leave one of the two forms out"
     if turns is None and not pair:
-        near = next(filter(None, (misspelt(key, document, FILE_KEYS)
+        near = next(filter(None, (misspelt(key, document, FILE_KEYS[2])
                                   for key in ("quantum", "rounds", "turns"))), "")
         return "there are no turns: add `quantum` and `rounds`, or `turns`, before the first `[[guest]]`" \
             + near
     if len(pair) == 1:
         other = "rounds" if pair[0] == "quantum" else "quantum"
-        return f"`{pair[0]}` is there and `{other}` is not{misspelt(other, document, FILE_KEYS)}"
+        return f"`{pair[0]}` is there and `{other}` is not{misspelt(other, document, FILE_KEYS[2])}"
     if turns is None:
         if not is_integer(document["quantum"], 0, 2**32):
             return "`quantum` is an integer from 0 to 4,294,967,296"
@@ -227,18 +244,13 @@ class Guest:
         shown = f"{value}" if value is not None else repr(self.table.get(key))
         return f"`{key}` of {self.who} is {shown}: it is to be {RANGES[key]}"
 
-    def meant(self, name, known):
-        """What a key may be meant as that is none of these."""
-        if self.number is not None and name in GUEST_KEYS[2]:
-            return " (a key of `format = 2`)"
-        return nearest(name, known)
-
     def extra_keys(self, document):
         """Which keys the guest, or without one the file, has and should not."""
         is_file = self.number is None
-        there, known = (document, FILE_KEYS) if is_file else (self.table, GUEST_KEYS[self.form])
-        extra = ", ".join(f"`{name}`{self.meant(name, known)}" for name in there if name not in known)
-        is_misplaced = not is_file and set(there) & set(FILE_KEYS)
+        there, keys = (document, FILE_KEYS) if is_file else (self.table, GUEST_KEYS)
+        known = keys[self.form]
+        extra = ", ".join(f"`{name}`{meant(name, known, keys[2])}" for name in there if name not in known)
+        is_misplaced = not is_file and set(there) & set(FILE_KEYS[2])
         moved = "; keys of the file stand before the first `[[guest]]`" if is_misplaced else ""
         who = "the file" if is_file else self.who
         return f"{who} has {extra}, and its keys are {', '.join(known)}{moved}"
@@ -252,10 +264,16 @@ def guests_wrong(document, value):
         "`guest` is an array of tables: write `[[guest]]` once for each guest"
 
 
+def file_value_wrong(document, key, value):
+    """What is wrong with the value of a key of the file."""
+    shown = f"{value}" if value is not None else repr(document.get(key))
+    return f"`{key}` is {shown}: it is to be {FILE_RANGES[key]}"
+
+
 def file_lacks(key, document):
     said = {"format": "the file lacks `format = 1` or `format = 2`",
             "guest": "the file has no guest: write `[[guest]]` once for each, and its keys below"}
-    return said[key] + misspelt(key, document, FILE_KEYS)
+    return said[key] + misspelt(key, document, FILE_KEYS[2])
 
 
 def no_toml(why):
@@ -277,8 +295,12 @@ def of_configuration(folder, text, number, guest, key, value):
         case 3:
             return f"{named.who} lacks `{key}`: {RANGES[key]}" \
                 + misspelt(key, named.table, GUEST_KEYS[named.form])
+        case 4 if key == "guest":
+            return guests_wrong(document, value)
+        case 4 if guest is None:
+            return file_value_wrong(document, key, value)
         case 4:
-            return guests_wrong(document, value) if key == "guest" else named.value_wrong(key, value)
+            return named.value_wrong(key, value)
         case 5:
             return named.name_wrong()
         case 6:
@@ -292,8 +314,7 @@ def of_configuration(folder, text, number, guest, key, value):
         case 10:
             return too_long(named.table, named.who, os.path.join(folder, named.table["image"]))
         case 11:
-            needs = "; ".join(f"{index}: {frames_of(each)}" for index, each in enumerate(guests))
-            return f"the guests need {value} frames of 4,096 bytes, and there are {FRAMES}. By guest: {needs}"
+            return too_many_frames(document, value)
         case 12:
             return input_file_wrong(os.path.join(folder, named.table["input"]), named.who, value)
         case 13:
@@ -350,6 +371,6 @@ def explained(line, configuration, text, report=None):
         return "the report could not be written: the disk is full, or the program that reads the pipe has " \
             "ended"
     if line == "nesthv: out of memory":
-        return "there is no memory for the files, the guests' memory or a console: lower `blocks`, or free " \
-            "memory"
+        return "there is no memory for the files, the guests' memory or a console: lower `blocks` or `spare`, " \
+            "or free memory"
     return ""

@@ -72,6 +72,28 @@ class FormatTest(ToolTest):
         self.said(2, "`weight` of guest 0 ('a') is 0: it is to be an integer from 1 to 1,000", weight=0)
         self.said(2, "(is it to be `weight`?)", wieght=2)
 
+    def check_explained(self, line, words, head):
+        """Checks what is said of a line of the program, for one guest below these lines of a file."""
+        import faults
+        path = self.configure(front=head + "quantum = 1\nrounds = 1\n")
+        self.assertIn(words, faults.explained(line, path, faults.text_of(path)))
+
+    def test_spare_blocks(self):
+        fault, range_ = "nesthv: configuration fault ", "it is to be an integer from 0 to 32"
+        for head, line, words in (
+                ("format = 2\nspare = 33\n", "4 key spare value 33", "`spare` is 33: " + range_),
+                ("format = 2\nspare = -1\n", "4 key spare value -1", "`spare` is -1: " + range_),
+                ('format = 2\nspare = "1"\n', "4 key spare", "`spare` is '1': " + range_),
+                ("format = 1\nspare = 1\n", "8", "the file has `spare` (a key of `format = 2`)"),
+                ("format = 2\nspair = 1\n", "8", "the file has `spair` (is it to be `spare`?)"),
+                ("format = 2\nspare = 32\n", "11 value 131073", "the guests and the spare blocks need 131073"),
+                ("format = 2\nspare = 32\n", "11 value 131073", "By guest: 0: 569; `spare = 32`: 16384"),
+                ("format = 2\n", "11 value 131073", "the guests need 131073 frames")):
+            self.check_explained(fault + line, words, head)
+
+    def test_spare_blocks_of_a_guest(self):
+        self.said(2, "keys of the file stand before the first `[[guest]]`", spare=1)
+
     def test_words_of_the_other_format(self):
         front = "format = 1\nquantum = 1000\nrounds = 1\n"
         self.said(2, "`weight` (a key of `format = 2`)", front=front, weight=2)
@@ -104,7 +126,8 @@ class FormatTest(ToolTest):
         with open(self.configure(front=FORMAT_2, weight=3, input='"in"'), "rb") as file:
             whole = file.read()
         words = [b"=", b"[[guest]]\n", b"{}", b"-1", b'"a"', b"\xff", b"\n", b"1.5", b"true", b"[[1, 2]]",
-                 b"weight = 0\n", b'input = "in"\n', b"4294967296", b"format = 1\n", b"turns = []\n"]
+                 b"weight = 0\n", b'input = "in"\n', b"4294967296", b"format = 1\n", b"turns = []\n",
+                 b"spare = 1\n", b"spare = 33\n"]
         for _ in range(200):
             text = bytearray(whole)
             for _ in range(chosen.randint(1, 3)):
