@@ -35,6 +35,13 @@ impl Key {
         Key(root.bits())
     }
 
+    /// The root that it names.
+    pub fn root(self) -> GuestRoot
+        ensures { result ≡ self }
+    {
+        GuestRoot::of(self.0)
+    }
+
     /// Whether `other` is the same value: MODE, VMID and PPN.
     #[tactic(auto, using(crate::proofs::HgatpValues::same_number))]
     pub fn is_key(self, other: Key) -> bool

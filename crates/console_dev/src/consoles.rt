@@ -130,6 +130,13 @@ impl Console {
         self.bytes.len() as u64 == self.room
     }
 
+    /// How many bytes may be put.
+    pub fn room(&self) -> u64
+        ensures { result ≡ self.now.room }
+    {
+        self.room
+    }
+
     /// The bytes that were put.
     pub fn bytes(&self) -> &[u8]
         ensures bytes { result.now ≡ self.now.bytes }

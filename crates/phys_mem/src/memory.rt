@@ -104,6 +104,16 @@ impl PhysMem {
         &self.frames[n as usize]
     }
 
+    /// The bytes of a block.
+    pub fn block(&self, n: u64) -> &[u8]
+        requires { n * block_size + block_size ≤ length self.now }
+        ensures { result.now ≡ block_of n self.now }
+    {
+        let bytes = self.bytes();
+        let start = (n * BLOCK_SIZE) as usize;
+        &bytes[start..start + BLOCK_SIZE as usize]
+    }
+
     /// Fills a frame with zeros.
     pub fn zero_frame(&mut self, n: u64)
         requires { n * 4096 + 4096 ≤ length self.old }

@@ -113,6 +113,20 @@ impl Pool {
         fence(self.slots.as_mut_slice(), mem, &named);
     }
 
+    /// How many spaces there may be.
+    pub fn room(&self) -> u64
+        ensures { result ≡ room_of self.now }
+    {
+        self.slots.len() as u64
+    }
+
+    /// How many entries each of them may have.
+    pub fn most(&self) -> u64
+        ensures { result ≡ self.now.most }
+    {
+        self.slots[0].space.most()
+    }
+
     /// How many spaces there are.
     pub fn held(&self) -> u64
         ensures { result ≡ length (spaces_of self.now) }

@@ -74,6 +74,13 @@ impl Space {
         tables_of(&self.table.part, self.index).root
     }
 
+    /// At most how many entries there may be.
+    pub fn most(&self) -> u64
+        ensures { result ≡ self.now.most }
+    {
+        self.table.most as u64
+    }
+
     /// The entries, the oldest first.
     pub fn entries(&self) -> &[Entry]
         ensures { result.now ≡ self.now.entries }
