@@ -2,8 +2,10 @@ pub mod Bits
 pub mod Buffering
 pub mod Comparing
 pub mod CountedParts
+pub mod Deciding
 pub mod Eights
 pub mod GoingOn
+pub mod KeptSizes
 pub mod Parsing
 pub mod ReadMachines
 pub mod RoundTrip

@@ -1,13 +1,15 @@
 -- Laws of the form.
-use Rattle.std.specs.Prelude.{ℕ, ◌≡◌, ◌+◌, ◌*◌, ◌%◌, ◌≤◌, List, [], length, take, drop}
+use Rattle.std.specs.Prelude.{ℕ, ◌≡◌, ◌+◌, ◌*◌, ◌%◌, ◌≤◌, true, false, List, [], length, take, drop}
 use Rattle.arch_defs.specs.declared.cached.Entry.{Entry}
 use Rattle.arch_defs.specs.declared.roots.GuestRoot.{GuestRoot}
 use Rattle.arch_defs.specs.CachedEntries.{CanFill}
 use Rattle.arch_defs.specs.Memory.{block_size}
+use Rattle.guest_save.specs.Deciding.{is_saved}
 use Rattle.guest_save.specs.Forms.{form, front_form}
+use Rattle.guest_save.specs.Headers.{header_of}
 use Rattle.guest_save.specs.Reading.{machine_in}
 use Rattle.guest_save.specs.Registers.{csrs_in}
-use Rattle.guest_save.specs.Savable.{IsSavable, IsSavableEntry}
+use Rattle.guest_save.specs.Savable.{HasSizes, IsSavable, IsSavableEntry}
 use Rattle.guest_specs.specs.declared.guests.GuestSpec.{GuestSpec}
 use Rattle.guest_specs.specs.Inputs.{AreInputs}
 use Rattle.machine_defs.specs.Freshness.{UsesFresh}
@@ -68,6 +70,11 @@ pub record CanStart (guest : GuestSpec) : Type 0 where
 abbrev pub StartIsSavable : Type 0
 StartIsSavable = (guest : GuestSpec) → CanStart guest → IsSavable (start guest)
 
+-- a run leaves sizes within the limits, where the machine caches and reserves in its RAM alone
+abbrev pub RunKeepsSizes : Type 0
+RunKeepsSizes = (m : Machine) (n : ℕ) → CachesInRam m → ReservesInRam m
+    → HasSizes (header_of m) (length m.ram) → HasSizes (header_of (run m n)) (length (run m n).ram)
+
 -- a run of a and then of b steps, saved between, is the run of both
 abbrev pub ResumedGoesOn : Type 0
 ResumedGoesOn = (m : Machine) (a b : ℕ) → IsSavable (run m a)
@@ -80,3 +87,19 @@ UsesFreshSince saved n = (m : Machine) (k : ℕ) → IsOrderly m → m.spaces �
 
 abbrev pub SavedUseFresh : Type 0
 SavedUseFresh = (saved : Machine) (n : ℕ) → UsesFreshSince saved n
+
+-- bytes are the form of a machine that can be saved: of the one that they give
+abbrev pub IsSaved : List ℕ → Type 0
+IsSaved bytes = IsSavable (machine_in bytes) × (form (machine_in bytes) ≡ bytes)
+
+-- the test tells exactly whether they are
+abbrev pub SavedExactly : Type 0
+SavedExactly = (bytes : List ℕ)
+    → (is_saved bytes ≡ true → IsSaved bytes) × (IsSaved bytes → is_saved bytes ≡ true)
+
+-- so the form of each machine that can be saved passes, and other bytes are the form of none
+abbrev pub FormIsSaved : Type 0
+FormIsSaved = (m : Machine) → IsSavable m → is_saved (form m) ≡ true
+
+abbrev pub UnsavedIsBad : Type 0
+UnsavedIsBad = (bytes : List ℕ) → is_saved bytes ≡ false → (m : Machine) → IsSavable m → form m ≡ bytes → ⊥

@@ -1,4 +1,5 @@
 pub mod Buffers
+pub mod Deciding
 pub mod Forms
 pub mod Headers
 pub mod Laws

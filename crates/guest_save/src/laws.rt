@@ -1,6 +1,6 @@
 // Laws of forms.
 
-ghost use Rattle.guest_save.specs.Laws.{BadExactly, FrontDecides, ReadIsStored, ResumedGoesOn, RoundTrip, SavableGoesOn, SavableIsFilled, SavedUseFresh, StartIsSavable};
+ghost use Rattle.guest_save.specs.Laws.{BadExactly, FormIsSaved, FrontDecides, ReadIsStored, ResumedGoesOn, RoundTrip, RunKeepsSizes, SavableGoesOn, SavableIsFilled, SavedExactly, SavedUseFresh, StartIsSavable, UnsavedIsBad};
 
 /// The form of a machine that can be saved gives it back, and other bytes than such a form are bad.
 pub fn reading_is_exact()
@@ -18,4 +18,17 @@ pub fn saved_machines_go_on()
     ensures start { StartIsSavable }
     ensures resumed { ResumedGoesOn }
     ensures fresh { SavedUseFresh }
+{}
+
+/// A test tells exactly which bytes are the form of a machine that can be saved.
+pub fn saved_is_decided()
+    ensures exactly { SavedExactly }
+    ensures form { FormIsSaved }
+    ensures bad { UnsavedIsBad }
+{}
+
+/// A run keeps the sizes of a machine that caches and reserves in its RAM alone: they stay within the limits,
+/// and RAM stays of whole blocks.
+pub fn sizes_stay()
+    ensures { RunKeepsSizes }
 {}

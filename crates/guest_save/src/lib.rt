@@ -14,7 +14,8 @@ mod snapshots;
 mod writing;
 
 pub use headers::Header;
-pub use laws::{reading_is_exact, saved_machines_go_on};
+pub use laws::{reading_is_exact, saved_is_decided, saved_machines_go_on, sizes_stay};
+pub use savable::numbers_fit;
 pub use saved::{SaveEnd, Saved, read};
 pub use snapshots::Snapshot;
 pub use writing::put;

@@ -316,8 +316,8 @@ fn registers_fit(state: &Virtual)
     fit(&state.regs.x[1..]);
 }
 
-// So have the numbers of a header.
-fn numbers_fit(header: Header)
+/// The numbers of a header have 64 bits, pc among them, and there are 32 registers.
+pub fn numbers_fit(header: Header)
     ensures numbers { All Fits (header_numbers header) }
     ensures registers { length header.state.regs.x ≡ 32 }
     ensures pc { header.state.regs.pc < 2 ^ 64 }

@@ -1,7 +1,8 @@
 // A saved machine.
 
-ghost use Rattle.std.specs.Prelude.{◌≡◌, ◌↔◌, IfOk, IsErrOf, IsTrue};
+ghost use Rattle.std.specs.Prelude.{◌≡◌, ◌↔◌, IfOk, IsErrOf, IsTrue, OnOk, false, length, true};
 ghost use Rattle.guest_save.specs.declared.saved.SaveEnd.TheVariants.{NoMemory, Bad};
+ghost use Rattle.guest_save.specs.Deciding.{is_saved};
 ghost use Rattle.guest_save.specs.Forms.{form, front_form};
 ghost use Rattle.guest_save.specs.Needs.{need_of};
 ghost use Rattle.guest_save.specs.Reading.{machine_in};
@@ -41,17 +42,21 @@ impl From<no_memory::NoMemory> for SaveEnd {
 #[derive(Drop)]
 pub struct Saved {
     parts: MachineParts,
+    // How many bytes its form has.
+    size: u64,
 }
 
 impl Model for Saved {
+    ghost use Rattle.std.specs.Prelude.{◌≡◌, length};
     ghost use Rattle.machine_defs.specs.Machine.{Machine};
+    ghost use Rattle.guest_save.specs.Forms.{form};
     ghost use Rattle.guest_save.specs.Savable.{IsSavable};
 
     ghost Value = { Machine };
 
     ghost view = { λ s. s.parts };
 
-    ghost invariant = { λ s. IsSavable s.parts };
+    ghost invariant = { λ s. IsSavable s.parts × (s.size ≡ length (form s.parts)) };
 }
 
 impl Saved {
@@ -64,6 +69,13 @@ impl Saved {
             spaces: self.parts.header.spaces,
             entries: self.parts.header.entries,
         }
+    }
+
+    /// How many bytes its form has.
+    pub fn size(&self) -> u64
+        ensures { result ≡ length (form self.now) }
+    {
+        self.size
     }
 
     /// All bytes of its RAM.
@@ -150,10 +162,15 @@ pub fn read(alloc: Global, bytes: &[u8]) -> Result<Saved, SaveEnd>
     ensures savable { IfOk result IsSavable }
     ensures form { IfOk result (λ saved. form saved ≡ bytes.now) }
     ensures bad { IsErrOf result Bad → (m : Machine) → IsSavable m → form m ≡ bytes.now → ⊥ }
+    ensures tested { OnOk result (is_saved bytes.now ≡ true) }
+    ensures refused { IsErrOf result Bad → is_saved bytes.now ≡ false }
 {
     let parts = machine_in(alloc, bytes)?;
     if !is_saved(&parts, bytes) {
         return Err(SaveEnd::Bad);
     }
-    Ok(Saved { parts })
+    Ok(Saved {
+        parts,
+        size: bytes.len() as u64,
+    })
 }

@@ -1,5 +1,6 @@
 use Rattle.std.proofs.Common.{ap, ◌∙◌, subst, sym}
 use Rattle.std.proofs.lemmas.Bool.{false≢true}
+use Rattle.guest_save.proofs.Deciding.{same_test}
 use Rattle.guest_save.proofs.ReadMachines.{read_is}
 use Rattle.guest_save.proofs.RoundTrip.{bad_exactly}
 use Rattle.guest_save.specs.Forms.{form}
@@ -15,3 +16,10 @@ returns-then-not-is_saved-clause-bad c = λ is.
     let read = c.in_ok-parts.ensures in
     bad_exactly c.args.bytes.now
     (λ savable same. absurd (false≢true (sym c.if-not-is_saved.true ∙ c.is_saved.ensures.1 (subst IsSavable (sym read) savable, ap form read ∙ same))))
+
+pub returns-then-not-is_saved-clause-refused : goal.returns-then-not-is_saved-clause-refused
+returns-then-not-is_saved-clause-refused c = λ is.
+    same_test c.args.bytes.now c.in_ok-parts.parts c.is_saved.result c.in_ok-parts.ensures c.is_saved.ensures ∙ c.if-not-is_saved.true
+
+pub returns-clause-tested : goal.returns-clause-tested
+returns-clause-tested c = same_test c.args.bytes.now c.in_ok-parts.parts c.is_saved.result c.in_ok-parts.ensures c.is_saved.ensures ∙ c.if-not-is_saved.false
