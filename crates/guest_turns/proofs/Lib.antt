@@ -7,8 +7,13 @@ pub mod Flags
 pub mod Leaving
 pub mod Parts
 pub mod Placing
+pub mod Remade
 pub mod Rooms
+pub mod SavableGuests
+pub mod Savables
+pub mod SavedRuns
 pub mod Shifting
+pub mod ShownBlocks
 pub mod Starting
 pub mod Steps
 pub mod Tries

@@ -1,4 +1,5 @@
--- What one advance of a guest is to its lone machine: what the hart makes in an entry, and what the host makes after it.
+-- What one advance of a guest is to its lone machine: what the hart makes in an entry, and what the host
+-- makes after it.
 use Rattle.std.proofs.Common.{◌≡◌, ◌≢◌, ℕ, ◌+◌, ◌-◌, ◌<◌, ◌≤◌, List, ◌++◌, refl, ap, arith}
 use Rattle.guest_specs.specs.declared.statuses.Status.TheVariants.{Running}
 use Rattle.machine_defs.specs.Machine.{with_pending_lines}

@@ -2,17 +2,16 @@
 use Rattle.std.specs.Prelude.{ℕ, ◌≡◌, ◌+◌, ◌*◌, ◌^◌, ◌<◌, ◌≤◌, Bool, true, false, List, [], ◌∷◌, length, get_or, map}
 use Rattle.arch_defs.specs.Frames.{Apart, Frames, LieIn, Only, in_blocks}
 use Rattle.arch_defs.specs.Layouts.{Layout, named_by}
-use Rattle.arch_defs.specs.Memory.{block_size, loaded}
 use Rattle.arch_defs.specs.Ram.{ram_of}
 use Rattle.machine_laws.specs.Budgets.{Goes}
 use Rattle.frame_split.specs.Shares.{ArePairwiseApart, IsSplit}
 use Rattle.host_tables.specs.HostTable.{IsHostTable}
 use Rattle.guest_specs.specs.declared.guests.GuestSpec.{GuestSpec}
 use Rattle.guest_specs.specs.declared.statuses.Status.TheVariants.{Running}
-use Rattle.machine_defs.specs.Machine.{start, with_pending_lines}
+use Rattle.machine_defs.specs.Machine.{Machine, start, with_pending_lines}
 use Rattle.machine_defs.specs.Runs.{run}
 use Rattle.shadow_pool.specs.Slots as slots
-use Rattle.shadow_pool.specs.Slots.{room_of}
+use Rattle.shadow_pool.specs.Slots.{TidyPool, room_of, spaces_of}
 use Rattle.shadow_space.specs.Shadows.{AreZeros}
 use Rattle.guest_exit.specs.declared.guests.Guest.{Guest}
 use Rattle.guest_exit.specs.declared.hart_exit.Handled.{Handled}
@@ -20,7 +19,8 @@ use Rattle.guest_exit.specs.declared.hart_exit.Handled.TheVariants.{Stepped, Ret
 use Rattle.guest_exit.specs.Starting.{IsNewPool}
 use Rattle.guest_exit.specs.View.{IsPlaced, KeepsLayout, changed_by, machine_of, platform_of}
 use Rattle.guest_turns.specs.Hosted.{is_set}
-use Rattle.guest_turns.specs.Limits.{needs_of}
+use Rattle.guest_turns.specs.declared.sources.Source.{Source}
+use Rattle.guest_turns.specs.Sources.{machine_of_source, needs_of_sources}
 
 -- a guest is in machine memory, its clock is bounded by its steps, and the registers that the clock sets are
 -- as the clock sets them
@@ -83,8 +83,7 @@ used_by Retry = 0
 used_by Waits = 1
 used_by Stopped = 1
 
--- a guest that has made no step and entered no space: wherever its RAM is the loaded image, it is the machine
--- at its start
+-- a guest that has made no step and entered no space
 pub record IsAtStart (spec : GuestSpec) (part : Layout) (guest : Guest) : Type 0 where
   pub own_part : guest.part ≡ part
   pub platform : platform_of guest ≡ (start spec).platform
@@ -92,32 +91,43 @@ pub record IsAtStart (spec : GuestSpec) (part : Layout) (guest : Guest) : Type 0
   pub spaces : room_of guest.pool ≡ spec.spaces
   pub entries : guest.pool.most ≡ spec.entries
 
+-- a guest with what a machine has beside its RAM: wherever its RAM is the machine's, it is that machine
+pub record IsMade (m : Machine) (part : Layout) (guest : Guest) (memory : List ℕ) : Type 0 where
+  pub own_part : guest.part ≡ part
+  pub own_pool : guest.pool.part ≡ part
+  pub platform : platform_of guest ≡ m.platform
+  pub spaces : spaces_of guest.pool ≡ m.spaces
+  pub space_room : room_of guest.pool ≡ m.space_room
+  pub entry_room : guest.pool.most ≡ m.entry_room
+  pub tidy : TidyPool guest.pool memory
+
 -- so of each of them, in their parts
-pub record AreAtStart (specs : List GuestSpec) (parts : List Layout)
-    (guests : List Guest) : Type 0 where
-  pub count : length guests ≡ length specs
-  pub each : (i : ℕ) (s : GuestSpec) (p : Layout) (d : Guest) → i < length specs
-      → IsAtStart (get_or specs i s) (get_or parts i p) (get_or guests i d)
+pub record AreMade (sources : List Source) (parts : List Layout) (guests : List Guest)
+    (memory : List ℕ) : Type 0 where
+  pub count : length guests ≡ length sources
+  pub each : (i : ℕ) (s : Source) (p : Layout) (d : Guest) → i < length sources
+      → IsMade (machine_of_source (get_or sources i s)) (get_or parts i p) (get_or guests i d) memory
 
 -- the frames of a part for the tables of its spaces
 abbrev pub space_tables : Layout → Frames
 space_tables part = slots.table_frames_for part part.spaces
 
 -- parts for these guests, in memory of so many bytes
-pub record HaveParts (specs : List GuestSpec) (parts : List Layout) (size : ℕ) : Type 0 where
+pub record HaveParts (sources : List Source) (parts : List Layout) (size : ℕ) : Type 0 where
   pub frames : ℕ
-  pub split : IsSplit (needs_of specs) parts frames
+  pub split : IsSplit (needs_of_sources sources) parts frames
   pub whole : size ≡ frames * 4096
 
--- the RAM of so many guests in machine memory is their images, and their host tables are written; the frames
--- for the tables of all guests' spaces are zeros, and so are those that are in no part
-pub record AreLaidOut (specs : List GuestSpec) (parts : List Layout) (done : ℕ)
+-- the RAM of so many guests in machine memory is that of their machines, and their host tables are written.
+-- The frames for the tables of the spaces of all guests but the first ones, whose spaces are made, are zeros,
+-- and so are those that are in no part
+pub record AreLaidOut (sources : List Source) (parts : List Layout) (done made : ℕ)
     (memory : List ℕ) : Type 0 where
-  pub ram : (i : ℕ) (s : GuestSpec) (d : Layout) → i < done
-      → ram_of (get_or parts i d).blocks memory
-      ≡ loaded ((get_or specs i s).blocks * block_size) (get_or specs i s).image
+  pub ram : (i : ℕ) (s : Source) (d : Layout) → i < done
+      → ram_of (get_or parts i d).blocks memory ≡ (machine_of_source (get_or sources i s)).ram
   pub tables : (i : ℕ) (d : Layout) → i < done → IsHostTable (get_or parts i d) memory
-  pub spaces : (i : ℕ) (d : Layout) → i < length parts → AreZeros (space_tables (get_or parts i d)) memory
+  pub spaces : (i : ℕ) (d : Layout) → made ≤ i → i < length parts
+      → AreZeros (space_tables (get_or parts i d)) memory
   pub others : (frames : Frames)
       → ((i : ℕ) (d : Layout) → i < length parts → Apart frames (named_by (get_or parts i d)))
       → AreZeros frames memory

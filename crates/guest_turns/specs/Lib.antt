@@ -4,5 +4,8 @@ pub mod Hosted
 pub mod Hosting
 pub mod Limits
 pub mod Moves
+pub mod Remaking
+pub mod Saving
+pub mod Sources
 pub mod TurnLists
 pub mod View

@@ -1,17 +1,24 @@
-// Guests in machine memory, at their start.
+// Guests in machine memory, as they go on from their sources.
 
-ghost use Rattle.std.specs.Prelude.{◌≡◌, ◌≤◌, length, All, IfOk};
-ghost use Rattle.arch_defs.specs.Frames.{most_frames};
+ghost use Rattle.std.specs.Prelude.{◌≡◌, ◌≤◌, ℕ, length, All, IfOk};
+ghost use Rattle.arch_defs.specs.Frames.{LieIn, Only, most_frames};
+ghost use Rattle.arch_defs.specs.Layouts.{Meets, named_by};
 ghost use Rattle.arch_defs.specs.Memory.{zeros};
-ghost use Rattle.frame_split.specs.Shares.{IsSplit, LeavesSpare, MeetEach, blocks_of_all, frames_with};
-ghost use Rattle.guest_turns.specs.Hosting.{AreAtStart, AreLaidOut, HaveParts, IsAtStart};
-ghost use Rattle.guest_turns.specs.Limits.{IsBootable, needs_of};
+ghost use Rattle.frame_split.specs.Shares.{IsSplit, LeavesSpare, blocks_of_all, frames_with};
+ghost use Rattle.guest_save.specs.Needs.{need_of};
+ghost use Rattle.shadow_space.specs.Shadows.{AreZeros};
+ghost use Rattle.guest_turns.specs.Hosting.{AreLaidOut, AreMade, HaveParts, IsAtStart, IsMade, space_tables};
+ghost use Rattle.guest_turns.specs.Limits.{IsBootable};
+ghost use Rattle.guest_turns.specs.Sources.{IsBootableSource, machine_of_source, need_of_source, needs_of_sources};
 
+use crate::remaking::remake;
+use crate::sources::Source;
 use arch_defs::{Mode, Need, Part, Virtual};
 use console_dev::Console;
 use frame_split::{PlanFault, Split, plan};
 use guest_exit::{Guest, Pool};
 use guest_loader::load;
+use guest_save::{Saved, Snapshot};
 use host_tables::build;
 use machine_defs::{GuestSpec, Status};
 use no_memory::NoMemory;
@@ -20,17 +27,19 @@ use std::alloc::Global;
 use virtual_timer::Clock;
 
 /// The parts of guests, and so many spare blocks.
-pub fn share(alloc: Global, guests: &[GuestSpec], spare: u64) -> Result<Split, NoMemory>
-    requires few { length guests.now ≤ 16 }
-    requires each { All IsBootable guests.now }
+pub fn share(alloc: Global, sources: &[Source], spare: u64) -> Result<Split, NoMemory>
+    requires few { length sources.now ≤ 16 }
+    requires each { All IsBootableSource sources.now }
     requires spare { spare ≤ 32 }
-    requires frames { frames_with (needs_of guests.now) spare ≤ most_frames }
-    ensures split { IfOk result (λ split. IsSplit (needs_of guests.now) split.parts.items split.frames) }
-    ensures blocks { IfOk result (λ split. split.blocks ≡ blocks_of_all (needs_of guests.now)) }
+    requires frames { frames_with (needs_of_sources sources.now) spare ≤ most_frames }
+    ensures split { IfOk result (λ split.
+        IsSplit (needs_of_sources sources.now) split.parts.items split.frames) }
+    ensures blocks { IfOk result (λ split. split.blocks ≡ blocks_of_all (needs_of_sources sources.now)) }
     ensures spare { IfOk result (λ split. LeavesSpare split.blocks spare split.parts.items split.frames) }
-    ensures frames { IfOk result (λ split. split.frames ≡ frames_with (needs_of guests.now) spare) }
+    ensures frames { IfOk result (λ split.
+        split.frames ≡ frames_with (needs_of_sources sources.now) spare) }
 {
-    let needs = needs(alloc, guests)?;
+    let needs = needs(alloc, sources)?;
     match plan(alloc, needs.as_slice(), spare) {
         Ok(split) => Ok(split),
         Err(PlanFault::NoMemory) => Err(NoMemory),
@@ -39,51 +48,75 @@ pub fn share(alloc: Global, guests: &[GuestSpec], spare: u64) -> Result<Split, N
 }
 
 // What the guests need.
-fn needs(alloc: Global, guests: &[GuestSpec]) -> Result<Vec<Need>, NoMemory>
-    ensures { IfOk result (λ needs. needs.items ≡ needs_of guests.now) }
+fn needs(alloc: Global, sources: &[Source]) -> Result<Vec<Need>, NoMemory>
+    ensures { IfOk result (λ needs. needs.items ≡ needs_of_sources sources.now) }
 {
-    let mut needs = Vec::with_capacity(alloc, guests.len())?;
-    for guest in guests {
-        needs.push(guest.need())?;
+    let mut needs = Vec::with_capacity(alloc, sources.len())?;
+    for source in sources {
+        needs.push(source.need())?;
     }
     Ok(needs)
 }
 
-/// Loads the guests' images into their parts, and writes their host tables.
-pub fn lay_out(memory: &mut PhysMem, guests: &[GuestSpec], parts: &[Part])
-    requires each { All IsBootable guests.now }
-    requires parts { HaveParts guests.now parts.now (length memory.old) }
+/// Loads the guests' RAM into their parts, and writes their host tables.
+pub fn lay_out(memory: &mut PhysMem, sources: &[Source], parts: &[Part])
+    requires each { All IsBootableSource sources.now }
+    requires parts { HaveParts sources.now parts.now (length memory.old) }
     requires zeros { memory.old ≡ zeros (length memory.old) }
-    ensures laid { AreLaidOut guests.now parts.now (length guests.now) memory.new }
+    ensures laid { AreLaidOut sources.now parts.now (length sources.now) 0 memory.new }
     ensures size { length memory.new ≡ length memory.old }
 {
-    for i in 0..guests.len() {
-        let guest = &guests[i];
+    for i in 0..sources.len() {
+        let source = &sources[i];
         let part = &parts[i];
-        load(memory, part, guest.image.as_slice());
-        build(memory, part, guest.blocks);
+        load(memory, part, source.image());
+        build(memory, part, source.need().blocks);
     }
 }
 
-/// The guests at their start, in their parts.
-pub fn guests_at_start(
+/// The guests, in their parts.
+pub fn guests_from(
     alloc: Global,
-    specs: Vec<GuestSpec>,
+    sources: Vec<Source>,
     parts: &[Part],
+    memory: &mut PhysMem,
 ) -> Result<Vec<Guest>, NoMemory>
-    requires each { All IsBootable specs.items }
-    requires parts { MeetEach (needs_of specs.items) parts.now }
-    requires count { length parts.now ≡ length specs.items }
-    ensures { IfOk result (λ guests. AreAtStart specs.items parts.now guests.items) }
+    requires each { All IsBootableSource sources.items }
+    requires parts { HaveParts sources.items parts.now (length memory.old) }
+    requires laid { AreLaidOut sources.items parts.now (length sources.items) 0 memory.old }
+    ensures made { IfOk result (λ guests. AreMade sources.items parts.now guests.items memory.new) }
+    ensures laid { IfOk result (λ guests.
+        AreLaidOut sources.items parts.now (length sources.items) (length sources.items) memory.new) }
+    ensures size { IfOk result (λ guests. length memory.new ≡ length memory.old) }
 {
-    let mut guests = Vec::with_capacity(alloc, specs.len())?;
+    let mut guests = Vec::with_capacity(alloc, sources.len())?;
     let mut i = 0;
-    for spec in specs {
+    for source in sources {
         let part = parts[i];
-        guests.push(guest_at_start(alloc, spec, part)?)?;
+        guests.push(guest_from(alloc, source, part, memory)?)?;
         i += 1;
     }
     Ok(guests)
+}
+
+// A guest in its part.
+fn guest_from(
+    alloc: Global,
+    source: Source,
+    part: Part,
+    memory: &mut PhysMem,
+) -> Result<Guest, NoMemory>
+    requires bootable { IsBootableSource source }
+    requires meets { Meets (need_of_source source) part }
+    requires lies { LieIn (named_by part) (length memory.old) }
+    requires zeros { AreZeros (space_tables part) memory.old }
+    ensures made { IfOk result (λ guest. IsMade (machine_of_source source) part guest memory.new) }
+    ensures only { IfOk result (λ guest. Only (space_tables part) memory.old memory.new) }
+{
+    match source {
+        Source::Fresh(spec) => guest_at_start(alloc, spec, part),
+        Source::Kept(_, saved) => guest_resumed(alloc, &saved, part, memory),
+    }
 }
 
 // A guest at its start.
@@ -107,4 +140,46 @@ fn guest_at_start(alloc: Global, spec: GuestSpec, part: Part) -> Result<Guest, N
     };
     guest.set_pending_lines();
     Ok(guest)
+}
+
+// A guest as its machine was saved.
+#[tactic(auto, using(crate::proofs::Starting::tidy_new, crate::proofs::Starting::pool_frames_are))]
+fn guest_resumed(
+    alloc: Global,
+    saved: &Saved,
+    part: Part,
+    memory: &mut PhysMem,
+) -> Result<Guest, NoMemory>
+    requires meets { Meets (need_of saved.now) part }
+    requires lies { LieIn (named_by part) (length memory.old) }
+    requires zeros { AreZeros (space_tables part) memory.old }
+    ensures made { IfOk result (λ guest. IsMade saved.now part guest memory.new) }
+    ensures only { IfOk result (λ guest. Only (space_tables part) memory.old memory.new) }
+{
+    saved.can_be_saved();
+    let header = saved.header();
+    let console = console_resumed(alloc, saved, header.console)?;
+    let mut pool = Pool::new(alloc, &part, header.spaces, header.entries)?;
+    remake(&mut pool, memory, saved);
+    Ok(Guest {
+        part,
+        virt: header.state,
+        pool,
+        clock: Clock::at(header.time, header.timer),
+        console,
+        steps: header.steps,
+        status: header.status,
+    })
+}
+
+// The console of a saved machine, with room for so many bytes.
+fn console_resumed(alloc: Global, saved: &Saved, room: u64) -> Result<Console, NoMemory>
+    requires { room ≡ saved.now.platform.console.room }
+    ensures { IfOk result (λ console. console ≡ saved.now.platform.console) }
+{
+    saved.can_be_saved();
+    let unread = saved.inputs();
+    let mut inputs = Vec::with_capacity(alloc, unread.len())?;
+    inputs.extend_from_slice(unread)?;
+    Console::resume(alloc, room, saved.console(), inputs)
 }

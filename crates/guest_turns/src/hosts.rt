@@ -1,26 +1,36 @@
 // The host of the guests.
 
-ghost use Rattle.std.specs.Prelude.{◌≡◌, ◌≢◌, ℕ, ◌+◌, ◌^◌, ◌<◌, ◌≤◌, ◌↔◌, true, false, length, map, All, IfErr, IfOk, IsErr};
+ghost use Rattle.std.specs.Prelude.{◌≡◌, ◌≢◌, ℕ, ◌+◌, ◌^◌, ◌<◌, ◌≤◌, ◌↔◌, true, false, is_ok, length, map, All, IfErr, IfOk, IsErr, OnErr};
 ghost use Rattle.arch_defs.specs.Frames.{Only, most_frames, within};
 ghost use Rattle.arch_defs.specs.Layouts.{named_by};
 ghost use Rattle.frame_split.specs.Shares.{IsSplit, blocks_of_all, frames_with};
+ghost use Rattle.guest_save.specs.Forms.{form};
+ghost use Rattle.guest_save.specs.Savable.{IsSavable};
 ghost use Rattle.guest_specs.specs.declared.statuses.Status.TheVariants.{Running};
 ghost use Rattle.machine_defs.specs.Machine.{start};
 ghost use Rattle.machine_defs.specs.Runs.{run};
+ghost use Rattle.outside.specs.Faults.{Rose};
+ghost use Rattle.outside.specs.Pieces.{Puts};
 ghost use Rattle.guest_turns.specs.Account.{Accounted, HasRoomForTurn};
 ghost use Rattle.guest_turns.specs.Hosted.{count_set, is_set, lowest, machine_at, part_at, KeepsShares};
 ghost use Rattle.guest_turns.specs.Limits.{AreBootable, frames_for, needs_of};
 ghost use Rattle.guest_turns.specs.Moves.{HasMoved, HasRetired};
+ghost use Rattle.guest_turns.specs.Saving.{MayBeSaved};
+ghost use Rattle.guest_turns.specs.Sources.{AreBootableSources, machines_of_sources, needs_of_sources};
 ghost use Rattle.guest_turns.specs.TurnLists.{updated};
 
-use crate::booting::{guests_at_start, lay_out, share};
+use crate::booting::{guests_from, lay_out, share};
 use crate::free_blocks::FreeBlocks;
+use crate::memory_views::MemoryView;
 use crate::relocation::{MoveFault, Moves, shift};
 use crate::retirement::vacate;
+use crate::sources::{Source, fresh_sources};
 use crate::turning::turn_of;
 use guest_exit::Guest;
+use guest_save::put;
 use machine_defs::{GuestSpec, Status};
 use no_memory::NoMemory;
+use outside::{Sink, SinkFault};
 use phys_mem::PhysMem;
 use rv64_hart::{Hart, Tally};
 use std::alloc::Global;
@@ -31,7 +41,7 @@ const MOST_GUESTS: usize = 16;
 
 /// Guests on one hart in one machine memory, which contracts see as their lone machines, with the part of
 /// memory that each guest has, the bytes of memory, which blocks of it are free, and which guests have
-/// retired. All memory of a run is taken by `boot` or `boot_spare`.
+/// retired. All memory of a run is taken by `boot_from`, and by `boot` and `boot_spare`, which call it.
 #[derive(Drop)]
 pub struct Host {
     hart: Hart,
@@ -84,10 +94,30 @@ impl Host {
             ≡ within (blocks_of_all (needs_of guests.items)) spare block) }
         ensures count { IfOk result (λ host. count_set host.free ≡ spare) }
     {
-        let split = share(alloc, guests.as_slice(), spare)?;
+        Host::boot_from(alloc, fresh_sources(alloc, guests)?, spare)
+    }
+
+    /// The machines that the guests go on from, in order, each at its start or as it was saved, in a part of
+    /// machine memory of the size that it needs, and so many free blocks behind those of all parts, which lie
+    /// in no part. It may answer out of memory.
+    pub fn boot_from(alloc: Global, sources: Vec<Source>, spare: u64) -> Result<Host, NoMemory>
+        requires bootable { AreBootableSources sources.items }
+        requires spare { spare ≤ 32 }
+        requires frames { frames_with (needs_of_sources sources.items) spare ≤ most_frames }
+        ensures machines { IfOk result (λ host. host.machines ≡ machines_of_sources sources.items) }
+        ensures parts { IfOk result (λ host. IsSplit (needs_of_sources sources.items) host.parts
+            (frames_with (needs_of_sources sources.items) spare)) }
+        ensures steps { IfOk result (λ host. All (λ m. m.platform.steps ≤ 2 ^ 60) host.machines) }
+        ensures active { IfOk result (λ host. (g : ℕ) → is_set host.retired g ≡ false) }
+        ensures flags { IfOk result (λ host. length host.retired ≡ 16) }
+        ensures free { IfOk result (λ host. (block : ℕ) → is_set host.free block
+            ≡ within (blocks_of_all (needs_of_sources sources.items)) spare block) }
+        ensures count { IfOk result (λ host. count_set host.free ≡ spare) }
+    {
+        let split = share(alloc, sources.as_slice(), spare)?;
         let mut memory = PhysMem::new(alloc, split.frames)?;
-        lay_out(&mut memory, guests.as_slice(), split.parts.as_slice());
-        let guests = guests_at_start(alloc, guests, split.parts.as_slice())?;
+        lay_out(&mut memory, sources.as_slice(), split.parts.as_slice());
+        let guests = guests_from(alloc, sources, split.parts.as_slice(), &mut memory)?;
         Ok(Host {
             hart: Hart::new(),
             memory,
@@ -160,6 +190,35 @@ impl Host {
     {
         let guest = &mut self.guests[g as usize];
         turn_of(guest, &mut self.hart, &mut self.memory, k, tally)
+    }
+
+    /// Appends the form of the machine of a guest that has not retired.
+    ///
+    /// # Errors
+    ///
+    /// A fault of the sink, to which a front of the form has been appended then.
+    pub fn save<O: Sink>(&self, g: u32, out: &mut O) -> Result<(), SinkFault>
+        requires guest { g < length self.now.machines }
+        requires active { is_set self.now.retired g ≡ false }
+        ensures bytes { Puts O.stands_for out.old out.new (is_ok result)
+            (form (machine_at self.now.machines g)) }
+        ensures cause { OnErr result (Rose (O.faults out.old) (O.faults out.new)) }
+        ensures count { O.faults out.old ≤ O.faults out.new }
+        ensures stays { O.made_with out.new ≡ O.made_with out.old }
+    {
+        let view = MemoryView::of(&self.guests[g as usize], &self.memory);
+        view.has_whole_blocks();
+        put(&view, out)
+    }
+
+    /// The machine of a guest that has not retired can be saved, where it has what a host does not keep of
+    /// it.
+    pub fn can_be_saved(&self, g: u32)
+        requires guest { g < length self.now.machines }
+        requires active { is_set self.now.retired g ≡ false }
+        ensures { MayBeSaved (machine_at self.now.machines g) → IsSavable (machine_at self.now.machines g) }
+    {
+        MemoryView::of(&self.guests[g as usize], &self.memory).can_be_saved();
     }
 
     /// Moves a block of a guest that has not retired to the lowest free block of machine memory. All lone

@@ -5,10 +5,14 @@ mod booting;
 mod free_blocks;
 mod hosts;
 mod laws;
+mod memory_views;
 mod relocation;
+mod remaking;
 mod retirement;
+mod sources;
 mod turning;
 
 pub use hosts::Host;
 pub use laws::{clear_steps_are_calm, turns_are_apart, turns_count_alike};
 pub use relocation::{MoveFault, Moves};
+pub use sources::{Source, fresh_sources};

@@ -1,34 +1,43 @@
-use Rattle.std.proofs.Common.{length, refl, sym, ◌∙◌}
+use Rattle.std.proofs.Common.{◌*◌, length, refl, ap, sym, ◌∙◌}
+use Rattle.arch_defs.specs.Memory.{block_size, loaded}
+use Rattle.guest_specs.specs.declared.needs.Need.{Need}
 use Rattle.guest_turns.proofs.Starting.{laid_more, none_laid, part_for}
 use Rattle.guest_turns.proofs.booting.lay_out.Goals as goal
 
+pub image-requires : goal.image-requires
+image-requires c =
+    (part_for c.args.sources.now c.args.parts.now c.requires.parts.frames c.loop-i.i c.index-sources-i.result c.index-parts-i.result c.requires.each c.requires.parts.split
+    c.loop-i-test.true c.index-sources-i.is c.index-parts-i.is).bootable
+
 pub load-requires-clause-fits : goal.load-requires-clause-fits
 load-requires-clause-fits c =
-    let for = part_for c.args.guests.now c.args.parts.now c.requires.parts.frames c.loop-i.i c.index-guests-i.result c.index-parts-i.result c.requires.each c.requires.parts.split
-    c.loop-i-test.true c.index-guests-i.is c.index-parts-i.is in
-    rw (c.as_slice.ensures, for.blocks) for.bootable.image
+    let for = part_for c.args.sources.now c.args.parts.now c.requires.parts.frames c.loop-i.i c.index-sources-i.result c.index-parts-i.result c.requires.each c.requires.parts.split
+    c.loop-i-test.true c.index-sources-i.is c.index-parts-i.is in
+    rw for.meets.blocks c.image.ensures.fits
 
 pub build-requires-clause-blocks : goal.build-requires-clause-blocks
 build-requires-clause-blocks c =
-    sym (part_for c.args.guests.now c.args.parts.now c.requires.parts.frames c.loop-i.i c.index-guests-i.result c.index-parts-i.result c.requires.each c.requires.parts.split
-    c.loop-i-test.true c.index-guests-i.is c.index-parts-i.is).blocks
+    ap (λ (need : Need). need.blocks) c.need.ensures
+    ∙ sym (part_for c.args.sources.now c.args.parts.now c.requires.parts.frames c.loop-i.i c.index-sources-i.result c.index-parts-i.result c.requires.each c.requires.parts.split
+    c.loop-i-test.true c.index-sources-i.is c.index-parts-i.is).meets.blocks
 
 pub loop-i-init : goal.loop-i-init
 loop-i-init c = record {
-  laid = none_laid c.args.guests.now c.args.parts.now (length c.args.memory.now) c.args.memory.now c.requires.zeros;
+  laid = none_laid c.args.sources.now c.args.parts.now (length c.args.memory.now) c.args.memory.now c.requires.zeros;
   size = refl;
 }
 
 pub loop-i-preserved : goal.loop-i-preserved
 loop-i-preserved c =
-    let guest = c.index-guests-i.result in
+    let source = c.index-sources-i.result in
     let part = c.index-parts-i.result in
-    let for = part_for c.args.guests.now c.args.parts.now c.requires.parts.frames c.loop-i.i guest part c.requires.each c.requires.parts.split
-    c.loop-i-test.true c.index-guests-i.is c.index-parts-i.is in
+    let for = part_for c.args.sources.now c.args.parts.now c.requires.parts.frames c.loop-i.i source part c.requires.each c.requires.parts.split
+    c.loop-i-test.true c.index-sources-i.is c.index-parts-i.is in
     record {
       laid =
-          laid_more c.args.guests.now c.args.parts.now c.requires.parts.frames c.loop-i.i guest part c.loop-i.memory c.load.new.mem c.build.new.mem
-          c.requires.parts.split (c.loop-i.invariant.size ∙ c.requires.parts.whole) c.loop-i-test.true c.index-guests-i.is c.index-parts-i.is for c.loop-i.invariant.laid (rw c.as_slice.ensures at c.load.ensures.ram)
+          laid_more c.args.sources.now c.args.parts.now c.requires.parts.frames c.loop-i.i source part c.loop-i.memory c.load.new.mem c.build.new.mem
+          c.requires.parts.split (c.loop-i.invariant.size ∙ c.requires.parts.whole) c.loop-i-test.true c.index-sources-i.is c.index-parts-i.is for c.loop-i.invariant.laid
+          (c.load.ensures.ram ∙ ap (λ n. loaded (n * block_size) c.image.result.now) for.meets.blocks ∙ c.image.ensures.ram)
           c.load.ensures.only c.build.ensures.table c.build.ensures.only;
       size = c.build.ensures.only.size ∙ c.load.ensures.only.size ∙ c.loop-i.invariant.size;
     }

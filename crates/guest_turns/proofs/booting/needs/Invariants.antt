@@ -1,6 +1,6 @@
 use Rattle.std.proofs.Common.{◌≡◌, take}
-use Rattle.guest_turns.specs.Limits.{needs_of}
+use Rattle.guest_turns.specs.Sources.{needs_of_sources}
 use Rattle.guest_turns.proofs.booting.needs.Given as goal
 
-abbrev pub invariant-loop-guest : goal.invariant-loop-guest
-invariant-loop-guest l = l.needs.items ≡ needs_of (take l.guest-index l.guests)
+abbrev pub invariant-loop-source : goal.invariant-loop-source
+invariant-loop-source l = l.needs.items ≡ needs_of_sources (take l.source-index l.sources)

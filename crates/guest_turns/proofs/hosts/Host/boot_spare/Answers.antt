@@ -1,64 +1,52 @@
-use Rattle.std.proofs.Common.{◌≡◌, ◌*◌, false, length, ap, arith, replicate, sym, subst, ◌∙◌}
-use Rattle.arch_defs.specs.Memory.{zeros}
-use Rattle.arch_defs.proofs.Images.{length_zeros}
+use Rattle.std.proofs.Common.{◌≡◌, ℕ, length, map, subst, ap, sym, ◌∙◌, arith}
+use Rattle.std.specs.Prelude.{IfOk}
+use Rattle.std.specs.List.{All}
+use Rattle.std.proofs.lemmas.List.{length-map}
+use Rattle.std.proofs.lemmas.Result.{IfOk-weaker}
+use Rattle.arch_defs.specs.Frames.{within}
 use Rattle.frame_split.specs.Shares.{IsSplit, blocks_of_all, frames_with}
-use Rattle.frame_split.proofs.Sums.{frames_sum}
-use Rattle.guest_turns.specs.Limits.{needs_of}
-use Rattle.guest_turns.proofs.Flags.{none_set}
-use Rattle.guest_turns.proofs.Starting.{booted_by, none_made, some_frames}
+use Rattle.machine_defs.specs.Machine.{start}
+use Rattle.guest_turns.specs.declared.sources.Source.TheVariants.{Fresh}
+use Rattle.guest_turns.specs.Hosted.{is_set}
+use Rattle.guest_turns.specs.Sources.{IsBootableSource, machines_of_sources, needs_of_sources}
+use Rattle.guest_turns.proofs.Savables.{fresh_each, fresh_machines, fresh_needs}
+use Rattle.guest_turns.proofs.Starting.{none_made}
 use Rattle.guest_turns.proofs.hosts.Host.boot_spare.Goals as goal
 
-pub new-requires-clause-some : goal.new-requires-clause-some
-new-requires-clause-some c =
-    rw (c.in_ok-split.ensures.frames, c.as_slice.ensures.value) (some_frames c.args.guests.items c.args.spare c.requires.bootable.some)
+pub boot_from-requires-clause-bootable : goal.boot_from-requires-clause-bootable
+boot_from-requires-clause-bootable c =
+    let specs = c.args.guests.items in
+    let is = c.in_ok-fresh_sources.ensures in
+    let count = ap length is ∙ length-map specs Fresh in
+    record {
+      some = omega (arith, count, c.requires.bootable.some);
+      few = omega (arith, count, c.requires.bootable.few);
+      each = subst (All IsBootableSource) (sym is) (fresh_each specs c.requires.bootable.each);
+    }
 
-pub lay_out-requires-clause-parts : goal.lay_out-requires-clause-parts
-lay_out-requires-clause-parts c = record {
-  frames = c.in_ok-split.split.frames;
-  split = subst (λ specs. IsSplit (needs_of specs) c.as_slice-3.result.now c.in_ok-split.split.frames) (c.as_slice.ensures.value ∙ sym c.as_slice-2.ensures.value)
-      (subst (λ parts. IsSplit (needs_of c.as_slice.result.now) parts c.in_ok-split.split.frames) (sym c.as_slice-3.ensures.value) c.in_ok-split.ensures.split);
-  whole = ap length c.in_ok-memory.ensures ∙ length_zeros (c.in_ok-split.split.frames * 4096);
-}
-
-pub lay_out-requires-clause-zeros : goal.lay_out-requires-clause-zeros
-lay_out-requires-clause-zeros c = c.in_ok-memory.ensures ∙ ap zeros (sym (ap length c.in_ok-memory.ensures ∙ length_zeros (c.in_ok-split.split.frames * 4096)))
-
-pub from-requires : goal.from-requires
-from-requires c =
-    let blocks : c.in_ok-split.split.blocks ≡ blocks_of_all (needs_of c.args.guests.items) = c.in_ok-split.ensures.blocks ∙ ap (λ specs. blocks_of_all (needs_of specs)) c.as_slice.ensures.value in
-    omega (arith, blocks, frames_sum (needs_of c.args.guests.items), c.requires.frames)
-
-pub invariant_of-result : goal.invariant_of-result
-invariant_of-result c =
-    (booted_by c.args.guests.items c.as_slice.result.now c.as_slice-2.result.now c.in_ok-split.split.parts.items c.as_slice-3.result.now c.as_slice-4.result.now
-    c.in_ok-split.split.frames c.in_ok-split.split.blocks c.args.spare c.in_ok-guests.guests.items (replicate 16 false) c.from.result c.in_ok-memory.memory c.lay_out.new.memory c.requires.bootable.some c.requires.bootable.few c.requires.bootable.each c.requires.frames
-    c.as_slice.ensures.value c.as_slice-2.ensures.value c.as_slice-3.ensures.value c.as_slice-4.ensures.value c.in_ok-split.ensures.split c.in_ok-split.ensures.spare c.in_ok-split.ensures.frames
-    (record { none = none_set 16; spares = c.from.ensures.blocks }) c.in_ok-memory.ensures c.lay_out.ensures.size c.lay_out.ensures.laid c.in_ok-guests.ensures).hosted
+pub boot_from-requires-clause-frames : goal.boot_from-requires-clause-frames
+boot_from-requires-clause-frames c =
+    let needs = ap needs_of_sources c.in_ok-fresh_sources.ensures ∙ fresh_needs c.args.guests.items in
+    rw needs c.requires.frames
 
 pub returns-clause-machines : goal.returns-clause-machines
 returns-clause-machines c =
-    (booted_by c.args.guests.items c.as_slice.result.now c.as_slice-2.result.now c.in_ok-split.split.parts.items c.as_slice-3.result.now c.as_slice-4.result.now
-    c.in_ok-split.split.frames c.in_ok-split.split.blocks c.args.spare c.in_ok-guests.guests.items (replicate 16 false) c.from.result c.in_ok-memory.memory c.lay_out.new.memory c.requires.bootable.some c.requires.bootable.few c.requires.bootable.each c.requires.frames
-    c.as_slice.ensures.value c.as_slice-2.ensures.value c.as_slice-3.ensures.value c.as_slice-4.ensures.value c.in_ok-split.ensures.split c.in_ok-split.ensures.spare c.in_ok-split.ensures.frames
-    (record { none = none_set 16; spares = c.from.ensures.blocks }) c.in_ok-memory.ensures c.lay_out.ensures.size c.lay_out.ensures.laid c.in_ok-guests.ensures).machines
+    subst (λ machines. IfOk c.boot_from.result (λ host. host.machines ≡ machines))
+    (ap machines_of_sources c.in_ok-fresh_sources.ensures ∙ fresh_machines c.args.guests.items) c.boot_from.ensures.machines
 
 pub returns-clause-parts : goal.returns-clause-parts
 returns-clause-parts c =
-    let parts_are =
-    (booted_by c.args.guests.items c.as_slice.result.now c.as_slice-2.result.now c.in_ok-split.split.parts.items c.as_slice-3.result.now c.as_slice-4.result.now
-    c.in_ok-split.split.frames c.in_ok-split.split.blocks c.args.spare c.in_ok-guests.guests.items (replicate 16 false) c.from.result c.in_ok-memory.memory c.lay_out.new.memory c.requires.bootable.some c.requires.bootable.few c.requires.bootable.each c.requires.frames
-    c.as_slice.ensures.value c.as_slice-2.ensures.value c.as_slice-3.ensures.value c.as_slice-4.ensures.value c.in_ok-split.ensures.split c.in_ok-split.ensures.spare c.in_ok-split.ensures.frames
-    (record { none = none_set 16; spares = c.from.ensures.blocks }) c.in_ok-memory.ensures c.lay_out.ensures.size c.lay_out.ensures.laid c.in_ok-guests.ensures).parts_are in
-    let split = rw (c.in_ok-split.ensures.frames, c.as_slice.ensures.value) at c.in_ok-split.ensures.split in
-    subst (λ parts. IsSplit (needs_of c.args.guests.items) parts (frames_with (needs_of c.args.guests.items) c.args.spare)) (sym parts_are) split
+    subst (λ needs. IfOk c.boot_from.result (λ host. IsSplit needs host.parts (frames_with needs c.args.spare)))
+    (ap needs_of_sources c.in_ok-fresh_sources.ensures ∙ fresh_needs c.args.guests.items) c.boot_from.ensures.parts
 
 pub returns-clause-fresh : goal.returns-clause-fresh
 returns-clause-fresh c =
-    none_made c.args.guests.items _
-    (booted_by c.args.guests.items c.as_slice.result.now c.as_slice-2.result.now c.in_ok-split.split.parts.items c.as_slice-3.result.now c.as_slice-4.result.now
-    c.in_ok-split.split.frames c.in_ok-split.split.blocks c.args.spare c.in_ok-guests.guests.items (replicate 16 false) c.from.result c.in_ok-memory.memory c.lay_out.new.memory c.requires.bootable.some c.requires.bootable.few c.requires.bootable.each c.requires.frames
-    c.as_slice.ensures.value c.as_slice-2.ensures.value c.as_slice-3.ensures.value c.as_slice-4.ensures.value c.in_ok-split.ensures.split c.in_ok-split.ensures.spare c.in_ok-split.ensures.frames
-    (record { none = none_set 16; spares = c.from.ensures.blocks }) c.in_ok-memory.ensures c.lay_out.ensures.size c.lay_out.ensures.laid c.in_ok-guests.ensures).machines
+    IfOk-weaker c.boot_from.result (λ host. host.machines ≡ map start c.args.guests.items) (λ host. All (λ m. m.platform.steps ≡ 0) host.machines)
+    (λ host is. none_made c.args.guests.items host.machines is)
+    (subst (λ machines. IfOk c.boot_from.result (λ host. host.machines ≡ machines))
+    (ap machines_of_sources c.in_ok-fresh_sources.ensures ∙ fresh_machines c.args.guests.items) c.boot_from.ensures.machines)
 
-pub returns-clause-active : goal.returns-clause-active
-returns-clause-active c = none_set 16
+pub returns-clause-free : goal.returns-clause-free
+returns-clause-free c =
+    subst (λ needs. IfOk c.boot_from.result (λ host. (block : ℕ) → is_set host.free block ≡ within (blocks_of_all needs) c.args.spare block))
+    (ap needs_of_sources c.in_ok-fresh_sources.ensures ∙ fresh_needs c.args.guests.items) c.boot_from.ensures.free

@@ -1,0 +1,16 @@
+use Rattle.std.proofs.Common.{◌≡◌, ◌≤◌, drop, length}
+use Rattle.guest_turns.specs.Remaking.{FitsPool}
+use Rattle.shadow_pool.specs.Slots.{KeepsPool, TidyPool, spaces_of}
+use Rattle.guest_turns.proofs.remaking.remake.Given as goal
+
+abbrev pub invariant-loop-i : goal.invariant-loop-i
+invariant-loop-i l = record {
+  within : l.i ≤ length l.saved.spaces;
+  spaces : spaces_of l.pool ≡ drop l.i l.saved.spaces;
+  fits : FitsPool l.saved l.pool;
+  keeps : KeepsPool l.fn.pool l.fn.memory l.pool l.memory;
+  tidy : TidyPool l.pool l.memory;
+}
+
+abbrev pub decreases-loop-i : goal.decreases-loop-i
+decreases-loop-i l = l.i

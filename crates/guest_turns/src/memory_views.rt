@@ -1,0 +1,110 @@
+// A guest in machine memory, as a machine that can be written.
+
+ghost use Rattle.std.specs.Prelude.{◌≡◌, ◌*◌, length};
+ghost use Rattle.arch_defs.specs.Memory.{block_size};
+ghost use Rattle.guest_exit.specs.View.{machine_of};
+ghost use Rattle.guest_save.specs.Headers.{blocks_of};
+ghost use Rattle.guest_save.specs.Savable.{IsSavable};
+ghost use Rattle.guest_turns.specs.Hosting.{IsHosted};
+ghost use Rattle.guest_turns.specs.Saving.{MayBeSaved};
+
+use arch_defs::{Entry, GuestRoot};
+use guest_exit::Guest;
+use guest_save::{Header, Snapshot, numbers_fit};
+use phys_mem::PhysMem;
+use std::marker::Model;
+
+/// A guest with the memory that it is in, which contracts see as its lone machine.
+#[derive(Drop)]
+pub struct MemoryView<'a> {
+    guest: &'a Guest,
+    memory: &'a PhysMem,
+}
+
+impl<'a> Model for MemoryView<'a> {
+    ghost use Rattle.machine_defs.specs.Machine.{Machine};
+    ghost use Rattle.guest_exit.specs.View.{machine_of};
+    ghost use Rattle.guest_turns.specs.Hosting.{IsHosted};
+
+    ghost Value = { Machine };
+
+    ghost view = { λ v. machine_of v.guest.now v.memory.now };
+
+    ghost invariant = { λ v. IsHosted v.guest.now v.memory.now };
+}
+
+impl<'a> MemoryView<'a> {
+    /// A guest in the memory that has its part.
+    pub fn of(guest: &'a Guest, memory: &'a PhysMem) -> MemoryView<'a>
+        requires { IsHosted guest.now memory.now }
+        ensures { result ≡ machine_of guest.now memory.now }
+    {
+        MemoryView { guest, memory }
+    }
+
+    /// The machine can be saved, where it has what a host does not keep of it.
+    pub fn can_be_saved(&self)
+        ensures { MayBeSaved self.now → IsSavable self.now }
+    {
+        numbers_fit(self.header());
+        let console = &self.guest.console;
+        let _put = console.bytes();
+        let _unread = console.unread();
+    }
+
+    /// Its RAM is of whole blocks.
+    pub fn has_whole_blocks(&self)
+        ensures { length self.now.ram ≡ blocks_of self.now * block_size }
+    {
+        let _ = &self.guest;
+    }
+}
+
+impl Snapshot for MemoryView<'_> {
+    ghost machine = { λ m. m };
+
+    #[tactic(auto, using(crate::proofs::ShownBlocks::header_shown))]
+    fn header(&self) -> Header {
+        let guest = self.guest;
+        Header {
+            blocks: guest.part.blocks().len() as u64,
+            spaces: guest.pool.room(),
+            entries: guest.pool.most(),
+            console: guest.console.room(),
+            status: guest.status,
+            steps: guest.steps,
+            time: guest.clock.now(),
+            timer: guest.clock.timer(),
+            state: guest.virt,
+        }
+    }
+
+    fn console(&self) -> &[u8] {
+        self.guest.console.bytes()
+    }
+
+    fn inputs(&self) -> &[(u64, u8)] {
+        self.guest.console.unread()
+    }
+
+    fn held(&self) -> u64 {
+        self.guest.pool.held()
+    }
+
+    fn key(&self, space: u64) -> GuestRoot {
+        self.guest.pool.key(space).root()
+    }
+
+    fn len(&self, space: u64) -> u64 {
+        self.guest.pool.len(space)
+    }
+
+    fn entry(&self, space: u64, place: u64) -> Entry {
+        self.guest.pool.entry(space, place)
+    }
+
+    fn block(&self, number: u64) -> &[u8] {
+        let block = self.guest.part.blocks()[number as usize];
+        self.memory.block(block as u64)
+    }
+}
