@@ -14,7 +14,7 @@ use Rattle.clap.specs.declared.error.kind.ErrorKind.{ErrorKind}
 use Rattle.clap.specs.Kinds.{IsAmong, Kinds, or_else}
 use Rattle.clap.specs.declared.error.kind.ErrorKind.TheVariants.{MissingRequiredArgument, DisplayHelp, InvalidSubcommand, OutOfMemory, UnknownArgument}
 use Rattle.command_line.specs.CommandLines.{nesthv_app, command_by}
-use Rattle.command_line.specs.Commands.{OnFiles, Run, Replay, Check, is_plain, asked_by, work_of}
+use Rattle.command_line.specs.Commands.{OnFiles, Run, Replay, Check, is_plain, asked_by, save_of, work_of}
 
 -- what a walk asks of a word that is not empty and does not begin with a dash
 record IsWord (word : List ℕ) : Type 0 where
@@ -52,6 +52,11 @@ work_taken : (name seed size : List ℕ) → IsWord seed → IsWord size
 unfolding clap_on_literals
 work_taken name seed size h k = simp (h.no_hyphens, h.no_hyphen, k.no_hyphens, k.no_hyphen) refl
 
+save_taken : (name config guest : List ℕ) → IsWord config → IsWord guest
+    → fault_of nesthv_app (name ∷ codes "save" ∷ config ∷ guest ∷ []) ≡ []
+unfolding clap_on_literals
+save_taken name config guest h k = simp (h.no_hyphens, h.no_hyphen, k.no_hyphens, k.no_hyphen) refl
+
 -- and give the command
 run_given : (name config : List ℕ) → IsWord config
     → option_and_then command_by (subcommand_of nesthv_app (name ∷ codes "run" ∷ config ∷ [])) ≡ Some (OnFiles (Run config))
@@ -72,6 +77,11 @@ work_given : (name seed size : List ℕ) → IsWord seed → IsWord size
     → option_and_then command_by (subcommand_of nesthv_app (name ∷ codes "work" ∷ seed ∷ size ∷ [])) ≡ work_of seed size
 unfolding clap_on_literals
 work_given name seed size h k = simp (h.no_hyphens, h.no_hyphen, k.no_hyphens, k.no_hyphen) refl
+
+save_given : (name config guest : List ℕ) → IsWord config → IsWord guest
+    → option_and_then command_by (subcommand_of nesthv_app (name ∷ codes "save" ∷ config ∷ guest ∷ [])) ≡ save_of config guest
+unfolding clap_on_literals
+save_given name config guest h k = simp (h.no_hyphens, h.no_hyphen, k.no_hyphens, k.no_hyphen) refl
 
 -- the first that fails
 no_kinds_first : (a b : Kinds) → or_else a b ≡ [] → a ≡ []
@@ -103,6 +113,10 @@ work_alone : (name : List ℕ) → fault_of nesthv_app (name ∷ codes "work" �
 unfolding clap_on_literals
 work_alone name h = cc
 
+save_alone : (name : List ℕ) → fault_of nesthv_app (name ∷ codes "save" ∷ []) ≢ []
+unfolding clap_on_literals
+save_alone name h = cc
+
 replay_short : (name config : List ℕ) → IsWord config → fault_of nesthv_app (name ∷ codes "replay" ∷ config ∷ []) ≡ MissingRequiredArgument ∷ []
 unfolding clap_on_literals
 replay_short name config h = simp (h.no_hyphens, h.no_hyphen) refl
@@ -111,16 +125,20 @@ work_short : (name seed : List ℕ) → IsWord seed → fault_of nesthv_app (nam
 unfolding clap_on_literals
 work_short name seed h = simp (h.no_hyphens, h.no_hyphen) refl
 
+save_short : (name config : List ℕ) → IsWord config → fault_of nesthv_app (name ∷ codes "save" ∷ config ∷ []) ≡ MissingRequiredArgument ∷ []
+unfolding clap_on_literals
+save_short name config h = simp (h.no_hyphens, h.no_hyphen) refl
+
 help_refused : (name : List ℕ) (rest : List (List ℕ)) → fault_of nesthv_app (name ∷ codes "help" ∷ rest) ≡ DisplayHelp ∷ InvalidSubcommand ∷ []
 unfolding clap_on_literals
 help_refused name rest = refl
 
 other_refused : (name verb : List ℕ) (rest : List (List ℕ)) → IsWord verb → bytes_eq (codes "run") verb ≡ false
     → bytes_eq (codes "replay") verb ≡ false → bytes_eq (codes "check") verb ≡ false
-    → bytes_eq (codes "work") verb ≡ false → bytes_eq (codes "help") verb ≡ false
+    → bytes_eq (codes "work") verb ≡ false → bytes_eq (codes "save") verb ≡ false → bytes_eq (codes "help") verb ≡ false
     → fault_of nesthv_app (name ∷ verb ∷ rest) ≡ UnknownArgument ∷ InvalidSubcommand ∷ []
 unfolding clap_on_literals
-other_refused name verb rest h run replay check work help = simp (run, replay, check, work, help, h.no_hyphens, h.no_hyphen) refl
+other_refused name verb rest h run replay check work save help = simp (run, replay, check, work, save, help, h.no_hyphens, h.no_hyphen) refl
 
 -- a command that no word stands in for, and words after those that it takes
 below_none : (a : App) (h : Held) (words : List Text) → built_fault a h words ≡ []
@@ -152,6 +170,12 @@ unfolding clap_on_literals
 work_stops rest = ap (λ w. w.stopped)
     (sym (walk_stopped (built nesthv_app).top.rules (names_of (built nesthv_app)) (walk_from nothing_held) (codes "work") [] rest))
 
+save_stops : (rest : List Text)
+    → (walk (built nesthv_app).top.rules (names_of (built nesthv_app)) nothing_held (codes "save" ∷ rest)).stopped ≡ Some (codes "save", rest)
+unfolding clap_on_literals
+save_stops rest = ap (λ w. w.stopped)
+    (sym (walk_stopped (built nesthv_app).top.rules (names_of (built nesthv_app)) (walk_from nothing_held) (codes "save") [] rest))
+
 run_more : (config more : List ℕ) (rest : List Text) → IsWord config → IsWord more
     → entered_fault (built nesthv_app) (Some (codes "run", config ∷ more ∷ rest)) ≡ UnknownArgument ∷ []
 unfolding clap_on_literals
@@ -171,6 +195,11 @@ work_more : (seed size more : List ℕ) (rest : List Text) → IsWord seed → I
     → entered_fault (built nesthv_app) (Some (codes "work", seed ∷ size ∷ more ∷ rest)) ≡ UnknownArgument ∷ []
 unfolding clap_on_literals
 work_more seed size more rest h k l = simp (h.no_hyphens, h.no_hyphen, k.no_hyphens, k.no_hyphen, l.no_hyphens, l.no_hyphen) refl
+
+save_more : (config guest more : List ℕ) (rest : List Text) → IsWord config → IsWord guest → IsWord more
+    → entered_fault (built nesthv_app) (Some (codes "save", config ∷ guest ∷ more ∷ rest)) ≡ UnknownArgument ∷ []
+unfolding clap_on_literals
+save_more config guest more rest h k l = simp (h.no_hyphens, h.no_hyphen, k.no_hyphens, k.no_hyphen, l.no_hyphens, l.no_hyphen) refl
 
 some_kind : (kinds : Kinds) (k : ErrorKind) (ks : Kinds) → kinds ≡ k ∷ ks → kinds ≢ []
 some_kind kinds k ks e f = cc
@@ -199,6 +228,12 @@ work_long name seed size more rest h k l e = some_kind _ _ _ (work_more seed siz
     (subst (λ stop. entered_fault (built nesthv_app) stop ≡ []) (work_stops (seed ∷ size ∷ more ∷ rest))
     (below_none (built nesthv_app) nothing_held (codes "work" ∷ seed ∷ size ∷ more ∷ rest) e))
 
+save_long : (name config guest more : List ℕ) (rest : List Text) → IsWord config → IsWord guest → IsWord more
+    → fault_of nesthv_app (name ∷ codes "save" ∷ config ∷ guest ∷ more ∷ rest) ≢ []
+save_long name config guest more rest h k l e = some_kind _ _ _ (save_more config guest more rest h k l)
+    (subst (λ stop. entered_fault (built nesthv_app) stop ≡ []) (save_stops (config ∷ guest ∷ more ∷ rest))
+    (below_none (built nesthv_app) nothing_held (codes "save" ∷ config ∷ guest ∷ more ∷ rest) e))
+
 -- all words of a list are plain
 both_first : (a b : Bool) → (a && b) ≡ true → a ≡ true
 both_first true b h = refl
@@ -220,6 +255,7 @@ record IsOther (verb : List ℕ) : Type 0 where
   replay : bytes_eq (codes "replay") verb ≡ false
   check : bytes_eq (codes "check") verb ≡ false
   work : bytes_eq (codes "work") verb ≡ false
+  save : bytes_eq (codes "save") verb ≡ false
   help : bytes_eq (codes "help") verb ≡ false
 
 data Verb (verb : List ℕ) : Type 0 where
@@ -227,6 +263,7 @@ data Verb (verb : List ℕ) : Type 0 where
   is_replay : verb ≡ codes "replay" → Verb verb
   is_check : verb ≡ codes "check" → Verb verb
   is_work : verb ≡ codes "work" → Verb verb
+  is_save : verb ≡ codes "save" → Verb verb
   is_help : verb ≡ codes "help" → Verb verb
   is_other : IsOther verb → Verb verb
 
@@ -239,18 +276,19 @@ abbrev IsOrNot : List ℕ → List ℕ → Type 0
 IsOrNot text verb = (verb ≡ text) ⊎ (bytes_eq text verb ≡ false)
 
 verb_by : (verb : List ℕ) → IsOrNot (codes "run") verb → IsOrNot (codes "replay") verb → IsOrNot (codes "check") verb → IsOrNot (codes "work") verb
-    → IsOrNot (codes "help") verb → Verb verb
-verb_by verb (inl e) b c w d = is_run e
-verb_by verb (inr a) (inl e) c w d = is_replay e
-verb_by verb (inr a) (inr b) (inl e) w d = is_check e
-verb_by verb (inr a) (inr b) (inr c) (inl e) d = is_work e
-verb_by verb (inr a) (inr b) (inr c) (inr w) (inl e) = is_help e
-verb_by verb (inr a) (inr b) (inr c) (inr w) (inr d) = is_other (record { run = a; replay = b; check = c; work = w; help = d })
+    → IsOrNot (codes "save") verb → IsOrNot (codes "help") verb → Verb verb
+verb_by verb (inl e) b c w s d = is_run e
+verb_by verb (inr a) (inl e) c w s d = is_replay e
+verb_by verb (inr a) (inr b) (inl e) w s d = is_check e
+verb_by verb (inr a) (inr b) (inr c) (inl e) s d = is_work e
+verb_by verb (inr a) (inr b) (inr c) (inr w) (inl e) d = is_save e
+verb_by verb (inr a) (inr b) (inr c) (inr w) (inr s) (inl e) = is_help e
+verb_by verb (inr a) (inr b) (inr c) (inr w) (inr s) (inr d) = is_other (record { run = a; replay = b; check = c; work = w; save = s; help = d })
 
 verb_of : (verb : List ℕ) → Verb verb
 verb_of verb =
     verb_by verb (is_text (codes "run") verb _ refl) (is_text (codes "replay") verb _ refl) (is_text (codes "check") verb _ refl) (is_text (codes "work") verb _ refl)
-    (is_text (codes "help") verb _ refl)
+    (is_text (codes "save") verb _ refl) (is_text (codes "help") verb _ refl)
 
 -- the matches of plain words that are taken say what the words ask for
 abbrev Gives : List ℕ → List (List ℕ) → Type 0
@@ -297,15 +335,29 @@ gives_work name (seed ∷ size ∷ more ∷ rest) plain taken =
     absurd (work_long name seed size more rest (first_word seed (size ∷ more ∷ rest) tail) (first_word size (more ∷ rest) last)
     (first_word more rest (rest_plain size (more ∷ rest) last)) taken)
 
+gives_save : (name : List ℕ) (rest : List (List ℕ)) → Gives name (codes "save" ∷ rest)
+gives_save name [] plain taken = absurd (save_alone name taken)
+gives_save name (config ∷ []) plain taken =
+    absurd (some_kind _ _ _ (save_short name config (first_word config [] (rest_plain (codes "save") (config ∷ []) plain))) taken)
+gives_save name (config ∷ guest ∷ []) plain taken =
+    let tail = rest_plain (codes "save") (config ∷ guest ∷ []) plain in
+    save_given name config guest (first_word config (guest ∷ []) tail) (first_word guest [] (rest_plain config (guest ∷ []) tail))
+gives_save name (config ∷ guest ∷ more ∷ rest) plain taken =
+    let tail = rest_plain (codes "save") (config ∷ guest ∷ more ∷ rest) plain in
+    let last = rest_plain config (guest ∷ more ∷ rest) tail in
+    absurd (save_long name config guest more rest (first_word config (guest ∷ more ∷ rest) tail) (first_word guest (more ∷ rest) last)
+    (first_word more rest (rest_plain guest (more ∷ rest) last)) taken)
+
 gives_verb : (name verb : List ℕ) (rest : List (List ℕ)) → Verb verb → Gives name (verb ∷ rest)
 gives_verb name verb rest (is_run e) = subst (λ v. Gives name (v ∷ rest)) (sym e) (gives_run name rest)
 gives_verb name verb rest (is_replay e) = subst (λ v. Gives name (v ∷ rest)) (sym e) (gives_replay name rest)
 gives_verb name verb rest (is_check e) = subst (λ v. Gives name (v ∷ rest)) (sym e) (gives_check name rest)
 gives_verb name verb rest (is_work e) = subst (λ v. Gives name (v ∷ rest)) (sym e) (gives_work name rest)
+gives_verb name verb rest (is_save e) = subst (λ v. Gives name (v ∷ rest)) (sym e) (gives_save name rest)
 gives_verb name verb rest (is_help e) = subst (λ v. Gives name (v ∷ rest)) (sym e)
     (λ plain taken. absurd (some_kind _ _ _ (help_refused name rest) taken))
 gives_verb name verb rest (is_other o) = λ plain taken.
-    absurd (some_kind _ _ _ (other_refused name verb rest (first_word verb rest plain) o.run o.replay o.check o.work o.help) taken)
+    absurd (some_kind _ _ _ (other_refused name verb rest (first_word verb rest plain) o.run o.replay o.check o.work o.save o.help) taken)
 
 pub words_given : (name : List ℕ) (words : List (List ℕ)) → list_all is_plain words ≡ true → fault_of nesthv_app (name ∷ words) ≡ []
     → option_and_then command_by (subcommand_of nesthv_app (name ∷ words)) ≡ asked_by words
@@ -344,20 +396,29 @@ refuses_work name (seed ∷ size ∷ []) plain other =
     absurd (other (work_taken name seed size (first_word seed (size ∷ []) tail) (first_word size [] (rest_plain seed (size ∷ []) tail))))
 refuses_work name (seed ∷ more ∷ another ∷ rest) plain other = refl
 
+refuses_save : (name : List ℕ) (rest : List (List ℕ)) → Refuses name (codes "save" ∷ rest)
+refuses_save name [] plain other = refl
+refuses_save name (config ∷ []) plain other = refl
+refuses_save name (config ∷ guest ∷ []) plain other =
+    let tail = rest_plain (codes "save") (config ∷ guest ∷ []) plain in
+    absurd (other (save_taken name config guest (first_word config (guest ∷ []) tail) (first_word guest [] (rest_plain config (guest ∷ []) tail))))
+refuses_save name (config ∷ more ∷ another ∷ rest) plain other = refl
+
 asks_nothing : (verb : List ℕ) (rest : List (List ℕ)) → bytes_eq (codes "run") verb ≡ false → bytes_eq (codes "replay") verb ≡ false
-    → bytes_eq (codes "check") verb ≡ false → bytes_eq (codes "work") verb ≡ false → asked_by (verb ∷ rest) ≡ None
-asks_nothing verb [] run replay check work = refl
-asks_nothing verb (config ∷ []) run replay check work = simp (run, check) refl
-asks_nothing verb (first ∷ second ∷ []) run replay check work = simp (replay, work) refl
-asks_nothing verb (first ∷ second ∷ more ∷ rest) run replay check work = refl
+    → bytes_eq (codes "check") verb ≡ false → bytes_eq (codes "work") verb ≡ false → bytes_eq (codes "save") verb ≡ false → asked_by (verb ∷ rest) ≡ None
+asks_nothing verb [] run replay check work save = refl
+asks_nothing verb (config ∷ []) run replay check work save = simp (run, check) refl
+asks_nothing verb (first ∷ second ∷ []) run replay check work save = simp (replay, work, save) refl
+asks_nothing verb (first ∷ second ∷ more ∷ rest) run replay check work save = refl
 
 refuses_verb : (name verb : List ℕ) (rest : List (List ℕ)) → Verb verb → Refuses name (verb ∷ rest)
 refuses_verb name verb rest (is_run e) = subst (λ v. Refuses name (v ∷ rest)) (sym e) (refuses_run name rest)
 refuses_verb name verb rest (is_replay e) = subst (λ v. Refuses name (v ∷ rest)) (sym e) (refuses_replay name rest)
 refuses_verb name verb rest (is_check e) = subst (λ v. Refuses name (v ∷ rest)) (sym e) (refuses_check name rest)
 refuses_verb name verb rest (is_work e) = subst (λ v. Refuses name (v ∷ rest)) (sym e) (refuses_work name rest)
-refuses_verb name verb rest (is_help e) = λ plain other. subst (λ v. asked_by (v ∷ rest) ≡ None) (sym e) (asks_nothing (codes "help") rest refl refl refl refl)
-refuses_verb name verb rest (is_other o) = λ plain other. asks_nothing verb rest o.run o.replay o.check o.work
+refuses_verb name verb rest (is_save e) = subst (λ v. Refuses name (v ∷ rest)) (sym e) (refuses_save name rest)
+refuses_verb name verb rest (is_help e) = λ plain other. subst (λ v. asked_by (v ∷ rest) ≡ None) (sym e) (asks_nothing (codes "help") rest refl refl refl refl refl)
+refuses_verb name verb rest (is_other o) = λ plain other. asks_nothing verb rest o.run o.replay o.check o.work o.save
 
 pub words_refused : (name : List ℕ) (words : List (List ℕ)) → list_all is_plain words ≡ true → fault_of nesthv_app (name ∷ words) ≢ []
     → asked_by words ≡ None

@@ -5,11 +5,12 @@ use Rattle.std.specs.List.{list_all}
 use Rattle.std.specs.Str.Parse.{digits_value}
 
 -- a command on files: a run of the configuration in this file, the same compared with the report in another
--- file, or what a run would need
+-- file, what a run would need, or the same run, after which the guest of this number is saved
 pub data FileCommand : Type 0 where
   Run : List ℕ → FileCommand
   Replay : List ℕ → List ℕ → FileCommand
   Check : List ℕ → FileCommand
+  Save : List ℕ → ℕ → FileCommand
 
 -- what is asked for: one of these, or a run of the guests that are generated from a seed and a size
 pub data Command : Type 0 where
@@ -41,9 +42,17 @@ seed_of word = bounded_number 10 0 (2 ^ 31 - 1) word
 abbrev pub size_of : List ℕ → Option ℕ
 size_of word = bounded_number 5 1 10000 word
 
+-- the number of a guest, of 1 or 2 digits
+abbrev pub guest_of : List ℕ → Option ℕ
+guest_of word = bounded_number 2 0 99 word
+
 -- a run of generated guests, where these words are a seed and a size
 abbrev pub work_of : List ℕ → List ℕ → Option Command
 work_of seed size = option_and_then (λ s. option_map (Work s) (size_of size)) (seed_of seed)
+
+-- a run after which a guest is saved, where the second word is a guest's number
+abbrev pub save_of : List ℕ → List ℕ → Option Command
+save_of config guest = option_map (λ g. OnFiles (Save config g)) (guest_of guest)
 
 -- the command of the words after the program's name
 abbrev pub asked_by : List (List ℕ) → Option Command
@@ -52,7 +61,8 @@ asked_by (verb ∷ config ∷ []) =
     else (if bytes_eq (codes "check") verb then Some (OnFiles (Check config)) else None)
 asked_by (verb ∷ first ∷ second ∷ []) =
     if bytes_eq (codes "replay") verb then Some (OnFiles (Replay first second))
-    else (if bytes_eq (codes "work") verb then work_of first second else None)
+    else (if bytes_eq (codes "save") verb then save_of first second
+    else (if bytes_eq (codes "work") verb then work_of first second else None))
 asked_by words = None
 
 -- the command of all words; the first is the program's name, and is not looked at

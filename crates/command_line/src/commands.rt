@@ -5,8 +5,8 @@ ghost use Rattle.std.specs.Char.{is_ascii_digit};
 ghost use Rattle.std.specs.List.{list_all};
 ghost use Rattle.clap.specs.Words.{app_of, fault_of, first_of, found_of, rows_of, shape_of, subcommand_of, subcommand_rows_of, with_subcommand, new_app};
 ghost use Rattle.clap.specs.declared.builder.command.Command.TheViews.{out-Command};
-ghost use Rattle.command_line.specs.CommandLines.{bare_app, files_app, nesthv_app, one_word, two_words};
-ghost use Rattle.command_line.specs.Commands.{OnFiles, command_of, asked_by, is_numeral, is_plain, bounded_number, if_within, work_of};
+ghost use Rattle.command_line.specs.CommandLines.{bare_app, files_app, nesthv_app, one_word, reports_app, two_words};
+ghost use Rattle.command_line.specs.Commands.{OnFiles, command_of, asked_by, is_numeral, is_plain, bounded_number, guest_of, if_within, save_of, work_of};
 ghost use Rattle.command_line.specs.CommandLines.{command_by, file_command_by};
 ghost use Rattle.command_line.specs.Seen.{command_seen, file_command_seen, IsRequest};
 
@@ -24,6 +24,8 @@ pub enum FileRequest<'a> {
     Replay { config: &'a str, report: &'a str },
     /// What a run of the configuration would need.
     Check { config: &'a str },
+    /// The same run, after which the guest of this number, 0 to 99, is saved.
+    Save { config: &'a str, guest: u32 },
 }
 
 /// What the words ask for.
@@ -71,13 +73,20 @@ fn with<'a>(above: Command<'a>, command: Command<'a>) -> Result<Command<'a>, All
     above.subcommand(command)
 }
 
+// The program with its commands on a report.
+fn reports_line<'a>(alloc: Global) -> Result<Command<'a>, AllocError>
+    ensures { IfOk result (λ c. app_of c ≡ reports_app) }
+{
+    let run = with(bare(alloc), one_word(alloc, "run", "CONFIG")?)?;
+    with(run, two_words(alloc, "replay", "CONFIG", "REPORT")?)
+}
+
 // The program with its commands on files.
 fn files_line<'a>(alloc: Global) -> Result<Command<'a>, AllocError>
     ensures { IfOk result (λ c. app_of c ≡ files_app) }
 {
-    let run = with(bare(alloc), one_word(alloc, "run", "CONFIG")?)?;
-    let replay = with(run, two_words(alloc, "replay", "CONFIG", "REPORT")?)?;
-    with(replay, one_word(alloc, "check", "CONFIG")?)
+    let check = with(reports_line(alloc)?, one_word(alloc, "check", "CONFIG")?)?;
+    with(check, two_words(alloc, "save", "CONFIG", "GUEST")?)
 }
 
 // The program's command line.
@@ -179,8 +188,20 @@ fn file_request_for<'a>(verb: &str, files: &ArgMatches<'a>) -> Option<FileReques
     if verb == "check" {
         return Some(FileRequest::Check { config });
     }
+    if verb == "save" {
+        return save_request(config, files.get_str("GUEST")?);
+    }
     let report = files.get_str("REPORT")?;
     Some(FileRequest::Replay { config, report })
+}
+
+// What `save` with these words asks for.
+fn save_request<'a>(config: &'a str, guest: &str) -> Option<FileRequest<'a>>
+    ensures { option_map (λ request. OnFiles (file_command_seen request)) result
+        ≡ save_of config.entry.now guest.now }
+{
+    let guest = number_of(guest, 2, 0, 99)? as u32;
+    Some(FileRequest::Save { config, guest })
 }
 
 // What `work` with these words asks for.
