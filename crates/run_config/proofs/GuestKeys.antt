@@ -1,5 +1,5 @@
--- The keys that a guest must have, in its table and among their values.
-use Rattle.std.proofs.Common.{◌≡◌, ℕ, refl}
+-- The keys that a fresh guest must have, in its table and among their values.
+use Rattle.std.proofs.Common.{◌≡◌, ℕ, false, refl}
 use Rattle.toml.specs.Data.{Members}
 use Rattle.run_config.specs.declared.keys.ConfigKey.TheVariants as key
 use Rattle.run_config.specs.declared.settings.GuestRef.{GuestRef}
@@ -9,7 +9,7 @@ use Rattle.run_config.specs.Seen.{AreAt, AreReadFrom, HasValues, wrong_seen}
 use Rattle.run_config.specs.Tests.{out_of_range}
 use Rattle.run_config.proofs.Found.{number_found, text_found}
 
-pub wrong_in_table : (number : ℕ) (v : GuestValues) (table : Members) → AreAt v table → wrong_value number table ≡ wrong_seen number v
+pub wrong_in_table : (number : ℕ) (v : GuestValues) (table : Members) → AreAt v table → wrong_value false number table ≡ wrong_seen number v
 unfolding wrong_value out_of_range wrong_seen
 wrong_in_table number v table at = rw (at.name, at.image, at.blocks, at.spaces, at.entries, at.console) refl
 

@@ -8,7 +8,7 @@ use Rattle.run_config.specs.declared.faults.ConfigFault.{ConfigFault}
 use Rattle.run_config.specs.declared.formats.Format.{Format}
 use Rattle.run_config.specs.declared.guests.GuestSettings.{GuestSettings}
 use Rattle.run_config.specs.declared.keys.ConfigKey.TheVariants as key
-use Rattle.run_config.specs.Guests.{guest_fault, guests_fault, settings_of}
+use Rattle.run_config.specs.Guests.{guest_fault, guests_fault, settings_by, settings_of}
 use Rattle.run_config.specs.Seen.{names_of, tables_seen}
 use Rattle.run_config.specs.Tests.{first_fault}
 use Rattle.run_config.specs.Values.{text_at}
@@ -23,7 +23,7 @@ names_more [] g = refl
 names_more (h ∷ guests) g = ap (λ more. h.name ∷ more) (names_more guests g)
 
 name_kept : (format : Format) (table : Members) → (settings_of format table).name ≡ text_at key.Name table
-unfolding settings_of
+unfolding settings_of settings_by
 name_kept format table = refl
 
 seen_drop : (tables : List TableRef) (i : ℕ) (d : TableRef) → i < length tables → tables_seen (drop i tables) ≡ table_view (get_or tables i d).now ∷ tables_seen (drop (i + 1) tables)

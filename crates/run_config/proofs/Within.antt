@@ -17,7 +17,7 @@ use Rattle.run_config.specs.declared.formats.Format.{Format}
 use Rattle.run_config.specs.declared.formats.Format.TheVariants.{One, Two}
 use Rattle.run_config.specs.declared.guests.InputSource.{InputSource}
 use Rattle.run_config.specs.declared.guests.InputSource.TheVariants.{Pairs, File}
-use Rattle.run_config.specs.Guests.{absent_key, wrong_value, wrong_option, guest_fault, guests_fault, input_at, inputs_in, is_new_name, optional_source, rise_from, settings_of, source_in, weight_at}
+use Rattle.run_config.specs.Guests.{absent_key, wrong_value, wrong_option, guest_fault, guest_tests, guests_fault, has_inputs, input_at, inputs_in, is_new_name, is_resumed, optional_source, origin_of, rise_from, settings_by, settings_of, source_in, weight_at}
 use Rattle.run_config.specs.Configurations.{AreByteInputs, IsGuestWithin, IsSourceWithin}
 use Rattle.run_config.specs.Tables.{Kind, any_text, text_of, integer_of}
 use Rattle.run_config.specs.Tests.{unless, first_fault, missing, out_of_range, wrong_kind}
@@ -209,12 +209,12 @@ weight_within Two n t e =
     let (fits, _) = first_none (out_of_range (Some n) t (key.Weight, integer_of 1 1000)) _ e in
     optional_row 1 1 1000 (Some n) t key.Weight (omega arith) (omega arith) fits
 
-pub guest_within : (format : Format) (names : List (List ℕ)) (t : Members) → guest_fault format names t ≡ None → IsGuestWithin (settings_of format t)
-unfolding guest_fault absent_key wrong_value settings_of
-guest_within format names t e =
+fresh_within : (format : Format) (names : List (List ℕ)) (t : Members) → first_fault (guest_tests false format names t) ≡ None → IsGuestWithin (settings_by false format t)
+unfolding guest_tests absent_key wrong_value has_inputs settings_by origin_of
+fresh_within format names t e =
     let n = length names in
-    let (absent, e) = first_none (absent_key n t) _ e in
-    let (wrong, e) = first_none (wrong_value n t) _ e in
+    let (absent, e) = first_none (absent_key false n t) _ e in
+    let (wrong, e) = first_none (wrong_value false n t) _ e in
     let (option, e) = first_none (wrong_option format n t) _ e in
     let (named, e) = first_none (unless (is_new_name names (text_at key.Name t)) _) _ e in
     let (input, e) = first_none (unless (is_some (input_at format t)) _) _ e in
@@ -240,19 +240,52 @@ guest_within format names t e =
     record {
       name_some = name.0;
       name_most = name.1;
-      image_some = image.0;
-      image_most = image.1;
-      blocks_some = blocks.0;
-      blocks_most = blocks.1;
-      spaces_some = spaces.0;
-      spaces_most = spaces.1;
-      entries_least = entries.0;
-      entries_most = entries.1;
-      console_most = console.1;
       weight_some = weight.0;
       weight_most = weight.1;
-      input = source_within format t (unless_none _ _ input);
+      origin =
+          record {
+            image_some = image.0;
+            image_most = image.1;
+            blocks_some = blocks.0;
+            blocks_most = blocks.1;
+            spaces_some = spaces.0;
+            spaces_most = spaces.1;
+            entries_least = entries.0;
+            entries_most = entries.1;
+            console_most = console.1;
+            input = source_within format t (unless_none _ _ input);
+          };
     }
+
+resumed_within : (format : Format) (names : List (List ℕ)) (t : Members) → first_fault (guest_tests true format names t) ≡ None → IsGuestWithin (settings_by true format t)
+unfolding guest_tests absent_key wrong_value settings_by origin_of
+resumed_within format names t e =
+    let n = length names in
+    let (absent, e) = first_none (absent_key true n t) _ e in
+    let (wrong, e) = first_none (wrong_value true n t) _ e in
+    let (option, e) = first_none (wrong_option format n t) _ e in
+    let (named, e) = first_none (unless (is_new_name names (text_at key.Name t)) _) _ e in
+    let (a-name, r) = first_none (missing (Some n) t key.Name) _ absent in
+    let (a-resume, r) = first_none (missing (Some n) t key.Resume) _ r in
+    let (w-name, w) = first_none (out_of_range (Some n) t (key.Name, any_text)) _ wrong in
+    let (w-resume, w) = first_none (out_of_range (Some n) t (key.Resume, text_of 1 255)) _ w in
+    let name = name-within names (text_at key.Name t) (unless_none _ _ named) in
+    let weight = weight_within format n t option in
+    record {
+      name_some = name.0;
+      name_most = name.1;
+      weight_some = weight.0;
+      weight_most = weight.1;
+      origin = text_row (Some n) (Some n) t key.Resume 1 255 a-resume w-resume;
+    }
+
+pub guest_within : (format : Format) (names : List (List ℕ)) (t : Members) → guest_fault format names t ≡ None → IsGuestWithin (settings_of format t)
+unfolding guest_fault settings_of
+guest_within format names t e = by (is_resumed format t) e
+  where
+    by : (resumed : Bool) → first_fault (guest_tests resumed format names t) ≡ None → IsGuestWithin (settings_by resumed format t)
+    by true e = resumed_within format names t e
+    by false e = fresh_within format names t e
 
 pub guests_within : (format : Format) (names : List (List ℕ)) (ts : List Members) → guests_fault format names ts ≡ None → All IsGuestWithin (map (settings_of format) ts)
 unfolding guests_fault

@@ -2,12 +2,15 @@
 use Rattle.std.specs.Prelude.{ℕ, ◌<◌, ◌≤◌, ◌^◌, List, length}
 use Rattle.std.specs.List.{All}
 use Rattle.guest_specs.specs.Inputs.{AreInputs}
+use Rattle.run_config.specs.declared.guests.FreshGuest.{FreshGuest}
 use Rattle.run_config.specs.declared.guests.GuestSettings.{GuestSettings}
 use Rattle.run_config.specs.declared.guests.InputSource.{InputSource}
 use Rattle.run_config.specs.declared.guests.InputSource.TheVariants.{Pairs, File}
+use Rattle.run_config.specs.declared.guests.Origin.{Origin}
+use Rattle.run_config.specs.declared.guests.Origin.TheVariants.{Fresh, Saved}
 
--- the guests in their order, the turns, which are pairs of a guest's number and a number of steps, and how many
--- spare blocks there are
+-- the guests in their order, the turns, which are pairs of a guest's number and a number of steps, and how
+-- many spare blocks there are
 pub record Configuration : Type 0 where
   pub guests : List GuestSettings
   pub turns : List (ℕ × ℕ)
@@ -23,10 +26,8 @@ abbrev pub IsSourceWithin : InputSource → Type 0
 IsSourceWithin (Pairs inputs) = AreByteInputs inputs
 IsSourceWithin (File name) = (1 ≤ length name) × (length name ≤ 255)
 
--- what holds of the settings of each guest that is accepted
-pub record IsGuestWithin (g : GuestSettings) : Type 0 where
-  pub name_some : 1 ≤ length g.name
-  pub name_most : length g.name ≤ 32
+-- what holds of a fresh guest
+pub record IsFreshWithin (g : FreshGuest) : Type 0 where
   pub image_some : 1 ≤ length g.image
   pub image_most : length g.image ≤ 255
   pub blocks_some : 1 ≤ g.blocks
@@ -36,9 +37,20 @@ pub record IsGuestWithin (g : GuestSettings) : Type 0 where
   pub entries_least : 16 ≤ g.entries
   pub entries_most : g.entries ≤ 256
   pub console_most : g.console ≤ 1048576
+  pub input : IsSourceWithin g.input
+
+-- what holds of how a guest begins: the file of a saved one has a name
+abbrev pub IsOriginWithin : Origin → Type 0
+IsOriginWithin (Fresh g) = IsFreshWithin g
+IsOriginWithin (Saved name) = (1 ≤ length name) × (length name ≤ 255)
+
+-- what holds of the settings of each guest that is accepted
+pub record IsGuestWithin (g : GuestSettings) : Type 0 where
+  pub name_some : 1 ≤ length g.name
+  pub name_most : length g.name ≤ 32
   pub weight_some : 1 ≤ g.weight
   pub weight_most : g.weight ≤ 1000
-  pub input : IsSourceWithin g.input
+  pub origin : IsOriginWithin g.origin
 
 -- a turn of one of so many guests, of at most 2^32 steps
 pub record IsTurnWithin (guests : ℕ) (turn : ℕ × ℕ) : Type 0 where

@@ -2,7 +2,7 @@
 use Rattle.std.specs.Prelude.{ℕ, ℤ, pos, Option, Some, None}
 use Rattle.run_config.specs.declared.keys.ConfigKey.{ConfigKey}
 use Rattle.run_config.specs.declared.faults.ConfigFault.{ConfigFault}
-use Rattle.run_config.specs.declared.faults.ConfigFault.TheVariants.{TooLong, NotToml, Format, Missing, Range, Name, Turns, Input, Extra, ImageLong, Frames, InputFile, Weight}
+use Rattle.run_config.specs.declared.faults.ConfigFault.TheVariants.{TooLong, NotToml, Format, Missing, Range, Name, Turns, Input, Extra, ImageLong, Frames, InputFile, Weight, Saved, Guest}
 
 -- the number of a fault (own)
 unfoldable pub fault_number : ConfigFault → ℕ
@@ -19,6 +19,8 @@ fault_number (ImageLong guest bytes) = 10
 fault_number (Frames sum) = 11
 fault_number (InputFile guest number) = 12
 fault_number (Weight guest product) = 13
+fault_number (Saved guest) = 14
+fault_number (Guest value) = 15
 
 -- the number of the guest that it speaks of (own)
 unfoldable pub fault_guest : ConfigFault → Option ℕ
@@ -30,6 +32,7 @@ fault_guest (Extra guest) = guest
 fault_guest (ImageLong guest bytes) = Some guest
 fault_guest (InputFile guest number) = Some guest
 fault_guest (Weight guest product) = Some guest
+fault_guest (Saved guest) = Some guest
 fault_guest _ = None
 
 -- the key that it speaks of (own)
@@ -39,11 +42,12 @@ fault_key (Range guest key value) = Some key
 fault_key _ = None
 
 -- the value that it keeps: the wrong integer, the length of a wrong array, the bytes read, the sum, the bad
--- record's number, the product (own)
+-- record's number, the product, the number without a guest (own)
 unfoldable pub fault_value : ConfigFault → Option ℤ
 fault_value (Range guest key value) = value
 fault_value (ImageLong guest bytes) = Some (pos bytes)
 fault_value (Frames sum) = Some (pos sum)
 fault_value (InputFile guest number) = Some (pos number)
 fault_value (Weight guest product) = Some product
+fault_value (Guest value) = Some (pos value)
 fault_value _ = None

@@ -9,9 +9,11 @@ use Rattle.toml.specs.Data.{Members, as_str}
 use Rattle.run_config.specs.declared.faults.ConfigFault.{ConfigFault}
 use Rattle.run_config.specs.declared.guests.GuestSettings.{GuestSettings}
 use Rattle.run_config.specs.declared.guests.InputSource.{InputSource}
+use Rattle.run_config.specs.declared.guests.Origin.TheVariants.{Fresh, Saved}
 use Rattle.run_config.specs.declared.keys.ConfigKey.TheVariants as key
 use Rattle.run_config.specs.declared.settings.GuestRef.{GuestRef}
 use Rattle.run_config.specs.declared.settings.GuestValues.{GuestValues}
+use Rattle.run_config.specs.declared.settings.ResumedRef.{ResumedRef}
 use Rattle.run_config.specs.Tables.{any_text, text_of, integer_of}
 use Rattle.run_config.specs.Tests.{first_fault, wrong_kind}
 use Rattle.run_config.specs.Values.{natural_at, number_within, text_at, value_at}
@@ -20,7 +22,7 @@ use Rattle.run_config.specs.Values.{natural_at, number_within, text_at, value_at
 abbrev pub names_of : List GuestSettings → List (List ℕ)
 names_of guests = map (λ g. g.name) guests
 
--- these stand at the keys that a guest must have
+-- these stand at the keys that a fresh guest must have
 pub record AreAt (v : GuestValues) (table : Members) : Type 0 where
   pub name : value_at key.Name table ≡ Some (view v.name.now)
   pub image : value_at key.Image table ≡ Some (view v.image.now)
@@ -58,18 +60,29 @@ pub record HasValues (r : GuestRef) (table : Members) : Type 0 where
   pub entries : r.entries ≡ natural_at key.Entries table
   pub console : r.console ≡ natural_at key.Console table
 
--- the settings of these values, with this weight and these inputs
+-- the settings of a fresh guest of these values, with this weight and these inputs
 abbrev pub settings_seen : GuestRef → ℕ → InputSource → GuestSettings
 settings_seen r weight input = record {
   name = r.name.now;
-  image = r.image.now;
-  blocks = r.blocks;
-  spaces = r.spaces;
-  entries = r.entries;
-  console = r.console;
   weight = weight;
-  input = input;
+  origin = Fresh (record {
+    image = r.image.now;
+    blocks = r.blocks;
+    spaces = r.spaces;
+    entries = r.entries;
+    console = r.console;
+    input = input;
+  });
 }
+
+-- these are the values of the table of a resumed guest
+pub record HasNames (r : ResumedRef) (table : Members) : Type 0 where
+  pub name : r.name.now ≡ text_at key.Name table
+  pub saved : r.saved.now ≡ text_at key.Resume table
+
+-- the settings of a resumed guest of these names, with this weight
+abbrev pub resumed_seen : ResumedRef → ℕ → GuestSettings
+resumed_seen r weight = record { name = r.name.now; weight = weight; origin = Saved r.saved.now }
 
 -- the tables that these references point to
 abbrev pub tables_seen : List (Bor (BTreeMap (String Global) Value)) → List Members

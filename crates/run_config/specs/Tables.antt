@@ -1,5 +1,5 @@
 -- The tables of the configuration: which keys there are, and what the value of each may be.
-use Rattle.std.specs.Prelude.{ℕ, List, [], ◌∷◌, ◌++◌, map}
+use Rattle.std.specs.Prelude.{ℕ, Bool, true, false, List, [], ◌∷◌, ◌++◌, map}
 use Rattle.run_config.specs.declared.formats.Format.{Format}
 use Rattle.run_config.specs.declared.formats.Format.TheVariants.{One, Two}
 use Rattle.run_config.specs.declared.keys.ConfigKey.{ConfigKey}
@@ -14,9 +14,10 @@ pub data Kind : Type 0 where
   -- an integer from the one on and at most the other
   integer_of : ℕ → ℕ → Kind
 
--- the keys that each guest must have, in their order, with what the value of each may be (own)
-abbrev pub guest_table : List (ConfigKey × Kind)
-guest_table = (key.Name, any_text)
+-- the keys that a fresh guest must have, one that begins at its start, in their order, with what the value of
+-- each may be (own)
+abbrev pub fresh_table : List (ConfigKey × Kind)
+fresh_table = (key.Name, any_text)
     ∷ (key.Image, text_of 1 255)
     ∷ (key.Blocks, integer_of 1 32)
     ∷ (key.Spaces, integer_of 1 8)
@@ -24,14 +25,29 @@ guest_table = (key.Name, any_text)
     ∷ (key.Console, integer_of 0 1048576)
     ∷ []
 
+-- the same of a resumed guest, one that goes on from a file (own)
+abbrev pub resumed_table : List (ConfigKey × Kind)
+resumed_table = (key.Name, any_text) ∷ (key.Resume, text_of 1 255) ∷ []
+
+-- the same of a guest, by whether it is resumed
+abbrev pub guest_table : Bool → List (ConfigKey × Kind)
+guest_table true = resumed_table
+guest_table false = fresh_table
+
 -- the keys of the same kinds that a guest may have after these (own)
 abbrev pub optional_table : Format → List (ConfigKey × Kind)
 optional_table One = []
 optional_table Two = (key.Weight, integer_of 1 1000) ∷ []
 
--- all keys that a guest may have: these and one more (own)
-abbrev pub guest_keys : Format → List ConfigKey
-guest_keys format = map (λ row. row.0) (guest_table ++ optional_table format) ++ key.Input ∷ []
+-- the key of a kind of its own, which a resumed guest does not have: its file tells its inputs (own)
+abbrev pub input_keys : Bool → List ConfigKey
+input_keys true = []
+input_keys false = key.Input ∷ []
+
+-- all keys that a guest may have, by whether it is resumed
+abbrev pub guest_keys : Bool → Format → List ConfigKey
+guest_keys resumed format =
+    map (λ row. row.0) (guest_table resumed ++ optional_table format) ++ input_keys resumed
 
 -- the keys of the same kinds that the document may have beside those with tests of their own (own)
 abbrev pub document_table : Format → List (ConfigKey × Kind)

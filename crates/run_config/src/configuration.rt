@@ -7,7 +7,8 @@ use crate::guests::GuestSettings;
 use std::marker::Model;
 use turn_plan::Turns;
 
-/// A configuration that was accepted: the guests in their order, the turns, and how many spare blocks there are.
+/// A configuration that was accepted: the guests in their order, the turns, and how many spare blocks there
+/// are.
 #[derive(Debug, Drop)]
 pub struct Config {
     guests: Vec<GuestSettings>,

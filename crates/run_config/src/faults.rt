@@ -62,10 +62,18 @@ pub enum ConfigFault {
         guest: u32,
         product: i64,
     },
+    /// The file that a guest goes on from is no saved guest. `read` never answers it.
+    Saved {
+        guest: u32,
+    },
+    /// There is no guest of this number, which is to be saved. `read` never answers it.
+    Guest {
+        value: u32,
+    },
 }
 
 impl ConfigFault {
-    /// The number of the fault, from 1 to 13.
+    /// The number of the fault, from 1 to 15.
     #[tactic(auto, unfolding(crate::specs::Faults::fault_number))]
     pub fn number(self) -> u8
         ensures { result ≡ fault_number self }
@@ -84,6 +92,8 @@ impl ConfigFault {
             ConfigFault::Frames { .. } => 11,
             ConfigFault::InputFile { .. } => 12,
             ConfigFault::Weight { .. } => 13,
+            ConfigFault::Saved { .. } => 14,
+            ConfigFault::Guest { .. } => 15,
         }
     }
 
@@ -100,12 +110,14 @@ impl ConfigFault {
             | ConfigFault::Input { guest }
             | ConfigFault::ImageLong { guest, .. }
             | ConfigFault::InputFile { guest, .. }
-            | ConfigFault::Weight { guest, .. } => Some(guest),
+            | ConfigFault::Weight { guest, .. }
+            | ConfigFault::Saved { guest } => Some(guest),
             ConfigFault::TooLong
             | ConfigFault::NotToml
             | ConfigFault::Format
             | ConfigFault::Turns
-            | ConfigFault::Frames { .. } => None,
+            | ConfigFault::Frames { .. }
+            | ConfigFault::Guest { .. } => None,
         }
     }
 
@@ -121,7 +133,8 @@ impl ConfigFault {
     }
 
     /// The value that it keeps: the wrong integer, the length of a wrong array of guests, the bytes that were
-    /// read of an image, the sum of the frames, the number of a bad record, or a weight times the quantum.
+    /// read of an image, the sum of the frames, the number of a bad record, a weight times the quantum, or
+    /// the number of which there is no guest.
     #[tactic(auto, unfolding(crate::specs::Faults::fault_value))]
     pub fn value(self) -> Option<i64>
         ensures { result ≡ fault_value self }
@@ -132,6 +145,7 @@ impl ConfigFault {
             ConfigFault::Frames { sum } => Some(i64::from(sum)),
             ConfigFault::InputFile { record, .. } => Some(i64::from(record)),
             ConfigFault::Weight { product, .. } => Some(product),
+            ConfigFault::Guest { value } => Some(i64::from(value)),
             _ => None,
         }
     }

@@ -1,13 +1,13 @@
 //! The formats of a configuration.
 
-ghost use Rattle.std.specs.Prelude.{◌≡◌};
+ghost use Rattle.std.specs.Prelude.{◌≡◌, false};
 ghost use Rattle.run_config.specs.Accept.{format_of};
 ghost use Rattle.run_config.specs.Tables.{guest_keys, document_keys};
 
 use crate::keys::ConfigKey;
 
-// All keys that a guest may have, in each format.
-static GUEST_KEYS_ONE: [ConfigKey; 7] = [
+// All keys that a fresh guest may have, in each format.
+static FRESH_KEYS_ONE: [ConfigKey; 7] = [
     ConfigKey::Name,
     ConfigKey::Image,
     ConfigKey::Blocks,
@@ -17,7 +17,7 @@ static GUEST_KEYS_ONE: [ConfigKey; 7] = [
     ConfigKey::Input,
 ];
 
-static GUEST_KEYS_TWO: [ConfigKey; 8] = [
+static FRESH_KEYS_TWO: [ConfigKey; 8] = [
     ConfigKey::Name,
     ConfigKey::Image,
     ConfigKey::Blocks,
@@ -27,6 +27,9 @@ static GUEST_KEYS_TWO: [ConfigKey; 8] = [
     ConfigKey::Weight,
     ConfigKey::Input,
 ];
+
+/// All keys that a resumed guest may have.
+pub static RESUMED_KEYS: [ConfigKey; 3] = [ConfigKey::Name, ConfigKey::Resume, ConfigKey::Weight];
 
 // All keys that the document may have, in each format.
 static DOCUMENT_KEYS_ONE: [ConfigKey; 5] = [
@@ -46,7 +49,8 @@ static DOCUMENT_KEYS_TWO: [ConfigKey; 6] = [
     ConfigKey::Spare,
 ];
 
-/// A format of configurations. Format 2 has weights and spare blocks, and takes a guest's inputs from a file.
+/// A format of configurations. Format 2 has weights, spare blocks and resumed guests, and takes a guest's
+/// inputs from a file.
 #[derive(Clone, Copy)]
 pub enum Format {
     One,
@@ -66,13 +70,13 @@ impl Format {
         }
     }
 
-    /// All keys that a guest may have.
-    pub(crate) fn guest_keys(self) -> &'static [ConfigKey]
-        ensures { result.now ≡ guest_keys self }
+    /// All keys that a fresh guest may have.
+    pub(crate) fn fresh_keys(self) -> &'static [ConfigKey]
+        ensures { result.now ≡ guest_keys false self }
     {
         match self {
-            Format::One => &GUEST_KEYS_ONE,
-            Format::Two => &GUEST_KEYS_TWO,
+            Format::One => &FRESH_KEYS_ONE,
+            Format::Two => &FRESH_KEYS_TWO,
         }
     }
 

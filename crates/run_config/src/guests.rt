@@ -46,11 +46,9 @@ pub enum InputSource {
     File(FileName),
 }
 
-/// What a configuration says of a guest.
+/// What a configuration says of a fresh guest, one that begins at its start.
 #[derive(Debug, Drop)]
-pub struct GuestSettings {
-    /// What the report calls it: ASCII letters and digits.
-    pub name: Name,
+pub struct FreshGuest {
     /// The name of the file that holds its image.
     pub image: FileName,
     /// Its RAM, in blocks of 2,097,152 bytes.
@@ -61,8 +59,26 @@ pub struct GuestSettings {
     pub entries: u64,
     /// How many bytes its console keeps.
     pub console: u64,
-    /// How many times the quantum it has in each round.
-    pub weight: u64,
     /// Where the bytes that come to its console are from.
     pub input: InputSource,
+}
+
+/// How a guest begins.
+#[derive(Debug, Drop)]
+pub enum Origin {
+    /// At its start, by an image.
+    Fresh(FreshGuest),
+    /// Where it was saved: the name of the file that it goes on from.
+    Saved(FileName),
+}
+
+/// What a configuration says of a guest.
+#[derive(Debug, Drop)]
+pub struct GuestSettings {
+    /// What the report calls it: ASCII letters and digits.
+    pub name: Name,
+    /// How many times the quantum it has in each round.
+    pub weight: u64,
+    /// How it begins.
+    pub origin: Origin,
 }

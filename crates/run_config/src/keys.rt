@@ -22,6 +22,7 @@ pub enum ConfigKey {
     Console,
     Weight,
     Input,
+    Resume,
 }
 
 impl ConfigKey {
@@ -45,6 +46,7 @@ impl ConfigKey {
             ConfigKey::Console => "console",
             ConfigKey::Weight => "weight",
             ConfigKey::Input => "input",
+            ConfigKey::Resume => "resume",
         }
     }
 }

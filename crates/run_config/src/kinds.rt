@@ -1,5 +1,5 @@
-//! Values of the kinds that the tables say, and the faults of others. A fault names the guest whose value it is,
-//! and none where it is a value of the document.
+//! Values of the kinds that the tables say, and the faults of others. A fault names the guest whose value it
+//! is, and none where it is a value of the document.
 
 ghost use Rattle.std.specs.Prelude.{◌≡◌, Some, None, IfOk, IfErr, OnOk};
 ghost use Rattle.toml.specs.Data.{as_integer, as_str};

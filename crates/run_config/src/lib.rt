@@ -22,7 +22,7 @@ mod values;
 pub use configuration::Config;
 pub use ends::ReadEnd;
 pub use faults::ConfigFault;
-pub use guests::{FileName, GuestSettings, InputSource};
+pub use guests::{FileName, FreshGuest, GuestSettings, InputSource, Origin};
 pub use input_records::{InputEnd, bad_record, inputs};
 pub use keys::ConfigKey;
 pub use reading::{accepted_is_within_limits, read};

@@ -1,18 +1,19 @@
 //! The tests of a guest, in their order.
 
-ghost use Rattle.std.specs.Prelude.{◌≡◌, ◌≤◌, [], ◌∷◌, bytes_eq, length, Some, None, IfOk, IfErr, OnOk};
+ghost use Rattle.std.specs.Prelude.{◌≡◌, ◌≤◌, true, false, [], ◌∷◌, bytes_eq, length, Some, None, IfOk, IfErr, OnOk};
 ghost use Rattle.std.specs.List.{list_any};
 ghost use Rattle.toml.specs.View.{view, table_view};
 ghost use Rattle.run_config.specs.Answers.{IfRefused};
-ghost use Rattle.run_config.specs.Guests.{absent_key, wrong_value, wrong_option, guest_fault, input_at, is_new_name, settings_of, weight_at};
-ghost use Rattle.run_config.specs.Seen.{AreAt, AreReadFrom, HasValues, names_of, settings_seen, wrong_seen};
+ghost use Rattle.run_config.specs.declared.formats.Format.TheVariants.{Two};
+ghost use Rattle.run_config.specs.Guests.{absent_key, wrong_value, wrong_option, guest_fault, guest_tests, input_at, is_new_name, is_resumed, settings_by, settings_of, weight_at};
+ghost use Rattle.run_config.specs.Seen.{AreAt, AreReadFrom, HasNames, HasValues, names_of, resumed_seen, settings_seen, wrong_seen};
 ghost use Rattle.run_config.specs.Tests.{first_fault, missing};
 ghost use Rattle.run_config.specs.Values.{value_at};
 
 use crate::ends::ReadEnd;
 use crate::faults::ConfigFault;
-use crate::formats::Format;
-use crate::guests::{FileName, GuestSettings, InputSource};
+use crate::formats::{Format, RESUMED_KEYS};
+use crate::guests::{FileName, FreshGuest, GuestSettings, InputSource, Origin};
 use crate::input_pairs::input_at;
 use crate::keys::ConfigKey;
 use crate::kinds::{file_name_in, number_in, number_or, text_in};
@@ -21,7 +22,7 @@ use guest_specs::Name;
 use std::alloc::{AllocError, Global};
 use toml::{Table, Value};
 
-/// The values at the keys that a guest must have.
+/// The values at the keys that a fresh guest must have.
 #[derive(Clone, Copy)]
 pub struct GuestValues<'a> {
     name: &'a Value,
@@ -32,7 +33,7 @@ pub struct GuestValues<'a> {
     console: &'a Value,
 }
 
-/// The settings of a guest whose values are of their kinds, with the texts still the document's.
+/// The settings of a fresh guest whose values are of their kinds, with the texts still the document's.
 #[derive(Clone, Copy)]
 pub struct GuestRef<'a> {
     name: &'a str,
@@ -41,6 +42,13 @@ pub struct GuestRef<'a> {
     spaces: u64,
     entries: u64,
     console: u64,
+}
+
+/// The name of a resumed guest and that of its file, with the texts still the document's.
+#[derive(Clone, Copy)]
+pub struct ResumedRef<'a> {
+    name: &'a str,
+    saved: &'a str,
 }
 
 // The value of a key that a guest must have.
@@ -59,12 +67,12 @@ fn required<'a>(table: &'a Table, guest: u32, key: ConfigKey) -> Result<&'a Valu
     }
 }
 
-// The values at the keys that a guest must have, where each of these keys is there.
+// The values at the keys that a fresh guest must have, where each of these keys is there.
 #[tactic(auto, unfolding(crate::specs::Guests::absent_key))]
 fn values_at<'a>(table: &'a Table, guest: u32) -> Result<GuestValues<'a>, ConfigFault>
-    ensures passed { OnOk result (absent_key guest (table_view table.now) ≡ None) }
+    ensures passed { OnOk result (absent_key false guest (table_view table.now) ≡ None) }
     ensures values { IfOk result (λ v. AreAt v (table_view table.now)) }
-    ensures refused { IfErr result (λ f. absent_key guest (table_view table.now) ≡ Some f) }
+    ensures refused { IfErr result (λ f. absent_key false guest (table_view table.now) ≡ Some f) }
 {
     let name = required(table, guest, ConfigKey::Name)?;
     let image = required(table, guest, ConfigKey::Image)?;
@@ -111,17 +119,33 @@ fn settings_in<'a>(values: GuestValues<'a>, guest: u32) -> Result<GuestRef<'a>, 
     })
 }
 
-// The settings of a guest that has each key that it must have, each with a value of its kind.
+// The settings of a fresh guest that has each key that it must have, each with a value of its kind.
 #[tactic(auto, using(crate::proofs::GuestKeys::wrong_in_table))]
 fn values_of<'a>(table: &'a Table, guest: u32) -> Result<GuestRef<'a>, ConfigFault>
-    ensures passed { OnOk result (absent_key guest (table_view table.now) ≡ None) }
-    ensures of_kind { OnOk result (wrong_value guest (table_view table.now) ≡ None) }
+    ensures passed { OnOk result (absent_key false guest (table_view table.now) ≡ None) }
+    ensures of_kind { OnOk result (wrong_value false guest (table_view table.now) ≡ None) }
     ensures values { IfOk result (λ r. HasValues r (table_view table.now)) }
-    ensures refused { IfErr result (λ f. first_fault (absent_key guest (table_view table.now)
-        ∷ wrong_value guest (table_view table.now) ∷ []) ≡ Some f) }
+    ensures refused { IfErr result (λ f. first_fault (absent_key false guest (table_view table.now)
+        ∷ wrong_value false guest (table_view table.now) ∷ []) ≡ Some f) }
 {
     let values = values_at(table, guest)?;
     Ok(settings_in(values, guest)?)
+}
+
+// The names of a resumed guest that has each key that it must have, each with a value of its kind.
+#[tactic(auto, unfolding(crate::specs::Guests::absent_key, crate::specs::Guests::wrong_value, crate::specs::Tests::out_of_range), using(crate::proofs::Found::text_found))]
+fn names_in<'a>(table: &'a Table, guest: u32) -> Result<ResumedRef<'a>, ConfigFault>
+    ensures passed { OnOk result (absent_key true guest (table_view table.now) ≡ None) }
+    ensures of_kind { OnOk result (wrong_value true guest (table_view table.now) ≡ None) }
+    ensures names { IfOk result (λ r. HasNames r (table_view table.now)) }
+    ensures refused { IfErr result (λ f. first_fault (absent_key true guest (table_view table.now)
+        ∷ wrong_value true guest (table_view table.now) ∷ []) ≡ Some f) }
+{
+    let name = required(table, guest, ConfigKey::Name)?;
+    let saved = required(table, guest, ConfigKey::Resume)?;
+    let name = text_in(name, Some(guest), ConfigKey::Name)?;
+    let saved = file_name_in(saved, Some(guest), ConfigKey::Resume)?;
+    Ok(ResumedRef { name, saved })
 }
 
 // The weight of a guest.
@@ -154,8 +178,8 @@ fn is_new_name(guests: &[GuestSettings], name: &str) -> bool
     is_name(name) && !is_taken(guests, name)
 }
 
-// Keeps the settings of a guest.
-fn kept(
+// Keeps the settings of a fresh guest.
+fn fresh_kept(
     alloc: Global,
     seen: GuestRef<'_>,
     weight: u64,
@@ -165,14 +189,99 @@ fn kept(
 {
     Ok(GuestSettings {
         name: Name::from_vec(Vec::from_slice(alloc, seen.name.as_bytes())?),
-        image: FileName::from_string(String::from_str(alloc, seen.image)?),
-        blocks: seen.blocks,
-        spaces: seen.spaces,
-        entries: seen.entries,
-        console: seen.console,
         weight,
-        input,
+        origin: Origin::Fresh(FreshGuest {
+            image: FileName::from_string(String::from_str(alloc, seen.image)?),
+            blocks: seen.blocks,
+            spaces: seen.spaces,
+            entries: seen.entries,
+            console: seen.console,
+            input,
+        }),
     })
+}
+
+// Keeps the settings of a resumed guest.
+fn resumed_kept(
+    alloc: Global,
+    seen: ResumedRef<'_>,
+    weight: u64,
+) -> Result<GuestSettings, AllocError>
+    ensures { IfOk result (λ g. g ≡ resumed_seen seen.entry weight) }
+{
+    Ok(GuestSettings {
+        name: Name::from_vec(Vec::from_slice(alloc, seen.name.as_bytes())?),
+        weight,
+        origin: Origin::Saved(FileName::from_string(String::from_str(alloc, seen.saved)?)),
+    })
+}
+
+// The settings of the next guest after these, a fresh one.
+#[tactic(auto, unfolding(crate::specs::Guests::guest_tests, crate::specs::Guests::has_inputs, crate::specs::Guests::settings_by, crate::specs::Guests::origin_of))]
+fn fresh_settings(
+    alloc: Global,
+    format: Format,
+    before: &[GuestSettings],
+    table: &Table,
+) -> Result<GuestSettings, ReadEnd>
+    requires few { length before.now ≤ 16 }
+    ensures passed { OnOk result (
+        first_fault (guest_tests false format (names_of before.now) (table_view table.now)) ≡ None) }
+    ensures settings { IfOk result (λ g. g ≡ settings_by false format (table_view table.now)) }
+    ensures refused { IfRefused result (λ f.
+        first_fault (guest_tests false format (names_of before.now) (table_view table.now)) ≡ Some f) }
+{
+    let guest = before.len() as u32;
+    let seen = values_of(table, guest)?;
+    let weight = weight_at(format, table, guest)?;
+    if !is_new_name(before, seen.name) {
+        return Err(ReadEnd::Refused(ConfigFault::Name { guest }));
+    }
+    let Some(input) = input_at(alloc, format, table)? else {
+        return Err(ReadEnd::Refused(ConfigFault::Input { guest }))
+    };
+    if !has_only(table, format.fresh_keys()) {
+        return Err(ReadEnd::Refused(ConfigFault::Extra { guest: Some(guest) }));
+    }
+    Ok(fresh_kept(alloc, seen, weight, input)?)
+}
+
+// The settings of the next guest after these, a resumed one. Format 2 alone has such guests.
+#[tactic(auto, unfolding(crate::specs::Guests::guest_tests, crate::specs::Guests::has_inputs, crate::specs::Guests::settings_by, crate::specs::Guests::origin_of))]
+fn resumed_settings(
+    alloc: Global,
+    before: &[GuestSettings],
+    table: &Table,
+) -> Result<GuestSettings, ReadEnd>
+    requires few { length before.now ≤ 16 }
+    ensures passed { OnOk result (
+        first_fault (guest_tests true Two (names_of before.now) (table_view table.now)) ≡ None) }
+    ensures settings { IfOk result (λ g. g ≡ settings_by true Two (table_view table.now)) }
+    ensures refused { IfRefused result (λ f.
+        first_fault (guest_tests true Two (names_of before.now) (table_view table.now)) ≡ Some f) }
+{
+    let guest = before.len() as u32;
+    let seen = names_in(table, guest)?;
+    let weight = weight_at(Format::Two, table, guest)?;
+    if !is_new_name(before, seen.name) {
+        return Err(ReadEnd::Refused(ConfigFault::Name { guest }));
+    }
+    if !has_only(table, &RESUMED_KEYS) {
+        return Err(ReadEnd::Refused(ConfigFault::Extra { guest: Some(guest) }));
+    }
+    Ok(resumed_kept(alloc, seen, weight)?)
+}
+
+// Whether a guest is resumed.
+#[tactic(auto, unfolding(crate::specs::Guests::is_resumed))]
+fn is_resumed(format: Format, table: &Table) -> bool
+    ensures resumed { result ≡ is_resumed format (table_view table.now) }
+    ensures format { result ≡ true → format ≡ Two }
+{
+    match format {
+        Format::One => false,
+        Format::Two => value_at(table, ConfigKey::Resume).is_some(),
+    }
 }
 
 /// The settings of the next guest after these.
@@ -189,17 +298,9 @@ pub fn settings_of(
     ensures refused { IfRefused result (λ f.
         guest_fault format (names_of before.now) (table_view table.now) ≡ Some f) }
 {
-    let guest = before.len() as u32;
-    let seen = values_of(table, guest)?;
-    let weight = weight_at(format, table, guest)?;
-    if !is_new_name(before, seen.name) {
-        return Err(ReadEnd::Refused(ConfigFault::Name { guest }));
+    if is_resumed(format, table) {
+        resumed_settings(alloc, before, table)
+    } else {
+        fresh_settings(alloc, format, before, table)
     }
-    let Some(input) = input_at(alloc, format, table)? else {
-        return Err(ReadEnd::Refused(ConfigFault::Input { guest }))
-    };
-    if !has_only(table, format.guest_keys()) {
-        return Err(ReadEnd::Refused(ConfigFault::Extra { guest: Some(guest) }));
-    }
-    Ok(kept(alloc, seen, weight, input)?)
 }
