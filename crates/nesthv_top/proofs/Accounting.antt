@@ -1,10 +1,8 @@
 -- The account of a command that was done.
-use Rattle.std.proofs.Common.{◌≡◌, ℕ, ◌≤◌, ◌^◌, List, Option, Some, Ok, Err, length, map, refl, subst, sym, arith}
+use Rattle.std.proofs.Common.{◌≡◌, ℕ, ◌≤◌, ◌^◌, List, Option, Some, Ok, Err, length, refl, subst, sym, arith}
 use Rattle.std.specs.List.{All}
-use Rattle.command_line.specs.Commands.{Command, FileCommand, OnFiles, Run, Replay, Check, Work}
-use Rattle.guest_turns.specs.Limits.{IsBootable}
-use Rattle.guest_turns.proofs.Starting.{rooms_of}
-use Rattle.machine_defs.specs.Machine.{start}
+use Rattle.command_line.specs.Commands.{Command, FileCommand, OnFiles, Run, Replay, Check, Save, Work}
+use Rattle.guest_turns.specs.Sources.{IsBootableSource, machines_of_sources}
 use Rattle.outside.specs.Files.{Files}
 use Rattle.run_config.specs.Configurations.{IsTurnWithin}
 use Rattle.rv64_hart.specs.Counts.{Counts}
@@ -15,19 +13,20 @@ use Rattle.nesthv_top.specs.Endings.{GrewBy, CountsIfRun, ReadsFrom, SaysOfAccou
 use Rattle.nesthv_top.specs.Plans.{Plan, entries_of, planned, run_of, steps_of, work_plan}
 use Rattle.nesthv_top.specs.Runnings.{CountsTurns, IsAccountFor}
 use Rattle.nesthv_top.specs.Seen.{IsJob, plan_seen}
+use Rattle.nesthv_top.proofs.SourceMachines.{rooms_of}
 use Rattle.nesthv_top.proofs.Turning.{few_entries, few_steps}
-use Rattle.nesthv_top.proofs.Working.{all_bootable, few_turns, turns_within}
+use Rattle.nesthv_top.proofs.Working.{few_turns, sources_bootable, turns_within}
 
 -- the plan of a job is that of its command
 abbrev IsPlanned : Option Files → FileCommand → Job → Type 0
 IsPlanned told command job = (f : Files) → told ≡ Some f → planned f command ≡ Some (plan_seen job)
 
 -- few turns of short lengths take few entries and steps
-pub bounded : (count : ℕ) (plan : Plan) (old new : Counts) → length plan.turns ≤ 2 ^ 20 → All (IsTurnWithin count) plan.turns → All IsBootable plan.guests
+pub bounded : (count : ℕ) (plan : Plan) (old new : Counts) → length plan.turns ≤ 2 ^ 20 → All (IsTurnWithin count) plan.turns → All IsBootableSource plan.sources
     → CountsTurns plan old new → GrewBy (2 ^ 61) (2 ^ 52) old new
-bounded count plan old new most each guests grew =
+bounded count plan old new most each sources grew =
     let few = few_steps count plan.turns most each in
-    let entries = few_entries count plan.turns (map start plan.guests) most each (rooms_of plan.guests guests) in
+    let entries = few_entries count plan.turns (machines_of_sources plan.sources) most each (rooms_of plan.sources sources) in
     record { entries_most = omega (arith, entries, grew.entries_most); taken_most = omega (arith, few, grew.taken_most) }
 
 -- what is written or compared was run
@@ -46,7 +45,7 @@ ran told command plan old new plan_is no_check bound grew = record {
 }
 
 job_bounded : (job : Job) (old new : Counts) → IsJob job → CountsTurns (plan_seen job) old new → GrewBy (2 ^ 61) (2 ^ 52) old new
-job_bounded job old new is grew = bounded _ (plan_seen job) old new is.limits.turns_most is.limits.each_turn is.guests grew
+job_bounded job old new is grew = bounded _ (plan_seen job) old new is.limits.turns_most is.limits.each_turn is.sources grew
 
 -- the account of a command on files that was done
 pub counted : {A : Type 0} (told : Option Files) (command : FileCommand) (job : Job) (a : A) (old new : Counts) → IsPlanned told command job → IsJob job
@@ -55,6 +54,8 @@ counted told (Run config) job a old new is job_is grew =
     ran told (OnFiles (Run config)) (plan_seen job) old new is (λ other e. cc) (job_bounded job old new job_is grew) grew
 counted told (Replay config report) job a old new is job_is grew =
     ran told (OnFiles (Replay config report)) (plan_seen job) old new is (λ other e. cc) (job_bounded job old new job_is grew) grew
+counted told (Save config guest) job a old new is job_is grew =
+    ran told (OnFiles (Save config guest)) (plan_seen job) old new is (λ other e. cc) (job_bounded job old new job_is grew) grew
 counted told (Check config) job a old new is job_is same = record {
   run = λ f t. tt;
   idle = tt;
@@ -95,6 +96,7 @@ as_if_done : {A : Type 0} (command : FileCommand) (plan : Plan) (a : A) (old new
 as_if_done (Run config) plan a old new grew = grew
 as_if_done (Replay config report) plan a old new grew = grew
 as_if_done (Check config) plan a old new same = same
+as_if_done (Save config guest) plan a old new grew = grew
 
 pub counted_in_part : {A : Type 0} (told : Option Files) (command : FileCommand) (job : Job) (a : A) (old new : Counts) → IsPlanned told command job → IsJob job
     → IsAccountFor {A = A} command (plan_seen job) (Err WriteFault) old new → SaysOfAccount told (Some (OnFiles command)) ended.WriteFault old new
@@ -106,4 +108,4 @@ pub counted_work : (told : Option Files) (seed size : ℕ) (old new : Counts) �
     → SaysOfAccount told (Some (Work seed size)) ended.Done old new
 counted_work told seed size old new most grew =
     ran told (Work seed size) (work_plan seed size) old new (λ f t. refl) (λ other e. cc)
-    (bounded 4 (work_plan seed size) old new (few_turns size most) (turns_within size) (all_bootable seed size most) grew) grew
+    (bounded 4 (work_plan seed size) old new (few_turns size most) (turns_within size) (sources_bootable seed size most) grew) grew

@@ -1,13 +1,14 @@
 -- The reads of a whole command, and what its ends say of them.
 use Rattle.std.specs.List.{All}
-use Rattle.std.proofs.Common.{◌≡◌, ◌∙◌, ◌⊎◌, inl, inr, ℕ, zero, suc, ◌+◌, ◌*◌, ◌<◌, ◌≤◌, List, [], ◌∷◌, ◌++◌, Option, Some, None, Result, Ok, Err, Bool, true, false, nat_le, length, refl, ap, sym, subst, arith, append_assoc}
+use Rattle.std.proofs.Common.{◌≡◌, ◌∙◌, ◌⊎◌, inl, inr, ℕ, zero, suc, ◌+◌, ◌<◌, ◌≤◌, List, [], ◌∷◌, ◌++◌, Option, Some, None, Result, Ok, Err, Bool, true, false, nat_le, length, refl, ap, sym, subst, arith, append_assoc}
 use Rattle.std.specs.Str.{is_utf8}
 use Rattle.command_line.specs.Commands.{Command, FileCommand, OnFiles, Work}
 use Rattle.std.specs.Borrow.{Bor}
 use Rattle.command_line.specs.declared.commands.FileRequest.{FileRequest}
 use Rattle.command_line.specs.declared.commands.FileRequest.TheVariants as request
 use Rattle.command_line.specs.Seen.{file_command_seen}
-use Rattle.guest_turns.specs.Limits.{IsBootable, frames_for}
+use Rattle.frame_split.specs.Shares.{frames_with}
+use Rattle.guest_turns.specs.Sources.{IsBootableSource, needs_of_sources}
 use Rattle.outside.specs.declared.stores.Store as stores
 use Rattle.outside.specs.Asks.{Ask}
 use Rattle.outside.specs.Faults.{Rose}
@@ -22,18 +23,19 @@ use Rattle.run_config.specs.Tests.{first_fault}
 use Rattle.nesthv_top.specs.declared.ends.Ended.TheVariants as ended
 use Rattle.nesthv_top.specs.declared.ends.Job.{Job}
 use Rattle.nesthv_top.specs.declared.ends.FilesRead.{FilesRead}
+use Rattle.nesthv_top.specs.declared.ends.GuestFiles.{GuestFiles}
 use Rattle.nesthv_top.specs.declared.ends.LoadEnd.{LoadEnd}
 use Rattle.nesthv_top.specs.declared.ends.LoadEnd.TheVariants.{Refused, ReadFault, NoMemory}
-use Rattle.nesthv_top.specs.Contents.{config_most, config_name, config_of, guests_of, stored_of}
+use Rattle.nesthv_top.specs.Contents.{config_most, config_name, config_of, sources_of, stored_of}
 use Rattle.nesthv_top.specs.Endings.{IsFirstRead, SaysOfReads}
 use Rattle.nesthv_top.specs.Ends.{ended_by, IfFailed, Leaves}
-use Rattle.nesthv_top.specs.Loads.{config_frames, frames_by, guests_with, IsAllRead, IsTested}
+use Rattle.nesthv_top.specs.Loads.{all_read_for, frames_read, sources_with, IsAllRead, IsTested}
 use Rattle.nesthv_top.specs.Plans.{planned}
-use Rattle.nesthv_top.specs.Reads.{accepted_steps, ask, config_steps, fault_by, file_steps, frames_fault, guests_steps, reading, report_steps, steps_for, testing, text_fault, AskedSome, BeginsWithConfig}
+use Rattle.nesthv_top.specs.Reads.{accepted_steps, ask, config_steps, fault_by, file_steps, frames_fault, guest_fault, guests_steps, making, reading, report_steps, steps_for, testing, text_fault, AskedSome, BeginsWithConfig}
 use Rattle.nesthv_top.specs.Seen.{plan_seen, IsJob}
 use Rattle.nesthv_top.specs.Steps.{Step, asks_unless, fault_in, made_of, ArePassed, AskedMore, IsNumberAfter, ReadStopsAs, StopAs}
-use Rattle.nesthv_top.proofs.GuestReads.{all_bootable, made_names, made_frames, made_of_files, frames_of_files}
-use Rattle.nesthv_top.proofs.StepLists.{asked_none, asked_then, made_all, one_passed, one_stopped, passed_then, rose_since, stopped_first, stopped_later, test_passed, test_refused}
+use Rattle.nesthv_top.proofs.GuestReads.{all_bootable, made_names, made_of_files}
+use Rattle.nesthv_top.proofs.StepLists.{asked_none, asked_then, made_all, making_passed, one_passed, one_stopped, passed_then, rose_since, stopped_first, stopped_later, test_passed, test_refused}
 
 -- what reads leave of a store, one after the other
 pub left_none : {X A : Type 0} (S : stores.Ghosts X) (a : A) (store : X) (made : ℕ) → Leaves S 0 (Ok a) store store made made
@@ -136,10 +138,10 @@ no_fault_if_short : {A : Type 0} (bytes : List ℕ) (result : Result A ReadEnd) 
 no_fault_if_short bytes result (inl none) short = none
 no_fault_if_short bytes result (inr (found, is, refused)) short = cc
 
-refused_first : {A : Type 0} (bytes : List ℕ) (result : Result A ReadEnd) (found : ConfigFault) → TextFault bytes result → result ≡ Err (read_end.Refused found)
-    → first_fault (text_fault bytes ∷ Some found ∷ []) ≡ Some found
-refused_first bytes result found (inl none) refused = rw none refl
-refused_first bytes result found (inr (other, is, refused')) refused =
+refused_first : {A : Type 0} (bytes : List ℕ) (result : Result A ReadEnd) (found : ConfigFault) (last : Option ConfigFault) → TextFault bytes result → result ≡ Err (read_end.Refused found)
+    → first_fault (text_fault bytes ∷ Some found ∷ last ∷ []) ≡ Some found
+refused_first bytes result found last (inl none) refused = rw none refl
+refused_first bytes result found last (inr (other, is, refused')) refused =
     let same : other ≡ found = cc in
     rw (is, same) refl
 
@@ -148,64 +150,92 @@ pub config_stopped : (f : Files) (command : FileCommand) (end : LoadEnd) (before
     → ReadStopsAs (ask (config_name command) config_most) 0 before end after → StopAs (config_steps f command) 0 before end after
 config_stopped f command end before after stopped =
     let text = text_fault (config_of f command) in
-    stopped_first (reading (ask (config_name command) config_most) text ∷ []) (testing (fault_by (accept (config_of f command))) ∷ []) 0 end before after
+    let accepted = accept (config_of f command) in
+    stopped_first (reading (ask (config_name command) config_most) text ∷ []) (making (fault_by accepted) ∷ testing (guest_fault command accepted) ∷ []) 0 end before after
     (one_stopped (ask (config_name command) config_most) text 0 end before after stopped)
 
-pub config_passed : {A : Type 0} (f : Files) (command : FileCommand) (c : Configuration) (result : Result A ReadEnd) (a : A) (made : ℕ) (before after : Option (List Ask))
+-- its text was passed, and it was accepted
+text_passed : {A : Type 0} (f : Files) (command : FileCommand) (c : Configuration) (result : Result A ReadEnd) (a : A) (made : ℕ) (before after : Option (List Ask))
     → TextFault (config_of f command) result → result ≡ Ok a → accept (config_of f command) ≡ Ok c
+    → (made ≡ 0 + 1) × AskedMore (ask (config_name command) config_most ∷ []) before after
+    → ArePassed (reading (ask (config_name command) config_most) (text_fault (config_of f command)) ∷ making (fault_by (accept (config_of f command))) ∷ []) 0 before made after
+text_passed f command c result a made before after text ok accepted read =
+    let found = text_fault (config_of f command) in
+    let first = one_passed (ask (config_name command) config_most) found 0 made before after read (no_fault_if_ok (config_of f command) result a text ok) in
+    let last = making_passed (fault_by (accept (config_of f command))) made after (rw accepted refl) in
+    passed_then (reading (ask (config_name command) config_most) found ∷ []) (making (fault_by (accept (config_of f command))) ∷ []) 0 made made before after after first last
+
+pub config_passed : {A : Type 0} (f : Files) (command : FileCommand) (c : Configuration) (result : Result A ReadEnd) (a : A) (made : ℕ) (before after : Option (List Ask))
+    → TextFault (config_of f command) result → result ≡ Ok a → accept (config_of f command) ≡ Ok c → guest_fault command (Ok c) ≡ None
     → (made ≡ 0 + 1) × AskedMore (ask (config_name command) config_most ∷ []) before after → ArePassed (config_steps f command) 0 before made after
-config_passed f command c result a made before after text ok accepted read =
-    let first = one_passed (ask (config_name command) config_most) (text_fault (config_of f command)) 0 made before after read (no_fault_if_ok (config_of f command) result a text ok) in
-    let last = test_passed (fault_by (accept (config_of f command))) made after (rw accepted refl) in
-    passed_then (reading (ask (config_name command) config_most) (text_fault (config_of f command)) ∷ []) (testing (fault_by (accept (config_of f command))) ∷ [])
-    0 made made before after after first last
+config_passed f command c result a made before after text ok accepted none read =
+    let found = guest_fault command (accept (config_of f command)) in
+    passed_then (reading (ask (config_name command) config_most) (text_fault (config_of f command)) ∷ making (fault_by (accept (config_of f command))) ∷ []) (testing found ∷ [])
+    0 made made before after after (text_passed f command c result a made before after text ok accepted read) (test_passed found made after (rw accepted none))
+
+pub config_lacks_guest : {A : Type 0} (f : Files) (command : FileCommand) (c : Configuration) (found : ConfigFault) (result : Result A ReadEnd) (a : A) (made : ℕ) (before after : Option (List Ask))
+    → TextFault (config_of f command) result → result ≡ Ok a → accept (config_of f command) ≡ Ok c → guest_fault command (Ok c) ≡ Some found
+    → (made ≡ 0 + 1) × AskedMore (ask (config_name command) config_most ∷ []) before after → StopAs (config_steps f command) 0 before (Refused found) after
+config_lacks_guest f command c found result a made before after text ok accepted lacks read =
+    let last = guest_fault command (accept (config_of f command)) in
+    stopped_later (reading (ask (config_name command) config_most) (text_fault (config_of f command)) ∷ making (fault_by (accept (config_of f command))) ∷ []) (testing last ∷ [])
+    0 made (Refused found) before after after (text_passed f command c result a made before after text ok accepted read) (test_refused last found made after (rw accepted lacks))
 
 pub config_refused : {A : Type 0} (f : Files) (command : FileCommand) (found : ConfigFault) (result : Result A ReadEnd) (before after : Option (List Ask))
     → TextFault (config_of f command) result → result ≡ Err (read_end.Refused found) → accept (config_of f command) ≡ Err found
     → AskedMore (ask (config_name command) config_most ∷ []) before after → StopAs (config_steps f command) 0 before (Refused found) after
 config_refused f command found result before after text refused accepted read = (
-  rw accepted (refused_first (config_of f command) result found text refused),
-  subst (λ asks. AskedMore (ask (config_name command) config_most ∷ asks) before after) (sym (nothing_else (text_fault (config_of f command)) (fault_by (accept (config_of f command))))) read,
+  rw accepted (refused_first (config_of f command) result found (guest_fault command (Err found)) text refused),
+  subst (λ asks. AskedMore (ask (config_name command) config_most ∷ asks) before after)
+  (sym (nothing_else (text_fault (config_of f command)) (fault_by (accept (config_of f command))) (guest_fault command (accept (config_of f command))))) read,
 )
   where
-    nothing_else : (one two : Option ConfigFault) → asks_unless one (made_of (testing two ∷ [])) ≡ []
-    nothing_else None None = refl
-    nothing_else None (Some found) = refl
-    nothing_else (Some found) two = refl
+    nothing_else : (one two three : Option ConfigFault) → asks_unless one (made_of (making two ∷ testing three ∷ [])) ≡ []
+    nothing_else None None None = refl
+    nothing_else None None (Some found) = refl
+    nothing_else None (Some found) three = refl
+    nothing_else (Some found) two three = refl
 
 pub config_short : {A : Type 0} (f : Files) (command : FileCommand) (result : Result A ReadEnd) (before after : Option (List Ask))
     → TextFault (config_of f command) result → result ≡ Err read_end.NoMemory → AskedMore (ask (config_name command) config_most ∷ []) before after
     → StopAs (config_steps f command) 0 before (NoMemory 1) after
 config_short f command result before after text short read = record {
   passed = reading (ask (config_name command) config_most) (text_fault (config_of f command)) ∷ [];
-  rest = testing (fault_by (accept (config_of f command))) ∷ [];
+  rest = making (fault_by (accept (config_of f command))) ∷ testing (guest_fault command (accept (config_of f command))) ∷ [];
   split = refl;
   fault = rw (no_fault_if_short (config_of f command) result text short) refl;
   asked = read;
   number = omega arith;
-  left = λ two. absurd (omega (arith, two));
+  left = λ some. inr refl;
 }
 
 -- a command that names no report
-abbrev IsRunOrCheck : FileRequest → Type 0
-IsRunOrCheck r = ((config : Bor (List ℕ)) × (r ≡ request.Run config)) ⊎ ((config : Bor (List ℕ)) × (r ≡ request.Check config))
+abbrev NamesNoReport : FileRequest → Type 0
+NamesNoReport r = ((config : Bor (List ℕ)) × (r ≡ request.Run config))
+    ⊎ (((config : Bor (List ℕ)) × (r ≡ request.Check config)) ⊎ ((config : Bor (List ℕ)) × (guest : ℕ) × (r ≡ request.Save config guest)))
 
-pub nothing_stored : (r : FileRequest) → IsRunOrCheck r → (report_steps (file_command_seen r) ≡ []) × ((f : Files) → stored_of f (file_command_seen r) ≡ [])
+pub nothing_stored : (r : FileRequest) → NamesNoReport r → (report_steps (file_command_seen r) ≡ []) × ((f : Files) → stored_of f (file_command_seen r) ≡ [])
 nothing_stored r (inl (config, is)) = rw is (refl, λ f. refl)
-nothing_stored r (inr (config, is)) = rw is (refl, λ f. refl)
+nothing_stored r (inr (inl (config, is))) = rw is (refl, λ f. refl)
+nothing_stored r (inr (inr (config, guest, is))) = rw is (refl, λ f. refl)
+
+-- the frames that the files ask for, and the step that tests them
+abbrev pub file_frames : Files → Configuration → ℕ
+file_frames f c = frames_with (needs_of_sources (sources_of f c.guests)) c.spare
+
+abbrev last_step : Files → Configuration → List Step
+last_step f c = testing (frames_fault (file_frames f c)) ∷ []
 
 -- the steps of a configuration that is accepted
 pub steps_are : (f : Files) (command : FileCommand) (c : Configuration) → accept (config_of f command) ≡ Ok c
-    → file_steps f command ≡ config_steps f command ++ guests_steps f 0 c.guests ++ report_steps command ++ testing (frames_fault (config_frames c)) ∷ []
+    → file_steps f command ≡ config_steps f command ++ guests_steps f 0 c.guests ++ report_steps command ++ last_step f c
 unfolding file_steps
 steps_are f command c accepted =
     let config = config_steps f command in
     let guests = guests_steps f 0 c.guests in
-    let last : List Step = testing (frames_fault (config_frames c)) ∷ [] in
     ap (λ accepted. config ++ accepted_steps f command accepted) accepted
-    ∙ ap (λ frames. config ++ (guests ++ report_steps command ++ testing (frames_fault (frames + 512 * c.spare)) ∷ [])) (frames_of_files f c.guests)
-    ∙ sym (append_assoc config (guests ++ report_steps command) last)
-    ∙ ap (λ steps. steps ++ last) (sym (append_assoc config guests (report_steps command)))
+    ∙ sym (append_assoc config (guests ++ report_steps command) (last_step f c))
+    ∙ ap (λ steps. steps ++ last_step f c) (sym (append_assoc config guests (report_steps command)))
 
 -- all steps of a command, by where they stop
 pub config_stop : (f : Files) (command : FileCommand) (end : LoadEnd) (before after : Option (List Ask)) → StopAs (config_steps f command) 0 before end after
@@ -219,15 +249,12 @@ pub guests_passed : (f : Files) (command : FileCommand) (c : Configuration) (mad
     → ArePassed (config_steps f command ++ guests_steps f 0 c.guests) 0 before made' after
 guests_passed f command c made made' before between after one two = passed_then (config_steps f command) (guests_steps f 0 c.guests) 0 made made' before between after one two
 
-abbrev last_step : Configuration → List Step
-last_step c = testing (frames_fault (config_frames c)) ∷ []
-
 pub guests_stop : (f : Files) (command : FileCommand) (c : Configuration) (end : LoadEnd) (made : ℕ) (before between after : Option (List Ask)) → accept (config_of f command) ≡ Ok c
     → ArePassed (config_steps f command) 0 before made between → StopAs (guests_steps f 0 c.guests) made between end after → StopAs (file_steps f command) 0 before end after
 guests_stop f command c end made before between after accepted one stopped =
     let guests = config_steps f command ++ guests_steps f 0 c.guests in
     subst (λ steps. StopAs steps 0 before end after) (sym (steps_are f command c accepted))
-    (stopped_first (guests ++ report_steps command) (last_step c) 0 end before after
+    (stopped_first (guests ++ report_steps command) (last_step f c) 0 end before after
     (stopped_first guests (report_steps command) 0 end before after
     (stopped_later (config_steps f command) (guests_steps f 0 c.guests) 0 made end before between after one stopped)))
 
@@ -237,26 +264,26 @@ pub report_stop : (f : Files) (command : FileCommand) (c : Configuration) (end :
 report_stop f command c end made before between after accepted one stopped =
     let guests = config_steps f command ++ guests_steps f 0 c.guests in
     subst (λ steps. StopAs steps 0 before end after) (sym (steps_are f command c accepted))
-    (stopped_first (guests ++ report_steps command) (last_step c) 0 end before after
+    (stopped_first (guests ++ report_steps command) (last_step f c) 0 end before after
     (stopped_later guests (report_steps command) 0 made end before between after one stopped))
 
 pub frames_stop : (f : Files) (command : FileCommand) (c : Configuration) (found : ConfigFault) (made made' : ℕ) (before between after : Option (List Ask)) → accept (config_of f command) ≡ Ok c
     → ArePassed (config_steps f command ++ guests_steps f 0 c.guests) 0 before made between → ArePassed (report_steps command) made between made' after
-    → frames_fault (config_frames c) ≡ Some found → StopAs (file_steps f command) 0 before (Refused found) after
+    → frames_fault (file_frames f c) ≡ Some found → StopAs (file_steps f command) 0 before (Refused found) after
 frames_stop f command c found made made' before between after accepted one two refused =
     let guests = config_steps f command ++ guests_steps f 0 c.guests in
     subst (λ steps. StopAs steps 0 before (Refused found) after) (sym (steps_are f command c accepted))
-    (stopped_later (guests ++ report_steps command) (last_step c) 0 made' (Refused found) before after after
-    (passed_then guests (report_steps command) 0 made made' before between after one two) (test_refused (frames_fault (config_frames c)) found made' after refused))
+    (stopped_later (guests ++ report_steps command) (last_step f c) 0 made' (Refused found) before after after
+    (passed_then guests (report_steps command) 0 made made' before between after one two) (test_refused (frames_fault (file_frames f c)) found made' after refused))
 
 pub all_passed : (f : Files) (command : FileCommand) (c : Configuration) (made made' : ℕ) (before between after : Option (List Ask)) → accept (config_of f command) ≡ Ok c
     → ArePassed (config_steps f command ++ guests_steps f 0 c.guests) 0 before made between → ArePassed (report_steps command) made between made' after
-    → frames_fault (config_frames c) ≡ None → ArePassed (file_steps f command) 0 before made' after
+    → frames_fault (file_frames f c) ≡ None → ArePassed (file_steps f command) 0 before made' after
 all_passed f command c made made' before between after accepted one two none =
     let guests = config_steps f command ++ guests_steps f 0 c.guests in
     subst (λ steps. ArePassed steps 0 before made' after) (sym (steps_are f command c accepted))
-    (passed_then (guests ++ report_steps command) (last_step c) 0 made' made' before after after
-    (passed_then guests (report_steps command) 0 made made' before between after one two) (test_passed (frames_fault (config_frames c)) made' after none))
+    (passed_then (guests ++ report_steps command) (last_step f c) 0 made' made' before after after
+    (passed_then guests (report_steps command) 0 made made' before between after one two) (test_passed (frames_fault (file_frames f c)) made' after none))
 
 -- a test that refuses leaves what the reads before it left
 pub left_refused : {X A B : Type 0} (S : stores.Ghosts X) (most : ℕ) (a : A) (found : ConfigFault) (old new : X) (made made' : ℕ)
@@ -366,22 +393,24 @@ work_unwritten S seed size store = record {
 }
 
 -- the plan and the job of what was read
+pub frames_are : (f : Files) (c : Configuration) (read : List GuestFiles) → read ≡ all_read_for f c.guests → frames_read c.guests read c.spare ≡ file_frames f c
+frames_are f c read is =
+    ap (λ all_read. frames_read c.guests all_read c.spare) is ∙ ap (λ sources. frames_with (needs_of_sources sources) c.spare) (made_of_files f c.guests)
+
 pub plan_read : (f : Files) (command : FileCommand) (read : FilesRead) (job : Job) → IsAllRead f command read → fault_in (file_steps f command) ≡ None
-    → job.config ≡ read.config → job.guests.items ≡ guests_with read.config.guests read.guests.items → planned f command ≡ Some (plan_seen job)
+    → job.config ≡ read.config → job.sources.items ≡ sources_with read.config.guests read.guests.items → planned f command ≡ Some (plan_seen job)
 unfolding planned
-plan_read f command read job is none config guests =
-    let made : job.guests.items ≡ guests_of f read.config.guests =
-    guests ∙ ap (guests_with read.config.guests) is.guests ∙ made_of_files f read.config.guests in
+plan_read f command read job is none config sources =
+    let made : job.sources.items ≡ sources_of f read.config.guests =
+    sources ∙ ap (sources_with read.config.guests) is.guests ∙ made_of_files f read.config.guests in
     rw (none, is.config) (rw (made, config) refl)
 
-pub job_read : (read : FilesRead) (job : Job) → IsTested read → job.config ≡ read.config → job.guests.items ≡ guests_with read.config.guests read.guests.items → IsJob job
-job_read read job tested config guests =
-    let settings = read.config.guests in
-    let frames : frames_for job.guests.items ≡ frames_by settings = ap frames_for guests ∙ made_frames settings read.guests.items tested.guests in
-    record {
-      limits = subst IsWithinLimits (sym config) tested.limits;
-      names = rw (config, guests) (made_names settings read.guests.items tested.guests);
-      guests = subst (All IsBootable) (sym guests) (all_bootable settings read.guests.items tested.limits.each_guest tested.guests);
-      frames = frames ∙ ap (λ c. frames_by c.guests) (sym config);
-      few = rw (frames, config) tested.frames;
-    }
+pub job_read : (read : FilesRead) (job : Job) → IsTested read → job.config ≡ read.config → job.sources.items ≡ sources_with read.config.guests read.guests.items → job.frames ≡ read.frames
+    → IsJob job
+job_read read job tested config sources frames = record {
+  limits = subst IsWithinLimits (sym config) tested.limits;
+  names = rw (config, sources) (made_names read.config.guests read.guests.items tested.guests);
+  sources = subst (All IsBootableSource) (sym sources) (all_bootable read.config.guests read.guests.items tested.limits.each_guest tested.guests);
+  frames = rw (frames, sources, config) tested.frames;
+  few = rw frames tested.few;
+}

@@ -7,7 +7,9 @@ pub mod GuestReads
 pub mod MovingTurns
 pub mod Reporting
 pub mod RetiredMachines
+pub mod SavedMachines
 pub mod Sectioning
+pub mod SourceMachines
 pub mod StepLists
 pub mod Telling
 pub mod TurnEvents

@@ -1,9 +1,10 @@
 -- Turns after each of which a block moves, one after the other.
-use Rattle.std.proofs.Common.{◌≡◌, ◌≢◌, ◌∙◌, ℕ, ◌+◌, ◌-◌, ◌<◌, ◌≤◌, ◌==◌, ◌⊎◌, inl, inr, Bool, true, false, cond, List, [], ◌∷◌, ◌++◌, length, take, drop, get_or, set, refl, ap, sym, subst, arith}
+use Rattle.std.proofs.Common.{◌≡◌, ◌≢◌, ◌∙◌, ℕ, zero, suc, ◌+◌, ◌-◌, ◌^◌, ◌<◌, ◌≤◌, ◌==◌, ◌⊎◌, inl, inr, Bool, true, false, cond, List, [], ◌∷◌, ◌++◌, length, take, drop, get_or, replicate, set, Option, Some, None, refl, ap, sym, subst, arith}
 use Rattle.std.proofs.lemmas.Bool.{cases_Bool, eqb-true, eq-eqb, both_ways}
 use Rattle.std.proofs.lemmas.List.{get_or-set_other, get_or-set_same, length-set, take_all, take_more}
 use Rattle.std.proofs.lemmas.List.Sums.{sum_by-cons}
 use Rattle.std.specs.List.{All}
+use Rattle.std.specs.Prelude.{IfSome}
 use Rattle.arch_defs.specs.Layouts.{no_part}
 use Rattle.block_moves.specs.Moves.{with_block, without_blocks}
 use Rattle.guest_turns.specs.Hosted.{Hosted, count_set, is_set, machine_at, no_machine, part_at}
@@ -13,7 +14,7 @@ use Rattle.guest_turns.proofs.Updating.{length_updated, updated_other, updated_s
 use Rattle.machine_defs.specs.Machine.{Machine}
 use Rattle.machine_defs.specs.Runs.{run}
 use Rattle.rv64_hart.specs.Counts.{Counts}
-use Rattle.nesthv_top.specs.Runnings.{hosted_as, own_turns, HaveBlocks}
+use Rattle.nesthv_top.specs.Runnings.{hosted_as, kept_turn, own_turns, HaveBlocks}
 use Rattle.nesthv_top.proofs.RetiredMachines.{active_one, active_turn, none_retired, one_retires}
 use Rattle.nesthv_top.proofs.Turning.{IsTurn, TurnsLeft, left_is, left_next}
 
@@ -47,39 +48,49 @@ own_other g h k turns other =
     not_equal true e = absurd (other (eqb-true h g e))
     not_equal false e = e
 
+-- the turns that a guest has left, and one more where it is kept
+abbrev pub due : Option ℕ → ℕ → List (ℕ × ℕ) → ℕ
+due kept g turns = own_turns g turns + kept_turn kept g
+
+due_one : (kept : Option ℕ) (g k : ℕ) (turns : List (ℕ × ℕ)) → due kept g ((g, k) ∷ turns) ≡ due kept g turns + 1
+due_one kept g k turns = omega (arith, own_one g k turns)
+
+due_other : (kept : Option ℕ) (g h k : ℕ) (turns : List (ℕ × ℕ)) → h ≢ g → due kept g ((h, k) ∷ turns) ≡ due kept g turns
+due_other kept g h k turns other = omega (arith, own_other g h k turns other)
+
 -- what holds after the first t turns
-pub record Moving (turns : List (ℕ × ℕ)) (first : List Machine) (began : Counts) (moved t : ℕ) (host : Hosted) (left : List ℕ) (tally : Counts) (moves : ℕ) : Type 0 where
+pub record Moving (kept : Option ℕ) (turns : List (ℕ × ℕ)) (first : List Machine) (began : Counts) (moved t : ℕ) (host : Hosted) (left : List ℕ) (tally : Counts) (moves : ℕ) : Type 0 where
   pub machines : host.machines ≡ hosted_as host.retired (lone turns first t)
   pub turns_left : TurnsLeft turns first began t (lone turns first t) tally
   pub flags : length host.retired ≡ 16
   pub size : length left ≡ 16
-  pub own : (g : ℕ) → g < 16 → get_or left g 0 ≡ own_turns g (drop t turns)
-  pub gone : (g : ℕ) → is_set host.retired g ≡ true → own_turns g (drop t turns) ≡ 0
+  pub own : (g : ℕ) → g < 16 → get_or left g 0 ≡ due kept g (drop t turns)
+  pub gone : (g : ℕ) → is_set host.retired g ≡ true → due kept g (drop t turns) ≡ 0
   pub blocks : HaveBlocks host
   pub free : 1 ≤ count_set host.free
   pub counted : moves ≡ moved + t
 
 -- between a turn and what follows its move
-pub record Between (turns : List (ℕ × ℕ)) (first : List Machine) (began : Counts) (moved t g : ℕ) (host : Hosted) (left : List ℕ) (tally : Counts) (moves : ℕ) : Type 0 where
+pub record Between (kept : Option ℕ) (turns : List (ℕ × ℕ)) (first : List Machine) (began : Counts) (moved t g : ℕ) (host : Hosted) (left : List ℕ) (tally : Counts) (moves : ℕ) : Type 0 where
   pub machines : host.machines ≡ hosted_as host.retired (lone turns first (t + 1))
   pub turns_left : TurnsLeft turns first began (t + 1) (lone turns first (t + 1)) tally
   pub flags : length host.retired ≡ 16
   pub size : length left ≡ 16
   pub active : is_set host.retired g ≡ false
-  pub one : get_or left g 0 ≡ own_turns g (drop (t + 1) turns) + 1
-  pub others : (h : ℕ) → h < 16 → h ≢ g → get_or left h 0 ≡ own_turns h (drop (t + 1) turns)
-  pub gone : (h : ℕ) → is_set host.retired h ≡ true → own_turns h (drop (t + 1) turns) ≡ 0
+  pub one : get_or left g 0 ≡ due kept g (drop (t + 1) turns) + 1
+  pub others : (h : ℕ) → h < 16 → h ≢ g → get_or left h 0 ≡ due kept h (drop (t + 1) turns)
+  pub gone : (h : ℕ) → is_set host.retired h ≡ true → due kept h (drop (t + 1) turns) ≡ 0
   pub blocks : HaveBlocks host
   pub free : 1 ≤ count_set host.free
   pub counted : moves ≡ moved + (t + 1)
 
 -- the guest of the next turn has not retired
-pub next_active : (turns : List (ℕ × ℕ)) (first : List Machine) (began : Counts) (moved t g k : ℕ) (host : Hosted) (left : List ℕ) (tally : Counts) (moves : ℕ) (d : ℕ × ℕ)
-    → t < length turns → get_or turns t d ≡ (g, k) → Moving turns first began moved t host left tally moves → is_set host.retired g ≡ false
-next_active turns first began moved t g k host left tally moves d inside is inv = by (cases_Bool (is_set host.retired g))
+pub next_active : (kept : Option ℕ) (turns : List (ℕ × ℕ)) (first : List Machine) (began : Counts) (moved t g k : ℕ) (host : Hosted) (left : List ℕ) (tally : Counts) (moves : ℕ) (d : ℕ × ℕ)
+    → t < length turns → get_or turns t d ≡ (g, k) → Moving kept turns first began moved t host left tally moves → is_set host.retired g ≡ false
+next_active kept turns first began moved t g k host left tally moves d inside is inv = by (cases_Bool (is_set host.retired g))
   where
-    more : own_turns g (drop t turns) ≡ own_turns g (drop (t + 1) turns) + 1
-    more = ap (own_turns g) (left_is turns t g k d inside is) ∙ own_one g k (drop (t + 1) turns)
+    more : due kept g (drop t turns) ≡ due kept g (drop (t + 1) turns) + 1
+    more = ap (due kept g) (left_is turns t g k d inside is) ∙ due_one kept g k (drop (t + 1) turns)
 
     by : (is_set host.retired g ≡ true) ⊎ (is_set host.retired g ≡ false) → is_set host.retired g ≡ false
     by (inl retired) = absurd (omega (arith, inv.gone g retired, more))
@@ -113,12 +124,12 @@ moved_blocks old new g block to is have = record {
         rw (is.parts, updated_other g h (λ part. with_block part block to) old.parts no_part apart) before
 
 -- a turn and a move
-pub turned_and_moved : (turns : List (ℕ × ℕ)) (first : List Machine) (began : Counts) (moved t g k taken block to : ℕ) (host turned after : Hosted) (left : List ℕ)
-    (tally later : Counts) (moves more : ℕ) (d : ℕ × ℕ) → t < length turns → get_or turns t d ≡ (g, k) → Moving turns first began moved t host left tally moves
+pub turned_and_moved : (kept : Option ℕ) (turns : List (ℕ × ℕ)) (first : List Machine) (began : Counts) (moved t g k taken block to : ℕ) (host turned after : Hosted) (left : List ℕ)
+    (tally later : Counts) (moves more : ℕ) (d : ℕ × ℕ) → t < length turns → get_or turns t d ≡ (g, k) → Moving kept turns first began moved t host left tally moves
     → IsTurn g k taken host.machines tally turned.machines later → turned.parts ≡ host.parts → turned.free ≡ host.free → turned.retired ≡ host.retired
-    → HasMoved turned g block to after → more ≡ moves + 1 → g < 16 → Between turns first began moved t g after left later more
-turned_and_moved turns first began moved t g k taken block to host turned after left tally later moves more d inside is inv turn parts free retired move raised guest =
-    let active = next_active turns first began moved t g k host left tally moves d inside is inv in
+    → HasMoved turned g block to after → more ≡ moves + 1 → g < 16 → Between kept turns first began moved t g after left later more
+turned_and_moved kept turns first began moved t g k taken block to host turned after left tally later moves more d inside is inv turn parts free retired move raised guest =
+    let active = next_active kept turns first began moved t g k host left tally moves d inside is inv in
     let ms = lone turns first t in
     let next = lone_next turns first t g k d inside is in
     let here : machine_at host.machines g ≡ machine_at ms g = ap (λ ms. machine_at ms g) inv.machines ∙ active_one host.retired ms g active in
@@ -140,23 +151,23 @@ turned_and_moved turns first began moved t g k taken block to host turned after 
       flags = ap length flags ∙ inv.flags;
       size = inv.size;
       active = rw flags active;
-      one = inv.own g guest ∙ ap (own_turns g) left_now ∙ own_one g k (drop (t + 1) turns);
-      others = λ h few other. inv.own h few ∙ ap (own_turns h) left_now ∙ own_other h g k (drop (t + 1) turns) (λ e. other (sym e));
+      one = inv.own g guest ∙ ap (due kept g) left_now ∙ due_one kept g k (drop (t + 1) turns);
+      others = λ h few other. inv.own h few ∙ ap (due kept h) left_now ∙ due_other kept h g k (drop (t + 1) turns) (λ e. other (sym e));
       gone = λ h is_gone.
           let before = inv.gone h (rw flags at is_gone) in
           let apart : g ≢ h = λ e. both_ways (is_set host.retired g) active (rw (e, ← flags) is_gone) in
-          sym (own_other h g k (drop (t + 1) turns) apart) ∙ ap (own_turns h) (sym left_now) ∙ before;
+          sym (due_other kept h g k (drop (t + 1) turns) apart) ∙ ap (due kept h) (sym left_now) ∙ before;
       blocks = moved_blocks turned after g block to move (turned_blocks host turned (ap length turn.machines ∙ length_updated g (λ m. run m k) host.machines) parts retired inv.blocks);
       free = omega (arith, move.count, ap count_set free, inv.free);
       counted = omega (arith, raised, inv.counted);
     }
 
 -- the turns that are counted as left
-own_now : (left : List ℕ) (g h : ℕ) (turns : List (ℕ × ℕ)) → g < 16 → length left ≡ 16 → get_or left g 0 ≡ own_turns g turns + 1
-    → (h ≢ g → get_or left h 0 ≡ own_turns h turns) → get_or (set left g (get_or left g 0 - 1)) h 0 ≡ own_turns h turns
-own_now left g h turns few size one others = by (cases_Bool (h == g))
+own_now : (kept : Option ℕ) (left : List ℕ) (g h : ℕ) (turns : List (ℕ × ℕ)) → g < 16 → length left ≡ 16 → get_or left g 0 ≡ due kept g turns + 1
+    → (h ≢ g → get_or left h 0 ≡ due kept h turns) → get_or (set left g (get_or left g 0 - 1)) h 0 ≡ due kept h turns
+own_now kept left g h turns few size one others = by (cases_Bool (h == g))
   where
-    by : ((h == g) ≡ true) ⊎ ((h == g) ≡ false) → get_or (set left g (get_or left g 0 - 1)) h 0 ≡ own_turns h turns
+    by : ((h == g) ≡ true) ⊎ ((h == g) ≡ false) → get_or (set left g (get_or left g 0 - 1)) h 0 ≡ due kept h turns
     by (inl same) =
         let e : h ≡ g = eqb-true h g same in
         rw e (get_or-set_same left g (get_or left g 0 - 1) 0 (omega (arith, few, size)) ∙ omega (arith, one))
@@ -165,14 +176,14 @@ own_now left g h turns few size one others = by (cases_Bool (h == g))
         get_or-set_other left g h (get_or left g 0 - 1) 0 apart ∙ others apart
 
 -- the guest has turns left
-pub goes_on : (turns : List (ℕ × ℕ)) (first : List Machine) (began : Counts) (moved t g : ℕ) (host : Hosted) (left : List ℕ) (tally : Counts) (moves : ℕ)
-    → g < 16 → Between turns first began moved t g host left tally moves → Moving turns first began moved (t + 1) host (set left g (get_or left g 0 - 1)) tally moves
-goes_on turns first began moved t g host left tally moves guest between = record {
+pub goes_on : (kept : Option ℕ) (turns : List (ℕ × ℕ)) (first : List Machine) (began : Counts) (moved t g : ℕ) (host : Hosted) (left : List ℕ) (tally : Counts) (moves : ℕ)
+    → g < 16 → Between kept turns first began moved t g host left tally moves → Moving kept turns first began moved (t + 1) host (set left g (get_or left g 0 - 1)) tally moves
+goes_on kept turns first began moved t g host left tally moves guest between = record {
   machines = between.machines;
   turns_left = between.turns_left;
   flags = between.flags;
   size = length-set left g _ ∙ between.size;
-  own = λ h few. own_now left g h (drop (t + 1) turns) guest between.size between.one (between.others h few);
+  own = λ h few. own_now kept left g h (drop (t + 1) turns) guest between.size between.one (between.others h few);
   gone = between.gone;
   blocks = between.blocks;
   free = between.free;
@@ -190,10 +201,10 @@ retired_blocks old new g is active inside have = record {
       rw (is.parts, updated_other g h without_blocks old.parts no_part apart) (have.some h there before);
 }
 
-pub retires : (turns : List (ℕ × ℕ)) (first : List Machine) (began : Counts) (moved t g : ℕ) (host after : Hosted) (left : List ℕ) (tally : Counts) (moves : ℕ)
-    → g < 16 → Between turns first began moved t g host left tally moves → get_or (set left g (get_or left g 0 - 1)) g 0 ≡ 0 → HasRetired host g after
-    → Moving turns first began moved (t + 1) after (set left g (get_or left g 0 - 1)) tally moves
-retires turns first began moved t g host after left tally moves guest between last is =
+pub retires : (kept : Option ℕ) (turns : List (ℕ × ℕ)) (first : List Machine) (began : Counts) (moved t g : ℕ) (host after : Hosted) (left : List ℕ) (tally : Counts) (moves : ℕ)
+    → g < 16 → Between kept turns first began moved t g host left tally moves → get_or (set left g (get_or left g 0 - 1)) g 0 ≡ 0 → HasRetired host g after
+    → Moving kept turns first began moved (t + 1) after (set left g (get_or left g 0 - 1)) tally moves
+retires kept turns first began moved t g host after left tally moves guest between last is =
     let inside : g < length host.retired = omega (arith, between.flags, guest) in
     record {
       machines = is.machines ∙ ap (updated g emptied) between.machines ∙ one_retires host.retired (lone turns first (t + 1)) g inside between.active
@@ -201,31 +212,31 @@ retires turns first began moved t g host after left tally moves guest between la
       turns_left = between.turns_left;
       flags = ap length is.retired ∙ length-set host.retired g true ∙ between.flags;
       size = length-set left g _ ∙ between.size;
-      own = λ h few. own_now left g h (drop (t + 1) turns) guest between.size between.one (between.others h few);
+      own = λ h few. own_now kept left g h (drop (t + 1) turns) guest between.size between.one (between.others h few);
       gone = λ h is_gone. by h (cases_Bool (g == h)) is_gone;
       blocks = retired_blocks host after g is between.active inside between.blocks;
       free = omega (arith, is.count, between.free);
       counted = between.counted;
     }
   where
-    by : (h : ℕ) → ((g == h) ≡ true) ⊎ ((g == h) ≡ false) → is_set after.retired h ≡ true → own_turns h (drop (t + 1) turns) ≡ 0
+    by : (h : ℕ) → ((g == h) ≡ true) ⊎ ((g == h) ≡ false) → is_set after.retired h ≡ true → due kept h (drop (t + 1) turns) ≡ 0
     by h (inl same) is_gone =
         let e : g ≡ h = eqb-true g h same in
-        let none : own_turns g (drop (t + 1) turns) ≡ 0 = sym (own_now left g g (drop (t + 1) turns) guest between.size between.one (λ other. absurd (other refl))) ∙ last in rw e at none
+        let none : due kept g (drop (t + 1) turns) ≡ 0 = sym (own_now kept left g g (drop (t + 1) turns) guest between.size between.one (λ other. absurd (other refl))) ∙ last in rw e at none
     by h (inr other) is_gone =
         let apart : h ≢ g = λ e. both_ways (g == h) other (rw e (eq-eqb g g refl)) in
         between.gone h (sym (get_or-set_other host.retired g h true false apart) ∙ ap (λ flags. is_set flags h) (sym is.retired) ∙ is_gone)
 
 -- no turn is left
-pub moved_all : (turns : List (ℕ × ℕ)) (first : List Machine) (began : Counts) (moved t : ℕ) (host : Hosted) (left : List ℕ) (tally : Counts) (moves : ℕ) → length turns ≤ t
-    → Moving turns first began moved t host left tally moves → host.machines ≡ hosted_as host.retired (with_turns turns first)
-moved_all turns first began moved t host left tally moves end inv = inv.machines ∙ ap (λ turns. hosted_as host.retired (with_turns turns first)) (take_all t turns end)
+pub moved_all : (kept : Option ℕ) (turns : List (ℕ × ℕ)) (first : List Machine) (began : Counts) (moved t : ℕ) (host : Hosted) (left : List ℕ) (tally : Counts) (moves : ℕ) → length turns ≤ t
+    → Moving kept turns first began moved t host left tally moves → host.machines ≡ hosted_as host.retired (with_turns turns first)
+moved_all kept turns first began moved t host left tally moves end inv = inv.machines ∙ ap (λ turns. hosted_as host.retired (with_turns turns first)) (take_all t turns end)
 
 -- nothing has moved yet
-pub moving_begins : (turns : List (ℕ × ℕ)) (began : Counts) (moved : ℕ) (host : Hosted) (left : List ℕ) → length host.retired ≡ 16 → length left ≡ 16
-    → ((g : ℕ) → g < 16 → get_or left g 0 ≡ own_turns g turns) → ((g : ℕ) → is_set host.retired g ≡ false) → TurnsLeft turns host.machines began 0 host.machines began
-    → HaveBlocks host → 1 ≤ count_set host.free → Moving turns host.machines began moved 0 host left began moved
-moving_begins turns began moved host left flags size own active begin blocks free = record {
+pub moving_begins : (kept : Option ℕ) (turns : List (ℕ × ℕ)) (began : Counts) (moved : ℕ) (host : Hosted) (left : List ℕ) → length host.retired ≡ 16 → length left ≡ 16
+    → ((g : ℕ) → g < 16 → get_or left g 0 ≡ due kept g turns) → ((g : ℕ) → is_set host.retired g ≡ false) → TurnsLeft turns host.machines began 0 host.machines began
+    → HaveBlocks host → 1 ≤ count_set host.free → Moving kept turns host.machines began moved 0 host left began moved
+moving_begins kept turns began moved host left flags size own active begin blocks free = record {
   machines = sym (none_retired host.retired host.machines active);
   turns_left = begin;
   flags = flags;
@@ -238,7 +249,7 @@ moving_begins turns began moved host left flags size own active begin blocks fre
 }
 
 -- before the first turn
-pub left_before : (turns : List (ℕ × ℕ)) (first : List Machine) (began : Counts) → All (λ m. m.platform.steps ≡ 0) first → TurnsLeft turns first began 0 first began
+pub left_before : (turns : List (ℕ × ℕ)) (first : List Machine) (began : Counts) → All (λ m. m.platform.steps ≤ 2 ^ 60) first → TurnsLeft turns first began 0 first began
 left_before turns first began fresh = record {
   machines = refl;
   count = refl;
@@ -252,7 +263,40 @@ left_before turns first began fresh = record {
 }
 
 -- the guest whose turn it is has a turn left
-pub one_left : (turns : List (ℕ × ℕ)) (t g k : ℕ) (left : List ℕ) (d : ℕ × ℕ) → t < length turns → get_or turns t d ≡ (g, k) → get_or left g 0 ≡ own_turns g (drop t turns) → 1 ≤ get_or left g 0
-one_left turns t g k left d inside is own =
-    let one = ap (own_turns g) (left_is turns t g k d inside is) ∙ own_one g k (drop (t + 1) turns) in
+pub one_left : (kept : Option ℕ) (turns : List (ℕ × ℕ)) (t g k : ℕ) (left : List ℕ) (d : ℕ × ℕ) → t < length turns → get_or turns t d ≡ (g, k) → get_or left g 0 ≡ due kept g (drop t turns) → 1 ≤ get_or left g 0
+one_left kept turns t g k left d inside is own =
+    let one = ap (due kept g) (left_is turns t g k d inside is) ∙ due_one kept g k (drop (t + 1) turns) in
     omega (arith, own, one)
+
+-- the guest that is kept has not retired
+pub still_there : (kept : Option ℕ) (turns : List (ℕ × ℕ)) (first : List Machine) (began : Counts) (moved t : ℕ) (host : Hosted) (left : List ℕ) (tally : Counts) (moves : ℕ)
+    → Moving kept turns first began moved t host left tally moves → IfSome kept (λ g. is_set host.retired g ≡ false)
+still_there None turns first began moved t host left tally moves inv = tt
+still_there (Some kept) turns first began moved t host left tally moves inv = by (cases_Bool (is_set host.retired kept))
+  where
+    one : kept_turn (Some kept) kept ≡ 1
+    one = rw (eq-eqb kept kept refl) refl
+
+    by : (is_set host.retired kept ≡ true) ⊎ (is_set host.retired kept ≡ false) → is_set host.retired kept ≡ false
+    by (inl retired) = absurd (omega (arith, inv.gone kept retired, one))
+    by (inr active) = active
+
+-- one turn of the guest that is kept, and none of each other
+pub one_alone : (left : List ℕ) (kept g : ℕ) → kept < length left → ((h : ℕ) → get_or left h 0 ≡ 0) → get_or (set left kept 1) g 0 ≡ kept_turn (Some kept) g
+one_alone left kept g inside none = by (cases_Bool (kept == g))
+  where
+    by : ((kept == g) ≡ true) ⊎ ((kept == g) ≡ false) → get_or (set left kept 1) g 0 ≡ kept_turn (Some kept) g
+    by (inl same) =
+        let e : kept ≡ g = eqb-true kept g same in
+        rw same (rw (sym e) (get_or-set_same left kept 1 0 inside))
+    by (inr other) =
+        let apart : g ≢ kept = λ e. both_ways (kept == g) other (rw e (eq-eqb kept kept refl)) in
+        rw other (get_or-set_other left kept g 1 0 apart ∙ none g)
+
+abbrev pub zeros : ℕ → List ℕ
+zeros n = replicate n 0
+
+pub zero_in : (n h : ℕ) → get_or (zeros n) h 0 ≡ 0
+zero_in zero h = refl
+zero_in (suc n) zero = refl
+zero_in (suc n) (suc h) = zero_in n h

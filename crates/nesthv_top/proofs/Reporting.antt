@@ -1,90 +1,71 @@
 -- The report of a job, and the account of a run.
-use Rattle.std.proofs.Common.{◌≡◌, ℕ, ◌+◌, ◌<◌, ◌≤◌, List, [], length, map, get_or, Bool, ap, subst, sym, ◌∙◌, arith}
-use Rattle.std.specs.List.{All}
-use Rattle.std.proofs.lemmas.List.{get_or-map, length-map}
-use Rattle.machine_laws.specs.Caching.{GuestsAreArchitectural, GuestsUseFresh}
-use Rattle.machine_laws.specs.Laws.{FillsSufficeForGuests}
-use Rattle.machine_defs.specs.Machine.{Machine, start}
-use Rattle.guest_specs.specs.declared.guests.GuestSpec.{GuestSpec}
-use Rattle.machine_defs.specs.Fills.{needed}
+use Rattle.std.proofs.Common.{◌≡◌, ℕ, ◌+◌, ◌≤◌, List, length, Bool, ap, subst, sym, ◌∙◌, arith}
+use Rattle.std.proofs.lemmas.List.{length-map}
+use Rattle.machine_defs.specs.Machine.{Machine}
 use Rattle.machine_defs.specs.Runs.{plain_count, trace_of}
 use Rattle.outside.specs.Pieces.{Puts}
-use Rattle.guest_turns.specs.Hosted.{no_machine}
-use Rattle.guest_turns.specs.Limits.{IsBootable}
+use Rattle.guest_turns.specs.declared.sources.Source.{Source}
+use Rattle.guest_turns.specs.Sources.{machine_of_source, machines_of_sources}
 use Rattle.guest_turns.specs.TurnLists.{entries_for, turn_events, with_turns}
 use Rattle.guest_turns.proofs.TurnLists.{turns_keep_count}
 use Rattle.run_config.specs.declared.guests.GuestSettings.{GuestSettings}
 use Rattle.rv64_hart.specs.Counts.{Counts, IsRaisedBy}
 use Rattle.nesthv_top.specs.declared.ends.Job.{Job}
-use Rattle.nesthv_top.specs.Plans.{AllRunAsWritten, RunsAsWritten, events_of, report_of}
+use Rattle.nesthv_top.specs.Plans.{events_of, name_of_source, report_of}
 use Rattle.nesthv_top.specs.Runnings.{hosted_as, sections_of, CountsTurns, CountsTurnsOf}
-use Rattle.nesthv_top.specs.Seen.{names_in, names_of_guests, plan_seen, plan_with}
+use Rattle.nesthv_top.specs.Seen.{names_in, names_of_sources, plan_seen, plan_with}
 use Rattle.nesthv_top.proofs.RetiredMachines.{as_many_hosted, sections_same}
 use Rattle.nesthv_top.proofs.TurnEvents.{plain_are, sections_are, trace_is}
 
 -- there is a machine for each guest of the configuration
-pub as_many : (job : Job) (retired : List Bool) (after : List Machine) → names_of_guests job.guests.items ≡ names_in job.config.guests
-    → after ≡ hosted_as retired (with_turns job.config.turns (map start job.guests.items)) → length after ≡ length job.config.guests
+pub as_many : (job : Job) (retired : List Bool) (after : List Machine) → names_of_sources job.sources.items ≡ names_in job.config.guests
+    → after ≡ hosted_as retired (with_turns job.config.turns (machines_of_sources job.sources.items)) → length after ≡ length job.config.guests
 as_many job retired after names is =
-    ap length is ∙ as_many_hosted retired (with_turns job.config.turns (map start job.guests.items)) ∙ turns_keep_count job.config.turns (map start job.guests.items)
-    ∙ length-map job.guests.items start ∙ sym (length-map job.guests.items (λ guest. guest.name)) ∙ ap length names ∙ length-map job.config.guests (λ guest. guest.name)
+    ap length is ∙ as_many_hosted retired (with_turns job.config.turns (machines_of_sources job.sources.items)) ∙ turns_keep_count job.config.turns (machines_of_sources job.sources.items)
+    ∙ length-map job.sources.items machine_of_source ∙ sym (length-map job.sources.items name_of_source) ∙ ap length names ∙ length-map job.config.guests (λ guest. guest.name)
 
 -- the sections of the machines after the turns are the report
-report_is : (job : Job) → names_of_guests job.guests.items ≡ names_in job.config.guests
-    → sections_of (names_in job.config.guests) (with_turns job.config.turns (map start job.guests.items)) ≡ report_of (plan_seen job)
+report_is : (job : Job) → names_of_sources job.sources.items ≡ names_in job.config.guests
+    → sections_of (names_in job.config.guests) (with_turns job.config.turns (machines_of_sources job.sources.items)) ≡ report_of (plan_seen job)
 unfolding report_of
 report_is job names =
-    ap (λ names. sections_of names (with_turns job.config.turns (map start job.guests.items))) (sym names)
-    ∙ sections_are (names_of_guests job.guests.items) (map start job.guests.items) job.config.turns
+    ap (λ names. sections_of names (with_turns job.config.turns (machines_of_sources job.sources.items))) (sym names)
+    ∙ sections_are (names_of_sources job.sources.items) (machines_of_sources job.sources.items) job.config.turns
 
 pub put_is : {S : Type 0} (stands_for : S → List ℕ → Type 0) (old new : S) (whole : Bool) (job : Job) (settings : List GuestSettings) (retired : List Bool) (after : List Machine)
-    → names_of_guests job.guests.items ≡ names_in job.config.guests → settings ≡ job.config.guests
-    → after ≡ hosted_as retired (with_turns job.config.turns (map start job.guests.items))
+    → names_of_sources job.sources.items ≡ names_in job.config.guests → settings ≡ job.config.guests
+    → after ≡ hosted_as retired (with_turns job.config.turns (machines_of_sources job.sources.items))
     → Puts stands_for old new whole (sections_of (names_in settings) after) → Puts stands_for old new whole (report_of (plan_seen job))
 put_is stands_for old new whole job settings retired after names same is put =
     let there : sections_of (names_in settings) after ≡ report_of (plan_seen job) =
     ap (λ settings. sections_of (names_in settings) after) same ∙ ap (sections_of (names_in job.config.guests)) is
-    ∙ sections_same (names_in job.config.guests) retired (with_turns job.config.turns (map start job.guests.items)) ∙ report_is job names in
+    ∙ sections_same (names_in job.config.guests) retired (with_turns job.config.turns (machines_of_sources job.sources.items)) ∙ report_is job names in
     subst (Puts stands_for old new whole) there put
 
 -- the account of the turns is that of the plan
-plain_is : (guests : List GuestSpec) (turns : List (ℕ × ℕ)) (spare : ℕ) (first : List Machine) (began taken : ℕ) → first ≡ map start guests
-    → began + plain_count (turn_events turns first) ≤ taken → began + plain_count (events_of (plan_with guests turns spare)) ≤ taken
+plain_is : (sources : List Source) (turns : List (ℕ × ℕ)) (spare : ℕ) (first : List Machine) (began taken : ℕ) → first ≡ machines_of_sources sources
+    → began + plain_count (turn_events turns first) ≤ taken → began + plain_count (events_of (plan_with sources turns spare)) ≤ taken
 unfolding events_of
-plain_is guests turns spare first began taken begin least =
-    let there : plain_count (turn_events turns first) ≡ plain_count (events_of (plan_with guests turns spare)) =
-    ap (λ first. plain_count (turn_events turns first)) begin ∙ plain_are turns (map start guests) in
+plain_is sources turns spare first began taken begin least =
+    let there : plain_count (turn_events turns first) ≡ plain_count (events_of (plan_with sources turns spare)) =
+    ap (λ first. plain_count (turn_events turns first)) begin ∙ plain_are turns (machines_of_sources sources) in
     subst (λ n. began + n ≤ taken) there least
 
-traced : (guests : List GuestSpec) (turns : List (ℕ × ℕ)) (spare : ℕ) (first : List Machine) (began later : ℕ) → first ≡ map start guests
-    → IsRaisedBy (trace_of (turn_events turns first)) began later → IsRaisedBy (trace_of (events_of (plan_with guests turns spare))) began later
+traced : (sources : List Source) (turns : List (ℕ × ℕ)) (spare : ℕ) (first : List Machine) (began later : ℕ) → first ≡ machines_of_sources sources
+    → IsRaisedBy (trace_of (turn_events turns first)) began later → IsRaisedBy (trace_of (events_of (plan_with sources turns spare))) began later
 unfolding events_of
-traced guests turns spare first began later begin raised =
-    let there : trace_of (turn_events turns first) ≡ trace_of (events_of (plan_with guests turns spare)) =
-    ap (λ first. trace_of (turn_events turns first)) begin ∙ trace_is turns (map start guests) in
+traced sources turns spare first began later begin raised =
+    let there : trace_of (turn_events turns first) ≡ trace_of (events_of (plan_with sources turns spare)) =
+    ap (λ first. trace_of (turn_events turns first)) begin ∙ trace_is turns (machines_of_sources sources) in
     subst (λ n. IsRaisedBy n began later) there raised
 
-pub counted : (guests : List GuestSpec) (turns : List (ℕ × ℕ)) (spare : ℕ) (first : List Machine) (began now : Counts) → first ≡ map start guests
-    → CountsTurnsOf first turns began now → CountsTurns (plan_with guests turns spare) began now
-counted guests turns spare first began now begin grew = record {
+pub counted : (sources : List Source) (turns : List (ℕ × ℕ)) (spare : ℕ) (first : List Machine) (began now : Counts) → first ≡ machines_of_sources sources
+    → CountsTurnsOf first turns began now → CountsTurns (plan_with sources turns spare) began now
+counted sources turns spare first began now begin grew = record {
   entries_grow = grew.entries_grow;
   entries_most = subst (λ first. now.entries ≤ began.entries + entries_for first turns) begin grew.entries_most;
   taken_grow = omega (arith, grew.taken_least);
   taken_most = grew.taken_most;
-  taken_least = plain_is guests turns spare first began.taken now.taken begin grew.taken_least;
-  trace = traced guests turns spare first began.trace now.trace begin grew.trace;
+  taken_least = plain_is sources turns spare first began.taken now.taken begin grew.taken_least;
+  trace = traced sources turns spare first began.trace now.trace begin grew.trace;
 }
-
-pub no_guest : GuestSpec
-no_guest = record { name = []; image = []; blocks = 0; spaces = 0; entries = 0; console = 0; inputs = [] }
-
--- its machines run as the architecture is written, and no step of theirs is put off for good
-pub run_as_written : (guests : List GuestSpec) (turns : List (ℕ × ℕ)) (spare : ℕ) → FillsSufficeForGuests → GuestsAreArchitectural → GuestsUseFresh → All IsBootable guests
-    → AllRunAsWritten (plan_with guests turns spare)
-run_as_written guests turns spare suffice architectural fresh bootable i n inside few =
-    let there : i < length guests = rw (length-map guests start) at inside in
-    let guest = get_or guests i no_guest in
-    let is = bootable i no_guest there in
-    let room : needed ≤ guest.entries = omega (arith, is.some_entries) in
-    subst (λ m. RunsAsWritten m n) (sym (get_or-map start guests i no_guest no_machine there))
-    (record { fills = suffice guest n room is.some_space; architectural = architectural guest n room is.some_space; fresh = fresh guest n room is.some_space })

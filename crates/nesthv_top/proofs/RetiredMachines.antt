@@ -1,5 +1,6 @@
 -- Machines as a host has them, some of whose guests have retired.
-use Rattle.std.proofs.Common.{◌≡◌, ◌∙◌, ℕ, zero, suc, ◌<◌, Bool, true, false, List, [], ◌∷◌, ◌++◌, length, set, refl, ap, arith}
+use Rattle.std.proofs.Common.{◌≡◌, ◌∙◌, ℕ, zero, suc, ◌<◌, Bool, true, false, List, [], ◌∷◌, ◌++◌, length, set, Option, Some, None, refl, ap, arith}
+use Rattle.std.specs.Prelude.{IfSome}
 use Rattle.guest_turns.specs.Hosted.{is_set, machine_at}
 use Rattle.guest_turns.specs.Moves.{emptied}
 use Rattle.guest_turns.specs.TurnLists.{updated}
@@ -62,3 +63,8 @@ sections_same (name ∷ names) retired [] = refl
 sections_same (name ∷ names) [] (m ∷ machines) = refl
 sections_same (name ∷ names) (flag ∷ retired) (m ∷ machines) =
     ap (λ text. text ++ sections_of names (hosted_as retired machines)) (section_one name flag m) ∙ ap (λ text. section_of name m ++ text) (sections_same names retired machines)
+
+-- where none has retired, the one that is kept has not
+pub all_active : (kept : Option ℕ) (retired : List Bool) → ((g : ℕ) → is_set retired g ≡ false) → IfSome kept (λ g. is_set retired g ≡ false)
+all_active None retired active = tt
+all_active (Some kept) retired active = active kept

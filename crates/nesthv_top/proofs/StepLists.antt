@@ -1,5 +1,5 @@
 -- Steps, one list after the other.
-use Rattle.std.proofs.Common.{◌≡◌, ◌∙◌, ℕ, ◌+◌, ◌≤◌, List, [], ◌∷◌, ◌++◌, map, Option, Some, None, Result, Ok, Err, true, refl, ap, sym, subst, arith, append_assoc, length-append}
+use Rattle.std.proofs.Common.{◌≡◌, ◌∙◌, ℕ, ◌+◌, ◌≤◌, List, [], ◌∷◌, ◌++◌, length, map, Option, Some, None, ◌⊎◌, inl, inr, Result, Ok, Err, false, true, refl, ap, sym, subst, arith, append_assoc, length-append}
 use Rattle.std.proofs.lemmas.List.{append-nil}
 use Rattle.outside.specs.Asks.{Ask}
 use Rattle.outside.specs.Faults.{Rose}
@@ -7,8 +7,8 @@ use Rattle.run_config.specs.declared.faults.ConfigFault.{ConfigFault}
 use Rattle.run_config.specs.Tests.{first_fault}
 use Rattle.nesthv_top.specs.declared.ends.LoadEnd.{LoadEnd}
 use Rattle.nesthv_top.specs.declared.ends.LoadEnd.TheVariants.{Refused, ReadFault, NoMemory}
-use Rattle.nesthv_top.specs.Reads.{reading, testing}
-use Rattle.nesthv_top.specs.Steps.{Step, asks_by, asks_in, asks_unless, fault_in, made_of, ArePassed, AskedMore, EndAs, IsFailed, IsShort, ReadAs, ReadStopsAs, StopAs}
+use Rattle.nesthv_top.specs.Reads.{making, reading, testing}
+use Rattle.nesthv_top.specs.Steps.{Step, asks_by, asks_in, asks_unless, fault_in, made_of, ArePassed, AskedMore, EndAs, IsFailed, IsShort, ReadAs, ReadStopsAs, StopAs, TakesMemory}
 
 -- what is asked in two parts
 pub asked_none : (before : Option (List Ask)) → AskedMore [] before before
@@ -88,9 +88,10 @@ failed_later xs ys made made' n before between after one two =
     record {
       passed = xs ++ two.passed;
       failing = two.failing;
+      takes = two.takes;
       found = two.found;
       rest = two.rest;
-      split = ap (λ steps. xs ++ steps) two.split ∙ sym (append_assoc xs two.passed (record { ask = Some two.failing; fault = two.found } ∷ two.rest));
+      split = ap (λ steps. xs ++ steps) two.split ∙ sym (append_assoc xs two.passed (record { ask = Some two.failing; takes = two.takes; fault = two.found } ∷ two.rest));
       fault = fault_then xs two.passed one.fault ∙ two.fault;
       asked = rw (asks_then xs two.passed, append_assoc (asks_in xs) (asks_in two.passed) failing)
           (asked_then (asks_in xs) (asks_in two.passed ++ failing) before between after one.asked two.asked);
@@ -124,6 +125,15 @@ pub ended_later : {A : Type 0} (xs ys : List Step) (made made' made'' : ℕ) (re
 ended_later xs ys made made' made'' (Ok a) before between after one two = passed_then xs ys made made' made'' before between after one two
 ended_later xs ys made made' made'' (Err end) before between after one two = stopped_later xs ys made made' end before between after one two
 
+-- what is left of steps is left of more
+takes_then : (xs ys : List Step) → TakesMemory xs → TakesMemory (xs ++ ys)
+takes_then [] ys takes = absurd takes
+takes_then (x ∷ xs) ys takes = takes
+
+left_then : (xs ys : List Step) → (1 ≤ length (asks_in xs)) ⊎ TakesMemory xs → (1 ≤ length (asks_in (xs ++ ys))) ⊎ TakesMemory (xs ++ ys)
+left_then xs ys (inl left) = inl (rw (asks_then xs ys) (omega (arith, left, length-append (asks_in xs) (asks_in ys))))
+left_then xs ys (inr takes) = inr (takes_then xs ys takes)
+
 -- stopped, whatever comes after
 pub stopped_first : (xs ys : List Step) (made : ℕ) (end : LoadEnd) (before after : Option (List Ask)) → StopAs xs made before end after → StopAs (xs ++ ys) made before end after
 stopped_first xs ys made (Refused found) before after one = (
@@ -131,10 +141,11 @@ stopped_first xs ys made (Refused found) before after one = (
   subst (λ asks. AskedMore asks before after) (sym (made_found xs ys found one.0)) one.1,
 )
 stopped_first xs ys made (ReadFault n) before after one =
-    let failing : Step = record { ask = Some one.failing; fault = one.found } in
+    let failing : Step = record { ask = Some one.failing; takes = one.takes; fault = one.found } in
     record {
       passed = one.passed;
       failing = one.failing;
+      takes = one.takes;
       found = one.found;
       rest = one.rest ++ ys;
       split = ap (λ steps. steps ++ ys) one.split ∙ append_assoc one.passed (failing ∷ one.rest) ys;
@@ -149,7 +160,7 @@ stopped_first xs ys made (NoMemory n) before after one = record {
   fault = one.fault;
   asked = one.asked;
   number = one.number;
-  left = λ two. rw (asks_then one.rest ys) (omega (arith, one.left two, length-append (asks_in one.rest) (asks_in ys)));
+  left = λ some. left_then one.rest ys (one.left some);
 }
 
 -- a step of one read
@@ -167,6 +178,7 @@ one_stopped a fault made (Refused found) before after read = absurd read
 one_stopped a fault made (ReadFault n) before after read = record {
   passed = [];
   failing = a;
+  takes = false;
   found = fault;
   rest = [];
   split = refl;
@@ -181,7 +193,7 @@ one_stopped a fault made (NoMemory n) before after read = record {
   fault = refl;
   asked = read.1;
   number = omega (arith, read.0);
-  left = λ two. omega arith;
+  left = λ some. inl (omega arith);
 }
 
 pub one_ended : {A : Type 0} (a : Ask) (made made' : ℕ) (result : Result A LoadEnd) (before after : Option (List Ask)) → ReadAs a made before result made' after
@@ -196,6 +208,25 @@ test_passed fault made before none = record { fault = rw none refl; asked = aske
 pub test_refused : (fault : Option ConfigFault) (found : ConfigFault) (made : ℕ) (before : Option (List Ask)) → fault ≡ Some found
     → StopAs (testing fault ∷ []) made before (Refused found) before
 test_refused fault found made before some = (rw some refl, rw some (asked_none before))
+
+-- a step whose test takes memory
+pub making_passed : (fault : Option ConfigFault) (made : ℕ) (before : Option (List Ask)) → fault ≡ None → ArePassed (making fault ∷ []) made before made before
+making_passed fault made before none = record { fault = rw none refl; asked = asked_none before; number = omega arith }
+
+pub making_refused : (fault : Option ConfigFault) (found : ConfigFault) (made : ℕ) (before : Option (List Ask)) → fault ≡ Some found
+    → StopAs (making fault ∷ []) made before (Refused found) before
+making_refused fault found made before some = (rw some refl, rw some (asked_none before))
+
+pub making_short : (fault : Option ConfigFault) (made : ℕ) (before : Option (List Ask)) → StopAs (making fault ∷ []) made before (NoMemory made) before
+making_short fault made before = record {
+  passed = [];
+  rest = making fault ∷ [];
+  split = refl;
+  fault = refl;
+  asked = asked_none before;
+  number = omega arith;
+  left = λ some. inr refl;
+}
 
 -- a count of faults that rose in the second step rose
 pub rose_since : (before between after : ℕ) → before ≤ between → Rose between after → Rose before after

@@ -2,7 +2,7 @@
 use Rattle.std.proofs.Common.{cond, ◌≡◌, ◌≤◌, ◌⊎◌, inl, inr, ℕ, zero, suc, List, [], ◌∷◌, Option, Some, None, Result, Bool, true, false, refl, sym, ap, subst, arith}
 use Rattle.std.specs.List.{list_all}
 use Rattle.std.specs.Prelude.{IsSome, IsSomeAnd}
-use Rattle.command_line.specs.Commands.{Command, FileCommand, OnFiles, Run, Replay, Check, Work, asked_by, command_of, is_plain}
+use Rattle.command_line.specs.Commands.{Command, FileCommand, OnFiles, Run, Replay, Check, Save, Work, asked_by, command_of, is_plain}
 use Rattle.replay.specs.declared.comparisons.Verdict.TheVariants as verdict
 use Rattle.outside.specs.declared.sinks.Sink as sinks
 use Rattle.outside.specs.declared.stores.Store as stores
@@ -12,11 +12,11 @@ use Rattle.outside.specs.Pieces.{Appends}
 use Rattle.run_config.specs.declared.faults.ConfigFault.{ConfigFault}
 use Rattle.nesthv_top.specs.declared.ends.Ended.{Ended}
 use Rattle.nesthv_top.specs.declared.ends.Ended.TheVariants.{Done, Differs, NoCommand, Refused, ReadFault, WriteFault, NoMemory}
-use Rattle.nesthv_top.specs.Endings.{HasPlan, IfRefusedWith, IfRun, IsFor, IsOfCommand, IsRefusal, IsReplay, ReadsFrom, SaysOfCause, SaysOfOut, SaysOfReads, Tells, WithPlan}
+use Rattle.nesthv_top.specs.Endings.{HasPlan, IfRefusedWith, IfRun, IfSave, IsFor, IsOfCommand, IsRefusal, IsReplay, ReadsFrom, SaysOfCause, SaysOfOut, SaysOfReads, SaysOfSaved, Tells, WithPlan}
 use Rattle.run_config.specs.Accept.{accept}
 use Rattle.run_config.specs.Configurations.{Configuration}
 use Rattle.nesthv_top.specs.Contents.{config_of}
-use Rattle.nesthv_top.specs.Plans.{AllRunAsWritten, Plan, fault_of, plan_if, plan_of, planned}
+use Rattle.nesthv_top.specs.Plans.{AllRunAsWritten, IsResumable, Plan, fault_of, plan_if, plan_of, planned}
 use Rattle.nesthv_top.specs.Reads.{file_steps}
 use Rattle.nesthv_top.specs.Steps.{fault_in}
 use Rattle.nesthv_top.specs.Statuses.{ArePlain, IsDone, IsNoCommand, status_of, verdict_status}
@@ -49,6 +49,17 @@ ran_as_written O told command (Refused found) old new e says = not_done 2 (omega
 ran_as_written O told command (ReadFault n) old new e says = not_done 3 (omega arith) (omega arith) e
 ran_as_written O told command WriteFault old new e says = not_done 4 (omega arith) (omega arith) e
 ran_as_written O told command (NoMemory n) old new e says = not_done 5 (omega arith) (omega arith) e
+
+-- the guest that is saved
+pub resumable : (told : Option Files) (command : Option Command) (ended : Ended) → status_of ended ≡ 0 → SaysOfSaved told command ended
+    → HasPlan told command (λ files command plan. IfSave command (IsResumable plan))
+resumable told command Done e says = says
+resumable told command Differs e says = absurd (omega (arith, e))
+resumable told command NoCommand e says = absurd (omega (arith, e))
+resumable told command (Refused found) e says = absurd (omega (arith, e))
+resumable told command (ReadFault n) e says = absurd (omega (arith, e))
+resumable told command WriteFault e says = absurd (omega (arith, e))
+resumable told command (NoMemory n) e says = absurd (omega (arith, e))
 
 -- what follows of a plan from what holds of it
 some_so : (P Q : Plan → Type 0) (o : Option Plan) → ((p : Plan) → P p → Q p) → IsSomeAnd o P → IsSomeAnd o Q
@@ -154,6 +165,7 @@ pub differing : (command : FileCommand) (stored : List ℕ) (plan : Plan) (n : �
 differing (Run config) stored plan n is = cc
 differing (Replay config report) stored plan n is = (config, report, refl)
 differing (Check config) stored plan n is = cc
+differing (Save config guest) stored plan n is = cc
 
 -- why a command ended so
 pub is_for : (words : List (List ℕ)) (command : Command) (ended : Ended) → command_of words ≡ Some command → IsOfCommand command ended → IsFor ended words

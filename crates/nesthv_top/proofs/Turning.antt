@@ -22,7 +22,7 @@ use Rattle.nesthv_top.specs.Runnings.{CountsTurnsOf}
 pub record TurnsLeft (turns : List (ℕ × ℕ)) (first : List Machine) (began : Counts) (i : ℕ) (ms : List Machine) (tally : Counts) : Type 0 where
   pub machines : with_turns (drop i turns) ms ≡ with_turns turns first
   pub count : length ms ≡ length first
-  pub steps : (g : ℕ) → g < length ms → (machine_at ms g).platform.steps + turn_steps (drop i turns) ≤ turn_steps turns
+  pub steps : (g : ℕ) → g < length ms → (machine_at ms g).platform.steps + turn_steps (drop i turns) ≤ 2 ^ 60 + turn_steps turns
   pub entries_grow : began.entries ≤ tally.entries
   pub rooms : (g : ℕ) → (machine_at ms g).entry_room ≡ (machine_at first g).entry_room
   pub entries_most : tally.entries + entries_for first (drop i turns) ≤ began.entries + entries_for first turns
@@ -108,7 +108,7 @@ left_next turns first began i g k taken d ms tally after later inside is before 
       count = ap length turn.machines ∙ length_updated g (λ m. run m k) ms ∙ before.count;
       steps = λ j h.
           let there : j < length ms = rw (turn.machines, length_updated g (λ m. run m k) ms) at h in
-          steps_after g k taken j (turn_steps left) (turn_steps turns) ms after turn.machines turn.made turn.most (rw all at (before.steps j there));
+          steps_after g k taken j (turn_steps left) (2 ^ 60 + turn_steps turns) ms after turn.machines turn.made turn.most (rw all at (before.steps j there));
       entries_grow = omega (arith, before.entries_grow, turn.account.entries_grow);
       rooms = λ j. rooms_after g k j ms after turn.machines turn.room ∙ before.rooms j;
       entries_most = omega (arith, entries, room, before.entries_most, turn.account.entries_most);

@@ -1,9 +1,13 @@
 -- The guests of a seed and a size, their turns, and their lines.
 use Rattle.std.proofs.Common.{cond, ◌≡◌, ℕ, zero, suc, ◌+◌, ◌*◌, ◌<◌, ◌≤◌, ◌^◌, ◌==◌, List, [], ◌∷◌, ◌++◌, length, map, get_or, refl, ap, ◌∙◌, arith}
 use Rattle.std.specs.List.{All, flat_map}
+use Rattle.std.proofs.lemmas.List.{length-map}
 use Rattle.std.proofs.lemmas.List.Elements.{All-nil, All-cons}
 use Rattle.std.proofs.lemmas.List.Sums.{sum_by-cons}
+use Rattle.guest_turns.specs.declared.sources.Source.TheVariants.{Fresh}
 use Rattle.guest_turns.specs.Limits.{AreBootable, IsBootable}
+use Rattle.guest_turns.specs.Sources.{AreBootableSources, IsBootableSource}
+use Rattle.guest_turns.proofs.Savables.{fresh_each}
 use Rattle.guest_turns.specs.TurnLists.{own_steps, with_turns}
 use Rattle.machine_defs.specs.Machine.{Machine, start}
 use Rattle.machine_defs.specs.Runs.{run}
@@ -110,6 +114,17 @@ all_bootable seed size most =
 pub are_bootable : (seed size : ℕ) → size ≤ 10000 → AreBootable (guests seed size)
 unfolding guests
 are_bootable seed size most = record { some = omega (arith, four_guests seed size); few = omega (arith, four_guests seed size); each = all_bootable seed size most; frames = omega arith }
+
+-- and so their sources
+pub sources_bootable : (seed size : ℕ) → size ≤ 10000 → All IsBootableSource (map Fresh (guests seed size))
+sources_bootable seed size most = fresh_each (guests seed size) (all_bootable seed size most)
+
+pub are_sources : (seed size : ℕ) → size ≤ 10000 → AreBootableSources (map Fresh (guests seed size))
+are_sources seed size most = record {
+  some = omega (arith, four_guests seed size, length-map (guests seed size) Fresh);
+  few = omega (arith, four_guests seed size, length-map (guests seed size) Fresh);
+  each = sources_bootable seed size most;
+}
 
 -- few rounds are few turns, of short lengths
 pub few_turns : (size : ℕ) → size ≤ 10000 → length (rounds_of 4 1000 size) ≤ 2 ^ 20

@@ -1,7 +1,7 @@
 -- What each end of a command says: why it comes, and what it leaves of the reads, of `out`, of `err` and of
 -- the account.
 use Rattle.std.specs.Prelude.{◌≡◌, ℕ, zero, ◌+◌, ◌^◌, ◌≤◌, ◌⊎◌, List, [], Option, Some, None, IsSome, IsSomeAnd, IfSome, false, ⊤}
-use Rattle.command_line.specs.Commands.{Command, OnFiles, Run, Replay, Check, Work, command_of}
+use Rattle.command_line.specs.Commands.{Command, OnFiles, Run, Replay, Check, Save, Work, command_of}
 use Rattle.machine_defs.specs.Runs.{plain_count, trace_of}
 use Rattle.outside.specs.declared.sinks.Sink as sinks
 use Rattle.outside.specs.declared.stores.Store as stores
@@ -16,7 +16,7 @@ use Rattle.nesthv_top.specs.declared.ends.Ended.{Ended}
 use Rattle.nesthv_top.specs.declared.ends.Ended.TheVariants.{Done, Differs, NoCommand, Refused, ReadFault, WriteFault, NoMemory}
 use Rattle.nesthv_top.specs.Lines.{usage_line, configuration_line, read_line, write_line, memory_line}
 use Rattle.run_config.specs.declared.faults.ConfigFault.{ConfigFault}
-use Rattle.nesthv_top.specs.Plans.{AllRunAsWritten, Plan, fault_of, plan_of, run_of, entries_of, steps_of, events_of}
+use Rattle.nesthv_top.specs.Plans.{AllRunAsWritten, IsResumable, Plan, fault_of, plan_of, run_of, entries_of, steps_of, events_of}
 use Rattle.nesthv_top.specs.Runnings.{moves_for}
 use Rattle.nesthv_top.specs.Reads.{asks_of, most_reads, steps_for, BeginsWithConfig}
 use Rattle.nesthv_top.specs.Steps.{AskedMore, IsFailed, IsWanting}
@@ -146,7 +146,18 @@ abbrev pub IfRun : Command → Type 0 → Type 0
 IfRun (OnFiles (Run config)) P = P
 IfRun (OnFiles (Replay config report)) P = P
 IfRun (OnFiles (Check config)) P = ⊤
+IfRun (OnFiles (Save config guest)) P = P
 IfRun (Work seed size) P = P
+
+-- a fact of the guest that a command saves
+abbrev pub IfSave : Command → (ℕ → Type 0) → Type 0
+IfSave (OnFiles (Save config guest)) P = P guest
+IfSave other P = ⊤
+
+-- what an end at which all was written says of the guest that was saved: another run can go on from its file
+abbrev pub SaysOfSaved : Option Files → Option Command → Ended → Type 0
+SaysOfSaved told command Done = HasPlan told command (λ files command plan. IfSave command (IsResumable plan))
+SaysOfSaved told command other = ⊤
 
 -- what an end says of `out` and of the machines whose report is written or compared
 pub record SaysOfOut {Y : Type 0} (O : sinks.Ghosts Y) (told : Option Files) (command : Option Command)

@@ -7,7 +7,8 @@ use Rattle.run_config.specs.Faults.{fault_guest, fault_key, fault_number, fault_
 use Rattle.run_config.specs.Keys.{name_of}
 
 abbrev pub usage_line : List ℕ
-usage_line = codes "nesthv: usage: run CONFIG | replay CONFIG REPORT | check CONFIG | work SEED SIZE\n"
+usage_line = codes "nesthv: usage: run CONFIG | replay CONFIG REPORT | check CONFIG | work SEED SIZE"
+    ++ codes " | save CONFIG GUEST\n"
 
 -- what a fault keeps
 abbrev pub guest_text : Option ℕ → List ℕ

@@ -1,25 +1,38 @@
 -- What was read for guests, and the guests that are made of it.
-use Rattle.std.specs.Prelude.{⊤, ◌≡◌, ◌+◌, ◌*◌, ◌≤◌, ℕ, List, [], ◌∷◌, None, Ok, length, map}
+use Rattle.std.specs.Prelude.{⊤, ◌≡◌, ◌≤◌, ℕ, List, [], ◌∷◌, None, Ok, length, map}
 use Rattle.arch_defs.specs.Frames.{most_frames}
 use Rattle.command_line.specs.Commands.{FileCommand}
-use Rattle.guest_specs.specs.declared.guests.GuestSpec.{GuestSpec}
-use Rattle.guest_specs.specs.declared.needs.Need.{Need}
-use Rattle.guest_specs.specs.Needs.{frames_needed}
+use Rattle.frame_split.specs.Shares.{frames_with}
+use Rattle.guest_save.specs.Savable.{IsSavable}
+use Rattle.guest_turns.specs.declared.sources.Source.{Source}
+use Rattle.guest_turns.specs.declared.sources.Source.TheVariants as source
+use Rattle.guest_turns.specs.Sources.{needs_of_sources}
 use Rattle.outside.specs.Files.{Files}
+use Rattle.run_config.specs.declared.guests.FreshGuest.{FreshGuest}
 use Rattle.run_config.specs.declared.guests.GuestSettings.{GuestSettings}
 use Rattle.run_config.specs.declared.guests.InputSource.{InputSource}
 use Rattle.run_config.specs.declared.guests.InputSource.TheVariants.{Pairs, File}
+use Rattle.run_config.specs.declared.guests.Origin.{Origin}
+use Rattle.run_config.specs.declared.guests.Origin.TheVariants.{Fresh, Saved}
 use Rattle.run_config.specs.Records.{bad_record}
 use Rattle.run_config.specs.Accept.{accept}
-use Rattle.run_config.specs.Configurations.{Configuration, IsWithinLimits}
+use Rattle.run_config.specs.Configurations.{IsWithinLimits}
+use Rattle.nesthv_top.specs.declared.ends.FreshFiles.{FreshFiles}
 use Rattle.nesthv_top.specs.declared.ends.GuestFiles.{GuestFiles}
+use Rattle.nesthv_top.specs.declared.ends.GuestFiles.TheVariants as files_read
 use Rattle.nesthv_top.specs.declared.ends.FilesRead.{FilesRead}
-use Rattle.nesthv_top.specs.Contents.{config_of, guest_of, guest_ram_size, image_of, records_in, stored_of}
+use Rattle.nesthv_top.specs.Contents.{config_of, guest_of, guest_ram_size, image_of, records_in, resumed_of, stored_of}
 
--- what the files say for a guest, and for guests
+-- what the files say for a fresh guest, for any guest, and for guests
+abbrev pub fresh_read : Files → FreshGuest → FreshFiles
+fresh_read files guest = record { image = image_of files guest; records = records_in files guest.input }
+
+abbrev pub read_by : Files → Origin → GuestFiles
+read_by files (Fresh guest) = files_read.Fresh (fresh_read files guest)
+read_by files (Saved name) = files_read.Saved (resumed_of files name)
+
 abbrev pub read_for : Files → GuestSettings → GuestFiles
-read_for files settings =
-    record { image = image_of files settings; records = records_in files settings.input }
+read_for files settings = read_by files settings.origin
 
 abbrev pub all_read_for : Files → List GuestSettings → List GuestFiles
 all_read_for files settings = map (read_for files) settings
@@ -29,10 +42,20 @@ abbrev pub AreGood : InputSource → List ℕ → Type 0
 AreGood (Pairs inputs) bytes = ⊤
 AreGood (File name) bytes = bad_record bytes ≡ None
 
--- what was read passes the tests of its guest
-pub record IsFitting (settings : GuestSettings) (read : GuestFiles) : Type 0 where
-  pub image : length read.image ≤ guest_ram_size settings
-  pub records : AreGood settings.input read.records
+-- what was read passes the tests of its fresh guest
+pub record IsFreshFitting (guest : FreshGuest) (read : FreshFiles) : Type 0 where
+  pub image : length read.image ≤ guest_ram_size guest
+  pub records : AreGood guest.input read.records
+
+-- and of any guest: for a resumed one, a machine that can be saved
+abbrev pub FitsOrigin : Origin → GuestFiles → Type 0
+FitsOrigin (Fresh guest) (files_read.Fresh read) = IsFreshFitting guest read
+FitsOrigin (Fresh guest) (files_read.Saved m) = ⊥
+FitsOrigin (Saved name) (files_read.Fresh read) = ⊥
+FitsOrigin (Saved name) (files_read.Saved m) = IsSavable m
+
+abbrev pub IsFitting : GuestSettings → GuestFiles → Type 0
+IsFitting settings read = FitsOrigin settings.origin read
 
 -- the same of guests, one after the other
 unfoldable pub AreFitting : List GuestSettings → List GuestFiles → Type 0
@@ -41,26 +64,27 @@ AreFitting [] (read ∷ rest) = ⊥
 AreFitting (settings ∷ others) [] = ⊥
 AreFitting (settings ∷ others) (read ∷ rest) = IsFitting settings read × AreFitting others rest
 
--- a guest of these settings, with what was read for it, and guests
-abbrev pub guest_with : GuestSettings → GuestFiles → GuestSpec
-guest_with settings read = guest_of settings read.image read.records
+-- the fresh guest that settings begin with, which is none where they begin with a saved machine
+abbrev pub fresh_in : Origin → FreshGuest
+fresh_in (Fresh guest) = guest
+fresh_in (Saved name) =
+    record { image = []; blocks = 0; spaces = 0; entries = 0; console = 0; input = Pairs [] }
 
-unfoldable pub guests_with : List GuestSettings → List GuestFiles → List GuestSpec
-guests_with [] all_read = []
-guests_with (settings ∷ others) [] = []
-guests_with (settings ∷ others) (read ∷ rest) = guest_with settings read ∷ guests_with others rest
+-- where a guest comes from, with what was read for it, and guests
+abbrev pub source_with : List ℕ → Origin → GuestFiles → Source
+source_with name origin (files_read.Fresh read) =
+    source.Fresh (guest_of name (fresh_in origin) read.image read.records)
+source_with name origin (files_read.Saved m) = source.Kept name m
 
--- what guests of these settings need of machine memory, and the frames of all of them
-abbrev pub need_by : GuestSettings → Need
-need_by settings = record { blocks = settings.blocks; spaces = settings.spaces; entries = settings.entries }
+unfoldable pub sources_with : List GuestSettings → List GuestFiles → List Source
+sources_with [] all_read = []
+sources_with (settings ∷ others) [] = []
+sources_with (settings ∷ others) (read ∷ rest) =
+    source_with settings.name settings.origin read ∷ sources_with others rest
 
-abbrev pub frames_by : List GuestSettings → ℕ
-frames_by [] = 0
-frames_by (settings ∷ others) = frames_needed (need_by settings) + frames_by others
-
--- the frames that a configuration needs, 512 for each spare block
-abbrev pub config_frames : Configuration → ℕ
-config_frames c = frames_by c.guests + 512 * c.spare
+-- the frames that guests and so many spare blocks need
+abbrev pub frames_read : List GuestSettings → List GuestFiles → ℕ → ℕ
+frames_read settings all_read spare = frames_with (needs_of_sources (sources_with settings all_read)) spare
 
 -- all that was read for a command is what the files say
 pub record IsAllRead (files : Files) (command : FileCommand) (read : FilesRead) : Type 0 where
@@ -72,4 +96,5 @@ pub record IsAllRead (files : Files) (command : FileCommand) (read : FilesRead) 
 pub record IsTested (read : FilesRead) : Type 0 where
   pub limits : IsWithinLimits read.config
   pub guests : AreFitting read.config.guests read.guests.items
-  pub frames : config_frames read.config ≤ most_frames
+  pub frames : read.frames ≡ frames_read read.config.guests read.guests.items read.config.spare
+  pub few : read.frames ≤ most_frames

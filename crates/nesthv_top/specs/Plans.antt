@@ -1,9 +1,13 @@
 -- What a command does with the files: the guests that it runs, their turns, and the report.
-use Rattle.std.specs.Prelude.{ℕ, ◌≡◌, ◌+◌, ◌*◌, ◌<◌, ◌≤◌, List, [], ◌∷◌, ◌++◌, Option, Some, None, Result, Ok, Err, length, map, sum_by}
-use Rattle.command_line.specs.Commands.{Command, FileCommand, OnFiles, Run, Replay, Check, Work}
-use Rattle.guest_specs.specs.declared.guests.GuestSpec.{GuestSpec}
+use Rattle.std.specs.Prelude.{ℕ, ◌≡◌, ◌+◌, ◌<◌, ◌≤◌, ◌^◌, List, [], ◌∷◌, ◌++◌, Option, Some, None, Result, Ok, Err, get_or, length, map, sum_by}
+use Rattle.command_line.specs.Commands.{Command, FileCommand, OnFiles, Run, Replay, Check, Save, Work}
+use Rattle.frame_split.specs.Shares.{frames_with}
+use Rattle.guest_save.specs.Laws.{UsesFreshSince}
+use Rattle.guest_save.specs.Savable.{IsSavable}
 use Rattle.guest_turns.specs.Hosted.{machine_at}
-use Rattle.guest_turns.specs.Limits.{frames_for}
+use Rattle.guest_turns.specs.declared.sources.Source.{Source}
+use Rattle.guest_turns.specs.declared.sources.Source.TheVariants.{Fresh, Kept}
+use Rattle.guest_turns.specs.Sources.{machine_of_source, machines_of_sources, needs_of_sources}
 use Rattle.guest_turns.specs.TurnLists.{entries_for, own_events, own_steps}
 use Rattle.machine_defs.specs.declared.events.Event.{Event}
 use Rattle.machine_defs.specs.Fills.{missing_entry, ready}
@@ -18,24 +22,24 @@ use Rattle.run_config.specs.Accept.{accept}
 use Rattle.run_config.specs.Configurations.{Configuration}
 use Rattle.turn_plan.specs.Turns.{rounds_of}
 use Rattle.work_images.specs.Guests as generated
-use Rattle.nesthv_top.specs.Contents.{config_of, guests_of}
+use Rattle.nesthv_top.specs.Contents.{config_of, sources_of}
 use Rattle.nesthv_top.specs.Reads.{file_steps, steps_for}
 use Rattle.nesthv_top.specs.Steps.{fault_in}
 
--- guests, their turns, and how many spare blocks there are beside those of the guests. The report speaks of
--- the guests and the turns alone
+-- where the guests come from, their turns, and how many spare blocks there are beside those of the guests.
+-- The report speaks of the guests and the turns alone
 pub record Plan : Type 0 where
-  pub guests : List GuestSpec
+  pub sources : List Source
   pub turns : List (ℕ × ℕ)
   pub spare : ℕ
 
 -- the frames of machine memory that it needs, 512 for each spare block
 abbrev pub plan_frames : Plan → ℕ
-plan_frames plan = frames_for plan.guests + 512 * plan.spare
+plan_frames plan = frames_with (needs_of_sources plan.sources) plan.spare
 
 -- the plan of a configuration
 abbrev pub plan_by : Files → Configuration → Plan
-plan_by files c = record { guests = guests_of files c.guests; turns = c.turns; spare = c.spare }
+plan_by files c = record { sources = sources_of files c.guests; turns = c.turns; spare = c.spare }
 
 -- the same of a configuration that is accepted, unless a step found a fault
 abbrev pub plan_if : Files → Option ConfigFault → Result Configuration ConfigFault → Option Plan
@@ -50,8 +54,11 @@ planned files command = plan_if files (fault_in (file_steps files command)) (acc
 -- the plan of a seed and a size: the four guests that they give, and as many rounds as each has commands, of
 -- 1,000 steps for each guest (own)
 abbrev pub work_plan : ℕ → ℕ → Plan
-work_plan seed size =
-    record { guests = generated.guests seed size; turns = rounds_of 4 1000 size; spare = 0 }
+work_plan seed size = record {
+  sources = map Fresh (generated.guests seed size);
+  turns = rounds_of 4 1000 size;
+  spare = 0;
+}
 
 -- the plan of a command, and the first fault of its steps
 abbrev pub plan_of : Files → Option Command → Option Plan
@@ -67,15 +74,21 @@ abbrev pub run_of : Files → Option Command → Option Plan
 run_of files (Some (OnFiles (Run config))) = plan_of files (Some (OnFiles (Run config)))
 run_of files (Some (OnFiles (Replay config report))) = plan_of files (Some (OnFiles (Replay config report)))
 run_of files (Some (OnFiles (Check config))) = None
+run_of files (Some (OnFiles (Save config guest))) = plan_of files (Some (OnFiles (Save config guest)))
 run_of files (Some (Work seed size)) = plan_of files (Some (Work seed size))
 run_of files None = None
 
--- the names of a plan's guests, and their lone machines at their start
+-- the name of a guest, whose saved machine has none
+abbrev pub name_of_source : Source → List ℕ
+name_of_source (Fresh spec) = spec.name
+name_of_source (Kept name m) = name
+
+-- the names of a plan's guests, and the lone machines that they go on from
 abbrev pub plan_names : Plan → List (List ℕ)
-plan_names plan = map (λ guest. guest.name) plan.guests
+plan_names plan = map name_of_source plan.sources
 
 abbrev pub machines_of : Plan → List Machine
-machines_of plan = map start plan.guests
+machines_of plan = machines_of_sources plan.sources
 
 -- the section of a machine after n steps
 abbrev pub section_from : List ℕ → Machine → ℕ → List ℕ
@@ -113,16 +126,31 @@ abbrev pub entries_of : Option Plan → ℕ
 entries_of (Some plan) = plan_entries plan
 entries_of None = 0
 
--- after n steps of its run a machine lacks no cached translation for its next step, once this has made its
--- fills, however small and however stale its spaces are: no step is put off for good. The run so far is one
--- of the written architecture. And each cached translation that the next step may use is fresh: it is stale
--- at most until the fence that names it
-pub record RunsAsWritten (m : Machine) (n : ℕ) : Type 0 where
-  pub fills : missing_entry (ready (run m n)) ≡ None
-  pub architectural : IsArchitectural m n
-  pub fresh : UsesFresh m n
+-- each cached translation that the next step may use is fresh, of a guest that goes on from a saved machine
+-- where this is a state of a run that began without any
+abbrev pub UsesFreshFrom : Source → ℕ → Type 0
+UsesFreshFrom (Fresh spec) n = UsesFresh (start spec) n
+UsesFreshFrom (Kept name m) n = UsesFreshSince m n
 
--- so does each machine of a plan, after each number of steps up to those of its section
+-- after n steps of its run a guest's machine lacks no cached translation for its next step, once this has
+-- made its fills, however small and however stale its spaces are: no step is put off for good. The run so far
+-- is one of the written architecture. And what the next step may use is fresh: it is stale at most until the
+-- fence that names it
+pub record RunsAsWritten (source : Source) (n : ℕ) : Type 0 where
+  pub fills : missing_entry (ready (run (machine_of_source source) n)) ≡ None
+  pub architectural : IsArchitectural (machine_of_source source) n
+  pub fresh : UsesFreshFrom source n
+
+-- so does each guest of a plan, after each number of steps up to those of its section
 abbrev pub AllRunAsWritten : Plan → Type 0
-AllRunAsWritten plan = (i n : ℕ) → i < length (machines_of plan) → n ≤ own_steps i plan.turns
-    → RunsAsWritten (machine_at (machines_of plan) i) n
+AllRunAsWritten plan = (i n : ℕ) (d : Source) → i < length plan.sources → n ≤ own_steps i plan.turns
+    → RunsAsWritten (get_or plan.sources i d) n
+
+-- the machine of the guest of this number after its turns
+abbrev pub machine_after : Plan → ℕ → Machine
+machine_after plan guest = run (machine_at (machines_of plan) guest) (own_steps guest plan.turns)
+
+-- it can be saved, unless it has made too many steps
+abbrev pub IsResumable : Plan → ℕ → Type 0
+IsResumable plan guest =
+    (machine_after plan guest).platform.steps ≤ 2 ^ 60 → IsSavable (machine_after plan guest)

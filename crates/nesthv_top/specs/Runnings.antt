@@ -1,7 +1,7 @@
 -- What a run of a plan leaves: its account, and the report of machines.
-use Rattle.std.specs.Prelude.{◌≡◌, ℕ, ◌+◌, ◌^◌, ◌<◌, ◌≤◌, zero, suc, ◌==◌, Bool, true, false, List, [], ◌∷◌, ◌++◌, length, map, Result, Ok, Err}
+use Rattle.std.specs.Prelude.{◌≡◌, ℕ, ◌+◌, ◌^◌, ◌<◌, ◌≤◌, zero, suc, ◌==◌, Bool, true, false, if◌then◌else◌, List, [], ◌∷◌, ◌++◌, length, map, Option, Some, None, Result, Ok, Err}
 use Rattle.std.specs.List.{All, count_by, range_with_len}
-use Rattle.command_line.specs.Commands.{FileCommand, Run, Replay, Check}
+use Rattle.command_line.specs.Commands.{FileCommand, Run, Replay, Check, Save}
 use Rattle.guest_turns.specs.Hosted.{Hosted, count_set, is_set, part_at}
 use Rattle.guest_turns.specs.Moves.{emptied}
 use Rattle.guest_turns.specs.TurnLists.{entries_for, turn_events}
@@ -55,6 +55,11 @@ moves_for plan = moves_by plan.spare plan.turns
 abbrev pub own_turns : ℕ → List (ℕ × ℕ) → ℕ
 own_turns g turns = count_by (λ turn. turn.0 == g) turns
 
+-- one turn more of the guest that is kept, if one is, which no guest has: so it never retires
+abbrev pub kept_turn : Option ℕ → ℕ → ℕ
+kept_turn None g = 0
+kept_turn (Some kept) g = if kept == g then 1 else 0
+
 -- an account has room for the entries and steps of a command
 pub record HasRoomForCommand (account : Counts) : Type 0 where
   pub entries : account.entries ≤ 2 ^ 61
@@ -68,9 +73,9 @@ pub record CountsTurnsOf (machines : List Machine) (turns : List (ℕ × ℕ)) (
   pub taken_least : old.taken + plain_count (turn_events turns machines) ≤ new.taken
   pub trace : IsRaisedBy (trace_of (turn_events turns machines)) old.trace new.trace
 
--- a host as it is booted: no machine has made a step, no guest has retired, and rooms are small
+-- a host as it is booted: no machine has made many steps, no guest has retired, and rooms are small
 pub record IsReady (host : Hosted) : Type 0 where
-  pub fresh : All (λ m. m.platform.steps ≡ 0) host.machines
+  pub steps : All (λ m. m.platform.steps ≤ 2 ^ 60) host.machines
   pub active : (g : ℕ) → is_set host.retired g ≡ false
   pub rooms : All (λ m. m.entry_room ≤ 256) host.machines
 
@@ -113,9 +118,11 @@ abbrev pub IsAccountFor : {A : Type 0} → FileCommand → Plan → Result A Run
 IsAccountFor (Run config) plan result old new = IsAccountOf plan result old new
 IsAccountFor (Replay config report) plan result old new = IsAccountOf plan result old new
 IsAccountFor (Check config) plan result old new = new ≡ old
+IsAccountFor (Save config guest) plan result old new = IsAccountOf plan result old new
 
 -- the same for what is asked for: a check moves nothing
 abbrev pub IsMovedFor : {A : Type 0} → FileCommand → Plan → Result A RunEnd → ℕ → ℕ → Type 0
 IsMovedFor (Run config) plan result old new = IsMovedBy plan result old new
 IsMovedFor (Replay config report) plan result old new = IsMovedBy plan result old new
 IsMovedFor (Check config) plan result old new = new ≡ old
+IsMovedFor (Save config guest) plan result old new = IsMovedBy plan result old new

@@ -1,14 +1,15 @@
 -- What a command does before it runs, as a list of steps: each reads a file, or none, and then tests.
-use Rattle.std.specs.Prelude.{◌≡◌, ⊤, ℕ, ◌+◌, ◌<◌, ◌≤◌, ◌⊎◌, List, [], ◌∷◌, ◌++◌, length, map, Option, Some, None, option_map, Result, Ok, Err, true}
+use Rattle.std.specs.Prelude.{◌≡◌, ⊤, ℕ, ◌+◌, ◌<◌, ◌≤◌, ◌⊎◌, List, [], ◌∷◌, ◌++◌, length, map, Option, Some, None, option_map, Result, Ok, Err, Bool, true}
 use Rattle.outside.specs.Asks.{Ask}
 use Rattle.run_config.specs.declared.faults.ConfigFault.{ConfigFault}
 use Rattle.run_config.specs.Tests.{first_fault}
 use Rattle.nesthv_top.specs.declared.ends.LoadEnd.{LoadEnd}
 use Rattle.nesthv_top.specs.declared.ends.LoadEnd.TheVariants.{Refused, ReadFault, NoMemory}
 
--- a read, if there is one, and the fault that the test after it finds
+-- a read, if there is one, whether the test after it takes memory, and the fault that the test finds
 pub record Step : Type 0 where
   pub ask : Option Ask
+  pub takes : Bool
   pub fault : Option ConfigFault
 
 -- the first fault of steps
@@ -49,15 +50,21 @@ pub record ArePassed (steps : List Step) (made : ℕ) (before : Option (List Ask
 pub record IsFailed (steps : List Step) (made n : ℕ) (before after : Option (List Ask)) : Type 0 where
   pub passed : List Step
   pub failing : Ask
+  pub takes : Bool
   pub found : Option ConfigFault
   pub rest : List Step
-  pub split : steps ≡ passed ++ record { ask = Some failing; fault = found } ∷ rest
+  pub split : steps ≡ passed ++ record { ask = Some failing; takes = takes; fault = found } ∷ rest
   pub fault : fault_in passed ≡ None
   pub asked : AskedMore (asks_in passed ++ record failing { failed = true } ∷ []) before after
   pub number : n ≡ made + length (asks_in passed) + 1
 
--- some of the steps were passed, n reads of the command were made, and memory was wanting; from the second
--- read on, only where a read was left
+-- the test of the first of these steps takes memory
+abbrev pub TakesMemory : List Step → Type 0
+TakesMemory [] = ⊥
+TakesMemory (step ∷ rest) = step.takes ≡ true
+
+-- some of the steps were passed, n reads of the command were made, and memory was wanting; from the first
+-- read on, only where a read was left, or a test that takes memory was the next step
 pub record IsShort (steps : List Step) (made n : ℕ) (before after : Option (List Ask)) : Type 0 where
   pub passed : List Step
   pub rest : List Step
@@ -65,9 +72,9 @@ pub record IsShort (steps : List Step) (made n : ℕ) (before after : Option (Li
   pub fault : fault_in passed ≡ None
   pub asked : AskedMore (asks_in passed) before after
   pub number : n ≡ made + length (asks_in passed)
-  pub left : 2 ≤ n → 1 ≤ length (asks_in rest)
+  pub left : 1 ≤ n → (1 ≤ length (asks_in rest)) ⊎ TakesMemory rest
 
--- memory was wanting after n reads of the command: before a read that was left, or after all steps
+-- memory was wanting after n reads of the command: before all steps were passed, or after that
 abbrev pub IsWanting : List Step → ℕ → Option (List Ask) → Option (List Ask) → Type 0
 IsWanting steps n before after = IsShort steps 0 n before after ⊎ ArePassed steps 0 before n after
 

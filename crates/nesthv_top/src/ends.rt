@@ -4,7 +4,9 @@ ghost use Rattle.std.specs.Prelude.{◌≡◌};
 ghost use Rattle.nesthv_top.specs.Ends.{ended_by};
 ghost use Rattle.nesthv_top.specs.declared.ends.RunEnd.TheVariants as run_end;
 
-use machine_defs::{Bytes, GuestSpec};
+use guest_save::Saved;
+use guest_turns::Source;
+use machine_defs::Bytes;
 use no_memory::NoMemory;
 use outside::SinkFault;
 use run_config::{Config, ConfigFault};
@@ -17,28 +19,38 @@ pub enum LoadEnd {
     NoMemory(u64),
 }
 
-/// What was read for a guest: its image, and the file that its inputs come from, which is nothing where they
-/// come from none.
+/// What was read for a fresh guest: its image, and the file that its inputs come from, which is nothing where
+/// they come from none.
 #[derive(Drop)]
-pub struct GuestFiles {
+pub struct FreshFiles {
     pub image: Bytes,
     pub records: Bytes,
 }
 
-/// All that was read for a command: its configuration, what was read for each guest, and the stored report
-/// that it names, which is nothing where it names none.
+/// What was read for a guest: its files, or its saved machine.
+#[derive(Drop)]
+pub enum GuestFiles {
+    Fresh(FreshFiles),
+    Saved(Saved),
+}
+
+/// All that was read for a command: its configuration, what was read for each guest, the frames that all
+/// need, and the stored report that it names, which is nothing where it names none.
 #[derive(Drop)]
 pub struct FilesRead {
     pub config: Config,
     pub guests: Vec<GuestFiles>,
+    pub frames: u64,
     pub stored: Vec<u8>,
 }
 
-/// Guests to be run, with the configuration that says their names and their turns.
+/// Where the guests come from that are to be run, with the configuration that says their names and their
+/// turns, and the frames that they and the spare blocks need.
 #[derive(Drop)]
 pub struct Job {
     pub config: Config,
-    pub guests: Vec<GuestSpec>,
+    pub sources: Vec<Source>,
+    pub frames: u64,
 }
 
 /// What a command needs: its job, and what was read of the stored report that it names, which is nothing

@@ -18,7 +18,8 @@ pub fn tell<E: Sink>(ended: Ended, err: &mut E)
     match ended {
         Ended::Done | Ended::Differs => {}
         Ended::NoCommand => put_line(
-            b"nesthv: usage: run CONFIG | replay CONFIG REPORT | check CONFIG | work SEED SIZE\n",
+            b"nesthv: usage: run CONFIG | replay CONFIG REPORT | check CONFIG | work SEED SIZE \
+              | save CONFIG GUEST\n",
             err,
         ),
         Ended::Refused(fault) => put_line(configuration_line(fault).as_slice(), err),

@@ -1,33 +1,40 @@
-// What a command names is read and tested, and then its guests are made.
+// What a command names is read and tested, and then the sources of its guests are made.
 
-ghost use Rattle.std.specs.Prelude.{◌≡◌, ◌^◌, ◌<◌, ◌≤◌, [], ◌∷◌, Some, Ok, length, IfOk, OnOk};
+ghost use Rattle.std.specs.Prelude.{◌≡◌, ◌*◌, ◌^◌, ◌<◌, ◌≤◌, [], ◌∷◌, Some, Ok, length, IfOk, OnOk};
 ghost use Rattle.std.specs.List.{All};
 ghost use Rattle.command_line.specs.Commands.{OnFiles};
 ghost use Rattle.command_line.specs.Seen.{file_command_seen};
-ghost use Rattle.guest_turns.specs.Limits.{IsBootable};
+ghost use Rattle.frame_split.specs.Shares.{frames_of_all};
+ghost use Rattle.guest_save.specs.Savable.{IsSavable};
+ghost use Rattle.guest_specs.specs.Needs.{IsNeed};
+ghost use Rattle.guest_turns.specs.Sources.{need_of_source, needs_of_sources};
+ghost use Rattle.nesthv_top.specs.declared.ends.GuestFiles.TheVariants.{Fresh};
 ghost use Rattle.outside.specs.Faults.{Rose};
 ghost use Rattle.outside.specs.Files.{Files};
 ghost use Rattle.run_config.specs.Accept.{accept};
-ghost use Rattle.run_config.specs.Configurations.{IsGuestWithin, IsWithinLimits};
-ghost use Rattle.nesthv_top.specs.Contents.{config_name, config_of, guest_ram_size, image_of, inputs_from, records_in, stored_of};
+ghost use Rattle.run_config.specs.Configurations.{IsFreshWithin, IsGuestWithin, IsWithinLimits};
+ghost use Rattle.nesthv_top.specs.Contents.{config_name, config_of, guest_of, guest_ram_size, image_of, inputs_from, records_in, resumed_of, stored_of};
 ghost use Rattle.nesthv_top.specs.Endings.{IsFirstRead, SaysOfReads};
 ghost use Rattle.nesthv_top.specs.Ends.{ended_of, IfReadFailed, Leaves};
-ghost use Rattle.nesthv_top.specs.Loads.{all_read_for, config_frames, frames_by, guest_with, guests_with, need_by, read_for, AreFitting, AreGood, IsAllRead, IsFitting, IsTested};
+ghost use Rattle.nesthv_top.specs.Loads.{all_read_for, frames_read, fresh_in, fresh_read, read_for, source_with, sources_with, AreFitting, AreGood, FitsOrigin, IsAllRead, IsFitting, IsFreshFitting, IsTested};
 ghost use Rattle.nesthv_top.specs.Plans.{planned};
-ghost use Rattle.nesthv_top.specs.Reads.{config_steps, file_steps, frames_fault, guest_steps, guests_steps, image_step, input_steps, report_steps};
+ghost use Rattle.nesthv_top.specs.Reads.{config_steps, file_steps, frames_fault, fresh_steps, guest_fault, guest_steps, guests_steps, image_step, input_steps, report_steps, saved_steps};
 ghost use Rattle.nesthv_top.specs.Seen.{loaded_plan, IsJob};
 ghost use Rattle.nesthv_top.specs.Steps.{ArePassed, EndAs};
 
-use crate::ends::{FilesRead, GuestFiles, Job, LoadEnd, Loaded};
+use crate::ends::{FilesRead, FreshFiles, GuestFiles, Job, LoadEnd, Loaded};
 use crate::reads::Reads;
 use arch_defs::{BLOCK_FRAMES, BLOCK_SIZE, MOST_FRAMES};
 use command_line::FileRequest;
+use guest_save::{SaveEnd, Saved};
 use guest_specs::Need;
+use guest_turns::Source;
 use machine_defs::{Bytes, GuestSpec, Inputs, Name};
 use no_memory::NoMemory;
 use outside::Store;
 use run_config::{
-    Config, ConfigFault, GuestSettings, InputEnd, InputSource, ReadEnd, bad_record, inputs,
+    Config, ConfigFault, FileName, FreshGuest, GuestSettings, InputEnd, InputSource, Origin, ReadEnd,
+    bad_record, inputs,
 };
 use std::alloc::Global;
 
@@ -36,6 +43,9 @@ const CONFIG_MOST: u64 = 65_537;
 
 // At most how many bytes of a file of inputs are asked for: one more than 65,536 records have.
 const RECORDS_MOST: u64 = 589_825;
+
+// At most how many bytes of a saved machine are asked for: one more than the longest form of one has.
+const SAVED_MOST: u64 = 68_797_153;
 
 // At most how many bytes of a stored report are asked for, which are those that it is compared by.
 const REPORT_MOST: u64 = 33_554_432;
@@ -64,11 +74,16 @@ pub fn load<S: Store>(
     let FilesRead {
         config,
         guests,
+        frames,
         stored,
     } = read_files(alloc, request, reads, store)?;
-    match guests_made(alloc, config.guests(), guests) {
-        Ok(guests) => Ok(Loaded {
-            job: Job { config, guests },
+    match sources_made(alloc, config.guests(), guests) {
+        Ok(sources) => Ok(Loaded {
+            job: Job {
+                config,
+                sources,
+                frames,
+            },
             stored,
         }),
         Err(NoMemory) => Err(reads.no_memory()),
@@ -97,11 +112,13 @@ fn read_files<S: Store>(
     let config = read_config(alloc, request, reads, store)?;
     let guests = read_guests(alloc, config.guests(), reads, store)?;
     let stored = read_stored(alloc, request, reads, store)?;
-    match frames_fault(&config) {
+    let frames = all_frames(&config, guests.as_slice());
+    match frames_fault(frames) {
         Some(fault) => Err(LoadEnd::Refused(fault)),
         None => Ok(FilesRead {
             config,
             guests,
+            frames,
             stored,
         }),
     }
@@ -114,7 +131,8 @@ fn config_name<'a>(request: FileRequest<'a>) -> &'a str
     match request {
         FileRequest::Run { config }
         | FileRequest::Check { config }
-        | FileRequest::Replay { config, .. } => config,
+        | FileRequest::Replay { config, .. }
+        | FileRequest::Save { config, .. } => config,
     }
 }
 
@@ -139,9 +157,24 @@ fn read_config<S: Store>(
 {
     let bytes = reads.read(alloc, store, config_name(request), CONFIG_MOST)?;
     match run_config::read(alloc, bytes.as_slice()) {
-        Ok(config) => Ok(config),
+        Ok(config) => match guest_fault(request, &config) {
+            None => Ok(config),
+            Some(fault) => Err(LoadEnd::Refused(fault)),
+        },
         Err(ReadEnd::Refused(fault)) => Err(LoadEnd::Refused(fault)),
         Err(ReadEnd::NoMemory) => Err(reads.no_memory()),
+    }
+}
+
+// The fault of a command that saves a guest which the configuration does not have.
+fn guest_fault(request: FileRequest<'_>, config: &Config) -> Option<ConfigFault>
+    ensures { result ≡ guest_fault (file_command_seen request.entry) (Ok config.now) }
+{
+    match request {
+        FileRequest::Save { guest, .. } if guest as usize >= config.guests().len() => {
+            Some(ConfigFault::Guest { value: guest })
+        }
+        _ => None,
     }
 }
 
@@ -191,31 +224,61 @@ fn read_guest<S: Store>(
     ensures fitting { IfOk result (IsFitting settings.now) }
     ensures leaves { Leaves S.Store 2 result store.old store.new reads.old.made reads.new.made }
 {
-    let image = read_image(alloc, settings, guest, reads, store)?;
-    let records = read_records(alloc, &settings.input, guest, reads, store)?;
-    Ok(GuestFiles { image, records })
+    match &settings.origin {
+        Origin::Fresh(fresh) => {
+            let files = read_fresh(alloc, fresh, guest, reads, store)?;
+            Ok(GuestFiles::Fresh(files))
+        }
+        Origin::Saved(name) => {
+            let saved = read_saved(alloc, name, guest, reads, store)?;
+            Ok(GuestFiles::Saved(saved))
+        }
+    }
 }
 
-// Reads the image of a guest of this number.
+// Reads the files of a fresh guest of this number.
+fn read_fresh<S: Store>(
+    alloc: Global,
+    fresh: &FreshGuest,
+    guest: u32,
+    reads: &mut Reads,
+    store: &mut S,
+) -> Result<FreshFiles, LoadEnd>
+    requires few { reads.old.made ≤ 32 }
+    requires limits { IsFreshWithin fresh.now }
+    ensures ends { (files : Files) → S.files store.old ≡ Some files → EndAs
+        (fresh_steps files guest fresh.now) reads.old.made (S.asked store.old) result
+        reads.new.made (S.asked store.new) }
+    ensures read { (files : Files) → S.files store.old ≡ Some files
+        → IfOk result (λ read. read ≡ fresh_read files fresh.now) }
+    ensures fitting { IfOk result (IsFreshFitting fresh.now) }
+    ensures leaves { Leaves S.Store 2 result store.old store.new reads.old.made reads.new.made }
+{
+    let image = read_image(alloc, fresh, guest, reads, store)?;
+    let records = read_records(alloc, &fresh.input, guest, reads, store)?;
+    Ok(FreshFiles { image, records })
+}
+
+// Reads the image of a fresh guest of this number.
 fn read_image<S: Store>(
     alloc: Global,
-    settings: &GuestSettings,
+    fresh: &FreshGuest,
     guest: u32,
     reads: &mut Reads,
     store: &mut S,
 ) -> Result<Bytes, LoadEnd>
     requires few { reads.old.made ≤ 32 }
-    requires limits { IsGuestWithin settings.now }
+    requires limits { IsFreshWithin fresh.now }
     ensures ends { (files : Files) → S.files store.old ≡ Some files → EndAs
-        (image_step files guest settings.now ∷ []) reads.old.made (S.asked store.old) result
+        (image_step files guest fresh.now ∷ []) reads.old.made (S.asked store.old) result
         reads.new.made (S.asked store.new) }
     ensures image { (files : Files) → S.files store.old ≡ Some files
-        → IfOk result (λ image. image ≡ image_of files settings.now) }
-    ensures fits { IfOk result (λ image. length image ≤ guest_ram_size settings.now) }
+        → IfOk result (λ image. image ≡ image_of files fresh.now) }
+    ensures fits { IfOk result (λ image. length image ≤ guest_ram_size fresh.now) }
     ensures leaves { Leaves S.Store 1 result store.old store.new reads.old.made reads.new.made }
 {
-    let size = settings.blocks * BLOCK_SIZE;
-    let bytes = reads.read(alloc, store, settings.image.as_str(), size + 1)?;
+    let size = fresh.blocks * BLOCK_SIZE;
+    let bytes = reads.read(alloc, store, fresh.image.as_str(), size + 1)?;
     if bytes.len() as u64 <= size {
         Ok(Bytes::from_vec(bytes))
     } else {
@@ -223,6 +286,31 @@ fn read_image<S: Store>(
             guest,
             bytes: bytes.len() as u32,
         }))
+    }
+}
+
+// Reads the saved machine of a resumed guest of this number.
+fn read_saved<S: Store>(
+    alloc: Global,
+    name: &FileName,
+    guest: u32,
+    reads: &mut Reads,
+    store: &mut S,
+) -> Result<Saved, LoadEnd>
+    requires few { reads.old.made ≤ 32 }
+    ensures ends { (files : Files) → S.files store.old ≡ Some files → EndAs
+        (saved_steps files guest name.now) reads.old.made (S.asked store.old) result
+        reads.new.made (S.asked store.new) }
+    ensures machine { (files : Files) → S.files store.old ≡ Some files
+        → IfOk result (λ saved. saved ≡ resumed_of files name.now) }
+    ensures savable { IfOk result IsSavable }
+    ensures leaves { Leaves S.Store 1 result store.old store.new reads.old.made reads.new.made }
+{
+    let bytes = reads.read(alloc, store, name.as_str(), SAVED_MOST)?;
+    match guest_save::read(alloc, bytes.as_slice()) {
+        Ok(saved) => Ok(saved),
+        Err(SaveEnd::Bad) => Err(LoadEnd::Refused(ConfigFault::Saved { guest })),
+        Err(SaveEnd::NoMemory) => Err(reads.no_memory()),
     }
 }
 
@@ -268,95 +356,146 @@ fn read_stored<S: Store>(
     ensures leaves { Leaves S.Store 1 result store.old store.new reads.old.made reads.new.made }
 {
     match request {
-        FileRequest::Run { .. } | FileRequest::Check { .. } => Ok(Vec::new(alloc)),
+        FileRequest::Run { .. } | FileRequest::Check { .. } | FileRequest::Save { .. } => {
+            Ok(Vec::new(alloc))
+        }
         FileRequest::Replay { report, .. } => reads.read(alloc, store, report, REPORT_MOST),
     }
 }
 
-// The fault of a configuration that needs more frames than machine memory has.
-fn frames_fault(config: &Config) -> Option<ConfigFault>
-    ensures { result ≡ frames_fault (config_frames config.now) }
+// The fault of guests that need more frames than machine memory has.
+fn frames_fault(frames: u64) -> Option<ConfigFault>
+    requires { frames ≤ 2 ^ 21 }
+    ensures { result ≡ frames_fault frames }
 {
-    let sum = config_frames(config);
-    if sum <= MOST_FRAMES {
+    if frames <= MOST_FRAMES {
         None
     } else {
-        Some(ConfigFault::Frames { sum: sum as u32 })
+        Some(ConfigFault::Frames { sum: frames as u32 })
     }
 }
 
-/// The frames of machine memory that a configuration needs, 512 for each spare block.
-pub fn config_frames(config: &Config) -> u64
-    ensures frames { result ≡ config_frames config.now }
+// The frames of machine memory that the guests and the spare blocks of a configuration need.
+fn all_frames(config: &Config, read: &[GuestFiles]) -> u64
+    requires limits { IsWithinLimits config.now }
+    requires fitting { AreFitting config.now.guests read.now }
+    ensures frames { result ≡ frames_read config.now.guests read.now config.now.spare }
     ensures most { result ≤ 2 ^ 21 }
 {
-    frames_for(config.guests()) + BLOCK_FRAMES * config.spare()
+    frames_for(config.guests(), read) + BLOCK_FRAMES * config.spare()
 }
 
 // The frames of machine memory that guests need.
-fn frames_for(settings: &[GuestSettings]) -> u64
+fn frames_for(settings: &[GuestSettings], read: &[GuestFiles]) -> u64
     requires few { length settings.now ≤ 16 }
     requires each { All IsGuestWithin settings.now }
-    ensures frames { result ≡ frames_by settings.now }
+    requires fitting { AreFitting settings.now read.now }
+    ensures frames { result ≡ frames_of_all (needs_of_sources (sources_with settings.now read.now)) }
     ensures most { result ≤ 2 ^ 20 }
 {
     let mut sum = 0;
-    for guest in settings {
-        sum += need(guest).frames();
+    for i in 0..settings.len() {
+        sum += need(&settings[i], &read[i]).frames();
     }
     sum
 }
 
-// What a guest of these settings needs of machine memory.
-fn need(settings: &GuestSettings) -> Need
-    ensures { result ≡ need_by settings.now }
+// What a guest of these settings needs of machine memory, with what was read for it.
+fn need(settings: &GuestSettings, read: &GuestFiles) -> Need
+    requires limits { IsGuestWithin settings.now }
+    requires fitting { IsFitting settings.now read.now }
+    ensures few { IsNeed result }
+    ensures need { result ≡ need_of_source (source_with settings.now.name settings.now.origin read.now) }
 {
-    Need {
-        blocks: settings.blocks,
-        spaces: settings.spaces,
-        entries: settings.entries,
+    match read {
+        GuestFiles::Fresh(_) => fresh_need(&settings.origin),
+        GuestFiles::Saved(saved) => {
+            saved.can_be_saved();
+            saved.need()
+        }
     }
 }
 
-// The guests of these settings, with what was read for each.
-fn guests_made(
+// What a fresh guest needs.
+fn fresh_need(origin: &Origin) -> Need
+    ensures blocks { result.blocks ≡ (fresh_in origin.now).blocks }
+    ensures spaces { result.spaces ≡ (fresh_in origin.now).spaces }
+    ensures entries { result.entries ≡ (fresh_in origin.now).entries }
+{
+    match origin {
+        Origin::Fresh(fresh) => Need {
+            blocks: fresh.blocks,
+            spaces: fresh.spaces,
+            entries: fresh.entries,
+        },
+        Origin::Saved(_) => Need {
+            blocks: 0,
+            spaces: 0,
+            entries: 0,
+        },
+    }
+}
+
+// Where guests of these settings come from, with what was read for each.
+fn sources_made(
     alloc: Global,
     settings: &[GuestSettings],
     read: Vec<GuestFiles>,
-) -> Result<Vec<GuestSpec>, NoMemory>
+) -> Result<Vec<Source>, NoMemory>
     requires few { length settings.now ≤ 16 }
     requires fitting { AreFitting settings.now read.items }
-    ensures { IfOk result (λ guests. guests.items ≡ guests_with settings.now read.items) }
+    ensures { IfOk result (λ sources. sources.items ≡ sources_with settings.now read.items) }
 {
-    let mut guests = Vec::with_capacity(alloc, settings.len())?;
+    let mut sources = Vec::with_capacity(alloc, settings.len())?;
     let mut i = 0;
     for files in read {
-        guests.push(guest_made(alloc, &settings[i], files)?)?;
+        sources.push(source_made(alloc, &settings[i], files)?)?;
         i += 1;
     }
-    Ok(guests)
+    Ok(sources)
 }
 
-// The guest of these settings, with what was read for it.
-fn guest_made(
+// Where a guest of these settings comes from, with what was read for it.
+fn source_made(
     alloc: Global,
     settings: &GuestSettings,
     read: GuestFiles,
-) -> Result<GuestSpec, NoMemory>
-    requires fitting { IsFitting settings.now read }
-    ensures { IfOk result (λ guest. guest ≡ guest_with settings.now read) }
+) -> Result<Source, NoMemory>
+    requires { IsFitting settings.now read }
+    ensures { IfOk result (λ source. source ≡ source_with settings.now.name settings.now.origin read) }
 {
-    let name = Vec::from_slice(alloc, settings.name.as_slice())?;
-    let inputs = inputs_made(alloc, &settings.input, read.records.as_slice())?;
-    Ok(GuestSpec {
-        name: Name::from_vec(name),
-        image: read.image,
-        blocks: settings.blocks,
-        spaces: settings.spaces,
-        entries: settings.entries,
-        console: settings.console,
-        inputs: Inputs::from_vec(inputs),
-    })
+    let name = Name::from_vec(Vec::from_slice(alloc, settings.name.as_slice())?);
+    match read {
+        GuestFiles::Fresh(files) => fresh_made(alloc, name, &settings.origin, files),
+        GuestFiles::Saved(saved) => Ok(Source::Kept(name, saved)),
+    }
+}
+
+// The fresh guest of this name, with what was read for it.
+fn fresh_made(
+    alloc: Global,
+    name: Name,
+    origin: &Origin,
+    read: FreshFiles,
+) -> Result<Source, NoMemory>
+    requires { FitsOrigin origin.now (Fresh read) }
+    ensures { IfOk result (λ source. source ≡ source_with name origin.now (Fresh read)) }
+{
+    match origin {
+        Origin::Fresh(fresh) => {
+            let inputs = inputs_made(alloc, &fresh.input, read.records.as_slice())?;
+            Ok(Source::Fresh(GuestSpec {
+                name,
+                image: read.image,
+                blocks: fresh.blocks,
+                spaces: fresh.spaces,
+                entries: fresh.entries,
+                console: fresh.console,
+                inputs: Inputs::from_vec(inputs),
+            }))
+        }
+        Origin::Saved(_) => unreachable!(),
+    }
 }
 
 // The inputs that come from here, where these are the bytes of the file.

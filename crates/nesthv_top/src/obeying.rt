@@ -1,11 +1,11 @@
 // From a command to its end.
 
-ghost use Rattle.std.specs.Prelude.{◌^◌, ◌≡◌, ◌≤◌, Some, IfOk, IsErrOf, length};
+ghost use Rattle.std.specs.Prelude.{◌^◌, ◌≡◌, ◌<◌, ◌≤◌, Some, IfOk, IsErrOf, OnOk, length};
 ghost use Rattle.command_line.specs.Commands.{OnFiles, command_of};
 ghost use Rattle.command_line.specs.Seen.{file_command_seen};
 ghost use Rattle.outside.specs.Faults.{Rose};
-ghost use Rattle.nesthv_top.specs.Endings.{IfReadFault, IfRun, IfWriteFault, IsOfCommand, SaysOfAccount, SaysOfCause, SaysOfMoves, SaysOfOut, SaysOfReads};
-ghost use Rattle.nesthv_top.specs.Plans.{AllRunAsWritten};
+ghost use Rattle.nesthv_top.specs.Endings.{IfReadFault, IfRun, IfWriteFault, IfSave, IsOfCommand, SaysOfAccount, SaysOfCause, SaysOfMoves, SaysOfOut, SaysOfReads, SaysOfSaved};
+ghost use Rattle.nesthv_top.specs.Plans.{AllRunAsWritten, IsResumable};
 ghost use Rattle.nesthv_top.specs.Runnings.{HasRoomForCommand, IsAccountFor, IsMovedFor};
 ghost use Rattle.nesthv_top.specs.Seen.{plan_seen, IsJob};
 ghost use Rattle.nesthv_top.specs.Texts.{found_with, text_with};
@@ -16,7 +16,7 @@ use crate::ends::{Ended, Job, Loaded, RunEnd};
 use crate::loading::load;
 use crate::reads::Reads;
 use crate::replaying::replay;
-use crate::running::run;
+use crate::running::{run, save};
 use crate::works::work;
 use command_line::{FileRequest, Request, request_of};
 use guest_turns::Moves;
@@ -42,6 +42,7 @@ pub fn obey<S: Store, O: Sink>(
     ensures out { SaysOfOut O.Sink (S.files store.old) (command_of words.now) result out.old out.new }
     ensures account { SaysOfAccount (S.files store.old) (command_of words.now) result tally.old tally.new }
     ensures moves { SaysOfMoves (S.files store.old) (command_of words.now) result moves.old moves.new }
+    ensures saved { SaysOfSaved (S.files store.old) (command_of words.now) result }
 {
     match request_of(alloc, words) {
         Ok(Some(Request::OnFiles(request))) => answer(alloc, request, store, out, tally, moves),
@@ -78,6 +79,8 @@ fn answer<S: Store, O: Sink>(
         result tally.old tally.new }
     ensures moves { SaysOfMoves (S.files store.old) (Some (OnFiles (file_command_seen request.entry)))
         result moves.old moves.new }
+    ensures saved { SaysOfSaved (S.files store.old) (Some (OnFiles (file_command_seen request.entry)))
+        result }
 {
     let mut reads = Reads::new();
     let Loaded { job, stored } = match load(alloc, request, &mut reads, store) {
@@ -103,6 +106,8 @@ fn perform<O: Sink>(
     moves: &mut Moves,
 ) -> Result<Verdict, RunEnd>
     requires job { IsJob job }
+    requires guest { IfSave (OnFiles (file_command_seen request))
+        (λ guest. guest < length job.sources.items) }
     requires room { HasRoomForCommand tally.old }
     requires moves { moves.old ≤ 2 ^ 61 }
 
@@ -115,6 +120,8 @@ fn perform<O: Sink>(
     ensures moved { IsMovedFor (file_command_seen request.entry) (plan_seen job) result
         moves.old moves.new }
     ensures machines { IfRun (OnFiles (file_command_seen request.entry)) (AllRunAsWritten (plan_seen job)) }
+    ensures saved { OnOk result
+        (IfSave (OnFiles (file_command_seen request.entry)) (IsResumable (plan_seen job))) }
 {
     match request {
         FileRequest::Run { .. } => {
@@ -124,6 +131,10 @@ fn perform<O: Sink>(
         FileRequest::Replay { .. } => replay(alloc, job, stored, out, tally, moves),
         FileRequest::Check { .. } => {
             check(&job, out)?;
+            Ok(Verdict::Same)
+        }
+        FileRequest::Save { guest, .. } => {
+            save(alloc, job, guest, out, tally, moves)?;
             Ok(Verdict::Same)
         }
     }

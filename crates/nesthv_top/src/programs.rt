@@ -2,7 +2,7 @@
 
 ghost use Rattle.std.specs.Prelude.{◌≤◌, ◌^◌, ◌≡◌, IfOk, OnErr};
 ghost use Rattle.command_line.specs.Commands.{command_of};
-ghost use Rattle.nesthv_top.specs.Endings.{SaysOfAccount, SaysOfCause, SaysOfErr, SaysOfMoves, SaysOfOut, SaysOfReads};
+ghost use Rattle.nesthv_top.specs.Endings.{SaysOfAccount, SaysOfCause, SaysOfErr, SaysOfMoves, SaysOfOut, SaysOfReads, SaysOfSaved};
 ghost use Rattle.nesthv_top.specs.Lines.{memory_line};
 ghost use Rattle.nesthv_top.specs.Runnings.{HasRoomForCommand};
 ghost use Rattle.nesthv_top.specs.Statuses.{IsStatusOf};
@@ -38,7 +38,8 @@ pub fn program<S: Store, O: Sink, E: Sink>(
         × SaysOfOut O.Sink (S.files store.old) (command_of words.items) ended out.old out.new
         × SaysOfErr E.Sink ended err.old err.new
         × SaysOfAccount (S.files store.old) (command_of words.items) ended tally.old tally.new
-        × SaysOfMoves (S.files store.old) (command_of words.items) ended moves.old moves.new)) }
+        × SaysOfMoves (S.files store.old) (command_of words.items) ended moves.old moves.new
+        × SaysOfSaved (S.files store.old) (command_of words.items) ended)) }
 
     // Without words.
     ensures status { OnErr words (result ≡ 5) }

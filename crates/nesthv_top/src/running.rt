@@ -1,25 +1,28 @@
-// From a job to its report.
+// From a job to its report, or to the form of one of its guests.
 
-ghost use Rattle.std.specs.Prelude.{◌≡◌, ℕ, ◌+◌, ◌*◌, ◌%◌, ◌^◌, ◌≤◌, ◌<◌, false, get_or, is_ok, length, map, IfOk, IsErrOf, OnOk, OnErr};
+ghost use Rattle.std.specs.Prelude.{◌≡◌, ℕ, ◌+◌, ◌%◌, ◌^◌, ◌≤◌, ◌<◌, false, get_or, is_ok, length, IfOk, IfSome, IsErrOf, OnOk, OnErr};
 ghost use Rattle.std.specs.List.{All};
-ghost use Rattle.machine_defs.specs.Machine.{start};
 ghost use Rattle.outside.specs.Faults.{Rose};
 ghost use Rattle.outside.specs.Pieces.{Puts};
 ghost use Rattle.arch_defs.specs.Frames.{most_frames};
 ghost use Rattle.guest_turns.specs.Hosted.{count_set, is_set, lowest, part_at};
-ghost use Rattle.guest_turns.specs.Limits.{AreBootable, frames_for};
+ghost use Rattle.frame_split.specs.Shares.{frames_with};
+ghost use Rattle.guest_save.specs.Forms.{form};
 ghost use Rattle.guest_turns.specs.Moves.{HasMoved};
+ghost use Rattle.guest_turns.specs.Sources.{AreBootableSources, machines_of_sources, needs_of_sources};
 ghost use Rattle.guest_turns.specs.TurnLists.{with_turns};
 ghost use Rattle.run_config.specs.Configurations.{IsGuestWithin, IsTurnWithin};
-ghost use Rattle.nesthv_top.specs.Plans.{AllRunAsWritten, report_of};
-ghost use Rattle.nesthv_top.specs.Runnings.{hosted_as, moves_by, own_turns, sections_of, CanMove, CountsTurns, CountsTurnsOf, HasRoomForCommand, HaveBlocks, IsAccountOf, IsMovedBy, IsReady};
+ghost use Rattle.nesthv_top.specs.Plans.{AllRunAsWritten, IsResumable, machine_after, report_of};
+ghost use Rattle.nesthv_top.specs.Runnings.{hosted_as, kept_turn, moves_by, own_turns, sections_of, CanMove, CountsTurns, CountsTurnsOf, HasRoomForCommand, HaveBlocks, IsAccountOf, IsMovedBy, IsReady};
 ghost use Rattle.nesthv_top.specs.Seen.{names_in, plan_seen, plan_with, IsJob};
 ghost use Rattle.nesthv_top.specs.Written.{PutsText, Writes};
 
 use crate::ends::{Job, RunEnd};
-use guest_turns::{Host, MoveFault, Moves};
-use machine_defs::GuestSpec;
-use machine_laws::{fills_suffice, runs_are_architectural, runs_are_fresh};
+use guest_save::saved_machines_go_on;
+use guest_turns::{Host, MoveFault, Moves, Source};
+use machine_laws::{
+    fills_suffice, machines_stay_orderly, runs_are_architectural, runs_are_fresh,
+};
 use no_memory::NoMemory;
 use outside::{Sink, SinkFault};
 use report::{GuestLine, section};
@@ -47,53 +50,98 @@ pub fn run<O: Sink>(
     ensures moved { IsMovedBy (plan_seen job) result moves.old moves.new }
     ensures machines { AllRunAsWritten (plan_seen job) }
 {
-    let Job { config, guests } = job;
+    let Job {
+        config, sources, ..
+    } = job;
     let host = hosted(
         alloc,
-        guests,
+        sources,
         config.turns().as_slice(),
         config.spare(),
+        None,
         tally,
         moves,
     )?;
     Ok(put_sections(&host, config.guests(), out)?)
 }
 
+/// Runs a job's guests, each for its turns, and puts the form of one of them.
+pub fn save<O: Sink>(
+    alloc: Global,
+    job: Job,
+    guest: u32,
+    out: &mut O,
+    tally: &mut Tally,
+    moves: &mut Moves,
+) -> Result<(), RunEnd>
+    requires job { IsJob job }
+    requires guest { guest < length job.sources.items }
+    requires room { HasRoomForCommand tally.old }
+    requires moves { moves.old ≤ 2 ^ 61 }
+
+    ensures out { Writes O.Sink result out.old out.new (form (machine_after (plan_seen job) guest)) }
+    ensures account { IsAccountOf (plan_seen job) result tally.old tally.new }
+    ensures moved { IsMovedBy (plan_seen job) result moves.old moves.new }
+    ensures machines { AllRunAsWritten (plan_seen job) }
+    ensures savable { OnOk result (IsResumable (plan_seen job) guest) }
+{
+    let Job {
+        config, sources, ..
+    } = job;
+    let host = hosted(
+        alloc,
+        sources,
+        config.turns().as_slice(),
+        config.spare(),
+        Some(guest),
+        tally,
+        moves,
+    )?;
+    host.can_be_saved(guest);
+    Ok(host.save(guest, out)?)
+}
+
 /// Boots guests beside so many spare blocks, and makes their turns. Where there are spare blocks, each turn
-/// moves a block of its guest, and each guest retires after the last of its turns.
+/// moves a block of its guest, and each guest but the one that is kept retires after the last of its turns.
 pub fn hosted(
     alloc: Global,
-    guests: Vec<GuestSpec>,
+    sources: Vec<Source>,
     turns: &[(u32, u64)],
     spare: u64,
+    kept: Option<u32>,
     tally: &mut Tally,
     moves: &mut Moves,
 ) -> Result<Host, NoMemory>
-    requires guests { AreBootable guests.items }
+    requires sources { AreBootableSources sources.items }
     requires spare { spare ≤ 32 }
-    requires frames { frames_for guests.items + 512 * spare ≤ most_frames }
+    requires frames { frames_with (needs_of_sources sources.items) spare ≤ most_frames }
     requires few { length turns.now ≤ 2 ^ 20 }
-    requires short { All (IsTurnWithin (length guests.items)) turns.now }
+    requires short { All (IsTurnWithin (length sources.items)) turns.now }
+    requires kept { IfSome kept (λ g. g < length sources.items) }
     requires room { HasRoomForCommand tally.old }
     requires moves { moves.old ≤ 2 ^ 61 }
 
     ensures machines { IfOk result (λ host. host.machines
-        ≡ hosted_as host.retired (with_turns turns.now (map start guests.items))) }
+        ≡ hosted_as host.retired (with_turns turns.now (machines_of_sources sources.items))) }
     ensures active { spare ≡ 0 → IfOk result (λ host. (g : ℕ) → is_set host.retired g ≡ false) }
-    ensures account { OnOk result (CountsTurns (plan_with guests.items turns.now spare) tally.old tally.new) }
+    ensures kept { IfOk result (λ host. IfSome kept (λ g. is_set host.retired g ≡ false)) }
+    ensures account { OnOk result
+        (CountsTurns (plan_with sources.items turns.now spare) tally.old tally.new) }
     ensures moved { OnOk result (moves.new ≡ moves.old + moves_by spare turns.now) }
     ensures idle { OnErr result ((tally.new ≡ tally.old) × (moves.new ≡ moves.old)) }
-    ensures written { AllRunAsWritten (plan_with guests.items turns.now spare) }
+    ensures written { AllRunAsWritten (plan_with sources.items turns.now spare) }
 {
     fills_suffice();
     runs_are_architectural();
     runs_are_fresh();
-    let mut host = Host::boot_spare(alloc, guests, spare)?;
+    machines_stay_orderly();
+    saved_machines_go_on();
+    let mut host = Host::boot_from(alloc, sources, spare)?;
     host.rooms_are_small();
     if spare == 0 {
         run_turns(&mut host, turns, tally);
     } else {
-        run_moving(&mut host, turns, tally, moves);
+        run_moving(&mut host, turns, kept, tally, moves);
     }
     Ok(host)
 }
@@ -115,21 +163,29 @@ fn run_turns(host: &mut Host, turns: &[(u32, u64)], tally: &mut Tally)
 }
 
 // Makes the turns, in order. After each a block of its guest moves, and the guest retires where that was its
-// last turn.
-fn run_moving(host: &mut Host, turns: &[(u32, u64)], tally: &mut Tally, moves: &mut Moves)
+// last turn, unless it is kept.
+fn run_moving(
+    host: &mut Host,
+    turns: &[(u32, u64)],
+    kept: Option<u32>,
+    tally: &mut Tally,
+    moves: &mut Moves,
+)
     requires ready { IsReady host.old }
     requires movable { CanMove host.old }
     requires few { length turns.now ≤ 2 ^ 20 }
     requires short { All (IsTurnWithin (length host.old.machines)) turns.now }
+    requires kept { IfSome kept (λ g. g < length host.old.machines) }
     requires room { HasRoomForCommand tally.old }
     requires moves { moves.old ≤ 2 ^ 61 }
 
     ensures machines { host.new.machines
         ≡ hosted_as host.new.retired (with_turns turns.now host.old.machines) }
+    ensures kept { IfSome kept (λ g. is_set host.new.retired g ≡ false) }
     ensures account { CountsTurnsOf host.old.machines turns.now tally.old tally.new }
     ensures moved { moves.new ≡ moves.old + length turns.now }
 {
-    let mut left = turns_left(turns);
+    let mut left = turns_left(turns, kept);
     for t in 0..turns.len() {
         let (guest, steps) = turns[t];
         host.turn(guest, steps, tally);
@@ -141,16 +197,31 @@ fn run_moving(host: &mut Host, turns: &[(u32, u64)], tally: &mut Tally, moves: &
     }
 }
 
-// How many turns each guest has.
-fn turns_left(turns: &[(u32, u64)]) -> [u32; MOST_GUESTS]
+// How many turns each guest has, and one more the guest that is kept.
+fn turns_left(turns: &[(u32, u64)], kept: Option<u32>) -> [u32; MOST_GUESTS]
     requires few { length turns.now ≤ 2 ^ 20 }
     requires guests { All (λ turn. turn.0 < 16) turns.now }
+    requires kept { IfSome kept (λ g. g < 16) }
     ensures count { length result ≡ 16 }
-    ensures turns { (g : ℕ) → g < 16 → get_or result g 0 ≡ own_turns g turns.now }
+    ensures turns { (g : ℕ) → g < 16 → get_or result g 0 ≡ own_turns g turns.now + kept_turn kept g }
 {
-    let mut left = [0; MOST_GUESTS];
+    let mut left = one_kept(kept);
     for &(guest, _) in turns {
         left[guest as usize] += 1;
+    }
+    left
+}
+
+// One turn of the guest that is kept, and none of each other.
+fn one_kept(kept: Option<u32>) -> [u32; MOST_GUESTS]
+    requires { IfSome kept (λ g. g < 16) }
+    ensures count { length result ≡ 16 }
+    ensures turns { (g : ℕ) → g < 16 → get_or result g 0 ≡ kept_turn kept g }
+{
+    let mut left = [0; MOST_GUESTS];
+    if let Some(guest) = kept {
+        left[guest as usize] = 1;
+        return left;
     }
     left
 }

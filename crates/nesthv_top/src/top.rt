@@ -4,8 +4,8 @@ ghost use Rattle.std.specs.Prelude.{◌≤◌, ◌^◌, ◌≡◌, ◌⊎◌, Is
 ghost use Rattle.command_line.specs.Commands.{command_of};
 ghost use Rattle.outside.specs.Faults.{Rose};
 ghost use Rattle.outside.specs.Pieces.{Appends};
-ghost use Rattle.nesthv_top.specs.Endings.{HasPlan, IfKnown, IfRun, IsRefusal, IsReplay, SaysOfAccount, SaysOfCause, SaysOfErr, SaysOfMoves, SaysOfOut, SaysOfReads};
-ghost use Rattle.nesthv_top.specs.Plans.{AllRunAsWritten, plan_of};
+ghost use Rattle.nesthv_top.specs.Endings.{HasPlan, IfKnown, IfRun, IsRefusal, IfSave, IsReplay, SaysOfAccount, SaysOfCause, SaysOfErr, SaysOfMoves, SaysOfOut, SaysOfReads, SaysOfSaved};
+ghost use Rattle.nesthv_top.specs.Plans.{AllRunAsWritten, IsResumable, plan_of};
 ghost use Rattle.nesthv_top.specs.Runnings.{HasRoomForCommand};
 ghost use Rattle.nesthv_top.specs.Statuses.{status_of, verdict_status, IsDone, IsNoCommand, IsStatusOf};
 ghost use Rattle.nesthv_top.specs.Texts.{found_of, text_of};
@@ -41,6 +41,10 @@ pub fn nesthv<S: Store, O: Sink, E: Sink>(
     ensures machines { IsDone result → HasPlan (S.files store.old) (command_of words.now)
         (λ files command plan. IfRun command (AllRunAsWritten plan)) }
 
+    // What a command has saved, another run can go on from, unless its machine has made more than 2^60 steps.
+    ensures saved { result ≡ 0 → HasPlan (S.files store.old) (command_of words.now)
+        (λ files command plan. IfSave command (IsResumable plan)) }
+
     // When each status comes. 5 is want of memory, which is free.
     ensures verdict { IsDone result → HasPlan (S.files store.old) (command_of words.now)
         (λ files command plan. result ≡ verdict_status (found_of files command plan)) }
@@ -61,7 +65,8 @@ pub fn nesthv<S: Store, O: Sink, E: Sink>(
         × SaysOfOut O.Sink (S.files store.old) (command_of words.now) ended out.old out.new
         × SaysOfErr E.Sink ended err.old err.new
         × SaysOfAccount (S.files store.old) (command_of words.now) ended tally.old tally.new
-        × SaysOfMoves (S.files store.old) (command_of words.now) ended moves.old moves.new) }
+        × SaysOfMoves (S.files store.old) (command_of words.now) ended moves.old moves.new
+        × SaysOfSaved (S.files store.old) (command_of words.now) ended) }
 {
     let ended = obey(alloc, words, store, out, tally, moves);
     tell(ended, err);

@@ -14,10 +14,13 @@ ghost use Rattle.nesthv_top.specs.Written.{PutsText, Writes};
 use crate::ends::RunEnd;
 use crate::running::hosted;
 use arrayvec::ArrayVec;
-use guest_turns::{Host, Moves};
+use guest_save::saved_machines_go_on;
+use guest_turns::{Host, Moves, fresh_sources};
 use itoa::Buffer;
 use machine_defs::Status;
-use machine_laws::{fills_suffice, runs_are_architectural, runs_are_fresh};
+use machine_laws::{
+    fills_suffice, machines_stay_orderly, runs_are_architectural, runs_are_fresh,
+};
 use no_memory::NoMemory;
 use outside::{Sink, SinkFault};
 use report::header;
@@ -71,9 +74,20 @@ fn generated(alloc: Global, seed: u64, size: u64, tally: &mut Tally) -> Result<H
     fills_suffice();
     runs_are_architectural();
     runs_are_fresh();
+    machines_stay_orderly();
+    saved_machines_go_on();
     let guests = guests(alloc, seed, size)?;
     let turns = rounds(alloc, size)?;
-    let host = hosted(alloc, guests, turns.as_slice(), 0, tally, &mut Moves::new())?;
+    let sources = fresh_sources(alloc, guests)?;
+    let host = hosted(
+        alloc,
+        sources,
+        turns.as_slice(),
+        0,
+        None,
+        tally,
+        &mut Moves::new(),
+    )?;
     Ok(host)
 }
 

@@ -17,9 +17,9 @@ returns-in-Ok-clause-reads g c =
 pub returns-in-Ok-clause-planned : goal.returns-in-Ok-clause-planned
 returns-in-Ok-clause-planned g c = λ files told.
     let read = c.in_ok-config.ensures in
-    plan_read files (file_command_seen c.args.request) c.in_ok-config.field-0 (record { config = c.in_ok-config.field-0.config; guests = c.in-Ok.guests })
+    plan_read files (file_command_seen c.args.request) c.in_ok-config.field-0 (record { config = c.in_ok-config.field-0.config; sources = c.in-Ok.sources; frames = c.in_ok-config.field-0.frames })
     (read.read files told) (read.ends files told).fault refl (rw c.guests.ensures.guests at c.in-Ok.ensures)
 
 pub returns-in-Ok-clause-job : goal.returns-in-Ok-clause-job
 returns-in-Ok-clause-job g c =
-    job_read c.in_ok-config.field-0 (record { config = c.in_ok-config.field-0.config; guests = c.in-Ok.guests }) c.in_ok-config.ensures.tested refl (rw c.guests.ensures.guests at c.in-Ok.ensures)
+    job_read c.in_ok-config.field-0 (record { config = c.in_ok-config.field-0.config; sources = c.in-Ok.sources; frames = c.in_ok-config.field-0.frames }) c.in_ok-config.ensures.tested refl (rw c.guests.ensures.guests at c.in-Ok.ensures) refl

@@ -1,7 +1,7 @@
-use Rattle.std.proofs.Common.{rules, ◌≡◌, ◌∙◌, ◌+◌, Err, ap}
+use Rattle.std.proofs.Common.{rules, ◌≡◌, ◌∙◌, ◌+◌, Err, ap, sym}
 use Rattle.nesthv_top.specs.declared.ends.LoadEnd.TheVariants.{NoMemory}
 use Rattle.command_line.specs.Seen.{file_command_seen}
-use Rattle.nesthv_top.proofs.CommandReads.{config_passed, config_refused, config_short, config_stopped, text_tested}
+use Rattle.nesthv_top.proofs.CommandReads.{config_lacks_guest, config_passed, config_refused, config_short, config_stopped, text_tested}
 use Rattle.nesthv_top.proofs.loading.read_config.Goals as goal
 
 pub returns-in_err-bytes-clause-ends : goal.returns-in_err-bytes-clause-ends
@@ -10,13 +10,23 @@ returns-in_err-bytes-clause-ends g c = λ files told.
     rw is (config_stopped files (file_command_seen c.args.request) c.in_err-bytes.field-0.0 (g.S.Store.asked c.args.store.now) (g.S.Store.asked c.read.new.store)
     (rw (c.requires.none, c.config_name.ensures) at c.in_err-bytes.ensures.read))
 
+pub returns-in-None-clause-ends : goal.returns-in-None-clause-ends
+returns-in-None-clause-ends g c = λ files told.
+    let read = c.in_ok-bytes.ensures in
+    let bytes = rw c.config_name.ensures at (read.bytes files told) in
+    let text = text_tested c.in_ok-bytes.bytes.items c.read-2.result (rw c.as_slice.ensures.value at c.read-2.ensures.too_long) (rw c.as_slice.ensures.value at c.read-2.ensures.no_text) in
+    config_passed files (file_command_seen c.args.request) c.in-Ok.config c.read-2.result c.in-Ok.config c.read.new.self.made (g.S.Store.asked c.args.store.now) (g.S.Store.asked c.read.new.store)
+    (rw bytes at text) c.in-Ok.is (rw (c.as_slice.ensures.value, bytes) at c.in-Ok.ensures.accepted) (sym c.guest_fault.ensures ∙ c.in-None.is)
+    (rw (c.requires.none, c.config_name.ensures) at read.read)
+
 pub returns-in-Ok-clause-ends : goal.returns-in-Ok-clause-ends
 returns-in-Ok-clause-ends g c = λ files told.
     let read = c.in_ok-bytes.ensures in
     let bytes = rw c.config_name.ensures at (read.bytes files told) in
     let text = text_tested c.in_ok-bytes.bytes.items c.read-2.result (rw c.as_slice.ensures.value at c.read-2.ensures.too_long) (rw c.as_slice.ensures.value at c.read-2.ensures.no_text) in
-    config_passed files (file_command_seen c.args.request) c.in-Ok.config c.read-2.result c.in-Ok.config c.read.new.self.made (g.S.Store.asked c.args.store.now) (g.S.Store.asked c.read.new.store)
-    (rw bytes at text) c.in-Ok.is (rw (c.as_slice.ensures.value, bytes) at c.in-Ok.ensures.accepted) (rw (c.requires.none, c.config_name.ensures) at read.read)
+    config_lacks_guest files (file_command_seen c.args.request) c.in-Ok.config c.in-Some.fault c.read-2.result c.in-Ok.config c.read.new.self.made (g.S.Store.asked c.args.store.now)
+    (g.S.Store.asked c.read.new.store) (rw bytes at text) c.in-Ok.is (rw (c.as_slice.ensures.value, bytes) at c.in-Ok.ensures.accepted) (sym c.guest_fault.ensures ∙ c.in-Some.is)
+    (rw (c.requires.none, c.config_name.ensures) at read.read)
 
 pub returns-in-Err-Refused-clause-ends : goal.returns-in-Err-Refused-clause-ends
 returns-in-Err-Refused-clause-ends g c = λ files told.

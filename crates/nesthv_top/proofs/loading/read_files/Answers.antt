@@ -1,8 +1,7 @@
-use Rattle.std.proofs.Common.{rules, ◌≡◌, ◌∙◌, Err, Some, None, sym, arith}
+use Rattle.std.proofs.Common.{rules, ◌≡◌, ◌∙◌, Err, Some, None, ap, sym, arith}
 use Rattle.command_line.specs.Seen.{file_command_seen}
-use Rattle.nesthv_top.specs.Loads.{config_frames}
 use Rattle.nesthv_top.specs.Reads.{frames_fault}
-use Rattle.nesthv_top.proofs.CommandReads.{all_passed, begins_then, config_stop, first_then, frames_stop, guests_passed, guests_stop, left_passed, left_refused, left_stopped, report_stop}
+use Rattle.nesthv_top.proofs.CommandReads.{all_passed, begins_then, config_stop, file_frames, first_then, frames_are, frames_stop, guests_passed, guests_stop, left_passed, left_refused, left_stopped, report_stop}
 use Rattle.nesthv_top.proofs.loading.read_files.Goals as goal
 
 pub returns-in_err-config-clause-ends : goal.returns-in_err-config-clause-ends
@@ -55,7 +54,10 @@ pub returns-in-Some-clause-ends : goal.returns-in-Some-clause-ends
 returns-in-Some-clause-ends g c = λ files told.
     let config = c.in_ok-config.ensures in
     let guests = rw c.guests.ensures.guests at (c.in_ok-guests.ensures.ends files (config.leaves.files ∙ told)) in
-    let refused : frames_fault (config_frames c.in_ok-config.config) ≡ Some c.in-Some.fault = sym c.frames_fault.ensures ∙ c.in-Some.is in
+    let read = rw c.guests.ensures.guests at (c.in_ok-guests.ensures.read files (config.leaves.files ∙ told)) in
+    let frames : c.all_frames-frames.result ≡ file_frames files c.in_ok-config.config =
+    c.all_frames-frames.ensures.frames ∙ frames_are files c.in_ok-config.config c.as_slice.result.now (c.as_slice.ensures.value ∙ read) in
+    let refused : frames_fault (file_frames files c.in_ok-config.config) ≡ Some c.in-Some.fault = ap frames_fault (sym frames) ∙ sym c.frames_fault.ensures ∙ c.in-Some.is in
     frames_stop files (file_command_seen c.args.request) c.in_ok-config.config c.in-Some.fault _ _ _ _ _ (config.accepted files told)
     (guests_passed files (file_command_seen c.args.request) c.in_ok-config.config _ _ _ _ _ (config.ends files told) guests) c.in_ok-stored.ensures.ends refused
 
@@ -76,7 +78,10 @@ pub returns-in-None-clause-ends : goal.returns-in-None-clause-ends
 returns-in-None-clause-ends g c = λ files told.
     let config = c.in_ok-config.ensures in
     let guests = rw c.guests.ensures.guests at (c.in_ok-guests.ensures.ends files (config.leaves.files ∙ told)) in
-    let none : frames_fault (config_frames c.in_ok-config.config) ≡ None = sym c.frames_fault.ensures ∙ c.in-None.is in
+    let read = rw c.guests.ensures.guests at (c.in_ok-guests.ensures.read files (config.leaves.files ∙ told)) in
+    let frames : c.all_frames-frames.result ≡ file_frames files c.in_ok-config.config =
+    c.all_frames-frames.ensures.frames ∙ frames_are files c.in_ok-config.config c.as_slice.result.now (c.as_slice.ensures.value ∙ read) in
+    let none : frames_fault (file_frames files c.in_ok-config.config) ≡ None = ap frames_fault (sym frames) ∙ sym c.frames_fault.ensures ∙ c.in-None.is in
     all_passed files (file_command_seen c.args.request) c.in_ok-config.config _ _ _ _ _ (config.accepted files told)
     (guests_passed files (file_command_seen c.args.request) c.in_ok-config.config _ _ _ _ _ (config.ends files told) guests) c.in_ok-stored.ensures.ends none
 

@@ -8,25 +8,25 @@ use Rattle.nesthv_top.proofs.loading.read_image.Goals as goal
 
 pub returns-in_err-bytes-clause-ends : goal.returns-in_err-bytes-clause-ends
 returns-in_err-bytes-clause-ends g c = λ files told.
-    let settings = c.args.settings.now in
+    let fresh = c.args.fresh.now in
     let is : c.from_residual.result ≡ Err c.in_err-bytes.field-0.0 = search rules in
-    rw is (one_stopped (ask settings.image (image_most settings)) (image_fault c.args.guest settings (image_of files settings)) c.args.reads.now.made c.in_err-bytes.field-0.0
+    rw is (one_stopped (ask fresh.image (image_most fresh)) (image_fault c.args.guest fresh (image_of files fresh)) c.args.reads.now.made c.in_err-bytes.field-0.0
     (g.S.Store.asked c.args.store.now) (g.S.Store.asked c.read.new.store) (rw c.as_str.ensures at c.in_err-bytes.ensures.read))
 
 pub returns-then-len-size-clause-ends : goal.returns-then-len-size-clause-ends
 returns-then-len-size-clause-ends g c = λ files told.
-    let settings = c.args.settings.now in
+    let fresh = c.args.fresh.now in
     let bytes = rw c.as_str.ensures at (c.in_ok-bytes.ensures.bytes files told) in
-    let count : length (image_of files settings) ≡ c.len.result = omega (arith, ap length bytes, c.len.ensures, c.in_ok-bytes.bytes.ok.0) in
-    one_passed (ask settings.image (image_most settings)) (image_fault c.args.guest settings (image_of files settings)) c.args.reads.now.made c.read.new.self.made
-    (g.S.Store.asked c.args.store.now) (g.S.Store.asked c.read.new.store) (rw c.as_str.ensures at c.in_ok-bytes.ensures.read) (image_fits c.args.guest settings (image_of files settings) (rw count c.if-len-size.true))
+    let count : length (image_of files fresh) ≡ c.len.result = omega (arith, ap length bytes, c.len.ensures, c.in_ok-bytes.bytes.ok.0) in
+    one_passed (ask fresh.image (image_most fresh)) (image_fault c.args.guest fresh (image_of files fresh)) c.args.reads.now.made c.read.new.self.made
+    (g.S.Store.asked c.args.store.now) (g.S.Store.asked c.read.new.store) (rw c.as_str.ensures at c.in_ok-bytes.ensures.read) (image_fits c.args.guest fresh (image_of files fresh) (rw count c.if-len-size.true))
 
 pub returns-else-len-size-clause-ends : goal.returns-else-len-size-clause-ends
 returns-else-len-size-clause-ends g c = λ files told.
-    let settings = c.args.settings.now in
+    let fresh = c.args.fresh.now in
     let bytes = rw c.as_str.ensures at (c.in_ok-bytes.ensures.bytes files told) in
-    let count : length (image_of files settings) ≡ c.len.result = omega (arith, ap length bytes, c.len.ensures, c.in_ok-bytes.bytes.ok.0) in
-    let told_as : length (image_of files settings) ≡ c.len-else-len-size.result = omega (arith, ap length bytes, c.len-else-len-size.ensures, c.in_ok-bytes.bytes.ok.0) in
-    one_refused (ask settings.image (image_most settings)) (image_fault c.args.guest settings (image_of files settings)) _ c.args.reads.now.made
+    let count : length (image_of files fresh) ≡ c.len.result = omega (arith, ap length bytes, c.len.ensures, c.in_ok-bytes.bytes.ok.0) in
+    let told_as : length (image_of files fresh) ≡ c.len-else-len-size.result = omega (arith, ap length bytes, c.len-else-len-size.ensures, c.in_ok-bytes.bytes.ok.0) in
+    one_refused (ask fresh.image (image_most fresh)) (image_fault c.args.guest fresh (image_of files fresh)) _ c.args.reads.now.made
     (g.S.Store.asked c.args.store.now) (g.S.Store.asked c.read.new.store) (rw c.as_str.ensures at c.in_ok-bytes.ensures.read).1
-    (image_too_long c.args.guest settings (image_of files settings) (rw count c.if-len-size.false) ∙ ap (λ n. Some (fault.ImageLong c.args.guest n)) told_as)
+    (image_too_long c.args.guest fresh (image_of files fresh) (rw count c.if-len-size.false) ∙ ap (λ n. Some (fault.ImageLong c.args.guest n)) told_as)

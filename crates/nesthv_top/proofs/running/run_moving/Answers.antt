@@ -2,7 +2,7 @@ use Rattle.std.proofs.Common.{◌≡◌, ◌∙◌, ◌<◌, length, get_or, ref
 use Rattle.guest_turns.specs.Hosted.{is_set, machine_at}
 use Rattle.guest_turns.proofs.Updating.{length_updated}
 use Rattle.machine_defs.specs.Runs.{run}
-use Rattle.nesthv_top.proofs.MovingTurns.{goes_on, left_before, lone, moving_begins, next_active, one_left, retires, turned_and_moved, turned_blocks}
+use Rattle.nesthv_top.proofs.MovingTurns.{goes_on, left_before, lone, moving_begins, next_active, one_left, retires, still_there, turned_and_moved, turned_blocks}
 use Rattle.nesthv_top.proofs.RetiredMachines.{active_one, as_many_hosted}
 use Rattle.nesthv_top.proofs.Turning.{bounded, entries_left}
 use Rattle.nesthv_top.proofs.running.run_moving.Goals.{then-left-guest-eq0, else-left-guest-eq0}
@@ -13,8 +13,8 @@ turns_left-left-requires-clause-guests c = λ k d inside. omega (arith, (c.requi
 
 pub loop-t-init : goal.loop-t-init
 loop-t-init c =
-    moving_begins c.args.turns.now c.args.tally.now c.args.moves.now c.args.host.now c.turns_left-left.result c.requires.movable.flags c.turns_left-left.ensures.count
-    c.turns_left-left.ensures.turns c.requires.ready.active (left_before c.args.turns.now c.args.host.now.machines c.args.tally.now c.requires.ready.fresh) c.requires.movable.blocks c.requires.movable.free
+    moving_begins c.args.kept c.args.turns.now c.args.tally.now c.args.moves.now c.args.host.now c.turns_left-left.result c.requires.movable.flags c.turns_left-left.ensures.count
+    c.turns_left-left.ensures.turns c.requires.ready.active (left_before c.args.turns.now c.args.host.now.machines c.args.tally.now c.requires.ready.steps) c.requires.movable.blocks c.requires.movable.free
 
 pub turn-requires-clause-guest : goal.turn-requires-clause-guest
 turn-requires-clause-guest c =
@@ -24,14 +24,14 @@ turn-requires-clause-guest c =
 pub turn-requires-clause-active : goal.turn-requires-clause-active
 turn-requires-clause-active c =
     let turn = get_or c.args.turns.now c.loop-t.t (0, 0) in
-    next_active c.args.turns.now _ _ _ c.loop-t.t turn.0 turn.1 c.loop-t.host _ _ _ (0, 0) c.loop-t-test.true refl c.loop-t.invariant
+    next_active c.args.kept c.args.turns.now _ _ _ c.loop-t.t turn.0 turn.1 c.loop-t.host _ _ _ (0, 0) c.loop-t-test.true refl c.loop-t.invariant
 
 pub turn-requires-clause-steps : goal.turn-requires-clause-steps
 turn-requires-clause-steps c =
     let inv = c.loop-t.invariant in
     let turn = get_or c.args.turns.now c.loop-t.t (0, 0) in
     let ms = lone c.args.turns.now c.args.host.now.machines c.loop-t.t in
-    let active = next_active c.args.turns.now _ _ _ c.loop-t.t turn.0 turn.1 c.loop-t.host _ _ _ (0, 0) c.loop-t-test.true refl inv in
+    let active = next_active c.args.kept c.args.turns.now _ _ _ c.loop-t.t turn.0 turn.1 c.loop-t.host _ _ _ (0, 0) c.loop-t-test.true refl inv in
     let here : machine_at c.loop-t.host.machines turn.0 ≡ machine_at ms turn.0 = ap (λ ms. machine_at ms turn.0) inv.machines ∙ active_one c.loop-t.host.retired ms turn.0 active in
     let b = bounded _ c.args.turns.now _ _ c.loop-t.t (0, 0) _ _ c.requires.few c.requires.short c.loop-t-test.true inv.turns_left in
     let inside : turn.0 < length ms = rw inv.turns_left.count (c.requires.short c.loop-t.t (0, 0) c.loop-t-test.true).guest in
@@ -42,7 +42,7 @@ turn-requires-clause-room c =
     let inv = c.loop-t.invariant in
     let turn = get_or c.args.turns.now c.loop-t.t (0, 0) in
     let ms = lone c.args.turns.now c.args.host.now.machines c.loop-t.t in
-    let active = next_active c.args.turns.now _ _ _ c.loop-t.t turn.0 turn.1 c.loop-t.host _ _ _ (0, 0) c.loop-t-test.true refl inv in
+    let active = next_active c.args.kept c.args.turns.now _ _ _ c.loop-t.t turn.0 turn.1 c.loop-t.host _ _ _ (0, 0) c.loop-t-test.true refl inv in
     let here : machine_at c.loop-t.host.machines turn.0 ≡ machine_at ms turn.0 = ap (λ ms. machine_at ms turn.0) inv.machines ∙ active_one c.loop-t.host.retired ms turn.0 active in
     let b = bounded _ c.args.turns.now _ _ c.loop-t.t (0, 0) _ _ c.requires.few c.requires.short c.loop-t-test.true inv.turns_left in
     rw here (record {
@@ -68,7 +68,7 @@ pub move_block-requires-clause-active : goal.move_block-requires-clause-active
 move_block-requires-clause-active c =
     let turn = get_or c.args.turns.now c.loop-t.t (0, 0) in
     ap (λ flags. is_set flags turn.0) c.turn.ensures.shares.retired
-    ∙ next_active c.args.turns.now _ _ _ c.loop-t.t turn.0 turn.1 c.loop-t.host _ _ _ (0, 0) c.loop-t-test.true refl c.loop-t.invariant
+    ∙ next_active c.args.kept c.args.turns.now _ _ _ c.loop-t.t turn.0 turn.1 c.loop-t.host _ _ _ (0, 0) c.loop-t-test.true refl c.loop-t.invariant
 
 pub move_block-requires-clause-blocks : goal.move_block-requires-clause-blocks
 move_block-requires-clause-blocks c =
@@ -89,7 +89,7 @@ pub overflow_sub-left : goal.overflow_sub-left
 overflow_sub-left c =
     let turn = get_or c.args.turns.now c.loop-t.t (0, 0) in
     let few : turn.0 < 16 = omega (arith, (c.requires.short c.loop-t.t (0, 0) c.loop-t-test.true).guest, c.requires.movable.guests) in
-    one_left c.args.turns.now c.loop-t.t turn.0 turn.1 c.loop-t.left (0, 0) c.loop-t-test.true refl (c.loop-t.invariant.own turn.0 few)
+    one_left c.args.kept c.args.turns.now c.loop-t.t turn.0 turn.1 c.loop-t.left (0, 0) c.loop-t-test.true refl (c.loop-t.invariant.own turn.0 few)
 
 pub retire-requires-clause-guest : goal.retire-requires-clause-guest
 retire-requires-clause-guest c =
@@ -110,13 +110,13 @@ pub retire-requires-clause-active : goal.retire-requires-clause-active
 retire-requires-clause-active c =
     let turn = get_or c.args.turns.now c.loop-t.t (0, 0) in
     ap (λ flags. is_set flags turn.0) c.move_block.ensures.moved.retired ∙ ap (λ flags. is_set flags turn.0) c.turn.ensures.shares.retired
-    ∙ next_active c.args.turns.now _ _ _ c.loop-t.t turn.0 turn.1 c.loop-t.host _ _ _ (0, 0) c.loop-t-test.true refl c.loop-t.invariant
+    ∙ next_active c.args.kept c.args.turns.now _ _ _ c.loop-t.t turn.0 turn.1 c.loop-t.host _ _ _ (0, 0) c.loop-t-test.true refl c.loop-t.invariant
 
 pub loop-t-preserved : goal.loop-t-preserved
 loop-t-preserved c =
     let turn = get_or c.args.turns.now c.loop-t.t (0, 0) in
     let few : turn.0 < 16 = omega (arith, (c.requires.short c.loop-t.t (0, 0) c.loop-t-test.true).guest, c.requires.movable.guests) in
-    let between = turned_and_moved c.args.turns.now c.args.host.now.machines c.args.tally.now c.args.moves.now c.loop-t.t turn.0 turn.1 c.turn.result _ _ c.loop-t.host c.turn.new.self
+    let between = turned_and_moved c.args.kept c.args.turns.now c.args.host.now.machines c.args.tally.now c.args.moves.now c.loop-t.t turn.0 turn.1 c.turn.result _ _ c.loop-t.host c.turn.new.self
     c.move_block.new.host c.loop-t.left c.loop-t.tally c.turn.new.tally c.loop-t.moves c.move_block.new.moves (0, 0) c.loop-t-test.true refl c.loop-t.invariant (record {
       machines = c.turn.ensures.machines;
       made = c.turn.ensures.made;
@@ -125,8 +125,11 @@ loop-t-preserved c =
       account = c.turn.ensures.account;
     }) c.turn.ensures.shares.parts c.turn.ensures.shares.free c.turn.ensures.shares.retired c.move_block.ensures.moved c.move_block.ensures.counted few in
     elim c.if-left-guest-eq0.branch [
-      | then-left-guest-eq0 w ↦ rw w.host-is (retires c.args.turns.now c.args.host.now.machines c.args.tally.now c.args.moves.now c.loop-t.t turn.0 c.move_block.new.host w.retire.new.self
+      | then-left-guest-eq0 w ↦ rw w.host-is (retires c.args.kept c.args.turns.now c.args.host.now.machines c.args.tally.now c.args.moves.now c.loop-t.t turn.0 c.move_block.new.host w.retire.new.self
           c.loop-t.left c.turn.new.tally c.move_block.new.moves few between w.if-left-guest-eq0.true w.retire.ensures)
-      | else-left-guest-eq0 w ↦ rw w.host-is (goes_on c.args.turns.now c.args.host.now.machines c.args.tally.now c.args.moves.now c.loop-t.t turn.0 c.move_block.new.host
+      | else-left-guest-eq0 w ↦ rw w.host-is (goes_on c.args.kept c.args.turns.now c.args.host.now.machines c.args.tally.now c.args.moves.now c.loop-t.t turn.0 c.move_block.new.host
           c.loop-t.left c.turn.new.tally c.move_block.new.moves few between)
     ]
+
+pub returns-clause-kept : goal.returns-clause-kept
+returns-clause-kept c = still_there c.args.kept _ _ _ _ _ _ _ _ _ c.loop-t.invariant

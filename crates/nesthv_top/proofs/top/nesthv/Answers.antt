@@ -1,5 +1,5 @@
 use Rattle.command_line.specs.Commands.{command_of}
-use Rattle.nesthv_top.proofs.Telling.{complete, found, no_command, ran_as_written, refusal, replayed, texted}
+use Rattle.nesthv_top.proofs.Telling.{complete, found, no_command, ran_as_written, refusal, replayed, resumable, texted}
 use Rattle.nesthv_top.proofs.top.nesthv.Goals as goal
 
 pub returns-clause-text : goal.returns-clause-text
@@ -9,6 +9,10 @@ returns-clause-text g c = λ done.
 pub returns-clause-machines : goal.returns-clause-machines
 returns-clause-machines g c = λ done.
     ran_as_written g.O.Sink _ (command_of c.args.words.now) c.obey-ended.result _ _ (rw c.status_of.ensures at done) c.obey-ended.ensures.out
+
+pub returns-clause-saved : goal.returns-clause-saved
+returns-clause-saved g c = λ zero.
+    resumable _ (command_of c.args.words.now) c.obey-ended.result (rw c.status_of.ensures at zero) c.obey-ended.ensures.saved
 
 pub returns-clause-verdict : goal.returns-clause-verdict
 returns-clause-verdict g c = λ done.
@@ -35,5 +39,5 @@ pub returns-clause-ended : goal.returns-clause-ended
 returns-clause-ended g c = (
   c.obey-ended.result,
   c.status_of.ensures,
-  (c.obey-ended.ensures.cause, c.obey-ended.ensures.reads, c.obey-ended.ensures.out, c.tell.ensures, c.obey-ended.ensures.account, c.obey-ended.ensures.moves),
+  (c.obey-ended.ensures.cause, c.obey-ended.ensures.reads, c.obey-ended.ensures.out, c.tell.ensures, c.obey-ended.ensures.account, c.obey-ended.ensures.moves, c.obey-ended.ensures.saved),
 )
