@@ -3,6 +3,7 @@
 use crate::call::Left;
 use crate::configuration::Turns;
 use crate::formats::Form;
+use crate::sums::sum;
 use crate::text::push_lines;
 use crate::told::Told;
 use no_memory::NoMemory;
@@ -23,6 +24,8 @@ pub struct Answer {
     first: String,
     trace: Option<u64>,
     others: String,
+    // What the first run has written, where that is a saved guest.
+    saved: Vec<u8>,
     // Of the last run.
     entries: u64,
     taken: u64,
@@ -39,6 +42,7 @@ impl Answer {
             first: String::new(alloc),
             trace: None,
             others: String::new(alloc),
+            saved: Vec::new(alloc),
             entries: 0,
             taken: 0,
             moves: 0,
@@ -56,12 +60,25 @@ impl Answer {
             None => {
                 self.trace = Some(trace);
                 self.first.push_str(text.as_str())?;
+                self.keep(run.words, left.out.bytes())?;
             }
             Some(first) if first == trace && self.first.as_str() == text.as_str() => {}
             Some(_) => {
                 push_run(&mut self.others, run)?;
                 writeln!(self.others, "{text}trace 0x{trace:x}")?;
             }
+        }
+        Ok(())
+    }
+
+    /// The bytes of a saved guest, or none.
+    pub fn saved(&self) -> &[u8] {
+        self.saved.as_slice()
+    }
+
+    fn keep(&mut self, words: &str, out: &[u8]) -> Result<(), NoMemory> {
+        if is_save(words) {
+            self.saved.extend_from_slice(out)?;
         }
         Ok(())
     }
@@ -120,10 +137,23 @@ fn push_run(text: &mut String, run: Run<'_, '_>) -> Result<(), NoMemory> {
     Ok(())
 }
 
+fn is_save(words: &str) -> bool {
+    words.starts_with("nesthv save ")
+}
+
+// The lines of a report, or how many bytes a saved guest has, and their sum.
+fn push_out(text: &mut String, words: &str, out: &[u8]) -> Result<(), NoMemory> {
+    if is_save(words) && !out.is_empty() {
+        writeln!(text, "out {} bytes, sum 0x{:x}", out.len(), sum(out))?;
+        return Ok(());
+    }
+    push_lines(text, "out", out)
+}
+
 // What must be the same in all runs.
 fn shown(alloc: Global, told: Told, words: &str, left: &Left<'_, '_>) -> Result<String, NoMemory> {
     let mut text = format!(in alloc; "{words}: status {}\n", left.status)?;
-    push_lines(&mut text, "out", left.out.bytes())?;
+    push_out(&mut text, words, left.out.bytes())?;
     push_lines(&mut text, "err", left.err.bytes())?;
     if told.trace {
         let trace = left.tally.trace();

@@ -128,9 +128,18 @@ impl<'a> Case<'a> {
             self.add_forms(words, turns, &mut answer)?;
         }
         answer.put(answers)?;
+        self.keep(answer.saved())?;
         self.script = Script::new();
         self.has_asked = true;
         Ok(())
+    }
+
+    // Makes the bytes of a saved guest the file at hand.
+    fn keep(&mut self, saved: &[u8]) -> Result<(), NoMemory> {
+        if saved.is_empty() {
+            return Ok(());
+        }
+        self.files.add("saved", Vec::from_slice(self.alloc, saved)?)
     }
 
     // Adds the run of a configuration as it is written, that in format 2 where it means the same there, and
@@ -197,8 +206,7 @@ impl<'a> Case<'a> {
 
     // How many runs are made: one where no turns are made, or where a file has the configuration.
     fn runs(&self, words: &str) -> usize {
-        let makes_turns = words.starts_with("nesthv run k") || words.starts_with("nesthv replay k");
-        if makes_turns && self.files.get("k").is_none() {
+        if makes_turns(words) && self.files.get("k").is_none() {
             self.configuration.runs()
         } else {
             1
@@ -206,8 +214,12 @@ impl<'a> Case<'a> {
     }
 }
 
-fn reads_configuration(words: &str) -> bool {
+fn makes_turns(words: &str) -> bool {
     words.starts_with("nesthv run k")
-        || words.starts_with("nesthv check k")
         || words.starts_with("nesthv replay k")
+        || words.starts_with("nesthv save k")
+}
+
+fn reads_configuration(words: &str) -> bool {
+    makes_turns(words) || words.starts_with("nesthv check k")
 }

@@ -79,6 +79,7 @@ impl<'a> Configuration<'a> {
             "also" => self.add_spares(rest),
             "guest" => self.add_guest(rest),
             "config" => self.change(rest),
+            "resume" => self.resume(rest),
             "runs" => self.set_runs(rest),
             "turns" => self.set_turns(rest),
             _ => return Ok(false),
@@ -139,6 +140,17 @@ impl<'a> Configuration<'a> {
 
     fn add_guest(&mut self, name: &str) -> Result<(), Fault> {
         self.guests.push(table_of(self.alloc, name)?)?;
+        Ok(())
+    }
+
+    // Leaves the guest its name, and has it go on from a file.
+    fn resume(&mut self, file: &str) -> Result<(), Fault> {
+        let line = format!(in self.alloc; "resume = \"{file}\"")?;
+        let Some(guest) = self.guests.last_mut() else {
+            return Err(Fault::Line);
+        };
+        guest.lines.truncate(1);
+        guest.lines.push(line)?;
         Ok(())
     }
 

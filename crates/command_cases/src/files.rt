@@ -98,6 +98,7 @@ impl<'a> Files<'a> {
             "repeat" => self.push_repeated(rest),
             "noise" => self.push_noise(rest),
             "generated" => self.push_generated(rest),
+            "set" => self.set_quads(names, rest),
             _ => return Ok(false),
         };
         obeyed.map(|()| true)
@@ -111,14 +112,20 @@ impl<'a> Files<'a> {
         Ok(())
     }
 
-    fn begin(&mut self, name: &'a str) -> Result<(), Fault> {
+    /// Makes this file the one at hand.
+    pub fn add(&mut self, name: &'a str, bytes: Vec<u8>) -> Result<(), NoMemory> {
         self.before.reserve(1)?;
-        let bytes = mem::replace(&mut self.bytes, Vec::new(self.alloc));
+        let bytes = mem::replace(&mut self.bytes, bytes);
         self.before.push_reserved(File {
             name: self.name,
             bytes,
         });
         self.name = name;
+        Ok(())
+    }
+
+    fn begin(&mut self, name: &'a str) -> Result<(), Fault> {
+        self.add(name, Vec::new(self.alloc))?;
         Ok(())
     }
 
@@ -143,6 +150,20 @@ impl<'a> Files<'a> {
             self.bytes.extend_from_slice(&value.to_le_bytes())?;
         }
         Ok(())
+    }
+
+    // Doublewords in the place of those from an offset on.
+    fn set_quads(&mut self, names: &Names<'_>, terms: &str) -> Result<(), Fault> {
+        let values = names.values(self.alloc, terms)?;
+        let [offset, quads @ ..] = values.as_slice() else {
+            return Err(Fault::Line);
+        };
+        let mut piece = Vec::new(self.alloc);
+        for quad in quads {
+            piece.extend_from_slice(&quad.to_le_bytes())?;
+        }
+        let bytes = self.bytes.as_mut_slice();
+        replace(bytes, *offset as usize, piece.as_slice()).ok_or(Fault::Line)
     }
 
     fn push_words(&mut self, names: &Names<'_>, terms: &str) -> Result<(), Fault> {
@@ -190,6 +211,16 @@ impl<'a> Files<'a> {
         }
         Ok(())
     }
+}
+
+// Puts a piece in the place of the bytes from an offset on, where there are so many.
+fn replace(bytes: &mut [u8], offset: usize, piece: &[u8]) -> Option<()> {
+    let end = offset.checked_add(piece.len())?;
+    if end > bytes.len() {
+        return None;
+    }
+    bytes[offset..end].copy_from_slice(piece);
+    Some(())
 }
 
 fn numbers(text: &str) -> Option<[u64; 2]> {

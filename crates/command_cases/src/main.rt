@@ -13,6 +13,7 @@ mod script;
 mod sink;
 mod store;
 mod suite;
+mod sums;
 mod table;
 mod terms;
 mod text;

@@ -11,7 +11,7 @@ struct Line {
     asked: Request<'static>,
 }
 
-static COMMANDS: [Line; 9] = [
+static COMMANDS: [Line; 15] = [
     Line {
         words: "nesthv|run|a.toml",
         asked: Request::OnFiles(FileRequest::Run { config: "a.toml" }),
@@ -63,11 +63,54 @@ static COMMANDS: [Line; 9] = [
             size: 9_999,
         },
     },
+    // Numbers of a guest at both ends of their range, with and without a zero that leads.
+    Line {
+        words: "nesthv|save|a.toml|0",
+        asked: Request::OnFiles(FileRequest::Save {
+            config: "a.toml",
+            guest: 0,
+        }),
+    },
+    Line {
+        words: "nesthv|save|a.toml|00",
+        asked: Request::OnFiles(FileRequest::Save {
+            config: "a.toml",
+            guest: 0,
+        }),
+    },
+    Line {
+        words: "nesthv|save|7|07",
+        asked: Request::OnFiles(FileRequest::Save {
+            config: "7",
+            guest: 7,
+        }),
+    },
+    Line {
+        words: "nesthv|save|save|15",
+        asked: Request::OnFiles(FileRequest::Save {
+            config: "save",
+            guest: 15,
+        }),
+    },
+    Line {
+        words: "nesthv|save|help|16",
+        asked: Request::OnFiles(FileRequest::Save {
+            config: "help",
+            guest: 16,
+        }),
+    },
+    Line {
+        words: "nesthv|save|a.toml|99",
+        asked: Request::OnFiles(FileRequest::Save {
+            config: "a.toml",
+            guest: 99,
+        }),
+    },
 ];
 
-// Each wrong number of words, an empty word, a dash, `help`, words that are not ASCII, and seeds and sizes
-// that are not numbers of their digits and ranges.
-static NO_COMMANDS: [&str; 37] = [
+// Each wrong number of words, an empty word, a dash, `help`, words that are not ASCII, and seeds, sizes and
+// guests that are not numbers of their digits and ranges.
+static NO_COMMANDS: [&str; 53] = [
     "nesthv",
     "nesthv|",
     "nesthv|run",
@@ -105,6 +148,22 @@ static NO_COMMANDS: [&str; 37] = [
     "nesthv|work|1|1 ",
     "nesthv|work|0x1|1",
     "nesthv|work|\u{661}|1",
+    "nesthv|save",
+    "nesthv|save|a",
+    "nesthv|save|a|0|0",
+    "nesthv|save|a|0|",
+    "nesthv|save|a|",
+    "nesthv|save||0",
+    "nesthv|save|0|a",
+    "nesthv|save|a|100",
+    "nesthv|save|a|007",
+    "nesthv|save|a|-1",
+    "nesthv|save|a|+1",
+    "nesthv|save|a|1a",
+    "nesthv|save|a| 1",
+    "nesthv|save|a|0x",
+    "nesthv|save|a|\u{661}",
+    "nesthv|SAVE|a|0",
 ];
 
 // Whether a line asks for this.

@@ -1,6 +1,6 @@
 // What is read of a configuration, and what its faults keep.
 
-use run_config::{ConfigFault, ConfigKey, GuestSettings, InputSource, read};
+use run_config::{ConfigFault, ConfigKey, FreshGuest, GuestSettings, InputSource, Origin, read};
 use std::test::Fail;
 use turn_plan::Turns;
 
@@ -93,12 +93,23 @@ const ROUNDS: &str = "format=1\nquantum=9\nrounds=2\n\
 
 fn are_read(guest: &GuestSettings, settings: &Settings) -> bool {
     guest.name.as_slice() == settings.name
-        && guest.image.as_str() == settings.image
+        && guest.weight == settings.weight
+        && begins(&guest.origin, settings)
+}
+
+fn begins(origin: &Origin, settings: &Settings) -> bool {
+    match origin {
+        Origin::Fresh(guest) => is_fresh(guest, settings),
+        Origin::Saved(_) => false,
+    }
+}
+
+fn is_fresh(guest: &FreshGuest, settings: &Settings) -> bool {
+    guest.image.as_str() == settings.image
         && guest.blocks == settings.blocks
         && guest.spaces == settings.spaces
         && guest.entries == settings.entries
         && guest.console == settings.console
-        && guest.weight == settings.weight
         && is_from(&guest.input, &settings.input)
 }
 
@@ -167,7 +178,7 @@ const FAULT: Kept = Kept {
     value: None,
 };
 
-static FAULTS: [Kept; 14] = [
+static FAULTS: [Kept; 16] = [
     FAULT,
     Kept {
         fault: ConfigFault::Format,
@@ -267,6 +278,18 @@ static FAULTS: [Kept; 14] = [
         number: 13,
         guest: Some(15),
         value: Some(8_589_934_592),
+        ..FAULT
+    },
+    Kept {
+        fault: ConfigFault::Saved { guest: 4 },
+        number: 14,
+        guest: Some(4),
+        ..FAULT
+    },
+    Kept {
+        fault: ConfigFault::Guest { value: 99 },
+        number: 15,
+        value: Some(99),
         ..FAULT
     },
 ];

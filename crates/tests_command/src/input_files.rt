@@ -4,8 +4,8 @@ use run_config::{InputEnd, inputs};
 use std::alloc::{AllocError, Global};
 use std::test::Fail;
 
-// The records of a file, the bytes behind them, and the number of the first bad record. Without one the inputs are
-// the records.
+// The records of a file, the bytes behind them, and the number of the first bad record. Without one the inputs
+// are the records.
 struct Case {
     records: &'static [(u64, u8)],
     rest: &'static [u8],
@@ -148,7 +148,8 @@ fn records(alloc: Global, count: u32) -> Result<Vec<u8>, AllocError> {
     Ok(bytes)
 }
 
-// How many inputs a file of so many such records and a few bytes gives, or the number of its first bad record.
+// How many inputs a file of so many such records and a few bytes gives, or the number of its first bad
+// record.
 fn count_of(alloc: Global, count: u32, rest: &[u8]) -> Result<Result<usize, u32>, AllocError> {
     let mut bytes = records(alloc, count)?;
     bytes.extend_from_slice(rest)?;

@@ -15,6 +15,8 @@ mod input_files;
 #[cfg(test)]
 mod processes;
 #[cfg(test)]
+mod resumed_guests;
+#[cfg(test)]
 mod sections;
 #[cfg(test)]
 mod sinks;

@@ -29,7 +29,8 @@ fn put_three<O: Sink>(
     second: &[u8],
     third: &[u8],
 ) -> Result<(), SinkFault>
-    ensures bytes { Puts O.stands_for out.old out.new (is_ok result) (first.now ++ (second.now ++ third.now)) }
+    ensures bytes { Puts O.stands_for out.old out.new (is_ok result)
+        (first.now ++ (second.now ++ third.now)) }
     ensures cause { OnErr result (Rose (O.faults out.old) (O.faults out.new)) }
     ensures count { O.faults out.old ≤ O.faults out.new }
     ensures stays { O.made_with out.new ≡ O.made_with out.old }

@@ -1,9 +1,16 @@
 -- The guests of the tests.
-use Rattle.std.proofs.Common.{◌≡◌, zero, suc, ◌*◌, ◌≤◌, List, [], ◌∷◌, length, refl, ap, arith}
+use Rattle.std.proofs.Common.{ℕ, ◌≡◌, zero, suc, ◌*◌, ◌≤◌, List, [], ◌∷◌, length, refl, ap, arith}
 use Rattle.std.specs.List.{All}
+use Rattle.std.proofs.lemmas.List.Elements.{All-cons, All-nil}
+use Rattle.frame_split.specs.Shares.{frames_with}
+use Rattle.guest_save.specs.Needs as saved
+use Rattle.guest_save.specs.Savable.{IsSavable}
 use Rattle.guest_specs.specs.Needs.{frames_needed, need_of}
 use Rattle.guest_specs.specs.declared.guests.GuestSpec.{GuestSpec}
+use Rattle.machine_defs.specs.Machine.{Machine}
 use Rattle.guest_turns.specs.Limits.{AreBootable, IsBootable, frames_for}
+use Rattle.guest_turns.specs.Sources.{AreBootableSources, IsBootableSource, needs_of_sources}
+use Rattle.guest_turns.specs.declared.sources.Source.TheVariants.{Kept}
 
 abbrev pub IsSmall : GuestSpec → Type 0
 IsSmall spec = need_of spec ≡ record { blocks = 1; spaces = 1; entries = 16 }
@@ -26,3 +33,14 @@ many_bootable guests some few each small = record {
   each = each;
   frames = omega (arith, many_fit guests few small);
 }
+
+-- one guest that goes on from a saved machine
+pub kept_boots : (name : List ℕ) (m : Machine) → IsSavable m → AreBootableSources (Kept name m ∷ [])
+kept_boots name m is = record {
+  some = omega arith;
+  few = omega arith;
+  each = All-cons IsBootableSource (Kept name m) [] is (All-nil IsBootableSource);
+}
+
+pub kept_fits : (name : List ℕ) (m : Machine) → saved.need_of m ≡ record { blocks = 1; spaces = 1; entries = 16 } → frames_with (needs_of_sources (Kept name m ∷ [])) 1 ≤ 1081
+kept_fits name m is = omega (arith, ap frames_needed is)

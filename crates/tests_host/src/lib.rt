@@ -20,6 +20,8 @@ mod moves;
 #[cfg(test)]
 mod nested;
 #[cfg(test)]
+mod saves;
+#[cfg(test)]
 mod steps;
 #[cfg(test)]
 mod storable;

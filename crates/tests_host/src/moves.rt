@@ -11,7 +11,7 @@ use std::test::Fail;
 // A hypervisor with its tables in its own RAM: hgatp's root at 80004000 and vsatp's at 80001000, each with
 // one leaf of 1 GiB that names 80000000. The nested guest, from 6C on, stores `A` in another page and loads
 // it, and the hypervisor's handler, at 88, puts it and stops.
-const NESTS: [u8; 148] = [
+pub const NESTS: [u8; 148] = [
     0x17, 0x04, 0x00, 0x00, // 00000417: auipc x8, 0x0
     0xB7, 0x02, 0x00, 0x20, // 200002B7: lui x5, 0x20000
     0x13, 0x83, 0xF2, 0x0D, // 0DF28313: addi x6, x5, 223
