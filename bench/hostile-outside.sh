@@ -1,7 +1,7 @@
 #!/usr/bin/env bash
 # Runs the proved program on files, streams and limits of memory that fail, on the system as it is: a full device, a
 # closed pipe, a closed output, a folder for a file, a file without leave to read, names that are long or no UTF-8, a
-# REPORT of 64 MiB, an image that grows while it is read, and less and less memory. It prints a line for each answer
+# REPORT of 64 MiB, an image that grows while it is read, saves that are cut, and less and less memory. It prints a line for each answer
 # that is not the one that the contract has, and ends with status 1 where there was one.
 # Usage: bench/hostile-outside.sh [PROGRAM]
 # It takes the proved program (tools/program) if none is named. Memory is limited by `ulimit -v`. Where it is run as
@@ -57,8 +57,13 @@ given() {
     sed "s|^format = 1|format = 2|; \$a input = \"$1\"" first.toml >named.toml
 }
 
+# resumed NAME: the configuration of a guest that goes on from the file of this name, with no step more
+resumed() {
+    printf 'format = 2\nturns = []\n[[guest]]\nname = "a"\nresume = "%s"\n' "$1" >resumed.toml
+}
+
 # Outputs that fail. `check` has two pieces, and `replay` one.
-for words in 'run first.toml' 'check first.toml' 'replay first.toml report' 'work 0 1'; do
+for words in 'run first.toml' 'check first.toml' 'replay first.toml report' 'work 0 1' 'save first.toml 0'; do
     status=0
     "$program" $words >/dev/full 2>err || status=$?
     ended "$words to a full device" 4 'nesthv: write fault'
@@ -95,7 +100,8 @@ refused 'no configuration' 3 'nesthv: read fault 1' run none.toml
 refused 'a folder as configuration' 3 'nesthv: read fault 1' run place
 refused 'a name that the system refuses' 3 'nesthv: read fault 1' run "$longer"
 refused 'a name that is no UTF-8' 1 \
-    'nesthv: usage: run CONFIG | replay CONFIG REPORT | check CONFIG | work SEED SIZE' run $'\xff\xfe'
+    'nesthv: usage: run CONFIG | replay CONFIG REPORT | check CONFIG | work SEED SIZE | save CONFIG GUEST' \
+    run $'\xff\xfe'
 refused 'a report that is not there' 3 'nesthv: read fault 3' replay first.toml none
 refused 'a folder as report' 3 'nesthv: read fault 3' replay first.toml place
 for name in none.bin place; do
@@ -109,6 +115,13 @@ for name in none.inputs place; do
     refused "$name as input file" 3 'nesthv: read fault 3' run named.toml
     refused "$name as input file of a check" 3 'nesthv: read fault 3' check named.toml
     refused "$name as input file of a replay" 3 'nesthv: read fault 3' replay named.toml report
+done
+for name in none.saved place; do
+    resumed "$name"
+    refused "$name as saved file" 3 'nesthv: read fault 2' run resumed.toml
+    refused "$name as saved file of a check" 3 'nesthv: read fault 2' check resumed.toml
+    refused "$name as saved file of a save" 3 'nesthv: read fault 2' save resumed.toml 0
+    refused "$name as saved file of a replay" 3 'nesthv: read fault 2' replay resumed.toml report
 done
 given /dev/null
 refused 'a folder as report behind an input file' 3 'nesthv: read fault 4' replay named.toml place
@@ -175,9 +188,41 @@ refused 'an image without end' 2 'nesthv: configuration fault 10 guest 0 value 2
 given /dev/zero
 refused 'an input file without end' 2 'nesthv: configuration fault 12 guest 0 value 65536' run named.toml
 
+# Saved files that are none, and saves that are cut: by a reader that ends, and by a program that is ended in the middle.
+for name in /dev/zero /dev/null first.bin big; do
+    resumed "$name"
+    refused "$name as saved file" 2 'nesthv: configuration fault 14 guest 0' run resumed.toml
+done
+"$program" save first.toml 0 >saved
+mkfifo pipe
+resumed cut.saved
+for length in 1 8 600 608 609 4096 100000 2000000 2097760; do
+    { "$program" save first.toml 0 2>/dev/null || true; } | head -c "$length" >cut.saved
+    cmp -s -n "$length" cut.saved saved || { wrong=$((wrong + 1)); echo "a save cut at $length: other bytes"; }
+    refused "a save cut at $length" 2 'nesthv: configuration fault 14 guest 0' check resumed.toml
+    "$program" save first.toml 0 >pipe 2>/dev/null &
+    {
+        head -c "$length" <&4 >cut.saved
+        kill -KILL $! 2>/dev/null || true
+        wait $! 2>/dev/null || true
+        cat <&4 >>cut.saved
+    } 4<pipe
+    head -c "$(stat -c %s cut.saved)" saved | cmp -s - cut.saved ||
+        { wrong=$((wrong + 1)); echo "a save ended after $length: other bytes"; }
+    if [ "$(stat -c %s cut.saved)" != "$(stat -c %s saved)" ]; then
+        refused "a save ended after $length" 2 'nesthv: configuration fault 14 guest 0' check resumed.toml
+    fi
+done
+resumed saved
+status=0
+"$program" save resumed.toml 0 >out 2>err || status=$?
+ended 'a save from a save' 0 ''
+cmp -s out saved || { wrong=$((wrong + 1)); echo 'a save from a save: other bytes'; }
+
 # Less and less memory: the whole output or, with status 5, none of it.
 least=0
-for words in 'run first.toml' 'check first.toml' 'replay first.toml report' 'replay first.toml big' 'work 0 1'; do
+for words in 'run first.toml' 'check first.toml' 'replay first.toml report' 'replay first.toml big' 'work 0 1' \
+    'save first.toml 0' 'run resumed.toml' 'save resumed.toml 0'; do
     usual=0
     "$program" $words >wanted || usual=$?
     wanting=0

@@ -1,9 +1,10 @@
 #!/usr/bin/env python3
 """Makes hostile guest hypervisors from seeds, and runs each in several ways whose sections must be byte for byte the
 same: alone in one turn, alone in turns of random lengths, and beside another guest in random turns, with two choices
-of the other guest's spaces and entries, and with spare blocks, so that RAM moves after each turn. It prints each
-difference and what the guests reached, and ends with status 1 where a section differs or a run ends with another status
-than 0.
+of the other guest's spaces and entries, and with spare blocks, so that RAM moves after each turn. The guest is also
+saved at a random place, and goes on from the file beside another guest, with spare blocks; a save at the end is to be,
+byte for byte, that of the guest in one turn. It prints each difference and what the guests reached, and ends with
+status 1 where a section or a save differs or a run ends with another status than 0.
 
 An image is a hypervisor and one or two nested guests. The hypervisor goes through a list of deeds: it stores entries
 in its first-stage and second-stage tables of three and four levels (loops, roots outside RAM, wrong bits, superpages
@@ -453,15 +454,20 @@ class Ended(Exception):
     """A run that did not end with status 0."""
 
 
-def run(program, folder, text):
-    """The sections of a run, in the order of its guests."""
+def called(program, folder, text, command, *words):
+    """What a command writes, with this configuration."""
     with open(os.path.join(folder, "run.toml"), "w") as file:
         file.write(text)
-    ran = subprocess.run([program, "run", "run.toml"], cwd=folder, capture_output=True)
+    ran = subprocess.run([program, command, "run.toml", *words], cwd=folder, capture_output=True)
     if ran.returncode != 0:
-        raise Ended(f"status {ran.returncode} {ran.stderr[:200]!r}")
+        raise Ended(f"{command}: status {ran.returncode} {ran.stderr[:200]!r}")
+    return ran.stdout
+
+
+def run(program, folder, text):
+    """The sections of a run, in the order of its guests."""
     sections = []
-    rest = ran.stdout
+    rest = called(program, folder, text, "run")
     while rest:
         header, _, body = rest.partition(b"\n")
         length = int(header.split()[6])
@@ -490,6 +496,35 @@ def reached(section, counts):
         at += 6
 
 
+def saved(program, folder, chance, steps, a, b):
+    """Saves the guest `a` at a random place, and goes on from there: its section, and whether a save at the end is
+    that of one turn. `a` and `b` are the tables of the guests in format 2."""
+    place = chance.choice([chance.randrange(steps + 1), chance.randrange(min(steps, 300) + 1)])
+    alone = f"format = 2\nturns = [[0, {place}]]\n{a}"
+    with open(os.path.join(folder, "a.saved"), "wb") as file:
+        file.write(called(program, folder, alone, "save", "0"))
+    turns = turns_of(chance, steps - place, 2)
+    resumed = f'format = 2\nspare = {chance.randrange(3)}\n{turns}{b}[[guest]]\nname = "a"\nresume = "a.saved"\n'
+    section = run(program, folder, resumed)[1]
+    again = called(program, folder, resumed, "save", "1")
+    whole = called(program, folder, f"format = 2\nturns = [[0, {steps}]]\n{a}", "save", "0")
+    return section, place, again == whole
+
+
+def differing_saves(program, folder, chance, steps, tables, first, seed):
+    """What differs of the guest that is saved and goes on, from its section in one turn and its save at the end."""
+    try:
+        section, place, is_same = saved(program, folder, chance, steps, *tables)
+    except (Ended, ValueError, IndexError) as error:
+        return [f"seed {seed} saved: {error}"]
+    found = []
+    if section != first:
+        found.append(f"seed {seed} saved after {place} steps: {section[0]!r}, and in one turn {first[0]!r}")
+    if not is_same:
+        found.append(f"seed {seed} saved after {place} steps: the save at the end is not that of one turn")
+    return found
+
+
 def tried(task):
     """Runs the image of a seed in each way: what differs, and what its guest reached."""
     program, seed, steps, keep = task
@@ -504,6 +539,7 @@ def tried(task):
                     file.write(data)
         a = one.table("a", one.spaces, one.entries)
         pair = lambda spaces, entries: a + other.table("b", spaces, entries)
+        in_two = [one.table("a", one.spaces, one.entries, True), other.table("b", other.spaces, other.entries, True)]
         one_form = "format = 1\n"
         ways = [
             ("in one turn", one_form + f"turns = [[0, {steps}]]\n" + a),
@@ -512,8 +548,7 @@ def tried(task):
             ("beside it with other spaces",
              one_form + turns_of(chance, steps, 2) + pair(1 + chance.randrange(8), chance.choice([16, 32, 100]))),
             ("with spare blocks",
-             f"format = 2\nspare = {chance.choice([1, 2, 3])}\n" + turns_of(chance, steps, 2)
-             + one.table("a", one.spaces, one.entries, True) + other.table("b", other.spaces, other.entries, True)),
+             f"format = 2\nspare = {chance.choice([1, 2, 3])}\n" + turns_of(chance, steps, 2) + in_two[0] + in_two[1]),
         ]
         first = None
         for way, text in ways:
@@ -528,9 +563,12 @@ def tried(task):
                     reached(section, counts)
             elif section != first:
                 differences.append(f"seed {seed} {way}: {section[0]!r}, and in one turn {first[0]!r}")
-            if differences and keep:
-                shutil.copytree(folder, os.path.join(keep, f"{seed}"), dirs_exist_ok=True)
+            if differences:
                 break
+        else:
+            differences += differing_saves(program, folder, chance, steps, in_two, first, seed)
+        if differences and keep:
+            shutil.copytree(folder, os.path.join(keep, f"{seed}"), dirs_exist_ok=True)
     return differences, counts
 
 
@@ -561,7 +599,7 @@ def main():
                 print(difference, flush=True)
     for what, count in sorted(counts.items()):
         print(f"{what}: {count}")
-    print(f"{options.count} images, each run 5 times: {differences} differences")
+    print(f"{options.count} images, each run 6 times, one of them from a save: {differences} differences")
     return 1 if differences else 0
 
 

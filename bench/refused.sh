@@ -1,8 +1,8 @@
 #!/usr/bin/env bash
 # Refuses each allocation, read and write of the program in turn, and lets each read and write move one byte alone: of
-# `run` on examples/first, of `replay` on its report, of `check` on it, and of `work 0 1`. It prints a line for each
-# answer that is not the one that the contract has, and at the end how many calls were refused; it ends with status 1
-# where there was such a line.
+# `run` on examples/first, of `replay` on its report, of `check` on it, of `work 0 1`, of `save` of its guest, and of
+# `run` and `save` of the guest that goes on from there. It prints a line for each answer that is not the one that the
+# contract has, and at the end how many calls were refused; it ends with status 1 where there was such a line.
 #   an allocation: status 5, its line, and nothing on the output; or as if nothing was refused
 #   a read: status 3 and the line of a read, whose numbers do not fall from call to call
 #   a write: status 4, its line, and a front of the output
@@ -21,6 +21,8 @@ cp examples/first/*.toml examples/first/*.bin "$folder"
 cd "$folder"
 "$program" run first.toml >report
 printf 'format = 3\n' >wrong.toml
+"$program" save first.toml 0 >saved
+printf 'format = 2\nturns = [[0, 5]]\n[[guest]]\nname = "a"\nresume = "saved"\n' >resumed.toml
 wrong=0
 calls=0
 
@@ -106,6 +108,9 @@ tried run 2 run first.toml
 tried replay 3 replay first.toml report
 tried check 2 check first.toml
 tried work 0 work 0 1
+tried save 2 save first.toml 0
+tried 'run from a save' 2 run resumed.toml
+tried 'save from a save' 2 save resumed.toml 0
 # A line that cannot be written.
 usual=2
 : >wanted

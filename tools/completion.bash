@@ -1,8 +1,8 @@
-# Completion of bash for nesthv, nesthv-run, nesthv-inputs and examples/run. Read it by `source tools/completion.bash`,
-# or install it.
+# Completion of bash for nesthv, nesthv-run, nesthv-inputs, nesthv-saved and examples/run. Read it by `source
+# tools/completion.bash`, or install it.
 _nesthv() {
     if [ "$COMP_CWORD" -eq 1 ]; then
-        mapfile -t COMPREPLY < <(compgen -W 'run replay check work' -- "$2")
+        mapfile -t COMPREPLY < <(compgen -W 'run replay check work save' -- "$2")
     elif [ "${COMP_WORDS[1]}" = work ]; then
         COMPREPLY=()
     elif [ "$COMP_CWORD" -eq 2 ]; then
@@ -11,7 +11,15 @@ _nesthv() {
     elif [ "$COMP_CWORD" -eq 3 ] && [ "${COMP_WORDS[1]}" = replay ]; then
         compopt -o filenames
         mapfile -t COMPREPLY < <(compgen -f -- "$2")
+    elif [ "$COMP_CWORD" -eq 3 ] && [ "${COMP_WORDS[1]}" = save ]; then
+        mapfile -t COMPREPLY < <(compgen -W "$(_nesthv_guests "${COMP_WORDS[2]}")" -- "$2")
     fi
+}
+
+# The numbers of the guests of a configuration, as far as `[[guest]]` tells.
+_nesthv_guests() {
+    local count
+    count=$(grep -c '^ *\[\[guest\]\]' -- "$1" 2>/dev/null) && seq 0 $((count - 1))
 }
 
 _nesthv_run() {
@@ -28,7 +36,7 @@ _nesthv_run() {
     fi
     folder=$(dirname -- "$1")/../examples
     names=$(cd "$folder" 2>/dev/null && printf '%s ' */report | sed 's|/report||g')
-    mapfile -t COMPREPLY < <(compgen -W "run replay check $names" -- "$2"; compgen -f -- "$2")
+    mapfile -t COMPREPLY < <(compgen -W "run replay check save $names" -- "$2"; compgen -f -- "$2")
 }
 
 _nesthv_inputs() {
@@ -40,6 +48,16 @@ _nesthv_inputs() {
     fi
 }
 
+_nesthv_saved() {
+    compopt -o filenames
+    if [[ $2 == -?* ]]; then
+        mapfile -t COMPREPLY < <(compgen -W '--console --ram --help' -- "$2")
+    else
+        mapfile -t COMPREPLY < <(compgen -f -- "$2")
+    fi
+}
+
 complete -F _nesthv nesthv
 complete -F _nesthv_inputs nesthv-inputs tools/inputs
+complete -F _nesthv_saved nesthv-saved tools/saved
 complete -F _nesthv_run nesthv-run examples/run ./run tools/run

@@ -6,6 +6,7 @@ import stat
 import tomllib
 
 import records
+import saves
 import toml11
 
 BLOCK = 2097152
@@ -21,9 +22,12 @@ RANGES = {
     "entries": "an integer from 16 to 256",
     "console": "an integer from 0 to 1,048,576",
     "weight": "an integer from 1 to 1,000",
+    "resume": "the name of a file, a text of 1 to 255 bytes",
 }
 FILE_RANGES = {"spare": "an integer from 0 to 32"}
-GUEST_KEYS = {1: [*list(RANGES)[:-1], "input"], 2: [*RANGES, "input"]}
+GUEST_KEYS = {1: ["name", "image", "blocks", "spaces", "entries", "console", "input"]}
+GUEST_KEYS[2] = [*GUEST_KEYS[1], "weight"]
+RESUMED_KEYS = ["name", "resume", "weight"]  # of a guest of format 2 that goes on from a file
 FILE_KEYS = {1: ["format", "guest", "turns", "quantum", "rounds"]}
 FILE_KEYS[2] = [*FILE_KEYS[1], *FILE_RANGES]
 
@@ -72,9 +76,15 @@ def file_name(value):
     return value if isinstance(value, str) and value and "\0" not in value else None
 
 
+def is_resumed(document, guest):
+    """Whether a guest of this document goes on from the file of a saved one."""
+    return format_of(document) == 2 and "resume" in guest
+
+
 def image_names(document):
-    """The name of each guest's image, or none where there is no text."""
-    return [file_name(guest.get("image")) for guest in guests_of(document)]
+    """The name of each guest's image, or none where there is no text or the guest goes on from a file."""
+    return [None if is_resumed(document, guest) else file_name(guest.get("image"))
+            for guest in guests_of(document)]
 
 
 def guest_files(document):
@@ -82,6 +92,9 @@ def guest_files(document):
     words, and its name, or none where there is no text."""
     files = []
     for number, guest in enumerate(guests_of(document)):
+        if is_resumed(document, guest):
+            files.append((f"the saved file of guest {number}", file_name(guest["resume"])))
+            continue
         files.append((f"the image of guest {number}", file_name(guest.get("image"))))
         if format_of(document) == 2 and "input" in guest:
             files.append((f"the input file of guest {number}", file_name(guest["input"])))
@@ -141,13 +154,33 @@ def are_pairs_wrong(inputs):
     return not isinstance(inputs, list) or first_wrong(inputs, 2**62 - 1, 255) is not None
 
 
+def bytes_at(path, most):
+    """The bytes of the file at this path, as many as the program reads; none where it is no regular file."""
+    try:
+        with open(path if os.path.isfile(path) else os.devnull, "rb") as file:
+            return file.read(most)
+    except (OSError, ValueError):
+        return b""
+
+
+def frames_in(folder, document, guest):
+    """How many frames a guest of this document, in this folder, needs, or `?` where its file does not say."""
+    if not is_resumed(document, guest):
+        return frames_of(guest)
+    try:
+        return saves.Saved(bytes_at(os.path.join(folder, guest["resume"]), saves.MOST_BYTES)).frames()
+    except saves.Wrong:
+        return "?"
+
+
 def frames_of(guest):
     return BLOCK_FRAMES * guest["blocks"] + 5 + guest["spaces"] * (4 + 3 * guest["entries"])
 
 
-def too_many_frames(document, frames):
-    """Why the guests and the spare blocks of a document have no room."""
-    needs = "; ".join(f"{index}: {frames_of(each)}" for index, each in enumerate(guests_of(document)))
+def too_many_frames(document, frames, folder):
+    """Why the guests and the spare blocks of a document in this folder have no room."""
+    needs = "; ".join(f"{index}: {frames_in(folder, document, each)}"
+                      for index, each in enumerate(guests_of(document)))
     spare = document.get("spare", 0)
     are_needed = f"the guests and the spare blocks need {frames}" if spare else f"the guests need {frames}"
     beside = f"; `spare = {spare}`: {BLOCK_FRAMES * spare}" if spare else ""
@@ -204,17 +237,26 @@ def input_wrong(guest, form):
 def input_file_wrong(path, who, record):
     """What is wrong with the record of this number in the input file at this path."""
     what = f"record {record} of the input file {path} of {who}: "
-    try:
-        with open(path if os.path.isfile(path) else os.devnull, "rb") as file:
-            data = file.read(records.MOST_BYTES)
-    except (OSError, ValueError):
-        data = b""
+    data = bytes_at(path, records.MOST_BYTES)
     wrong = records.first_wrong(data)
     if wrong is None or wrong[0] != record:
         return what + "it is to have 9 bytes: a moment, which is below 2^62 and not less than the one " \
             "before, and a byte"
     is_text = data.isascii() and b"\0" not in data
     return what + wrong[1] + ("; the file is a text: `tools/inputs` makes records of it" if is_text else "")
+
+
+def saved_file_wrong(path, who):
+    """Why the file at this path is no saved guest."""
+    what = f"{path}, which `resume` of {who} names, is no saved guest"
+    if not os.path.isfile(path):
+        return f"{what}, and no regular file"
+    return f"{what}: {saves.wrong(bytes_at(path, saves.MOST_BYTES)) or 'it has changed by now'}"
+
+
+def guest_missing(count, value):
+    """Why there is no guest of this number to save."""
+    return f"there is no guest {value} to save: guests are numbered from 0, and the last one is {count - 1}"
 
 
 def weight_wrong(guest, who, quantum, product):
@@ -229,7 +271,7 @@ class Guest:
 
     def __init__(self, document, number):
         guests = guests_of(document)
-        self.number, self.form = number, format_of(document)
+        self.number, self.form, self.document = number, format_of(document), document
         self.table = guests[number] if number is not None and number < len(guests) else {}
         self.before = guests[:number]
         name = self.table.get("name")
@@ -244,12 +286,32 @@ class Guest:
         shown = f"{value}" if value is not None else repr(self.table.get(key))
         return f"`{key}` of {self.who} is {shown}: it is to be {RANGES[key]}"
 
-    def extra_keys(self, document):
+    def keys(self):
+        """The keys that the guest may have, or without one the file."""
+        if self.number is None:
+            return FILE_KEYS[self.form]
+        return RESUMED_KEYS if is_resumed(self.document, self.table) else GUEST_KEYS[self.form]
+
+    def meant(self, name):
+        """What an extra key may be meant as, in words, or nothing."""
+        if self.number is not None and self.keys() is RESUMED_KEYS and name in GUEST_KEYS[2]:
+            return " (the file that `resume` names tells it)"
+        of_format_2 = FILE_KEYS[2] if self.number is None else [*GUEST_KEYS[2], *RESUMED_KEYS]
+        return meant(name, self.keys(), of_format_2)
+
+    def lacks(self, key):
+        """That the guest has no such key, and which it may be."""
+        near = misspelt(key, self.table, GUEST_KEYS[self.form])
+        if key == "image" and self.form == 2:
+            near = near or misspelt("resume", self.table, GUEST_KEYS[2])
+            near += "; a guest that goes on from a file has `resume` in its place"
+        return f"{self.who} lacks `{key}`: {RANGES[key]}{near}"
+
+    def extra_keys(self):
         """Which keys the guest, or without one the file, has and should not."""
         is_file = self.number is None
-        there, keys = (document, FILE_KEYS) if is_file else (self.table, GUEST_KEYS)
-        known = keys[self.form]
-        extra = ", ".join(f"`{name}`{meant(name, known, keys[2])}" for name in there if name not in known)
+        there, known = self.document if is_file else self.table, self.keys()
+        extra = ", ".join(f"`{name}`{self.meant(name)}" for name in there if name not in known)
         is_misplaced = not is_file and set(there) & set(FILE_KEYS[2])
         moved = "; keys of the file stand before the first `[[guest]]`" if is_misplaced else ""
         who = "the file" if is_file else self.who
@@ -293,8 +355,7 @@ def of_configuration(folder, text, number, guest, key, value):
         case 3 if key == "guest":
             return file_lacks("guest", document)
         case 3:
-            return f"{named.who} lacks `{key}`: {RANGES[key]}" \
-                + misspelt(key, named.table, GUEST_KEYS[named.form])
+            return named.lacks(key)
         case 4 if key == "guest":
             return guests_wrong(document, value)
         case 4 if guest is None:
@@ -308,17 +369,21 @@ def of_configuration(folder, text, number, guest, key, value):
         case 7:
             return f"{named.who}: {input_wrong(named.table, named.form)}"
         case 8:
-            return named.extra_keys(document)
+            return named.extra_keys()
         case 9:
             return f"the file has more than {MOST_BYTES:,} bytes, which are the most"
         case 10:
             return too_long(named.table, named.who, os.path.join(folder, named.table["image"]))
         case 11:
-            return too_many_frames(document, value)
+            return too_many_frames(document, value, folder)
         case 12:
             return input_file_wrong(os.path.join(folder, named.table["input"]), named.who, value)
         case 13:
             return weight_wrong(named.table, named.who, document["quantum"], value)
+        case 14:
+            return saved_file_wrong(os.path.join(folder, named.table["resume"]), named.who)
+        case 15:
+            return guest_missing(len(guests), value)
     return ""
 
 
@@ -366,9 +431,10 @@ def explained(line, configuration, text, report=None):
     if found := re.match(r"nesthv: read fault (\d+)$", line):
         return of_read(int(found[1]), configuration, parsed(text)[0], report)
     if line.startswith("nesthv: usage: "):
-        return "the name of a file is no UTF-8, which the program wants"
+        return "the name of a file is no UTF-8, which the program wants, or the number of the guest to save " \
+            "is not 1 or 2 decimal digits"
     if line == "nesthv: write fault":
-        return "the report could not be written: the disk is full, or the program that reads the pipe has " \
+        return "the output could not be written: the disk is full, or the program that reads the pipe has " \
             "ended"
     if line == "nesthv: out of memory":
         return "there is no memory for the files, the guests' memory or a console: lower `blocks` or `spare`, " \

@@ -21,7 +21,8 @@ class CommonTest(ToolTest):
 
     def test_help_of_scripts(self):
         for name in ("examples/run", "examples/check", "examples/build", "examples/words", "bench/steps.sh",
-                     "bench/folded.sh", "bench/compare.sh", "bench/work.sh", "bench/hypervisors.py"):
+                     "bench/folded.sh", "bench/compare.sh", "bench/work.sh", "bench/save.sh",
+                     "bench/hypervisors.py"):
             ran = self.tool(name, "--help")
             self.check_plain(ran, 0)
             self.assertIn(b"usage:", ran.stdout.lower())

@@ -1,0 +1,158 @@
+"""Files of saved guests, as `nesthv save` writes them: 608 bytes and more of numbers and lists, and RAM behind
+them. docs/saved.md has the table. Numbers have 8 bytes, the lowest first.
+"""
+import struct
+
+BLOCK = 2097152
+MOST_BYTES = 68797153  # that the program reads: one more than a good file has
+LETTERS = b"NESTHV01"
+RAM = 0x80000000
+STATUSES, MODES = ["running", "waiting", "stopped"], ["HS", "U", "VS", "VU"]
+HEAD = ["blocks", "spaces", "entries", "console", "status", "steps", "clock", "timer", "mode", "pc"]
+ANY = 2**64 - 1
+# Which bits of each register a file may have, and which it has always.
+REGISTERS = {
+    "sstatus": (0xC0122, 2 << 32), "sie": (0x222, 0), "stvec": (ANY - 2, 0), "scounteren": (2, 0),
+    "senvcfg": (1, 0), "sscratch": (ANY, 0), "sepc": (ANY - 3, 0), "scause": (ANY, 0), "stval": (ANY, 0),
+    "sip.SSIP": (1, 0), "satp": (ANY, 0), "vsstatus": (0xC0122, 2 << 32), "vstvec": (ANY - 2, 0),
+    "vsscratch": (ANY, 0), "vsepc": (ANY - 3, 0), "vscause": (ANY, 0), "vstval": (ANY, 0), "vsatp": (ANY, 0),
+    "hstatus": (0x7003C0, 2 << 32), "hedeleg": (0xB1FF, 0), "hideleg": (0x444, 0), "hie": (0x444, 0),
+    "htimedelta": (ANY, 0), "hcounteren": (2, 0), "henvcfg": (1, 0), "htval": (ANY, 0), "hvip": (0x444, 0),
+    "htinst": (ANY, 0), "hgatp": (0xF << 60 | 0x7F << 44 | (1 << 44) - 4, 0)}
+NAMES = [*HEAD, *(f"x{number}" for number in range(1, 32)), *REGISTERS, "reservation width",
+         "reservation address"]
+RANGES = {"blocks": (1, 32), "spaces": (1, 8), "entries": (16, 256), "console": (0, 1048576),
+          "status": (0, 2), "steps": (0, 2**60), "mode": (0, 3)}
+MOST_INPUTS = 65536
+
+
+class Wrong(Exception):
+    """Why bytes are no saved guest, in words."""
+
+
+def wants(is_right, words):
+    if not is_right:
+        raise Wrong(words)
+
+
+class Reader:
+    """Takes the bytes of a file from its begin on."""
+
+    def __init__(self, data):
+        self.data, self.at = data, 0
+
+    def take(self, count, what):
+        wants(len(self.data) - self.at >= count,
+              f"it has {len(self.data):,} bytes, and ends within {what}, which begin at offset {self.at:,}")
+        self.at += count
+        return self.data[self.at - count:self.at]
+
+    def numbers(self, count, what):
+        return struct.unpack(f"<{count}Q", self.take(8 * count, what))
+
+    def count(self, most, what):
+        number, = self.numbers(1, what)
+        wants(number <= most, f"at offset {self.at - 8:,} the number of {what} is {number}: at most {most:,}")
+        return number
+
+
+class Saved:
+    """A saved guest: its numbers by name, its console, its unread inputs, its spaces, and where its RAM
+    begins."""
+
+    def __init__(self, data):
+        reader = Reader(data)
+        wants(reader.take(8, "its letters") == LETTERS,
+              f"it does not begin with `{LETTERS.decode()}`, so `nesthv save` has not written it")
+        self.numbers = dict(zip(NAMES, reader.numbers(len(NAMES), "the numbers")))
+        test_numbers(self.numbers)
+        self.console = reader.take(reader.count(self.numbers["console"], "console bytes"), "console bytes")
+        count = reader.count(MOST_INPUTS, "unread inputs")
+        self.inputs = list(struct.iter_unpack("<QB", reader.take(9 * count, "unread inputs")))
+        test_inputs(self.inputs)
+        self.spaces = []
+        for _ in range(reader.count(self.numbers["spaces"], "spaces")):
+            key, = reader.numbers(1, "spaces")
+            count = reader.count(self.numbers["entries"], "entries of a space")
+            found = struct.iter_unpack("<3Q", reader.take(24 * count, "entries"))
+            self.spaces.append((key, list(found)))
+        test_spaces(self.numbers, self.spaces)
+        self.front = reader.at
+        has, ram = len(data) - self.front, self.numbers["blocks"] * BLOCK
+        wants(has == ram, f"{has:,} bytes stand behind offset {self.front:,}, and RAM has {ram:,}: it is "
+              + ("cut" if has < ram else "too long"))
+
+    def frames(self):
+        """How many frames of machine memory the guest needs."""
+        number = self.numbers
+        return 512 * number["blocks"] + 5 + number["spaces"] * (4 + 3 * number["entries"])
+
+
+def offset_of(name):
+    return 8 + 8 * NAMES.index(name)
+
+
+def wrong_number(numbers, name, words):
+    return f"at offset {offset_of(name)} {name} is {numbers[name]:#x}: {words}"
+
+
+def test_numbers(numbers):
+    def test(name, is_right, words):
+        wants(is_right, wrong_number(numbers, name, words))
+    for name, (least, most) in RANGES.items():
+        wants(least <= numbers[name] <= most, f"at offset {offset_of(name)} {name} is {numbers[name]}: it is "
+              f"to be {least:,} to {most:,}")
+    test("clock", numbers["clock"] <= 2**62 + numbers["steps"], "at most 2^62 more than the steps")
+    test("pc", numbers["pc"] % 4 == 0, "it is to be a multiple of 4")
+    for name, (bits, fixed) in REGISTERS.items():
+        test(name, numbers[name] & ~bits == fixed, f"of the bits outside {bits:#x} it is to have {fixed:#x}")
+    for name in ("satp", "vsatp", "hgatp"):
+        test(name, numbers[name] >> 60 in (8, 9) or numbers[name] == 0, "its MODE is to be 8 or 9, or all 0")
+    width, address = numbers["reservation width"], numbers["reservation address"]
+    test("reservation width", width in (0, 4, 8), "it is to be 4 or 8, or 0 for none")
+    in_ram = RAM <= address <= RAM + numbers["blocks"] * BLOCK - width
+    test("reservation address", width and in_ram and address % width == 0 or not width and address == 0,
+         "it is to be in RAM, at a multiple of its width, or 0 for none")
+
+
+def test_inputs(inputs):
+    before = 0
+    for number, (moment, _) in enumerate(inputs):
+        wants(before <= moment < 2**62, f"the moment of unread input {number} is {moment}: moments do not "
+              "fall, and are below 2^62")
+        before = moment
+
+
+def test_spaces(numbers, spaces):
+    keys = [key for key, _ in spaces]
+    bits = REGISTERS["hgatp"][0]
+    for number, (key, entries) in enumerate(spaces):
+        wants(key >> 60 in (8, 9) and not key & ~bits, f"the key of space {number} is {key:#x}, which hgatp "
+              "cannot hold, or which is Bare")
+        wants(keys.index(key) == number, f"the key of space {number}, {key:#x}, is that of one before")
+        test_entries(numbers, number, 38 if key >> 60 == 9 else 29, entries)
+    if numbers["mode"] >= 2 and numbers["hgatp"]:
+        wants(keys[:1] == [numbers["hgatp"]], "in VS or VU the first space is that of hgatp, "
+              f"{numbers['hgatp']:#x}")
+
+
+def test_entries(numbers, number, bits, entries):
+    pages, first = set(), RAM >> 12
+    for index, (page, frame, flags) in enumerate(entries):
+        what = f"entry {index} of space {number}: "
+        wants(page < 1 << bits and page not in pages, f"{what}the page {page:#x} is to be below 2^{bits}, "
+              "and no other entry's")
+        wants(first <= frame < first + numbers["blocks"] * 512, f"{what}the frame {frame:#x} is not in RAM")
+        wants(flags >> 3 <= (3 if bits == 38 else 2) and flags & 7 in (1, 3, 4, 5, 7),
+              f"{what}the flags are {flags:#x}: w needs r, r or x is set, and the level is 0 to "
+              + ("3" if bits == 38 else "2"))
+        pages.add(page)
+
+
+def wrong(data):
+    """Why these bytes are no saved guest, in words, or none."""
+    try:
+        Saved(data)
+    except Wrong as why:
+        return str(why)
+    return None

@@ -1,0 +1,208 @@
+"""Tests of what the tools say of saved guests."""
+import os
+import random
+import re
+import struct
+import subprocess
+
+from helper import LETTER, PROGRAM, TOP, ToolTest
+
+TURNS = "format = 2\nturns = [[0, 3]]\n"
+RESUMED = {"image": None, "blocks": None, "spaces": None, "entries": None, "console": None, "resume": '"s"'}
+HGATP = 0x8000100000080004
+
+
+def form(console=b"", inputs=(), held=(), ram=bytes(2097152), **numbers):
+    """The file of a guest that has these numbers, and others as at its start, and holds these spaces."""
+    import saves
+    fixed = {name: value for name, (_, value) in saves.REGISTERS.items()}
+    start = {"blocks": 1, "spaces": 1, "entries": 16, "console": 100, "timer": 2**64 - 1, "pc": saves.RAM}
+    known = {**fixed, **start, **{name.replace("_", " "): value for name, value in numbers.items()}}
+    made = b"NESTHV01" + struct.pack("<72Q", *(known.get(name, 0) for name in saves.NAMES))
+    made += struct.pack("<Q", len(console)) + console + struct.pack("<Q", len(inputs))
+    made += b"".join(struct.pack("<QB", *pair) for pair in inputs) + struct.pack("<Q", len(held))
+    for key, entries in held:
+        made += struct.pack("<QQ", key, len(entries))
+        made += b"".join(struct.pack("<3Q", *entry) for entry in entries)
+    return made + ram
+
+
+class FileTest(ToolTest):
+    """What is said of a file."""
+
+    def test_offsets(self):
+        import saves
+        self.assertEqual(len(form()), 2097760)
+        self.assertEqual([saves.offset_of(name) for name in ("blocks", "pc", "x1", "sstatus", "hgatp")],
+                         [8, 80, 88, 336, 560])
+        data = form(b"A", [(5, 66)], [(HGATP, [(1, 0x80000, 5)])])
+        self.assertEqual(saves.Saved(data).front, 608 + 1 + 9 + 40)
+
+    def test_table(self):
+        """The table of docs/saved.md has each number at its offset."""
+        import saves
+        other = {"x31": "x31", "SSIP": "sip.SSIP", "width": "reservation width", "its": "reservation address"}
+        with open(os.path.join(TOP, "docs", "saved.md"), encoding="utf-8") as file:
+            rows = re.findall(r"^\| (\d[\d, to]*) \| ([^|]*) \|", file.read().split("## The numbers")[1], re.M)
+        found = {}
+        for offsets, words in rows:
+            words = [word.strip("`:,") for word in words.split()]
+            for index, offset in enumerate(re.findall(r"\d+", offsets)):
+                word = words[2 * index] if offsets.count(" to ") else words[index]
+                found[other.get(word, word)] = int(offset)
+        wanted = {name: saves.offset_of(name) for name in saves.NAMES}
+        self.assertEqual(found, {name: wanted[name] for name in found})
+        self.assertEqual(set(wanted) - set(found), {f"x{number}" for number in range(2, 31)})
+
+    def test_right_files(self):
+        import saves
+        for data in (form(), form(b"x" * 100), form(inputs=[(5, 1), (5, 2), (2**62 - 1, 3)]),
+                     form(mode=3, hgatp=HGATP, held=[(HGATP, [(2**29 - 1, 0x801FF, 7 + 16)])]),
+                     form(steps=2**60, clock=2**62 + 2**60, status=2, reservation_width=8,
+                          reservation_address=0x801FFFF8), form(blocks=2, ram=bytes(4194304))):
+            self.assertIsNone(saves.wrong(data))
+
+    def test_wrong_files(self):
+        import saves
+        entry = (1, 0x80000, 5)
+        for data, words in (
+                (b"", "it has 0 bytes, and ends within its letters"),
+                (LETTER, "so `nesthv save` has not written it"),
+                (form()[:-1], "2,097,151 bytes stand behind offset 608, and RAM has 2,097,152: it is cut"),
+                (form() + b"\0", "it is too long"),
+                (form()[:600], "ends within spaces, which begin at offset 600"),
+                (form(blocks=33), "at offset 8 blocks is 33: it is to be 1 to 32"),
+                (form(entries=15), "at offset 24 entries is 15"),
+                (form(steps=2**60 + 1), "at offset 48 steps is"),
+                (form(clock=2**62 + 1), "at offset 56 clock is 0x4000000000000001: at most 2^62 more"),
+                (form(pc=2), "at offset 80 pc is 0x2: it is to be a multiple of 4"),
+                (form(sstatus=0), "sstatus is 0x0: of the bits outside 0xc0122 it is to have 0x200000000"),
+                (form(satp=10 << 60), "its MODE is to be 8 or 9"),
+                (form(reservation_width=4), "it is to be in RAM"),
+                (form(b"x" * 101), "at offset 584 the number of console bytes is 101: at most 100"),
+                (form(inputs=[(5, 1), (4, 1)]), "the moment of unread input 1 is 4"),
+                (form(held=[(0, [])]), "the key of space 0 is 0x0"),
+                (form(held=[(HGATP, [])] * 2), "the number of spaces is 2: at most 1"),
+                (form(held=[(HGATP, [])] * 2, spaces=2), "the key of space 1, 0x8000100000080004, is that of"),
+                (form(held=[(HGATP, [entry, entry])]), "entry 1 of space 0: the page 0x1"),
+                (form(held=[(HGATP, [(1, 0x80200, 5)])]), "the frame 0x80200 is not in RAM"),
+                (form(held=[(HGATP, [(1, 0x80000, 2)])]), "the flags are 0x2"),
+                (form(mode=2, hgatp=HGATP), "the first space is that of hgatp")):
+            self.assertIn(words, saves.wrong(data) or "")
+
+    def test_saved(self):
+        self.put("s", form(b"Hi\n", [(5, 65)], [(HGATP, [(1, 0x80000, 5), (2, 0x80001, 7 + 8)])], x10=7))
+        ran = self.tool("tools/saved", "s")
+        self.check_plain(ran, 0)
+        for line in ("running in HS, steps 0, clock 0, timer 18446744073709551615",
+                     "blocks 1, spaces 1, entries 16, console 100",
+                     "3 console bytes, 1 unread inputs, 1 of 1 spaces", "RAM from offset 684 to 2097836",
+                     "input 65 at 5", "space 8000100000080004: 2 entries, oldest first",
+                     "  page 1 frame 80000 r-x level 0", "  page 2 frame 80001 rwx level 1"):
+            self.assertIn(line, ran.stdout.decode().splitlines())
+        self.assertEqual(self.tool("tools/saved", "--console", "s").stdout, b"Hi\n")
+        self.assertEqual(self.tool("tools/saved", "--ram", "s").stdout, bytes(2097152))
+        with open(os.path.join(self.folder, "s"), "rb") as file:
+            self.assertEqual(self.tool("tools/saved", "-", stdin=file).stdout, ran.stdout)
+
+    def test_saved_refuses(self):
+        ran = self.tool("tools/saved", "a.bin")
+        self.check_plain(ran, 2)
+        self.check_said(ran, "a.bin is no saved guest: it does not begin with `NESTHV01`")
+        self.check_plain(self.tool("tools/saved", "none"), 2)
+
+
+class FaultTest(ToolTest):
+    """What is said of a line of the program."""
+
+    def explained(self, line, front=TURNS, **keys):
+        import faults
+        path = self.configure(front=front, **keys)
+        return faults.explained("nesthv: " + line, path, faults.text_of(path))
+
+    def test_faults(self):
+        fault = "configuration fault "
+        self.put("s", form()[:-1])
+        for line, words, keys in (
+                ("14 guest 0", "s, which `resume` of guest 0 ('a') names, is no saved guest: 2,097,151", {}),
+                ("14 guest 0", "and no regular file", {"resume": '"none"'}),
+                ("4 guest 0 key resume", "`resume` of guest 0 ('a') is '': it is to be the name of a file",
+                 {"resume": '""'}),
+                ("4 guest 0 key resume value 5", "is 5: it is to be the name of a file", {"resume": 5}),
+                ("8 guest 0", "`blocks` (the file that `resume` names tells it), and its keys are name, "
+                 "resume, weight", {"blocks": 1}),
+                ("8 guest 0", "`wieght` (is it to be `weight`?)", {"wieght": 1}),
+                ("3 guest 0 key image", "lacks `image`", {"resume": None}),
+                ("3 guest 0 key image", "(is `resum` to be it?)", {"resume": None, "resum": '"s"'}),
+                ("3 guest 0 key image", "has `resume` in its place", {"resume": None})):
+            self.assertIn(words, self.explained(fault + line, **{**RESUMED, **keys}))
+
+    def test_number_of_no_guest(self):
+        self.assertIn("there is no guest 7 to save: guests are numbered from 0, and the last one is 0",
+                      self.explained("configuration fault 15 value 7"))
+
+    def test_frames(self):
+        self.put("s", form(spaces=8, entries=256))
+        self.assertIn("By guest: 0: 6693", self.explained("configuration fault 11 value 131073", **RESUMED))
+        self.put("s", b"")
+        self.assertIn("By guest: 0: ?", self.explained("configuration fault 11 value 131073", **RESUMED))
+
+    def test_read_fault(self):
+        words = self.explained("read fault 2", **{**RESUMED, "resume": '"none"'})
+        self.assertIn("the saved file", words)
+        self.assertIn("none of guest 0 cannot be read: there is no such file", words)
+
+    def test_other_format(self):
+        front = "format = 1\nturns = []\n"
+        self.assertIn("`resume` (a key of `format = 2`)",
+                      self.explained("configuration fault 8 guest 0", front=front, resume='"s"'))
+
+    def test_qemu(self):
+        ran = self.tool("tools/qemu-run", self.configure(front=TURNS, **RESUMED))
+        self.check_plain(ran, 2)
+        self.check_said(ran, "goes on from a saved one")
+
+
+class ProgramTest(ToolTest):
+    """Saves by the program."""
+
+    def save(self, *words, **options):
+        return self.tool("tools/run", "save", *words, **options)
+
+    def test_save_and_resume(self):
+        ran = self.save(self.configure(front=TURNS), "0")
+        self.check_plain(ran, 0)
+        ram = LETTER.ljust(2097152, b"\0")
+        self.assertEqual(ran.stdout, form(b"A", ram=ram, steps=3, clock=3, x17=1, pc=0x8000000C))
+        self.put("s", ran.stdout)
+        ran = self.tool("tools/run", self.configure(front=TURNS, **RESUMED))
+        self.check_plain(ran, 0)
+        self.assertEqual(ran.stdout, b"guest a stopped steps 5 bytes 1\nA\n")
+
+    def test_refused(self):
+        path = self.configure(front=TURNS)
+        ran = self.save(path, "1")
+        self.check_plain(ran, 2)
+        self.check_said(ran, "there is no guest 1 to save")
+        self.check_plain(self.save(path, "x"), 1)
+        self.check_plain(self.save(path), 2)
+        self.check_plain(self.save("--json", path, "0"), 2)
+        self.put("s", b"")
+        ran = self.tool("tools/run", "check", self.configure(front=TURNS, **RESUMED))
+        self.check_plain(ran, 2)
+        self.check_said(ran, "is no saved guest: it has 0 bytes")
+
+    def test_changed_files(self):
+        """The tool finds a fault exactly where the program does."""
+        import saves
+        chosen = random.Random(41)
+        whole = form(b"x" * 20, [(5, 1), (7, 2)], [(HGATP, [(1, 0x80000, 5), (2, 0x80001, 7 + 8)])], mode=2,
+                     hgatp=HGATP, reservation_width=4, reservation_address=0x80000000)
+        path = self.configure(front=TURNS, **RESUMED)
+        for _ in range(300):
+            data = bytearray(whole)
+            data[chosen.randrange(saves.Saved(whole).front)] ^= 1 << chosen.randrange(8)
+            data = data[:chosen.choice([len(data)] * 9 + [chosen.randrange(len(data))])]
+            self.put("s", bytes(data))
+            ran = subprocess.run([PROGRAM, "check", path], cwd=self.folder, capture_output=True)
+            self.assertEqual(ran.returncode, 2 if saves.wrong(bytes(data)) else 0, saves.wrong(bytes(data)))
