@@ -187,7 +187,7 @@ pub config_refused : {A : Type 0} (f : Files) (command : FileCommand) (found : C
 config_refused f command found result before after text refused accepted read = (
   rw accepted (refused_first (config_of f command) result found (guest_fault command (Err found)) text refused),
   subst (λ asks. AskedMore (ask (config_name command) config_most ∷ asks) before after)
-  (sym (nothing_else (text_fault (config_of f command)) (fault_by (accept (config_of f command))) (guest_fault command (accept (config_of f command))))) read,
+      (sym (nothing_else (text_fault (config_of f command)) (fault_by (accept (config_of f command))) (guest_fault command (accept (config_of f command))))) read,
 )
   where
     nothing_else : (one two three : Option ConfigFault) → asks_unless one (made_of (making two ∷ testing three ∷ [])) ≡ []

@@ -1,5 +1,12 @@
 -- The machine of a guest that is saved.
-use Rattle.std.proofs.Common.{◌≡◌, ◌∙◌, ℕ, ◌<◌, ◌≤◌, ◌^◌, Bool, false, List, length, get_or, ap, sym, subst}
+use Rattle.std.specs.Borrow.{Bor}
+use Rattle.std.proofs.Common.{◌≡◌, ◌∙◌, ℕ, ◌+◌, ◌<◌, ◌≤◌, ◌^◌, Bool, true, false, List, None, length, get_or, nat_le, refl, ap, sym, subst, arith}
+use Rattle.command_line.specs.Commands.{OnFiles}
+use Rattle.command_line.specs.declared.commands.FileRequest.{FileRequest}
+use Rattle.command_line.specs.declared.commands.FileRequest.TheVariants as file_request
+use Rattle.command_line.specs.Seen.{file_command_seen}
+use Rattle.run_config.specs.declared.faults.ConfigFault.TheVariants as fault
+use Rattle.run_config.specs.Tests.{unless}
 use Rattle.std.proofs.lemmas.List.{get_or-map, length-map}
 use Rattle.guest_save.specs.Forms.{form}
 use Rattle.guest_save.specs.Savable.{IsSavable}
@@ -14,9 +21,10 @@ use Rattle.machine_defs.specs.Machine.{Machine}
 use Rattle.machine_defs.specs.Runs.{run}
 use Rattle.outside.specs.Pieces.{Puts}
 use Rattle.nesthv_top.specs.declared.ends.Job.{Job}
-use Rattle.nesthv_top.specs.Plans.{IsResumable, machine_after}
+use Rattle.nesthv_top.specs.Endings.{IfSave}
+use Rattle.nesthv_top.specs.Plans.{IsResumable, machine_after, name_of_source}
 use Rattle.nesthv_top.specs.Runnings.{hosted_as}
-use Rattle.nesthv_top.specs.Seen.{plan_seen, IsJob}
+use Rattle.nesthv_top.specs.Seen.{plan_seen, HasGuest, IsJob}
 use Rattle.nesthv_top.proofs.RetiredMachines.{active_one, as_many_hosted}
 use Rattle.nesthv_top.proofs.SourceMachines.{no_source}
 
@@ -36,6 +44,7 @@ put_saved stands_for old new whole job g m is put = subst (λ m. Puts stands_for
 -- and it can be saved
 pub resumable : (job : Job) (g : ℕ) (m : Machine) → IsJob job → g < length job.sources.items → m ≡ machine_after (plan_seen job) g → (MayBeSaved m → IsSavable m)
     → IsResumable (plan_seen job) g
+unfolding IsResumable
 resumable job g m is inside same can = λ few. subst IsSavable same (can (subst MayBeSaved (sym same) (may few)))
   where
     source : Source
@@ -56,3 +65,21 @@ pub as_many_sources : (job : Job) (retired : List Bool) (after : List Machine) �
 as_many_sources job retired after is =
     let first = machines_of_sources job.sources.items in
     ap length is ∙ as_many_hosted retired (with_turns job.config.turns first) ∙ turns_keep_count job.config.turns first ∙ length-map job.sources.items machine_of_source
+
+-- the guest that a command saves is one of the job's
+lacks : (guest count : ℕ) (there : Bool) → nat_le (guest + 1) count ≡ there → unless there (fault.Guest guest) ≡ None → guest < count
+lacks guest count true is none = let within : guest + 1 ≤ count = grind (arith, is) in omega (arith, within)
+lacks guest count false is none = cc
+
+pub guest_there : (request : FileRequest) (config : Bor (List ℕ)) (guest : ℕ) (job : Job) → request ≡ file_request.Save config guest → HasGuest (file_command_seen request) job.config → IsJob job
+    → guest < length job.sources.items
+guest_there request config guest job is has job_is =
+    let own : unless (nat_le (guest + 1) (length job.config.guests)) (fault.Guest guest) ≡ None = rw is at has in
+    let there : guest < length job.config.guests = lacks guest (length job.config.guests) (nat_le (guest + 1) (length job.config.guests)) refl own in
+    let as_many : length job.sources.items ≡ length job.config.guests =
+    sym (length-map job.sources.items name_of_source) ∙ ap length job_is.names ∙ length-map job.config.guests (λ guest. guest.name) in
+    omega (arith, there, as_many)
+
+pub saved_there : (request : FileRequest) (config : Bor (List ℕ)) (guest : ℕ) (job : Job) → request ≡ file_request.Save config guest → IsResumable (plan_seen job) guest
+    → IfSave (OnFiles (file_command_seen request)) (IsResumable (plan_seen job))
+saved_there request config guest job is can = rw is can

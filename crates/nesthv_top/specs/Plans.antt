@@ -151,6 +151,6 @@ abbrev pub machine_after : Plan → ℕ → Machine
 machine_after plan guest = run (machine_at (machines_of plan) guest) (own_steps guest plan.turns)
 
 -- it can be saved, unless it has made too many steps
-abbrev pub IsResumable : Plan → ℕ → Type 0
+unfoldable pub IsResumable : Plan → ℕ → Type 0
 IsResumable plan guest =
     (machine_after plan guest).platform.steps ≤ 2 ^ 60 → IsSavable (machine_after plan guest)

@@ -1,15 +1,17 @@
 -- The plan that the program's own values stand for.
 use Rattle.std.specs.List.{All}
 use Rattle.arch_defs.specs.Frames.{most_frames}
-use Rattle.std.specs.Prelude.{◌≡◌, ◌≤◌, ℕ, List, map}
+use Rattle.std.specs.Prelude.{◌≡◌, ◌≤◌, ℕ, List, None, Ok, map}
+use Rattle.command_line.specs.Commands.{FileCommand}
 use Rattle.frame_split.specs.Shares.{frames_with}
 use Rattle.guest_turns.specs.declared.sources.Source.{Source}
 use Rattle.guest_turns.specs.Sources.{IsBootableSource, needs_of_sources}
 use Rattle.run_config.specs.declared.guests.GuestSettings.{GuestSettings}
-use Rattle.run_config.specs.Configurations.{IsWithinLimits}
+use Rattle.run_config.specs.Configurations.{Configuration, IsWithinLimits}
 use Rattle.nesthv_top.specs.declared.ends.Job.{Job}
 use Rattle.nesthv_top.specs.declared.ends.Loaded.{Loaded}
 use Rattle.nesthv_top.specs.Plans.{Plan, name_of_source}
+use Rattle.nesthv_top.specs.Reads.{guest_fault}
 
 abbrev pub plan_with : List Source → List (ℕ × ℕ) → ℕ → Plan
 plan_with sources turns spare = record { sources = sources; turns = turns; spare = spare }
@@ -34,3 +36,7 @@ pub record IsJob (job : Job) : Type 0 where
   pub sources : All IsBootableSource job.sources.items
   pub frames : job.frames ≡ frames_with (needs_of_sources job.sources.items) job.config.spare
   pub few : job.frames ≤ most_frames
+
+-- a configuration has the guest that a command saves, if it saves one
+abbrev pub HasGuest : FileCommand → Configuration → Type 0
+HasGuest command c = guest_fault command (Ok c) ≡ None

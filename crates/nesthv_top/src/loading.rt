@@ -19,7 +19,7 @@ ghost use Rattle.nesthv_top.specs.Ends.{ended_of, IfReadFailed, Leaves};
 ghost use Rattle.nesthv_top.specs.Loads.{all_read_for, frames_read, fresh_in, fresh_read, read_for, source_with, sources_with, AreFitting, AreGood, FitsOrigin, IsAllRead, IsFitting, IsFreshFitting, IsTested};
 ghost use Rattle.nesthv_top.specs.Plans.{planned};
 ghost use Rattle.nesthv_top.specs.Reads.{config_steps, file_steps, frames_fault, fresh_steps, guest_fault, guest_steps, guests_steps, image_step, input_steps, report_steps, saved_steps};
-ghost use Rattle.nesthv_top.specs.Seen.{loaded_plan, IsJob};
+ghost use Rattle.nesthv_top.specs.Seen.{loaded_plan, HasGuest, IsJob};
 ghost use Rattle.nesthv_top.specs.Steps.{ArePassed, EndAs};
 
 use crate::ends::{FilesRead, FreshFiles, GuestFiles, Job, LoadEnd, Loaded};
@@ -33,8 +33,8 @@ use machine_defs::{Bytes, GuestSpec, Inputs, Name};
 use no_memory::NoMemory;
 use outside::Store;
 use run_config::{
-    Config, ConfigFault, FileName, FreshGuest, GuestSettings, InputEnd, InputSource, Origin, ReadEnd,
-    bad_record, inputs,
+    Config, ConfigFault, FileName, FreshGuest, GuestSettings, InputEnd, InputSource, Origin,
+    ReadEnd, bad_record, inputs,
 };
 use std::alloc::Global;
 
@@ -70,6 +70,8 @@ pub fn load<S: Store>(
     ensures stored { (files : Files) → S.files store.old ≡ Some files → IfOk result (λ loaded.
         loaded.stored.items ≡ stored_of files (file_command_seen request.entry)) }
     ensures job { IfOk result (λ loaded. IsJob loaded.job) }
+    ensures guest { IfOk result (λ loaded.
+        HasGuest (file_command_seen request.entry) loaded.job.config) }
 {
     let FilesRead {
         config,
@@ -106,6 +108,7 @@ fn read_files<S: Store>(
     ensures read { (files : Files) → S.files store.old ≡ Some files
         → IfOk result (IsAllRead files (file_command_seen request.entry)) }
     ensures tested { IfOk result IsTested }
+    ensures guest { IfOk result (λ read. HasGuest (file_command_seen request.entry) read.config) }
     ensures some { OnOk result (1 ≤ reads.new.made) }
     ensures leaves { Leaves S.Store 34 result store.old store.new 0 reads.new.made }
 {
@@ -152,6 +155,7 @@ fn read_config<S: Store>(
     ensures accepted { (files : Files) → S.files store.old ≡ Some files → IfOk result (λ config.
         accept (config_of files (file_command_seen request.entry)) ≡ Ok config) }
     ensures limits { IfOk result IsWithinLimits }
+    ensures guest { IfOk result (HasGuest (file_command_seen request.entry)) }
     ensures some { OnOk result (1 ≤ reads.new.made) }
     ensures leaves { Leaves S.Store 1 result store.old store.new 0 reads.new.made }
 {

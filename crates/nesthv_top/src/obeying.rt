@@ -1,13 +1,13 @@
 // From a command to its end.
 
-ghost use Rattle.std.specs.Prelude.{◌^◌, ◌≡◌, ◌<◌, ◌≤◌, Some, IfOk, IsErrOf, OnOk, length};
+ghost use Rattle.std.specs.Prelude.{◌^◌, ◌≡◌, ◌≤◌, Some, IfOk, IsErrOf, OnOk, length};
 ghost use Rattle.command_line.specs.Commands.{OnFiles, command_of};
 ghost use Rattle.command_line.specs.Seen.{file_command_seen};
 ghost use Rattle.outside.specs.Faults.{Rose};
 ghost use Rattle.nesthv_top.specs.Endings.{IfReadFault, IfRun, IfWriteFault, IfSave, IsOfCommand, SaysOfAccount, SaysOfCause, SaysOfMoves, SaysOfOut, SaysOfReads, SaysOfSaved};
 ghost use Rattle.nesthv_top.specs.Plans.{AllRunAsWritten, IsResumable};
 ghost use Rattle.nesthv_top.specs.Runnings.{HasRoomForCommand, IsAccountFor, IsMovedFor};
-ghost use Rattle.nesthv_top.specs.Seen.{plan_seen, IsJob};
+ghost use Rattle.nesthv_top.specs.Seen.{plan_seen, HasGuest, IsJob};
 ghost use Rattle.nesthv_top.specs.Texts.{found_with, text_with};
 ghost use Rattle.nesthv_top.specs.Written.{Writes};
 
@@ -96,6 +96,7 @@ fn answer<S: Store, O: Sink>(
 }
 
 // Does with a job what is asked for, and answers what a replay finds; the others find nothing that differs.
+#[tactic(auto, using(crate::proofs::SavedMachines::guest_there, crate::proofs::SavedMachines::saved_there))]
 fn perform<O: Sink>(
     alloc: Global,
     request: FileRequest<'_>,
@@ -106,8 +107,7 @@ fn perform<O: Sink>(
     moves: &mut Moves,
 ) -> Result<Verdict, RunEnd>
     requires job { IsJob job }
-    requires guest { IfSave (OnFiles (file_command_seen request))
-        (λ guest. guest < length job.sources.items) }
+    requires guest { HasGuest (file_command_seen request) job.config }
     requires room { HasRoomForCommand tally.old }
     requires moves { moves.old ≤ 2 ^ 61 }
 

@@ -20,9 +20,7 @@ ghost use Rattle.nesthv_top.specs.Written.{PutsText, Writes};
 use crate::ends::{Job, RunEnd};
 use guest_save::saved_machines_go_on;
 use guest_turns::{Host, MoveFault, Moves, Source};
-use machine_laws::{
-    fills_suffice, machines_stay_orderly, runs_are_architectural, runs_are_fresh,
-};
+use machine_laws::{fills_suffice, machines_stay_orderly, runs_are_architectural, runs_are_fresh};
 use no_memory::NoMemory;
 use outside::{Sink, SinkFault};
 use report::{GuestLine, section};
@@ -51,7 +49,9 @@ pub fn run<O: Sink>(
     ensures machines { AllRunAsWritten (plan_seen job) }
 {
     let Job {
-        config, sources, ..
+        config,
+        sources,
+        ..
     } = job;
     let host = hosted(
         alloc,
@@ -86,7 +86,9 @@ pub fn save<O: Sink>(
     ensures savable { OnOk result (IsResumable (plan_seen job) guest) }
 {
     let Job {
-        config, sources, ..
+        config,
+        sources,
+        ..
     } = job;
     let host = hosted(
         alloc,

@@ -18,9 +18,7 @@ use guest_save::saved_machines_go_on;
 use guest_turns::{Host, Moves, fresh_sources};
 use itoa::Buffer;
 use machine_defs::Status;
-use machine_laws::{
-    fills_suffice, machines_stay_orderly, runs_are_architectural, runs_are_fresh,
-};
+use machine_laws::{fills_suffice, machines_stay_orderly, runs_are_architectural, runs_are_fresh};
 use no_memory::NoMemory;
 use outside::{Sink, SinkFault};
 use report::header;

@@ -1,4 +1,4 @@
-use Rattle.std.proofs.Common.{◌≡◌, true, false, rules, ◌∙◌, ap, subst, map, Err, sym}
+use Rattle.std.proofs.Common.{◌≡◌, true, false, rules, ◌∙◌, ap, subst, Err, sym}
 use Rattle.nesthv_top.specs.declared.ends.RunEnd.TheVariants.{WriteFault}
 use Rattle.guest_turns.specs.TurnLists.{with_turns}
 use Rattle.guest_turns.specs.Sources.{machines_of_sources}
