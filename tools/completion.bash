@@ -1,5 +1,5 @@
-# Completion of bash for nesthv, nesthv-run, nesthv-inputs, nesthv-saved and examples/run. Read it by `source
-# tools/completion.bash`, or install it.
+# Completion of bash for nesthv, nesthv-run, nesthv-inputs, nesthv-saved, nesthv-look and examples/run. Read it by
+# `source tools/completion.bash`, or install it.
 _nesthv() {
     if [ "$COMP_CWORD" -eq 1 ]; then
         mapfile -t COMPREPLY < <(compgen -W 'run replay check work save' -- "$2")
@@ -57,7 +57,34 @@ _nesthv_saved() {
     fi
 }
 
+_nesthv_look() {
+    local commands='at walk maps first trace traps first-trap diff fences' word command=
+    case $3 in
+    --as) mapfile -t COMPREPLY < <(compgen -W 'HS U VS VU' -- "$2") && return ;;
+    --step) mapfile -t COMPREPLY < <(compgen -W 'end' -- "$2") && return ;;
+    --cache) compopt -o filenames && mapfile -t COMPREPLY < <(compgen -d -- "$2") && return ;;
+    --most | --cache-size) return ;;
+    first) mapfile -t COMPREPLY < <(compgen -W 'console status clock memory' -- "$2") && return ;;
+    status) mapfile -t COMPREPLY < <(compgen -W 'waiting stopped' -- "$2") && return ;;
+    esac
+    if [[ $2 == -* ]]; then
+        mapfile -t COMPREPLY < <(compgen -W '--as --step --most --elf --json --program --cache --cache-size --help' \
+            -- "$2")
+        return
+    fi
+    for word in "${COMP_WORDS[@]:1:COMP_CWORD-1}"; do
+        [[ " $commands " != *" $word "* ]] || command=$word
+    done
+    if [ "$COMP_CWORD" -gt 1 ] && [ -z "$command" ] && [[ $3 != --* ]]; then
+        mapfile -t COMPREPLY < <(compgen -W "$(_nesthv_guests "$3") $commands" -- "$2")
+    elif [ -z "$command" ] || [ "$command" = diff ] || [[ $3 == --* ]]; then
+        compopt -o filenames
+        mapfile -t COMPREPLY < <(compgen -f -- "$2")
+    fi
+}
+
 complete -F _nesthv nesthv
+complete -F _nesthv_look nesthv-look tools/look
 complete -F _nesthv_inputs nesthv-inputs tools/inputs
 complete -F _nesthv_saved nesthv-saved tools/saved
 complete -F _nesthv_run nesthv-run examples/run ./run tools/run

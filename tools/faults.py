@@ -255,8 +255,8 @@ def saved_file_wrong(path, who):
 
 
 def guest_missing(count, value):
-    """Why there is no guest of this number to save."""
-    return f"there is no guest {value} to save: guests are numbered from 0, and the last one is {count - 1}"
+    """Why there is no guest of this number."""
+    return f"there is no guest {value}: guests are numbered from 0, and the last one is {count - 1}"
 
 
 def weight_wrong(guest, who, quantum, product):

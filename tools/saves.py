@@ -1,6 +1,7 @@
 """Files of saved guests, as `nesthv save` writes them: 608 bytes and more of numbers and lists, and RAM behind
 them. docs/saved.md has the table. Numbers have 8 bytes, the lowest first.
 """
+import copy
 import struct
 
 BLOCK = 2097152
@@ -77,10 +78,39 @@ class Saved:
             found = struct.iter_unpack("<3Q", reader.take(24 * count, "entries"))
             self.spaces.append((key, list(found)))
         test_spaces(self.numbers, self.spaces)
-        self.front = reader.at
+        self.front, self.ram = reader.at, data[reader.at:]
         has, ram = len(data) - self.front, self.numbers["blocks"] * BLOCK
         wants(has == ram, f"{has:,} bytes stand behind offset {self.front:,}, and RAM has {ram:,}: it is "
               + ("cut" if has < ram else "too long"))
+
+    def form(self):
+        """The bytes of a file that has all this."""
+        number = self.numbers
+        made = [LETTERS, struct.pack(f"<{len(NAMES)}Q", *(number[name] for name in NAMES)),
+                struct.pack("<Q", len(self.console)), self.console, struct.pack("<Q", len(self.inputs))]
+        made += [struct.pack("<QB", *pair) for pair in self.inputs]
+        made.append(struct.pack("<Q", len(self.spaces)))
+        for key, entries in self.spaces:
+            made.append(struct.pack("<QQ", key, len(entries)))
+            made += [struct.pack("<3Q", *entry) for entry in entries]
+        return b"".join([*made, self.ram])
+
+    def changed(self, spaces=None, **numbers):
+        """The bytes of a file that has other numbers, by name, and other spaces, but else the same."""
+        other = copy.copy(self)
+        other.numbers = {**self.numbers, **numbers}
+        other.spaces = self.spaces if spaces is None else spaces
+        return other.form()
+
+    def mode(self):
+        return MODES[self.numbers["mode"]]
+
+    def word_at(self, address, width=8):
+        """The number at this physical address, or none where it is not all in RAM."""
+        at = address - RAM
+        if not 0 <= at <= len(self.ram) - width:
+            return None
+        return int.from_bytes(self.ram[at:at + width], "little")
 
     def frames(self):
         """How many frames of machine memory the guest needs."""

@@ -2,29 +2,13 @@
 import os
 import random
 import re
-import struct
 import subprocess
 
-from helper import LETTER, PROGRAM, TOP, ToolTest
+from forms import HGATP, form
+from helper import LETTER, PROGRAM, TOOLS, TOP, ToolTest
 
 TURNS = "format = 2\nturns = [[0, 3]]\n"
 RESUMED = {"image": None, "blocks": None, "spaces": None, "entries": None, "console": None, "resume": '"s"'}
-HGATP = 0x8000100000080004
-
-
-def form(console=b"", inputs=(), held=(), ram=bytes(2097152), **numbers):
-    """The file of a guest that has these numbers, and others as at its start, and holds these spaces."""
-    import saves
-    fixed = {name: value for name, (_, value) in saves.REGISTERS.items()}
-    start = {"blocks": 1, "spaces": 1, "entries": 16, "console": 100, "timer": 2**64 - 1, "pc": saves.RAM}
-    known = {**fixed, **start, **{name.replace("_", " "): value for name, value in numbers.items()}}
-    made = b"NESTHV01" + struct.pack("<72Q", *(known.get(name, 0) for name in saves.NAMES))
-    made += struct.pack("<Q", len(console)) + console + struct.pack("<Q", len(inputs))
-    made += b"".join(struct.pack("<QB", *pair) for pair in inputs) + struct.pack("<Q", len(held))
-    for key, entries in held:
-        made += struct.pack("<QQ", key, len(entries))
-        made += b"".join(struct.pack("<3Q", *entry) for entry in entries)
-    return made + ram
 
 
 class FileTest(ToolTest):
@@ -138,7 +122,7 @@ class FaultTest(ToolTest):
             self.assertIn(words, self.explained(fault + line, **{**RESUMED, **keys}))
 
     def test_number_of_no_guest(self):
-        self.assertIn("there is no guest 7 to save: guests are numbered from 0, and the last one is 0",
+        self.assertIn("there is no guest 7: guests are numbered from 0, and the last one is 0",
                       self.explained("configuration fault 15 value 7"))
 
     def test_frames(self):
@@ -183,7 +167,7 @@ class ProgramTest(ToolTest):
         path = self.configure(front=TURNS)
         ran = self.save(path, "1")
         self.check_plain(ran, 2)
-        self.check_said(ran, "there is no guest 1 to save")
+        self.check_said(ran, "there is no guest 1: guests")
         self.check_plain(self.save(path, "x"), 1)
         self.check_plain(self.save(path), 2)
         self.check_plain(self.save("--json", path, "0"), 2)

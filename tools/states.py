@@ -1,0 +1,368 @@
+"""The state of a guest at any step, by the program's `save`: runs are exact and go on where they were saved,
+so kept states shorten the way. They are in a folder with a bound on its size.
+"""
+import collections
+from concurrent import futures
+import functools
+import hashlib
+import itertools
+import os
+import subprocess
+import tempfile
+import threading
+
+import faults
+import progress
+import records
+import saves
+
+MIB = 1 << 20
+PAGE = bytes(4096)
+AWAY = 1 << 62  # an address that no mode can fetch from
+KEPT_IN_MEMORY, KEPT_IN_SEARCH = 8, 4  # states
+FAR = 256  # single steps from one state
+
+
+class Unusable(Exception):
+    """Why there is no guest to look at, in words."""
+
+
+def read(path, most, what):
+    try:
+        with open(path, "rb") as file:
+            return file.read(most)
+    except (OSError, ValueError) as error:
+        raise Unusable(f"{what} {path} cannot be read: {getattr(error, 'strerror', error)}") from None
+
+
+def checked(program, path, folder):
+    """Has the program test a configuration, and says in words what it finds."""
+    place = os.path.join(".", os.path.basename(path))
+    try:
+        ran = subprocess.run([program, "check", place], cwd=folder, stdin=subprocess.DEVNULL,
+                             capture_output=True)
+    except OSError as error:
+        raise Unusable(f"{program} cannot be run: {error.strerror}") from None
+    if ran.returncode:
+        line = next(iter(ran.stderr.decode(errors="replace").splitlines()), f"status {ran.returncode}")
+        meaning = faults.explained(line, path, faults.text_of(path))
+        raise Unusable(line + (f": {meaning}" if meaning else ""))
+
+
+class Guest:
+    """One guest of a configuration: the files that it begins with, by the names that they get here, its keys
+    in TOML, and how many steps its turns have."""
+
+    def __init__(self, program, path, number):
+        folder = os.path.dirname(path) or "."
+        if not os.path.isfile(path):
+            raise Unusable(f"the configuration {path} is no regular file{faults.unreadable(path)}")
+        checked(program, path, folder)
+        document, _ = faults.parsed(faults.text_of(path))
+        guests = faults.guests_of(document)
+        if not 0 <= number < len(guests):
+            raise Unusable(f"{path}: {faults.guest_missing(len(guests), number)}")
+        table = guests[number]
+        self.name, self.steps = table["name"], progress.sums_of(document)[number]
+        self.image = None if faults.is_resumed(document, table) else os.path.join(folder, table["image"])
+        self.files, self.keys = {}, {"name": self.name}
+        if self.image:
+            self.begin(folder, table, faults.format_of(document))
+        else:
+            self.files["resumed"] = read(os.path.join(folder, table["resume"]), saves.MOST_BYTES, "the file")
+            self.keys["resume"] = "resumed"
+
+    def begin(self, folder, table, form):
+        """Takes what a guest at its start has."""
+        self.files["image"] = read(self.image, faults.BLOCK * table["blocks"] + 1, "the image")
+        self.keys.update({"image": "image"}, **{key: table[key] for key in ("blocks", "spaces", "entries",
+                                                                          "console")})
+        if "input" in table:
+            self.keys["input"] = "inputs"
+            self.files["inputs"] = records.bytes_of(table["input"]) if form == 1 else \
+                read(os.path.join(folder, table["input"]), records.MOST_BYTES, "the input file")
+
+    def hash(self):
+        made = hashlib.sha256()
+        for name, data in [*self.files.items(), ("keys", repr(self.keys).encode())]:
+            made.update(f"{name} {len(data)} ".encode() + data)
+        return made.hexdigest()[:32]
+
+
+class Cache:
+    """A folder of kept states, at most so many bytes of the disk in all: those that were used last stay.
+    Where the folder cannot be written, nothing is kept."""
+
+    def __init__(self, folder, most, key):
+        self.top, self.most, self.folder = folder, most, os.path.join(folder, key)
+        try:
+            os.makedirs(self.folder, mode=0o700, exist_ok=True)
+        except OSError:
+            self.most = 0
+
+    def steps(self):
+        """The steps of the states that are kept of this guest."""
+        try:
+            names = os.listdir(self.folder) if self.most else []
+        except OSError:
+            names = []
+        return [int(name) for name in names if name.isdigit()]
+
+    def read(self, step):
+        """The bytes of a state that is kept, or none."""
+        path = os.path.join(self.folder, str(step))
+        try:
+            with open(path, "rb") as file:
+                os.utime(path)
+                return file.read()
+        except OSError:
+            return None
+
+    def keep(self, step, data):
+        if not self.most:
+            return
+        path = os.path.join(self.folder, str(step))
+        part = f"{path}.{os.getpid()}.{threading.get_ident()}"
+        try:
+            with open(part, "wb") as file:
+                write_sparse(file, data)
+            os.replace(part, path)
+            self.trim()
+        except OSError:  # the disk is full
+            self.most = 0
+            if os.path.exists(part):
+                os.remove(part)
+
+    def trim(self):
+        """Removes the states that were used longest ago, until the rest is within the bound."""
+        found = []
+        for folder, _, names in os.walk(self.top):
+            for path in (os.path.join(folder, name) for name in names):
+                try:
+                    status = os.stat(path)
+                except OSError:
+                    continue
+                found.append((status.st_mtime_ns, status.st_blocks * 512, path))
+        size = sum(each[1] for each in found)
+        for _, has, path in sorted(found):
+            if size <= self.most:
+                return
+            try:
+                os.remove(path)
+            except OSError:
+                pass
+            size -= has
+
+
+def write_sparse(file, data):
+    """Writes these bytes; pages of zeros take no place of the disk."""
+    for at in range(0, len(data), 4096):
+        piece = data[at:at + 4096]
+        if piece == PAGE:
+            file.seek(4096, os.SEEK_CUR)
+        else:
+            file.write(piece)
+    file.truncate(len(data))
+
+
+class Runs:
+    """The runs of a guest by a program, in a temporary folder."""
+
+    def __init__(self, program, guest, cache):
+        self.program, self.guest, self.cache = program, guest, cache
+        self.folder = tempfile.TemporaryDirectory(prefix="nesthv-look-")
+        self.numbers, self.known, self.calls = itertools.count(), collections.OrderedDict(), 0
+        for name, data in guest.files.items():
+            self.put(name, data)
+        self.start = self.saved_of(self.call("save", guest.keys, 0))
+        self.first = self.start.numbers["steps"]
+        self.last = self.first + guest.steps
+
+    def close(self):
+        self.folder.cleanup()
+
+    def path(self, name):
+        return os.path.join(self.folder.name, name)
+
+    def put(self, name, data):
+        with open(self.path(name), "wb") as file:
+            file.write(data)
+        return name
+
+    def call(self, command, keys, steps):
+        """What the program writes for a guest of these keys that makes so many steps."""
+        name = f"{next(self.numbers)}.toml"
+        lines = ["format = 2", f"turns = {progress.turns_of([steps], steps)}", "[[guest]]"]
+        lines += [f"{key} = {progress.toml_of(value)}" for key, value in keys.items()]
+        self.put(name, "\n".join(lines).encode() + b"\n")
+        words = [self.program, command, name] + (["0"] if command == "save" else [])
+        self.calls += 1
+        try:
+            ran = subprocess.run(words, cwd=self.folder.name, stdin=subprocess.DEVNULL, capture_output=True)
+        finally:
+            os.remove(self.path(name))
+        if ran.returncode:
+            raise Unusable(self.refusal(ran))
+        return ran.stdout
+
+    def refusal(self, ran):
+        line = next(iter(ran.stderr.decode(errors="replace").splitlines()), f"status {ran.returncode}")
+        if "usage" in line:
+            return f"{self.program} has no command `save`, by which states are looked at"
+        return f"{self.program}: {line}"
+
+    def saved_of(self, data):
+        try:
+            return saves.Saved(data)
+        except saves.Wrong as why:
+            raise Unusable(f"what {self.program} saved is no saved guest: {why}") from None
+
+    def at(self, step, is_kept=True):
+        """The state at this step, or where the run ends before, at its end."""
+        step = min(max(step, self.first), self.last)
+        if step in self.known:
+            self.known.move_to_end(step)
+            return self.known[step]
+        saved = self.kept_at(step)
+        if saved is None:
+            data = self.made_at(step)
+            saved = self.saved_of(data)
+            if is_kept:
+                self.cache.keep(step, data)
+        self.known[step] = saved
+        while len(self.known) > KEPT_IN_MEMORY:
+            self.known.pop(next(iter(self.known)), None)
+        return saved
+
+    def kept_at(self, step):
+        data = self.cache.read(step) if step in self.cache.steps() else None
+        try:
+            return saves.Saved(data) if data else None
+        except saves.Wrong:
+            return None
+
+    def made_at(self, step):
+        """The bytes of the state at this step, made from the last one before that is known."""
+        for before in sorted((each for each in self.cache.steps() if each < step), reverse=True):
+            saved = self.kept_at(before)
+            if saved:
+                with Base(self, saved.form()) as base:
+                    return base.call("save", step - before)
+        return self.call("save", self.guest.keys, step - self.first)
+
+    def singles(self, start, end):
+        """The states at the steps from `start` to `end`, in order."""
+        yield self.at(start)
+        while start < end:
+            with Base(self, self.at(start).form()) as base:
+                yield from in_parallel(base.later, range(1, min(FAR, end - start) + 1))
+            start = min(start + FAR, end)
+
+
+class Base:
+    """A state in a file, which runs go on from."""
+
+    def __init__(self, runs, data):
+        self.runs, self.name = runs, runs.put(f"{next(runs.numbers)}.saved", data)
+        self.keys = {"name": runs.guest.name, "resume": self.name}
+
+    def __enter__(self):
+        return self
+
+    def __exit__(self, *_):
+        os.remove(self.runs.path(self.name))
+
+    def call(self, command, steps):
+        return self.runs.call(command, self.keys, steps)
+
+    def later(self, steps):
+        """The state after so many steps more."""
+        return self.runs.saved_of(self.call("save", steps))
+
+
+def in_parallel(make, items):
+    """What `make` gives for these items, in their order, made by as many threads as there are processors."""
+    count = os.cpu_count() or 1
+    with futures.ThreadPoolExecutor(count) as pool:
+        waiting = collections.deque()
+        try:
+            for item in items:
+                waiting.append(pool.submit(make, item))
+                if len(waiting) > count:
+                    yield waiting.popleft().result()
+            while waiting:
+                yield waiting.popleft().result()
+        finally:
+            for each in waiting:
+                each.cancel()
+
+
+def first_step(holds, low, high, tell=lambda low, high: None):
+    """A step at which `holds` does, and at the one before it does not, where it holds at `high` and not at
+    `low`: the first such step where it stays once it holds."""
+    while high - low > 1:
+        tell(low, high)
+        middle = (low + high) // 2
+        if holds(middle):
+            high = middle
+        else:
+            low = middle
+    return high
+
+
+class Event:
+    """A trap: the step that it makes, counted from the start, and the state behind it with the tvec that was
+    planted."""
+
+    def __init__(self, step, saved):
+        self.step, self.saved = step, saved
+
+
+class Traps:
+    """Finds the next trap without single steps. The registers of `names`, of stvec and vstvec, are planted:
+    they are set to an address that no mode can fetch from, so from the first trap on pc stays there. Up to
+    then the run is the guest's own, unless it reads or writes such a register; then the search begins anew.
+    """
+
+    def __init__(self, runs, names, tell):
+        self.runs, self.names, self.tell = runs, names, tell
+
+    def is_like(self, planted, own):
+        """Whether the run with the planted registers is still the guest's own."""
+        if any(planted.numbers[name] != AWAY for name in self.names):
+            return False
+        numbers = {**planted.numbers, **{name: own.numbers[name] for name in self.names}}
+        return numbers == own.numbers and planted.console == own.console and planted.inputs == own.inputs \
+            and planted.ram == own.ram
+
+    def next(self, step, end):
+        """The next trap behind this step, up to `end`, or none."""
+        while step < end:
+            own = self.runs.at(step)
+            if own.numbers["status"]:
+                return None
+            with Base(self.runs, own.changed(**{name: AWAY for name in self.names})) as base:
+                found = self.search(lambda later: base.later(later - step), step, end)
+            if isinstance(found, Event) or found is None:
+                return found
+            step = found
+        return None
+
+    def search(self, planted, step, end):
+        """The next trap behind a step, by the planted states; or the step at which a planted register was
+        used; or none up to `end`."""
+        planted = functools.lru_cache(KEPT_IN_SEARCH)(planted)
+
+        def is_away(later):
+            return planted(later).numbers["pc"] == AWAY
+
+        low, high = step, min(step + 4, end)
+        while not is_away(high) and high < end:
+            low, high = high, min(step + (high - step) * 4, end)
+        is_found = is_away(high)
+        high = first_step(is_away, low, high, self.tell) if is_found else high
+        before = high - 1 if is_found else high
+        if self.is_like(planted(before), self.runs.at(before, False)):
+            return Event(high, planted(high)) if is_found else None
+        return first_step(lambda later: not self.is_like(planted(later), self.runs.at(later, False)), step,
+                          before)

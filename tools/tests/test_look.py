@@ -1,0 +1,403 @@
+"""Tests of tools/look and of what it stands on."""
+import json
+import os
+import struct
+import subprocess
+import unittest
+
+from forms import HGATP, form
+from helper import LETTER, PROGRAM, TOOLS, TOP, ToolTest
+
+FAKE = os.path.join(TOOLS, "tests", "fake-program")
+TABLE = 0x80004000  # of HGATP
+GIVEN = 0x80008000
+# auipc t0, 0; addi t0, t0, 28; csrw stvec, t0; li a7, 1; li a0, 65; ecall; what is no instruction; and from
+# 28 on li a0, 66; ecall; li a7, 8; ecall
+TRAPPING = struct.pack("<11I", 0x00000297, 0x01C28293, 0x10529073, 0x00100893, 0x04100513, 0x73, 0xFFFFFFFF,
+                       0x04200513, 0x73, 0x00800893, 0x73)
+
+
+def program_with_save():
+    """The program that NESTHV names, or that of dist/, where it has the command `save`."""
+    for path in filter(None, (os.environ.get("NESTHV"), PROGRAM)):
+        if os.path.isfile(path) and b"save CONFIG" in subprocess.run([path], capture_output=True).stderr:
+            return os.path.abspath(path)
+    return None
+
+
+def ram_of(**words):
+    """RAM in which doublewords stand at these places, in hexadecimal behind an `at`."""
+    made = bytearray(2097152)
+    for name, value in words.items():
+        struct.pack_into("<Q", made, int(name[2:], 16) - 0x80000000, value)
+    return bytes(made)
+
+
+def pointer(place):
+    return place >> 2 | 1
+
+
+def saved_of(held=(), words=None, **numbers):
+    """A saved guest under HGATP, whose table maps page 1 of the guest to GIVEN, with V, R, W, U, A and D."""
+    import saves
+    tables = {"at80004000": pointer(0x80005000), "at80005000": pointer(0x80006000),
+              "at80006008": GIVEN >> 2 | 0xD7}
+    return saves.Saved(form(held=held, ram=ram_of(**{**tables, **(words or {})}),
+                            **{"hgatp": HGATP, "spaces": 2, **numbers}))
+
+
+def answers_of(saved, address, mode="VS"):
+    import walks
+    found = walks.Translation(walks.View(saved, mode), address)
+    return {kind: answer.wrong or f"{answer.address:x}{'*' * answer.is_cached}"
+            for kind, answer in found.answers.items()}
+
+
+class SavedTest(unittest.TestCase):
+    def test_form(self):
+        import saves
+        for data in (form(), form(b"Hi", [(5, 65)], [(HGATP, [(1, 0x80000, 5), (2, 0x80001, 7 + 8)])], x3=7)):
+            self.assertEqual(saves.Saved(data).form(), data)
+
+    def test_changed(self):
+        import saves
+        saved = saves.Saved(form(held=[(HGATP, [(1, 0x80000, 5)])]))
+        self.assertEqual(saved.changed(spaces=[(HGATP, [])], x7=3), form(held=[(HGATP, [])], x7=3))
+        self.assertEqual(saved.form(), form(held=[(HGATP, [(1, 0x80000, 5)])]))
+
+    def test_word_at(self):
+        saved = saved_of()
+        self.assertEqual(saved.word_at(TABLE), pointer(0x80005000))
+        self.assertEqual([saved.word_at(place) for place in (0x7FFFFFF8, 0x801FFFF9, 0, 2**64 - 8)],
+                         [None] * 4)
+
+
+class WalkTest(unittest.TestCase):
+    def test_second_stage(self):
+        saved = saved_of()
+        self.assertEqual(answers_of(saved, 0x1008),
+                         {"fetch": "no X", "load": "80008008", "store": "80008008"})
+        self.assertEqual(set(answers_of(saved, 0x2000).values()), {"V clear"})
+        self.assertEqual(set(answers_of(saved, 1 << 41).values()), {"the address has more than 41 bits"})
+
+    def test_leaves_that_cannot_be_used(self):
+        for bits, words in ((0x97, "A clear"), (0xC7, "U clear"), (0x57, "D clear"), (0xD5, "W set, R clear"),
+                            (0xD1, "a pointer with A, D or U set"), (0x01, "a pointer at level 0"),
+                            (0xD3, "no W"), (1 << 54 | 0xD7, "bits 63:54 not zero")):
+            saved = saved_of(words={"at80006008": GIVEN >> 2 | bits})
+            self.assertEqual(answers_of(saved, 0x1000)["store"], words)
+        saved = saved_of(words={"at80006008": 0x90000000 >> 2 | 0xD7})
+        self.assertEqual(answers_of(saved, 0x1000)["store"], "90000000 is not in RAM")
+        saved = saved_of(words={"at80005000": 0x80001000 >> 2 | 0xDF})
+        self.assertIn("no multiple of the 512 frames", answers_of(saved, 0x1000)["load"])
+
+    def test_cached(self):
+        import walks
+        saved = saved_of(held=[(HGATP, [(1, 0x80009, 1), (3, 0x8000A, 3)])])
+        self.assertEqual(answers_of(saved, 0x1008),
+                         {"fetch": "no X", "load": "80009008*", "store": "80008008"})
+        self.assertEqual(answers_of(saved, 0x3000)["store"], "8000a000*")
+        self.assertEqual([each[1:3] for each in walks.stale_entries(saved)],
+                         [(1, "cached 80009000 r--, table says 80008000 rw-"),
+                          (3, "cached 8000a000 rw-, table says V clear")])
+        saved = saved_of(held=[(HGATP, [(1, 0x80008, 3)])])
+        self.assertEqual(walks.stale_entries(saved), [])
+
+    def test_first_stage(self):
+        """VS has a table at guest physical 1000, whose leaf of level 2 is for the guest's first GiB."""
+        saved = saved_of(words={"at80008008": 0xCB}, vsatp=8 << 60 | 1)
+        self.assertEqual(answers_of(saved, 0x40001008),
+                         {"fetch": "no X", "load": "80008008", "store": "no W"})
+        self.assertEqual(answers_of(saved, 0x40001008, "VU")["load"], "U clear")
+        self.assertEqual(answers_of(saved, 0x40002000)["load"], "V clear")
+        saved = saved_of(words={"at80008008": 0xDB}, vsatp=8 << 60 | 1)
+        self.assertEqual(answers_of(saved, 0x40001000)["load"], "U set, SUM clear")
+        self.assertEqual(answers_of(saved, 1 << 38)["load"],
+                         "bits 63:39 of the address are not equal to bit 38")
+        saved = saved_of(vsatp=8 << 60 | 2)
+        self.assertEqual(answers_of(saved, 0)["load"], "at the second stage of the entry's place: V clear")
+
+    def test_supervisor(self):
+        saved = saved_of(words={"at80007000": 0x80000000 >> 2 | 0xCF}, satp=8 << 60 | 0x80007)
+        self.assertEqual(set(answers_of(saved, 0x123, "HS").values()), {"80000123"})
+        self.assertEqual(set(answers_of(saved, 0x123, "U").values()), {"U clear"})
+        self.assertEqual(set(answers_of(saved, 0x200123, "HS").values()), {"80200123 is not in RAM"})
+
+    def test_maps(self):
+        import views
+        import walks
+        saved = saved_of(held=[(HGATP, [(1, 0x80009, 1)])],
+                         words={"at80006010": GIVEN + 4096 >> 2 | 0xD7, "at80006018": GIVEN >> 2 | 0x97,
+                                "at80007000": 0x80000000 >> 2 | 0xCF}, satp=8 << 60 | 0x80007)
+        lines = views.lines_of_maps(views.maps_of(saved))
+        for line in ("  0000000000000000    200000  rwx-  -> 80000000",
+                     "  0000000000200000  3fe00000  rwx-  -> 80200000  not usable: not in RAM",
+                     "  0000000000001000      2000  rw-  -> 80008000",
+                     "  0000000000003000      1000  rw-  -> 80008000  not usable: A clear",
+                     "  stale 1000: cached 80009000 r--, table says 80008000 rw-"):
+            self.assertIn(line, lines)
+        endless = saved_of(words={f"at{place:x}": pointer(TABLE)
+                                  for place in range(TABLE, TABLE + 0x4000, 8)})
+        self.assertTrue(walks.map_of(endless, HGATP, True).is_cut)
+
+
+class RegisterTest(unittest.TestCase):
+    def pending(self, **numbers):
+        import registers
+        return dict(registers.lines_of_pending(saved_of(**numbers)))
+
+    def test_pending(self):
+        self.assertEqual(self.pending(), {})
+        self.assertEqual(self.pending(clock=5, timer=5), {"STIP": "not taken: sie.STIE is clear"})
+        self.assertEqual(self.pending(timer=0, sie=0x20), {"STIP": "not taken: sstatus.SIE is clear in HS"})
+        self.assertEqual(self.pending(timer=0, sie=0x20, sstatus=2 << 32 | 2),
+                         {"STIP": "the next step takes it into HS"})
+        self.assertEqual(self.pending(hvip=0x40, hie=0x40, hideleg=0x40),
+                         {"VSTIP": "not taken: hideleg has it, and V is 0 in HS"})
+        self.assertEqual(self.pending(hvip=0x44, hie=0x44, mode=1),
+                         {"VSSIP": "the next step takes it into HS", "VSTIP": "another one goes first"})
+
+    def test_meanings(self):
+        import registers
+        for name, value, words in (("scause", 2**63 + 5, "supervisor timer interrupt"),
+                                   ("scause", 21, "load guest-page fault"), ("scause", 0, ""),
+                                   ("hgatp", HGATP, "Sv39x4, VMID 1, root 80004000"),
+                                   ("hstatus", 2 << 32 | 0x80, "SPV=1 VSXL=2"),
+                                   ("htval", 0x402, "guest physical 1008"), ("hedeleg", 0x101, "0 8")):
+            self.assertEqual(registers.meaning_of(name, value), words)
+
+
+class SymbolTest(ToolTest):
+    def elf(self):
+        """An ELF file with LETTER at 80000000, and the symbols `start` there and `call` at 80000008."""
+        names, count = b"\0start\0call\0", 4
+        symbols = bytes(24) + b"".join(struct.pack("<IBBHQQ", name, 0, 0, 1, 0x80000000 + at, 0)
+                                       for name, at in ((1, 0), (7, 8)))
+        places = [64 + 64 * count]
+        for data in (LETTER, symbols):
+            places.append(places[-1] + len(data))
+        header = b"\x7fELF\x02\x01\x01" + bytes(9)
+        header += struct.pack("<2HI3QI6H", 2, 243, 1, 0, 0, 64, 0, 64, 0, 0, 64, count, 0)
+        sections = [(0, 0, 0, 0, 0, 0, 0, 0, 0, 0),
+                    (0, 1, 6, 0x80000000, places[0], len(LETTER), 0, 0, 4, 0),
+                    (0, 2, 0, 0, places[1], len(symbols), 3, 1, 8, 24),
+                    (0, 3, 0, 0, places[2], len(names), 0, 0, 1, 0)]
+        header += b"".join(struct.pack("<2I4Q2I2Q", *each) for each in sections)
+        return header + LETTER + symbols + names
+
+    def test_symbols(self):
+        import symbols
+        self.put("a.elf", self.elf())
+        elf = symbols.elf_beside(os.path.join(self.folder, "a.bin"))
+        self.assertEqual([elf.symbol_at(0x80000000 + at) for at in (0, 4, 8, 12)],
+                         ["start", "start+0x4", "call", "call+0x4"])
+        found = symbols.Symbols(elf, [])
+        self.assertEqual(found.symbol_of(0x73, 0x1008, 0x80000008, True), "call")
+        self.assertEqual(found.symbol_of(0x74, 0x1008, 0x80000008, True), "")
+        self.assertEqual(found.symbol_of(0x73, 0x80000008, 0x80010000, True), "")
+        self.assertEqual(found.symbol_of(0x73, 0x80000008, 0x80010000, False), "call")
+
+    def test_files_that_are_none(self):
+        import symbols
+        whole = self.elf()
+        for length in range(0, len(whole), 3):
+            symbols.elf_at(self.put("a.elf", whole[:length]))
+        self.assertIsNone(symbols.elf_at(os.path.join(self.folder, "a.bin")))
+
+    def test_without_objdump(self):
+        import symbols
+        told = symbols.Disassembler()
+        told.program = None
+        self.assertEqual(told.text_of(0x13, 0), ".word 0x00000013")
+        self.assertEqual(told.text_of(0x62628073, 0), "hfence.gvma t0, t1")
+
+    def test_objdump(self):
+        import symbols
+        told = symbols.Disassembler()
+        if not told.program or "riscv" not in told.program:
+            self.skipTest("binutils for RISC-V are not installed")
+        told.learn([0x13, 0x0000006F, 0, 0x00628023])
+        self.assertEqual([told.text_of(word, 0x80000010) for word in (0x13, 0x6F, 0, 0x00628023)],
+                         ["nop", "j 80000010", ".word 0x00000000", "sb t1, 0(t0)"])
+
+
+class CacheTest(ToolTest):
+    def test_bound(self):
+        import states
+        cache = states.Cache(self.folder, 100000, "key")
+        for step in range(10):
+            cache.keep(step, bytes([1 + step]) * 20000 + bytes(1 << 20))
+            os.utime(os.path.join(self.folder, "key", str(step)), (step, step))
+        self.assertIn(9, cache.steps())
+        self.assertLess(len(cache.steps()), 6)
+        self.assertEqual(cache.read(9), b"\n" * 20000 + bytes(1 << 20))
+        self.assertIsNone(cache.read(0))
+
+    def test_folder_that_cannot_be_written(self):
+        import states
+        cache = states.Cache(os.path.join(self.folder, "a.bin"), 100000, "key")
+        cache.keep(0, b"x")
+        self.assertEqual(cache.steps(), [])
+
+    def test_first_step(self):
+        import states
+        for first in (1, 2, 7, 99, 100):
+            self.assertEqual(states.first_step(lambda step: step >= first, 0, 100), first)
+
+
+class LookTest(ToolTest):
+    """The tool, by a program that stands for one with `save`."""
+
+    program = FAKE
+
+    def look(self, *words, **variables):
+        cache = os.path.join(self.folder, "cache")
+        variables = {"NESTHV": self.program, "XDG_CACHE_HOME": cache, **variables}
+        return self.tool("tools/look", *words, variables=variables)
+
+    def lines(self, *words, status=0):
+        ran = self.look(*words)
+        self.check_plain(ran, status)
+        return ran.stdout.decode().splitlines()
+
+    def trapping(self):
+        """The configuration of a guest that traps at its seventh step."""
+        self.put("trap.bin", TRAPPING)
+        return self.configure("trap.toml", front="format = 2\nturns = [[0, 100]]\n", image='"trap.bin"')
+
+
+class FakeTest(LookTest):
+    def test_at(self):
+        lines = self.lines(self.configure(front="format = 2\nturns = [[0, 10]]\n"), "at", "2")
+        self.assertEqual(lines[0], "a at step 2: running in HS, V = 0")
+        self.assertTrue(lines[1].startswith("pc 0000000080000008  00000073"))
+        self.assertIn("nothing is pending", lines)
+        self.assertEqual(lines[-1], "console 0 bytes: ''")
+        ran = self.look("a.toml", "at", "end", "--json")
+        state = json.loads(ran.stdout)
+        self.assertEqual([state[key] for key in ("step", "status", "console")], [5, "stopped", "A"])
+        self.assertEqual(len(os.listdir(os.path.join(self.folder, "cache", "nesthv-look"))), 1)
+
+    def test_step_behind_the_end(self):
+        path = self.configure(front="format = 2\nturns = [[0, 10]]\n")
+        ran = self.look(path, "at", "8")
+        self.check_said(ran, "the guest is stopped at step 5: this is shown")
+        ran = self.look(path, "at", "11")
+        self.check_plain(ran, 2)
+        self.check_said(ran, "there is no step 11: the guest goes from 0 to 10")
+
+    def test_first(self):
+        path = self.trapping()
+        self.assertEqual(self.lines(path, "first", "console", "1")[0], "step 6")
+        self.assertEqual(self.lines(path, "first", "status", "stopped")[0], "step 11")
+        self.assertEqual(self.lines(path, "first", "console", "9", status=1),
+                         ["it does not hold at step 11, the end"])
+
+    def test_trace(self):
+        lines = self.lines(self.trapping(), "trace", "4", "7")
+        self.assertEqual([line.split()[0] for line in lines], ["4", "5", "6"])
+        self.assertTrue(lines[0].endswith("  a0 0 -> 41"), lines)
+        self.assertTrue(lines[1].endswith("  a0 41 -> 0  console byte 0 its end -> 'A'"), lines)
+        self.assertTrue(lines[2].endswith("  trap: illegal instruction (2) to HS, stval ffffffff"), lines)
+
+    def test_traps(self):
+        path = self.trapping()
+        line = self.lines(path, "traps", "0", "end")
+        self.assertEqual(len(line), 1)
+        self.assertTrue(line[0].startswith("6 HS 0000000080000018  ffffffff"), line)
+        self.assertEqual(self.lines(path, "first-trap")[1], "illegal instruction (2) to HS, stval ffffffff")
+        self.assertEqual(self.lines(path, "first-trap", "2", status=1),
+                         ["1 traps are found up to step 11, the end"])
+
+    def test_diff(self):
+        path = self.trapping()
+        self.put("other.bin", TRAPPING.replace(struct.pack("<I", 0x04200513), struct.pack("<I", 0x04300513)))
+        self.configure("other.toml", front="format = 2\nturns = [[0, 100]]\n", image='"other.bin"')
+        lines = self.lines(path, "diff", "other.toml")
+        self.assertEqual(lines[0], "the same at step 7, and different at 8, which is made by")
+        self.assertEqual(lines[-1], "  a0 42 | 43")
+        self.assertEqual(self.lines(path, "diff", "trap.toml", status=1),
+                         ["the same at step 11, the end of the shorter run, and at 11 steps before"])
+
+    def test_bad_words(self):
+        path = self.trapping()
+        for words, said in (([path], "CONFIG alone is no command"), ([path, "to", "5"], "to is no command"),
+                            ([path, "at"], "`at` takes 1 words"), ([path, "at", "-"], "- is no step"),
+                            ([path, "1", "at", "0"], "there is no guest 1"),
+                            (["none", "at", "0"], "no such file"),
+                            ([path, "walk", "xyz"], "xyz is no address"),
+                            ([path, "trace", "5", "3"], "TO is 3, which is before FROM, 5"),
+                            ([path, "first", "luck", "1"], "is no condition"),
+                            ([path, "first", "memory", "0", "1"], "no physical address"),
+                            ([path, "--elf", path, "at", "0"], "is no ELF file"),
+                            ([path, "--program", "none", "at", "0"], "none is no program")):
+            ran = self.look(*words)
+            self.check_plain(ran, 2)
+            self.assertEqual(len(ran.lines), 1, ran.lines)
+            self.check_said(ran, said)
+
+    def test_program_without_save(self):
+        old = self.put("old", "#!/bin/sh\n"
+                       "[ $1 = check ] || { echo nesthv: usage: run CONFIG >&2; exit 1; }\n")
+        os.chmod(old, 0o755)
+        ran = self.look(self.trapping(), "at", "0", NESTHV=old)
+        self.check_plain(ran, 2)
+        self.check_said(ran, "has no command `save`")
+
+
+class ProgramTest(LookTest):
+    """The tool, by a program that has `save`, on the examples."""
+
+    def setUp(self):
+        super().setUp()
+        self.program = program_with_save()
+        if not self.program:
+            self.skipTest("there is no program with the command `save`")
+
+    def example(self, name, **changes):
+        """A copy of an example's configuration, in which keys have other values."""
+        for end in (".toml", ".bin"):
+            with open(os.path.join(TOP, "examples", name, name + end), "rb") as file:
+                data = file.read()
+            for key, (old, new) in changes.items() if end == ".toml" else ():
+                data = data.replace(f"{key} = {old}".encode(), f"{key} = {new}".encode())
+            path = self.put(name + end, data)
+            path = path.removesuffix(".bin") + ".toml"
+        return path
+
+    def test_traps(self):
+        lines = self.lines(self.example("nested3"), "traps", "0", "40")
+        self.assertEqual([line.split()[0] for line in lines], ["14", "35"])
+        lines = self.lines("nested3.toml", "first-trap")
+        self.assertIn("store/AMO guest-page fault (23) to HS, stval 1008, htval 402 (guest physical 1008)",
+                      lines)
+        self.assertTrue(any(line.endswith("not usable: V clear") for line in lines))
+
+    def test_walk(self):
+        lines = self.lines(self.example("nested3"), "walk", "1008", "--as", "VS", "--step", "52")
+        self.assertTrue(any(line.endswith("stale: cached 8000b000 rw-, table says 80010000 rw-")
+                            for line in lines), lines)
+        self.assertIn("load: 8000b008, by the cached translation", lines)
+
+    def test_fences(self):
+        lines = self.lines(self.example("nested3"), "fences", status=1)
+        self.assertIn("1 of 5 drops change the report, up to the end", lines)
+        self.assertTrue(any("the entry at 80009008 was changed by 45 HS" in line for line in lines), lines)
+        lines = self.lines(self.example("nested2"), "fences")
+        self.assertTrue(lines[0].startswith("0 of "), lines)
+
+    def test_diff(self):
+        one = self.example("hypervisor")
+        with open(one, "rb") as file:
+            self.put("two.toml", file.read().replace(b"spaces = 2", b"spaces = 1"))
+        lines = self.lines(one, "diff", "two.toml")
+        self.assertEqual(lines[0], "the same at step 7859, and different at 7860, which is made by")
+        self.assertIn("  a0 42 | 43", lines)
+
+    def test_inputs(self):
+        with open(os.path.join(TOP, "examples", "echo", "echo.toml"), encoding="utf-8") as file:
+            self.put("echo.toml", file.read())
+        self.example("echo")
+        state = json.loads(self.look("echo.toml", "at", "end", "--json").stdout)
+        with open(os.path.join(TOP, "examples", "echo", "report"), "rb") as file:
+            self.assertIn(state["console"].encode("latin-1"), file.read())

@@ -1,0 +1,318 @@
+"""What `look` shows of states, as values for JSON and as lines."""
+import registers
+import reports
+import saves
+import walks
+
+SHOWN_WORDS = 4  # of RAM, in a line of changes
+SIZES = ("blocks", "spaces", "entries", "console", "steps")
+CSRS = list(saves.REGISTERS)
+
+
+def instruction_of(saved, symbols, disassembler):
+    """The next instruction of a state: its word, its symbol and its text, or why it cannot be fetched."""
+    pc = saved.numbers["pc"]
+    word, physical, why = walks.fetched(saved)
+    if word is None:
+        return {"word": None, "symbol": "", "text": "", "why": why}
+    is_nested = saved.mode() in ("VS", "VU")
+    return {"word": word, "symbol": symbols.symbol_of(word, pc, physical, is_nested),
+            "text": disassembler.text_of(word, pc), "why": ""}
+
+
+def line_of_instruction(pc, found):
+    """The place of an instruction and the instruction, in words."""
+    if found["word"] is None:
+        return f"{pc:016x}  cannot be fetched: {found['why']}"
+    return "  ".join(filter(None, [f"{pc:016x}", found["symbol"], f"{found['word']:08x}", found["text"]]))
+
+
+def shown_text(data):
+    """Bytes of a console, in quotes."""
+    return repr(data.decode("latin-1"))
+
+
+def state_of(saved, guest, symbols, disassembler):
+    """All of a state but its RAM."""
+    number = saved.numbers
+    stale = walks.stale_entries(saved)
+    return {
+        "guest": guest.name, "step": number["steps"], "status": saves.STATUSES[number["status"]],
+        "mode": saved.mode(), "V": int(saved.mode() in ("VS", "VU")), "pc": number["pc"],
+        "instruction": instruction_of(saved, symbols, disassembler), "clock": number["clock"],
+        "timer": None if number["timer"] == registers.NEVER else number["timer"],
+        "pending": dict(registers.lines_of_pending(saved)),
+        "registers": {registers.INTEGER[index]: number[f"x{index}"] for index in range(1, 32)},
+        "csrs": {name: {"value": number[name], "meaning": registers.meaning_of(name, number[name])}
+                 for name in CSRS},
+        "reservation": {"address": number["reservation address"], "width": number["reservation width"]}
+        if number["reservation width"] else None,
+        "console": saved.console.decode("latin-1"), "unread_inputs": len(saved.inputs),
+        "next_input": list(saved.inputs[0]) if saved.inputs else None,
+        "spaces": [{"key": key, "entries": len(entries), "stale": sum(each[0] == key for each in stale)}
+                   for key, entries in saved.spaces]}
+
+
+def lines_of_registers(values):
+    cells = [f"{name:>4} {value:016x}" for name, value in values.items()]
+    return ["  ".join(cells[at:at + 4]) for at in range(0, len(cells), 4)]
+
+
+def lines_of_state(state):
+    timer = "none" if state["timer"] is None else state["timer"]
+    comes = f"{state['next_input'][1]} at {state['next_input'][0]}" if state["next_input"] else "none"
+    lines = [f"{state['guest']} at step {state['step']}: {state['status']} in {state['mode']}, V = "
+             f"{state['V']}",
+             "pc " + line_of_instruction(state["pc"], state["instruction"]),
+             f"clock {state['clock']}, timer {timer}, unread inputs {state['unread_inputs']}, next {comes}"]
+    lines += [f"pending {name}: {words}" for name, words in state["pending"].items()] \
+        or ["nothing is pending"]
+    lines += lines_of_registers(state["registers"])
+    lines += [f"{name:<10} {each['value']:016x}  {each['meaning']}".rstrip()
+              for name, each in state["csrs"].items()]
+    if state["reservation"]:
+        lines.append(f"reservation of {state['reservation']['width']} bytes at "
+                     f"{state['reservation']['address']:x}")
+    lines += [f"space {each['key']:016x}: {each['entries']} entries, {each['stale']} stale"
+              for each in state["spaces"]]
+    console = state["console"].encode("latin-1")
+    return [*lines, f"console {len(console)} bytes: {shown_text(console)}"]
+
+
+def fault_words(answer, kind):
+    """What a refused access comes to, in words."""
+    code = walks.CODES[answer.fault][kind]
+    return f"{registers.EXCEPTIONS[code]} ({code})"
+
+
+def met_of(met):
+    """An entry that a walk met."""
+    return {"level": met.level, "place": met.place, "value": met.value,
+            "bits": None if met.value is None else walks.letters_of(met.value),
+            "frame": None if met.value is None else walks.frame_of(met.value) << 12, "wrong": met.wrong,
+            "reached": second_of(met.reached) if met.reached else None}
+
+
+def walk_of(walk):
+    return {"entries": [met_of(met) for met in walk.met], "wrong": walk.wrong} if walk else None
+
+
+def second_of(second):
+    """A guest physical address at the second stage."""
+    cached = second.cached and {"frame": second.cached[0] << 12, "rights": walks.rights_of(second.cached[1]),
+                                "level": second.cached[1] >> 3, "stale": second.stale}
+    return {"address": second.address, "walk": walk_of(second.walk), "cached": cached}
+
+
+def translation_of(translation, saved):
+    """An address as a mode sees it."""
+    view = translation.view
+    answers = {kind: {"address": answer.address, "cached": answer.is_cached, "wrong": answer.wrong,
+                      "fault": fault_words(answer, kind) if answer.wrong else ""}
+               for kind, answer in translation.answers.items()}
+    return {"address": translation.address, "mode": view.mode, "step": saved.numbers["steps"],
+            "first": {"table": registers.translation_of("vsatp" if view.is_nested else "satp", view.atp),
+                      "walk": walk_of(translation.first)},
+            "second": {"table": registers.translation_of("hgatp", saved.numbers["hgatp"]),
+                       **(second_of(translation.second) if translation.second else {})}
+            if view.is_nested else None, "answers": answers}
+
+
+def lines_of_met(met, indent):
+    front = f"{' ' * indent}level {met['level']}  {met['place']:x}"
+    if met["reached"]:
+        yield from lines_of_second(met["reached"], indent + 4, f"entry at guest physical {met['place']:x}")
+    if met["value"] is None:
+        yield f"{front}  {met['wrong']}"
+        return
+    line = f"{front}  {met['value']:016x}  {met['bits']}  {met['frame']:x}"
+    yield line + (f"  not usable: {met['wrong']}" if met["wrong"] else "")
+
+
+def lines_of_walk(walk, indent):
+    if walk["wrong"] and not walk["entries"]:
+        yield f"{' ' * indent}no walk: {walk['wrong']}"
+    for met in walk["entries"]:
+        yield from lines_of_met(met, indent)
+
+
+def lines_of_second(second, indent, what):
+    yield f"{' ' * indent}{what}, second stage:"
+    if second["walk"] is None:
+        yield f"{' ' * indent}  Bare"
+        return
+    yield from lines_of_walk(second["walk"], indent + 2)
+    cached = second["cached"]
+    if cached:
+        yield f"{' ' * indent}  cached   {second['address'] >> 12 << 12:x} -> {cached['frame']:x} " \
+            f"{cached['rights']} level {cached['level']}" \
+            + (f"  stale: {cached['stale']}" if cached["stale"] else "")
+
+
+def lines_of_translation(found):
+    lines = [f"{found['address']:x} in {found['mode']} at step {found['step']}",
+             f"first stage: {found['first']['table']}"]
+    if found["first"]["walk"]:
+        lines += lines_of_walk(found["first"]["walk"], 2)
+    second = found["second"]
+    if second:
+        lines.append(f"second stage: {second['table']}")
+        if "address" in second:
+            lines += lines_of_second(second, 2, f"guest physical {second['address']:x}")
+    for kind, answer in found["answers"].items():
+        if answer["wrong"]:
+            lines.append(f"{kind}: {answer['fault']}: {answer['wrong']}")
+        else:
+            lines.append(f"{kind}: {answer['address']:x}"
+                         + (", by the cached translation" if answer["cached"] else ""))
+    return lines
+
+
+def ranges_of(found):
+    return [{"start": each.start, "size": each.size, "to": each.to, "rights": each.rights,
+             "wrong": each.wrong} for each in found.ranges]
+
+
+def maps_of(saved):
+    """The address spaces: that of HS, that of each hgatp that is cached or set, and that of VS."""
+    number = saved.numbers
+    stale = walks.stale_entries(saved)
+    keys = [key for key, _ in saved.spaces]
+    keys += [number["hgatp"]] if number["hgatp"] and number["hgatp"] not in keys else []
+    made = [map_of("HS and U", "satp", number["satp"], walks.map_of(saved, number["satp"]))]
+    for key in keys:
+        each = map_of("guest physical", "hgatp", key, walks.map_of(saved, key, True))
+        each["is_present"] = key == number["hgatp"]
+        each["cached"] = cached_entries(saved, key)
+        each["stale"] = [{"page": page, "words": words} for held, page, words, _ in stale if held == key]
+        made.append(each)
+    made.append(map_of("VS and VU", "vsatp", number["vsatp"], walks.nested_map(saved)))
+    return {"step": number["steps"], "maps": made}
+
+
+def cached_entries(saved, key):
+    return [{"page": page, "frame": frame << 12, "rights": walks.rights_of(flags), "level": flags >> 3}
+            for page, (frame, flags) in walks.cached_of(saved, key).items()]
+
+
+def map_of(what, register, value, found):
+    return {"what": what, "register": register, "value": value,
+            "table": registers.translation_of(register, value), "ranges": ranges_of(found),
+            "cut": found.is_cut}
+
+
+def lines_of_maps(found):
+    lines = [f"step {found['step']}"]
+    for each in found["maps"]:
+        present = {True: ", present", False: ", not present"}.get(each.get("is_present"), "")
+        lines.append(f"{each['what']}, by {each['register']}: {each['table']}{present}")
+        for part in each["ranges"]:
+            wrong = f"  not usable: {part['wrong']}" if part["wrong"] else ""
+            lines.append(f"  {part['start']:016x} {part['size']:>9x}  {part['rights']}  -> {part['to']:x}"
+                         + wrong)
+        if each["cut"]:
+            lines.append("  and more: it has too many tables or ranges to be shown")
+        for entry in each.get("cached", []):
+            lines.append(f"  cached {entry['page'] << 12:x} -> {entry['frame']:x} {entry['rights']} level "
+                         f"{entry['level']}")
+        lines += [f"  stale {entry['page'] << 12:x}: {entry['words']}" for entry in each.get("stale", [])]
+    return lines
+
+
+def words_that_differ(one, other, ignored=()):
+    """The places of the doublewords that differ of two RAMs, but for those that are to be ignored."""
+    for page in range(0, min(len(one), len(other)), 4096):
+        first, second = one[page:page + 4096], other[page:page + 4096]
+        if first == second:
+            continue
+        for at in range(0, 4096, 8):
+            if first[at:at + 8] != second[at:at + 8] and page + at + saves.RAM not in ignored:
+                yield page + at + saves.RAM
+
+
+def numbers_that_differ(one, other):
+    """The registers that differ of two states, by the standard's names, with the two values."""
+    for name, value in one.numbers.items():
+        if name in SIZES or value == other.numbers[name]:
+            continue
+        shown = registers.INTEGER[int(name[1:])] if name[0] == "x" and name[1:].isdigit() else name
+        values = (value, other.numbers[name])
+        if name == "mode":
+            yield shown, *(saves.MODES[each] for each in values)
+        elif name == "status":
+            yield shown, *(saves.STATUSES[each] for each in values)
+        else:
+            yield shown, *(f"{each:x}" for each in values)
+
+
+def console_difference(one, other):
+    """What each of two consoles has from the first byte on that differs, or none."""
+    if one == other:
+        return None
+    at = reports.place_of(one, other)
+    return at, *(shown_text(each[at:at + 16]) if each[at:] else "its end" for each in (one, other))
+
+
+def differences(one, other, ignored=()):
+    """What differs of two states, each a name and the two values, in words. Spaces may differ."""
+    found = [(name, *values) for name, *values in numbers_that_differ(one, other)]
+    console = console_difference(one.console, other.console)
+    found += [(f"console byte {console[0]}", *console[1:])] if console else []
+    if one.inputs != other.inputs:
+        found.append(("unread inputs", str(len(one.inputs)), str(len(other.inputs))))
+    for count, place in enumerate(words_that_differ(one.ram, other.ram, ignored)):
+        if count == SHOWN_WORDS:
+            found.append(("more of RAM", "", ""))
+            break
+        found.append((f"[{place:x}]", f"{one.word_at(place):x}", f"{other.word_at(place):x}"))
+    return found
+
+
+def trap_of(before, after):
+    """The trap that a step took: where to, its cause and its values, or none."""
+    for mode, bank in (("HS", ""), ("VS", "vs")):
+        number = {name: after.numbers[bank + name if bank else "s" + name] for name in
+                  ("status", "epc", "cause", "tval")}
+        vector = before.numbers[f"{bank}tvec" if bank else "stvec"]
+        code = number["cause"] & 2**63 - 1
+        goes_to = (vector & ~3) + (4 * code if number["cause"] >> 63 and vector & 1 else 0) & 2**64 - 1
+        is_from = before.mode()[0] == "V"
+        came = is_from if bank else after.numbers["hstatus"] >> 7 & 1 == is_from
+        places = after.numbers["pc"], number["epc"]
+        if came and after.mode() == mode and places == (goes_to, before.numbers["pc"]) \
+                and is_status_of_trap(before, number["status"], bank) and not is_made(before, after):
+            return {"to": mode, "cause": number["cause"], "words": registers.cause_of(number["cause"]),
+                    "tval": number["tval"], "htval": after.numbers["htval"] if mode == "HS" else 0,
+                    "htinst": after.numbers["htinst"] if mode == "HS" else 0}
+    return None
+
+
+def is_status_of_trap(before, status, bank):
+    """Whether a trap leaves this in sstatus or vsstatus."""
+    was = before.numbers["vsstatus" if bank else "sstatus"]
+    spp = before.mode() in ("HS", "VS")
+    return status >> 8 & 1 == spp and not status & 2 and status >> 5 & 1 == was >> 1 & 1
+
+
+def is_made(before, after):
+    """Whether the step may have made its instruction: it has changed no register that a trap writes, and the
+    instruction may have led to this pc."""
+    names = ("mode", "hstatus", "sstatus", "scause", "stval", "sepc", "vsstatus", "vscause", "vstval",
+             "vsepc")
+    if any(before.numbers[name] != after.numbers[name] for name in names):
+        return False
+    word, _, _ = walks.fetched(before)
+    is_jump = word is not None and word & 0x7F in (0x63, 0x67, 0x6F)
+    return word is not None and (is_jump or after.numbers["pc"] == before.numbers["pc"] + 4)
+
+
+def line_of_trap(trap):
+    code = trap["cause"] & 2**63 - 1
+    line = f"{trap['words']} ({code}) to {trap['to']}"
+    if not trap["cause"] >> 63:
+        line += f", {'vstval' if trap['to'] == 'VS' else 'stval'} {trap['tval']:x}"
+    if trap["htval"]:
+        line += f", htval {trap['htval']:x} (guest physical {trap['htval'] << 2:x})"
+    if trap["htinst"]:
+        line += f", htinst {trap['htinst']:x} (of an entry of the first stage)"
+    return line

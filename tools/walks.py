@@ -1,0 +1,382 @@
+"""Walks of page tables in the RAM of a saved guest, as the guest's next access would make them: both stages,
+each entry with why it cannot be used, and the cached translation beside it.
+"""
+import struct
+
+import saves
+
+FETCH, LOAD, STORE, IMPLICIT = "fetch", "load", "store", "implicit read"
+KINDS = (FETCH, LOAD, STORE)
+V, R, W, X, U, G, A, D = (1 << bit for bit in range(8))
+LETTERS = "VRWXUGAD"
+MXR, SUM = 1 << 19, 1 << 18
+MOST_TABLES, MOST_RANGES = 4096, 16384  # of a map
+CODES = {"access": {FETCH: 1, LOAD: 5, STORE: 7}, "page": {FETCH: 12, LOAD: 13, STORE: 15},
+         "guest-page": {FETCH: 20, LOAD: 21, STORE: 23}}
+
+
+def letters_of(entry):
+    return "".join(letter if entry >> bit & 1 else "-" for bit, letter in enumerate(LETTERS))
+
+
+def rights_of(flags):
+    """The rights of a cached translation."""
+    return "".join(letter if flags >> bit & 1 else "-" for bit, letter in enumerate("rwx"))
+
+
+def frame_of(entry):
+    return entry >> 10 & (1 << 44) - 1
+
+
+class Shape:
+    """The form of a table: that of satp or vsatp, or with `is_second` that of hgatp."""
+
+    def __init__(self, atp, is_second=False):
+        self.levels = {0: 0, 8: 3, 9: 4}[atp >> 60]
+        self.root, self.is_second = (atp & (1 << 44) - 1) << 12, is_second
+        self.bits = 12 + 9 * self.levels + 2 * is_second
+        self.root_entries = 2048 if is_second else 512
+
+    def index(self, address, level):
+        mask = self.root_entries - 1 if level == self.levels - 1 else 511
+        return address >> 12 + 9 * level & mask
+
+    def refused(self, address):
+        """Why an address has no walk, or nothing."""
+        if self.is_second:
+            return f"the address has more than {self.bits} bits" if address >> self.bits else ""
+        high = address >> self.bits - 1
+        is_canonical = high in (0, (1 << 65 - self.bits) - 1)
+        return "" if is_canonical else \
+            f"bits 63:{self.bits} of the address are not equal to bit {self.bits - 1}"
+
+
+def entry_wrong(entry, level):
+    """Why no access can use an entry at this level, or nothing."""
+    if not entry & V:
+        return "V clear"
+    if entry & W and not entry & R:
+        return "W set, R clear"
+    if entry >> 54:
+        return "bits 63:54 not zero"
+    if not entry & (R | W | X):
+        if entry & (A | D | U):
+            return "a pointer with A, D or U set"
+        return "a pointer at level 0" if level == 0 else ""
+    if frame_of(entry) & (1 << 9 * level) - 1:
+        return f"the frame is no multiple of the {512 ** level} frames of a leaf at level {level}"
+    return "" if entry & A else "A clear"
+
+
+def right_wrong(entry, kind, mxr):
+    """Why a leaf does not permit a kind of access, as far as its rights and D say, or nothing."""
+    if kind == LOAD and entry & X and mxr:
+        return ""
+    needed = {FETCH: X, LOAD: R, IMPLICIT: R, STORE: W}[kind]
+    if not entry & needed:
+        return "no " + LETTERS[needed.bit_length() - 1]
+    return "D clear" if kind == STORE and not entry & D else ""
+
+
+class Met:
+    """An entry that a walk met: its level, its place, its value (none where its place cannot be read), why it
+    cannot be used, and for an entry of a first stage under a second one how its place was found."""
+
+    def __init__(self, level, place, value, wrong, reached=None):
+        self.level, self.place, self.value, self.wrong, self.reached = level, place, value, wrong, reached
+
+
+class Walk:
+    """The walk of a table for an address: the entries that it met, and the leaf, or what is wrong. `fault` is
+    the kind of the fault that comes of it."""
+
+    def __init__(self, shape, address, read):
+        self.met, self.leaf, self.level, self.wrong = [], None, None, shape.refused(address)
+        self.fault, table = "guest-page" if shape.is_second else "page", shape.root
+        for level in reversed(range(shape.levels)):
+            if self.wrong:
+                return
+            place = table + 8 * shape.index(address, level)
+            value, fault, unread, reached = read(place)
+            self.wrong = unread if value is None else entry_wrong(value, level)
+            self.fault = fault or self.fault
+            self.met.append(Met(level, place, value, self.wrong, reached))
+            if value is not None and value & (R | W | X):
+                self.leaf, self.level = value, level
+                break
+            table = 0 if value is None else frame_of(value) << 12
+        if self.leaf is not None:
+            low = (1 << 12 + 9 * self.level) - 1
+            self.address = frame_of(self.leaf) << 12 & ~low | address & low
+
+
+class Answer:
+    """What one kind of access comes to: the address, and whether a cached translation gave it; or why it
+    traps, and by which fault."""
+
+    def __init__(self, address=None, is_cached=False, wrong="", fault="", place=None):
+        self.address, self.is_cached, self.wrong, self.fault = address, is_cached, wrong, fault
+        self.place = place  # the guest physical address of a guest-page fault
+
+
+class Second:
+    """A guest physical address at the second stage: the walk of the table as RAM is, the cached translation
+    beside it, and the answer for each kind of access. Without a table there is no walk."""
+
+    def __init__(self, view, address, uses_cache):
+        self.address, self.view = address, view
+        self.walk = Walk(view.second, address, view.read) if view.second.levels else None
+        self.cached = view.cached.get(address >> 12) if uses_cache and self.walk else None
+        self.stale = "" if self.cached is None else stale_of(self.cached, self.walk)
+
+    def table_wrong(self, kind):
+        """Why the table does not permit a kind of access, or nothing, and the kind of fault."""
+        walk = self.walk
+        if walk.wrong:
+            return walk.wrong, walk.fault
+        wrong = ("" if walk.leaf & U else "U clear") or right_wrong(walk.leaf, kind, self.view.hs_mxr)
+        if not wrong and not self.view.is_in_ram(walk.address):
+            return f"{walk.address:x} is not in RAM", "access"
+        return wrong, "guest-page"
+
+    def answer(self, kind):
+        if self.walk is None:
+            is_there = self.view.is_in_ram(self.address)
+            return Answer(self.address) if is_there else \
+                Answer(wrong=f"{self.address:x} is not in RAM", fault="access")
+        if self.cached and permits(self.cached[1], kind, self.view.hs_mxr):
+            return Answer(self.cached[0] << 12 | self.address & 4095, is_cached=True)
+        wrong, fault = self.table_wrong(kind)
+        return Answer(wrong=wrong, fault=fault, place=self.address) if wrong else Answer(self.walk.address)
+
+
+def permits(flags, kind, mxr):
+    """Whether a cached translation with these flags is used for a kind of access."""
+    return bool({FETCH: flags & 4, LOAD: flags & 1 or flags & 4 and mxr, STORE: flags & 2,
+                 IMPLICIT: flags & 1}[kind])
+
+
+def table_flags(walk):
+    """The flags that a translation would have that is cached of this walk, or none where it has no leaf that
+    can be used."""
+    if walk.wrong or not walk.leaf & U:
+        return None
+    leaf = walk.leaf
+    w = leaf & W and leaf & D
+    return bool(leaf & R) | bool(w) << 1 | bool(leaf & X) << 2 | walk.level << 3
+
+
+def stale_of(cached, walk):
+    """How a cached translation differs from what the table says now, in words, or nothing."""
+    frame, flags = cached
+    has = f"cached {frame << 12:x} {rights_of(flags)}"
+    now = table_flags(walk)
+    if now is None:
+        return f"{has}, table says {walk.wrong or 'U clear'}"
+    place = walk.address >> 12
+    if place != frame or now & 7 != flags & 7:
+        return f"{has}, table says {place << 12:x} {rights_of(now)}"
+    return "" if now == flags else f"cached of level {flags >> 3}, table has level {now >> 3}"
+
+
+class View:
+    """What a mode sees of a saved guest's memory. In VS and VU, the cached translations are those of the
+    space of hgatp."""
+
+    def __init__(self, saved, mode=None):
+        number = saved.numbers
+        self.saved, self.mode = saved, mode or saved.mode()
+        self.is_nested = self.mode in ("VS", "VU")
+        self.status = number["vsstatus" if self.is_nested else "sstatus"]
+        self.atp = number["vsatp" if self.is_nested else "satp"]
+        self.first = Shape(self.atp)
+        self.second = Shape(number["hgatp"] if self.is_nested else 0, True)
+        self.hs_mxr = bool(number["sstatus"] & MXR)
+        self.mxr = bool((self.status | number["sstatus"]) & MXR)
+        self.cached = cached_of(saved, number["hgatp"]) if self.is_nested else {}
+
+    def is_in_ram(self, address):
+        return 0 <= address - saves.RAM < len(self.saved.ram)
+
+    def read(self, place):
+        """An entry at a physical place, or why it cannot be read, and by which fault."""
+        value = self.saved.word_at(place)
+        return (value, "", "", None) if value is not None else \
+            (None, "access", f"the entry's place {place:x} is not in RAM", None)
+
+    def read_nested(self, place):
+        """An entry of a first stage, at a guest physical place."""
+        reached = Second(self, place, True)
+        answer = reached.answer(IMPLICIT)
+        if answer.wrong:
+            return None, answer.fault, f"at the second stage of the entry's place: {answer.wrong}", reached
+        return self.saved.word_at(answer.address), "", "", reached
+
+    def user_wrong(self, leaf, kind):
+        """Why a leaf of the first stage is not for this mode, or nothing."""
+        if self.mode in ("U", "VU"):
+            return "" if leaf & U else "U clear"
+        if not leaf & U:
+            return ""
+        return "U set" if kind == FETCH else "" if self.status & SUM else "U set, SUM clear"
+
+
+def cached_of(saved, key):
+    """The cached translations of a space by page, each a frame and flags."""
+    return next(({page: (frame, flags) for page, frame, flags in entries}
+                 for held, entries in saved.spaces if held == key), {})
+
+
+class Translation:
+    """An address as a mode sees it: the walk of the first stage, none where that is Bare, the second stage of
+    what it gives, none where it gives nothing or V is 0, and the answers by the kind of access."""
+
+    def __init__(self, view, address):
+        self.view, self.address, self.first, self.second = view, address, None, None
+        between = address
+        if view.first.levels:
+            self.first = Walk(view.first, address, view.read_nested if view.is_nested else view.read)
+            between = None if self.first.wrong else self.first.address
+        if between is not None and view.is_nested:
+            self.second = Second(view, between, True)
+        self.between = between
+        self.answers = {kind: self.answer(kind) for kind in KINDS}
+
+    def answer(self, kind):
+        if self.first:
+            wrong = self.first.wrong or self.view.user_wrong(self.first.leaf, kind) \
+                or right_wrong(self.first.leaf, kind, self.view.mxr)
+            if wrong:
+                fault = self.first.fault if self.first.wrong else "page"
+                return Answer(wrong=wrong, fault=fault, place=self.implicit_place())
+        if self.second:
+            return self.second.answer(kind)
+        is_there = self.view.is_in_ram(self.between)
+        return Answer(self.between) if is_there else \
+            Answer(wrong=f"{self.between:x} is not in RAM", fault="access")
+
+    def implicit_place(self):
+        """The guest physical place of the entry that the second stage refuses, or none."""
+        last = self.first.met[-1] if self.first.met else None
+        return last.place if last and last.reached and last.value is None else None
+
+
+def fetched(saved):
+    """The word that the next step fetches and its physical address, or none and why there is none."""
+    answer = Translation(View(saved), saved.numbers["pc"]).answers[FETCH]
+    if answer.wrong:
+        return None, None, answer.wrong
+    return saved.word_at(answer.address, 4), answer.address, ""
+
+
+def stale_entries(saved):
+    """Each cached translation that differs from its table as RAM is: the key of its space, its page, how it
+    differs in words, and the walk of the table."""
+    found = []
+    for key, entries in saved.spaces:
+        shape, view = Shape(key, True), View(saved, "HS")
+        for page, frame, flags in entries:
+            walk = Walk(shape, page << 12, view.read)
+            words = stale_of((frame, flags), walk)
+            if words:
+                found.append((key, page, words, walk))
+    return found
+
+
+class Range:
+    """Addresses that are mapped alike: from `start` on `size` bytes, to `to` on, with rights in letters, and
+    why they cannot be used."""
+
+    def __init__(self, start, size, to, rights, wrong):
+        self.start, self.size, self.to, self.rights, self.wrong = start, size, to, rights, wrong
+
+    def takes(self, other):
+        """Whether another one that comes next goes on with this one, which it then does."""
+        goes_on = self.start + self.size == other.start and self.to + self.size == other.to
+        if goes_on and (self.rights, self.wrong) == (other.rights, other.wrong):
+            self.size += other.size
+            return True
+        return False
+
+
+class Map:
+    """The ranges of a table, in order. `is_cut` where it has more tables or ranges than are shown, as one
+    that names itself may have."""
+
+    def __init__(self, shape, read_table, ram_size=0):
+        self.shape, self.read_table, self.ram_size = shape, read_table, ram_size
+        self.ranges, self.tables, self.is_cut = [], 0, False
+        if shape.levels:
+            self.read(shape.root, shape.levels - 1, 0)
+
+    def read(self, place, level, start):
+        """Reads a table at this place, whose first entry is for the address `start`."""
+        count = self.shape.root_entries if level == self.shape.levels - 1 else 512
+        self.tables += 1
+        if self.tables > MOST_TABLES:
+            self.is_cut = True
+            return
+        entries = self.read_table(place, count)
+        if entries is None:
+            self.put(Range(start, count << 12 + 9 * level, 0, "---",
+                           f"the table at {place:x} cannot be read"))
+        for index, entry in enumerate(entries or ()):
+            if not entry & V or self.is_cut:
+                continue
+            size = 1 << 12 + 9 * level
+            if entry & (R | W | X) or entry_wrong(entry, level):
+                self.add(start + index * size, size, entry, level)
+            else:
+                self.read(frame_of(entry) << 12, level - 1, start + index * size)
+
+    def add(self, start, size, entry, level):
+        """Adds what an entry maps, in the parts that are in RAM and those that are not."""
+        wrong = entry_wrong(entry, level)
+        if self.shape.is_second and not wrong and not entry & U:
+            wrong = "U clear"
+        has = (entry & R, entry & W and entry & D, entry & X, entry & U)
+        rights = "".join(letter if bit else "-" for letter, bit in zip("rwxu", has))
+        to, rights = frame_of(entry) << 12, rights[:3] if self.shape.is_second else rights
+        for at, length, is_there in self.parts(to, size):
+            self.put(Range(start + at, length, to + at, rights, wrong or ("" if is_there else "not in RAM")))
+
+    def parts(self, to, size):
+        """Addresses from `to` on, cut where RAM begins and ends: each part's offset and size, and whether it
+        is in RAM."""
+        if not self.ram_size:
+            return [(0, size, True)]
+        cuts = [min(max(edge - to, 0), size) for edge in (saves.RAM, saves.RAM + self.ram_size)]
+        parts = [(0, cuts[0], False), (cuts[0], cuts[1] - cuts[0], True), (cuts[1], size - cuts[1], False)]
+        return [part for part in parts if part[1]]
+
+    def put(self, made):
+        if not self.shape.is_second and made.start >> self.shape.bits - 1:
+            made.start |= 2**64 - (1 << self.shape.bits)
+        if not (self.ranges and self.ranges[-1].takes(made)):
+            self.ranges.append(made)
+        self.is_cut = self.is_cut or len(self.ranges) > MOST_RANGES
+
+
+def table_reader(saved):
+    """Reads tables at physical places."""
+    def read(place, count):
+        at = place - saves.RAM
+        if not 0 <= at <= len(saved.ram) - 8 * count:
+            return None
+        return struct.unpack(f"<{count}Q", saved.ram[at:at + 8 * count])
+    return read
+
+
+def map_of(saved, atp, is_second=False):
+    """The map of a table whose entries are at physical places."""
+    return Map(Shape(atp, is_second), table_reader(saved), len(saved.ram))
+
+
+def nested_map(saved):
+    """The map of vsatp, whose tables lie at guest physical places, to guest physical addresses."""
+    view, read = View(saved, "VS"), table_reader(saved)
+
+    def read_nested(place, count):
+        answer = Second(view, place, True).answer(IMPLICIT)
+        return None if answer.wrong else read(answer.address, count)
+    return Map(view.first, read_nested)
