@@ -1,5 +1,5 @@
-# Completion of bash for nesthv, nesthv-run, nesthv-inputs, nesthv-saved, nesthv-look and examples/run. Read it by
-# `source tools/completion.bash`, or install it.
+# Completion of bash for nesthv, nesthv-run, nesthv-inputs, nesthv-saved, nesthv-look and examples/run. Read it
+# by `source tools/completion.bash`, or install it.
 _nesthv() {
     if [ "$COMP_CWORD" -eq 1 ]; then
         mapfile -t COMPREPLY < <(compgen -W 'run replay check work save' -- "$2")
@@ -68,8 +68,8 @@ _nesthv_look() {
     status) mapfile -t COMPREPLY < <(compgen -W 'waiting stopped' -- "$2") && return ;;
     esac
     if [[ $2 == -* ]]; then
-        mapfile -t COMPREPLY < <(compgen -W '--as --step --most --elf --json --program --cache --cache-size --help' \
-            -- "$2")
+        mapfile -t COMPREPLY < <(compgen -W '--as --step --most --elf --json --program --cache --cache-size
+            --help' -- "$2")
         return
     fi
     for word in "${COMP_WORDS[@]:1:COMP_CWORD-1}"; do

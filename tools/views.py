@@ -268,6 +268,14 @@ def differences(one, other, ignored=()):
     return found
 
 
+def cache_changes(before, after):
+    """Which cached translations a step filled and dropped, each with the address of its page."""
+    held = [{(key, *entry) for key, entries in saved.spaces for entry in entries} for saved in (before, after)]
+    filled, dropped = sorted(held[1] - held[0]), sorted(held[0] - held[1])
+    return [(what, f"{page << 12:x}", f"{frame << 12:x}") for what, found in
+            (("filled", filled), ("dropped", dropped)) for _, page, frame, _ in found]
+
+
 def trap_of(before, after):
     """The trap that a step took: where to, its cause and its values, or none."""
     for mode, bank in (("HS", ""), ("VS", "vs")):
