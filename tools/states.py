@@ -57,8 +57,12 @@ class Guest:
         folder = os.path.dirname(path) or "."
         if not os.path.isfile(path):
             raise Unusable(f"the configuration {path} is no regular file{faults.unreadable(path)}")
-        checked(program, path, folder)
         document, _ = faults.parsed(faults.text_of(path))
+        for name in faults.file_names(document):
+            file = os.path.join(folder, name)
+            if os.path.exists(file) and not os.path.isfile(file):
+                raise Unusable(f"{file} is no regular file, and may be read once alone")
+        checked(program, path, folder)
         guests = faults.guests_of(document)
         if not 0 <= number < len(guests):
             raise Unusable(f"{path}: {faults.guest_missing(len(guests), number)}")

@@ -181,9 +181,9 @@ def stale_of(cached, walk):
 
 class View:
     """What a mode sees of a saved guest's memory. In VS and VU, the cached translations are those of the
-    space of hgatp."""
+    space of hgatp; HLV, HLVX and HSV use none."""
 
-    def __init__(self, saved, mode=None):
+    def __init__(self, saved, mode=None, uses_cached=True):
         number = saved.numbers
         self.saved, self.mode = saved, mode or saved.mode()
         self.is_nested = self.mode in ("VS", "VU")
@@ -193,7 +193,7 @@ class View:
         self.second = Shape(number["hgatp"] if self.is_nested else 0, True)
         self.hs_mxr = bool(number["sstatus"] & MXR)
         self.mxr = bool((self.status | number["sstatus"]) & MXR)
-        self.cached = cached_of(saved, number["hgatp"]) if self.is_nested else {}
+        self.cached = cached_of(saved, number["hgatp"]) if self.is_nested and uses_cached else {}
 
     def is_in_ram(self, address):
         return 0 <= address - saves.RAM < len(self.saved.ram)
@@ -259,6 +259,13 @@ class Translation:
         """The guest physical place of the entry that the second stage refuses, or none."""
         last = self.first.met[-1] if self.first.met else None
         return last.place if last and last.reached and last.value is None else None
+
+
+def view_of_access(saved, word):
+    """What the data access of this instruction sees."""
+    if word is not None and word & 0x7F == 0x73 and word >> 12 & 7 == 4:  # HLV, HLVX, HSV
+        return View(saved, "VS" if saved.numbers["hstatus"] >> 8 & 1 else "VU", False)
+    return View(saved)
 
 
 def fetched(saved):
