@@ -68,7 +68,7 @@ _nesthv_look() {
     status) mapfile -t COMPREPLY < <(compgen -W 'waiting stopped' -- "$2") && return ;;
     esac
     if [[ $2 == -* ]]; then
-        mapfile -t COMPREPLY < <(compgen -W '--as --step --most --elf --json --program --cache --cache-size
+        mapfile -t COMPREPLY < <(compgen -W '--as --step --svg --most --elf --json --program --cache --cache-size
             --help' -- "$2")
         return
     fi

@@ -4,6 +4,7 @@ import os
 import struct
 import subprocess
 import unittest
+from xml.dom import minidom
 
 from forms import HGATP, form
 from helper import LETTER, PROGRAM, TOOLS, TOP, ToolTest
@@ -124,6 +125,7 @@ class WalkTest(unittest.TestCase):
         self.assertEqual(set(answers_of(saved, 0x200123, "HS").values()), {"80200123 is not in RAM"})
 
     def test_maps(self):
+        import drawing
         import views
         import walks
         saved = saved_of(held=[(HGATP, [(1, 0x80009, 1)])],
@@ -136,9 +138,13 @@ class WalkTest(unittest.TestCase):
                      "  0000000000003000      1000  rw-  -> 80008000  not usable: A clear",
                      "  stale 1000: cached 80009000 r--, table says 80008000 rw-"):
             self.assertIn(line, lines)
+        drawn = minidom.parseString(drawing.svg_of(views.maps_of(saved)))
+        kinds = [each.getAttribute("class") for each in drawn.getElementsByTagName("path")]
+        self.assertEqual(sorted(kinds), ["band", "band", "stale"])
         endless = saved_of(words={f"at{place:x}": pointer(TABLE)
                                   for place in range(TABLE, TABLE + 0x4000, 8)})
         self.assertTrue(walks.map_of(endless, HGATP, True).is_cut)
+        minidom.parseString(drawing.svg_of(views.maps_of(endless)))
 
 
 class RegisterTest(unittest.TestCase):
