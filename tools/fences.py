@@ -5,23 +5,9 @@ report, both are runs that the standard permits, and the guest's fences do not d
 import entries
 import reports
 import states
+import stays
 import views
 import walks
-
-
-def is_nested(saved):
-    return saved.mode() in ("VS", "VU")
-
-
-def entries_of(runs, end, tell):
-    """The steps behind which V has become 1, in order. Between two traps into HS it becomes so once."""
-    finder, step = states.Traps(runs, ("stvec",), tell), runs.first
-    while step < end:
-        trap = finder.next(step, end)
-        high = trap.step - 1 if trap else end
-        if not is_nested(runs.at(step)) and is_nested(runs.at(high, False)):
-            yield states.first_step(lambda each: is_nested(runs.at(each, False)), step, high)
-        step = trap.step if trap else end
 
 
 class Drop:
@@ -32,30 +18,30 @@ class Drop:
         self.data = saved.changed(spaces=[(key, []) for key, _ in saved.spaces])
         self.is_empty = not any(entries for _, entries in saved.spaces)
 
+    def line(self):
+        return states.Line(self.runs, self.step, self.data)
+
     def report(self):
-        with states.Base(self.runs, self.data) as base:
-            return base.call("run", self.runs.last - self.step)
+        with self.line() as line:
+            return line.call("run", self.runs.last)
 
     def first_difference(self, end, tell):
         """The first state that differs from that of the guest's own run, as far as halves find it, with its
         step and the states before it: the run's own, and this one's."""
-        with states.Base(self.runs, self.data) as base:
-            def later(step):
-                return base.later(step - self.step)
-
+        with self.line() as line:
             def differs(step):
-                return bool(views.differences(self.runs.at(step), later(step)))
+                return bool(views.differences(self.runs.at(step), line.at(step)))
             if not differs(end):
                 return None
             step = states.first_step(differs, self.step, end, tell)
-            return Difference(step, [self.runs.at(step - 1), later(step - 1)],
-                              [self.runs.at(step), later(step)])
+            return Difference(step, [self.runs.at(step - 1), line.at(step - 1)],
+                              [self.runs.at(step), line.at(step)])
 
 
 def used_pages(saved):
     """The guest physical pages that the next step uses: those of its first-stage entries, of pc and of the
     data of a load or store."""
-    if not is_nested(saved):
+    if not stays.is_nested(saved):
         return set()
     view, addresses = walks.View(saved), [saved.numbers["pc"]]
     word, _, _ = walks.fetched(saved)
@@ -110,10 +96,9 @@ def last_change(runs, walk, step):
     now, latest = runs.at(step), None
     for met in walk.met:
         value = now.word_at(met.place)
-        if value is None or runs.start.word_at(met.place) == value:
-            continue
-        changed = states.first_step(lambda each: runs.at(each).word_at(met.place) == value, runs.first, step)
-        if latest is None or changed > latest[0]:
+        changed = value is not None and states.last_change(
+            lambda each: runs.at(each).word_at(met.place) == value, runs.first, step)
+        if changed and (latest is None or changed > latest[0]):
             latest = changed, met.place
     return latest
 
@@ -137,10 +122,9 @@ def value_of(session, drop, plain, report, found):
 
 
 def lines_of(value):
-    """What is known of the drops that lead to the same difference."""
-    drops = value["dropped_at"]
-    lines = [f"without the translations that are cached at step {drops[0]}"
-             + (f" ({len(drops)} such steps)" if len(drops) > 1 else "") + " the report is another one:"]
+    """What is known of a drop that changes the report."""
+    step = value["dropped_at"][0]
+    lines = [f"without the translations that are cached at step {step} the report is another one:"]
     lines += [f"  {words}" for words in value["report"]]
     if value["line"] is None:
         return [*lines, "  where it comes from is not found: the states at the end are the same"]
@@ -156,43 +140,47 @@ def lines_of(value):
     return lines
 
 
-def findings(session, most):
-    """Drops the cached translations at each entry into V = 1, but for those behind the first `most`. Gives
-    how many were dropped, those that change the report, and the step up to which was looked, or none where
-    it is the end."""
-    runs, end = session.runs, session.end()
-    plain = runs.call("run", session.guest.keys, session.guest.steps)
-    drops = Drops(runs, end, most, session.tell)
-    found, count = {}, 0
-    for drop, report in states.in_parallel(lambda drop: (drop, drop.report()), drops):
-        count += 1
-        session.tell(drop.step, end)
-        if report == plain:
-            continue
-        difference = drop.first_difference(end, session.tell)
-        place = difference.step if difference else None
-        if place in found:
-            found[place]["dropped_at"].append(drop.step)
-        else:
-            found[place] = value_of(session, drop, plain, report, difference)
-    return count, list(found.values()), drops.cut
+class Search:
+    """Drops the cached translations at each entry into V = 1 behind a step, up to another one, at which
+    something is cached, one at a time and at most so many, where `most` is not 0. Counts the drops, and those
+    that change the report. `cut` is the step of the first one that is left out, or none."""
 
+    def __init__(self, session, start, end, most):
+        self.session, self.start, self.end, self.most = session, start, end, most
+        self.count, self.changing, self.found, self.cut = 0, [], {}, None
+        session.doing = self.progress
 
-class Drops:
-    """The drops at the entries into V = 1 at which something is cached, at most so many. `cut` is the step of
-    the first one that is left out."""
+    def progress(self, low, high):
+        done = f"{self.count} drops up to step {low:,} of {self.end:,}"
+        return f"{done}: {len(self.changing)} change the report"
 
-    def __init__(self, runs, end, most, tell):
-        self.runs, self.end, self.most, self.tell, self.cut = runs, end, most, tell, None
-
-    def __iter__(self):
-        count = 0
-        for step in entries_of(self.runs, self.end, self.tell):
-            drop = Drop(self.runs, step)
+    def drops(self):
+        runs, count = self.session.runs, 0
+        for stay in stays.stays_of(runs, self.start, self.end, lambda low, high: None):
+            drop = Drop(runs, stay.entry)
             if drop.is_empty:
                 continue
-            if count == self.most:
-                self.cut = step
+            if count == self.most > 0:
+                self.cut = stay.entry
                 return
             count += 1
             yield drop
+
+    def findings(self):
+        """Yields what is known of each drop that changes the report, but once where several lead to the same
+        first difference."""
+        session = self.session
+        plain = session.runs.call("run", session.guest.keys, session.guest.steps)
+        for drop, report in states.in_parallel(lambda drop: (drop, drop.report()), self.drops()):
+            self.count += 1
+            session.tell(drop.step, self.end)
+            if report == plain:
+                continue
+            self.changing.append(drop.step)
+            difference = drop.first_difference(session.end(), session.tell)
+            place = difference.step if difference else None
+            if place in self.found:
+                self.found[place]["dropped_at"].append(drop.step)
+            else:
+                self.found[place] = value_of(session, drop, plain, report, difference)
+                yield self.found[place]

@@ -90,7 +90,9 @@ def why_not_taken(saved, bit, enable):
     """Why the next step does not take an interrupt that is pending, or nothing where nothing keeps it."""
     number, mode = saved.numbers, saved.mode()
     if not (number["sie"] | number["hie"]) >> bit & 1:
-        return f"{enable} is clear"
+        is_hidden = enable.startswith("hie") and not number["hideleg"] >> bit & 1
+        return f"{enable} is clear" + \
+            (", which VS cannot set in its sie: hideleg does not have it" if is_hidden else "")
     if number["hideleg"] >> bit & 1:
         if mode in ("HS", "U"):
             return f"hideleg has it, and V is 0 in {mode}"

@@ -19,8 +19,9 @@ import saves
 MIB = 1 << 20
 PAGE = bytes(4096)
 AWAY = 1 << 62  # an address that no mode can fetch from
-KEPT_IN_MEMORY, KEPT_IN_SEARCH = 8, 4  # states
-FAR = 256  # single steps from one state
+KEPT_IN_MEMORY, KEPT_IN_SEARCH, KEPT_IN_FILES = 8, 4, 4  # states
+AT_ONCE = 256  # single steps from one state
+FAR = 100000  # steps from a state to one that is worth keeping
 
 
 class Unusable(Exception):
@@ -180,6 +181,7 @@ class Runs:
             self.put(name, data)
         self.start = self.saved_of(self.call("save", guest.keys, 0))
         self.first = self.start.numbers["steps"]
+        self.know(self.first, self.start)
         self.last = self.first + guest.steps
 
     def close(self):
@@ -224,19 +226,15 @@ class Runs:
     def at(self, step, is_kept=True):
         """The state at this step, or where the run ends before, at its end."""
         step = min(max(step, self.first), self.last)
-        if step in self.known:
-            self.known.move_to_end(step)
-            return self.known[step]
-        saved = self.kept_at(step)
-        if saved is None:
-            data = self.made_at(step)
-            saved = self.saved_of(data)
-            if is_kept:
-                self.cache.keep(step, data)
+        if step not in self.known:
+            self.know(step, self.kept_at(step) or self.saved_of(self.made_at(step, is_kept)))
+        self.known.move_to_end(step)
+        return self.known[step]
+
+    def know(self, step, saved):
         self.known[step] = saved
         while len(self.known) > KEPT_IN_MEMORY:
             self.known.pop(next(iter(self.known)), None)
-        return saved
 
     def kept_at(self, step):
         data = self.cache.read(step) if step in self.cache.steps() else None
@@ -245,43 +243,75 @@ class Runs:
         except saves.Wrong:
             return None
 
-    def made_at(self, step):
+    def made_at(self, step, is_kept):
         """The bytes of the state at this step, made from the last one before that is known."""
-        for before in sorted((each for each in self.cache.steps() if each < step), reverse=True):
+        before, saved = self.last_before(step)
+        if saved is None:
+            before, data = self.first, self.call("save", self.guest.keys, step - self.first)
+        else:
+            with Line(self, before, saved.form()) as line:
+                data = line.call("save", step)
+        if is_kept and step - before >= FAR:  # a nearer one is made again soon enough
+            self.cache.keep(step, data)
+        return data
+
+    def last_before(self, step):
+        """The last state before a step that is known, with its step; without one, none."""
+        near = max((each for each in self.known if each < step), default=-1)
+        for before in sorted((each for each in self.cache.steps() if near < each < step), reverse=True):
             saved = self.kept_at(before)
             if saved:
-                with Base(self, saved.form()) as base:
-                    return base.call("save", step - before)
-        return self.call("save", self.guest.keys, step - self.first)
+                return before, saved
+        if near < 0:
+            return self.first, None
+        self.known.move_to_end(near)
+        return near, self.known[near]
 
     def singles(self, start, end):
         """The states at the steps from `start` to `end`, in order."""
         yield self.at(start)
         while start < end:
-            with Base(self, self.at(start).form()) as base:
-                yield from in_parallel(base.later, range(1, min(FAR, end - start) + 1))
-            start = min(start + FAR, end)
+            until = min(start + AT_ONCE, end)
+            with Line(self, start, self.at(start).form()) as line:
+                yield from in_parallel(line.at, range(start + 1, until + 1))
+            start = until
 
 
-class Base:
-    """A state in a file, which runs go on from."""
+class Line:
+    """A run that goes on from the state that `data` has, which is that at a step. What it comes to is made
+    from the last state before that is kept in a file: the first one, or one of the few that were far from the
+    one before."""
 
-    def __init__(self, runs, data):
-        self.runs, self.name = runs, runs.put(f"{next(runs.numbers)}.saved", data)
-        self.keys = {"name": runs.guest.name, "resume": self.name}
+    def __init__(self, runs, step, data):
+        self.runs, self.start, self.files = runs, step, collections.OrderedDict()
+        self.keep(step, data)
 
     def __enter__(self):
         return self
 
     def __exit__(self, *_):
-        os.remove(self.runs.path(self.name))
+        for name in self.files.values():
+            os.remove(self.runs.path(name))
 
-    def call(self, command, steps):
-        return self.runs.call(command, self.keys, steps)
+    def keep(self, step, data):
+        self.files[step] = self.runs.put(f"{next(self.runs.numbers)}.saved", data)
+        if len(self.files) > KEPT_IN_FILES:
+            oldest = next(each for each in self.files if each != self.start)
+            os.remove(self.runs.path(self.files.pop(oldest)))
 
-    def later(self, steps):
-        """The state after so many steps more."""
-        return self.runs.saved_of(self.call("save", steps))
+    def call(self, command, step):
+        """What the program writes where the run goes on up to this step."""
+        before = max(each for each in self.files if each <= step)
+        self.files.move_to_end(before)
+        keys = {"name": self.runs.guest.name, "resume": self.files[before]}
+        data = self.runs.call(command, keys, step - before)
+        if command == "save" and step - before >= FAR:
+            self.keep(step, data)
+        return data
+
+    def at(self, step):
+        """The state at this step."""
+        return self.runs.saved_of(self.call("save", step))
 
 
 def in_parallel(make, items):
@@ -314,6 +344,18 @@ def first_step(holds, low, high, tell=lambda low, high: None):
     return high
 
 
+def last_change(holds, low, high, tell=lambda low, high: None):
+    """A step at which `holds` does, and at the one before it does not, where it holds at `high`: the last
+    such step, as far as it is found by going back in steps that grow, and by halves. Or none, where it holds
+    at `low` too."""
+    before = high
+    while holds(before):
+        if before == low:
+            return None
+        high, before = before, max(low, high - 4 * max(high - before, 1))
+    return first_step(holds, before, high, tell)
+
+
 class Event:
     """A trap: the step that it makes, counted from the start, and the state behind it with the tvec that was
     planted."""
@@ -339,14 +381,16 @@ class Traps:
         return numbers == own.numbers and planted.console == own.console and planted.inputs == own.inputs \
             and planted.ram == own.ram
 
+    def planted(self, step):
+        """The run from a step on with the planted registers."""
+        own = self.runs.at(step, False)
+        return Line(self.runs, step, own.changed(**{name: AWAY for name in self.names}))
+
     def next(self, step, end):
         """The next trap behind this step, up to `end`, or none."""
-        while step < end:
-            own = self.runs.at(step)
-            if own.numbers["status"]:
-                return None
-            with Base(self.runs, own.changed(**{name: AWAY for name in self.names})) as base:
-                found = self.search(lambda later: base.later(later - step), step, end)
+        while step < end and not self.runs.at(step).numbers["status"]:
+            with self.planted(step) as line:
+                found = self.search(line.at, step, end)
             if isinstance(found, Event) or found is None:
                 return found
             step = found
@@ -360,13 +404,36 @@ class Traps:
         def is_away(later):
             return planted(later).numbers["pc"] == AWAY
 
+        def is_other(later):
+            return not self.is_like(planted(later), self.runs.at(later, False))
+
         low, high = step, min(step + 4, end)
-        while not is_away(high) and high < end:
+        while not is_away(high):
+            if is_other(high):
+                return first_step(is_other, low, high)
+            if high == end:
+                return None
             low, high = high, min(step + (high - step) * 4, end)
-        is_found = is_away(high)
-        high = first_step(is_away, low, high, self.tell) if is_found else high
-        before = high - 1 if is_found else high
-        if self.is_like(planted(before), self.runs.at(before, False)):
-            return Event(high, planted(high)) if is_found else None
-        return first_step(lambda later: not self.is_like(planted(later), self.runs.at(later, False)), step,
-                          before)
+        high = first_step(is_away, low, high, self.tell)
+        return first_step(is_other, low, high - 1) if is_other(high - 1) else Event(high, planted(high))
+
+    def last(self, end):
+        """The step of the last trap up to `end`, or none."""
+        while end > self.runs.first:
+            step = self.last_event(end)
+            if step is None:
+                return None
+            with self.planted(step - 1) as line:
+                if line.at(step).numbers["pc"] == AWAY:
+                    return step
+            end = step - 1
+        return None
+
+    def last_event(self, end):
+        """The last step up to `end` that is a trap or uses a planted register, or none."""
+        own = self.runs.at(end)
+
+        def is_quiet(step):
+            with self.planted(step) as line:
+                return self.is_like(line.at(end), own)
+        return last_change(is_quiet, self.runs.first, end, self.tell)

@@ -252,9 +252,9 @@ class CacheTest(ToolTest):
 
 
 class LookTest(ToolTest):
-    """The tool, by a program that stands for one with `save`."""
+    """The tool, by the program, or by one that stands for it."""
 
-    program = FAKE
+    program = program_with_save() or FAKE
 
     def look(self, *words, **variables):
         cache = os.path.join(self.folder, "cache")

@@ -1,0 +1,84 @@
+"""Why a trap was taken, as far as the states up to it say."""
+import registers
+import states
+
+TIME, SATP = 0xC01, 0x180
+WFI, SRET = 0x10500073, 0x10200073
+VTVM, VTW, VTSR = 1 << 20, 1 << 21, 1 << 22
+
+
+def is_csr(word, number):
+    return word & 0x7F == 0x73 and word >> 12 & 3 and word >> 20 == number
+
+
+def why_refused(saved, word, code):
+    """Why an instruction is illegal (2) or virtual (22) in this state, in words, or nothing."""
+    number, mode = saved.numbers, saved.mode()
+    if word is None:
+        return ""
+    if is_csr(word, TIME):
+        clear = [name for name in ("hcounteren", "scounteren") if not number[name] & 2
+                 and mode in (("VS", "VU") if name == "hcounteren" else ("U", "VU"))]
+        return " and ".join(f"{name}.TM" for name in clear) + " is clear" if clear else ""
+    if code != 22:
+        return ""
+    is_fence = word >> 25 == 9 and word & 0x7FFF == 0x73
+    for is_it, bit, name in ((is_fence or is_csr(word, SATP), VTVM, "VTVM"), (word == WFI, VTW, "VTW"),
+                             (word == SRET, VTSR, "VTSR")):
+        if mode == "VS" and is_it and number["hstatus"] & bit:
+            return f"hstatus.{name} is set"
+    return "HS may make it, and VS may not" if mode == "VS" else "VU may not make it"
+
+
+def conditions_of(saved, cause, target):
+    """What lets the next step take an interrupt, each in words and as a question of a state."""
+    bit = (cause & 2**63 - 1) + (target == "VS")
+    name = next(name for each, name, _ in registers.PENDING if each == bit)
+    if bit == 5:
+        timer = saved.numbers["timer"]
+        yield f"the clock is {saved.numbers['clock']}, and the timer {timer}", \
+            lambda state: state.numbers["timer"] == timer
+        register = "sie"
+    elif bit == 9:
+        moment, byte = saved.inputs[0]
+        yield f"the clock is {saved.numbers['clock']}, and the input {byte} of {moment} is unread", None
+        register = "sie"
+    elif bit == 1:
+        yield "sip.SSIP is set", lambda state: state.numbers["sip.SSIP"]
+        register = "sie"
+    else:
+        yield f"hvip.{name} is set", lambda state: state.numbers["hvip"] >> bit & 1
+        register = "hie"
+    yield f"{register}.{name[:-1]}E is set", lambda state: state.numbers[register] >> bit & 1
+
+
+def reasons_of(session, before, word, trap):
+    """Why the step behind this state took a trap, each a line."""
+    step = before.numbers["steps"]
+    if trap["cause"] >> 63:
+        return [words + (since(session, holds, step) if holds else "")
+                for words, holds in conditions_of(before, trap["cause"], trap["to"])]
+    why = why_refused(before, word, trap["cause"]) if trap["cause"] in (2, 22) else ""
+    return [why] if why else []
+
+
+def since(session, holds, step):
+    """From which step on something holds that does at `step`, in words."""
+    runs = session.runs
+    made = states.last_change(lambda each: bool(holds(runs.at(each))), runs.first, step, session.tell)
+    return f", since {session.line(runs.at(made - 1))}" if made else ", since the start"
+
+
+def registers_of(trap):
+    """The registers that say what a trap was."""
+    return ["vsepc", "vscause", "vstval"] if trap["to"] == "VS" else ["sepc", "scause", "stval", "htval"]
+
+
+def repetition_of(session, after, trap):
+    """From which step on the registers of a trap have what it wrote, where they had it before; else none."""
+    names, runs, step = registers_of(trap), session.runs, after.numbers["steps"]
+
+    def is_same(each):
+        return all(runs.at(each).numbers[name] == after.numbers[name] for name in names)
+    made = states.last_change(is_same, runs.first, step, session.tell)
+    return made if made and made < step else None
