@@ -22,6 +22,11 @@ def name():
     return tool if is_installed else os.path.basename(folder) + "/" + tool
 
 
+def sibling(tool):
+    """What another tool is called."""
+    return "tools/" + tool if os.path.isdir(os.path.join(TOP, "examples")) else "nesthv-" + tool
+
+
 def say(text):
     """Writes a line to standard error. Where that cannot be written, the status tells enough."""
     try:

@@ -58,7 +58,7 @@ _nesthv_saved() {
 }
 
 _nesthv_look() {
-    local commands='at walk maps first trace traps first-trap diff fences' word command=
+    local commands='at walk maps first trace traps first-trap last-trap entered diff fences' word command=
     case $3 in
     --as) mapfile -t COMPREPLY < <(compgen -W 'HS U VS VU' -- "$2") && return ;;
     --step) mapfile -t COMPREPLY < <(compgen -W 'end' -- "$2") && return ;;

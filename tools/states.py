@@ -17,11 +17,12 @@ import records
 import saves
 
 MIB = 1 << 20
-PAGE = bytes(4096)
+DEFAULT_SIZE = 256 * MIB  # of the disk, for kept states
+ZEROS = bytes(1 << 18)
 AWAY = 1 << 62  # an address that no mode can fetch from
 KEPT_IN_MEMORY, KEPT_IN_SEARCH, KEPT_IN_FILES = 8, 4, 4  # states
 AT_ONCE = 256  # single steps from one state
-FAR = 100000  # steps from a state to one that is worth keeping
+FAR = 100000  # steps from a state to one that is worth keeping, for each block of RAM
 
 
 class Unusable(Exception):
@@ -96,14 +97,19 @@ class Guest:
 
 class Cache:
     """A folder of kept states, at most so many bytes of the disk in all: those that were used last stay.
-    Where the folder cannot be written, nothing is kept."""
+    Where the folder cannot be written, or so many are none, it is a temporary one."""
 
     def __init__(self, folder, most, key):
-        self.top, self.most, self.folder = folder, most, os.path.join(folder, key)
+        self.top, self.most = folder, most
         try:
-            os.makedirs(self.folder, mode=0o700, exist_ok=True)
+            os.makedirs(os.path.join(folder, key), mode=0o700, exist_ok=True)
         except OSError:
             self.most = 0
+        if not self.most:
+            self.own = tempfile.TemporaryDirectory(prefix="nesthv-look-")
+            self.top, self.most = self.own.name, DEFAULT_SIZE
+            os.mkdir(os.path.join(self.top, key))
+        self.folder = os.path.join(self.top, key)
 
     def steps(self):
         """The steps of the states that are kept of this guest."""
@@ -160,13 +166,17 @@ class Cache:
 
 
 def write_sparse(file, data):
-    """Writes these bytes; pages of zeros take no place of the disk."""
-    for at in range(0, len(data), 4096):
-        piece = data[at:at + 4096]
-        if piece == PAGE:
-            file.seek(4096, os.SEEK_CUR)
-        else:
-            file.write(piece)
+    """Writes these bytes; pieces of zeros take no place of the disk."""
+    for at in range(0, len(data), len(ZEROS)):
+        piece = data[at:at + len(ZEROS)]
+        if piece == ZEROS:
+            file.seek(len(ZEROS), os.SEEK_CUR)
+            continue
+        for page in range(0, len(piece), 4096):
+            if piece[page:page + 4096] == ZEROS[:4096]:
+                file.seek(4096, os.SEEK_CUR)
+            else:
+                file.write(piece[page:page + 4096])
     file.truncate(len(data))
 
 
@@ -181,6 +191,7 @@ class Runs:
             self.put(name, data)
         self.start = self.saved_of(self.call("save", guest.keys, 0))
         self.first = self.start.numbers["steps"]
+        self.far = FAR * self.start.numbers["blocks"]
         self.know(self.first, self.start)
         self.last = self.first + guest.steps
 
@@ -204,12 +215,16 @@ class Runs:
         words = [self.program, command, name] + (["0"] if command == "save" else [])
         self.calls += 1
         try:
-            ran = subprocess.run(words, cwd=self.folder.name, stdin=subprocess.DEVNULL, capture_output=True)
+            with tempfile.TemporaryFile(dir=self.folder.name) as output:  # large, and slow by a pipe
+                ran = subprocess.run(words, cwd=self.folder.name, stdin=subprocess.DEVNULL, stdout=output,
+                                     stderr=subprocess.PIPE)
+                output.seek(0)
+                data = output.read()
         finally:
             os.remove(self.path(name))
         if ran.returncode:
             raise Unusable(self.refusal(ran))
-        return ran.stdout
+        return data
 
     def refusal(self, ran):
         line = next(iter(ran.stderr.decode(errors="replace").splitlines()), f"status {ran.returncode}")
@@ -223,11 +238,11 @@ class Runs:
         except saves.Wrong as why:
             raise Unusable(f"what {self.program} saved is no saved guest: {why}") from None
 
-    def at(self, step, is_kept=True):
+    def at(self, step):
         """The state at this step, or where the run ends before, at its end."""
         step = min(max(step, self.first), self.last)
         if step not in self.known:
-            self.know(step, self.kept_at(step) or self.saved_of(self.made_at(step, is_kept)))
+            self.know(step, self.kept_at(step) or self.saved_of(self.made_at(step)))
         self.known.move_to_end(step)
         return self.known[step]
 
@@ -243,29 +258,29 @@ class Runs:
         except saves.Wrong:
             return None
 
-    def made_at(self, step, is_kept):
-        """The bytes of the state at this step, made from the last one before that is known."""
+    def made_at(self, step):
+        """The bytes of the state at this step, made from the last one before that is known. On a long way states
+        are kept, the closer to each other the closer they are to its end."""
         before, saved = self.last_before(step)
-        if saved is None:
-            before, data = self.first, self.call("save", self.guest.keys, step - self.first)
-        else:
-            with Line(self, before, saved.form()) as line:
-                data = line.call("save", step)
-        if is_kept and step - before >= FAR:  # a nearer one is made again soon enough
+        with Line(self, before, saved.form()) as line:
+            while step - before >= 2 * self.far:
+                before += (step - before) // 2
+                self.cache.keep(before, line.call("save", before))
+            data = line.call("save", step)
+        if step - before >= self.far:
             self.cache.keep(step, data)
         return data
 
     def last_before(self, step):
-        """The last state before a step that is known, with its step; without one, none."""
-        near = max((each for each in self.known if each < step), default=-1)
+        """The last state before a step that is known, with its step."""
+        near = max((each for each in self.known if each < step), default=self.first)
         for before in sorted((each for each in self.cache.steps() if near < each < step), reverse=True):
             saved = self.kept_at(before)
             if saved:
                 return before, saved
-        if near < 0:
-            return self.first, None
-        self.known.move_to_end(near)
-        return near, self.known[near]
+        if near in self.known:
+            self.known.move_to_end(near)
+        return near, self.known.get(near, self.start)
 
     def singles(self, start, end):
         """The states at the steps from `start` to `end`, in order."""
@@ -305,7 +320,7 @@ class Line:
         self.files.move_to_end(before)
         keys = {"name": self.runs.guest.name, "resume": self.files[before]}
         data = self.runs.call(command, keys, step - before)
-        if command == "save" and step - before >= FAR:
+        if command == "save" and step - before >= self.runs.far:
             self.keep(step, data)
         return data
 
@@ -383,7 +398,7 @@ class Traps:
 
     def planted(self, step):
         """The run from a step on with the planted registers."""
-        own = self.runs.at(step, False)
+        own = self.runs.at(step)
         return Line(self.runs, step, own.changed(**{name: AWAY for name in self.names}))
 
     def next(self, step, end):
@@ -405,7 +420,7 @@ class Traps:
             return planted(later).numbers["pc"] == AWAY
 
         def is_other(later):
-            return not self.is_like(planted(later), self.runs.at(later, False))
+            return not self.is_like(planted(later), self.runs.at(later))
 
         low, high = step, min(step + 4, end)
         while not is_away(high):
@@ -430,10 +445,22 @@ class Traps:
         return None
 
     def last_event(self, end):
-        """The last step up to `end` that is a trap or uses a planted register, or none."""
-        own = self.runs.at(end)
-
+        """The last step up to `end` that is a trap or uses a planted register, or none. Behind `high` there is none;
+        by going back in steps that grow, and by halves."""
         def is_quiet(step):
             with self.planted(step) as line:
-                return self.is_like(line.at(end), own)
-        return last_change(is_quiet, self.runs.first, end, self.tell)
+                return self.is_like(line.at(high), self.runs.at(high))
+
+        high, low = end, max(end - 4, self.runs.first)
+        while is_quiet(low):
+            if low == self.runs.first:
+                return None
+            high, low = low, max(low - 4 * (high - low), self.runs.first)
+            self.tell(low, high)
+        while high - low > 1:
+            middle = (low + high) // 2
+            if is_quiet(middle):
+                high = middle
+            else:
+                low = middle
+        return high

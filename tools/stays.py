@@ -28,8 +28,8 @@ def stays_of(runs, start, end, tell):
     while step < end:
         trap = finder.next(step, end)
         high = trap.step - 1 if trap else end
-        if not is_nested(runs.at(step)) and is_nested(runs.at(high, False)):
-            entry = states.first_step(lambda each: is_nested(runs.at(each, False)), step, high)
+        if not is_nested(runs.at(step)) and is_nested(runs.at(high)):
+            entry = states.first_step(lambda each: is_nested(runs.at(each)), step, high)
             yield Stay(entry, high if trap else None)
         step = trap.step if trap else end
 

@@ -117,7 +117,7 @@ class GuestTest(ToolTest):
         ran = self.tool("tools/run", self.configure(front=LONG, image='"b.bin"'))
         self.check_plain(ran, 0)
         self.check_said(ran, "guest a put no byte and would go on")
-        self.check_said(ran, "tools/diagnose")
+        self.check_said(ran, "a.toml last-trap")
 
     def test_guest_without_a_step(self):
         ran = self.tool("tools/run", self.configure(front="format = 1\nturns = []\n"))

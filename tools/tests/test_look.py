@@ -7,7 +7,7 @@ import unittest
 from xml.dom import minidom
 
 from forms import HGATP, form
-from helper import LETTER, PROGRAM, TOOLS, TOP, ToolTest
+from helper import LETTER, LOOP, PROGRAM, TOOLS, TOP, ToolTest
 
 FAKE = os.path.join(TOOLS, "tests", "fake-program")
 TABLE = 0x80004000  # of HGATP
@@ -141,10 +141,27 @@ class WalkTest(unittest.TestCase):
         drawn = minidom.parseString(drawing.svg_of(views.maps_of(saved)))
         kinds = [each.getAttribute("class") for each in drawn.getElementsByTagName("path")]
         self.assertEqual(sorted(kinds), ["band", "band", "stale"])
+        texts = [each.firstChild.data for each in drawn.getElementsByTagName("text")]
+        for text in ("80008000 +1000  satp rwx-, VMID 1 rw-", "1000 +2000 rw-",
+                     "80009000 +1000  satp rwx-, VMID 1 rw-, VMID 1 r-- stale", "dashed: a cached translation that is stale"):
+            self.assertIn(text, texts)
+        self.check_apart(drawn)
         endless = saved_of(words={f"at{place:x}": pointer(TABLE)
                                   for place in range(TABLE, TABLE + 0x4000, 8)})
         self.assertTrue(walks.map_of(endless, HGATP, True).is_cut)
         minidom.parseString(drawing.svg_of(views.maps_of(endless)))
+
+
+    def check_apart(self, drawn):
+        """Checks that no two texts of a drawing share a place, and that each box is as wide as its text."""
+        places = [(int(each.getAttribute("x")), int(each.getAttribute("y")), 7.3 * len(each.firstChild.data))
+                  for each in drawn.getElementsByTagName("text")]
+        for x, y, width in places:
+            self.assertFalse([other for other in places if other[1] == y and x < other[0] < x + width])
+        boxes = {(int(each.getAttribute("x")), int(each.getAttribute("y"))): int(each.getAttribute("width"))
+                 for each in drawn.getElementsByTagName("rect") if each.getAttribute("x")}
+        for x, y, width in places:
+            self.assertGreaterEqual(boxes.get((x - 4, y - 14), 2000), width)
 
 
 class RegisterTest(unittest.TestCase):
@@ -162,6 +179,23 @@ class RegisterTest(unittest.TestCase):
                          {"VSTIP": "not taken: hideleg has it, and V is 0 in HS"})
         self.assertEqual(self.pending(hvip=0x44, hie=0x44, mode=1),
                          {"VSSIP": "the next step takes it into HS", "VSTIP": "another one goes first"})
+        self.assertEqual(self.pending(hvip=0x40), {"VSTIP": "not taken: hie.VSTIE is clear, which VS cannot set "
+                                                   "in its sie: hideleg does not have it"})
+        self.assertEqual(self.pending(hvip=0x40, hideleg=0x40), {"VSTIP": "not taken: hie.VSTIE is clear"})
+
+    def test_refused_instructions(self):
+        import reasons
+        time, satp, wfi, sret, hvip = 0xC0102573, 0x18002573, 0x10500073, 0x10200073, 0x64502573
+        for mode, word, numbers, words in (
+                ("VS", time, {}, "hcounteren.TM is clear"), ("VS", time, {"hcounteren": 2}, ""),
+                ("VU", time, {"hcounteren": 2}, "scounteren.TM is clear"),
+                ("VS", satp, {"hstatus": 2 << 32 | 1 << 20}, "hstatus.VTVM is set"),
+                ("VS", wfi, {"hstatus": 2 << 32 | 1 << 21}, "hstatus.VTW is set"),
+                ("VS", sret, {"hstatus": 2 << 32 | 1 << 22}, "hstatus.VTSR is set"),
+                ("VS", hvip, {}, "HS may make it, and VS may not"), ("VU", satp, {}, "VU may not make it")):
+            saved = saved_of(mode=2 + (mode == "VU"), held=[(HGATP, [])], **numbers)
+            self.assertEqual(reasons.why_refused(saved, word, 22), words)
+        self.assertEqual(reasons.why_refused(saved_of(), 0, 2), "")
 
     def test_meanings(self):
         import registers
@@ -241,14 +275,19 @@ class CacheTest(ToolTest):
 
     def test_folder_that_cannot_be_written(self):
         import states
-        cache = states.Cache(os.path.join(self.folder, "a.bin"), 100000, "key")
-        cache.keep(0, b"x")
-        self.assertEqual(cache.steps(), [])
+        for folder, most in ((os.path.join(self.folder, "a.bin"), 100000), (self.folder, 0)):
+            cache = states.Cache(folder, most, "key")
+            cache.keep(0, b"x")
+            self.assertEqual(cache.steps(), [0])
+            self.assertEqual([name for name in os.listdir(self.folder) if name != "key"], ["a.bin"])
 
     def test_first_step(self):
         import states
         for first in (1, 2, 7, 99, 100):
             self.assertEqual(states.first_step(lambda step: step >= first, 0, 100), first)
+            self.assertEqual(states.last_change(lambda step: step >= first, 0, 100), first)
+        self.assertIsNone(states.last_change(lambda step: True, 0, 100))
+        self.assertEqual(states.last_change(lambda step: step < 10 or step > 90, 0, 100), 91)
 
 
 class LookTest(ToolTest):
@@ -324,6 +363,22 @@ class FakeTest(LookTest):
         self.assertEqual(self.lines(path, "first-trap", "2", status=1),
                          ["1 traps are found up to step 11, the end"])
 
+    def test_last_trap(self):
+        path = self.trapping()
+        lines = self.lines(path, "last-trap")
+        self.assertTrue(lines[0].startswith("taken at 6 HS 0000000080000018  ffffffff"), lines)
+        self.assertEqual(lines[1:], ["illegal instruction (2) to HS, stval ffffffff"])
+        lines = self.lines(path, "last-trap", "--step", "6", status=1)
+        self.assertEqual(lines, ["no trap is found up to step 6"])
+
+    def test_trap_that_comes_again_and_again(self):
+        self.put("hang.bin", struct.pack("<2I", 0x100002B7, 0x00628023))  # lui t0, 0x10000; sb t1, 0(t0)
+        lines = self.lines(self.configure("hang.toml", image='"hang.bin"'), "last-trap")
+        self.assertEqual(lines[:2], ["taken at 999 HS 0000000000000000  cannot be fetched: 0 is not in RAM",
+                                     "instruction access fault (1) to HS, stval 0"])
+        self.assertEqual(lines[-2], "sepc scause stval htval: the same from step 3 on")
+        self.assertTrue(lines[-1].startswith("the trap before these: 1 HS 0000000080000004  00628023"), lines)
+
     def test_diff(self):
         path = self.trapping()
         self.put("other.bin", TRAPPING.replace(struct.pack("<I", 0x04200513), struct.pack("<I", 0x04300513)))
@@ -398,8 +453,15 @@ class ProgramTest(LookTest):
         lines = self.lines(self.example("nested3"), "fences", status=1)
         self.assertIn("1 of 5 drops change the report, up to the end", lines)
         self.assertTrue(any("the entry at 80009008 was changed by 45 HS" in line for line in lines), lines)
-        lines = self.lines(self.example("nested2"), "fences")
-        self.assertTrue(lines[0].startswith("0 of "), lines)
+        self.assertEqual(self.lines("nested3.toml", "fences", "60", "end")[0],
+                         "0 of 3 drops change the report, up to the end")
+        self.assertEqual(self.lines("nested3.toml", "fences", "--most", "1")[0],
+                         "0 of 1 drops change the report, up to step 51: --most N looks at more")
+
+    def test_fences_of_correct_hypervisors(self):
+        for name, drops in (("nested2", 2), ("timers", 15)):
+            self.assertEqual(self.lines(self.example(name), "fences")[0],
+                             f"0 of {drops} drops change the report, up to the end")
 
     def test_diff(self):
         one = self.example("hypervisor")
@@ -409,6 +471,27 @@ class ProgramTest(LookTest):
         self.assertEqual(lines[0], "the same at step 7859, and different at 7860, which is made by")
         self.assertIn("  a0 42 | 43", lines)
 
+    def test_long_run(self):
+        """A search makes a few times the steps of the run, and keeps states where they are far apart."""
+        import states
+        made = []
+
+        class Counted(states.Runs):
+            def call(self, command, keys, steps):
+                made.append(steps)
+                return super().call(command, keys, steps)
+        self.put("loop.bin", LOOP)
+        path = self.configure(front=f"format = 2\nturns = [[0, {10**7}]]\n", image='"loop.bin"')
+        cache = states.Cache(os.path.join(self.folder, "cache"), 10**8, "key")
+        runs = Counted(self.program, states.Guest(self.program, path, 0), cache)
+        self.addCleanup(runs.close)
+        runs.at(10**7)
+        found = states.first_step(lambda step: runs.at(step).numbers["clock"] >= 7654321, 0, 10**7)
+        self.assertEqual(found, 7654321)
+        self.assertIsNone(states.Traps(runs, ("stvec", "vstvec"), lambda low, high: None).last(10**7))
+        self.assertLess(sum(made), 5 * 10**7)
+        self.assertLess(len(cache.steps()), 50)
+
     def test_inputs(self):
         with open(os.path.join(TOP, "examples", "echo", "echo.toml"), encoding="utf-8") as file:
             self.put("echo.toml", file.read())
@@ -416,3 +499,58 @@ class ProgramTest(LookTest):
         state = json.loads(self.look("echo.toml", "at", "end", "--json").stdout)
         with open(os.path.join(TOP, "examples", "echo", "report"), "rb") as file:
             self.assertIn(state["console"].encode("latin-1"), file.read())
+
+
+class FaultTest(LookTest):
+    """Hypervisors that are examples/timers with a fault. LINES has the instruction of each that is made one
+    which does nothing."""
+
+    LINES = {1: 0x0403E393, 2: 0x60629073, 3: 0x60329073, 4: 0x1042B073, 5: 0x24029073, 6: 0x6452B073}
+
+    def setUp(self):
+        super().setUp()
+        self.program = program_with_save()
+        if not self.program:
+            self.skipTest("there is no program with the command `save`")
+
+    def faulty(self, fault):
+        """The configuration of the guest with this fault."""
+        folder = os.path.join(TOP, "examples", "timers")
+        with open(os.path.join(folder, "timers.bin"), "rb") as file:
+            image = file.read()
+        word = struct.pack("<I", self.LINES[fault])
+        self.assertEqual(image.count(word), 1)
+        self.put("timers.bin", image.replace(word, struct.pack("<I", 0x13)))
+        with open(os.path.join(folder, "timers.toml"), "rb") as file:
+            return self.put("timers.toml", file.read())
+
+    def test_leaf_without_a(self):
+        lines = self.lines(self.faulty(1), "last-trap")
+        self.assertTrue(any(line.endswith("not usable: A clear") for line in lines), lines)
+        self.assertIn("the same from step 55 on", lines[-1])
+
+    def test_no_hcounteren(self):
+        lines = self.lines(self.faulty(2), "last-trap")
+        self.assertIn("  hcounteren.TM is clear", lines)
+
+    def test_no_hideleg(self):
+        lines = self.lines(self.faulty(3), "at", "end")
+        self.assertIn("waiting in VS", lines[0])
+        self.assertTrue(lines[4].endswith("in its sie: hideleg does not have it"), lines)
+
+    def test_enable_that_stays_set(self):
+        lines = self.lines(self.faulty(4), "last-trap")
+        self.assertEqual(lines[1], "supervisor timer interrupt (5) to HS")
+        self.assertTrue(lines[3].startswith("  sie.STIE is set, since 733 HS "), lines)
+
+    def test_lost_register(self):
+        lines = self.lines(self.faulty(5), "entered", "0", "680")
+        self.assertTrue(lines[-1].endswith("pc 2c -> 30  vsscratch 42 -> 62"), lines)
+
+    def test_interrupt_that_is_not_cleared(self):
+        path = self.faulty(6)
+        lines = self.lines(path, "traps", "9000", "9200")
+        self.assertTrue(any(line.endswith("supervisor timer interrupt (5) to VS") for line in lines), lines)
+        step = next(line.split()[0] for line in lines if line.endswith("to VS"))
+        lines = self.lines(path, "last-trap", "--step", str(int(step) + 1))
+        self.assertTrue(lines[2].startswith("  hvip.VSTIP is set, since 814 HS "), lines)
