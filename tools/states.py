@@ -22,6 +22,7 @@ ZEROS = bytes(1 << 18)
 AWAY = 1 << 62  # an address that no mode can fetch from
 KEPT_IN_MEMORY, KEPT_IN_SEARCH, KEPT_IN_FILES = 8, 4, 4  # states
 AT_ONCE = 256  # single steps from one state
+LONG = 10000  # steps of a search, behind which its runs are compared on the way
 FAR = 100000  # steps from a state to one that is worth keeping, for each block of RAM
 
 
@@ -100,7 +101,7 @@ class Cache:
     Where the folder cannot be written, or so many are none, it is a temporary one."""
 
     def __init__(self, folder, most, key):
-        self.top, self.most = folder, most
+        self.top, self.most, self.own = folder, most, None
         try:
             os.makedirs(os.path.join(folder, key), mode=0o700, exist_ok=True)
         except OSError:
@@ -110,6 +111,10 @@ class Cache:
             self.top, self.most = self.own.name, DEFAULT_SIZE
             os.mkdir(os.path.join(self.top, key))
         self.folder = os.path.join(self.top, key)
+
+    def close(self):
+        if self.own:
+            self.own.cleanup()
 
     def steps(self):
         """The steps of the states that are kept of this guest."""
@@ -197,6 +202,7 @@ class Runs:
 
     def close(self):
         self.folder.cleanup()
+        self.cache.close()
 
     def path(self, name):
         return os.path.join(self.folder.name, name)
@@ -259,8 +265,8 @@ class Runs:
             return None
 
     def made_at(self, step):
-        """The bytes of the state at this step, made from the last one before that is known. On a long way states
-        are kept, the closer to each other the closer they are to its end."""
+        """The bytes of the state at this step, made from the last one before that is known. On a long way
+        states are kept, the closer to each other the closer they are to its end."""
         before, saved = self.last_before(step)
         with Line(self, before, saved.form()) as line:
             while step - before >= 2 * self.far:
@@ -422,15 +428,17 @@ class Traps:
         def is_other(later):
             return not self.is_like(planted(later), self.runs.at(later))
 
-        low, high = step, min(step + 4, end)
+        low, high, tested = step, min(step + 4, end), step
         while not is_away(high):
-            if is_other(high):
-                return first_step(is_other, low, high)
+            if high == end or high - step > LONG:
+                if is_other(high):
+                    return first_step(is_other, tested, high)
+                tested = high
             if high == end:
                 return None
             low, high = high, min(step + (high - step) * 4, end)
         high = first_step(is_away, low, high, self.tell)
-        return first_step(is_other, low, high - 1) if is_other(high - 1) else Event(high, planted(high))
+        return first_step(is_other, tested, high - 1) if is_other(high - 1) else Event(high, planted(high))
 
     def last(self, end):
         """The step of the last trap up to `end`, or none."""
@@ -445,8 +453,8 @@ class Traps:
         return None
 
     def last_event(self, end):
-        """The last step up to `end` that is a trap or uses a planted register, or none. Behind `high` there is none;
-        by going back in steps that grow, and by halves."""
+        """The last step up to `end` that is a trap or uses a planted register, or none: by going back in steps
+        that grow, and by halves. Behind `high` there is none."""
         def is_quiet(step):
             with self.planted(step) as line:
                 return self.is_like(line.at(high), self.runs.at(high))

@@ -143,7 +143,8 @@ class WalkTest(unittest.TestCase):
         self.assertEqual(sorted(kinds), ["band", "band", "stale"])
         texts = [each.firstChild.data for each in drawn.getElementsByTagName("text")]
         for text in ("80008000 +1000  satp rwx-, VMID 1 rw-", "1000 +2000 rw-",
-                     "80009000 +1000  satp rwx-, VMID 1 rw-, VMID 1 r-- stale", "dashed: a cached translation that is stale"):
+                     "80009000 +1000  satp rwx-, VMID 1 rw-, VMID 1 r-- stale",
+                     "dashed: a cached translation that is stale"):
             self.assertIn(text, texts)
         self.check_apart(drawn)
         endless = saved_of(words={f"at{place:x}": pointer(TABLE)
@@ -179,8 +180,8 @@ class RegisterTest(unittest.TestCase):
                          {"VSTIP": "not taken: hideleg has it, and V is 0 in HS"})
         self.assertEqual(self.pending(hvip=0x44, hie=0x44, mode=1),
                          {"VSSIP": "the next step takes it into HS", "VSTIP": "another one goes first"})
-        self.assertEqual(self.pending(hvip=0x40), {"VSTIP": "not taken: hie.VSTIE is clear, which VS cannot set "
-                                                   "in its sie: hideleg does not have it"})
+        self.assertEqual(self.pending(hvip=0x40)["VSTIP"], "not taken: hie.VSTIE is clear, which VS cannot "
+                         "set in its sie: hideleg does not have it")
         self.assertEqual(self.pending(hvip=0x40, hideleg=0x40), {"VSTIP": "not taken: hie.VSTIE is clear"})
 
     def test_refused_instructions(self):
@@ -277,6 +278,7 @@ class CacheTest(ToolTest):
         import states
         for folder, most in ((os.path.join(self.folder, "a.bin"), 100000), (self.folder, 0)):
             cache = states.Cache(folder, most, "key")
+            self.addCleanup(cache.close)
             cache.keep(0, b"x")
             self.assertEqual(cache.steps(), [0])
             self.assertEqual([name for name in os.listdir(self.folder) if name != "key"], ["a.bin"])
@@ -457,6 +459,14 @@ class ProgramTest(LookTest):
                          "0 of 3 drops change the report, up to the end")
         self.assertEqual(self.lines("nested3.toml", "fences", "--most", "1")[0],
                          "0 of 1 drops change the report, up to step 51: --most N looks at more")
+
+    def test_fence_that_is_left_out(self):
+        with open(os.path.join(TOP, "examples", "nested3", "nested3.bin"), "rb") as file:
+            image = file.read()
+        self.example("nested3")
+        self.put("nested3.bin", image.replace(struct.pack("<I", 0x62628073), struct.pack("<I", 0x13)))
+        lines = self.lines("nested3.toml", "fences", status=1)
+        self.assertIn("3 of 5 drops change the report, up to the end; those at step 51, 67, 82", lines)
 
     def test_fences_of_correct_hypervisors(self):
         for name, drops in (("nested2", 2), ("timers", 15)):
