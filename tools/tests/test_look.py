@@ -466,7 +466,7 @@ class ProgramTest(LookTest):
         self.example("nested3")
         self.put("nested3.bin", image.replace(struct.pack("<I", 0x62628073), struct.pack("<I", 0x13)))
         lines = self.lines("nested3.toml", "fences", status=1)
-        self.assertIn("3 of 5 drops change the report, up to the end; those at step 51, 67, 82", lines)
+        self.assertIn("3 of 5 drops change the report, up to the end; those at step 51, 67, 83", lines)
 
     def test_fences_of_correct_hypervisors(self):
         for name, drops in (("nested2", 2), ("timers", 15)):
