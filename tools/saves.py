@@ -122,6 +122,11 @@ def offset_of(name):
     return 8 + 8 * NAMES.index(name)
 
 
+def status_of(data):
+    """The status in the bytes of a file."""
+    return struct.unpack_from("<Q", data, offset_of("status"))[0]
+
+
 def wrong_number(numbers, name, words):
     return f"at offset {offset_of(name)} {name} is {numbers[name]:#x}: {words}"
 

@@ -271,7 +271,10 @@ class Runs:
         with Line(self, before, saved.form()) as line:
             while step - before >= 2 * self.far:
                 before += (step - before) // 2
-                self.cache.keep(before, line.call("save", before))
+                data = line.call("save", before)
+                self.cache.keep(before, data)
+                if saves.status_of(data):  # it makes no more steps
+                    return data
             data = line.call("save", step)
         if step - before >= self.far:
             self.cache.keep(step, data)
@@ -453,8 +456,8 @@ class Traps:
         return None
 
     def last_event(self, end):
-        """The last step up to `end` that is a trap or uses a planted register, or none: by going back in steps
-        that grow, and by halves. Behind `high` there is none."""
+        """The last step up to `end` that is a trap or uses a planted register, or none: by going back in
+        steps that grow, and by halves. Behind `high` there is none."""
         def is_quiet(step):
             with self.planted(step) as line:
                 return self.is_like(line.at(high), self.runs.at(high))
