@@ -5,6 +5,7 @@ import states
 TIME, SATP = 0xC01, 0x180
 WFI, SRET = 0x10500073, 0x10200073
 VTVM, VTW, VTSR = 1 << 20, 1 << 21, 1 << 22
+FLOATING = (0x07, 0x27, 0x43, 0x47, 0x4B, 0x4F, 0x53)
 
 
 def is_csr(word, number):
@@ -21,13 +22,24 @@ def why_refused(saved, word, code):
                  and mode in (("VS", "VU") if name == "hcounteren" else ("U", "VU"))]
         return " and ".join(f"{name}.TM" for name in clear) + " is clear" if clear else ""
     if code != 22:
-        return ""
+        return why_illegal(word, mode)
     is_fence = word >> 25 == 9 and word & 0x7FFF == 0x73
     for is_it, bit, name in ((is_fence or is_csr(word, SATP), VTVM, "VTVM"), (word == WFI, VTW, "VTW"),
                              (word == SRET, VTSR, "VTSR")):
         if mode == "VS" and is_it and number["hstatus"] & bit:
             return f"hstatus.{name} is set"
     return "HS may make it, and VS may not" if mode == "VS" else "VU may not make it"
+
+
+def why_illegal(word, mode):
+    """Why a word is an illegal instruction, as far as the word says, or nothing."""
+    if word == 0:
+        return "it is 0, as memory is that nobody wrote"
+    if word & 3 != 3:
+        return "its low half is a compressed instruction"
+    if word & 0x7F in FLOATING:
+        return "it is of floating point"
+    return "U may not make it" if word & 0x7F == 0x73 and mode == "U" else ""
 
 
 def conditions_of(saved, cause, target):

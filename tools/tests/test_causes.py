@@ -119,6 +119,12 @@ class GuestTest(ToolTest):
         self.check_said(ran, "guest a put no byte and would go on")
         self.check_said(ran, "a.toml last-trap")
 
+    def test_guest_that_waits(self):
+        self.put("b.bin", struct.pack("<I", 0x10500073))  # wfi
+        ran = self.tool("tools/run", self.configure(front=LONG, image='"b.bin"'))
+        self.check_said(ran, "guest a put no byte and waits for good")
+        self.check_said(ran, "a.toml at end")
+
     def test_guest_without_a_step(self):
         ran = self.tool("tools/run", self.configure(front="format = 1\nturns = []\n"))
         self.check_said(ran, "guest a made no step")

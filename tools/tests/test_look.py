@@ -196,7 +196,11 @@ class RegisterTest(unittest.TestCase):
                 ("VS", hvip, {}, "HS may make it, and VS may not"), ("VU", satp, {}, "VU may not make it")):
             saved = saved_of(mode=2 + (mode == "VU"), held=[(HGATP, [])], **numbers)
             self.assertEqual(reasons.why_refused(saved, word, 22), words)
-        self.assertEqual(reasons.why_refused(saved_of(), 0, 2), "")
+        for mode, word, words in ((0, 0, "it is 0, as memory is that nobody wrote"), (0, 0xFFFFFFFF, ""),
+                                  (0, 0x45A9, "its low half is a compressed instruction"),
+                                  (0, 0x02007053, "it is of floating point"), (1, wfi, "U may not make it")):
+            self.assertEqual(reasons.why_refused(saved_of(mode=mode), word, 2), words)
+        self.assertEqual(reasons.why_refused(saved_of(mode=1), time, 2), "scounteren.TM is clear")
 
     def test_meanings(self):
         import registers
