@@ -29,5 +29,6 @@ pub mod Spaces
 pub mod Clocks
 pub mod Inputs
 pub mod Consoles
+pub mod Devices
 pub mod Calls
 pub mod Waits

@@ -1,5 +1,5 @@
 -- The second stage as memory is: the walk of hgatp's table, and the trap of an access that it gives no place
--- (Privileged Architecture 20211203, 8.2.10, 8.5 and 8.6). Memory is a base and a list of bytes.
+-- (Privileged Architecture 20211203, 8.2.10, 8.5 and 8.6).
 use Rattle.std.specs.Prelude.{ℕ, ◌+◌, ◌-◌, ◌*◌, ◌/◌, ◌^◌, Bool, true, false, not, ◌&&◌, List, length, Option, Some, None, Ok, Err, nat_le, if◌then◌else◌}
 use Rattle.arch_defs.specs.declared.second_walks.SecondWalkEnd.{SecondWalkEnd}
 use Rattle.arch_defs.specs.declared.second_walks.SecondWalkEnd.TheVariants.{GuestPageFault, AccessFault}
@@ -16,7 +16,8 @@ use Rattle.arch_defs.specs.declared.walks.MissingPlace.{MissingPlace}
 use Rattle.arch_defs.specs.declared.walks.WalkEnd.{WalkEnd}
 use Rattle.arch_defs.specs.declared.walks.WalkEnd.TheVariants.{Leaf, PageFault, FetchEnd}
 use Rattle.arch_defs.specs.Bits.{field}
-use Rattle.arch_defs.specs.Memory.{load, bare, SecondStage}
+use Rattle.arch_defs.specs.Devices.{is_on_device}
+use Rattle.arch_defs.specs.Memory.{Memory, load, bare, SecondStage}
 use Rattle.arch_defs.specs.Permits.{permits_second}
 use Rattle.arch_defs.specs.Roots.{guest_shape}
 use Rattle.arch_defs.specs.Translation.{unread}
@@ -24,60 +25,84 @@ use Rattle.arch_defs.specs.Traps.{exception, faults_of, is_virtual, missing_plac
 use Rattle.arch_defs.specs.Walk.{EntryReading, walk, leaf_address}
 
 -- memory has so many bytes from a place on
-abbrev pub has_bytes : ℕ → List ℕ → ℕ → ℕ → Bool
-has_bytes base bytes place n = nat_le base place && nat_le (place + n) (base + length bytes)
+abbrev pub has_bytes : Memory → ℕ → ℕ → Bool
+has_bytes memory place n =
+    nat_le memory.base place && nat_le (place + n) (memory.base + length memory.bytes)
 
 -- memory has the frame that a place is in
-abbrev pub has_frame_of : ℕ → List ℕ → ℕ → Bool
-has_frame_of base bytes place = has_bytes base bytes (place / 4096 * 4096) 4096
+abbrev pub has_frame_of : Memory → ℕ → Bool
+has_frame_of memory place = has_bytes memory (place / 4096 * 4096) 4096
 
 -- the words of entries as memory is; a place outside memory has none
-abbrev pub memory_words : ℕ → List ℕ → EntryReading
-memory_words base bytes place =
-    if has_bytes base bytes place 8 then Ok (load bytes (place - base) 8) else Err (unread place)
+abbrev pub memory_words : Memory → EntryReading
+memory_words memory place =
+    if has_bytes memory place 8 then Ok (load memory.bytes (place - memory.base) 8) else Err (unread place)
 
 -- what the walk's end is to an access. MXR is sstatus's (8.5.1); an entry, or the frame of the address under
--- a leaf that permits the access, is an access fault where it is outside memory (4.3.2)
-abbrev pub second_end : ℕ → List ℕ → Bool → ℕ → Access → WalkEnd → SecondWalkEnd
-second_end base bytes mxr address kind (Leaf leaf) =
+-- a leaf that permits the access, is an access fault where it is outside memory (4.3.2), but for the frame of
+-- the device page (own)
+abbrev pub second_end : Memory → Bool → ℕ → Access → WalkEnd → SecondWalkEnd
+second_end memory mxr address kind (Leaf leaf) =
     if not (permits_second mxr kind leaf) then GuestPageFault
-    else if has_frame_of base bytes (leaf_address leaf address) then guest.Leaf leaf
+    else if has_frame_of memory (leaf_address leaf address) then guest.Leaf leaf
+    else if is_on_device (leaf_address leaf address) then guest.Device leaf
     else AccessFault
-second_end base bytes mxr address kind PageFault = GuestPageFault
-second_end base bytes mxr address kind (FetchEnd place trap) = AccessFault
+second_end memory mxr address kind PageFault = GuestPageFault
+second_end memory mxr address kind (FetchEnd place trap) = AccessFault
 
 -- the root's frame by hgatp's PPN: 16 KiB aligned, so bits 1:0 are zero (8.2.10)
 abbrev pub guest_root_frame : ℕ → ℕ
 guest_root_frame ppn = field 2 42 ppn * 2 ^ 2
 
 -- the walk of the table of a shape at hgatp's PPN for an access of a kind at a guest physical address (8.5.1)
-unfoldable pub second_walk : ℕ → List ℕ → Bool → Shape → ℕ → ℕ → Access → SecondWalkEnd
-second_walk base bytes mxr shape ppn address kind =
-    second_end base bytes mxr address kind
-    (walk (memory_words base bytes) (guest_root_frame ppn) shape address kind)
+unfoldable pub second_walk : Memory → Bool → Shape → ℕ → ℕ → Access → SecondWalkEnd
+second_walk memory mxr shape ppn address kind =
+    second_end memory mxr address kind
+    (walk (memory_words memory) (guest_root_frame ppn) shape address kind)
 
--- the place under a leaf
+-- the place under a leaf; the device page has no place in memory
 abbrev pub place_under : ℕ → SecondWalkEnd → Option ℕ
 place_under address (guest.Leaf leaf) = Some (leaf_address leaf address)
+place_under address (guest.Device leaf) = None
 place_under address GuestPageFault = None
 place_under address AccessFault = None
 
 -- the second stage by that walk
-abbrev pub walked : ℕ → List ℕ → Bool → Shape → ℕ → SecondStage
-walked base bytes mxr shape ppn address kind =
-    place_under address (second_walk base bytes mxr shape ppn address kind)
+abbrev pub walked : Memory → Bool → Shape → ℕ → SecondStage
+walked memory mxr shape ppn address kind = place_under address (second_walk memory mxr shape ppn address kind)
+
+-- whether that walk ends on the device page
+abbrev pub is_device_end : SecondWalkEnd → Bool
+is_device_end (guest.Leaf leaf) = false
+is_device_end (guest.Device leaf) = true
+is_device_end GuestPageFault = false
+is_device_end AccessFault = false
 
 -- the table of a mode's second stage: hgatp's with V = 1 (8.2.10), and none with V = 0
 abbrev pub second_root_of : Csrs → Mode → GuestRoot
 second_root_of csrs mode = if is_virtual mode then csrs.hgatp else root.Bare
 
 -- the second stage by a table, and that of a mode's accesses as the registers and memory are
-abbrev pub second_under : ℕ → List ℕ → Bool → GuestRoot → SecondStage
-second_under base bytes mxr root.Bare = bare base (length bytes)
-second_under base bytes mxr (root.Table mode vmid ppn) = walked base bytes mxr (guest_shape mode) ppn
+abbrev pub second_under : Memory → Bool → GuestRoot → SecondStage
+second_under memory mxr root.Bare = bare memory
+second_under memory mxr (root.Table mode vmid ppn) = walked memory mxr (guest_shape mode) ppn
 
-abbrev pub second_by_walk : Csrs → Mode → ℕ → List ℕ → SecondStage
-second_by_walk csrs mode base bytes = second_under base bytes csrs.hs.status.mxr (second_root_of csrs mode)
+abbrev pub second_by_walk : Csrs → Mode → Memory → SecondStage
+second_by_walk csrs mode memory = second_under memory csrs.hs.status.mxr (second_root_of csrs mode)
+
+-- which accesses are on the device page
+abbrev pub OnDevice : Type 0
+OnDevice = ℕ → Access → Bool
+
+-- by a table: those that its walk has there; under Bare, those whose address is there. And by a mode's, as
+-- the registers and memory are
+abbrev pub device_under : Memory → Bool → GuestRoot → OnDevice
+device_under memory mxr root.Bare address kind = is_on_device address
+device_under memory mxr (root.Table mode vmid ppn) address kind =
+    is_device_end (second_walk memory mxr (guest_shape mode) ppn address kind)
+
+abbrev pub device_by_walk : Csrs → Mode → Memory → OnDevice
+device_by_walk csrs mode memory = device_under memory csrs.hs.status.mxr (second_root_of csrs mode)
 
 -- whether it is the implicit read of a first-stage entry
 abbrev pub is_implicit : Access → Bool
@@ -95,20 +120,21 @@ guest_page_trap missing = record (exception missing.mode (faults_of missing.acce
   implicit = is_implicit missing.kind;
 }
 
--- the trap of an access that has no place, by the end of the walk of its address. Under a leaf it has one, so
--- the line for it is for completeness
+-- the trap of an access that has no place, by the end of the walk of its address; on the device page it is
+-- that of a machine without one. Under a leaf it has a place, so the line for it is for completeness
 abbrev pub missing_place_by : MissingPlace → SecondWalkEnd → Trap
 missing_place_by missing (guest.Leaf leaf) = missing_place_fault missing
+missing_place_by missing (guest.Device leaf) = missing_place_fault missing
 missing_place_by missing GuestPageFault = guest_page_trap missing
 missing_place_by missing AccessFault = missing_place_fault missing
 
 -- the trap by a table, and by that of the access's mode as the registers and memory are; Bare gives access
 -- faults alone
-abbrev pub missing_place_under : ℕ → List ℕ → Bool → MissingPlace → GuestRoot → Trap
-missing_place_under base bytes mxr missing root.Bare = missing_place_fault missing
-missing_place_under base bytes mxr missing (root.Table mode vmid ppn) =
-    missing_place_by missing (second_walk base bytes mxr (guest_shape mode) ppn missing.address missing.kind)
+abbrev pub missing_place_under : Memory → Bool → MissingPlace → GuestRoot → Trap
+missing_place_under memory mxr missing root.Bare = missing_place_fault missing
+missing_place_under memory mxr missing (root.Table mode vmid ppn) =
+    missing_place_by missing (second_walk memory mxr (guest_shape mode) ppn missing.address missing.kind)
 
-abbrev pub missing_place_trap : Csrs → ℕ → List ℕ → MissingPlace → Trap
-missing_place_trap csrs base bytes missing =
-    missing_place_under base bytes csrs.hs.status.mxr missing (second_root_of csrs missing.mode)
+abbrev pub missing_place_trap : Csrs → Memory → MissingPlace → Trap
+missing_place_trap csrs memory missing =
+    missing_place_under memory csrs.hs.status.mxr missing (second_root_of csrs missing.mode)

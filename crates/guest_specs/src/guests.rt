@@ -121,7 +121,8 @@ impl Inputs {
 }
 
 /// What a guest is made of: its name, its image, its RAM in blocks of 2,097,152 bytes, at most how many
-/// cached spaces and entries in each, at most how many console bytes, and its inputs.
+/// cached spaces and entries in each, at most how many console bytes, its inputs, and whether it has the device
+/// page.
 #[derive(Drop)]
 pub struct GuestSpec {
     pub name: Name,
@@ -131,6 +132,7 @@ pub struct GuestSpec {
     pub entries: u64,
     pub console: u64,
     pub inputs: Inputs,
+    pub device: bool,
 }
 
 impl GuestSpec {

@@ -1,5 +1,5 @@
--- One instruction, for a lone machine and for the hart alike: a function of the registers, of what memory
--- gives at a physical address, and of the second stage. Each part of it takes the result of the part before.
+-- One instruction, for a lone machine and for the hart alike: a function of the registers, and of what its
+-- accesses go through. Each part of it takes the result of the part before.
 use Rattle.std.specs.Prelude.{ℕ, ◌%◌, ◌^◌, Bool, true, false, ◌&&◌, Option, Some, None, ◌==◌, if◌then◌else◌}
 use Rattle.arch_defs.specs.declared.modes.Access.{Access}
 use Rattle.arch_defs.specs.declared.modes.Access.TheVariants as access
@@ -15,7 +15,7 @@ use Rattle.arch_defs.specs.declared.walks.Found.TheVariants.{Passes, PageFaults,
 use Rattle.arch_defs.specs.declared.walks.MissingPlace.{MissingPlace}
 use Rattle.arch_defs.specs.declared.widths.Width.{Width}
 use Rattle.arch_defs.specs.declared.widths.Width.TheVariants.{Word}
-use Rattle.arch_defs.specs.Memory.{Reading, SecondStage, Stored}
+use Rattle.arch_defs.specs.Memory.{Mmu, Reading, SecondStage, Stored}
 use Rattle.arch_defs.specs.Registers.{advanced, passed, sets}
 use Rattle.arch_defs.specs.Translation.{first_stage}
 use Rattle.arch_defs.specs.Traps.{exception, faults_of}
@@ -58,23 +58,30 @@ located_by second mode va access PageFaults = Fails (Faults (exception mode (fau
 located_by second mode va access (MissesEntry place) =
     Fails (Misses (record { address = place; kind = Implicit; access = access; va = va; mode = mode }))
 
+-- by what is known of the virtual address, and else by the first stage
+abbrev pub found_with : Option ℕ → Found → Found
+found_with (Some address) found = Passes address
+found_with None found = found
+
 -- by both stages, as a mode
-abbrev pub located : SecondStage → Reading → Csrs → Mode → ℕ → Access → Located
-located second reading csrs mode va access =
-    located_by second mode va access (first_stage second reading csrs mode va access)
+abbrev pub located : Mmu → Csrs → Mode → ℕ → Access → Located
+located through csrs mode va access =
+    located_by through.second mode va access
+    (found_with (through.known va access) (first_stage through.second through.reading csrs mode va access))
 
 -- an access of this width as a mode. One at an address that is no multiple of the width always traps, before
 -- translation (own)
-abbrev pub accessed : SecondStage → Reading → Csrs → Mode → ℕ → Width → Access → Located
-accessed second reading csrs mode va width access =
-    if va % bytes_in width == 0 then located second reading csrs mode va access
+abbrev pub accessed : Mmu → Csrs → Mode → ℕ → Width → Access → Located
+accessed through csrs mode va width access =
+    if va % bytes_in width == 0 then located through csrs mode va access
     else Fails (Faults (exception mode (faults_of access).misaligned va))
 
--- how an instruction goes on at the place of its access; where there is none, it ends there
-abbrev pub at_place : Located → (ℕ → Outcome) → Outcome
-at_place (At place) rest = rest place
-at_place (Fails (Faults trap)) rest = Trapped trap
-at_place (Fails (Misses missing)) rest = Missed missing
+-- how an instruction goes on at the place of its access, which is one to data or is none; where there is no
+-- place, it ends there
+abbrev pub at_place : Option DataAccess → Located → (ℕ → Outcome) → Outcome
+at_place wanted (At place) rest = rest place
+at_place wanted (Fails (Faults trap)) rest = Trapped trap
+at_place wanted (Fails (Misses missing)) rest = Missed missing wanted
 
 -- what access to data an instruction makes for this purpose. LR is a load; SC, whatever is reserved, and an
 -- atomic memory operation are stores (Unprivileged ISA 20191213, 8.2 and 8.4). HLVX needs X in place of R in
@@ -88,9 +95,9 @@ kind_of (StoreReserved value rd) = access.Store
 kind_of (Modify op operand rd) = access.Store
 
 -- where in memory an access to data is made, as a mode
-abbrev pub data_place : SecondStage → Reading → Csrs → Mode → DataAccess → Located
-data_place second reading csrs mode wanted =
-    accessed second reading csrs mode wanted.address wanted.width (kind_of wanted.purpose)
+abbrev pub data_place : Mmu → Csrs → Mode → DataAccess → Located
+data_place through csrs mode wanted =
+    accessed through csrs mode wanted.address wanted.width (kind_of wanted.purpose)
 
 -- what an instruction leaves that completes: the state after it, and what it stores
 pub record Completion : Type 0 where
@@ -142,10 +149,10 @@ abbrev pub done : Event → Completion → Outcome
 done event completion = Done completion.state completion.stored event
 
 -- an access to data as the instruction's own mode, and how the instruction ends with it
-abbrev pub accessed_data : SecondStage → Reading → Virtual → Event → DataAccess → Outcome
-accessed_data second reading state event wanted =
-    at_place (data_place second reading state.csrs state.mode wanted)
-    (λ place. done event (completed reading state wanted.width wanted.purpose place))
+abbrev pub accessed_data : Mmu → Virtual → Event → DataAccess → Outcome
+accessed_data through state event wanted =
+    at_place (Some wanted) (data_place through state.csrs state.mode wanted)
+    (λ place. done event (completed through.reading state wanted.width wanted.purpose place))
 
 -- a call of the environment, by mode (Privileged Architecture 20211203, 3.3.1 and 8.6)
 abbrev pub called_from : Mode → Outcome
@@ -159,27 +166,27 @@ abbrev pub event_of : ℕ → ℕ → Event
 event_of pc word = if is_system word then System else Plain pc word
 
 -- how the instruction of this word ends, by what it asks for
-abbrev pub executed : SecondStage → Reading → Virtual → ℕ → Effect → Outcome
-executed second reading state word (Sets rd value next) =
+abbrev pub executed : Mmu → Virtual → ℕ → Effect → Outcome
+executed through state word (Sets rd value next) =
     Done (record state { regs = advanced state.regs rd value next }) None (event_of state.regs.pc word)
-executed second reading state word (Raises cause tval) = Trapped (exception state.mode cause tval)
-executed second reading state word (Data wanted) =
-    accessed_data second reading state (event_of state.regs.pc word) wanted
-executed second reading state word Calls = called_from state.mode
-executed second reading state word (Privileged effect) = privileged state word effect
+executed through state word (Raises cause tval) = Trapped (exception state.mode cause tval)
+executed through state word (Data wanted) =
+    accessed_data through state (event_of state.regs.pc word) wanted
+executed through state word Calls = called_from state.mode
+executed through state word (Privileged effect) = privileged state word effect
 
 -- the instruction that was decoded from a word; a word that is none is illegal
-abbrev pub decoded : SecondStage → Reading → Virtual → ℕ → Option Op → Outcome
-decoded second reading state word (Some op) = executed second reading state word (meaning op state.regs)
-decoded second reading state word None = Trapped (exception state.mode ILLEGAL_INSTRUCTION word)
+abbrev pub decoded : Mmu → Virtual → ℕ → Option Op → Outcome
+decoded through state word (Some op) = executed through state word (meaning op state.regs)
+decoded through state word None = Trapped (exception state.mode ILLEGAL_INSTRUCTION word)
 
 -- the instruction of a word
-abbrev pub instruction : SecondStage → Reading → Virtual → ℕ → Outcome
-instruction second reading state word = decoded second reading state word (op_of word)
+abbrev pub instruction : Mmu → Virtual → ℕ → Outcome
+instruction through state word = decoded through state word (op_of word)
 
 -- where in memory the word at pc is
-abbrev pub fetch_place : SecondStage → Reading → Virtual → Located
-fetch_place second reading state = accessed second reading state.csrs state.mode state.regs.pc Word Fetch
+abbrev pub fetch_place : Mmu → Virtual → Located
+fetch_place through state = accessed through state.csrs state.mode state.regs.pc Word Fetch
 
 -- the word of 32 bits at a physical address
 abbrev pub word_at : Reading → ℕ → ℕ
@@ -188,7 +195,7 @@ word_at reading place = reading place 4 % 2 ^ 32
 -- one instruction, in this order: fetch, decode, checks of privilege, alignment, translation, access. pc is a
 -- multiple of 4 from the start on (`RunKeepsStorable` of `machine_laws`): a jump to another target is an
 -- exception at the jump, and sepc and handlers are multiples of 4
-unfoldable pub core : SecondStage → Reading → Virtual → Outcome
-core second reading state =
-    at_place (fetch_place second reading state)
-    (λ place. instruction second reading state (word_at reading place))
+unfoldable pub core : Mmu → Virtual → Outcome
+core through state =
+    at_place None (fetch_place through state)
+    (λ place. instruction through state (word_at through.reading place))

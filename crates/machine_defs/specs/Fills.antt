@@ -1,39 +1,42 @@
 -- The fills of a step: which cached translation a machine's next instruction lacks, and what fills leave
 -- (own, within what Privileged Architecture 20211203, 8.3.2 and 8.5, permits).
-use Rattle.std.specs.Prelude.{ℕ, zero, suc, ◌+◌, List, [], ◌∷◌, Option, Some, None, if◌then◌else◌}
+use Rattle.std.specs.Prelude.{ℕ, zero, suc, ◌+◌, Bool, List, [], ◌∷◌, Option, Some, None, if◌then◌else◌}
 use Rattle.arch_defs.specs.declared.cached.Entry.{Entry}
 use Rattle.arch_defs.specs.declared.registers.Csrs.{Csrs}
 use Rattle.arch_defs.specs.declared.registers.Virtual.{Virtual}
-use Rattle.arch_defs.specs.CachedEntries.{filled, second_by}
+use Rattle.arch_defs.specs.CachedEntries.{device_by_entries, filled, second_by}
 use Rattle.arch_defs.specs.Interrupts.{due}
-use Rattle.arch_defs.specs.Memory.{ram_base, reading_of}
+use Rattle.arch_defs.specs.Memory.{mmu, nothing_known, ram_memory, reading_of}
 use Rattle.arch_defs.specs.Spaces.{Space}
 use Rattle.arch_defs.specs.WalkedEntries.{entry_by_walk, folds}
 use Rattle.machine_defs.specs.Core.{core}
 use Rattle.machine_defs.specs.Machine.{Machine}
 use Rattle.machine_defs.specs.Outcomes.{Missed, Outcome}
 
--- what an instruction lacks: where it stops at an access without a place, what is filled for that
-abbrev pub missing_entry_at : Csrs → List ℕ → Outcome → Option Entry
-missing_entry_at csrs ram (Missed missing) = entry_by_walk csrs ram missing.address missing.kind
-missing_entry_at csrs ram _ = None
+-- what an instruction lacks: where it stops at an access without a place, what is filled for that; nothing,
+-- where a cached translation has the access on the device page
+abbrev pub missing_entry_at : Bool → Csrs → List ℕ → List Entry → Outcome → Option Entry
+missing_entry_at device csrs ram entries (Missed missing wanted) =
+    if device_by_entries entries csrs.hs.status.mxr missing.address missing.kind then None
+    else entry_by_walk device csrs ram missing.address missing.kind
+missing_entry_at device csrs ram entries _ = None
 
 -- what the next instruction of a state that folds lacks under these entries
-unfoldable pub missing_entry_under : Virtual → List ℕ → List Entry → Option Entry
-missing_entry_under virt ram entries =
-    missing_entry_at virt.csrs ram
-    (core (second_by entries virt.csrs.hs.status.mxr) (reading_of ram_base ram) virt)
+unfoldable pub missing_entry_under : Bool → Virtual → List ℕ → List Entry → Option Entry
+missing_entry_under device virt ram entries =
+    missing_entry_at device virt.csrs ram entries
+    (core (mmu nothing_known (second_by entries virt.csrs.hs.status.mxr) (reading_of (ram_memory ram))) virt)
 
 -- under those of the front space; where an interrupt is due, nothing
-abbrev pub missing_entry_with : Virtual → List ℕ → List Space → Option ℕ → Option Entry
-missing_entry_with virt ram [] code = None
-missing_entry_with virt ram (s ∷ ss) (Some code) = None
-missing_entry_with virt ram (s ∷ ss) None = missing_entry_under virt ram s.entries
+abbrev pub missing_entry_with : Bool → Virtual → List ℕ → List Space → Option ℕ → Option Entry
+missing_entry_with device virt ram [] code = None
+missing_entry_with device virt ram (s ∷ ss) (Some code) = None
+missing_entry_with device virt ram (s ∷ ss) None = missing_entry_under device virt ram s.entries
 
 -- what the next try of a machine lacks
 unfoldable pub missing_entry : Machine → Option Entry
 missing_entry m = let virt = m.platform.virt in
-    if folds virt then missing_entry_with virt m.ram m.spaces (due virt.csrs virt.mode) else None
+    if folds virt then missing_entry_with m.device virt m.ram m.spaces (due virt.csrs virt.mode) else None
 
 -- an entry is filled into the front space
 abbrev pub filled_front : ℕ → List Space → Entry → List Space

@@ -4,7 +4,7 @@
 -- and 8.5). It is narrower than the architecture in four points (own): a walk reads all its entries at once,
 -- and none above the leaf is cached; equal accesses of one step have equal places; a fault is always that of
 -- the walk as RAM is; and HLV, HLVX and HSV go by this walk alone.
-use Rattle.std.specs.Prelude.{ℕ, zero, suc, ◌≡◌, ◌/◌, ◌⊎◌, Bool, true, false, List, [], Option, Some, None, All, Contains, flat_map, map}
+use Rattle.std.specs.Prelude.{ℕ, zero, suc, ◌≡◌, ◌/◌, ◌⊎◌, ◌&&◌, Bool, true, false, List, [], Option, Some, None, All, Contains, flat_map, map}
 use Rattle.arch_defs.specs.declared.cached.Entry.{Entry}
 use Rattle.arch_defs.specs.declared.cached.Fence.{Fence}
 use Rattle.arch_defs.specs.declared.modes.Access.{Access}
@@ -12,20 +12,19 @@ use Rattle.arch_defs.specs.declared.modes.Mode.{Mode}
 use Rattle.arch_defs.specs.declared.modes.Mode.TheVariants.{HS, U, VS, VU}
 use Rattle.arch_defs.specs.declared.registers.HypervisorStatus.{HypervisorStatus}
 use Rattle.arch_defs.specs.declared.registers.Virtual.{Virtual}
-use Rattle.arch_defs.specs.CachedEntries.{leaf_of}
-use Rattle.arch_defs.specs.Memory.{SecondStage, ram_base}
+use Rattle.arch_defs.specs.CachedEntries.{device_by, leaf_of, place_by}
+use Rattle.arch_defs.specs.Memory.{nothing_known, ram_memory}
 use Rattle.arch_defs.specs.Permits.{permits_second}
-use Rattle.arch_defs.specs.SecondStage.{second_by_walk}
+use Rattle.arch_defs.specs.SecondStage.{device_by_walk, second_by_walk}
 use Rattle.arch_defs.specs.Roots.{vmid_of}
 use Rattle.arch_defs.specs.Spaces.{Space, names}
 use Rattle.arch_defs.specs.Traps.{is_virtual}
-use Rattle.arch_defs.specs.Walk.{leaf_address}
 use Rattle.arch_defs.specs.WalkedEntries.{entry_by_walk, folds}
 use Rattle.guest_specs.specs.declared.statuses.Status.{Status}
 use Rattle.guest_specs.specs.declared.statuses.Status.TheVariants.{Running, Waiting, Stopped}
 use Rattle.machine_defs.specs.Machine.{Machine, Platform}
 use Rattle.machine_defs.specs.Runs.{left_by, run}
-use Rattle.machine_defs.specs.Tries.{fence_under, try_under}
+use Rattle.machine_defs.specs.Tries.{Stages, fence_under, try_under}
 
 -- a cached translation, for the virtual machine of a VMID (8.2.10). It is of one guest physical page,
 -- whatever the level of the leaf; a fence that names any page of the leaf names it
@@ -39,6 +38,7 @@ pub record FreeMachine : Type 0 where
   pub platform : Platform
   pub ram : List ℕ
   pub cache : List CachedTranslation
+  pub device : Bool
 
 -- whether hgatp is active: always but in U without hstatus.HU (8.2.10)
 abbrev pub is_active : HypervisorStatus → Mode → Bool
@@ -67,39 +67,66 @@ while_active = record {
 
 -- a translation that may be cached: under hgatp's VMID, that of a walk of its table as RAM is, for an access
 -- of any kind at any address
-pub record IsWalked (caching : Caching) (virt : Virtual) (ram : List ℕ)
+pub record IsWalked (caching : Caching) (device : Bool) (virt : Virtual) (ram : List ℕ)
     (cached : CachedTranslation) : Type 0 where
   pub active : caching.walks virt ≡ true
   pub vmid : cached.vmid ≡ vmid_of virt.csrs.hgatp
   pub address : ℕ
   pub kind : Access
-  pub walked : entry_by_walk virt.csrs ram address kind ≡ Some cached.entry
+  pub walked : entry_by_walk device virt.csrs ram address kind ≡ Some cached.entry
 
--- a place by a cached translation: by one of hgatp's VMID and of the address's page that permits the access.
--- Which table it was walked from is not asked: a write of hgatp is no fence (8.2.10, 8.3.2)
-pub record IsByCache (caching : Caching) (virt : Virtual) (cache : List CachedTranslation) (address : ℕ)
-    (kind : Access) (answer : Option ℕ) : Type 0 where
+-- what the second stage answers for an access: its place in RAM, if any, and whether it is on the device page
+pub record Answer : Type 0 where
+  pub place : Option ℕ
+  pub device : Bool
+
+-- by a cached translation: by one of hgatp's VMID and of the address's page that permits the access. Which
+-- table it was walked from is not asked: a write of hgatp is no fence (8.2.10, 8.3.2)
+pub record IsByCache (caching : Caching) (device : Bool) (virt : Virtual) (cache : List CachedTranslation)
+    (address : ℕ) (kind : Access) (answer : Answer) : Type 0 where
   pub serving : caching.serves virt ≡ true
   pub cached : CachedTranslation
   pub held : Contains cache cached
   pub vmid : cached.vmid ≡ vmid_of virt.csrs.hgatp
   pub page : cached.entry.page ≡ address / 4096
   pub permits : permits_second virt.csrs.hs.status.mxr kind (leaf_of cached.entry) ≡ true
-  pub place : answer ≡ Some (leaf_address (leaf_of cached.entry) address)
+  pub place : answer.place ≡ place_by virt.csrs.hs.status.mxr address kind (Some cached.entry)
+  pub on_device : answer.device ≡ (device && device_by virt.csrs.hs.status.mxr kind (Some cached.entry))
 
--- a second stage that a machine with this cache may have: each answer is by a cached translation, or by the
--- walk of hgatp's table as RAM is (8.5)
-abbrev pub MayTranslate : Caching → Virtual → List ℕ → List CachedTranslation → SecondStage → Type 0
-MayTranslate caching virt ram cache second = (address : ℕ) (kind : Access)
-    → IsByCache caching virt cache address kind (second address kind)
-    ⊎ (second address kind ≡ second_by_walk virt.csrs virt.mode ram_base ram address kind)
+-- by the walk of hgatp's table as RAM is
+pub record IsByWalk (device : Bool) (virt : Virtual) (ram : List ℕ) (address : ℕ) (kind : Access)
+    (answer : Answer) : Type 0 where
+  pub place : answer.place ≡ second_by_walk virt.csrs virt.mode (ram_memory ram) address kind
+  pub on_device :
+      answer.device ≡ (device && device_by_walk virt.csrs virt.mode (ram_memory ram) address kind)
 
--- the machine without its cache, and what one try of its next step under a second stage leaves of it
+-- the answer of stages
+abbrev pub answer_by : Stages → ℕ → Access → Answer
+answer_by stages address kind =
+    record { place = stages.second address kind; device = stages.device address kind }
+
+-- stages that a machine with this cache may have: nothing is known of virtual addresses, and each answer of
+-- the second stage is by a cached translation, or by the walk of hgatp's table as RAM is (8.5)
+pub record MayTranslate (caching : Caching) (device : Bool) (virt : Virtual) (ram : List ℕ)
+    (cache : List CachedTranslation) (stages : Stages) : Type 0 where
+  pub known : stages.known ≡ nothing_known
+  pub answers : (address : ℕ) (kind : Access)
+      → IsByCache caching device virt cache address kind (answer_by stages address kind)
+      ⊎ IsByWalk device virt ram address kind (answer_by stages address kind)
+
+-- the machine without its cache, and what one try of its next step under stages leaves of it
 abbrev pub uncached : FreeMachine → Machine
-uncached f = record { platform = f.platform; ram = f.ram; spaces = []; space_room = 0; entry_room = 0 }
+uncached f = record {
+  platform = f.platform;
+  ram = f.ram;
+  spaces = [];
+  space_room = 0;
+  entry_room = 0;
+  device = f.device;
+}
 
-abbrev pub left_under : SecondStage → FreeMachine → Machine
-left_under second f = left_by (uncached f) (try_under second (uncached f))
+abbrev pub left_under : Stages → FreeMachine → Machine
+left_under stages f = left_by (uncached f) (try_under stages (uncached f))
 
 -- whether a step that may be a fence names a translation (8.3.2)
 abbrev pub is_named : Option Fence → ℕ → Entry → Bool
@@ -107,17 +134,18 @@ is_named None vmid e = false
 is_named (Some fence) vmid e = names fence vmid e
 
 -- one step. Before it, some translations were dropped and some were walked: what is cached then is `cache`.
--- The step is made under a second stage that a machine with this cache may have. After it nothing else is
+-- The step is made under stages that a machine with this cache may have. After it nothing else is
 -- cached, and nothing that the step names, if it is an HFENCE.GVMA (8.3.2)
 pub record FreeStep (caching : Caching) (f g : FreeMachine) : Type 0 where
   pub cache : List CachedTranslation
-  pub allowed : All (λ c. Contains f.cache c ⊎ IsWalked caching f.platform.virt f.ram c) cache
-  pub second : SecondStage
-  pub translates : MayTranslate caching f.platform.virt f.ram cache second
-  pub platform : g.platform ≡ (left_under second f).platform
-  pub ram : g.ram ≡ (left_under second f).ram
+  pub allowed : All (λ c. Contains f.cache c ⊎ IsWalked caching f.device f.platform.virt f.ram c) cache
+  pub stages : Stages
+  pub translates : MayTranslate caching f.device f.platform.virt f.ram cache stages
+  pub platform : g.platform ≡ (left_under stages f).platform
+  pub ram : g.ram ≡ (left_under stages f).ram
+  pub device : g.device ≡ f.device
   pub kept : All (Contains cache) g.cache
-  pub fenced : All (λ c. is_named (fence_under second (uncached f)) c.vmid c.entry ≡ false) g.cache
+  pub fenced : All (λ c. is_named (fence_under stages (uncached f)) c.vmid c.entry ≡ false) g.cache
 
 -- a machine that waits and cannot wake, or that has stopped, makes no step
 abbrev pub FreeMove : Caching → Status → FreeMachine → FreeMachine → Type 0
@@ -136,7 +164,12 @@ abbrev pub cached_in : Space → List CachedTranslation
 cached_in s = map (λ e. record { vmid = vmid_of s.key; entry = e }) s.entries
 
 abbrev pub free_of : Machine → FreeMachine
-free_of m = record { platform = m.platform; ram = m.ram; cache = flat_map cached_in m.spaces }
+free_of m = record {
+  platform = m.platform;
+  ram = m.ram;
+  cache = flat_map cached_in m.spaces;
+  device = m.device;
+}
 
 -- the first `steps` steps of a lone machine are architectural: a run of a free machine, which caches while it
 -- folds

@@ -14,11 +14,11 @@ use Rattle.machine_defs.specs.Fills.{ready}
 use Rattle.machine_defs.specs.FreeMachines.{is_named}
 use Rattle.machine_defs.specs.Machine.{Machine}
 use Rattle.machine_defs.specs.Runs.{run}
-use Rattle.machine_defs.specs.Tries.{fence_under, second_of}
+use Rattle.machine_defs.specs.Tries.{fence_under, stages_of}
 
 -- the fence that the next step of a machine is, if it is one
 abbrev pub fence_by_status : Machine → Status → Option Fence
-fence_by_status m Running = fence_under (second_of m) m
+fence_by_status m Running = fence_under (stages_of m) m
 fence_by_status m Waiting = None
 fence_by_status m Stopped = None
 
@@ -34,8 +34,8 @@ pub record IsFresh (m : Machine) (steps : ℕ) (key : GuestRoot) (e : Entry) : T
   pub root : (run m walked_after).platform.virt.csrs.hgatp ≡ key
   pub kind : Access
   pub walked :
-      entry_by_walk (run m walked_after).platform.virt.csrs (run m walked_after).ram (4096 * e.page) kind
-      ≡ Some e
+      let walking = run m walked_after in
+      entry_by_walk walking.device walking.platform.virt.csrs walking.ram (4096 * e.page) kind ≡ Some e
   pub unfenced : (i : ℕ) → walked_after ≤ i → i < steps
       → is_named (next_fence (run m i)) (vmid_of key) e ≡ false
 

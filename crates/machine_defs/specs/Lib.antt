@@ -4,6 +4,7 @@ pub mod Fills
 pub mod FreeMachines
 pub mod Freshness
 pub mod HlvAccesses
+pub mod DeviceSteps
 pub mod Machine
 pub mod Outcomes
 pub mod Privileges

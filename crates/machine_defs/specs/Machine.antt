@@ -31,13 +31,14 @@ pub record Platform : Type 0 where
   pub status : Status
 
 -- a machine: its platform, its RAM, and its spaces, the most recently entered first, with how many there may
--- be and of how many entries
+-- be and of how many entries; and whether it has the device page
 pub record Machine : Type 0 where
   pub platform : Platform
   pub ram : List ℕ
   pub spaces : List Space
   pub space_room : ℕ
   pub entry_room : ℕ
+  pub device : Bool
 
 -- the registers that the clock sets: the pending timer and external interrupt of sip, and time
 abbrev pub with_lines : Csrs → ℕ → Bool → Bool → Csrs
@@ -65,6 +66,7 @@ start guest = record {
   spaces = [];
   space_room = guest.spaces;
   entry_room = guest.entries;
+  device = guest.device;
 }
 
 -- a step has been made, after which the clock is at a moment: the next one, where the step was no wait

@@ -13,8 +13,9 @@ pub data Outcome : Type 0 where
   Done : Virtual → Option Stored → Event → Outcome
   -- a trap, which the state before it takes
   Trapped : Trap → Outcome
-  -- the second stage has no place for an access, whose fault the machine around knows
-  Missed : MissingPlace → Outcome
+  -- the second stage has no place for an access, whose fault the machine around knows; where it is an access
+  -- to data, what it was to do
+  Missed : MissingPlace → Option DataAccess → Outcome
   -- a call of the execution environment, from HS
   Called : Outcome
   -- a WFI that is allowed, and the state after it

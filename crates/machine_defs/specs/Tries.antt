@@ -1,28 +1,58 @@
 -- One try of a machine's next step: the due interrupt, or one instruction. While the machine folds, its
 -- second stage is by the cached translations of the front space (own, within what Privileged Architecture
 -- 20211203, 8.3.2 and 8.5, permits).
-use Rattle.std.specs.Prelude.{ℕ, ◌&&◌, Bool, not, List, Option, Some, None, Result, Ok, Err, length, if◌then◌else◌}
+use Rattle.std.specs.Prelude.{ℕ, ◌&&◌, Bool, true, false, not, List, Option, Some, None, if◌then◌else◌}
 use Rattle.arch_defs.specs.declared.cached.Fence.{Fence}
-use Rattle.arch_defs.specs.declared.modes.Trap.{Trap}
+use Rattle.arch_defs.specs.declared.modes.Access.{Access}
 use Rattle.arch_defs.specs.declared.registers.Virtual.{Virtual}
-use Rattle.arch_defs.specs.CachedEntries.{second_by}
+use Rattle.arch_defs.specs.declared.walks.MissingPlace.{MissingPlace}
+use Rattle.arch_defs.specs.CachedEntries.{device_by_entries, second_by}
+use Rattle.arch_defs.specs.Devices.{is_on_device}
 use Rattle.arch_defs.specs.Interrupts.{due, interrupt_of}
-use Rattle.arch_defs.specs.Memory.{SecondStage, Stored, ram_base, bare, reading_of, with_stored}
-use Rattle.arch_defs.specs.SecondStage.{missing_place_trap}
+use Rattle.arch_defs.specs.Memory.{Known, Mmu, SecondStage, Stored, bare, mmu, nothing_known, ram_base, ram_memory, reading_of, with_stored}
+use Rattle.arch_defs.specs.SecondStage.{OnDevice, missing_place_trap}
 use Rattle.arch_defs.specs.Spaces.{Space, entered, fenced, front}
 use Rattle.arch_defs.specs.Traps.{is_virtual}
 use Rattle.arch_defs.specs.WalkedEntries.{folds}
 use Rattle.machine_defs.specs.declared.events.Event.{Event}
 use Rattle.machine_defs.specs.declared.events.Event.TheVariants as event
-use Rattle.machine_defs.specs.Core.{Completion, core}
-use Rattle.machine_defs.specs.HlvAccesses.{hlv_outcome}
+use Rattle.machine_defs.specs.Core.{core}
+use Rattle.machine_defs.specs.DeviceSteps.{device_step, on_device}
+use Rattle.op_defs.specs.declared.ops.DataAccess.{DataAccess}
+use Rattle.machine_defs.specs.HlvAccesses.{Completes, Device, HlvEnd, Traps, hlv_outcome}
 use Rattle.machine_defs.specs.Machine.{Machine, Tried, called, stepped_to, trapped, waited}
 use Rattle.machine_defs.specs.Outcomes.{Outcome, Done, Trapped, Missed, Called, Waits, Fenced, Accesses}
 
 -- a machine's own second stage: the entries of the front space while it folds, else RAM as it is
 abbrev pub second_of : Machine → SecondStage
 second_of m = let virt = m.platform.virt in
-    if folds virt then second_by (front m.spaces) virt.csrs.hs.status.mxr else bare ram_base (length m.ram)
+    if folds virt then second_by (front m.spaces) virt.csrs.hs.status.mxr else bare (ram_memory m.ram)
+
+-- where its accesses are on the device page, if it has one: by the entries of the front space while it folds,
+-- else by the address
+abbrev pub device_of : Machine → OnDevice
+device_of m address kind = let virt = m.platform.virt in
+    m.device && (if folds virt then device_by_entries (front m.spaces) virt.csrs.hs.status.mxr address kind
+    else is_on_device address)
+
+-- what translates the accesses of a try: what is known of virtual addresses, the second stage, and which
+-- accesses are on the device page
+pub record Stages : Type 0 where
+  pub known : Known
+  pub second : SecondStage
+  pub device : OnDevice
+
+-- a machine's own; nothing is known of virtual addresses, whose tables are walked at each access (own, within
+-- 4.2.1 and 8.3.2)
+abbrev pub stages_of : Machine → Stages
+stages_of m = record { known = nothing_known; second = second_of m; device = device_of m }
+
+-- what its accesses go through under stages, and under its own
+abbrev pub mmu_under : Stages → Machine → Mmu
+mmu_under stages m = mmu stages.known stages.second (reading_of (ram_memory m.ram))
+
+abbrev pub mmu_of : Machine → Mmu
+mmu_of m = mmu_under (stages_of m) m
 
 -- whether an instruction enters a guest of the guest: it sets V, and then the state folds
 abbrev pub enters : Virtual → Virtual → Bool
@@ -40,44 +70,56 @@ committed m virt stored event =
     (record m.platform { virt = virt }) event
 
 -- an HLV, HLVX or HSV, as its access ends
-abbrev pub hlv_committed : Machine → Result Completion Trap → Tried
-hlv_committed m (Ok completion) = committed m completion.state completion.stored event.System
-hlv_committed m (Err trap) = trapped m trap
+abbrev pub hlv_committed : Machine → DataAccess → HlvEnd → Tried
+hlv_committed m wanted (Completes completion) = committed m completion.state completion.stored event.System
+hlv_committed m wanted (Device missing) = device_step m missing wanted.width wanted.purpose
+hlv_committed m wanted (Traps trap) = trapped m trap
 
--- what the outcome of an instruction is to the machine. An access without a place is the fault of the walk of
--- hgatp's table, as RAM is (8.5, 8.6.1). A fence drops the entries that it names (8.3.2)
-abbrev pub apply_outcome : Machine → Outcome → Tried
-apply_outcome m (Done virt stored event) = committed m virt stored event
-apply_outcome m (Trapped trap) = trapped m trap
-apply_outcome m (Missed missing) = trapped m (missing_place_trap m.platform.virt.csrs ram_base m.ram missing)
-apply_outcome m Called = stepped_to m (called m.platform) event.System
-apply_outcome m (Waits virt) = waited m virt
-apply_outcome m (Fenced virt fence) =
+-- an access without a place is one to the device page, or the fault of the walk of hgatp's table, as RAM is
+-- (8.5, 8.6.1)
+abbrev pub unplaced : Machine → MissingPlace → Option DataAccess → Bool → Tried
+unplaced m missing wanted true = on_device m missing wanted
+unplaced m missing wanted false =
+    trapped m (missing_place_trap m.platform.virt.csrs (ram_memory m.ram) missing)
+
+-- what the outcome of an instruction is to the machine. A fence drops the entries that it names (8.3.2)
+abbrev pub apply_outcome : OnDevice → Machine → Outcome → Tried
+apply_outcome device m (Done virt stored event) = committed m virt stored event
+apply_outcome device m (Trapped trap) = trapped m trap
+apply_outcome device m (Missed missing wanted) =
+    unplaced m missing wanted (device missing.address missing.kind)
+apply_outcome device m Called = stepped_to m (called m.platform) event.System
+apply_outcome device m (Waits virt) = waited m virt
+apply_outcome device m (Fenced virt fence) =
     stepped_to (record m { spaces = fenced fence m.spaces }) (record m.platform { virt = virt }) event.System
-apply_outcome m (Accesses wanted) =
-    hlv_committed m (hlv_outcome ram_base m.ram m.platform.virt wanted)
+apply_outcome device m (Accesses wanted) =
+    hlv_committed m wanted (hlv_outcome m.device (ram_memory m.ram) m.platform.virt wanted)
 
--- the interrupt of this code, if one is due, or else one instruction under a second stage
-abbrev pub tried_with : SecondStage → Machine → Option ℕ → Tried
-tried_with second m (Some code) = trapped m (interrupt_of code)
-tried_with second m None = apply_outcome m (core second (reading_of ram_base m.ram) m.platform.virt)
+-- how its next instruction ends, by what translates its accesses
+abbrev pub outcome_under : Stages → Machine → Outcome
+outcome_under stages m = core (mmu_under stages m) m.platform.virt
 
--- one try under a second stage
-unfoldable pub try_under : SecondStage → Machine → Tried
-try_under second m = tried_with second m (due m.platform.virt.csrs m.platform.virt.mode)
+-- the interrupt of this code, if one is due, or else one instruction
+abbrev pub tried_with : Stages → Machine → Option ℕ → Tried
+tried_with stages m (Some code) = trapped m (interrupt_of code)
+tried_with stages m None = apply_outcome stages.device m (outcome_under stages m)
+
+-- one try, by what translates its accesses
+unfoldable pub try_under : Stages → Machine → Tried
+try_under stages m = tried_with stages m (due m.platform.virt.csrs m.platform.virt.mode)
 
 -- one try
 abbrev pub try : Machine → Tried
-try m = try_under (second_of m) m
+try m = try_under (stages_of m) m
 
 -- the fence that a try is, if it is one
 abbrev pub outcome_fence : Outcome → Option Fence
 outcome_fence (Fenced virt fence) = Some fence
 outcome_fence _ = None
 
-abbrev pub fence_with : SecondStage → Machine → Option ℕ → Option Fence
-fence_with second m (Some code) = None
-fence_with second m None = outcome_fence (core second (reading_of ram_base m.ram) m.platform.virt)
+abbrev pub fence_with : Stages → Machine → Option ℕ → Option Fence
+fence_with stages m (Some code) = None
+fence_with stages m None = outcome_fence (outcome_under stages m)
 
-unfoldable pub fence_under : SecondStage → Machine → Option Fence
-fence_under second m = fence_with second m (due m.platform.virt.csrs m.platform.virt.mode)
+unfoldable pub fence_under : Stages → Machine → Option Fence
+fence_under stages m = fence_with stages m (due m.platform.virt.csrs m.platform.virt.mode)

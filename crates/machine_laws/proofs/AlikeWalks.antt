@@ -10,7 +10,7 @@ use Rattle.arch_defs.specs.Walk.{EntryReading, end_of, index, is_canonical, late
 abbrev pub AgreeAtEntries : EntryReading → EntryReading → Type 0
 AgreeAtEntries reading other = (at : ℕ) → at % 8 ≡ 0 → other at ≡ reading at
 
-eighth : (table part : ℕ) → (4096 * table + 8 * part) % 8 ≡ 0
+pub eighth : (table part : ℕ) → (4096 * table + 8 * part) % 8 ≡ 0
 eighth table part = omega arith
 
 -- the entries met are the same

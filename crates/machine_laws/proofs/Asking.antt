@@ -24,7 +24,7 @@ use Rattle.arch_defs.specs.declared.walks.WalkEnd.TheVariants.{Leaf, PageFault, 
 use Rattle.arch_defs.specs.declared.widths.Width.{Width}
 use Rattle.arch_defs.specs.declared.widths.Width.TheVariants.{Word}
 use Rattle.arch_defs.specs.CsrAccess.{read_csr, write_csr}
-use Rattle.arch_defs.specs.Memory.{Reading, SecondStage}
+use Rattle.arch_defs.specs.Memory.{Known, Mmu, Reading, SecondStage, mmu}
 use Rattle.arch_defs.specs.Permits.{permits_first}
 use Rattle.arch_defs.specs.Roots.{supervisor_shape}
 use Rattle.arch_defs.specs.TableEntries.{entry_next, is_aligned, is_leaf, is_marked, is_valid, leaf_next, leaf_pte, pointer_next, pte_of}
@@ -34,6 +34,7 @@ use Rattle.arch_defs.specs.Walk.{EntryReading, Met, end_of, is_canonical, later,
 use Rattle.arch_defs.specs.Widths.{bytes_in}
 use Rattle.arch_defs.proofs.Shapes.{few_levels}
 use Rattle.op_defs.specs.declared.ops.CsrOp.{CsrOp}
+use Rattle.op_defs.specs.declared.ops.DataAccess.{DataAccess}
 use Rattle.op_defs.specs.declared.ops.Effect.{Effect}
 use Rattle.op_defs.specs.declared.ops.Effect.TheVariants.{Sets, Raises, Data, Calls, Privileged as Decides}
 use Rattle.op_defs.specs.declared.ops.Op.{Op}
@@ -43,7 +44,7 @@ use Rattle.op_defs.specs.Meaning.{meaning}
 use Rattle.op_defs.specs.Table.{op_of}
 use Rattle.machine_defs.specs.Fills.{needed}
 use Rattle.machine_defs.specs.Outcomes.{Outcome, Done, Trapped, Missed, Called, Waits, Fenced, Accesses}
-use Rattle.machine_defs.specs.Core.{At, Fails, Faults, Located, Misses, accessed, at_place, called_from, core, decoded, executed, fetch_place, kind_of, located, located_at, located_by, word_at}
+use Rattle.machine_defs.specs.Core.{At, Fails, Faults, Located, Misses, accessed, at_place, called_from, core, decoded, executed, fetch_place, found_with, kind_of, located, located_at, located_by, word_at}
 use Rattle.machine_defs.specs.Privileges.{combined, csr_accessed, csr_changed, csr_shown, decided, performed, privileged, refusal, value_or_zero}
 use Rattle.machine_laws.proofs.Cached.{either}
 
@@ -89,7 +90,7 @@ ends_more small large asked at (FetchEnd place trap) other alike =
     stops_more small large asked (at ∷ asked) place Implicit (other ≡ FetchEnd place trap) (other ≡ FetchEnd place trap) (λ h. inr h) (λ e. e) alike
 
 -- an entry that was read is no end of reading
-abbrev IsRead : Next → Type 0
+abbrev pub IsRead : Next → Type 0
 IsRead (Ends (Leaf leaf)) = Unit {0}
 IsRead (Ends PageFault) = Unit {0}
 IsRead (Ends (FetchEnd place trap)) = ⊥
@@ -101,7 +102,7 @@ leaf_is_read level access e = either IsRead (is_aligned level e.frame && is_mark
 pointer_is_read : (level : ℕ) (e : Pte) → IsRead (pointer_next level e)
 pointer_is_read level e = either IsRead (e.a || e.d || e.u || level == 0) (Ends PageFault) (Below e.frame) tt tt
 
-is_read : (level : ℕ) (access : Access) (e : Pte) → IsRead (entry_next level access e)
+pub is_read : (level : ℕ) (access : Access) (e : Pte) → IsRead (entry_next level access e)
 unfolding entry_next
 is_read level access e = either IsRead (is_valid e) (cond (is_leaf e) (leaf_next level access e) (pointer_next level e)) (Ends PageFault)
     (either IsRead (is_leaf e) (leaf_next level access e) (pointer_next level e) (leaf_is_read level access e) (pointer_is_read level e)) tt
@@ -187,9 +188,15 @@ under_alike small large w reading privilege va access root.Bare = refl
 under_alike small large w reading privilege va access (root.Table table asid ppn) =
     found_alike small large _ privilege access va _ _ (walks_alike small large w reading (ppn % 2 ^ 44) (supervisor_shape table) va access)
 
+-- what is known of an address is so for both
+known_alike : (small large : SecondStage) (asked : List ℕ) (known : Option ℕ) (found other : Found)
+    → FindsAlike small large asked found other → FindsAlike small large asked (found_with known found) (found_with known other)
+known_alike small large asked (Some address) found other alike = refl
+known_alike small large asked None found other alike = alike
+
 -- an outcome, and whether something is so where it stops at no access
 abbrev OutcomeAlike : SecondStage → SecondStage → List ℕ → Outcome → Type 0 → Type 0
-OutcomeAlike small large asked (Missed missing) same = StopsAt small large asked missing.address missing.kind same
+OutcomeAlike small large asked (Missed missing wanted) same = StopsAt small large asked missing.address missing.kind same
 OutcomeAlike small large asked (Done state stored event) same = same
 OutcomeAlike small large asked (Trapped trap) same = same
 OutcomeAlike small large asked Called same = same
@@ -199,7 +206,7 @@ OutcomeAlike small large asked (Accesses access) same = same
 
 outcome_more : (small large : SecondStage) (asked more : List ℕ) (o : Outcome) (same same' : Type 0)
     → ((p : ℕ) → In p asked → In p more) → (same → same') → OutcomeAlike small large asked o same → OutcomeAlike small large more o same'
-outcome_more small large asked more (Missed missing) same same' wider then alike =
+outcome_more small large asked more (Missed missing wanted) same same' wider then alike =
     stops_more small large asked more missing.address missing.kind same same' (wider missing.address) then alike
 outcome_more small large asked more (Done state stored event) same same' wider then alike = then alike
 outcome_more small large asked more (Trapped trap) same same' wider then alike = then alike
@@ -214,9 +221,10 @@ final (Passes address) = address ∷ []
 final PageFaults = []
 final (MissesEntry place) = []
 
-abbrev pub asked_for : SecondStage → Reading → Csrs → Mode → ℕ → Access → List ℕ
-asked_for second reading csrs mode va access =
-    read_for second reading va access (supervisor_of csrs mode).atp ++ final (first_stage second reading csrs mode va access)
+abbrev pub asked_for : Mmu → Csrs → Mode → ℕ → Access → List ℕ
+asked_for through csrs mode va access =
+    read_for through.second through.reading va access (supervisor_of csrs mode).atp
+    ++ final (found_with (through.known va access) (first_stage through.second through.reading csrs mode va access))
 
 abbrev PlacesAlike : SecondStage → SecondStage → List ℕ → Located → Located → Type 0
 PlacesAlike small large asked (At place) other = other ≡ At place
@@ -238,35 +246,37 @@ by_alike small large w asked mode va access (MissesEntry place) other alike =
     (located_by large mode va access other ≡ Fails (Misses (record { address = place; kind = Implicit; access = access; va = va; mode = mode })))
     (in_left place asked (final other)) (λ e. rw e refl) alike
 
-located_alike : (small large : SecondStage) → IsWithin small large → (reading : Reading) (csrs : Csrs) (mode : Mode) (va : ℕ) (access : Access)
-    → PlacesAlike small large (asked_for large reading csrs mode va access) (located small reading csrs mode va access) (located large reading csrs mode va access)
+located_alike : (small large : SecondStage) → IsWithin small large → (known : Known) (reading : Reading) (csrs : Csrs) (mode : Mode) (va : ℕ) (access : Access)
+    → PlacesAlike small large (asked_for (mmu known large reading) csrs mode va access) (located (mmu known small reading) csrs mode va access)
+    (located (mmu known large reading) csrs mode va access)
 unfolding first_stage
-located_alike small large w reading csrs mode va access = by_alike small large w _ mode va access _ _
-    (under_alike small large w reading (privilege_of csrs mode) va access (supervisor_of csrs mode).atp)
+located_alike small large w known reading csrs mode va access = by_alike small large w _ mode va access _ _
+    (known_alike small large _ (known va access) _ _ (under_alike small large w reading (privilege_of csrs mode) va access (supervisor_of csrs mode).atp))
 
-accessed_alike : (small large : SecondStage) → IsWithin small large → (reading : Reading) (csrs : Csrs) (mode : Mode) (va : ℕ) (width : Width) (access : Access)
-    → PlacesAlike small large (asked_for large reading csrs mode va access) (accessed small reading csrs mode va width access) (accessed large reading csrs mode va width access)
-accessed_alike small large w reading csrs mode va width access = by (va % bytes_in width == 0)
+accessed_alike : (small large : SecondStage) → IsWithin small large → (known : Known) (reading : Reading) (csrs : Csrs) (mode : Mode) (va : ℕ) (width : Width) (access : Access)
+    → PlacesAlike small large (asked_for (mmu known large reading) csrs mode va access) (accessed (mmu known small reading) csrs mode va width access)
+    (accessed (mmu known large reading) csrs mode va width access)
+accessed_alike small large w known reading csrs mode va width access = by (va % bytes_in width == 0)
   where
-    by : (whole : Bool) → PlacesAlike small large (asked_for large reading csrs mode va access)
-        (cond whole (located small reading csrs mode va access) (Fails (Faults (exception mode (faults_of access).misaligned va))))
-        (cond whole (located large reading csrs mode va access) (Fails (Faults (exception mode (faults_of access).misaligned va))))
-    by true = located_alike small large w reading csrs mode va access
+    by : (whole : Bool) → PlacesAlike small large (asked_for (mmu known large reading) csrs mode va access)
+        (cond whole (located (mmu known small reading) csrs mode va access) (Fails (Faults (exception mode (faults_of access).misaligned va))))
+        (cond whole (located (mmu known large reading) csrs mode va access) (Fails (Faults (exception mode (faults_of access).misaligned va))))
+    by true = located_alike small large w known reading csrs mode va access
     by false = refl
 
 -- an instruction that goes on alike at each place: it asks what its access asks, and what it asks from there on
-at_alike : (small large : SecondStage) (asked : List ℕ) (more : Located → List ℕ) (rest rest' : ℕ → Outcome) → ((other : Located) (p : ℕ) → In p asked → In p (more other))
+at_alike : (small large : SecondStage) (asked : List ℕ) (more : Located → List ℕ) (wanted : Option DataAccess) (rest rest' : ℕ → Outcome) → ((other : Located) (p : ℕ) → In p asked → In p (more other))
     → ((place : ℕ) → OutcomeAlike small large (more (At place)) (rest place) (rest' place ≡ rest place)) → (own other : Located) → PlacesAlike small large asked own other
-    → OutcomeAlike small large (more other) (at_place own rest) (at_place other rest' ≡ at_place own rest)
-at_alike small large asked more rest rest' wider goes (At place) other alike = rw alike (goes place)
-at_alike small large asked more rest rest' wider goes (Fails (Faults trap)) other alike = rw alike refl
-at_alike small large asked more rest rest' wider goes (Fails (Misses missing)) other alike =
-    stops_more small large asked (more other) missing.address missing.kind (other ≡ Fails (Misses missing)) (at_place other rest' ≡ Missed missing)
+    → OutcomeAlike small large (more other) (at_place wanted own rest) (at_place wanted other rest' ≡ at_place wanted own rest)
+at_alike small large asked more wanted rest rest' wider goes (At place) other alike = rw alike (goes place)
+at_alike small large asked more wanted rest rest' wider goes (Fails (Faults trap)) other alike = rw alike refl
+at_alike small large asked more wanted rest rest' wider goes (Fails (Misses missing)) other alike =
+    stops_more small large asked (more other) missing.address missing.kind (other ≡ Fails (Misses missing)) (at_place wanted other rest' ≡ Missed missing wanted)
     (wider other missing.address) (λ e. rw e refl) alike
 
 -- what the mode decides on stops at no access
 abbrev pub IsDecided : Outcome → Type 0
-IsDecided (Missed missing) = ⊥
+IsDecided (Missed missing wanted) = ⊥
 IsDecided (Done state stored event) = Unit {0}
 IsDecided (Trapped trap) = Unit {0}
 IsDecided Called = Unit {0}
@@ -275,7 +285,7 @@ IsDecided (Fenced state fence) = Unit {0}
 IsDecided (Accesses access) = Unit {0}
 
 decided_alike : (small large : SecondStage) (asked : List ℕ) (o : Outcome) (same : Type 0) → IsDecided o → same → OutcomeAlike small large asked o same
-decided_alike small large asked (Missed missing) same is held = absurd is
+decided_alike small large asked (Missed missing wanted) same is held = absurd is
 decided_alike small large asked (Done state stored event) same is held = held
 decided_alike small large asked (Trapped trap) same is held = held
 decided_alike small large asked Called same is held = held
@@ -314,57 +324,60 @@ privileged_decided s word p = by (refusal p s.csrs.hstatus s.mode)
     by (Some end) = tt
     by None = performed_decided s word p
 
-called_decided : (mode : Mode) → IsDecided (called_from mode)
+pub called_decided : (mode : Mode) → IsDecided (called_from mode)
 called_decided HS = tt
 called_decided U = tt
 called_decided VS = tt
 called_decided VU = tt
 
 -- an effect
-abbrev pub asked_by_effect : SecondStage → Reading → Virtual → Effect → List ℕ
-asked_by_effect second reading state (Data wanted) = asked_for second reading state.csrs state.mode wanted.address (kind_of wanted.purpose)
-asked_by_effect second reading state _ = []
+abbrev pub asked_by_effect : Mmu → Virtual → Effect → List ℕ
+asked_by_effect through state (Data wanted) = asked_for through state.csrs state.mode wanted.address (kind_of wanted.purpose)
+asked_by_effect through state _ = []
 
-executed_alike : (small large : SecondStage) → IsWithin small large → (reading : Reading) (s : Virtual) (word : ℕ) (effect : Effect)
-    → OutcomeAlike small large (asked_by_effect large reading s effect) (executed small reading s word effect) (executed large reading s word effect ≡ executed small reading s word effect)
-executed_alike small large w reading s word (Sets rd value next) = refl
-executed_alike small large w reading s word (Raises cause tval) = refl
-executed_alike small large w reading s word (Data wanted) = let asked = asked_for large reading s.csrs s.mode wanted.address (kind_of wanted.purpose) in
-    at_alike small large asked (λ other. asked) _ _ (λ other p h. h) (λ place. refl) _ _
-    (accessed_alike small large w reading s.csrs s.mode wanted.address wanted.width (kind_of wanted.purpose))
-executed_alike small large w reading s word Calls = decided_alike small large [] (called_from s.mode) _ (called_decided s.mode) refl
-executed_alike small large w reading s word (Decides effect) = decided_alike small large [] (privileged s word effect) _ (privileged_decided s word effect) refl
+executed_alike : (small large : SecondStage) → IsWithin small large → (known : Known) (reading : Reading) (s : Virtual) (word : ℕ) (effect : Effect)
+    → OutcomeAlike small large (asked_by_effect (mmu known large reading) s effect) (executed (mmu known small reading) s word effect)
+    (executed (mmu known large reading) s word effect ≡ executed (mmu known small reading) s word effect)
+executed_alike small large w known reading s word (Sets rd value next) = refl
+executed_alike small large w known reading s word (Raises cause tval) = refl
+executed_alike small large w known reading s word (Data wanted) = let asked = asked_for (mmu known large reading) s.csrs s.mode wanted.address (kind_of wanted.purpose) in
+    at_alike small large asked (λ other. asked) (Some wanted) _ _ (λ other p h. h) (λ place. refl) _ _
+    (accessed_alike small large w known reading s.csrs s.mode wanted.address wanted.width (kind_of wanted.purpose))
+executed_alike small large w known reading s word Calls = decided_alike small large [] (called_from s.mode) _ (called_decided s.mode) refl
+executed_alike small large w known reading s word (Decides effect) = decided_alike small large [] (privileged s word effect) _ (privileged_decided s word effect) refl
 
 -- an instruction
-abbrev pub asked_by_op : SecondStage → Reading → Virtual → Option Op → List ℕ
-asked_by_op second reading state (Some o) = asked_by_effect second reading state (meaning o state.regs)
-asked_by_op second reading state None = []
+abbrev pub asked_by_op : Mmu → Virtual → Option Op → List ℕ
+asked_by_op through state (Some o) = asked_by_effect through state (meaning o state.regs)
+asked_by_op through state None = []
 
-abbrev pub asked_at : SecondStage → Reading → Virtual → Located → List ℕ
-asked_at second reading state (At place) = asked_by_op second reading state (op_of (word_at reading place))
-asked_at second reading state (Fails failure) = []
+abbrev pub asked_at : Mmu → Virtual → Located → List ℕ
+asked_at through state (At place) = asked_by_op through state (op_of (word_at through.reading place))
+asked_at through state (Fails failure) = []
 
-pub asked : SecondStage → Reading → Virtual → List ℕ
-asked second reading state = asked_for second reading state.csrs state.mode state.regs.pc Fetch
-    ++ asked_at second reading state (fetch_place second reading state)
+pub asked : Mmu → Virtual → List ℕ
+asked through state = asked_for through state.csrs state.mode state.regs.pc Fetch
+    ++ asked_at through state (fetch_place through state)
 
-decoded_alike : (small large : SecondStage) → IsWithin small large → (reading : Reading) (s : Virtual) (word : ℕ) (o : Option Op)
-    → OutcomeAlike small large (asked_by_op large reading s o) (decoded small reading s word o) (decoded large reading s word o ≡ decoded small reading s word o)
-decoded_alike small large w reading s word (Some o) = executed_alike small large w reading s word (meaning o s.regs)
-decoded_alike small large w reading s word None = refl
+decoded_alike : (small large : SecondStage) → IsWithin small large → (known : Known) (reading : Reading) (s : Virtual) (word : ℕ) (o : Option Op)
+    → OutcomeAlike small large (asked_by_op (mmu known large reading) s o) (decoded (mmu known small reading) s word o)
+    (decoded (mmu known large reading) s word o ≡ decoded (mmu known small reading) s word o)
+decoded_alike small large w known reading s word (Some o) = executed_alike small large w known reading s word (meaning o s.regs)
+decoded_alike small large w known reading s word None = refl
 
-core_alike : (small large : SecondStage) → IsWithin small large → (reading : Reading) (s : Virtual)
-    → OutcomeAlike small large (asked large reading s) (core small reading s) (core large reading s ≡ core small reading s)
+core_alike : (small large : SecondStage) → IsWithin small large → (known : Known) (reading : Reading) (s : Virtual)
+    → OutcomeAlike small large (asked (mmu known large reading) s) (core (mmu known small reading) s) (core (mmu known large reading) s ≡ core (mmu known small reading) s)
 unfolding core asked
-core_alike small large w reading s = let front = asked_for large reading s.csrs s.mode s.regs.pc Fetch in
-    at_alike small large front (λ other. front ++ asked_at large reading s other) _ _ (λ other p. in_left p front (asked_at large reading s other))
-    (λ place. behind front (word_at reading place) (op_of (word_at reading place))) _ _ (accessed_alike small large w reading s.csrs s.mode s.regs.pc Word Fetch)
+core_alike small large w known reading s = let front = asked_for (mmu known large reading) s.csrs s.mode s.regs.pc Fetch in
+    at_alike small large front (λ other. front ++ asked_at (mmu known large reading) s other) None _ _ (λ other p. in_left p front (asked_at (mmu known large reading) s other))
+    (λ place. behind front (word_at reading place) (op_of (word_at reading place))) _ _ (accessed_alike small large w known reading s.csrs s.mode s.regs.pc Word Fetch)
   where
-    behind : (front : List ℕ) (word : ℕ) (o : Option Op) → OutcomeAlike small large (front ++ asked_by_op large reading s o) (decoded small reading s word o)
-        (decoded large reading s word o ≡ decoded small reading s word o)
-    behind front word o = outcome_more small large (asked_by_op large reading s o) (front ++ asked_by_op large reading s o) (decoded small reading s word o)
-        (decoded large reading s word o ≡ decoded small reading s word o) (decoded large reading s word o ≡ decoded small reading s word o)
-        (λ p. in_right p front (asked_by_op large reading s o)) (λ e. e) (decoded_alike small large w reading s word o)
+    behind : (front : List ℕ) (word : ℕ) (o : Option Op) → OutcomeAlike small large (front ++ asked_by_op (mmu known large reading) s o) (decoded (mmu known small reading) s word o)
+        (decoded (mmu known large reading) s word o ≡ decoded (mmu known small reading) s word o)
+    behind front word o = outcome_more small large (asked_by_op (mmu known large reading) s o) (front ++ asked_by_op (mmu known large reading) s o)
+        (decoded (mmu known small reading) s word o) (decoded (mmu known large reading) s word o ≡ decoded (mmu known small reading) s word o)
+        (decoded (mmu known large reading) s word o ≡ decoded (mmu known small reading) s word o)
+        (λ p. in_right p front (asked_by_op (mmu known large reading) s o)) (λ e. e) (decoded_alike small large w known reading s word o)
 
 -- at most ten
 few_met : (reading : EntryReading) (shape : Shape) (va : ℕ) (access : Access) (level table : ℕ) → length (places_of (path_from reading shape va access level table)) ≤ level
@@ -394,54 +407,57 @@ few_final (Passes address) = omega arith
 few_final PageFaults = omega arith
 few_final (MissesEntry place) = omega arith
 
-few_for : (second : SecondStage) (reading : Reading) (csrs : Csrs) (mode : Mode) (va : ℕ) (access : Access) → length (asked_for second reading csrs mode va access) ≤ most_levels + 1
-few_for second reading csrs mode va access =
-    let entries = few_read second reading va access (supervisor_of csrs mode).atp in
-    let one = few_final (first_stage second reading csrs mode va access) in
-    let both = length-append (read_for second reading va access (supervisor_of csrs mode).atp) (final (first_stage second reading csrs mode va access)) in omega arith
+few_for : (through : Mmu) (csrs : Csrs) (mode : Mode) (va : ℕ) (access : Access) → length (asked_for through csrs mode va access) ≤ most_levels + 1
+few_for through csrs mode va access =
+    let entries = few_read through.second through.reading va access (supervisor_of csrs mode).atp in
+    let found = found_with (through.known va access) (first_stage through.second through.reading csrs mode va access) in
+    let one = few_final found in
+    let both = length-append (read_for through.second through.reading va access (supervisor_of csrs mode).atp) (final found) in omega arith
 
-few_by_effect : (second : SecondStage) (reading : Reading) (s : Virtual) (effect : Effect) → length (asked_by_effect second reading s effect) ≤ most_levels + 1
-few_by_effect second reading s (Data wanted) = few_for second reading s.csrs s.mode wanted.address (kind_of wanted.purpose)
-few_by_effect second reading s _ = omega arith
+few_by_effect : (through : Mmu) (s : Virtual) (effect : Effect) → length (asked_by_effect through s effect) ≤ most_levels + 1
+few_by_effect through s (Data wanted) = few_for through s.csrs s.mode wanted.address (kind_of wanted.purpose)
+few_by_effect through s _ = omega arith
 
-few_by_op : (second : SecondStage) (reading : Reading) (s : Virtual) (o : Option Op) → length (asked_by_op second reading s o) ≤ most_levels + 1
-few_by_op second reading s (Some o) = few_by_effect second reading s (meaning o s.regs)
-few_by_op second reading s None = omega arith
+few_by_op : (through : Mmu) (s : Virtual) (o : Option Op) → length (asked_by_op through s o) ≤ most_levels + 1
+few_by_op through s (Some o) = few_by_effect through s (meaning o s.regs)
+few_by_op through s None = omega arith
 
-few_at : (second : SecondStage) (reading : Reading) (s : Virtual) (a : Located) → length (asked_at second reading s a) ≤ most_levels + 1
-few_at second reading s (At place) = few_by_op second reading s (op_of (word_at reading place))
-few_at second reading s (Fails failure) = omega arith
+few_at : (through : Mmu) (s : Virtual) (a : Located) → length (asked_at through s a) ≤ most_levels + 1
+few_at through s (At place) = few_by_op through s (op_of (word_at through.reading place))
+few_at through s (Fails failure) = omega arith
 
-pub few_asked : (second : SecondStage) (reading : Reading) (s : Virtual) → length (asked second reading s) ≤ needed
+pub few_asked : (through : Mmu) (s : Virtual) → length (asked through s) ≤ needed
 unfolding asked
-few_asked second reading s =
-    let fetch = few_for second reading s.csrs s.mode s.regs.pc Fetch in
-    let data_too = few_at second reading s (fetch_place second reading s) in
-    let both = length-append (asked_for second reading s.csrs s.mode s.regs.pc Fetch) (asked_at second reading s (fetch_place second reading s)) in omega arith
+few_asked through s =
+    let fetch = few_for through s.csrs s.mode s.regs.pc Fetch in
+    let data_too = few_at through s (fetch_place through s) in
+    let both = length-append (asked_for through s.csrs s.mode s.regs.pc Fetch) (asked_at through s (fetch_place through s)) in omega arith
 
 -- where it stops under the smaller: at one of what it asks the larger; and if that has no place there either, it stops there too
-pub record Stops (small large : SecondStage) (reading : Reading) (s : Virtual) (missing : MissingPlace) : Type 0 where
-  pub inside : In missing.address (asked large reading s)
+pub record Stops (known : Known) (small large : SecondStage) (reading : Reading) (s : Virtual) (missing : MissingPlace) : Type 0 where
+  pub inside : In missing.address (asked (mmu known large reading) s)
   pub none : small missing.address missing.kind ≡ None
-  pub also : large missing.address missing.kind ≡ None → core large reading s ≡ core small reading s
+  pub also : large missing.address missing.kind ≡ None → core (mmu known large reading) s ≡ core (mmu known small reading) s
 
-pub stops : (small large : SecondStage) → IsWithin small large → (reading : Reading) (s : Virtual) (missing : MissingPlace)
-    → core small reading s ≡ Missed missing → Stops small large reading s missing
-stops small large w reading s missing e = by (core small reading s) e (core_alike small large w reading s)
+pub stops : (small large : SecondStage) → IsWithin small large → (known : Known) (reading : Reading) (s : Virtual) (missing : MissingPlace) (wanted : Option DataAccess)
+    → core (mmu known small reading) s ≡ Missed missing wanted → Stops known small large reading s missing
+stops small large w known reading s missing wanted e = by (core (mmu known small reading) s) e (core_alike small large w known reading s)
   where
-    by : (o : Outcome) → o ≡ Missed missing → OutcomeAlike small large (asked large reading s) o (core large reading s ≡ core small reading s)
-        → Stops small large reading s missing
+    by : (o : Outcome) → o ≡ Missed missing wanted
+        → OutcomeAlike small large (asked (mmu known large reading) s) o (core (mmu known large reading) s ≡ core (mmu known small reading) s)
+        → Stops known small large reading s missing
     by o is alike = let at = rw is at alike in record { inside = at.0; none = at.1; also = at.2 }
 
 -- and else it ends as under the larger
-pub else_alike : (small large : SecondStage) → IsWithin small large → (reading : Reading) (s : Virtual)
-    → ((missing : MissingPlace) → core small reading s ≡ Missed missing → large missing.address missing.kind ≡ None)
-    → core large reading s ≡ core small reading s
-else_alike small large w reading s none = by (core small reading s) refl (core_alike small large w reading s)
+pub else_alike : (small large : SecondStage) → IsWithin small large → (known : Known) (reading : Reading) (s : Virtual)
+    → ((missing : MissingPlace) (wanted : Option DataAccess) → core (mmu known small reading) s ≡ Missed missing wanted → large missing.address missing.kind ≡ None)
+    → core (mmu known large reading) s ≡ core (mmu known small reading) s
+else_alike small large w known reading s none = by (core (mmu known small reading) s) refl (core_alike small large w known reading s)
   where
-    by : (o : Outcome) → core small reading s ≡ o → OutcomeAlike small large (asked large reading s) o (core large reading s ≡ core small reading s)
-        → core large reading s ≡ core small reading s
-    by (Missed missing) is (inside, lacks, also) = also (none missing is)
+    by : (o : Outcome) → core (mmu known small reading) s ≡ o
+        → OutcomeAlike small large (asked (mmu known large reading) s) o (core (mmu known large reading) s ≡ core (mmu known small reading) s)
+        → core (mmu known large reading) s ≡ core (mmu known small reading) s
+    by (Missed missing wanted) is (inside, lacks, also) = also (none missing wanted is)
     by (Done state stored event) is same = same
     by (Trapped trap) is same = same
     by Called is same = same

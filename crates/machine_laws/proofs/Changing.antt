@@ -6,16 +6,16 @@ use Rattle.arch_defs.specs.declared.levels.Level.{Level}
 use Rattle.arch_defs.specs.declared.levels.Level.TheVariants.{HS, VS}
 use Rattle.arch_defs.specs.declared.modes.Trap.{Trap}
 use Rattle.arch_defs.specs.declared.registers.Virtual.{Virtual}
-use Rattle.arch_defs.specs.Memory.{SecondStage}
+use Rattle.arch_defs.specs.Registers.{sets}
 use Rattle.arch_defs.specs.Spaces.{entered}
 use Rattle.arch_defs.specs.Traps.{entered_at, entered_hs, entered_vs, is_virtual, target}
 use Rattle.machine_laws.specs.Laws.{TriesChangeSpaces, spaces_left}
 use Rattle.arch_defs.specs.Roots.{is_table}
 use Rattle.machine_defs.specs.Machine.{Ended, Machine, Tried, WaitsForGood, called}
-use Rattle.machine_defs.specs.Tries.{enters, fence_under, spaces_after, try_under}
+use Rattle.machine_defs.specs.Tries.{Stages, enters, fence_under, spaces_after, try_under}
 use Rattle.machine_laws.proofs.Orderly.{called_same, goes_to}
 use Rattle.machine_laws.proofs.Rooting.{RootEnd, root_end}
-use Rattle.machine_laws.proofs.TryEnds.{Calls, Fences, Halts, Makes, Passes, Takes}
+use Rattle.machine_laws.proofs.TryEnds.{Calls, Fences, Halts, Makes, Passes, Serves, Takes}
 
 -- the spaces of a try that ends
 abbrev pub SpacesAre : Machine → Option Fence → Tried → Type 0
@@ -49,13 +49,14 @@ ended_spaces : (m : Machine) {t : Tried} {fence : Option Fence} → RootEnd m t 
 ended_spaces m (Takes trap) = let s = m.platform.virt in
     stay m (entered_at s trap (target s.csrs s.mode trap)) (trap_enters s trap (target s.csrs s.mode trap) (goes_to s trap))
 ended_spaces m (Makes completion event keeps) = refl
+ended_spaces m (Serves rd value console leaves) = stay m (sets m.platform.virt rd value) (same_mode m.platform.virt (sets m.platform.virt rd value) refl)
 ended_spaces m Calls = stay m (called m.platform).virt (same_mode m.platform.virt (called m.platform).virt (called_same m.platform).0)
 ended_spaces m (Passes virt moment (mode, root)) = stay m virt (same_mode m.platform.virt virt mode)
 ended_spaces m Halts = tt
 ended_spaces m (Fences virt fence keeps) = refl
 
-pub try_spaces : (second : SecondStage) (m : Machine) → SpacesAre m (fence_under second m) (try_under second m)
-try_spaces second m = ended_spaces m (root_end m second)
+pub try_spaces : (stages : Stages) (m : Machine) → SpacesAre m (fence_under stages m) (try_under stages m)
+try_spaces stages m = ended_spaces m (root_end m stages)
 
 pub tries_change_spaces : TriesChangeSpaces
-tries_change_spaces m after second event is = rw is at (try_spaces second m)
+tries_change_spaces m after stages event is = rw is at (try_spaces stages m)

@@ -8,12 +8,11 @@ use Rattle.arch_defs.specs.declared.cached.Fence.{Fence}
 use Rattle.arch_defs.specs.declared.roots.GuestRoot.{GuestRoot}
 use Rattle.arch_defs.specs.declared.registers.Virtual.{Virtual}
 use Rattle.arch_defs.specs.CachedEntries.{filled, without}
-use Rattle.arch_defs.specs.Memory.{SecondStage}
 use Rattle.arch_defs.specs.Spaces.{Space, entered, fenced, fenced_space, found_or_empty, is_for}
 use Rattle.machine_defs.specs.Fills.{fill, filled_front, missing_entry}
 use Rattle.machine_defs.specs.Machine.{Machine, Tried, Ended, WaitsForGood}
 use Rattle.machine_defs.specs.Runs.{left_after, left_by, run}
-use Rattle.machine_defs.specs.Tries.{enters, fence_under, second_of, try_under}
+use Rattle.machine_defs.specs.Tries.{Stages, enters, fence_under, stages_of, try_under}
 use Rattle.machine_laws.specs.EachEntry.{EachEntry, FrontHas}
 use Rattle.machine_laws.specs.FrontSpaces.{FrontIs}
 use Rattle.machine_laws.specs.Keeping.{IsOrderly}
@@ -60,11 +59,11 @@ left_each : (P : GuestRoot → Entry → Type 0) (m : Machine) (after : Virtual)
 left_each P m after (Some fence) all = fenced_each P fence m.spaces all
 left_each P m after None all = either (EachEntry P) (enters m.platform.virt after) _ _ (entered_each P m.space_room after.csrs.hgatp m.spaces all) all
 
-pub tried_each : (P : GuestRoot → Entry → Type 0) (m : Machine) (second : SecondStage) → EachEntry P m.spaces → EachEntry P (left_by m (try_under second m)).spaces
-tried_each P m second all = by (try_under second m) (try_spaces second m)
+pub tried_each : (P : GuestRoot → Entry → Type 0) (m : Machine) (stages : Stages) → EachEntry P m.spaces → EachEntry P (left_by m (try_under stages m)).spaces
+tried_each P m stages all = by (try_under stages m) (try_spaces stages m)
   where
-    by : (t : Tried) → SpacesAre m (fence_under second m) t → EachEntry P (left_by m t).spaces
-    by (Ended after event) are = subst (EachEntry P) (sym are) (left_each P m after.platform.virt (fence_under second m) all)
+    by : (t : Tried) → SpacesAre m (fence_under stages m) t → EachEntry P (left_by m t).spaces
+    by (Ended after event) are = subst (EachEntry P) (sym are) (left_each P m after.platform.virt (fence_under stages m) all)
     by WaitsForGood are = all
 
 -- if each fill has P, with what else fills and tries keep, so do all entries of all spaces after each fill
@@ -76,7 +75,7 @@ pub each_kept : (P : GuestRoot → Entry → Type 0) (Also : Machine → Type 0)
     → IsKept (λ m. EachEntry P m.spaces × Also m)
 each_kept P Also has filled tried = record {
   filled = λ m e (all, also) is. (front_each P m.entry_room m.spaces e all (has m e also all is), filled m e also all is);
-  tried = λ m (all, also). (tried_each P m (second_of m) all, tried m also all);
+  tried = λ m (all, also). (tried_each P m (stages_of m) all, tried m also all);
 }
 
 -- where the front space is hgatp's, a fill is one for hgatp

@@ -6,7 +6,7 @@ use Rattle.arch_defs.specs.Spaces.{Space}
 use Rattle.arch_defs.specs.CachedEntries.{filled}
 use Rattle.arch_defs.specs.WalkedEntries.{folds}
 use Rattle.machine_defs.specs.Fills.{after_fill, after_fills, counted, fill, filled_front, fills, missing_entry, missing_entry_under, missing_entry_with, most_fills, needed}
-use Rattle.machine_defs.specs.Machine.{Machine, Platform}
+use Rattle.machine_defs.specs.Machine.{Machine}
 use Rattle.machine_laws.specs.Laws.{FewFills, FillsGoOn, FillsSuffice, FlatMissesNothing, InterruptedMissesNothing, MoreChangeNothing, OnlySpaces}
 use Rattle.machine_laws.proofs.Counting.{filling, next_filled}
 use Rattle.machine_laws.proofs.Fresh.{list_suffices}
@@ -22,17 +22,20 @@ pub one_fill : (n : ℕ) (m : Machine) (e : Entry) → missing_entry m ≡ Some 
 unfolding after_fills
 one_fill n m e is = rw is refl
 
--- a machine by its parts
-abbrev pub machine : Platform → List ℕ → List Space → ℕ → ℕ → Machine
-machine p ram spaces space_room entry_room = record { platform = p; ram = ram; spaces = spaces; space_room = space_room; entry_room = entry_room }
+-- a machine with these spaces, and what it lacks under entries
+abbrev pub machine : Machine → List Space → Machine
+machine m spaces = record m { spaces = spaces }
+
+abbrev pub lacks_by : Machine → List Entry → Option Entry
+lacks_by m = missing_entry_under m.device m.platform.virt m.ram
 
 -- what it lacks is what its front space's list does, if it folds and no interrupt is due
-pub missing_entry_front : (p : Platform) (ram : List ℕ) (s : Space) (ss : List Space) (space_room entry_room : ℕ) → folds p.virt ≡ true → due p.virt.csrs p.virt.mode ≡ None
-    → missing_entry (machine p ram (s ∷ ss) space_room entry_room) ≡ missing_entry_under p.virt ram s.entries
+pub missing_entry_front : (m : Machine) (s : Space) (ss : List Space) → folds m.platform.virt ≡ true → due m.platform.virt.csrs m.platform.virt.mode ≡ None
+    → missing_entry (machine m (s ∷ ss)) ≡ lacks_by m s.entries
 unfolding missing_entry
-missing_entry_front p ram s ss space_room entry_room folding none = by (folds p.virt) (due p.virt.csrs p.virt.mode) folding none
+missing_entry_front m s ss folding none = by (folds m.platform.virt) (due m.platform.virt.csrs m.platform.virt.mode) folding none
   where
-    by : (b : Bool) (code : Option ℕ) → b ≡ true → code ≡ None → cond b (missing_entry_with p.virt ram (s ∷ ss) code) None ≡ missing_entry_under p.virt ram s.entries
+    by : (b : Bool) (code : Option ℕ) → b ≡ true → code ≡ None → cond b (missing_entry_with m.device m.platform.virt m.ram (s ∷ ss) code) None ≡ lacks_by m s.entries
     by true None folding none = refl
     by true (Some code) folding none = absurd cc
     by false code folding none = absurd cc
@@ -45,49 +48,48 @@ pub interrupted_misses_nothing : InterruptedMissesNothing
 unfolding missing_entry
 interrupted_misses_nothing m code is = by (folds m.platform.virt) m.spaces (due m.platform.virt.csrs m.platform.virt.mode) is
   where
-    by : (b : Bool) (spaces : List Space) (there : Option ℕ) → there ≡ Some code → cond b (missing_entry_with m.platform.virt m.ram spaces there) None ≡ None
+    by : (b : Bool) (spaces : List Space) (there : Option ℕ) → there ≡ Some code → cond b (missing_entry_with m.device m.platform.virt m.ram spaces there) None ≡ None
     by true (s ∷ ss) None is = absurd cc
     by true (s ∷ ss) (Some other) is = refl
     by true [] there is = refl
     by false spaces there is = refl
 
 -- and so are its fills
-fills_front : (p : Platform) (ram : List ℕ) (ss : List Space) (space_room entry_room : ℕ) → folds p.virt ≡ true → due p.virt.csrs p.virt.mode ≡ None → (n : ℕ) (s : Space)
-    → after_fills n (machine p ram (s ∷ ss) space_room entry_room)
-    ≡ machine p ram (record s { entries = filling (missing_entry_under p.virt ram) entry_room n s.entries } ∷ ss) space_room entry_room
+fills_front : (m : Machine) (ss : List Space) → folds m.platform.virt ≡ true → due m.platform.virt.csrs m.platform.virt.mode ≡ None → (n : ℕ) (s : Space)
+    → after_fills n (machine m (s ∷ ss)) ≡ machine m (record s { entries = filling (lacks_by m) m.entry_room n s.entries } ∷ ss)
 unfolding after_fills filling
-fills_front p ram ss space_room entry_room folding none zero s = refl
-fills_front p ram ss space_room entry_room folding none (suc n) s = rw (missing_entry_front p ram s ss space_room entry_room folding none)
-    (by (missing_entry_under p.virt ram s.entries) (λ t. fills_front p ram ss space_room entry_room folding none n t))
+fills_front m ss folding none zero s = refl
+fills_front m ss folding none (suc n) s = rw (missing_entry_front m s ss folding none) (by (lacks_by m s.entries) (λ t. fills_front m ss folding none n t))
   where
     by : (there : Option Entry)
-        → ((t : Space) → after_fills n (machine p ram (t ∷ ss) space_room entry_room)
-        ≡ machine p ram (record t { entries = filling (missing_entry_under p.virt ram) entry_room n t.entries } ∷ ss) space_room entry_room)
-        → after_fill (after_fills n) (machine p ram (s ∷ ss) space_room entry_room) there
-        ≡ machine p ram (record s { entries = next_filled (filling (missing_entry_under p.virt ram) entry_room n) entry_room s.entries there } ∷ ss) space_room entry_room
+        → ((t : Space) → after_fills n (machine m (t ∷ ss)) ≡ machine m (record t { entries = filling (lacks_by m) m.entry_room n t.entries } ∷ ss))
+        → after_fill (after_fills n) (machine m (s ∷ ss)) there
+        ≡ machine m (record s { entries = next_filled (filling (lacks_by m) m.entry_room n) m.entry_room s.entries there } ∷ ss)
     by None deeper = refl
-    by (Some e) deeper = deeper (record s { entries = filled entry_room s.entries e })
+    by (Some e) deeper = deeper (record s { entries = filled m.entry_room s.entries e })
 
 -- so many suffice
 nothing_to_fill : (n : ℕ) (m : Machine) → missing_entry m ≡ None → missing_entry (after_fills n m) ≡ None
 nothing_to_fill n m e = rw (no_fills n m e) e
 
-suffices_by : (p : Platform) (ram : List ℕ) (spaces : List Space) (space_room entry_room : ℕ) → needed ≤ entry_room
-    → missing_entry (after_fills (entry_room + needed) (machine p ram spaces space_room entry_room)) ≡ None
+suffices_by : (m : Machine) (spaces : List Space) → needed ≤ m.entry_room → missing_entry (after_fills (m.entry_room + needed) (machine m spaces)) ≡ None
 unfolding missing_entry
-suffices_by p ram spaces space_room entry_room room = by spaces (folds p.virt) (due p.virt.csrs p.virt.mode) refl refl
+suffices_by m spaces room = by spaces (folds m.platform.virt) (due m.platform.virt.csrs m.platform.virt.mode) refl refl
   where
-    by : (spaces : List Space) (b : Bool) (code : Option ℕ) → folds p.virt ≡ b → due p.virt.csrs p.virt.mode ≡ code
-        → missing_entry (after_fills (entry_room + needed) (machine p ram spaces space_room entry_room)) ≡ None
-    by (s ∷ ss) true None folding none = rw (fills_front p ram ss space_room entry_room folding none (entry_room + needed) s)
-        (missing_entry_front p ram (record s { entries = filling (missing_entry_under p.virt ram) entry_room (entry_room + needed) s.entries }) ss space_room entry_room folding none
-        ∙ list_suffices p.virt ram entry_room s.entries room)
-    by (s ∷ ss) true (Some code) folding is = nothing_to_fill (entry_room + needed) (machine p ram (s ∷ ss) space_room entry_room) (rw (folding, is) refl)
-    by [] true code folding is = nothing_to_fill (entry_room + needed) (machine p ram [] space_room entry_room) (rw folding refl)
-    by spaces false code flat is = nothing_to_fill (entry_room + needed) (machine p ram spaces space_room entry_room) (rw flat refl)
+    most : ℕ
+    most = m.entry_room + needed
+
+    by : (spaces : List Space) (b : Bool) (code : Option ℕ) → folds m.platform.virt ≡ b → due m.platform.virt.csrs m.platform.virt.mode ≡ code
+        → missing_entry (after_fills most (machine m spaces)) ≡ None
+    by (s ∷ ss) true None folding none = rw (fills_front m ss folding none most s)
+        (missing_entry_front m (record s { entries = filling (lacks_by m) m.entry_room most s.entries }) ss folding none
+        ∙ list_suffices m.device m.platform.virt m.ram m.entry_room s.entries room)
+    by (s ∷ ss) true (Some code) folding is = nothing_to_fill most (machine m (s ∷ ss)) (rw (folding, is) refl)
+    by [] true code folding is = nothing_to_fill most (machine m []) (rw folding refl)
+    by spaces false code flat is = nothing_to_fill most (machine m spaces) (rw flat refl)
 
 pub suffices : FillsSuffice
-suffices m room = suffices_by m.platform m.ram m.spaces m.space_room m.entry_room room
+suffices m room = suffices_by m m.spaces room
 
 -- more change nothing
 fills_add : (a b : ℕ) (m : Machine) → missing_entry (after_fills a m) ≡ None → after_fills (a + b) m ≡ after_fills a m
@@ -105,21 +107,18 @@ more_change_nothing m n room more = let over : most_fills m + (n - most_fills m)
     rw (← over) (fills_add (most_fills m) (n - most_fills m) m (suffices m room))
 
 -- fills change the spaces alone
-only_by : (p : Platform) (ram : List ℕ) (space_room entry_room n : ℕ) (spaces : List Space)
-    → after_fills n (machine p ram spaces space_room entry_room) ≡ machine p ram (after_fills n (machine p ram spaces space_room entry_room)).spaces space_room entry_room
+only_by : (m : Machine) (n : ℕ) (spaces : List Space) → after_fills n (machine m spaces) ≡ machine m (after_fills n (machine m spaces)).spaces
 unfolding after_fills
-only_by p ram space_room entry_room zero spaces = refl
-only_by p ram space_room entry_room (suc n) spaces = by (missing_entry (machine p ram spaces space_room entry_room)) (λ t. only_by p ram space_room entry_room n t)
+only_by m zero spaces = refl
+only_by m (suc n) spaces = by (missing_entry (machine m spaces)) (λ t. only_by m n t)
   where
-    by : (there : Option Entry)
-        → ((t : List Space) → after_fills n (machine p ram t space_room entry_room) ≡ machine p ram (after_fills n (machine p ram t space_room entry_room)).spaces space_room entry_room)
-        → after_fill (after_fills n) (machine p ram spaces space_room entry_room) there
-        ≡ machine p ram (after_fill (after_fills n) (machine p ram spaces space_room entry_room) there).spaces space_room entry_room
+    by : (there : Option Entry) → ((t : List Space) → after_fills n (machine m t) ≡ machine m (after_fills n (machine m t)).spaces)
+        → after_fill (after_fills n) (machine m spaces) there ≡ machine m (after_fill (after_fills n) (machine m spaces) there).spaces
     by None deeper = refl
-    by (Some e) deeper = deeper (filled_front entry_room spaces e)
+    by (Some e) deeper = deeper (filled_front m.entry_room spaces e)
 
 pub only_spaces : OnlySpaces
-only_spaces m n = only_by m.platform m.ram m.space_room m.entry_room n m.spaces
+only_spaces m n = only_by m n m.spaces
 
 -- a step makes few fills
 pub few_fills : FewFills

@@ -1,7 +1,6 @@
 -- Every run is architectural.
-use Rattle.std.specs.Prelude.{Contains, Result, Ok, Err, flat_map, map}
+use Rattle.std.specs.Prelude.{Contains, ◌&&◌, ◌%◌, flat_map, map}
 use Rattle.std.specs.List.{All}
-use Rattle.std.specs.Option.{option_or}
 use Rattle.std.proofs.Common.{cond, ◌≡◌, ℕ, zero, suc, ◌/◌, ◌∙◌, ◌==◌, ◌⊎◌, inl, inr, Bool, true, false, List, [], ◌∷◌, ◌++◌, Option, Some, None, refl, sym, subst, ap}
 use Rattle.std.proofs.lemmas.Bool.{and_parts}
 use Rattle.std.proofs.lemmas.List.Elements.{All-append, All-cons, All-contains_itself, All-head, All-map, All-nil, All-tail, All-weaker}
@@ -9,44 +8,46 @@ use Rattle.arch_defs.specs.declared.cached.Entry.{Entry}
 use Rattle.arch_defs.specs.declared.modes.Access.{Access}
 use Rattle.arch_defs.specs.declared.modes.Mode.{Mode}
 use Rattle.arch_defs.specs.declared.modes.Mode.TheVariants.{HS, U, VS, VU}
-use Rattle.arch_defs.specs.declared.modes.Trap.{Trap}
 use Rattle.arch_defs.specs.declared.roots.GuestRoot.{GuestRoot}
 use Rattle.arch_defs.specs.declared.registers.HypervisorStatus.{HypervisorStatus}
 use Rattle.arch_defs.specs.declared.registers.Virtual.{Virtual}
-use Rattle.arch_defs.specs.CachedEntries.{entry_at, leaf_of, second_by}
+use Rattle.arch_defs.specs.declared.walks.MissingPlace.{MissingPlace}
+use Rattle.arch_defs.specs.declared.widths.Width.{Width}
+use Rattle.arch_defs.specs.CachedEntries.{device_by, device_by_entries, entry_at, place_by, second_by}
 use Rattle.arch_defs.specs.Inputs.{next_input}
 use Rattle.arch_defs.specs.Interrupts.{due}
-use Rattle.arch_defs.specs.Memory.{SecondStage, ram_base, reading_of}
-use Rattle.arch_defs.specs.Permits.{permits_second}
-use Rattle.arch_defs.specs.SecondStage.{second_by_walk}
+use Rattle.arch_defs.specs.Memory.{SecondStage, ram_memory}
+use Rattle.arch_defs.specs.SecondStage.{OnDevice, is_implicit}
 use Rattle.arch_defs.specs.Roots.{is_table, vmid_of}
 use Rattle.arch_defs.specs.Spaces.{Space, front}
-use Rattle.arch_defs.specs.Traps.{is_virtual}
+use Rattle.arch_defs.specs.Traps.{is_virtual, missing_place_fault}
 use Rattle.arch_defs.specs.Waits.{wake_moment}
 use Rattle.arch_defs.specs.WalkedEntries.{folds}
 use Rattle.machine_defs.specs.declared.events.Event.TheVariants as event
 use Rattle.guest_specs.specs.declared.statuses.Status.{Status}
 use Rattle.guest_specs.specs.declared.statuses.Status.TheVariants.{Running, Waiting, Stopped}
-use Rattle.machine_defs.specs.Core.{Completion, core}
+use Rattle.op_defs.specs.declared.ops.DataAccess.{DataAccess}
+use Rattle.op_defs.specs.declared.ops.Purpose.{Purpose}
+use Rattle.machine_defs.specs.DeviceSteps.{DeviceCompletion, device_completed, device_step, device_wanted, served}
 use Rattle.machine_defs.specs.Fills.{most_fills, ready}
-use Rattle.machine_defs.specs.FreeMachines.{CachedTranslation, FreeMachine, FreeMove, FreeRun, FreeStep, IsByCache, IsWalked, MayTranslate, cached_in, free_of, is_active, is_named, uncached, while_active, while_folding}
-use Rattle.machine_defs.specs.HlvAccesses.{hlv_outcome}
-use Rattle.machine_defs.specs.Machine.{Machine, has_enabled_interrupt, start, stepped_to, waited_until}
+use Rattle.machine_defs.specs.FreeMachines.{Answer, CachedTranslation, FreeMachine, FreeMove, FreeStep, IsByCache, IsByWalk, IsWalked, MayTranslate, answer_by, cached_in, free_of, is_active, is_named, uncached, while_active, while_folding}
+use Rattle.machine_defs.specs.HlvAccesses.{HlvEnd, Completes, Device, Traps, hlv_outcome}
+use Rattle.machine_defs.specs.Machine.{Machine, has_enabled_interrupt, start, stepped_to, trapped, waited_until}
 use Rattle.machine_defs.specs.Outcomes.{Outcome, Done, Trapped, Missed, Called, Waits, Fenced, Accesses}
 use Rattle.machine_defs.specs.Runs.{left_by, run, step}
-use Rattle.machine_defs.specs.Tries.{apply_outcome, fence_under, fence_with, hlv_committed, second_of, tried_with, try_under}
+use Rattle.machine_defs.specs.Tries.{Stages, apply_outcome, fence_under, fence_with, hlv_committed, outcome_under, tried_with, try_under, unplaced}
 use Rattle.machine_laws.specs.Caching.{FoldingRunsAreActive, GuestsAreArchitectural, RunsAreArchitectural}
 use Rattle.machine_laws.specs.EachEntry.{EachEntry}
 use Rattle.machine_laws.specs.FrontSpaces.{FrontIs}
 use Rattle.machine_laws.specs.Keeping.{IsOrderly}
-use Rattle.machine_laws.specs.Laws.{own_or_walked}
-use Rattle.machine_laws.proofs.Cached.{all_found, placed}
+use Rattle.machine_laws.specs.Laws.{has_own, ruled}
+use Rattle.machine_laws.proofs.Cached.{all_found}
 use Rattle.machine_laws.proofs.Counting.{found_page}
 use Rattle.machine_laws.proofs.Filling.{only_spaces}
 use Rattle.machine_laws.proofs.EachEntry.{tried_each}
 use Rattle.machine_laws.proofs.KeyedEntries.{HoldsOfWalks, fills_each, tried_unnamed}
 use Rattle.machine_laws.proofs.Orderly.{filled_orderly, start_is_orderly, stays_orderly}
-use Rattle.machine_laws.proofs.Ruling.{flat_is_ram, flat_now, folds_by_front, front_gives_places, steps_end_by_rule}
+use Rattle.machine_laws.proofs.Ruling.{folds_by_front, front_device, has_permitted, ruled_device, ruled_place, steps_end_by_rule}
 use Rattle.machine_laws.proofs.Running.{step_idle}
 
 -- the translations in spaces, and the entries with their keys
@@ -75,51 +76,80 @@ each_of_cached Q (s ∷ ss) all = let both = split_all Q (cached_in s) (flat_map
 each_cached : (spaces : List Space) → EachEntry (λ key e. Contains (flat_map cached_in spaces) (translation key e)) spaces
 each_cached spaces = each_of_cached (Contains (flat_map cached_in spaces)) spaces (All-contains_itself (flat_map cached_in spaces))
 
--- a try leaves the same platform and RAM whatever the spaces are
-abbrev SameBeside : Machine → Machine → Type 0
-SameBeside a b = (a.platform ≡ b.platform) × (a.ram ≡ b.ram)
+-- a try leaves the same platform and RAM whatever the spaces are, and leaves whether there is a device page
+abbrev SameBeside : Bool → Machine → Machine → Type 0
+SameBeside device a b = (a.platform ≡ b.platform) × (a.ram ≡ b.ram) × (a.device ≡ device)
 
 abbrev stripped : Machine → Machine
 stripped m = uncached (free_of m)
 
-waited_beside : (m : Machine) (virt : Virtual) (moment : Option ℕ) → SameBeside (left_by m (waited_until m virt moment)) (left_by (stripped m) (waited_until (stripped m) virt moment))
-waited_beside m virt (Some moment) = (refl, refl)
-waited_beside m virt None = (refl, refl)
+waited_beside : (m : Machine) (virt : Virtual) (moment : Option ℕ)
+    → SameBeside m.device (left_by m (waited_until m virt moment)) (left_by (stripped m) (waited_until (stripped m) virt moment))
+waited_beside m virt (Some moment) = (refl, refl, refl)
+waited_beside m virt None = (refl, refl, refl)
 
 waits_beside : (m : Machine) (virt : Virtual) (b : Bool) (moment : Option ℕ)
-    → SameBeside (left_by m (cond b (stepped_to m (record m.platform { virt = virt }) event.System) (waited_until m virt moment)))
+    → SameBeside m.device (left_by m (cond b (stepped_to m (record m.platform { virt = virt }) event.System) (waited_until m virt moment)))
     (left_by (stripped m) (cond b (stepped_to (stripped m) (record m.platform { virt = virt }) event.System) (waited_until (stripped m) virt moment)))
-waits_beside m virt true moment = (refl, refl)
+waits_beside m virt true moment = (refl, refl, refl)
 waits_beside m virt false moment = waited_beside m virt moment
 
-hlv_beside : (m : Machine) (end : Result Completion Trap) → SameBeside (left_by m (hlv_committed m end)) (left_by (stripped m) (hlv_committed (stripped m) end))
-hlv_beside m (Ok completion) = (refl, refl)
-hlv_beside m (Err trap) = (refl, refl)
+served_beside : (m : Machine) (missing : MissingPlace) (completion : Option DeviceCompletion)
+    → SameBeside m.device (left_by m (served m missing completion)) (left_by (stripped m) (served (stripped m) missing completion))
+served_beside m missing (Some completion) = (refl, refl, refl)
+served_beside m missing None = (refl, refl, refl)
 
-concluded_beside : (m : Machine) (o : Outcome) → SameBeside (left_by m (apply_outcome m o)) (left_by (stripped m) (apply_outcome (stripped m) o))
-concluded_beside m (Done virt stored event) = (refl, refl)
-concluded_beside m (Trapped trap) = (refl, refl)
-concluded_beside m (Missed missing) = (refl, refl)
-concluded_beside m Called = (refl, refl)
-concluded_beside m (Waits virt) = waits_beside m virt (has_enabled_interrupt m.platform.virt.csrs)
-    (wake_moment m.platform.virt.csrs.sie m.platform.clock.timer (next_input m.platform.console.inputs))
-concluded_beside m (Fenced virt fence) = (refl, refl)
-concluded_beside m (Accesses wanted) = hlv_beside m (hlv_outcome ram_base m.ram m.platform.virt wanted)
+device_beside : (m : Machine) (missing : MissingPlace) (width : Width) (purpose : Purpose)
+    → SameBeside m.device (left_by m (device_step m missing width purpose)) (left_by (stripped m) (device_step (stripped m) missing width purpose))
+device_beside m missing width purpose = let p = m.platform in
+    served_beside m missing (device_completed p.virt p.console p.clock.time (missing.address % 4096) width purpose)
 
-tried_beside : (m : Machine) (second : SecondStage) → SameBeside (left_by m (try_under second m)) (left_by (stripped m) (try_under second (stripped m)))
-unfolding try_under
-tried_beside m second = by (due m.platform.virt.csrs m.platform.virt.mode)
+wanted_beside : (m : Machine) (missing : MissingPlace) (wanted : Option DataAccess)
+    → SameBeside m.device (left_by m (device_wanted m missing wanted)) (left_by (stripped m) (device_wanted (stripped m) missing wanted))
+wanted_beside m missing (Some wanted) = device_beside m missing wanted.width wanted.purpose
+wanted_beside m missing None = (refl, refl, refl)
+
+unplaced_beside : (m : Machine) (missing : MissingPlace) (wanted : Option DataAccess) (on : Bool)
+    → SameBeside m.device (left_by m (unplaced m missing wanted on)) (left_by (stripped m) (unplaced (stripped m) missing wanted on))
+unplaced_beside m missing wanted false = (refl, refl, refl)
+unplaced_beside m missing wanted true = by (is_implicit missing.kind)
   where
-    by : (code : Option ℕ) → SameBeside (left_by m (tried_with second m code)) (left_by (stripped m) (tried_with second (stripped m) code))
-    by (Some code) = (refl, refl)
-    by None = concluded_beside m (core second (reading_of ram_base m.ram) m.platform.virt)
+    by : (implicit : Bool) → SameBeside m.device (left_by m (cond implicit (trapped m (missing_place_fault missing)) (device_wanted m missing wanted)))
+        (left_by (stripped m) (cond implicit (trapped (stripped m) (missing_place_fault missing)) (device_wanted (stripped m) missing wanted)))
+    by true = (refl, refl, refl)
+    by false = wanted_beside m missing wanted
+
+hlv_beside : (m : Machine) (wanted : DataAccess) (end : HlvEnd)
+    → SameBeside m.device (left_by m (hlv_committed m wanted end)) (left_by (stripped m) (hlv_committed (stripped m) wanted end))
+hlv_beside m wanted (Completes completion) = (refl, refl, refl)
+hlv_beside m wanted (Device missing) = device_beside m missing wanted.width wanted.purpose
+hlv_beside m wanted (Traps trap) = (refl, refl, refl)
+
+concluded_beside : (m : Machine) (device : OnDevice) (o : Outcome)
+    → SameBeside m.device (left_by m (apply_outcome device m o)) (left_by (stripped m) (apply_outcome device (stripped m) o))
+concluded_beside m device (Done virt stored event) = (refl, refl, refl)
+concluded_beside m device (Trapped trap) = (refl, refl, refl)
+concluded_beside m device (Missed missing wanted) = unplaced_beside m missing wanted (device missing.address missing.kind)
+concluded_beside m device Called = (refl, refl, refl)
+concluded_beside m device (Waits virt) = waits_beside m virt (has_enabled_interrupt m.platform.virt.csrs)
+    (wake_moment m.platform.virt.csrs.sie m.platform.clock.timer (next_input m.platform.console.inputs))
+concluded_beside m device (Fenced virt fence) = (refl, refl, refl)
+concluded_beside m device (Accesses wanted) = hlv_beside m wanted (hlv_outcome m.device (ram_memory m.ram) m.platform.virt wanted)
+
+tried_beside : (m : Machine) (stages : Stages) → SameBeside m.device (left_by m (try_under stages m)) (left_by (stripped m) (try_under stages (stripped m)))
+unfolding try_under
+tried_beside m stages = by (due m.platform.virt.csrs m.platform.virt.mode)
+  where
+    by : (code : Option ℕ) → SameBeside m.device (left_by m (tried_with stages m code)) (left_by (stripped m) (tried_with stages (stripped m) code))
+    by (Some code) = (refl, refl, refl)
+    by None = concluded_beside m stages.device (outcome_under stages m)
 
 -- and is the same fence
-fence_beside : (m : Machine) (second : SecondStage) → fence_under second m ≡ fence_under second (stripped m)
+fence_beside : (m : Machine) (stages : Stages) → fence_under stages m ≡ fence_under stages (stripped m)
 unfolding fence_under
-fence_beside m second = by (due m.platform.virt.csrs m.platform.virt.mode)
+fence_beside m stages = by (due m.platform.virt.csrs m.platform.virt.mode)
   where
-    by : (code : Option ℕ) → fence_with second m code ≡ fence_with second (stripped m) code
+    by : (code : Option ℕ) → fence_with stages m code ≡ fence_with stages (stripped m) code
     by (Some code) = refl
     by None = refl
 
@@ -135,9 +165,9 @@ folds_virtual virt folding = (and_parts (is_virtual virt.mode) (is_table virt.cs
 
 -- what was cached, or is walked
 abbrev IsHeld : Machine → CachedTranslation → Type 0
-IsHeld m c = Contains (free_of m).cache c ⊎ IsWalked while_folding m.platform.virt m.ram c
+IsHeld m c = Contains (free_of m).cache c ⊎ IsWalked while_folding m.device m.platform.virt m.ram c
 
-held_walks : (m : Machine) → HoldsOfWalks (λ key e. IsHeld m (translation key e)) m.platform.virt m.ram
+held_walks : (m : Machine) → HoldsOfWalks (λ key e. IsHeld m (translation key e)) m.device m.platform.virt m.ram
 held_walks m folding address kind e is = inr (record {
   active = folding;
   vmid = refl;
@@ -162,80 +192,66 @@ front_cached key (s ∷ ss) page e there is = let cache = flat_map cached_in (s 
     (all_found (λ x. Contains cache (translation s.key x)) (λ x. x.page == page) s.entries e
     (All-head (λ (t : Space). All (λ x. Contains cache (translation t.key x)) t.entries) s ss (each_cached (s ∷ ss))) is)
 
--- the entry that a place by entries is from
-place_from : (entries : List Entry) (mxr : Bool) (address : ℕ) (kind : Access) (place : ℕ) → second_by entries mxr address kind ≡ Some place
-    → (e : Entry) × (entry_at (address / 4096) entries ≡ Some e) × (permits_second mxr kind (leaf_of e) ≡ true)
-unfolding second_by
-place_from entries mxr address kind place is = placed mxr address place kind (entry_at (address / 4096) entries) is
+-- the rule by which a step ends is of stages that the free machine may have
+by_own : (m : Machine) (address : ℕ) (kind : Access) → IsOrderly m → has_own m address kind ≡ true
+    → IsByCache while_folding m.device m.platform.virt (flat_map cached_in m.spaces) address kind (answer_by (ruled m) address kind)
+unfolding second_by device_by_entries
+by_own m address kind is own = let virt = m.platform.virt in let mxr = virt.csrs.hs.status.mxr in
+    let there = has_permitted m address kind own in
+    let e = there.1.0 in
+    record {
+      serving = there.0;
+      cached = translation virt.csrs.hgatp e;
+      held = front_cached virt.csrs.hgatp m.spaces (address / 4096) e (is.front there.0) there.1.1;
+      vmid = refl;
+      page = found_page (address / 4096) (front m.spaces) e there.1.1;
+      permits = there.1.2;
+      place = ruled_place m address kind true own ∙ ap (λ (second : SecondStage). second address kind) (folds_by_front m there.0)
+          ∙ ap (place_by mxr address kind) there.1.1;
+      on_device = ruled_device m address kind true own ∙ front_device m address kind there.0 ∙ ap (λ o. m.device && device_by mxr kind o) there.1.1;
+    }
 
--- the rule by which a step ends is a second stage that the free machine may have
-ruled_by_cache : (m : Machine) → IsOrderly m → MayTranslate while_folding m.platform.virt m.ram (flat_map cached_in m.spaces) (own_or_walked m)
-ruled_by_cache m is address kind = by (folds m.platform.virt) refl
+ruled_by_cache : (m : Machine) → IsOrderly m → MayTranslate while_folding m.device m.platform.virt m.ram (flat_map cached_in m.spaces) (ruled m)
+ruled_by_cache m is = record { known = refl; answers = λ address kind. by address kind (has_own m address kind) refl }
   where
-    virt : Virtual
-    virt = m.platform.virt
-
-    now : Option ℕ
-    now = second_by_walk virt.csrs virt.mode ram_base m.ram address kind
-
-    at : folds virt ≡ true → (answer : Option ℕ) → second_of m address kind ≡ answer
-        → IsByCache while_folding virt (flat_map cached_in m.spaces) address kind (option_or answer now) ⊎ (option_or answer now ≡ now)
-    at folding None none = inr refl
-    at folding (Some place) is_at =
-        let by_front : second_by (front m.spaces) virt.csrs.hs.status.mxr address kind ≡ Some place =
-        sym (ap (λ (second : SecondStage). second address kind) (folds_by_front m folding)) ∙ is_at in
-        let there = place_from (front m.spaces) virt.csrs.hs.status.mxr address kind place by_front in
-        inl (record {
-          serving = folding;
-          cached = translation virt.csrs.hgatp there.0;
-          held = front_cached virt.csrs.hgatp m.spaces (address / 4096) there.0 (is.front folding) there.1;
-          vmid = refl;
-          page = found_page (address / 4096) (front m.spaces) there.0 there.1;
-          permits = there.2;
-          place = sym is_at ∙ front_gives_places m address kind there.0 folding there.1 there.2;
-        })
-
-    flat : (answer : Option ℕ) → option_or answer answer ≡ answer
-    flat None = refl
-    flat (Some place) = refl
-
-    by : (b : Bool) → folds virt ≡ b
-        → IsByCache while_folding virt (flat_map cached_in m.spaces) address kind (own_or_walked m address kind) ⊎ (own_or_walked m address kind ≡ now)
-    by true folding = at folding (second_of m address kind) refl
-    by false none = let same : second_of m address kind ≡ now = ap (λ (second : SecondStage). second address kind) (flat_is_ram m none ∙ sym (flat_now virt m.ram none)) in
-        inr (ap (λ answer. option_or answer now) same ∙ flat now)
+    by : (address : ℕ) (kind : Access) (own : Bool) → has_own m address kind ≡ own
+        → IsByCache while_folding m.device m.platform.virt (flat_map cached_in m.spaces) address kind (answer_by (ruled m) address kind)
+        ⊎ IsByWalk m.device m.platform.virt m.ram address kind (answer_by (ruled m) address kind)
+    by address kind true own = inl (by_own m address kind is own)
+    by address kind false none = inr (record { place = ruled_place m address kind false none; on_device = ruled_device m address kind false none })
 
 -- what is cached after a try was cached before, and the try does not name it as a fence
-try_keeps : (m : Machine) (second : SecondStage) → All (Contains (flat_map cached_in m.spaces)) (flat_map cached_in (left_by m (try_under second m)).spaces)
-try_keeps m second = let cache = flat_map cached_in m.spaces in
-    all_cached (Contains cache) (left_by m (try_under second m)).spaces (tried_each (λ key e. Contains cache (translation key e)) m second (each_cached m.spaces))
+try_keeps : (m : Machine) (stages : Stages) → All (Contains (flat_map cached_in m.spaces)) (flat_map cached_in (left_by m (try_under stages m)).spaces)
+try_keeps m stages = let cache = flat_map cached_in m.spaces in
+    all_cached (Contains cache) (left_by m (try_under stages m)).spaces (tried_each (λ key e. Contains cache (translation key e)) m stages (each_cached m.spaces))
 
-try_fences : (m : Machine) (second : SecondStage)
-    → All (λ c. is_named (fence_under second (stripped m)) c.vmid c.entry ≡ false) (flat_map cached_in (left_by m (try_under second m)).spaces)
-try_fences m second = let after = (left_by m (try_under second m)).spaces in
-    subst (λ fence. All (λ c. is_named fence c.vmid c.entry ≡ false) (flat_map cached_in after)) (fence_beside m second)
-    (all_cached (λ c. is_named (fence_under second m) c.vmid c.entry ≡ false) after (tried_unnamed m second))
+try_fences : (m : Machine) (stages : Stages)
+    → All (λ c. is_named (fence_under stages (stripped m)) c.vmid c.entry ≡ false) (flat_map cached_in (left_by m (try_under stages m)).spaces)
+try_fences m stages = let after = (left_by m (try_under stages m)).spaces in
+    subst (λ fence. All (λ c. is_named fence c.vmid c.entry ≡ false) (flat_map cached_in after)) (fence_beside m stages)
+    (all_cached (λ c. is_named (fence_under stages m) c.vmid c.entry ≡ false) after (tried_unnamed m stages))
 
 -- a step from a machine at its last try, whose cached translations the free machine had or has walked
 step_freely : (m : Machine) (spaces : List Space) (next : Machine) → IsOrderly (record m { spaces = spaces }) → All (IsHeld m) (flat_map cached_in spaces)
-    → next ≡ left_by (record m { spaces = spaces }) (try_under (own_or_walked (record m { spaces = spaces })) (record m { spaces = spaces }))
+    → next ≡ left_by (record m { spaces = spaces }) (try_under (ruled (record m { spaces = spaces })) (record m { spaces = spaces }))
     → FreeStep while_folding (free_of m) (free_of next)
-step_freely m spaces next is held ends = let last = record m { spaces = spaces } in let second = own_or_walked last in record {
+step_freely m spaces next is held ends = let last = record m { spaces = spaces } in let stages = ruled last in record {
   cache = flat_map cached_in spaces;
   allowed = held;
-  second = second;
+  stages = stages;
   translates = ruled_by_cache last is;
-  platform = ap (λ (t : Machine). t.platform) ends ∙ (tried_beside last second).0;
-  ram = ap (λ (t : Machine). t.ram) ends ∙ (tried_beside last second).1;
-  kept = subst (λ (t : Machine). All (Contains (flat_map cached_in spaces)) (flat_map cached_in t.spaces)) (sym ends) (try_keeps last second);
-  fenced = subst (λ (t : Machine). All (λ c. is_named (fence_under second (stripped last)) c.vmid c.entry ≡ false) (flat_map cached_in t.spaces))
-      (sym ends) (try_fences last second);
+  platform = ap (λ (t : Machine). t.platform) ends ∙ (tried_beside last stages).0;
+  ram = ap (λ (t : Machine). t.ram) ends ∙ (tried_beside last stages).1;
+  device = ap (λ (t : Machine). t.device) ends ∙ (tried_beside last stages).2;
+  kept = subst (λ (t : Machine). All (Contains (flat_map cached_in spaces)) (flat_map cached_in t.spaces)) (sym ends) (try_keeps last stages);
+  fenced = subst (λ (t : Machine). All (λ c. is_named (fence_under stages (stripped last)) c.vmid c.entry ≡ false) (flat_map cached_in t.spaces))
+      (sym ends) (try_fences last stages);
 }
 
 running_freely : (m : Machine) → IsOrderly m → m.platform.status ≡ Running → FreeStep while_folding (free_of m) (free_of (step m))
 running_freely m is going = let same = only_spaces m (most_fills m) in
     step_freely m (ready m).spaces (step m) (subst IsOrderly same (filled_orderly (most_fills m) m is)) (held_ready m is)
-    (steps_end_by_rule m is going ∙ ap (λ t. left_by t (try_under (own_or_walked t) t)) same)
+    (steps_end_by_rule m is going ∙ ap (λ t. left_by t (try_under (ruled t) t)) same)
 
 moves_freely : (m : Machine) → IsOrderly m → (s : Status) → m.platform.status ≡ s → FreeMove while_folding s (free_of m) (free_of (step m))
 moves_freely m is Running going = running_freely m is going
@@ -262,8 +278,8 @@ pub guests_are_architectural : GuestsAreArchitectural
 guests_are_architectural guest steps entries spaces = runs_are_architectural (start guest) steps (start_is_orderly guest entries spaces)
 
 -- what a machine may cache and go by while it folds, it may where hgatp is active
-walked_while_active : (virt : Virtual) (ram : List ℕ) (c : CachedTranslation) → IsWalked while_folding virt ram c → IsWalked while_active virt ram c
-walked_while_active virt ram c walk = record {
+walked_while_active : (device : Bool) (virt : Virtual) (ram : List ℕ) (c : CachedTranslation) → IsWalked while_folding device virt ram c → IsWalked while_active device virt ram c
+walked_while_active device virt ram c walk = record {
   active = active virt.csrs.hstatus virt.mode (folds_virtual virt walk.active);
   vmid = walk.vmid;
   address = walk.address;
@@ -271,9 +287,9 @@ walked_while_active virt ram c walk = record {
   walked = walk.walked;
 }
 
-served_while_active : (virt : Virtual) (cache : List CachedTranslation) (address : ℕ) (kind : Access) (answer : Option ℕ)
-    → IsByCache while_folding virt cache address kind answer → IsByCache while_active virt cache address kind answer
-served_while_active virt cache address kind answer by = record {
+served_while_active : (device : Bool) (virt : Virtual) (cache : List CachedTranslation) (address : ℕ) (kind : Access) (answer : Answer)
+    → IsByCache while_folding device virt cache address kind answer → IsByCache while_active device virt cache address kind answer
+served_while_active device virt cache address kind answer by = record {
   serving = folds_virtual virt by.serving;
   cached = by.cached;
   held = by.held;
@@ -281,17 +297,19 @@ served_while_active virt cache address kind answer by = record {
   page = by.page;
   permits = by.permits;
   place = by.place;
+  on_device = by.on_device;
 }
 
 step_while_active : (f g : FreeMachine) → FreeStep while_folding f g → FreeStep while_active f g
 step_while_active f g s = record {
   cache = s.cache;
-  allowed = All-weaker (λ c. Contains f.cache c ⊎ IsWalked while_folding f.platform.virt f.ram c)
-      (λ c. Contains f.cache c ⊎ IsWalked while_active f.platform.virt f.ram c) allowed s.cache s.allowed;
-  second = s.second;
-  translates = λ address kind. translates address kind (s.translates address kind);
+  allowed = All-weaker (λ c. Contains f.cache c ⊎ IsWalked while_folding f.device f.platform.virt f.ram c)
+      (λ c. Contains f.cache c ⊎ IsWalked while_active f.device f.platform.virt f.ram c) allowed s.cache s.allowed;
+  stages = s.stages;
+  translates = record { known = s.translates.known; answers = λ address kind. answers address kind (s.translates.answers address kind) };
   platform = s.platform;
   ram = s.ram;
+  device = s.device;
   kept = s.kept;
   fenced = s.fenced;
 }
@@ -299,17 +317,15 @@ step_while_active f g s = record {
     virt : Virtual
     virt = f.platform.virt
 
-    allowed : (c : CachedTranslation) → Contains f.cache c ⊎ IsWalked while_folding virt f.ram c → Contains f.cache c ⊎ IsWalked while_active virt f.ram c
+    allowed : (c : CachedTranslation) → Contains f.cache c ⊎ IsWalked while_folding f.device virt f.ram c → Contains f.cache c ⊎ IsWalked while_active f.device virt f.ram c
     allowed c (inl held) = inl held
-    allowed c (inr walk) = inr (walked_while_active virt f.ram c walk)
+    allowed c (inr walk) = inr (walked_while_active f.device virt f.ram c walk)
 
-    translates : (address : ℕ) (kind : Access)
-        → IsByCache while_folding virt s.cache address kind (s.second address kind)
-        ⊎ (s.second address kind ≡ second_by_walk virt.csrs virt.mode ram_base f.ram address kind)
-        → IsByCache while_active virt s.cache address kind (s.second address kind)
-        ⊎ (s.second address kind ≡ second_by_walk virt.csrs virt.mode ram_base f.ram address kind)
-    translates address kind (inl by) = inl (served_while_active virt s.cache address kind (s.second address kind) by)
-    translates address kind (inr now) = inr now
+    answers : (address : ℕ) (kind : Access)
+        → IsByCache while_folding f.device virt s.cache address kind (answer_by s.stages address kind) ⊎ IsByWalk f.device virt f.ram address kind (answer_by s.stages address kind)
+        → IsByCache while_active f.device virt s.cache address kind (answer_by s.stages address kind) ⊎ IsByWalk f.device virt f.ram address kind (answer_by s.stages address kind)
+    answers address kind (inl by) = inl (served_while_active f.device virt s.cache address kind (answer_by s.stages address kind) by)
+    answers address kind (inr now) = inr now
 
 move_while_active : (s : Status) (f g : FreeMachine) → FreeMove while_folding s f g → FreeMove while_active s f g
 move_while_active Running f g moves = step_while_active f g moves

@@ -15,7 +15,7 @@ use Rattle.machine_defs.specs.FreeMachines.{is_named}
 use Rattle.machine_defs.specs.Freshness.{IsFresh, fence_by_status, next_fence}
 use Rattle.machine_defs.specs.Machine.{Machine, start}
 use Rattle.machine_defs.specs.Runs.{left_after, run, step, stepped}
-use Rattle.machine_defs.specs.Tries.{fence_under, second_of}
+use Rattle.machine_defs.specs.Tries.{fence_under, stages_of}
 use Rattle.machine_laws.specs.Caching.{GuestsCacheFresh, GuestsUseFresh, RunsCacheFresh, RunsUseFresh}
 use Rattle.machine_laws.specs.FrontSpaces.{FrontIs}
 use Rattle.machine_laws.specs.Keeping.{IsOrderly}
@@ -28,16 +28,16 @@ use Rattle.machine_laws.proofs.Running.{runs_compose}
 use Rattle.machine_laws.proofs.Walks.{now_page, now_same}
 
 -- what is walked now is fresh
-walked_fresh : (m : Machine) (steps : ℕ) → HoldsOfWalks (IsFresh m steps) (run m steps).platform.virt (run m steps).ram
+walked_fresh : (m : Machine) (steps : ℕ) → HoldsOfWalks (IsFresh m steps) (run m steps).device (run m steps).platform.virt (run m steps).ram
 walked_fresh m steps folding address kind e is = let now = run m steps in
-    let page : e.page ≡ address / 4096 = now_page now.platform.virt.csrs now.ram address kind e is in
+    let page : e.page ≡ address / 4096 = now_page now.device now.platform.virt.csrs now.ram address kind e is in
     let same : 4096 * e.page / 4096 ≡ address / 4096 = omega (arith, page) in
     record {
       walked_after = steps;
       earlier = omega arith;
       root = refl;
       kind = kind;
-      walked = now_same now.platform.virt.csrs now.ram (4096 * e.page) address kind same ∙ is;
+      walked = now_same now.device now.platform.virt.csrs now.ram (4096 * e.page) address kind same ∙ is;
       unfenced = λ i from to. absurd (omega arith);
     }
 
@@ -77,9 +77,9 @@ step_fresh m steps is all s going = by s (fence_is (run m steps) s going)
         (λ key e one unnamed. still_fresh m steps key e one (ap (λ f. is_named f (vmid_of key) e) same ∙ unnamed)) spaces fresh left
 
     by : (s : Status) → next_fence (run m steps) ≡ fence_by_status (ready (run m steps)) s → EachEntry (IsFresh m (suc steps)) (stepped (run m steps) s).spaces
-    by Running same = let now = run m steps in let second = second_of (ready now) in
-        later (fence_under second (ready now)) same (left_after (ready now)).spaces
-        (tried_each (IsFresh m steps) (ready now) second (ready_fresh m steps is all)) (tried_unnamed (ready now) second)
+    by Running same = let now = run m steps in let stages = stages_of (ready now) in
+        later (fence_under stages (ready now)) same (left_after (ready now)).spaces
+        (tried_each (IsFresh m steps) (ready now) stages (ready_fresh m steps is all)) (tried_unnamed (ready now) stages)
     by Waiting same = later None same (run m steps).spaces all (none_named (run m steps).spaces)
     by Stopped same = later None same (run m steps).spaces all (none_named (run m steps).spaces)
 

@@ -1,15 +1,15 @@
 -- A guest's RAM in machine memory.
 use Rattle.std.specs.Prelude.{◌&&◌, nat_le, nat_lt}
 use Rattle.std.specs.Option.{option_map}
-use Rattle.std.proofs.Common.{cond, ◌≡◌, ℕ, ◌+◌, ◌-◌, ◌*◌, ◌/◌, ◌%◌, ◌<◌, ◌≤◌, ◌∙◌, Bool, true, false, List, Some, None, length, slice_index, refl, ap, sym, arith}
+use Rattle.std.proofs.Common.{cond, ◌≡◌, ℕ, ◌+◌, ◌-◌, ◌*◌, ◌/◌, ◌%◌, ◌<◌, ◌≤◌, ◌∙◌, Bool, true, false, List, Some, None, length, slice_index, refl, ap, sym, subst, arith}
 use Rattle.arch_defs.specs.declared.modes.Access.{Access}
 use Rattle.byteorder.specs.Endian.{little_bytes}
 use Rattle.byteorder.specs.Numbers.{length-bytes_low_first}
 use Rattle.arch_defs.specs.Frames.{in_blocks}
-use Rattle.arch_defs.specs.Memory.{bare, block_size, ram_base, reading_of}
+use Rattle.arch_defs.specs.Memory.{SecondStage, bare, block_size, machine_memory, ram_base, ram_memory, reading_of}
 use Rattle.arch_defs.specs.Ram.{IsDistinct, SlicesLieIn, ram_of}
 use Rattle.arch_defs.proofs.FrameSets.{only_none, only_pasted}
-use Rattle.arch_defs.proofs.RamBlocks.{host_places_apart, place_named, ram_load, ram_pasted}
+use Rattle.arch_defs.proofs.RamBlocks.{host_places_apart, place_named, ram_length, ram_load, ram_pasted}
 use Rattle.arch_defs.proofs.SlicesOf.{slot}
 use Rattle.machine_laws.specs.HostPlaces.{OnlyRamChanges, PlacesAreRenamed, RamIsRenamed, RamIsStored, memory_place, host_second, in_ram, ram_size}
 use Rattle.machine_laws.specs.Renaming.{GivesWithin}
@@ -35,14 +35,18 @@ same_offset base a b a_above b_above same = omega arith
 from_zero : (place : ℕ) → place - 0 ≡ place
 from_zero place = omega arith
 
+-- RAM of so many bytes passes each of its addresses on
+abbrev flat : ℕ → SecondStage
+flat size address access = cond (nat_le ram_base address && nat_lt address (ram_base + size)) (Some address) None
+
 -- an address has a place in memory where it has one in RAM
 places : (blocks : List ℕ) (address : ℕ) (access : Access)
-    → host_second blocks address access ≡ option_map (memory_place blocks) (bare ram_base (ram_size blocks) address access)
+    → host_second blocks address access ≡ option_map (memory_place blocks) (flat (ram_size blocks) address access)
 places blocks address access = elim (in_ram blocks address)
     as (λ b. cond b (Some (memory_place blocks address)) None ≡ option_map (memory_place blocks) (cond b (Some address) None)) [ true ↦ refl | false ↦ refl ]
 
 -- which is of RAM
-inside : (blocks : List ℕ) → GivesWithin (in_ram blocks) (bare ram_base (ram_size blocks))
+inside : (blocks : List ℕ) → GivesWithin (in_ram blocks) (flat (ram_size blocks))
 inside blocks address place access is = by (in_ram blocks address) refl is
   where
     by : (b : Bool) → in_ram blocks address ≡ b → cond b (Some address) None ≡ Some place → (in_ram blocks place ≡ true) × (place % 4096 ≡ address % 4096)
@@ -51,7 +55,7 @@ inside blocks address place access is = by (in_ram blocks address) refl is
 
 -- and has the same bytes
 same : (blocks memory : List ℕ) → SlicesLieIn block_size blocks (length memory) → (place n : ℕ) → in_ram blocks place ≡ true → place % 4096 + n ≤ 4096
-    → reading_of 0 memory (memory_place blocks place) n ≡ reading_of ram_base (ram_of blocks memory) place n
+    → reading_of (machine_memory memory) (memory_place blocks place) n ≡ reading_of (ram_memory (ram_of blocks memory)) place n
 same blocks memory lie place n in_it one =
     let bounds = from_test ram_base (ram_size blocks) place in_it in
     rw (from_zero (memory_place blocks place))
@@ -75,8 +79,10 @@ places_are_renamed = λ blocks memory own host lie distinct gives is. record {
 }
 
 pub ram_is_renamed : RamIsRenamed
-ram_is_renamed = λ blocks memory lie distinct.
-    places_are_renamed blocks memory (bare ram_base (ram_size blocks)) (host_second blocks) lie distinct (inside blocks) (places blocks)
+ram_is_renamed = λ blocks memory lie distinct. let size : ram_size blocks ≡ length (ram_of blocks memory) = sym (ram_length blocks memory lie) in
+    places_are_renamed blocks memory (bare (ram_memory (ram_of blocks memory))) (host_second blocks) lie distinct
+    (subst (λ n. GivesWithin (in_ram blocks) (flat n)) size (inside blocks))
+    (subst (λ n. (address : ℕ) (access : Access) → host_second blocks address access ≡ option_map (memory_place blocks) (flat n address access)) size (places blocks))
 
 -- what is stored in RAM
 pub ram_is_stored : RamIsStored

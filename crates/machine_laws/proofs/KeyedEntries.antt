@@ -9,7 +9,6 @@ use Rattle.arch_defs.specs.declared.cached.Fence.{Fence}
 use Rattle.arch_defs.specs.declared.modes.Access.{Access}
 use Rattle.arch_defs.specs.declared.roots.GuestRoot.{GuestRoot}
 use Rattle.arch_defs.specs.declared.registers.Virtual.{Virtual}
-use Rattle.arch_defs.specs.Memory.{SecondStage}
 use Rattle.arch_defs.specs.Roots.{vmid_of}
 use Rattle.arch_defs.specs.Spaces.{Space, fenced, fenced_space, names}
 use Rattle.arch_defs.specs.WalkedEntries.{entry_by_walk, folds}
@@ -17,14 +16,14 @@ use Rattle.machine_defs.specs.Fills.{after_fill, after_fills, fill, missing_entr
 use Rattle.machine_defs.specs.FreeMachines.{is_named}
 use Rattle.machine_defs.specs.Machine.{Machine, Tried}
 use Rattle.machine_defs.specs.Runs.{left_by}
-use Rattle.machine_defs.specs.Tries.{fence_under, spaces_after, try_under}
+use Rattle.machine_defs.specs.Tries.{Stages, fence_under, spaces_after, try_under}
 use Rattle.machine_laws.specs.EachEntry.{EachEntry}
 use Rattle.machine_laws.specs.Keeping.{IsOrderly}
 use Rattle.machine_laws.proofs.Cached.{lacked}
 use Rattle.machine_laws.proofs.EachEntry.{front_each, front_has}
 use Rattle.machine_laws.proofs.Orderly.{fill_stays_orderly}
 use Rattle.machine_laws.proofs.Rooting.{RootEnd, root_end}
-use Rattle.machine_laws.proofs.TryEnds.{Calls, Fences, Halts, Makes, Passes, Takes}
+use Rattle.machine_laws.proofs.TryEnds.{Calls, Fences, Halts, Makes, Passes, Serves, Takes}
 
 -- what follows from two properties
 pub each_both : (P Q R : GuestRoot → Entry → Type 0) → ((key : GuestRoot) (e : Entry) → P key e → Q key e → R key e)
@@ -33,16 +32,17 @@ each_both P Q R both spaces all_p all_q i s inside k e within =
     both (get_or spaces i s).key (get_or (get_or spaces i s).entries k e) (all_p i s inside k e within) (all_q i s inside k e within)
 
 -- it holds, for hgatp, of what a walk gives as registers and RAM are
-abbrev pub HoldsOfWalks : (GuestRoot → Entry → Type 0) → Virtual → List ℕ → Type 0
-HoldsOfWalks P virt ram = folds virt ≡ true → (address : ℕ) (kind : Access) (e : Entry) → entry_by_walk virt.csrs ram address kind ≡ Some e → P virt.csrs.hgatp e
+abbrev pub HoldsOfWalks : (GuestRoot → Entry → Type 0) → Bool → Virtual → List ℕ → Type 0
+HoldsOfWalks P device virt ram =
+    folds virt ≡ true → (address : ℕ) (kind : Access) (e : Entry) → entry_by_walk device virt.csrs ram address kind ≡ Some e → P virt.csrs.hgatp e
 
-pub fills_each : (P : GuestRoot → Entry → Type 0) (n : ℕ) (m : Machine) → IsOrderly m → HoldsOfWalks P m.platform.virt m.ram → EachEntry P m.spaces → EachEntry P (after_fills n m).spaces
+pub fills_each : (P : GuestRoot → Entry → Type 0) (n : ℕ) (m : Machine) → IsOrderly m → HoldsOfWalks P m.device m.platform.virt m.ram → EachEntry P m.spaces → EachEntry P (after_fills n m).spaces
 unfolding after_fills
 fills_each P zero m is now all = all
 fills_each P (suc n) m is now all = by (missing_entry m) refl (λ t. fills_each P n t)
   where
     by : (there : Option Entry) → missing_entry m ≡ there
-        → ((t : Machine) → IsOrderly t → HoldsOfWalks P t.platform.virt t.ram → EachEntry P t.spaces → EachEntry P (after_fills n t).spaces)
+        → ((t : Machine) → IsOrderly t → HoldsOfWalks P t.device t.platform.virt t.ram → EachEntry P t.spaces → EachEntry P (after_fills n t).spaces)
         → EachEntry P (after_fill (after_fills n) m there).spaces
     by None none deeper = all
     by (Some e) lacks deeper = let at = lacked m e lacks in let here = now at.0 at.1.0.address at.1.0.kind e at.1.1 in
@@ -75,10 +75,11 @@ ended_unnamed : (m : Machine) {t : Tried} {fence : Option Fence} → RootEnd m t
 ended_unnamed m (Takes trap) = none_named m.spaces
 ended_unnamed m (Makes completion event keeps) = none_named (spaces_after m completion.state)
 ended_unnamed m Calls = none_named m.spaces
+ended_unnamed m (Serves rd value console has) = none_named m.spaces
 ended_unnamed m (Passes virt moment keeps) = none_named m.spaces
 ended_unnamed m Halts = none_named m.spaces
 ended_unnamed m (Fences virt fence keeps) = fenced_unnamed fence m.spaces
 
-pub tried_unnamed : (m : Machine) (second : SecondStage)
-    → EachEntry (λ key e. is_named (fence_under second m) (vmid_of key) e ≡ false) (left_by m (try_under second m)).spaces
-tried_unnamed m second = ended_unnamed m (root_end m second)
+pub tried_unnamed : (m : Machine) (stages : Stages)
+    → EachEntry (λ key e. is_named (fence_under stages m) (vmid_of key) e ≡ false) (left_by m (try_under stages m)).spaces
+tried_unnamed m stages = ended_unnamed m (root_end m stages)

@@ -16,7 +16,7 @@ use Rattle.arch_defs.specs.WalkedEntries.{folds}
 use Rattle.machine_defs.specs.Fills.{filled_front, missing_entry}
 use Rattle.machine_defs.specs.Machine.{Machine, Tried, Ended, WaitsForGood, start}
 use Rattle.machine_defs.specs.Runs.{left_after, left_by}
-use Rattle.machine_defs.specs.Tries.{enters, fence_under, second_of, try}
+use Rattle.machine_defs.specs.Tries.{enters, fence_under, stages_of, try}
 use Rattle.machine_laws.specs.Keeping.{IsOrderly}
 use Rattle.machine_laws.specs.Keys.{HaveKeys, IsKey, IsOfTable, RunKeepsKeys, RunKeepsTables, StartHasKeys}
 use Rattle.machine_laws.specs.Laws.{spaces_left}
@@ -71,10 +71,10 @@ left_keys m after None is all = by (enters m.platform.virt after) refl
 
 -- so a try keeps them, and a run
 tried_keys : (m : Machine) → IsStorable m.platform.virt → HaveKeys m.spaces → HaveKeys (left_after m).spaces
-tried_keys m is all = by (try m) (try_spaces (second_of m) m) (try_stays_storable m is)
+tried_keys m is all = by (try m) (try_spaces (stages_of m) m) (try_stays_storable m is)
   where
-    by : (t : Tried) → SpacesAre m (fence_under (second_of m) m) t → IsStorable (left_by m t).platform.virt → HaveKeys (left_by m t).spaces
-    by (Ended after event) are virt = subst HaveKeys (sym are) (left_keys m after.platform.virt (fence_under (second_of m) m) virt all)
+    by : (t : Tried) → SpacesAre m (fence_under (stages_of m) m) t → IsStorable (left_by m t).platform.virt → HaveKeys (left_by m t).spaces
+    by (Ended after event) are virt = subst HaveKeys (sym are) (left_keys m after.platform.virt (fence_under (stages_of m) m) virt all)
     by WaitsForGood are virt = all
 
 abbrev IsKeyed : Machine → Type 0
@@ -92,7 +92,7 @@ keys_stay m n is keys = (kept_by_runs IsKeyed keyed_kept m n (keys, is)).0
 -- each fill is what a walk of hgatp's table gives
 fills_of_table : (m : Machine) (e : Entry) → IsOrderly m → missing_entry m ≡ Some e → IsOfTable m.platform.virt.csrs.hgatp e
 fills_of_table m e orderly lacks = let at = (lacked m e lacks).1 in
-    of_table m.platform.virt.csrs m.ram at.0.address at.0.kind e at.1
+    of_table m.device m.platform.virt.csrs m.ram at.0.address at.0.kind e at.1
 
 pub tables_stay : RunKeepsTables
 tables_stay = each_after_runs IsOfTable fills_of_table

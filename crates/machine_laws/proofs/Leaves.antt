@@ -1,7 +1,7 @@
 -- An entry of now is one that a space can be filled with.
 use Rattle.std.specs.Prelude.{Result, Ok, Err, ◌==◌, ◌&&◌, ◌||◌, not, nat_le}
-use Rattle.std.proofs.Common.{cond, ◌≡◌, ℕ, zero, suc, ◌+◌, ◌*◌, ◌/◌, ◌^◌, ◌<◌, ◌≤◌, Bool, true, false, List, [], length, Some, refl, ap, arith}
-use Rattle.std.proofs.lemmas.Bool.{and_parts, leb-true, ltb-true}
+use Rattle.std.proofs.Common.{cond, ◌≡◌, ℕ, zero, suc, ◌+◌, ◌*◌, ◌/◌, ◌^◌, ◌<◌, ◌≤◌, inl, inr, Bool, true, false, List, [], length, Some, refl, ap, arith}
+use Rattle.std.proofs.lemmas.Bool.{and_parts, eqb-true, leb-true, ltb-true}
 use Rattle.arch_defs.specs.declared.cached.Entry.{Entry}
 use Rattle.arch_defs.specs.declared.modes.Access.{Access}
 use Rattle.arch_defs.specs.declared.modes.Trap.{Trap}
@@ -16,17 +16,18 @@ use Rattle.arch_defs.specs.declared.walks.Next.TheVariants.{Ends, Below}
 use Rattle.arch_defs.specs.declared.walks.Shape.{Shape}
 use Rattle.arch_defs.specs.declared.walks.Pte.{Pte}
 use Rattle.arch_defs.specs.declared.walks.WalkEnd.TheVariants.{Leaf, PageFault}
-use Rattle.arch_defs.specs.Memory.{block_size, ram_base}
+use Rattle.arch_defs.specs.Devices.{device_frame, is_on_device}
+use Rattle.arch_defs.specs.Memory.{block_size, ram_base, ram_memory}
 use Rattle.arch_defs.specs.Roots.{guest_shape}
-use Rattle.arch_defs.specs.SecondStage.{guest_root_frame, memory_words}
+use Rattle.arch_defs.specs.SecondStage.{guest_root_frame, has_frame_of, memory_words}
 use Rattle.arch_defs.specs.TableEntries.{entry_next, is_aligned, is_leaf, is_marked, is_valid, leaf_pte, pte_of}
 use Rattle.arch_defs.specs.Walk.{guest_bits, EntryReading, end_of, is_canonical, later, leaf_address, levels, most_level, most_levels, or_else, path, path_from, place_of, read_next, walk}
-use Rattle.arch_defs.specs.CachedEntries.{CanFill, guest_page_bits}
+use Rattle.arch_defs.specs.CachedEntries.{CanFill, IsReachable, guest_page_bits}
 use Rattle.arch_defs.specs.WalkedEntries.{entry_by_table, entry_by_walk, entry_under}
 use Rattle.machine_laws.specs.Keys.{IsOfTable, page_bits}
 use Rattle.machine_laws.specs.Laws.{FillsCanBeMade}
 use Rattle.arch_defs.proofs.Shapes.{few_levels}
-use Rattle.machine_laws.proofs.Cached.{IsGiven, given}
+use Rattle.machine_laws.proofs.Cached.{IsGiven, given, serves}
 
 -- what holds of each leaf that a walk of so many levels ends at
 record IsSound (count : ℕ) (leaf : LeafPte) : Type 0 where
@@ -92,44 +93,54 @@ any_page : (mode : GuestMode) (page : ℕ) → page < 2 ^ page_bits mode → pag
 any_page Sv39x4 page is = omega arith
 any_page Sv48x4 page is = is
 
-can_fill : (mxr : Bool) (ram blocks : List ℕ) (mode : GuestMode) (ppn address : ℕ) (kind : Access) (e : Entry) (leaf : LeafPte) → length ram ≡ length blocks * block_size
-    → IsGiven mxr ram (guest_shape mode) ppn address kind e leaf → CanFill blocks e
-can_fill mxr ram blocks mode ppn address kind e leaf size g =
-    let sound = sound_walk (memory_words ram_base ram) mode (guest_root_frame ppn) address kind leaf g.walked in
-    let parts = and_parts (nat_le ram_base (leaf_address leaf address / 4096 * 4096)) (nat_le (leaf_address leaf address / 4096 * 4096 + 4096) (ram_base + length ram)) g.inside in
-    let low : ram_base ≤ leaf_address leaf address / 4096 * 4096 = leb-true ram_base (leaf_address leaf address / 4096 * 4096) parts.0 in
-    let high : leaf_address leaf address / 4096 * 4096 + 4096 ≤ ram_base + length ram = leb-true (leaf_address leaf address / 4096 * 4096 + 4096) (ram_base + length ram) parts.1 in
+-- and of a frame in RAM, or of that of the device page
+reachable : (device : Bool) (ram blocks : List ℕ) (place : ℕ) → length ram ≡ length blocks * block_size → serves device ram place ≡ true → IsReachable blocks (place / 4096)
+reachable device ram blocks place size is = by (has_frame_of (ram_memory ram) place) (is_on_device place) refl refl is
+  where
+    below : (at size other : ℕ) → size ≡ other → at + 4096 ≤ ram_base + size → at < ram_base + other
+    below at size other same h = omega arith
+
+    by : (inside on : Bool) → has_frame_of (ram_memory ram) place ≡ inside → is_on_device place ≡ on → (inside || (device && on)) ≡ true → IsReachable blocks (place / 4096)
+    by true on in_ram on_page is = let parts = and_parts (nat_le ram_base (place / 4096 * 4096)) (nat_le (place / 4096 * 4096 + 4096) (ram_base + length ram)) in_ram in
+        inl (
+          leb-true ram_base (place / 4096 * 4096) parts.0,
+          below (place / 4096 * 4096) (length ram) (length blocks * block_size) size (leb-true (place / 4096 * 4096 + 4096) (ram_base + length ram) parts.1),
+        )
+    by false true in_ram on_page is = inr (eqb-true (place / 4096) device_frame on_page)
+    by false false in_ram on_page is = let never : false ≡ true = (and_parts device false is).1 in absurd cc
+
+can_fill : (device mxr : Bool) (ram blocks : List ℕ) (mode : GuestMode) (ppn address : ℕ) (kind : Access) (e : Entry) (leaf : LeafPte)
+    → length ram ≡ length blocks * block_size → IsGiven device mxr ram (guest_shape mode) ppn address kind e leaf → CanFill blocks e
+can_fill device mxr ram blocks mode ppn address kind e leaf size g =
+    let sound = sound_walk (memory_words (ram_memory ram)) mode (guest_root_frame ppn) address kind leaf g.walked in
     let one : CanFill blocks (entry_under leaf address) = record {
       page = any_page mode (address / 4096) sound.0;
-      from = low;
-      to = below (leaf_address leaf address / 4096 * 4096) (length ram) (length blocks * block_size) size high;
+      frame = reachable device ram blocks (leaf_address leaf address) size g.inside;
       level = low_level leaf.level (levels (guest_shape mode)) sound.1.level (few_levels (guest_shape mode));
       right = sound.1.right;
       write = sound.1.write;
     } in
     rw g.is one
   where
-    below : (place size other : ℕ) → size ≡ other → place + 4096 ≤ ram_base + size → place < ram_base + other
-    below place size other same h = omega arith
-
     low_level : (level count : ℕ) → level < count → count ≤ most_levels → level ≤ most_level
     low_level level count under few = omega arith
 
 pub fills_can_be_made : FillsCanBeMade
 unfolding entry_by_walk
-fills_can_be_made csrs ram blocks address kind e size found = by csrs.hgatp found
+fills_can_be_made device csrs ram blocks address kind e size found = by csrs.hgatp found
   where
-    by : (hgatp : GuestRoot) → entry_by_table csrs.hs.status.mxr ram address kind hgatp ≡ Some e → CanFill blocks e
+    by : (hgatp : GuestRoot) → entry_by_table device csrs.hs.status.mxr ram address kind hgatp ≡ Some e → CanFill blocks e
     by root.Bare is = absurd cc
-    by (root.Table mode vmid ppn) is = let g = given csrs.hs.status.mxr ram (guest_shape mode) ppn address kind e is in can_fill csrs.hs.status.mxr ram blocks mode ppn address kind e g.0 size g.1
+    by (root.Table mode vmid ppn) is = let g = given device csrs.hs.status.mxr ram (guest_shape mode) ppn address kind e is in
+        can_fill device csrs.hs.status.mxr ram blocks mode ppn address kind e g.0 size g.1
 
 -- and one that the table of its walk can give
-pub of_table : (csrs : Csrs) (ram : List ℕ) (address : ℕ) (kind : Access) (e : Entry) → entry_by_walk csrs ram address kind ≡ Some e → IsOfTable csrs.hgatp e
+pub of_table : (device : Bool) (csrs : Csrs) (ram : List ℕ) (address : ℕ) (kind : Access) (e : Entry) → entry_by_walk device csrs ram address kind ≡ Some e → IsOfTable csrs.hgatp e
 unfolding entry_by_walk
-of_table csrs ram address kind e found = by csrs.hgatp found
+of_table device csrs ram address kind e found = by csrs.hgatp found
   where
-    by : (hgatp : GuestRoot) → entry_by_table csrs.hs.status.mxr ram address kind hgatp ≡ Some e → IsOfTable hgatp e
+    by : (hgatp : GuestRoot) → entry_by_table device csrs.hs.status.mxr ram address kind hgatp ≡ Some e → IsOfTable hgatp e
     by root.Bare is = absurd cc
-    by (root.Table mode vmid ppn) is = let g = given csrs.hs.status.mxr ram (guest_shape mode) ppn address kind e is in
-        let sound = sound_walk (memory_words ram_base ram) mode (guest_root_frame ppn) address kind g.0 g.1.walked in
+    by (root.Table mode vmid ppn) is = let g = given device csrs.hs.status.mxr ram (guest_shape mode) ppn address kind e is in
+        let sound = sound_walk (memory_words (ram_memory ram)) mode (guest_root_frame ppn) address kind g.0 g.1.walked in
         rw g.1.is (sound.0, sound.1.level)

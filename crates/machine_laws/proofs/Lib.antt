@@ -18,6 +18,7 @@ pub mod KeptByRuns
 pub mod KeyedEntries
 pub mod Keys
 pub mod Leaves
+pub mod MissedPlaces
 pub mod OpWidths
 pub mod Orderly
 pub mod Placed

@@ -12,13 +12,13 @@ use Rattle.arch_defs.specs.declared.registers.Virtual.{Virtual}
 use Rattle.arch_defs.specs.Traps.{entered_at, entered_hs, entered_vs, is_delegated, is_virtual, target}
 use Rattle.arch_defs.specs.Spaces.{Space, entered, fenced}
 use Rattle.machine_laws.specs.FrontSpaces.{FrontIs}
-use Rattle.arch_defs.specs.Registers.{read, a7}
+use Rattle.arch_defs.specs.Registers.{read, a7, sets}
 use Rattle.arch_defs.specs.Roots.{is_table}
 use Rattle.arch_defs.specs.WalkedEntries.{folds}
 use Rattle.machine_defs.specs.Fills.{after_fills, filled_front}
 use Rattle.machine_defs.specs.Machine.{Machine, Platform, Tried, called, start}
 use Rattle.machine_defs.specs.Runs.{left_by, run}
-use Rattle.machine_defs.specs.Tries.{second_of, spaces_after}
+use Rattle.machine_defs.specs.Tries.{spaces_after, stages_of}
 use Rattle.machine_laws.specs.Keeping.{FillKeepsOrderly, IsOrderly, RunKeepsOrderly, StartIsOrderly, TryKeepsOrderly}
 use Rattle.machine_laws.specs.Laws.{FillsSufficeForGuests}
 use Rattle.machine_laws.proofs.FrontSpaces.{in_front}
@@ -26,7 +26,7 @@ use Rattle.machine_laws.proofs.Cached.{either}
 use Rattle.machine_laws.proofs.Filling.{suffices}
 use Rattle.machine_laws.proofs.KeptByRuns.{IsKept, kept_by_fills, kept_by_runs}
 use Rattle.machine_laws.proofs.Rooting.{KeepsModeAndRoot, RootEnd, root_end}
-use Rattle.machine_laws.proofs.TryEnds.{Calls, Fences, Halts, Makes, Passes, Takes}
+use Rattle.machine_laws.proofs.TryEnds.{Calls, Fences, Halts, Makes, Passes, Serves, Takes}
 
 -- the front of a machine's spaces, if its state folds
 abbrev FrontOf : Virtual → List Space → Type 0
@@ -89,13 +89,14 @@ ended_orderly m is (Takes trap) = let s = m.platform.virt in
 ended_orderly m is (Makes completion event keeps) = with_front m _ is refl refl (made_front m is.spaces is.front completion.state keeps)
 ended_orderly m is Calls = let same = called_same m.platform in
     with_front m _ is refl refl (stays_front m.platform.virt (called m.platform).virt m.spaces same.0 same.1 is.front)
+ended_orderly m is (Serves rd value console has) = with_front m _ is refl refl (stays_front m.platform.virt (sets m.platform.virt rd value) m.spaces refl refl is.front)
 ended_orderly m is (Passes virt moment (mode, root)) = with_front m _ is refl refl (stays_front m.platform.virt virt m.spaces mode root is.front)
 ended_orderly m is Halts = with_front m _ is refl refl is.front
 ended_orderly m is (Fences virt fence (mode, root)) = with_front m _ is refl refl (stays_front m.platform.virt virt (fenced fence m.spaces) mode root
     (λ folding. fenced_same m.platform.virt.csrs.hgatp fence m.spaces (is.front folding)))
 
 pub try_stays_orderly : TryKeepsOrderly
-try_stays_orderly m is = ended_orderly m is (root_end m (second_of m))
+try_stays_orderly m is = ended_orderly m is (root_end m (stages_of m))
 
 pub fill_stays_orderly : FillKeepsOrderly
 fill_stays_orderly m e is lacks =

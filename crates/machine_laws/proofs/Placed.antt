@@ -17,16 +17,17 @@ use Rattle.arch_defs.specs.declared.walks.WalkEnd.{WalkEnd}
 use Rattle.arch_defs.specs.declared.walks.WalkEnd.TheVariants.{Leaf, PageFault, FetchEnd}
 use Rattle.arch_defs.specs.declared.widths.Width.{Width}
 use Rattle.arch_defs.specs.declared.widths.Width.TheVariants.{Byte, Half, Word, Double}
-use Rattle.arch_defs.specs.Memory.{Reading, SecondStage}
+use Rattle.arch_defs.specs.Memory.{Known, Reading, SecondStage, mmu, nothing_known}
 use Rattle.arch_defs.specs.Roots.{supervisor_shape}
 use Rattle.arch_defs.specs.Permits.{permits_first}
 use Rattle.arch_defs.specs.Translation.{entry_word_at, entry_words_through, first_stage, found_by, found_under, privilege_of, supervisor_of}
 use Rattle.arch_defs.specs.Traps.{exception, faults_of}
 use Rattle.arch_defs.specs.Walk.{leaf_address, walk}
 use Rattle.arch_defs.specs.Widths.{bytes_in}
-use Rattle.machine_defs.specs.Core.{Faults, Misses, Located, At, Fails, accessed, at_place, located, located_at, located_by}
+use Rattle.op_defs.specs.declared.ops.DataAccess.{DataAccess}
+use Rattle.machine_defs.specs.Core.{Faults, Misses, Located, At, Fails, accessed, at_place, found_with, located, located_at, located_by}
 use Rattle.machine_defs.specs.Outcomes.{Outcome}
-use Rattle.machine_laws.specs.Renaming.{IsRenamed, LeavesWithin, Places, outcome_renamed}
+use Rattle.machine_laws.specs.Renaming.{IsRenamed, KeepsPage, LeavesWithin, Places, outcome_renamed}
 use Rattle.machine_laws.proofs.AlikeWalks.{walks_alike}
 
 -- an outcome is the renamed one of another, which keeps to the places of the set
@@ -40,12 +41,12 @@ LocatedAlike h held n (At own) host = (host ≡ At (h own)) × (held own ≡ tru
 LocatedAlike h held n (Fails failure) host = host ≡ Fails failure
 
 -- an instruction that goes on alike at alike places ends alike
-pub at_alike : (h : ℕ → ℕ) (held : Places) (n : ℕ) (rest rest' : ℕ → Outcome)
+pub at_alike : (h : ℕ → ℕ) (held : Places) (n : ℕ) (wanted : Option DataAccess) (rest rest' : ℕ → Outcome)
     → ((place : ℕ) → held place ≡ true → place % 4096 + n ≤ 4096 → EndsAlike h held (rest place) (rest' (h place)))
-    → (own host : Located) → LocatedAlike h held n own host → EndsAlike h held (at_place own rest) (at_place host rest')
-at_alike h held n rest rest' goes (At place) host (e, in_set, fits) = rw e (goes place in_set fits)
-at_alike h held n rest rest' goes (Fails (Faults trap)) host e = rw e (refl, tt)
-at_alike h held n rest rest' goes (Fails (Misses missing)) host e = rw e (refl, tt)
+    → (own host : Located) → LocatedAlike h held n own host → EndsAlike h held (at_place wanted own rest) (at_place wanted host rest')
+at_alike h held n wanted rest rest' goes (At place) host (e, in_set, fits) = rw e (goes place in_set fits)
+at_alike h held n wanted rest rest' goes (Fails (Faults trap)) host e = rw e (refl, tt)
+at_alike h held n wanted rest rest' goes (Fails (Misses missing)) host e = rw e (refl, tt)
 
 -- the bytes of an entry end in its page
 entry_fits : (place at : ℕ) → place % 4096 ≡ at % 4096 → at % 8 ≡ 0 → place % 4096 + 8 ≤ 4096
@@ -104,6 +105,17 @@ pub first_keeps : (second : SecondStage) (reading : Reading) (csrs : Csrs) (mode
 unfolding first_stage
 first_keeps second reading csrs mode va access = under_keeps second reading (privilege_of csrs mode) va access (supervisor_of csrs mode).atp
 
+-- so does what is known of an address, and else the first stage
+pub with_known_keeps : (known : Known) → KeepsPage known → (va : ℕ) (access : Access) (found : Found) → KeepsOffset va found → KeepsOffset va (found_with (known va access) found)
+with_known_keeps known keeps va access found first = by (known va access) refl
+  where
+    by : (there : Option ℕ) → known va access ≡ there → KeepsOffset va (found_with there found)
+    by (Some address) is = keeps va address access is
+    by None is = first
+
+pub nothing_keeps : KeepsPage nothing_known
+nothing_keeps = λ va address access is. absurd cc
+
 -- the bytes at a multiple of their width end in its page
 width_fits : (width : Width) (place address va : ℕ) → place % 4096 ≡ address % 4096 → address % 4096 ≡ va % 4096 → va % bytes_in width ≡ 0
     → place % 4096 + bytes_in width ≤ 4096
@@ -126,20 +138,21 @@ by_alike r mode va width access PageFaults keeps whole = refl
 by_alike r mode va width access (MissesEntry place) keeps whole = refl
 
 located_alike : {h : ℕ → ℕ} {held : Places} {own : SecondStage} {reading : Reading} {host : SecondStage} {other : Reading}
-    → IsRenamed h held own reading host other → (csrs : Csrs) (mode : Mode) (va : ℕ) (width : Width) (access : Access) → va % bytes_in width ≡ 0
-    → LocatedAlike h held (bytes_in width) (located own reading csrs mode va access) (located host other csrs mode va access)
-located_alike {own = own} {reading = reading} r csrs mode va width access whole =
+    → IsRenamed h held own reading host other → (known : Known) → KeepsPage known → (csrs : Csrs) (mode : Mode) (va : ℕ) (width : Width) (access : Access) → va % bytes_in width ≡ 0
+    → LocatedAlike h held (bytes_in width) (located (mmu known own reading) csrs mode va access) (located (mmu known host other) csrs mode va access)
+located_alike {own = own} {reading = reading} r known keeps csrs mode va width access whole =
     rw (first_alike r csrs mode va access)
-    (by_alike r mode va width access (first_stage own reading csrs mode va access) (first_keeps own reading csrs mode va access) whole)
+    (by_alike r mode va width access (found_with (known va access) (first_stage own reading csrs mode va access))
+    (with_known_keeps known keeps va access (first_stage own reading csrs mode va access) (first_keeps own reading csrs mode va access)) whole)
 
 pub accessed_alike : {h : ℕ → ℕ} {held : Places} {own : SecondStage} {reading : Reading} {host : SecondStage} {other : Reading}
-    → IsRenamed h held own reading host other → (csrs : Csrs) (mode : Mode) (va : ℕ) (width : Width) (access : Access)
-    → LocatedAlike h held (bytes_in width) (accessed own reading csrs mode va width access) (accessed host other csrs mode va width access)
-accessed_alike {h = h} {held = held} {own = own} {reading = reading} {host = host} {other = other} r csrs mode va width access =
+    → IsRenamed h held own reading host other → (known : Known) → KeepsPage known → (csrs : Csrs) (mode : Mode) (va : ℕ) (width : Width) (access : Access)
+    → LocatedAlike h held (bytes_in width) (accessed (mmu known own reading) csrs mode va width access) (accessed (mmu known host other) csrs mode va width access)
+accessed_alike {h = h} {held = held} {own = own} {reading = reading} {host = host} {other = other} r known keeps csrs mode va width access =
     by (va % bytes_in width == 0) (eqb-true (va % bytes_in width) 0)
   where
     by : (b : Bool) → (b ≡ true → va % bytes_in width ≡ 0)
-        → LocatedAlike h held (bytes_in width) (cond b (located own reading csrs mode va access) (Fails (Faults (exception mode (faults_of access).misaligned va))))
-        (cond b (located host other csrs mode va access) (Fails (Faults (exception mode (faults_of access).misaligned va))))
-    by true whole = located_alike r csrs mode va width access (whole refl)
+        → LocatedAlike h held (bytes_in width) (cond b (located (mmu known own reading) csrs mode va access) (Fails (Faults (exception mode (faults_of access).misaligned va))))
+        (cond b (located (mmu known host other) csrs mode va access) (Fails (Faults (exception mode (faults_of access).misaligned va))))
+    by true whole = located_alike r known keeps csrs mode va width access (whole refl)
     by false whole = refl

@@ -12,7 +12,7 @@ use Rattle.arch_defs.specs.declared.registers.Virtual.{Virtual}
 use Rattle.arch_defs.specs.declared.widths.Width.{Width}
 use Rattle.arch_defs.specs.declared.widths.Width.TheVariants.{Word}
 use Rattle.arch_defs.specs.CsrAccess.{read_csr, write_csr}
-use Rattle.arch_defs.specs.Memory.{Reading, SecondStage}
+use Rattle.arch_defs.specs.Memory.{Known, Reading, SecondStage, mmu}
 use Rattle.arch_defs.specs.Widths.{bytes_in}
 use Rattle.op_defs.specs.declared.ops.CsrOp.{CsrOp}
 use Rattle.op_defs.specs.declared.ops.DataAccess.{DataAccess}
@@ -28,7 +28,7 @@ use Rattle.op_defs.specs.Table.{op_of}
 use Rattle.machine_defs.specs.declared.events.Event.{Event}
 use Rattle.machine_defs.specs.Core.{Completion, accessed_data, called_from, completed, core, decoded, done, event_of, executed, is_reserved, kind_of, stored_if, word_at}
 use Rattle.machine_defs.specs.Privileges.{combined, csr_accessed, csr_changed, csr_shown, decided, performed, privileged, refusal, value_or_zero as shown}
-use Rattle.machine_laws.specs.Renaming.{CoreKeepsWithin, GivesWithin, IsRenamed, Places, RenamedCore, ReservesWithin, StoresWithin, renamed, reservation_renamed, stored_renamed}
+use Rattle.machine_laws.specs.Renaming.{CoreKeepsWithin, GivesWithin, IsRenamed, KeepsPage, Places, RenamedCore, ReservesWithin, StoresWithin, renamed, reservation_renamed, stored_renamed}
 use Rattle.machine_laws.proofs.Placed.{EndsAlike, accessed_alike, at_alike}
 
 -- SC finds the same reserved, since no two places get one name
@@ -80,11 +80,11 @@ done_alike : (h : ℕ → ℕ) (held : Places) (event : Event) (own host : Compl
 done_alike h held event own host alike = rw (alike.state, alike.stored) (refl, (alike.stores, alike.reserves))
 
 accessed_data_alike : {h : ℕ → ℕ} {held : Places} {own : SecondStage} {reading : Reading} {host : SecondStage} {other : Reading}
-    → IsRenamed h held own reading host other → (s : Virtual) → ReservesWithin held s.reservation → (event : Event) (wanted : DataAccess)
-    → EndsAlike h held (accessed_data own reading s event wanted) (accessed_data host other (renamed h s) event wanted)
-accessed_data_alike {h = h} {held = held} r s kept event wanted = at_alike h held (bytes_in wanted.width) _ _
+    → IsRenamed h held own reading host other → (known : Known) → KeepsPage known → (s : Virtual) → ReservesWithin held s.reservation → (event : Event) (wanted : DataAccess)
+    → EndsAlike h held (accessed_data (mmu known own reading) s event wanted) (accessed_data (mmu known host other) (renamed h s) event wanted)
+accessed_data_alike {h = h} {held = held} r known keeps s kept event wanted = at_alike h held (bytes_in wanted.width) (Some wanted) _ _
     (λ place in_set fits. done_alike h held event _ _ (completed_alike r s kept wanted.width wanted.purpose place in_set fits)) _ _
-    (accessed_alike r s.csrs s.mode wanted.address wanted.width (kind_of wanted.purpose))
+    (accessed_alike r known keeps s.csrs s.mode wanted.address wanted.width (kind_of wanted.purpose))
 
 -- a call of the environment
 called_alike : (h : ℕ → ℕ) (held : Places) (mode : Mode) → EndsAlike h held (called_from mode) (called_from mode)
@@ -132,29 +132,30 @@ privileged_alike h held s kept word p = by (refusal p s.csrs.hstatus s.mode)
 
 -- by the effect
 executed_alike : {h : ℕ → ℕ} {held : Places} {own : SecondStage} {reading : Reading} {host : SecondStage} {other : Reading}
-    → IsRenamed h held own reading host other → (s : Virtual) → ReservesWithin held s.reservation → (word : ℕ) (effect : Effect)
-    → EndsAlike h held (executed own reading s word effect) (executed host other (renamed h s) word effect)
-executed_alike r s kept word (Sets rd value next) = (refl, (tt, kept))
-executed_alike r s kept word (Raises cause tval) = (refl, tt)
-executed_alike r s kept word (Data wanted) = accessed_data_alike r s kept (event_of s.regs.pc word) wanted
-executed_alike {h = h} {held = held} r s kept word Calls = called_alike h held s.mode
-executed_alike {h = h} {held = held} r s kept word (Decides p) = privileged_alike h held s kept word p
+    → IsRenamed h held own reading host other → (known : Known) → KeepsPage known → (s : Virtual) → ReservesWithin held s.reservation → (word : ℕ) (effect : Effect)
+    → EndsAlike h held (executed (mmu known own reading) s word effect) (executed (mmu known host other) (renamed h s) word effect)
+executed_alike r known keeps s kept word (Sets rd value next) = (refl, (tt, kept))
+executed_alike r known keeps s kept word (Raises cause tval) = (refl, tt)
+executed_alike r known keeps s kept word (Data wanted) = accessed_data_alike r known keeps s kept (event_of s.regs.pc word) wanted
+executed_alike {h = h} {held = held} r known keeps s kept word Calls = called_alike h held s.mode
+executed_alike {h = h} {held = held} r known keeps s kept word (Decides p) = privileged_alike h held s kept word p
 
 decoded_alike : {h : ℕ → ℕ} {held : Places} {own : SecondStage} {reading : Reading} {host : SecondStage} {other : Reading}
-    → IsRenamed h held own reading host other → (s : Virtual) → ReservesWithin held s.reservation → (word : ℕ) (o : Option Op)
-    → EndsAlike h held (decoded own reading s word o) (decoded host other (renamed h s) word o)
-decoded_alike r s kept word (Some o) = executed_alike r s kept word (meaning o s.regs)
-decoded_alike r s kept word None = (refl, tt)
+    → IsRenamed h held own reading host other → (known : Known) → KeepsPage known → (s : Virtual) → ReservesWithin held s.reservation → (word : ℕ) (o : Option Op)
+    → EndsAlike h held (decoded (mmu known own reading) s word o) (decoded (mmu known host other) (renamed h s) word o)
+decoded_alike r known keeps s kept word (Some o) = executed_alike r known keeps s kept word (meaning o s.regs)
+decoded_alike r known keeps s kept word None = (refl, tt)
 
 core_alike : {h : ℕ → ℕ} {held : Places} {own : SecondStage} {reading : Reading} {host : SecondStage} {other : Reading}
-    → IsRenamed h held own reading host other → (s : Virtual) → ReservesWithin held s.reservation → EndsAlike h held (core own reading s) (core host other (renamed h s))
+    → IsRenamed h held own reading host other → (known : Known) → KeepsPage known → (s : Virtual) → ReservesWithin held s.reservation
+    → EndsAlike h held (core (mmu known own reading) s) (core (mmu known host other) (renamed h s))
 unfolding core
-core_alike {h = h} {held = held} {reading = reading} r s kept = at_alike h held 4 _ _
-    (λ place in_set fits. rw (r.same place 4 in_set fits) (decoded_alike r s kept (word_at reading place) (op_of (word_at reading place)))) _ _
-    (accessed_alike r s.csrs s.mode s.regs.pc Word Fetch)
+core_alike {h = h} {held = held} {reading = reading} r known keeps s kept = at_alike h held 4 None _ _
+    (λ place in_set fits. rw (r.same place 4 in_set fits) (decoded_alike r known keeps s kept (word_at reading place) (op_of (word_at reading place)))) _ _
+    (accessed_alike r known keeps s.csrs s.mode s.regs.pc Word Fetch)
 
 pub renamed_core : RenamedCore
-renamed_core = λ h held own reading host other s r kept. (core_alike r s kept).0
+renamed_core = λ h held known own reading host other s keeps r kept. (core_alike r known keeps s kept).0
 
 -- what one instruction leaves, by the renaming that leaves each place as it is
 same_place : (place : Option ℕ) → place ≡ option_map (λ p. p) place
@@ -170,4 +171,4 @@ unchanged {second = second} reading gives = record {
 }
 
 pub stays_held : CoreKeepsWithin
-stays_held = λ held second reading s gives kept. (core_alike (unchanged reading gives) s kept).1
+stays_held = λ held through s keeps gives kept. (core_alike (unchanged through.reading gives) through.known keeps s kept).1

@@ -1,6 +1,6 @@
 -- hgatp under one instruction: with V = 1 none changes it, and a fence changes neither it nor the mode.
 use Rattle.std.specs.Prelude.{Result, Ok, Err, nat_le}
-use Rattle.std.proofs.Common.{cond, ◌≡◌, ℕ, Bool, true, false, List, Option, Some, None, refl, ap}
+use Rattle.std.proofs.Common.{cond, ◌≡◌, ℕ, Bool, true, false, Option, Some, None, refl, ap}
 use Rattle.arch_defs.specs.declared.csr_names.SupervisorCsr.TheVariants.{Status, Tvec, Scratch, Epc, Cause, Tval, Atp}
 use Rattle.arch_defs.specs.declared.csr_names.EnableCsr.TheVariants.{Scounteren, Senvcfg, Hcounteren, Henvcfg}
 use Rattle.arch_defs.specs.declared.csr_names.CsrEnd.{CsrEnd}
@@ -10,14 +10,13 @@ use Rattle.arch_defs.specs.declared.csr_names.Register.{Register}
 use Rattle.arch_defs.specs.declared.csr_names.Register.TheVariants.{Supervisor, VirtualSupervisor, Interrupt, Enable, Hypervisor, Time, GuestTime}
 use Rattle.arch_defs.specs.declared.cached.Fence.{Fence}
 use Rattle.arch_defs.specs.declared.modes.Mode.{Mode}
-use Rattle.arch_defs.specs.declared.modes.Trap.{Trap}
 use Rattle.arch_defs.specs.declared.modes.Mode.TheVariants.{HS, U, VS, VU}
 use Rattle.arch_defs.specs.declared.registers.Csrs.{Csrs}
 use Rattle.arch_defs.specs.declared.registers.Regs.{Regs}
 use Rattle.arch_defs.specs.declared.registers.Virtual.{Virtual}
 use Rattle.arch_defs.specs.CsrAccess.{enable_written, interrupts_written, named_to_write, reached, reached_by, reached_in_vs, reached_in_vu, read_csr, write_csr, written, written_by}
 use Rattle.arch_defs.specs.CsrNames.{register_of}
-use Rattle.arch_defs.specs.Memory.{Reading, SecondStage, ram_base, reading_of}
+use Rattle.arch_defs.specs.Memory.{Memory, Mmu, ram_memory, reading_of}
 use Rattle.arch_defs.specs.Traps.{is_virtual, returned}
 use Rattle.op_defs.specs.declared.ops.CsrOp.{CsrOp}
 use Rattle.op_defs.specs.declared.ops.Effect.{Effect}
@@ -31,13 +30,13 @@ use Rattle.op_defs.specs.Table.{op_of}
 use Rattle.machine_defs.specs.declared.events.Event.{Event}
 use Rattle.machine_defs.specs.Outcomes.{Outcome}
 use Rattle.machine_defs.specs.Core.{Completion, accessed_data, called_from, completed, core, data_place, decoded, done, event_of, executed, fetch_place, instruction, word_at}
-use Rattle.machine_defs.specs.HlvAccesses.{hlv_completed, hlv_outcome, hlv_place}
+use Rattle.machine_defs.specs.HlvAccesses.{hlv_outcome}
 use Rattle.machine_defs.specs.Machine.{Machine, Tried}
 use Rattle.machine_defs.specs.Privileges.{combined, csr_accessed, csr_changed, csr_shown, decided, performed, privileged, refusal, value_or_zero}
-use Rattle.machine_defs.specs.Tries.{fence_under, try_under}
+use Rattle.machine_defs.specs.Tries.{Stages, fence_under, mmu_under, try_under}
 use Rattle.machine_laws.specs.InstructionEnds.{HlvHas, OutcomeHas}
 use Rattle.machine_laws.proofs.Cached.{either}
-use Rattle.machine_laws.proofs.Completions.{at_each, completed_same}
+use Rattle.machine_laws.proofs.Completions.{at_each, completed_same, hlv_each}
 use Rattle.machine_laws.proofs.TryEnds.{TryEnd, try_end}
 
 -- both are left as they are
@@ -184,43 +183,40 @@ called_root s VS = tt
 called_root s VU = tt
 
 -- an instruction
-accessed_data_root : (s : Virtual) (second : SecondStage) (reading : Reading) (event : Event) (wanted : DataAccess) → KeepsRoot s (accessed_data second reading s event wanted)
-accessed_data_root s second reading event wanted =
-    at_each (KeepsRoot s) (λ place. done event (completed reading s wanted.width wanted.purpose place)) (λ trap. tt) (λ missing. tt) same
-    (data_place second reading s.csrs s.mode wanted)
+accessed_data_root : (s : Virtual) (through : Mmu) (event : Event) (wanted : DataAccess) → KeepsRoot s (accessed_data through s event wanted)
+accessed_data_root s through event wanted =
+    at_each (KeepsRoot s) (Some wanted) (λ place. done event (completed through.reading s wanted.width wanted.purpose place)) (λ trap. tt) (λ missing. tt) same
+    (data_place through s.csrs s.mode wanted)
   where
-    same : (place : ℕ) → KeepsRoot s (done event (completed reading s wanted.width wanted.purpose place))
-    same place = λ virtual. ap (λ (v : Virtual). v.csrs.hgatp) (completed_same reading s wanted.width wanted.purpose place)
+    same : (place : ℕ) → KeepsRoot s (done event (completed through.reading s wanted.width wanted.purpose place))
+    same place = λ virtual. ap (λ (v : Virtual). v.csrs.hgatp) (completed_same through.reading s wanted.width wanted.purpose place)
 
-executed_root : (s : Virtual) (second : SecondStage) (reading : Reading) (word : ℕ) (effect : Effect) → KeepsRoot s (executed second reading s word effect)
-executed_root s second reading word (Sets rd value next) = λ virtual. refl
-executed_root s second reading word (Raises cause tval) = tt
-executed_root s second reading word (Data wanted) = accessed_data_root s second reading (event_of s.regs.pc word) wanted
-executed_root s second reading word Calls = called_root s s.mode
-executed_root s second reading word (Decides effect) = privileged_root s word effect
+executed_root : (s : Virtual) (through : Mmu) (word : ℕ) (effect : Effect) → KeepsRoot s (executed through s word effect)
+executed_root s through word (Sets rd value next) = λ virtual. refl
+executed_root s through word (Raises cause tval) = tt
+executed_root s through word (Data wanted) = accessed_data_root s through (event_of s.regs.pc word) wanted
+executed_root s through word Calls = called_root s s.mode
+executed_root s through word (Decides effect) = privileged_root s word effect
 
-decoded_root : (s : Virtual) (second : SecondStage) (reading : Reading) (word : ℕ) (o : Option Op) → KeepsRoot s (decoded second reading s word o)
-decoded_root s second reading word (Some o) = executed_root s second reading word (meaning o s.regs)
-decoded_root s second reading word None = tt
+decoded_root : (s : Virtual) (through : Mmu) (word : ℕ) (o : Option Op) → KeepsRoot s (decoded through s word o)
+decoded_root s through word (Some o) = executed_root s through word (meaning o s.regs)
+decoded_root s through word None = tt
 
-pub core_root : (s : Virtual) (second : SecondStage) (reading : Reading) → KeepsRoot s (core second reading s)
+pub core_root : (s : Virtual) (through : Mmu) → KeepsRoot s (core through s)
 unfolding core
-core_root s second reading = at_each (KeepsRoot s) (λ place. instruction second reading s (word_at reading place)) (λ trap. tt) (λ missing. tt) same (fetch_place second reading s)
+core_root s through = at_each (KeepsRoot s) None (λ place. instruction through s (word_at through.reading place)) (λ trap. tt) (λ missing. tt) same (fetch_place through s)
   where
-    same : (place : ℕ) → KeepsRoot s (instruction second reading s (word_at reading place))
-    same place = decoded_root s second reading (word_at reading place) (op_of (word_at reading place))
+    same : (place : ℕ) → KeepsRoot s (instruction through s (word_at through.reading place))
+    same place = decoded_root s through (word_at through.reading place) (op_of (word_at through.reading place))
 
 -- HLV, HLVX and HSV, and so a try
-hlv_root : (s : Virtual) (base : ℕ) (bytes : List ℕ) (wanted : DataAccess) → HlvHas (LeavesRoot s) (hlv_outcome base bytes s wanted)
-hlv_root s base bytes wanted = by (hlv_place base bytes s.csrs wanted)
-  where
-    by : (answer : Result ℕ Trap) → HlvHas (LeavesRoot s) (hlv_completed (reading_of base bytes) s wanted answer)
-    by (Ok place) = λ virtual. ap (λ (v : Virtual). v.csrs.hgatp) (completed_same (reading_of base bytes) s wanted.width wanted.purpose place)
-    by (Err trap) = tt
+hlv_root : (s : Virtual) (device : Bool) (memory : Memory) (wanted : DataAccess) → HlvHas (LeavesRoot s) (hlv_outcome device memory s wanted)
+hlv_root s device memory wanted = hlv_each (LeavesRoot s) device memory s wanted
+    (λ place virtual. ap (λ (v : Virtual). v.csrs.hgatp) (completed_same (reading_of memory) s wanted.width wanted.purpose place))
 
 abbrev pub RootEnd : Machine → Tried → Option Fence → Type 0
 RootEnd m t fence = TryEnd (LeavesRoot m.platform.virt) (KeepsModeAndRoot m.platform.virt) m t fence
 
-pub root_end : (m : Machine) (second : SecondStage) → RootEnd m (try_under second m) (fence_under second m)
-root_end m second = let s = m.platform.virt in
-    try_end (LeavesRoot s) (KeepsModeAndRoot s) (λ wanted. Unit {0}) m second (λ wanted any. hlv_root s ram_base m.ram wanted) (core_root s second (reading_of ram_base m.ram))
+pub root_end : (m : Machine) (stages : Stages) → RootEnd m (try_under stages m) (fence_under stages m)
+root_end m stages = let s = m.platform.virt in
+    try_end (LeavesRoot s) (KeepsModeAndRoot s) (λ wanted. Unit {0}) m stages (λ wanted any. hlv_root s m.device (ram_memory m.ram) wanted) (core_root s (mmu_under stages m))

@@ -3,13 +3,12 @@ use Rattle.std.specs.List.{All, Contains}
 use Rattle.std.proofs.Common.{◌≡◌, ◌∙◌, ◌⊎◌, inl, inr, true, false, List, [], ◌∷◌, Option, Some, None, refl, sym, subst, ap, arith}
 use Rattle.std.proofs.lemmas.List.Elements.{All-contains, All-head, All-nil, All-weaker}
 use Rattle.arch_defs.specs.declared.cached.Fence.{Fence}
-use Rattle.arch_defs.specs.Memory.{SecondStage, ram_base}
-use Rattle.arch_defs.specs.SecondStage.{second_by_walk}
 use Rattle.machine_defs.specs.FreeMachines.{CachedTranslation, FreeMachine, FreeMove, FreeStep, IsWalked, free_of, is_named, left_under, uncached, while_active, while_folding}
+use Rattle.machine_laws.specs.Caching.{by_walks}
 use Rattle.machine_laws.specs.Keeping.{IsOrderly}
 use Rattle.machine_laws.proofs.FreeRuns.{runs_are_architectural}
 use Rattle.machine_laws.proofs.FreeSteps.{flat_steps, steps_by, walked_steps}
-use Rattle.arch_defs.specs.CachedEntries.{second_by}
+use Rattle.arch_defs.specs.CachedEntries.{device_by_entries, second_by}
 use Rattle.arch_defs.specs.CsrBits.{guest_root_of}
 use Rattle.arch_defs.specs.Interrupts.{due, due_for_hs, due_for_vs}
 use Rattle.arch_defs.specs.SecondStage.{second_walk}
@@ -30,11 +29,11 @@ use Rattle.machine_defs.specs.Tries.{fence_under, try_under}
 use Rattle.machine_laws.specs.ShortRuns.{FencedFaults, FencedFaultsFreely, HasFaulted, MayDropStale, MayUseStale, StaleIsUsed, csrs_before, fence_bytes, nop, stale_entry, stale_machine, stale_root}
 
 pub stale_is_used : StaleIsUsed
-unfolding run step try_under after_fills missing_entry missing_entry_under core due due_for_hs due_for_vs first_stage op_of system_of system_op_of fence_op_of immediate_arithmetic_of immediate_op_of alu meaning privileged refusal fenced entered returned second_by guest_root_of csrs_before stale_machine stale_root stale_entry entry_by_walk second_walk walk path path_from end_of target entered_hs is_system permits_second
+unfolding run step try_under after_fills missing_entry missing_entry_under core due due_for_hs due_for_vs first_stage op_of system_of system_op_of fence_op_of immediate_arithmetic_of immediate_op_of alu meaning privileged refusal fenced entered returned second_by guest_root_of csrs_before stale_machine stale_root stale_entry entry_by_walk second_walk walk path path_from end_of target entered_hs is_system permits_second device_by_entries
 stale_is_used = record { mode = refl; value = refl }
 
 pub fenced_faults : FencedFaults
-unfolding run step try_under after_fills missing_entry missing_entry_under core due due_for_hs due_for_vs first_stage op_of system_of system_op_of fence_op_of immediate_arithmetic_of immediate_op_of alu meaning privileged refusal fenced entered returned second_by guest_root_of csrs_before stale_machine stale_root stale_entry entry_by_walk second_walk walk path path_from end_of target entered_hs is_system permits_second
+unfolding run step try_under after_fills missing_entry missing_entry_under core due due_for_hs due_for_vs first_stage op_of system_of system_op_of fence_op_of immediate_arithmetic_of immediate_op_of alu meaning privileged refusal fenced entered returned second_by guest_root_of csrs_before stale_machine stale_root stale_entry entry_by_walk second_walk walk path path_from end_of target entered_hs is_system permits_second device_by_entries
 fenced_faults = record { mode = refl; cause = refl }
 
 -- the lone machine's run is free
@@ -46,26 +45,24 @@ pub may_use_stale : MayUseStale
 may_use_stale = (free_of (run (stale_machine nop) 3), runs_are_architectural (stale_machine nop) 3 nop_is_orderly, stale_is_used)
 
 -- so is one that drops each translation at once
-abbrev now : FreeMachine → SecondStage
-now f = second_by_walk f.platform.virt.csrs f.platform.virt.mode ram_base f.ram
-
 abbrev dropped : FreeMachine → FreeMachine
-dropped f = record { platform = (left_under (now f) f).platform; ram = (left_under (now f) f).ram; cache = [] }
+dropped f = record { platform = (left_under (by_walks f) f).platform; ram = (left_under (by_walks f) f).ram; cache = []; device = f.device }
 
 drops : (f : FreeMachine) → FreeStep while_folding f (dropped f)
 drops f = record {
   cache = [];
   allowed = All-nil _;
-  second = now f;
-  translates = λ address kind. inr refl;
+  stages = by_walks f;
+  translates = record { known = refl; answers = λ address kind. inr (record { place = refl; on_device = refl }) };
   platform = refl;
   ram = refl;
+  device = refl;
   kept = All-nil _;
   fenced = All-nil _;
 }
 
 pub may_drop_stale : MayDropStale
-unfolding run step try_under after_fills missing_entry missing_entry_under core due due_for_hs due_for_vs first_stage op_of system_of system_op_of fence_op_of immediate_arithmetic_of immediate_op_of alu meaning privileged refusal fenced entered returned second_by guest_root_of csrs_before stale_machine stale_root stale_entry entry_by_walk second_walk walk path path_from end_of target entered_hs is_system permits_second
+unfolding run step try_under after_fills missing_entry missing_entry_under core due due_for_hs due_for_vs first_stage op_of system_of system_op_of fence_op_of immediate_arithmetic_of immediate_op_of alu meaning privileged refusal fenced entered returned second_by guest_root_of csrs_before stale_machine stale_root stale_entry entry_by_walk second_walk walk path path_from end_of target entered_hs is_system permits_second device_by_entries
 may_drop_stale = let f = free_of (stale_machine nop) in let g = dropped f in let h = dropped g in
     (dropped h, (g, drops f, (h, drops g, (dropped h, drops h, refl))), record { mode = refl; cause = refl })
 
@@ -80,13 +77,13 @@ emptied fence is (c ∷ cs) unnamed =
     let never : true ≡ false = sym (ap (λ o. is_named o c.vmid c.entry) is) ∙ one in absurd cc
 
 after_fence : (g : FreeMachine) → FreeStep while_active (free_of (stale_machine fence_bytes)) g → g ≡ dropped (free_of (stale_machine fence_bytes))
-unfolding run step try_under after_fills missing_entry missing_entry_under core due due_for_hs due_for_vs first_stage op_of system_of system_op_of fence_op_of immediate_arithmetic_of immediate_op_of alu meaning privileged refusal fenced entered returned second_by guest_root_of csrs_before stale_machine stale_root stale_entry entry_by_walk second_walk walk path path_from end_of target entered_hs is_system permits_second fence_under
+unfolding run step try_under after_fills missing_entry missing_entry_under core due due_for_hs due_for_vs first_stage op_of system_of system_op_of fence_op_of immediate_arithmetic_of immediate_op_of alu meaning privileged refusal fenced entered returned second_by guest_root_of csrs_before stale_machine stale_root stale_entry entry_by_walk second_walk walk path path_from end_of target entered_hs is_system permits_second device_by_entries fence_under
 after_fence g s = let f = free_of (stale_machine fence_bytes) in
-    let same : s.second ≡ now f = flat_steps f g s refl in
-    let by = steps_by f g s (now f) same in
-    let fence : fence_under s.second (uncached f) ≡ all_named = ap (λ second. fence_under second (uncached f)) same in
-    let none = emptied (fence_under s.second (uncached f)) fence g.cache s.fenced in
-    λ i. record { platform = by.platform i; ram = by.ram i; cache = none i }
+    let same : s.stages ≡ by_walks f = flat_steps f g s refl in
+    let by = steps_by f g s (by_walks f) same in
+    let fence : fence_under s.stages (uncached f) ≡ all_named = ap (λ stages. fence_under stages (uncached f)) same in
+    let none = emptied (fence_under s.stages (uncached f)) fence g.cache s.fenced in
+    λ i. record { platform = by.platform i; ram = by.ram i; cache = none i; device = s.device i }
 
 -- so after the SRET only walks of now are cached: no register that they depend on has changed, nor RAM
 abbrev fenced_end : FreeMachine
@@ -95,43 +92,46 @@ fenced_end = dropped (free_of (stale_machine fence_bytes))
 abbrev entered_end : FreeMachine
 entered_end = dropped fenced_end
 
-abbrev IsEntered : FreeMachine → Type 0
-IsEntered g = (g.platform ≡ entered_end.platform) × (g.ram ≡ entered_end.ram) × All (IsWalked while_active entered_end.platform.virt entered_end.ram) g.cache
+abbrev WalkedBy : FreeMachine → CachedTranslation → Type 0
+WalkedBy f = IsWalked while_active f.device f.platform.virt f.ram
 
-same_walk : (c : CachedTranslation) → IsWalked while_active fenced_end.platform.virt fenced_end.ram c → IsWalked while_active entered_end.platform.virt entered_end.ram c
-unfolding run step try_under after_fills missing_entry missing_entry_under core due due_for_hs due_for_vs first_stage op_of system_of system_op_of fence_op_of immediate_arithmetic_of immediate_op_of alu meaning privileged refusal fenced entered returned second_by guest_root_of csrs_before stale_machine stale_root stale_entry entry_by_walk second_walk walk path path_from end_of target entered_hs is_system permits_second
+abbrev IsEntered : FreeMachine → Type 0
+IsEntered g = (g.platform ≡ entered_end.platform) × (g.ram ≡ entered_end.ram) × (g.device ≡ entered_end.device) × All (WalkedBy entered_end) g.cache
+
+same_walk : (c : CachedTranslation) → WalkedBy fenced_end c → WalkedBy entered_end c
+unfolding run step try_under after_fills missing_entry missing_entry_under core due due_for_hs due_for_vs first_stage op_of system_of system_op_of fence_op_of immediate_arithmetic_of immediate_op_of alu meaning privileged refusal fenced entered returned second_by guest_root_of csrs_before stale_machine stale_root stale_entry entry_by_walk second_walk walk path path_from end_of target entered_hs is_system permits_second device_by_entries
 same_walk c walk = record { active = refl; vmid = walk.vmid; address = walk.address; kind = walk.kind; walked = walk.walked }
 
 after_sret : (g : FreeMachine) → FreeStep while_active fenced_end g → IsEntered g
-unfolding run step try_under after_fills missing_entry missing_entry_under core due due_for_hs due_for_vs first_stage op_of system_of system_op_of fence_op_of immediate_arithmetic_of immediate_op_of alu meaning privileged refusal fenced entered returned second_by guest_root_of csrs_before stale_machine stale_root stale_entry entry_by_walk second_walk walk path path_from end_of target entered_hs is_system permits_second
+unfolding run step try_under after_fills missing_entry missing_entry_under core due due_for_hs due_for_vs first_stage op_of system_of system_op_of fence_op_of immediate_arithmetic_of immediate_op_of alu meaning privileged refusal fenced entered returned second_by guest_root_of csrs_before stale_machine stale_root stale_entry entry_by_walk second_walk walk path path_from end_of target entered_hs is_system permits_second device_by_entries
 after_sret g s =
-    let by = steps_by fenced_end g s (now fenced_end) (flat_steps fenced_end g s refl) in
-    (by.platform, by.ram, All-weaker (Contains s.cache) (IsWalked while_active entered_end.platform.virt entered_end.ram) walked g.cache s.kept)
+    let by = steps_by fenced_end g s (by_walks fenced_end) (flat_steps fenced_end g s refl) in
+    (by.platform, by.ram, s.device, All-weaker (Contains s.cache) (WalkedBy entered_end) walked g.cache s.kept)
   where
-    from : (c : CachedTranslation) → Contains [] c ⊎ IsWalked while_active fenced_end.platform.virt fenced_end.ram c → IsWalked while_active entered_end.platform.virt entered_end.ram c
+    from : (c : CachedTranslation) → Contains [] c ⊎ WalkedBy fenced_end c → WalkedBy entered_end c
     from c (inl held) = absurd (omega (arith, held.1))
     from c (inr walk) = same_walk c walk
 
-    walked : (c : CachedTranslation) → Contains s.cache c → IsWalked while_active entered_end.platform.virt entered_end.ram c
-    walked c held = from c (All-contains (λ c. Contains [] c ⊎ IsWalked while_active fenced_end.platform.virt fenced_end.ram c) s.cache c s.allowed held)
+    walked : (c : CachedTranslation) → Contains s.cache c → WalkedBy entered_end c
+    walked c held = from c (All-contains (λ c. Contains [] c ⊎ WalkedBy fenced_end c) s.cache c s.allowed held)
 
 -- and the third step is by the walk of now, which has no translation
 after_fault : (g h : FreeMachine) → IsEntered g → FreeMove while_active g.platform.status g h → HasFaulted h.platform
-unfolding run step try_under after_fills missing_entry missing_entry_under core due due_for_hs due_for_vs first_stage op_of system_of system_op_of fence_op_of immediate_arithmetic_of immediate_op_of alu meaning privileged refusal fenced entered returned second_by guest_root_of csrs_before stale_machine stale_root stale_entry entry_by_walk second_walk walk path path_from end_of target entered_hs is_system permits_second
-after_fault g h (platform, ram, walked) move =
-    subst (λ p. HasFaulted p) (sym (steps_by last h step (now last) (walked_steps last h step walked)).platform) (record { mode = refl; cause = refl })
+unfolding run step try_under after_fills missing_entry missing_entry_under core due due_for_hs due_for_vs first_stage op_of system_of system_op_of fence_op_of immediate_arithmetic_of immediate_op_of alu meaning privileged refusal fenced entered returned second_by guest_root_of csrs_before stale_machine stale_root stale_entry entry_by_walk second_walk walk path path_from end_of target entered_hs is_system permits_second device_by_entries
+after_fault g h (platform, ram, device, walked) move =
+    subst (λ p. HasFaulted p) (sym (steps_by last h step (by_walks last) (walked_steps last h step walked)).platform) (record { mode = refl; cause = refl })
   where
     last : FreeMachine
-    last = record { platform = entered_end.platform; ram = entered_end.ram; cache = g.cache }
+    last = record { platform = entered_end.platform; ram = entered_end.ram; cache = g.cache; device = entered_end.device }
 
     same : g ≡ last
-    same = λ i. record { platform = platform i; ram = ram i; cache = g.cache }
+    same = λ i. record { platform = platform i; ram = ram i; cache = g.cache; device = device i }
 
     step : FreeStep while_active last h
     step = subst (λ f. FreeMove while_active f.platform.status f h) same move
 
 pub fenced_faults_freely : FencedFaultsFreely
-unfolding run step try_under after_fills missing_entry missing_entry_under core due due_for_hs due_for_vs first_stage op_of system_of system_op_of fence_op_of immediate_arithmetic_of immediate_op_of alu meaning privileged refusal fenced entered returned second_by guest_root_of csrs_before stale_machine stale_root stale_entry entry_by_walk second_walk walk path path_from end_of target entered_hs is_system permits_second
+unfolding run step try_under after_fills missing_entry missing_entry_under core due due_for_hs due_for_vs first_stage op_of system_of system_op_of fence_op_of immediate_arithmetic_of immediate_op_of alu meaning privileged refusal fenced entered returned second_by guest_root_of csrs_before stale_machine stale_root stale_entry entry_by_walk second_walk walk path path_from end_of target entered_hs is_system permits_second device_by_entries
 fenced_faults_freely end (g, first, (h, second, (last, third, is))) =
     let entered : IsEntered h = after_sret h (subst (λ f. FreeMove while_active f.platform.status f h) (after_fence g first) second) in
     subst (λ (f : FreeMachine). HasFaulted f.platform) (sym is) (after_fault h last entered third)

@@ -7,12 +7,12 @@ use Rattle.guest_specs.specs.declared.statuses.Status.TheVariants as status
 use Rattle.machine_defs.specs.Fills.{fill, fills, most_fills, needed, ready}
 use Rattle.machine_defs.specs.Machine.{Ended, Machine, Tried, WaitsForGood}
 use Rattle.machine_defs.specs.Runs.{event_in, events, left_after, left_by, run, step}
-use Rattle.machine_defs.specs.Tries.{second_of, try}
+use Rattle.machine_defs.specs.Tries.{stages_of, try}
 use Rattle.machine_laws.specs.Budgets.{BudgetIsSmall, FillGoes, FillIsNoEvent, Goes, ReadyStepIsTry, ReadyStepsGo, TryGoes, TryIsEvent, budget}
 use Rattle.machine_laws.specs.Laws.{StepsGoOn, StepsSettle}
 use Rattle.machine_laws.proofs.Running.{events_running, run_more, step_running}
 use Rattle.machine_laws.proofs.Rooting.{RootEnd, root_end}
-use Rattle.machine_laws.proofs.TryEnds.{Calls, Fences, Halts, Makes, Passes, Takes}
+use Rattle.machine_laws.proofs.TryEnds.{Calls, Fences, Halts, Makes, Passes, Serves, Takes}
 use Rattle.machine_laws.proofs.Filling.{few_fills, fills_go_on, more_change_nothing, no_fills, none_left}
 
 -- more fills would not change it
@@ -35,13 +35,14 @@ HasRoom room WaitsForGood = Unit {0}
 ended_room : (m : Machine) {t : Tried} {fence : Option Fence} → RootEnd m t fence → HasRoom m.entry_room t
 ended_room m (Takes trap) = refl
 ended_room m (Makes completion event keeps) = refl
+ended_room m (Serves rd value console leaves) = refl
 ended_room m Calls = refl
 ended_room m (Passes virt moment keeps) = refl
 ended_room m Halts = tt
 ended_room m (Fences virt fence keeps) = refl
 
 try_room : (m : Machine) → HasRoom m.entry_room (try m)
-try_room m = ended_room m (root_end m (second_of m))
+try_room m = ended_room m (root_end m (stages_of m))
 
 left_room : (m : Machine) (t : Tried) → HasRoom m.entry_room t → (left_by m t).entry_room ≡ m.entry_room
 left_room m (Ended after event) room = room

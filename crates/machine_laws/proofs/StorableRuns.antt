@@ -1,5 +1,5 @@
 -- Instructions, tries and runs leave registers that can be stored.
-use Rattle.std.specs.Prelude.{◌==◌, ◌&&◌, Result, Ok, Err, nat_le, nat_lt}
+use Rattle.std.specs.Prelude.{◌==◌, ◌&&◌, not, Result, Ok, Err, nat_le, nat_lt}
 use Rattle.std.proofs.Common.{cond, ◌≡◌, ℕ, ◌+◌, ◌/◌, ◌%◌, ◌^◌, ◌<◌, ◌∙◌, Bool, true, false, List, Option, Some, None, length, refl, ap, sym, arith}
 use Rattle.std.proofs.lemmas.Bool.{eqb-true}
 use Rattle.arch_defs.specs.declared.cached.Entry.{Entry}
@@ -8,7 +8,6 @@ use Rattle.arch_defs.specs.declared.csr_names.CsrEnd.{CsrEnd}
 use Rattle.arch_defs.specs.declared.modes.Access.{Access}
 use Rattle.arch_defs.specs.declared.modes.Mode.{Mode}
 use Rattle.arch_defs.specs.declared.modes.Mode.TheVariants.{HS, U, VS, VU}
-use Rattle.arch_defs.specs.declared.modes.Trap.{Trap}
 use Rattle.arch_defs.specs.declared.registers.Csrs.{Csrs}
 use Rattle.arch_defs.specs.declared.registers.Regs.{Regs}
 use Rattle.arch_defs.specs.declared.registers.Virtual.{Virtual}
@@ -19,8 +18,9 @@ use Rattle.arch_defs.specs.declared.widths.Width.TheVariants.{Byte, Half, Word, 
 use Rattle.arch_defs.specs.CsrAccess.{read_csr, write_csr}
 use Rattle.arch_defs.specs.Bits.{add64}
 use Rattle.arch_defs.specs.CsrBits.{epc_bits, guest_root_of, hedeleg_bits, hgatp_bits, satp_bits, supervisor_root_of, tvec_bits}
-use Rattle.arch_defs.specs.CachedEntries.{entry_at, leaf_of, place_by, second_by}
-use Rattle.arch_defs.specs.Memory.{Reading, SecondStage, bare, ram_base, reading_of}
+use Rattle.arch_defs.specs.CachedEntries.{entry_at, is_device, leaf_of, place_by, second_by}
+use Rattle.arch_defs.specs.Memory.{Memory, Mmu, Reading, SecondStage, bare, ram_memory, reading_of}
+use Rattle.arch_defs.specs.Permits.{permits_second}
 use Rattle.arch_defs.specs.Spaces.{front}
 use Rattle.arch_defs.specs.Translation.{first_stage}
 use Rattle.arch_defs.specs.Traps.{exception, faults_of}
@@ -40,24 +40,25 @@ use Rattle.op_defs.specs.declared.ops.Purpose.TheVariants.{Load, LoadCode, Store
 use Rattle.op_defs.specs.Meaning.{address_at, branch, even, is_branch_taken, jump, meaning}
 use Rattle.op_defs.specs.Table.{op_of}
 use Rattle.machine_defs.specs.declared.events.Event.{Event}
-use Rattle.machine_defs.specs.Core.{Completion, Fails, Faults, accessed, accessed_data, called_from, completed, core, data_place, decoded, done, event_of, executed, fetch_place, instruction, is_reserved, kind_of, located, located_at, located_by, stored_if, word_at}
-use Rattle.machine_defs.specs.HlvAccesses.{hlv_completed, hlv_outcome, hlv_place}
+use Rattle.machine_defs.specs.Core.{Completion, Fails, Faults, accessed, accessed_data, called_from, completed, core, data_place, decoded, done, event_of, executed, fetch_place, found_with, instruction, is_reserved, kind_of, located, located_at, located_by, stored_if, word_at}
+use Rattle.machine_defs.specs.HlvAccesses.{hlv_outcome}
 use Rattle.machine_defs.specs.Machine.{Machine, Platform, Tried, called, made_by, start}
 use Rattle.arch_defs.specs.Registers.{sets, next}
 use Rattle.machine_defs.specs.Outcomes.{Outcome}
 use Rattle.machine_defs.specs.Privileges.{combined, csr_accessed, csr_changed, csr_shown, decided, performed, privileged, refusal, value_or_zero}
 use Rattle.machine_defs.specs.Runs.{left_by}
-use Rattle.machine_defs.specs.Tries.{second_of}
+use Rattle.machine_defs.specs.Tries.{mmu_of, second_of, stages_of}
 use Rattle.machine_laws.specs.InstructionEnds.{HlvHas, OutcomeHas}
+use Rattle.machine_laws.specs.Renaming.{KeepsPage}
 use Rattle.machine_laws.specs.StorableStates.{FillStaysStorable, IsCodeAddress, IsStorable, ReservesAligned, RunKeepsStorable, StartIsStorable, TryKeepsStorable}
-use Rattle.machine_laws.proofs.Cached.{either, placed}
-use Rattle.machine_laws.proofs.Completions.{LocatedHas, at_each, at_each_with}
+use Rattle.machine_laws.proofs.Cached.{either}
+use Rattle.machine_laws.proofs.Completions.{LocatedHas, at_each, at_each_with, hlv_each}
 use Rattle.machine_laws.proofs.KeptByRuns.{IsKept, kept_by_runs}
 use Rattle.machine_laws.proofs.OpWidths.{HasWidth, HaveWidth, IsReservable, op_widths}
-use Rattle.machine_laws.proofs.Placed.{KeepsOffset, first_keeps, leaf_keeps}
+use Rattle.machine_laws.proofs.Placed.{KeepsOffset, first_keeps, leaf_keeps, nothing_keeps, with_known_keeps}
 use Rattle.machine_laws.proofs.StorableStates.{advanced_storable, called_storable, entered_storable, next_code, returned_storable, with_pending_lines_storable, with_regs}
 use Rattle.machine_laws.proofs.StoredForms.{WriteStored, write_stored}
-use Rattle.machine_laws.proofs.TryEnds.{Calls as Called, Fences, Halts, Makes, Passes as Waited, Takes, TryEnd, try_end}
+use Rattle.machine_laws.proofs.TryEnds.{Calls as Called, Fences, Halts, Makes, Passes as Waited, Serves, Takes, TryEnd, try_end}
 
 -- a second stage keeps the offset in a page
 KeepsOffsets : SecondStage → Type 0
@@ -65,24 +66,27 @@ KeepsOffsets second = (address place : ℕ) (kind : Access) → second address k
 
 by_entries : (entries : List Entry) (mxr : Bool) → KeepsOffsets (second_by entries mxr)
 unfolding KeepsOffsets second_by
-by_entries entries mxr address place kind is =
-    let held = placed mxr address place kind (entry_at (address / 4096) entries) is in
-    let one : Some (leaf_address (leaf_of held.0) address) ≡ Some place =
-    sym (ap (place_by mxr address kind) held.1 ∙ ap (λ b. cond b (Some (leaf_address (leaf_of held.0) address)) None) held.2) ∙ is in
-    let same : leaf_address (leaf_of held.0) address ≡ place = cc in
-    ap (λ p. p % 4096) (sym same) ∙ leaf_keeps held.0.frame 0 address
+by_entries entries mxr address place kind is = by (entry_at (address / 4096) entries) is
+  where
+    at : (e : Entry) (b : Bool) → cond b (Some (leaf_address (leaf_of e) address)) None ≡ Some place → place % 4096 ≡ address % 4096
+    at e true is = let same : leaf_address (leaf_of e) address ≡ place = cc in ap (λ p. p % 4096) (sym same) ∙ leaf_keeps e.frame 0 address
+    at e false is = absurd cc
 
-by_ram : (base size : ℕ) → KeepsOffsets (bare base size)
+    by : (there : Option Entry) → place_by mxr address kind there ≡ Some place → place % 4096 ≡ address % 4096
+    by None is = absurd cc
+    by (Some e) is = at e (permits_second mxr kind (leaf_of e) && not (is_device e)) is
+
+by_ram : (memory : Memory) → KeepsOffsets (bare memory)
 unfolding KeepsOffsets
-by_ram base size address place kind is = by (nat_le base address && nat_lt address (base + size)) is
+by_ram memory address place kind is = by (nat_le memory.base address && nat_lt address (memory.base + length memory.bytes)) is
   where
     by : (b : Bool) → cond b (Some address) None ≡ Some place → place % 4096 ≡ address % 4096
     by true is = let e : address ≡ place = cc in ap (λ p. p % 4096) (sym e)
     by false is = absurd cc
 
 own_offsets : (m : Machine) → KeepsOffsets (second_of m)
-own_offsets m = either KeepsOffsets (folds m.platform.virt) (second_by (front m.spaces) m.platform.virt.csrs.hs.status.mxr) (bare ram_base (length m.ram))
-    (by_entries (front m.spaces) m.platform.virt.csrs.hs.status.mxr) (by_ram ram_base (length m.ram))
+own_offsets m = either KeepsOffsets (folds m.platform.virt) (second_by (front m.spaces) m.platform.virt.csrs.hs.status.mxr) (bare (ram_memory m.ram))
+    (by_entries (front m.spaces) m.platform.virt.csrs.hs.status.mxr) (by_ram (ram_memory m.ram))
 
 -- so an access is made at a multiple of its width
 whole_at : (width : Width) (place address va : ℕ) → place % 4096 ≡ address % 4096 → address % 4096 ≡ va % 4096 → va % bytes_in width ≡ 0 → place % bytes_in width ≡ 0
@@ -105,13 +109,15 @@ by_whole second offsets mode va width access (Passes address) keeps whole = by (
 by_whole second offsets mode va width access PageFaults keeps whole = tt
 by_whole second offsets mode va width access (MissesEntry place) keeps whole = tt
 
-accessed_whole : (second : SecondStage) → KeepsOffsets second → (reading : Reading) (csrs : Csrs) (mode : Mode) (va : ℕ) (width : Width) (access : Access)
-    → LocatedHas (IsWhole width) (accessed second reading csrs mode va width access)
-accessed_whole second offsets reading csrs mode va width access = by (va % bytes_in width == 0) (eqb-true (va % bytes_in width) 0)
+accessed_whole : (through : Mmu) → KeepsPage through.known → KeepsOffsets through.second → (csrs : Csrs) (mode : Mode) (va : ℕ) (width : Width) (access : Access)
+    → LocatedHas (IsWhole width) (accessed through csrs mode va width access)
+accessed_whole through keeps offsets csrs mode va width access = by (va % bytes_in width == 0) (eqb-true (va % bytes_in width) 0)
   where
     by : (b : Bool) → (b ≡ true → va % bytes_in width ≡ 0)
-        → LocatedHas (IsWhole width) (cond b (located second reading csrs mode va access) (Fails (Faults (exception mode (faults_of access).misaligned va))))
-    by true whole = by_whole second offsets mode va width access (first_stage second reading csrs mode va access) (first_keeps second reading csrs mode va access) (whole refl)
+        → LocatedHas (IsWhole width) (cond b (located through csrs mode va access) (Fails (Faults (exception mode (faults_of access).misaligned va))))
+    by true whole = let found = first_stage through.second through.reading csrs mode va access in
+        by_whole through.second offsets mode va width access (found_with (through.known va access) found)
+        (with_known_keeps through.known keeps va access found (first_keeps through.second through.reading csrs mode va access)) (whole refl)
     by false whole = tt
 
 -- what an access reserves, if its purpose is to
@@ -262,44 +268,43 @@ called_fine U = tt
 called_fine VS = tt
 called_fine VU = tt
 
-accessed_fine : (second : SecondStage) → KeepsOffsets second → (reading : Reading) (s : Virtual) → IsStorable s → (event : Event) (wanted : DataAccess)
-    → ReservesWidth wanted.width wanted.purpose → IsFine (accessed_data second reading s event wanted)
-accessed_fine second offsets reading s is event wanted width =
-    at_each_with IsFine (IsWhole wanted.width) (λ place. done event (completed reading s wanted.width wanted.purpose place)) (λ trap. tt) (λ missing. tt) goes
-    (data_place second reading s.csrs s.mode wanted) (accessed_whole second offsets reading s.csrs s.mode wanted.address wanted.width (kind_of wanted.purpose))
+accessed_fine : (through : Mmu) → KeepsPage through.known → KeepsOffsets through.second → (s : Virtual) → IsStorable s → (event : Event) (wanted : DataAccess)
+    → ReservesWidth wanted.width wanted.purpose → IsFine (accessed_data through s event wanted)
+accessed_fine through keeps offsets s is event wanted width =
+    at_each_with IsFine (IsWhole wanted.width) (Some wanted) (λ place. done event (completed through.reading s wanted.width wanted.purpose place)) (λ trap. tt) (λ missing. tt) goes
+    (data_place through s.csrs s.mode wanted) (accessed_whole through keeps offsets s.csrs s.mode wanted.address wanted.width (kind_of wanted.purpose))
   where
-    goes : (place : ℕ) → IsWhole wanted.width place → IsFine (done event (completed reading s wanted.width wanted.purpose place))
-    goes place whole = completed_storable reading s wanted.width wanted.purpose place is (own_reserves wanted.width wanted.purpose place width whole)
+    goes : (place : ℕ) → IsWhole wanted.width place → IsFine (done event (completed through.reading s wanted.width wanted.purpose place))
+    goes place whole = completed_storable through.reading s wanted.width wanted.purpose place is (own_reserves wanted.width wanted.purpose place width whole)
 
-executed_fine : (second : SecondStage) → KeepsOffsets second → (reading : Reading) (s : Virtual) → IsStorable s → (word : ℕ) (effect : Effect) → IsSound effect
-    → IsFine (executed second reading s word effect)
-executed_fine second offsets reading s is word (Sets rd value next) sound = with_regs s _ is (advanced_storable s.regs rd value next (is.x0, is.pc) sound)
-executed_fine second offsets reading s is word (Raises cause tval) sound = tt
-executed_fine second offsets reading s is word (Data wanted) sound = accessed_fine second offsets reading s is (event_of s.regs.pc word) wanted sound
-executed_fine second offsets reading s is word Calls sound = called_fine s.mode
-executed_fine second offsets reading s is word (Decides p) sound = privileged_fine s is word p sound
+executed_fine : (through : Mmu) → KeepsPage through.known → KeepsOffsets through.second → (s : Virtual) → IsStorable s → (word : ℕ) (effect : Effect) → IsSound effect
+    → IsFine (executed through s word effect)
+executed_fine through keeps offsets s is word (Sets rd value next) sound = with_regs s _ is (advanced_storable s.regs rd value next (is.x0, is.pc) sound)
+executed_fine through keeps offsets s is word (Raises cause tval) sound = tt
+executed_fine through keeps offsets s is word (Data wanted) sound = accessed_fine through keeps offsets s is (event_of s.regs.pc word) wanted sound
+executed_fine through keeps offsets s is word Calls sound = called_fine s.mode
+executed_fine through keeps offsets s is word (Decides p) sound = privileged_fine s is word p sound
 
-decoded_fine : (second : SecondStage) → KeepsOffsets second → (reading : Reading) (s : Virtual) → IsStorable s → (word : ℕ) (o : Option Op) → HaveWidth o
-    → IsFine (decoded second reading s word o)
-decoded_fine second offsets reading s is word (Some o) width = executed_fine second offsets reading s is word (meaning o s.regs) (meaning_sound o s.regs width is.pc)
-decoded_fine second offsets reading s is word None width = tt
+decoded_fine : (through : Mmu) → KeepsPage through.known → KeepsOffsets through.second → (s : Virtual) → IsStorable s → (word : ℕ) (o : Option Op) → HaveWidth o
+    → IsFine (decoded through s word o)
+decoded_fine through keeps offsets s is word (Some o) width = executed_fine through keeps offsets s is word (meaning o s.regs) (meaning_sound o s.regs width is.pc)
+decoded_fine through keeps offsets s is word None width = tt
 
-pub op_fine : (m : Machine) (word : ℕ) (o : Op) → HasWidth o → IsStorable m.platform.virt → IsFine (decoded (second_of m) (reading_of ram_base m.ram) m.platform.virt word (Some o))
-op_fine m word o width is = decoded_fine (second_of m) (own_offsets m) (reading_of ram_base m.ram) m.platform.virt is word (Some o) width
+pub op_fine : (m : Machine) (word : ℕ) (o : Op) → HasWidth o → IsStorable m.platform.virt → IsFine (decoded (mmu_of m) m.platform.virt word (Some o))
+op_fine m word o width is = decoded_fine (mmu_of m) nothing_keeps (own_offsets m) m.platform.virt is word (Some o) width
 
-core_fine : (second : SecondStage) → KeepsOffsets second → (reading : Reading) (s : Virtual) → IsStorable s → IsFine (core second reading s)
+core_fine : (through : Mmu) → KeepsPage through.known → KeepsOffsets through.second → (s : Virtual) → IsStorable s → IsFine (core through s)
 unfolding core
-core_fine second offsets reading s is = at_each IsFine (λ place. instruction second reading s (word_at reading place)) (λ trap. tt) (λ missing. tt) goes (fetch_place second reading s)
+core_fine through keeps offsets s is =
+    at_each IsFine None (λ place. instruction through s (word_at through.reading place)) (λ trap. tt) (λ missing. tt) goes (fetch_place through s)
   where
-    goes : (place : ℕ) → IsFine (instruction second reading s (word_at reading place))
-    goes place = decoded_fine second offsets reading s is (word_at reading place) (op_of (word_at reading place)) (op_widths (word_at reading place))
+    goes : (place : ℕ) → IsFine (instruction through s (word_at through.reading place))
+    goes place = decoded_fine through keeps offsets s is (word_at through.reading place) (op_of (word_at through.reading place)) (op_widths (word_at through.reading place))
 
-hlv_fine : (base : ℕ) (bytes : List ℕ) (s : Virtual) → IsStorable s → (wanted : DataAccess) → ReservesNothing wanted.purpose → HlvHas LeavesStorable (hlv_outcome base bytes s wanted)
-hlv_fine base bytes s is wanted none = by (hlv_place base bytes s.csrs wanted)
-  where
-    by : (answer : Result ℕ Trap) → HlvHas LeavesStorable (hlv_completed (reading_of base bytes) s wanted answer)
-    by (Ok place) = completed_storable (reading_of base bytes) s wanted.width wanted.purpose place is (hlv_reserves wanted.width wanted.purpose place none)
-    by (Err trap) = tt
+hlv_fine : (device : Bool) (memory : Memory) (s : Virtual) → IsStorable s → (wanted : DataAccess) → ReservesNothing wanted.purpose
+    → HlvHas LeavesStorable (hlv_outcome device memory s wanted)
+hlv_fine device memory s is wanted none = hlv_each LeavesStorable device memory s wanted
+    (λ place. completed_storable (reading_of memory) s wanted.width wanted.purpose place is (hlv_reserves wanted.width wanted.purpose place none))
 
 -- a try
 made_storable : (p : Platform) (moment : ℕ) → IsStorable p.virt → IsStorable (made_by p moment).virt
@@ -308,14 +313,16 @@ made_storable p moment is = with_pending_lines_storable (record p { clock = reco
 ended_storable : (m : Machine) → IsStorable m.platform.virt → {t : Tried} {fence : Option Fence} → TryEnd LeavesStorable IsStorable m t fence → IsStorable (left_by m t).platform.virt
 ended_storable m is (Takes trap) = made_storable (record m.platform { virt = _ }) (m.platform.clock.time + 1) (entered_storable m.platform.virt trap is)
 ended_storable m is (Makes completion event has) = made_storable (record m.platform { virt = completion.state }) (m.platform.clock.time + 1) has
+ended_storable m is (Serves rd value console leaves) =
+    made_storable (record m.platform { virt = sets m.platform.virt rd value; console = console }) (m.platform.clock.time + 1) (sets_storable m.platform.virt rd value is)
 ended_storable m is Called = made_storable (called m.platform) _ (called_storable m.platform is)
 ended_storable m is (Waited virt moment has) = made_storable (record m.platform { virt = virt }) moment has
 ended_storable m is Halts = is
 ended_storable m is (Fences virt fence has) = made_storable (record m.platform { virt = virt }) (m.platform.clock.time + 1) has
 
 pub try_stays_storable : TryKeepsStorable
-try_stays_storable m is = ended_storable m is (try_end LeavesStorable IsStorable (λ wanted. ReservesNothing wanted.purpose) m (second_of m)
-    (hlv_fine ram_base m.ram m.platform.virt is) (core_fine (second_of m) (own_offsets m) (reading_of ram_base m.ram) m.platform.virt is))
+try_stays_storable m is = ended_storable m is (try_end LeavesStorable IsStorable (λ wanted. ReservesNothing wanted.purpose) m (stages_of m)
+    (hlv_fine m.device (ram_memory m.ram) m.platform.virt is) (core_fine (mmu_of m) nothing_keeps (own_offsets m) m.platform.virt is))
 
 -- so do a fill, which leaves the registers, and a run
 pub fill_stays_storable : FillStaysStorable

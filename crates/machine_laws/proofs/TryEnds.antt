@@ -1,29 +1,45 @@
--- How a try ends: with a trap, with what an instruction leaves, with a call of the environment, with a wait,
--- or with a fence.
-use Rattle.std.specs.Prelude.{Result, Ok, Err}
-use Rattle.std.proofs.Common.{cond, ℕ, ◌+◌, Bool, true, false, Option, Some, None}
+-- How a try ends: with a trap, with what an instruction leaves, with a load or a store of the device page, with
+-- a call of the environment, with a wait, or with a fence.
+use Rattle.std.specs.Prelude.{◌%◌, ◌==◌, ◌&&◌, option_map}
+use Rattle.std.proofs.Common.{cond, ◌≡◌, ℕ, ◌+◌, ◌⊎◌, inl, inr, Bool, true, false, Option, Some, None, refl}
 use Rattle.arch_defs.specs.declared.cached.Fence.{Fence}
 use Rattle.arch_defs.specs.declared.modes.Trap.{Trap}
 use Rattle.arch_defs.specs.declared.registers.Virtual.{Virtual}
-use Rattle.arch_defs.specs.Inputs.{next_input}
+use Rattle.arch_defs.specs.declared.walks.MissingPlace.{MissingPlace}
+use Rattle.arch_defs.specs.declared.widths.Width.{Width}
+use Rattle.arch_defs.specs.Consoles.{ConsoleState, has_room}
+use Rattle.arch_defs.specs.Devices.{DeviceEnd, device_loaded, device_status, device_stored, with_output}
+use Rattle.arch_defs.specs.Inputs.{next_input, unread_after}
 use Rattle.arch_defs.specs.Interrupts.{due, interrupt_of}
-use Rattle.arch_defs.specs.Memory.{SecondStage, ram_base, reading_of}
-use Rattle.arch_defs.specs.SecondStage.{missing_place_trap}
+use Rattle.arch_defs.specs.Memory.{ram_memory}
+use Rattle.arch_defs.specs.Registers.{sets}
+use Rattle.arch_defs.specs.SecondStage.{OnDevice, is_implicit, missing_place_trap}
 use Rattle.arch_defs.specs.Spaces.{fenced}
+use Rattle.arch_defs.specs.Traps.{missing_place_fault}
 use Rattle.arch_defs.specs.Waits.{wake_moment}
+use Rattle.arch_defs.specs.Widths.{bytes_in, extended}
 use Rattle.op_defs.specs.declared.ops.DataAccess.{DataAccess}
+use Rattle.op_defs.specs.declared.ops.Purpose.{Purpose}
+use Rattle.op_defs.specs.declared.ops.Purpose.TheVariants.{Load, LoadCode, Store, Reserve, StoreReserved, Modify}
 use Rattle.machine_defs.specs.declared.events.Event.{Event}
 use Rattle.machine_defs.specs.declared.events.Event.TheVariants.{System}
-use Rattle.machine_defs.specs.Core.{Completion, completion_of, core}
-use Rattle.machine_defs.specs.HlvAccesses.{hlv_outcome}
-use Rattle.machine_defs.specs.Machine.{Ended, Machine, Tried, WaitsForGood, called, has_enabled_interrupt, made_by, stepped_to, trapped, waited, waited_until}
+use Rattle.machine_defs.specs.Core.{Completion, completion_of}
+use Rattle.machine_defs.specs.DeviceSteps.{device_step, device_wanted, served, with_loaded, with_put}
+use Rattle.machine_defs.specs.HlvAccesses.{Completes, Device, HlvEnd, Traps, hlv_outcome}
+use Rattle.machine_defs.specs.Machine.{Ended, Machine, Platform, Tried, WaitsForGood, called, has_enabled_interrupt, made_by, stepped_to, trapped, waited, waited_until}
 use Rattle.machine_defs.specs.Outcomes.{Outcome, Done, Trapped, Missed, Called, Waits, Fenced, Accesses}
-use Rattle.machine_defs.specs.Tries.{apply_outcome, committed, fence_under, fence_with, hlv_committed, outcome_fence, tried_with, try_under}
+use Rattle.machine_defs.specs.Tries.{Stages, apply_outcome, committed, fence_under, fence_with, hlv_committed, outcome_fence, outcome_under, tried_with, try_under, unplaced}
 use Rattle.machine_laws.specs.InstructionEnds.{HlvHas, OutcomeHas}
+use Rattle.machine_laws.proofs.Cached.{either}
 
 -- a machine after a step that leaves this state and ends at this moment
 abbrev pub passed_at : Machine → Virtual → ℕ → Machine
 passed_at m virt moment = record m { platform = made_by (record m.platform { virt = virt }) moment }
+
+-- what the device page leaves of the inputs that are unread: all of them, or those after the one that it reads
+abbrev pub LeavesUnread : Platform → ConsoleState → Type 0
+LeavesUnread p console =
+    (console.inputs ≡ p.console.inputs) ⊎ (console.inputs ≡ unread_after p.console.inputs p.clock.time)
 
 -- how a try of m ends, and the fence that it is, if it is one
 pub data TryEnd (L : Completion → Type 0) (P : Virtual → Type 0) (m : Machine) : Tried → Option Fence → Type 0 where
@@ -31,6 +47,9 @@ pub data TryEnd (L : Completion → Type 0) (P : Virtual → Type 0) (m : Machin
   Takes : (trap : Trap) → TryEnd L P m (trapped m trap) None
   -- an instruction completes
   Makes : (completion : Completion) (event : Event) → L completion → TryEnd L P m (committed m completion.state completion.stored event) None
+  -- a load or a store of the device page: a register gets a value, or x0 none
+  Serves : (rd value : ℕ) (console : ConsoleState) → LeavesUnread m.platform console
+      → TryEnd L P m (stepped_to m (record m.platform { virt = sets m.platform.virt rd value; console = console }) System) None
   -- a call of the environment
   Calls : TryEnd L P m (stepped_to m (called m.platform) System) None
   -- a wait ends at a moment, or never
@@ -52,29 +71,77 @@ waited_end L P m virt has = by (has_enabled_interrupt m.platform.virt.csrs)
     by true = Passes virt (m.platform.clock.time + 1) has
     by false = until_end L P m virt has _
 
-hlv_end : (L : Completion → Type 0) (P : Virtual → Type 0) (m : Machine) (end : Result Completion Trap) → HlvHas L end → TryEnd L P m (hlv_committed m end) None
-hlv_end L P m (Ok completion) has = Makes completion System has
-hlv_end L P m (Err trap) has = Takes trap
+-- the device page: the end of a load or of a store, if there is one, leaves the console so
+abbrev HasConsole : Platform → Option DeviceEnd → Type 0
+HasConsole p None = Unit {0}
+HasConsole p (Some end) = LeavesUnread p end.console
 
-concluded_end : (L : Completion → Type 0) (P : Virtual → Type 0) (A : DataAccess → Type 0) (m : Machine)
-    → ((wanted : DataAccess) → A wanted → HlvHas L (hlv_outcome ram_base m.ram m.platform.virt wanted))
-    → (o : Outcome) → OutcomeHas L P A o → TryEnd L P m (apply_outcome m o) (outcome_fence o)
-concluded_end L P A m hlv (Done virt stored event) has = Makes (completion_of virt stored) event has
-concluded_end L P A m hlv (Trapped trap) has = Takes trap
-concluded_end L P A m hlv (Missed missing) has = Takes (missing_place_trap m.platform.virt.csrs ram_base m.ram missing)
-concluded_end L P A m hlv Called has = Calls
-concluded_end L P A m hlv (Waits virt) has = waited_end L P m virt has
-concluded_end L P A m hlv (Fenced virt fence) has = Fences virt fence has
-concluded_end L P A m hlv (Accesses wanted) has = hlv_end L P m (hlv_outcome ram_base m.ram m.platform.virt wanted) (hlv wanted has)
+loaded_console : (p : Platform) (offset bytes : ℕ) → HasConsole p (device_loaded offset bytes p.console p.clock.time)
+unfolding device_loaded
+loaded_console p offset bytes = either (HasConsole p) (offset == 0 && bytes == 1) _ _ (inr refl)
+    (either (HasConsole p) (offset == 8 && bytes == 8) (Some (record { value = device_status p.console p.clock.time; console = p.console })) None (inl refl) tt)
+
+stored_console : (p : Platform) (offset bytes value : ℕ) → HasConsole p (device_stored offset bytes value p.console)
+unfolding device_stored
+stored_console p offset bytes value = either (HasConsole p) (offset == 0 && bytes == 1) (Some (record { value = 0; console = with_output p.console (value % 256) })) None
+    (either (LeavesUnread p) (has_room p.console) _ p.console (inl refl) (inl refl)) tt
+
+loaded_end : (L : Completion → Type 0) (P : Virtual → Type 0) (m : Machine) (missing : MissingPlace) (width : Width) (signed : Bool) (rd : ℕ) (end : Option DeviceEnd)
+    → HasConsole m.platform end → TryEnd L P m (served m missing (option_map (with_loaded m.platform.virt width signed rd) end)) None
+loaded_end L P m missing width signed rd None has = Takes (missing_place_fault missing)
+loaded_end L P m missing width signed rd (Some end) has = Serves rd (extended width signed end.value) end.console has
+
+put_end : (L : Completion → Type 0) (P : Virtual → Type 0) (m : Machine) (missing : MissingPlace) (end : Option DeviceEnd)
+    → HasConsole m.platform end → TryEnd L P m (served m missing (option_map (with_put m.platform.virt) end)) None
+put_end L P m missing None has = Takes (missing_place_fault missing)
+put_end L P m missing (Some end) has = Serves 0 0 end.console has
+
+device_end : (L : Completion → Type 0) (P : Virtual → Type 0) (m : Machine) (missing : MissingPlace) (width : Width) (purpose : Purpose)
+    → TryEnd L P m (device_step m missing width purpose) None
+device_end L P m missing width (Load signed rd) = loaded_end L P m missing width signed rd
+    (device_loaded (missing.address % 4096) (bytes_in width) m.platform.console m.platform.clock.time) (loaded_console m.platform (missing.address % 4096) (bytes_in width))
+device_end L P m missing width (LoadCode rd) = Takes (missing_place_fault missing)
+device_end L P m missing width (Store value) = put_end L P m missing
+    (device_stored (missing.address % 4096) (bytes_in width) value m.platform.console) (stored_console m.platform (missing.address % 4096) (bytes_in width) value)
+device_end L P m missing width (Reserve rd) = Takes (missing_place_fault missing)
+device_end L P m missing width (StoreReserved value rd) = Takes (missing_place_fault missing)
+device_end L P m missing width (Modify op operand rd) = Takes (missing_place_fault missing)
+
+wanted_end : (L : Completion → Type 0) (P : Virtual → Type 0) (m : Machine) (missing : MissingPlace) (wanted : Option DataAccess)
+    → TryEnd L P m (device_wanted m missing wanted) None
+wanted_end L P m missing None = Takes (missing_place_fault missing)
+wanted_end L P m missing (Some wanted) = device_end L P m missing wanted.width wanted.purpose
+
+unplaced_end : (L : Completion → Type 0) (P : Virtual → Type 0) (m : Machine) (missing : MissingPlace) (wanted : Option DataAccess) (on : Bool)
+    → TryEnd L P m (unplaced m missing wanted on) None
+unplaced_end L P m missing wanted true = either (λ t. TryEnd L P m t None) (is_implicit missing.kind) (trapped m (missing_place_fault missing)) (device_wanted m missing wanted)
+    (Takes (missing_place_fault missing)) (wanted_end L P m missing wanted)
+unplaced_end L P m missing wanted false = Takes (missing_place_trap m.platform.virt.csrs (ram_memory m.ram) missing)
+
+hlv_end : (L : Completion → Type 0) (P : Virtual → Type 0) (m : Machine) (wanted : DataAccess) (end : HlvEnd) → HlvHas L end → TryEnd L P m (hlv_committed m wanted end) None
+hlv_end L P m wanted (Completes completion) has = Makes completion System has
+hlv_end L P m wanted (Device missing) has = device_end L P m missing wanted.width wanted.purpose
+hlv_end L P m wanted (Traps trap) has = Takes trap
+
+concluded_end : (L : Completion → Type 0) (P : Virtual → Type 0) (A : DataAccess → Type 0) (m : Machine) (device : OnDevice)
+    → ((wanted : DataAccess) → A wanted → HlvHas L (hlv_outcome m.device (ram_memory m.ram) m.platform.virt wanted))
+    → (o : Outcome) → OutcomeHas L P A o → TryEnd L P m (apply_outcome device m o) (outcome_fence o)
+concluded_end L P A m device hlv (Done virt stored event) has = Makes (completion_of virt stored) event has
+concluded_end L P A m device hlv (Trapped trap) has = Takes trap
+concluded_end L P A m device hlv (Missed missing wanted) has = unplaced_end L P m missing wanted (device missing.address missing.kind)
+concluded_end L P A m device hlv Called has = Calls
+concluded_end L P A m device hlv (Waits virt) has = waited_end L P m virt has
+concluded_end L P A m device hlv (Fenced virt fence) has = Fences virt fence has
+concluded_end L P A m device hlv (Accesses wanted) has = hlv_end L P m wanted (hlv_outcome m.device (ram_memory m.ram) m.platform.virt wanted) (hlv wanted has)
 
 -- by what is known of how the next instruction ends
-pub try_end : (L : Completion → Type 0) (P : Virtual → Type 0) (A : DataAccess → Type 0) (m : Machine) (second : SecondStage)
-    → ((wanted : DataAccess) → A wanted → HlvHas L (hlv_outcome ram_base m.ram m.platform.virt wanted))
-    → OutcomeHas L P A (core second (reading_of ram_base m.ram) m.platform.virt)
-    → TryEnd L P m (try_under second m) (fence_under second m)
+pub try_end : (L : Completion → Type 0) (P : Virtual → Type 0) (A : DataAccess → Type 0) (m : Machine) (stages : Stages)
+    → ((wanted : DataAccess) → A wanted → HlvHas L (hlv_outcome m.device (ram_memory m.ram) m.platform.virt wanted))
+    → OutcomeHas L P A (outcome_under stages m)
+    → TryEnd L P m (try_under stages m) (fence_under stages m)
 unfolding try_under fence_under
-try_end L P A m second hlv has = by (due m.platform.virt.csrs m.platform.virt.mode)
+try_end L P A m stages hlv has = by (due m.platform.virt.csrs m.platform.virt.mode)
   where
-    by : (code : Option ℕ) → TryEnd L P m (tried_with second m code) (fence_with second m code)
+    by : (code : Option ℕ) → TryEnd L P m (tried_with stages m code) (fence_with stages m code)
     by (Some code) = Takes (interrupt_of code)
-    by None = concluded_end L P A m hlv (core second (reading_of ram_base m.ram) m.platform.virt) has
+    by None = concluded_end L P A m stages.device hlv (outcome_under stages m) has

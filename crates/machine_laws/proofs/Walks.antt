@@ -1,8 +1,8 @@
 -- The entry of a page, as registers and memory are: it is one and the same for each access to the page that
 -- it permits.
-use Rattle.std.specs.Prelude.{Result, Ok, Err, ◌&&◌, ◌||◌, not}
+use Rattle.std.specs.Prelude.{Result, Ok, Err, ◌&&◌, ◌||◌, not, nat_le, length}
 use Rattle.std.proofs.Common.{cond, ◌≡◌, ℕ, zero, suc, ◌+◌, ◌*◌, ◌/◌, ◌%◌, ◌^◌, ◌∙◌, Bool, true, false, List, [], ◌∷◌, Option, Some, None, refl, ap, sym, arith}
-use Rattle.std.proofs.lemmas.Bool.{and_from, and_parts}
+use Rattle.std.proofs.lemmas.Bool.{and_from, and_parts, leb-true}
 use Rattle.std.proofs.lemmas.Nat.{mod-pow-add, pow-add}
 use Rattle.std.proofs.Math.Nat.{div-div-eq-div-mul}
 use Rattle.std.proofs.Math.Pow.{mod-mod-pow}
@@ -23,19 +23,19 @@ use Rattle.arch_defs.specs.declared.walks.Shape.{Shape}
 use Rattle.arch_defs.specs.declared.walks.Pte.{Pte}
 use Rattle.arch_defs.specs.declared.walks.WalkEnd.{WalkEnd}
 use Rattle.arch_defs.specs.declared.walks.WalkEnd.TheVariants.{Leaf, PageFault, FetchEnd}
-use Rattle.arch_defs.specs.Memory.{ram_base}
+use Rattle.arch_defs.specs.Devices.{is_on_device}
+use Rattle.arch_defs.specs.Memory.{Memory, ram_memory}
 use Rattle.arch_defs.specs.Permits.{has_right, permits_second}
-use Rattle.arch_defs.specs.declared.walks.MissingPlace.{MissingPlace}
 use Rattle.arch_defs.specs.Roots.{guest_shape, is_table}
-use Rattle.arch_defs.specs.SecondStage.{guest_root_frame, has_frame_of, memory_words, missing_place_by, missing_place_trap, missing_place_under, place_under, second_end, second_root_of, second_under, second_walk}
+use Rattle.arch_defs.specs.SecondStage.{device_under, guest_root_frame, has_frame_of, is_device_end, memory_words, place_under, second_end, second_under, second_walk}
 use Rattle.arch_defs.specs.Traps.{is_virtual}
 use Rattle.arch_defs.specs.TableEntries.{entry_next, is_aligned, is_leaf, is_marked, is_valid, leaf_pte, needs_dirty, pointer_next, pte_of}
 use Rattle.arch_defs.specs.Walk.{EntryReading, end_of, index, index_bits, is_canonical, later, leaf_address, levels, met_in, next_of, or_else, path, path_from, place_of, read_next, walk}
-use Rattle.arch_defs.specs.CachedEntries.{leaf_of, place_by}
+use Rattle.arch_defs.specs.CachedEntries.{device_by, is_device, leaf_of, place_by}
 use Rattle.arch_defs.specs.WalkedEntries.{entry_by_end, entry_by_table, entry_by_walk, entry_under}
 use Rattle.arch_defs.proofs.Shapes.{canonical_same}
-use Rattle.machine_laws.proofs.Cached.{IsGiven, given}
-use Rattle.machine_laws.specs.Laws.{FillsAreWalks, FillsServeThePage, PageHasOneEntry}
+use Rattle.machine_laws.proofs.Cached.{IsGiven, given, place_given}
+use Rattle.machine_laws.specs.Laws.{FillsAreDevices, FillsAreWalks, FillsServeTheDevice, FillsServeThePage, PageHasOneEntry}
 
 -- what another kind of access needs of a leaf
 abbrev Suits : Access → LeafPte → Type 0
@@ -155,50 +155,45 @@ frame_same leaf a b same = split a ∙ ap (λ n. leaf.frame + n % 2 ^ (9 * leaf.
 entry_same : (leaf : LeafPte) (a b : ℕ) → a / 4096 ≡ b / 4096 → entry_under leaf a ≡ entry_under leaf b
 entry_same leaf a b same = rw (same, frame_same leaf a b same) refl
 
-guest_same : (base : ℕ) (ram : List ℕ) (mxr : Bool) (shape : Shape) (ppn a b : ℕ) (kind : Access) → a / 4096 ≡ b / 4096
-    → second_walk base ram mxr shape ppn a kind ≡ second_walk base ram mxr shape ppn b kind
+guest_same : (memory : Memory) (mxr : Bool) (shape : Shape) (ppn a b : ℕ) (kind : Access) → a / 4096 ≡ b / 4096
+    → second_walk memory mxr shape ppn a kind ≡ second_walk memory mxr shape ppn b kind
 unfolding second_walk
-guest_same base ram mxr shape ppn a b kind same = rw (walks_same (memory_words base ram) shape (guest_root_frame ppn) kind a b same)
-    (by (walk (memory_words base ram) (guest_root_frame ppn) shape b kind))
+guest_same memory mxr shape ppn a b kind same = rw (walks_same (memory_words memory) shape (guest_root_frame ppn) kind a b same)
+    (by (walk (memory_words memory) (guest_root_frame ppn) shape b kind))
   where
-    by : (end : WalkEnd) → second_end base ram mxr a kind end ≡ second_end base ram mxr b kind end
+    by : (end : WalkEnd) → second_end memory mxr a kind end ≡ second_end memory mxr b kind end
     by (Leaf leaf) = rw (frame_same leaf a b same) refl
     by PageFault = refl
     by (FetchEnd place trap) = refl
 
-pub now_same : (csrs : Csrs) (ram : List ℕ) (a b : ℕ) (kind : Access) → a / 4096 ≡ b / 4096 → entry_by_walk csrs ram a kind ≡ entry_by_walk csrs ram b kind
+pub now_same : (device : Bool) (csrs : Csrs) (ram : List ℕ) (a b : ℕ) (kind : Access) → a / 4096 ≡ b / 4096
+    → entry_by_walk device csrs ram a kind ≡ entry_by_walk device csrs ram b kind
 unfolding entry_by_walk
-now_same csrs ram a b kind same = by csrs.hgatp
+now_same device csrs ram a b kind same = by csrs.hgatp
   where
-    by_end : (end : SecondWalkEnd) → entry_by_end a end ≡ entry_by_end b end
+    by_end : (end : SecondWalkEnd) → entry_by_end device a end ≡ entry_by_end device b end
     by_end (guest.Leaf leaf) = ap Some (entry_same leaf a b same)
+    by_end (guest.Device leaf) = ap (λ e. cond device (Some e) None) (entry_same leaf a b same)
     by_end GuestPageFault = refl
     by_end AccessFault = refl
 
-    by : (hgatp : GuestRoot) → entry_by_table csrs.hs.status.mxr ram a kind hgatp ≡ entry_by_table csrs.hs.status.mxr ram b kind hgatp
+    by : (hgatp : GuestRoot) → entry_by_table device csrs.hs.status.mxr ram a kind hgatp ≡ entry_by_table device csrs.hs.status.mxr ram b kind hgatp
     by root.Bare = refl
-    by (root.Table mode vmid ppn) = rw (guest_same ram_base ram csrs.hs.status.mxr (guest_shape mode) ppn a b kind same)
-        (by_end (second_walk ram_base ram csrs.hs.status.mxr (guest_shape mode) ppn b kind))
+    by (root.Table mode vmid ppn) = rw (guest_same (ram_memory ram) csrs.hs.status.mxr (guest_shape mode) ppn a b kind same)
+        (by_end (second_walk (ram_memory ram) csrs.hs.status.mxr (guest_shape mode) ppn b kind))
 
--- and one fault, whose trap tells the address without its low two bits
-pub trap_same : (csrs : Csrs) (ram : List ℕ) (u : MissingPlace) (a : ℕ) → a / 4096 ≡ u.address / 4096 → a / 4 ≡ u.address / 4
-    → missing_place_trap csrs ram_base ram (record u { address = a }) ≡ missing_place_trap csrs ram_base ram u
-trap_same csrs ram u a page same = by (second_root_of csrs u.mode)
-  where
-    by_end : (end : SecondWalkEnd) → missing_place_by (record u { address = a }) end ≡ missing_place_by u end
-    by_end (guest.Leaf leaf) = refl
-    by_end GuestPageFault = rw same refl
-    by_end AccessFault = refl
-
-    by : (hgatp : GuestRoot) → missing_place_under ram_base ram csrs.hs.status.mxr (record u { address = a }) hgatp ≡ missing_place_under ram_base ram csrs.hs.status.mxr u hgatp
-    by root.Bare = refl
-    by (root.Table mode vmid ppn) = rw (guest_same ram_base ram csrs.hs.status.mxr (guest_shape mode) ppn a u.address u.kind page)
-        (by_end (second_walk ram_base ram csrs.hs.status.mxr (guest_shape mode) ppn u.address u.kind))
-
-back : (mxr : Bool) (ram : List ℕ) (shape : Shape) (ppn address : ℕ) (kind : Access) (e : Entry) (leaf : LeafPte) → IsGiven mxr ram shape ppn address kind e leaf
-    → entry_by_end address (second_walk ram_base ram mxr shape ppn address kind) ≡ Some e
+back : (device mxr : Bool) (ram : List ℕ) (shape : Shape) (ppn address : ℕ) (kind : Access) (e : Entry) (leaf : LeafPte)
+    → IsGiven device mxr ram shape ppn address kind e leaf → entry_by_end device address (second_walk (ram_memory ram) mxr shape ppn address kind) ≡ Some e
 unfolding second_walk
-back mxr ram shape ppn address kind e leaf g = rw (g.walked, g.permits, g.inside, g.is) refl
+back device mxr ram shape ppn address kind e leaf g = rw (g.walked, g.permits, g.is)
+    (by device (has_frame_of (ram_memory ram) (leaf_address leaf address)) (is_on_device (leaf_address leaf address)) g.inside)
+  where
+    by : (has inside on : Bool) → (inside || (has && on)) ≡ true
+        → entry_by_end has address (cond inside (guest.Leaf leaf) (cond on (guest.Device leaf) AccessFault)) ≡ Some (entry_under leaf address)
+    by has true on is = refl
+    by true false true is = refl
+    by true false false is = absurd cc
+    by false false on is = absurd cc
 
 -- what the second stage permits of a leaf, and of the entry under it
 right_of : (mxr : Bool) (kind : Access) (leaf : LeafPte) → permits_second mxr kind leaf ≡ true → (leaf.u ≡ true) × (has_right mxr kind leaf ≡ true)
@@ -229,58 +224,58 @@ unfolding permits_second
 permits_leaf mxr kind leaf address user permits = let right : has_right mxr kind leaf ≡ true = sym (right_same mxr kind leaf address) ∙ permits in (right, and_from leaf.u (has_right mxr kind leaf) user right)
 
 -- an entry of now is of the address's page, permits the access, and is the entry of now for each other access that it permits
-pub now_page : (csrs : Csrs) (ram : List ℕ) (address : ℕ) (kind : Access) (e : Entry) → entry_by_walk csrs ram address kind ≡ Some e → e.page ≡ address / 4096
+pub now_page : (device : Bool) (csrs : Csrs) (ram : List ℕ) (address : ℕ) (kind : Access) (e : Entry) → entry_by_walk device csrs ram address kind ≡ Some e → e.page ≡ address / 4096
 unfolding entry_by_walk
-now_page csrs ram address kind e found = by csrs.hgatp found
+now_page device csrs ram address kind e found = by csrs.hgatp found
   where
-    by : (hgatp : GuestRoot) → entry_by_table csrs.hs.status.mxr ram address kind hgatp ≡ Some e → e.page ≡ address / 4096
+    by : (hgatp : GuestRoot) → entry_by_table device csrs.hs.status.mxr ram address kind hgatp ≡ Some e → e.page ≡ address / 4096
     by root.Bare is = absurd cc
-    by (root.Table mode vmid ppn) is = let g = given csrs.hs.status.mxr ram (guest_shape mode) ppn address kind e is in ap (λ (e : Entry). e.page) g.1.is
+    by (root.Table mode vmid ppn) is = let g = given device csrs.hs.status.mxr ram (guest_shape mode) ppn address kind e is in ap (λ (e : Entry). e.page) g.1.is
 
-pub now_permits : (csrs : Csrs) (ram : List ℕ) (address : ℕ) (kind : Access) (e : Entry) → entry_by_walk csrs ram address kind ≡ Some e
+pub now_permits : (device : Bool) (csrs : Csrs) (ram : List ℕ) (address : ℕ) (kind : Access) (e : Entry) → entry_by_walk device csrs ram address kind ≡ Some e
     → permits_second csrs.hs.status.mxr kind (leaf_of e) ≡ true
 unfolding entry_by_walk
-now_permits csrs ram address kind e found = by csrs.hgatp found
+now_permits device csrs ram address kind e found = by csrs.hgatp found
   where
-    by : (hgatp : GuestRoot) → entry_by_table csrs.hs.status.mxr ram address kind hgatp ≡ Some e → permits_second csrs.hs.status.mxr kind (leaf_of e) ≡ true
+    by : (hgatp : GuestRoot) → entry_by_table device csrs.hs.status.mxr ram address kind hgatp ≡ Some e → permits_second csrs.hs.status.mxr kind (leaf_of e) ≡ true
     by root.Bare is = absurd cc
-    by (root.Table mode vmid ppn) is = let g = given csrs.hs.status.mxr ram (guest_shape mode) ppn address kind e is in
+    by (root.Table mode vmid ppn) is = let g = given device csrs.hs.status.mxr ram (guest_shape mode) ppn address kind e is in
         rw g.1.is (permits_entry csrs.hs.status.mxr kind g.0 address g.1.permits)
 
-pub now_for : (csrs : Csrs) (ram : List ℕ) (address : ℕ) (kind other : Access) (e : Entry) → entry_by_walk csrs ram address kind ≡ Some e
-    → permits_second csrs.hs.status.mxr other (leaf_of e) ≡ true → entry_by_walk csrs ram address other ≡ Some e
+pub now_for : (device : Bool) (csrs : Csrs) (ram : List ℕ) (address : ℕ) (kind other : Access) (e : Entry) → entry_by_walk device csrs ram address kind ≡ Some e
+    → permits_second csrs.hs.status.mxr other (leaf_of e) ≡ true → entry_by_walk device csrs ram address other ≡ Some e
 unfolding entry_by_walk
-now_for csrs ram address kind other e found permits = by csrs.hgatp found
+now_for device csrs ram address kind other e found permits = by csrs.hgatp found
   where
-    by : (hgatp : GuestRoot) → entry_by_table csrs.hs.status.mxr ram address kind hgatp ≡ Some e → entry_by_table csrs.hs.status.mxr ram address other hgatp ≡ Some e
+    by : (hgatp : GuestRoot) → entry_by_table device csrs.hs.status.mxr ram address kind hgatp ≡ Some e → entry_by_table device csrs.hs.status.mxr ram address other hgatp ≡ Some e
     by root.Bare is = absurd cc
     by (root.Table mode vmid ppn) is = let mxr : Bool = csrs.hs.status.mxr in
-        let g = given mxr ram (guest_shape mode) ppn address kind e is in
+        let g = given device mxr ram (guest_shape mode) ppn address kind e is in
         let leaf : LeafPte = g.0 in
         let entry_permits : permits_second mxr other (leaf_of (entry_under leaf address)) ≡ true = rw g.1.is at permits in
         let permitted = permits_leaf mxr other leaf address (right_of mxr kind leaf g.1.permits).0 entry_permits in
-        back mxr ram (guest_shape mode) ppn address other e leaf (record {
-          walked = walks_suit (memory_words ram_base ram) (guest_root_frame ppn) (guest_shape mode) address kind other leaf (right_suits mxr other leaf permitted.0) g.1.walked;
+        back device mxr ram (guest_shape mode) ppn address other e leaf (record {
+          walked = walks_suit (memory_words (ram_memory ram)) (guest_root_frame ppn) (guest_shape mode) address kind other leaf (right_suits mxr other leaf permitted.0) g.1.walked;
           permits = permitted.1;
           inside = g.1.inside;
           is = g.1.is;
         })
 
 -- two entries of now for one page are the same
-pub now_one : (csrs : Csrs) (ram : List ℕ) (address : ℕ) (kind other : Access) (e e' : Entry)
-    → entry_by_walk csrs ram address kind ≡ Some e → entry_by_walk csrs ram address other ≡ Some e' → e ≡ e'
+pub now_one : (device : Bool) (csrs : Csrs) (ram : List ℕ) (address : ℕ) (kind other : Access) (e e' : Entry)
+    → entry_by_walk device csrs ram address kind ≡ Some e → entry_by_walk device csrs ram address other ≡ Some e' → e ≡ e'
 unfolding entry_by_walk
-now_one csrs ram address kind other e e' found found' = by csrs.hgatp found found'
+now_one device csrs ram address kind other e e' found found' = by csrs.hgatp found found'
   where
-    by : (hgatp : GuestRoot) → entry_by_table csrs.hs.status.mxr ram address kind hgatp ≡ Some e → entry_by_table csrs.hs.status.mxr ram address other hgatp ≡ Some e' → e ≡ e'
+    by : (hgatp : GuestRoot) → entry_by_table device csrs.hs.status.mxr ram address kind hgatp ≡ Some e → entry_by_table device csrs.hs.status.mxr ram address other hgatp ≡ Some e' → e ≡ e'
     by root.Bare is is' = absurd cc
     by (root.Table mode vmid ppn) is is' = let mxr : Bool = csrs.hs.status.mxr in
-        let g = given mxr ram (guest_shape mode) ppn address kind e is in
-        let g' = given mxr ram (guest_shape mode) ppn address other e' is' in
+        let g = given device mxr ram (guest_shape mode) ppn address kind e is in
+        let g' = given device mxr ram (guest_shape mode) ppn address other e' is' in
         let loads : Suits Load g.0 = λ needs. absurd cc in
         let loads' : Suits Load g'.0 = λ needs. absurd cc in
-        let to_load = walks_suit (memory_words ram_base ram) (guest_root_frame ppn) (guest_shape mode) address kind Load g.0 loads g.1.walked in
-        let to_load' = walks_suit (memory_words ram_base ram) (guest_root_frame ppn) (guest_shape mode) address other Load g'.0 loads' g'.1.walked in
+        let to_load = walks_suit (memory_words (ram_memory ram)) (guest_root_frame ppn) (guest_shape mode) address kind Load g.0 loads g.1.walked in
+        let to_load' = walks_suit (memory_words (ram_memory ram)) (guest_root_frame ppn) (guest_shape mode) address other Load g'.0 loads' g'.1.walked in
         let same : g.0 ≡ g'.0 = cc in
         g.1.is ∙ ap (λ (leaf : LeafPte). entry_under leaf address) same ∙ sym g'.1.is
 
@@ -295,58 +290,150 @@ leaf_keeps leaf address = let turned : 12 + 9 * leaf.level ≡ 9 * leaf.level + 
 whole : (place address : ℕ) → place % 4096 ≡ address % 4096 → 4096 * (place / 4096) + address % 4096 ≡ place
 whole place address same = omega arith
 
-place_of_entry : (mxr : Bool) (kind : Access) (leaf : LeafPte) (address : ℕ) → permits_second mxr kind leaf ≡ true
-    → place_by mxr address kind (Some (entry_under leaf address)) ≡ Some (leaf_address leaf address)
-place_of_entry mxr kind leaf address permits = ap (λ b. cond b (Some (leaf_address (leaf_of (entry_under leaf address)) address)) None) (permits_entry mxr kind leaf address permits)
+-- a frame in RAM is not that of the device page
+ram_is_off : (ram : List ℕ) (place : ℕ) → has_frame_of (ram_memory ram) place ≡ true → is_on_device place ≡ false
+ram_is_off ram place inside =
+    let parts = and_parts (nat_le 2147483648 (place / 4096 * 4096)) (nat_le (place / 4096 * 4096 + 4096) (2147483648 + length ram)) inside in
+    let low = leb-true 2147483648 (place / 4096 * 4096) parts.0 in grind arith
+
+place_of_entry : (mxr : Bool) (ram : List ℕ) (kind : Access) (leaf : LeafPte) (address : ℕ) → permits_second mxr kind leaf ≡ true
+    → has_frame_of (ram_memory ram) (leaf_address leaf address) ≡ true → place_by mxr address kind (Some (entry_under leaf address)) ≡ Some (leaf_address leaf address)
+place_of_entry mxr ram kind leaf address permits inside =
+    place_given mxr address kind (entry_under leaf address) (permits_entry mxr kind leaf address permits) (ram_is_off ram (leaf_address leaf address) inside)
     ∙ ap Some (whole (leaf_address leaf address) address (leaf_keeps leaf address))
 
-place_walked : (mxr : Bool) (ram : List ℕ) (shape : Shape) (ppn address : ℕ) (kind : Access)
-    → place_by mxr address kind (entry_by_end address (second_walk ram_base ram mxr shape ppn address kind)) ≡ place_under address (second_walk ram_base ram mxr shape ppn address kind)
-unfolding second_walk
-place_walked mxr ram shape ppn address kind = by (walk (memory_words ram_base ram) (guest_root_frame ppn) shape address kind)
+-- an entry of the device page gives none
+no_place_on : (mxr : Bool) (address : ℕ) (kind : Access) (e : Entry) → is_device e ≡ true → place_by mxr address kind (Some e) ≡ None
+no_place_on mxr address kind e on = ap (λ b. cond (permits_second mxr kind (leaf_of e) && not b) (Some (leaf_address (leaf_of e) address)) None) on ∙ by (permits_second mxr kind (leaf_of e))
   where
-    at : (leaf : LeafPte) (permits inside : Bool) → permits_second mxr kind leaf ≡ permits
-        → place_by mxr address kind (entry_by_end address (cond (not permits) GuestPageFault (cond inside (guest.Leaf leaf) AccessFault)))
-        ≡ place_under address (cond (not permits) GuestPageFault (cond inside (guest.Leaf leaf) AccessFault))
-    at leaf true true permitted = place_of_entry mxr kind leaf address permitted
-    at leaf true false permitted = refl
-    at leaf false inside permitted = refl
+    by : (permits : Bool) → cond (permits && false) (Some (leaf_address (leaf_of e) address)) None ≡ None
+    by true = refl
+    by false = refl
 
-    by : (end : WalkEnd) → place_by mxr address kind (entry_by_end address (second_end ram_base ram mxr address kind end)) ≡ place_under address (second_end ram_base ram mxr address kind end)
-    by (Leaf leaf) = at leaf (permits_second mxr kind leaf) (has_frame_of ram_base ram (leaf_address leaf address)) refl
+-- the end of a walk at a leaf that permits the access
+abbrev end_at : List ℕ → ℕ → LeafPte → SecondWalkEnd
+end_at ram address leaf = cond (has_frame_of (ram_memory ram) (leaf_address leaf address)) (guest.Leaf leaf)
+    (cond (is_on_device (leaf_address leaf address)) (guest.Device leaf) AccessFault)
+
+place_at_leaf : (device mxr : Bool) (ram : List ℕ) (kind : Access) (leaf : LeafPte) (address : ℕ) → permits_second mxr kind leaf ≡ true
+    → place_by mxr address kind (entry_by_end device address (end_at ram address leaf)) ≡ place_under address (end_at ram address leaf)
+place_at_leaf device mxr ram kind leaf address permits = by (has_frame_of (ram_memory ram) (leaf_address leaf address)) (is_on_device (leaf_address leaf address)) device refl refl
+  where
+    by : (inside on has : Bool) → has_frame_of (ram_memory ram) (leaf_address leaf address) ≡ inside → is_on_device (leaf_address leaf address) ≡ on
+        → place_by mxr address kind (entry_by_end has address (cond inside (guest.Leaf leaf) (cond on (guest.Device leaf) AccessFault)))
+        ≡ place_under address (cond inside (guest.Leaf leaf) (cond on (guest.Device leaf) AccessFault))
+    by true on has in_ram on_page = place_of_entry mxr ram kind leaf address permits in_ram
+    by false true true in_ram on_page = no_place_on mxr address kind (entry_under leaf address) on_page
+    by false true false in_ram on_page = refl
+    by false false has in_ram on_page = refl
+
+place_walked : (device mxr : Bool) (ram : List ℕ) (shape : Shape) (ppn address : ℕ) (kind : Access)
+    → place_by mxr address kind (entry_by_end device address (second_walk (ram_memory ram) mxr shape ppn address kind))
+    ≡ place_under address (second_walk (ram_memory ram) mxr shape ppn address kind)
+unfolding second_walk
+place_walked device mxr ram shape ppn address kind = by (walk (memory_words (ram_memory ram)) (guest_root_frame ppn) shape address kind)
+  where
+    at : (leaf : LeafPte) (permits : Bool) → permits_second mxr kind leaf ≡ permits
+        → place_by mxr address kind (entry_by_end device address (cond (not permits) GuestPageFault (end_at ram address leaf)))
+        ≡ place_under address (cond (not permits) GuestPageFault (end_at ram address leaf))
+    at leaf true permitted = place_at_leaf device mxr ram kind leaf address permitted
+    at leaf false permitted = refl
+
+    by : (end : WalkEnd) → place_by mxr address kind (entry_by_end device address (second_end (ram_memory ram) mxr address kind end))
+        ≡ place_under address (second_end (ram_memory ram) mxr address kind end)
+    by (Leaf leaf) = at leaf (permits_second mxr kind leaf) refl
     by PageFault = refl
     by (FetchEnd place trap) = refl
 
 pub fills_are_walks : FillsAreWalks
 unfolding entry_by_walk
-fills_are_walks virt ram address kind folding = by virt.csrs.hgatp (is_virtual virt.mode) folding
+fills_are_walks device virt ram address kind folding = by virt.csrs.hgatp (is_virtual virt.mode) folding
   where
     by : (hgatp : GuestRoot) (virtual : Bool) → (virtual && is_table hgatp) ≡ true
-        → place_by virt.csrs.hs.status.mxr address kind (entry_by_table virt.csrs.hs.status.mxr ram address kind hgatp)
-        ≡ second_under ram_base ram virt.csrs.hs.status.mxr (cond virtual hgatp root.Bare) address kind
-    by (root.Table mode vmid ppn) true is = place_walked virt.csrs.hs.status.mxr ram (guest_shape mode) ppn address kind
+        → place_by virt.csrs.hs.status.mxr address kind (entry_by_table device virt.csrs.hs.status.mxr ram address kind hgatp)
+        ≡ second_under (ram_memory ram) virt.csrs.hs.status.mxr (cond virtual hgatp root.Bare) address kind
+    by (root.Table mode vmid ppn) true is = place_walked device virt.csrs.hs.status.mxr ram (guest_shape mode) ppn address kind
+    by (root.Table mode vmid ppn) false is = absurd cc
+    by root.Bare true is = absurd cc
+    by root.Bare false is = absurd cc
+
+-- and has it on the device page where the walk does
+device_at_leaf : (mxr : Bool) (ram : List ℕ) (kind : Access) (leaf : LeafPte) (address : ℕ) → permits_second mxr kind leaf ≡ true
+    → device_by mxr kind (entry_by_end true address (end_at ram address leaf)) ≡ is_device_end (end_at ram address leaf)
+device_at_leaf mxr ram kind leaf address permits = by (has_frame_of (ram_memory ram) (leaf_address leaf address)) (is_on_device (leaf_address leaf address)) refl refl
+  where
+    permitted : permits_second mxr kind (leaf_of (entry_under leaf address)) ≡ true
+    permitted = permits_entry mxr kind leaf address permits
+
+    by : (inside on : Bool) → has_frame_of (ram_memory ram) (leaf_address leaf address) ≡ inside → is_on_device (leaf_address leaf address) ≡ on
+        → device_by mxr kind (entry_by_end true address (cond inside (guest.Leaf leaf) (cond on (guest.Device leaf) AccessFault)))
+        ≡ is_device_end (cond inside (guest.Leaf leaf) (cond on (guest.Device leaf) AccessFault))
+    by true on in_ram on_page = ap (λ b. b && is_device (entry_under leaf address)) permitted ∙ ram_is_off ram (leaf_address leaf address) in_ram
+    by false true in_ram on_page = and_from (permits_second mxr kind (leaf_of (entry_under leaf address))) (is_device (entry_under leaf address)) permitted on_page
+    by false false in_ram on_page = refl
+
+device_walked : (mxr : Bool) (ram : List ℕ) (shape : Shape) (ppn address : ℕ) (kind : Access)
+    → device_by mxr kind (entry_by_end true address (second_walk (ram_memory ram) mxr shape ppn address kind))
+    ≡ is_device_end (second_walk (ram_memory ram) mxr shape ppn address kind)
+unfolding second_walk
+device_walked mxr ram shape ppn address kind = by (walk (memory_words (ram_memory ram)) (guest_root_frame ppn) shape address kind)
+  where
+    at : (leaf : LeafPte) (permits : Bool) → permits_second mxr kind leaf ≡ permits
+        → device_by mxr kind (entry_by_end true address (cond (not permits) GuestPageFault (end_at ram address leaf)))
+        ≡ is_device_end (cond (not permits) GuestPageFault (end_at ram address leaf))
+    at leaf true permitted = device_at_leaf mxr ram kind leaf address permitted
+    at leaf false permitted = refl
+
+    by : (end : WalkEnd) → device_by mxr kind (entry_by_end true address (second_end (ram_memory ram) mxr address kind end))
+        ≡ is_device_end (second_end (ram_memory ram) mxr address kind end)
+    by (Leaf leaf) = at leaf (permits_second mxr kind leaf) refl
+    by PageFault = refl
+    by (FetchEnd place trap) = refl
+
+pub fills_are_devices : FillsAreDevices
+unfolding entry_by_walk
+fills_are_devices false virt ram address kind folding = refl
+fills_are_devices true virt ram address kind folding = by virt.csrs.hgatp (is_virtual virt.mode) folding
+  where
+    by : (hgatp : GuestRoot) (virtual : Bool) → (virtual && is_table hgatp) ≡ true
+        → device_by virt.csrs.hs.status.mxr kind (entry_by_table true virt.csrs.hs.status.mxr ram address kind hgatp)
+        ≡ device_under (ram_memory ram) virt.csrs.hs.status.mxr (cond virtual hgatp root.Bare) address kind
+    by (root.Table mode vmid ppn) true is = device_walked virt.csrs.hs.status.mxr ram (guest_shape mode) ppn address kind
     by (root.Table mode vmid ppn) false is = absurd cc
     by root.Bare true is = absurd cc
     by root.Bare false is = absurd cc
 
 -- for each access to the page
 pub page_has_one_entry : PageHasOneEntry
-page_has_one_entry csrs ram address other kind page = now_same csrs ram other address kind page
+page_has_one_entry device csrs ram address other kind page = now_same device csrs ram other address kind page
+
+-- what an entry of now answers to an access to its page, the entry of now for that access answers
+answers_alike : {A : Type 0} (device : Bool) (csrs : Csrs) (ram : List ℕ) (address other : ℕ) (kind other_kind : Access) (e : Entry)
+    → entry_by_walk device csrs ram address kind ≡ Some e → other / 4096 ≡ address / 4096
+    → (answer : Option Entry → A) → (permits_second csrs.hs.status.mxr other_kind (leaf_of e) ≡ false → answer (Some e) ≡ answer None)
+    → answer (Some e) ≡ answer (entry_by_walk device csrs ram other other_kind)
+answers_alike device csrs ram address other kind other_kind e found page answer refused = by (entry_by_walk device csrs ram other other_kind) refl
+  where
+    here : entry_by_walk device csrs ram other kind ≡ Some e
+    here = now_same device csrs ram other address kind page ∙ found
+
+    none : (permits : Bool) → permits_second csrs.hs.status.mxr other_kind (leaf_of e) ≡ permits → entry_by_walk device csrs ram other other_kind ≡ None
+        → answer (Some e) ≡ answer None
+    none true permitted absent = let also = now_for device csrs ram other kind other_kind e here permitted in absurd cc
+    none false permitted absent = refused permitted
+
+    by : (there : Option Entry) → entry_by_walk device csrs ram other other_kind ≡ there → answer (Some e) ≡ answer (entry_by_walk device csrs ram other other_kind)
+    by (Some x) is = let one : e ≡ x = now_one device csrs ram other kind other_kind e x here is in ap answer (ap Some one ∙ sym is)
+    by None is = none (permits_second csrs.hs.status.mxr other_kind (leaf_of e)) refl is ∙ ap answer (sym is)
 
 pub fills_serve_the_page : FillsServeThePage
-fills_serve_the_page virt ram address other kind other_kind e folding found page =
-    by (entry_by_walk virt.csrs ram other other_kind) refl ∙ fills_are_walks virt ram other other_kind folding
-  where
-    here : entry_by_walk virt.csrs ram other kind ≡ Some e
-    here = now_same virt.csrs ram other address kind page ∙ found
+fills_serve_the_page device virt ram address other kind other_kind e folding found page =
+    answers_alike device virt.csrs ram address other kind other_kind e found page (place_by virt.csrs.hs.status.mxr other other_kind)
+    (λ refused. ap (λ b. cond (b && not (is_device e)) (Some (leaf_address (leaf_of e) other)) None) refused)
+    ∙ fills_are_walks device virt ram other other_kind folding
 
-    no_place : (permits : Bool) → permits_second virt.csrs.hs.status.mxr other_kind (leaf_of e) ≡ permits → entry_by_walk virt.csrs ram other other_kind ≡ None
-        → cond permits (Some (leaf_address (leaf_of e) other)) None ≡ None
-    no_place true permitted none = let also = now_for virt.csrs ram other kind other_kind e here permitted in absurd cc
-    no_place false permitted none = refl
-
-    by : (there : Option Entry) → entry_by_walk virt.csrs ram other other_kind ≡ there
-        → place_by virt.csrs.hs.status.mxr other other_kind (Some e) ≡ place_by virt.csrs.hs.status.mxr other other_kind (entry_by_walk virt.csrs ram other other_kind)
-    by (Some x) is = let one : e ≡ x = now_one virt.csrs ram other kind other_kind e x here is in
-        ap (place_by virt.csrs.hs.status.mxr other other_kind) (ap Some one ∙ sym is)
-    by None is = no_place (permits_second virt.csrs.hs.status.mxr other_kind (leaf_of e)) refl is ∙ ap (place_by virt.csrs.hs.status.mxr other other_kind) (sym is)
+pub fills_serve_the_device : FillsServeTheDevice
+fills_serve_the_device device virt ram address other kind other_kind e folding found page =
+    answers_alike device virt.csrs ram address other kind other_kind e found page (λ there. device && device_by virt.csrs.hs.status.mxr other_kind there)
+    (λ refused. ap (λ b. device && (b && is_device e)) refused)
+    ∙ fills_are_devices device virt ram other other_kind folding

@@ -1,17 +1,17 @@
 -- Laws of caching: every run is architectural, and what it uses is fresh.
-use Rattle.std.specs.Prelude.{ℕ, ◌≡◌, ◌/◌, ◌≤◌, ◌==◌, Bool, true, [], Option, Some, None}
+use Rattle.std.specs.Prelude.{ℕ, ◌≡◌, ◌/◌, ◌≤◌, ◌==◌, ◌&&◌, Bool, true, [], Option, Some, None}
 use Rattle.arch_defs.specs.declared.cached.Fence.{Fence}
 use Rattle.arch_defs.specs.declared.modes.Access.{Access}
-use Rattle.arch_defs.specs.Memory.{SecondStage, ram_base}
-use Rattle.arch_defs.specs.SecondStage.{second_by_walk}
+use Rattle.arch_defs.specs.Memory.{nothing_known, ram_memory}
+use Rattle.arch_defs.specs.SecondStage.{device_by_walk, second_by_walk}
 use Rattle.arch_defs.specs.Roots.{vmid_of}
 use Rattle.arch_defs.specs.Spaces.{names_vmid}
 use Rattle.guest_specs.specs.declared.guests.GuestSpec.{GuestSpec}
 use Rattle.machine_defs.specs.Fills.{needed}
-use Rattle.machine_defs.specs.FreeMachines.{FreeMachine, FreeRun, FreeStep, IsArchitectural, left_under, uncached, while_active, while_folding}
+use Rattle.machine_defs.specs.FreeMachines.{FreeMachine, FreeRun, FreeStep, IsArchitectural, answer_by, left_under, uncached, while_active, while_folding}
 use Rattle.machine_defs.specs.Freshness.{CachesFresh, UsesFresh}
 use Rattle.machine_defs.specs.Machine.{Machine, start}
-use Rattle.machine_defs.specs.Tries.{fence_under}
+use Rattle.machine_defs.specs.Tries.{Stages, fence_under}
 use Rattle.machine_laws.specs.Keeping.{IsOrderly}
 
 -- every run of an orderly machine is architectural
@@ -29,15 +29,23 @@ abbrev pub FoldingRunsAreActive : Type 0
 FoldingRunsAreActive =
     (f h : FreeMachine) (steps : ℕ) → FreeRun while_folding steps f h → FreeRun while_active steps f h
 
--- a step of a free machine leaves what one try under this second stage does
-pub record IsStepUnder (second : SecondStage) (f g : FreeMachine) : Type 0 where
-  pub platform : g.platform ≡ (left_under second f).platform
-  pub ram : g.ram ≡ (left_under second f).ram
+-- a step of a free machine leaves what one try under these stages does
+pub record IsStepUnder (stages : Stages) (f g : FreeMachine) : Type 0 where
+  pub platform : g.platform ≡ (left_under stages f).platform
+  pub ram : g.ram ≡ (left_under stages f).ram
 
--- where nothing is cached, that is the walk of hgatp's table as RAM is
+-- the stages of which each answer is by the walk of hgatp's table as RAM is
+abbrev pub by_walks : FreeMachine → Stages
+by_walks f = let virt = f.platform.virt in record {
+  known = nothing_known;
+  second = second_by_walk virt.csrs virt.mode (ram_memory f.ram);
+  device = λ address kind. f.device && device_by_walk virt.csrs virt.mode (ram_memory f.ram) address kind;
+}
+
+-- where nothing is cached, a step is made under these
 abbrev pub UncachedByWalks : Type 0
 UncachedByWalks = (f g : FreeMachine) → FreeStep while_active f g → f.cache ≡ []
-    → IsStepUnder (second_by_walk f.platform.virt.csrs f.platform.virt.mode ram_base f.ram) f g
+    → IsStepUnder (by_walks f) f g
 
 -- whether what a fence names is the page of an address, or every page
 abbrev pub names_address : Option ℕ → ℕ → Bool
@@ -48,11 +56,10 @@ names_address (Some page) address = page == address / 4096
 -- its translation sees what was stored before the fence (8.3.2)
 abbrev pub FencedByWalks : Type 0
 FencedByWalks = (f g h : FreeMachine) (before : FreeStep while_active f g) (after : FreeStep while_active g h)
-    (fence : Fence) (address : ℕ) (kind : Access) → fence_under before.second (uncached f) ≡ Some fence
+    (fence : Fence) (address : ℕ) (kind : Access) → fence_under before.stages (uncached f) ≡ Some fence
     → names_vmid fence.vmid (vmid_of g.platform.virt.csrs.hgatp) ≡ true
     → names_address fence.page address ≡ true
-    → after.second address kind
-    ≡ second_by_walk g.platform.virt.csrs g.platform.virt.mode ram_base g.ram address kind
+    → answer_by after.stages address kind ≡ answer_by (by_walks g) address kind
 
 -- in every run of an orderly machine that begins without spaces, all cached translations are fresh
 abbrev pub RunsCacheFresh : Type 0

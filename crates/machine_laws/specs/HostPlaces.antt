@@ -4,7 +4,7 @@ use Rattle.std.specs.Prelude.{ℕ, ◌≡◌, ◌+◌, ◌-◌, ◌*◌, ◌&&�
 use Rattle.std.specs.Option.{option_map}
 use Rattle.arch_defs.specs.declared.modes.Access.{Access}
 use Rattle.arch_defs.specs.Frames.{Only, in_blocks}
-use Rattle.arch_defs.specs.Memory.{SecondStage, Stored, bare, block_size, ram_base, reading_of, with_stored}
+use Rattle.arch_defs.specs.Memory.{SecondStage, Stored, bare, block_size, machine_memory, ram_base, ram_memory, reading_of, with_stored}
 use Rattle.arch_defs.specs.Ram.{IsDistinct, SlicesLieIn, host_answer, host_place, ram_of}
 use Rattle.machine_laws.specs.Renaming.{GivesWithin, IsRenamed, Places, StoresWithin, stored_renamed}
 
@@ -31,15 +31,15 @@ PlacesAreRenamed = (blocks memory : List ℕ) (own host : SecondStage)
     → SlicesLieIn block_size blocks (length memory) → IsDistinct blocks → GivesWithin (in_ram blocks) own
     → ((address : ℕ) (access : Access)
     → host address access ≡ option_map (memory_place blocks) (own address access))
-    → IsRenamed (memory_place blocks) (in_ram blocks) own (reading_of ram_base (ram_of blocks memory))
-    host (reading_of 0 memory)
+    → IsRenamed (memory_place blocks) (in_ram blocks) own (reading_of (ram_memory (ram_of blocks memory)))
+    host (reading_of (machine_memory memory))
 
 -- so is RAM as it is
 abbrev pub RamIsRenamed : Type 0
 RamIsRenamed = (blocks memory : List ℕ)
     → SlicesLieIn block_size blocks (length memory) → IsDistinct blocks
-    → IsRenamed (memory_place blocks) (in_ram blocks) (bare ram_base (ram_size blocks))
-    (reading_of ram_base (ram_of blocks memory)) (host_second blocks) (reading_of 0 memory)
+    → IsRenamed (memory_place blocks) (in_ram blocks) (bare (ram_memory (ram_of blocks memory)))
+    (reading_of (ram_memory (ram_of blocks memory))) (host_second blocks) (reading_of (machine_memory memory))
 
 -- machine memory after a store to RAM, at the place's new name
 abbrev pub memory_with : List ℕ → List ℕ → Option Stored → List ℕ

@@ -1,9 +1,8 @@
 -- What holds of what an instruction leaves, however it ends.
-use Rattle.std.specs.Prelude.{Result, Ok, Err}
-use Rattle.arch_defs.specs.declared.modes.Trap.{Trap}
 use Rattle.arch_defs.specs.declared.registers.Virtual.{Virtual}
 use Rattle.op_defs.specs.declared.ops.DataAccess.{DataAccess}
 use Rattle.machine_defs.specs.Core.{Completion, completion_of}
+use Rattle.machine_defs.specs.HlvAccesses.{HlvEnd, Completes, Device, Traps}
 use Rattle.machine_defs.specs.Outcomes.{Outcome, Done, Trapped, Missed, Called, Waits, Fenced, Accesses}
 
 -- L holds of what an instruction leaves that completes, P of the state after one that waits or fences, and A
@@ -14,10 +13,11 @@ OutcomeHas L P A (Waits state) = P state
 OutcomeHas L P A (Fenced state fence) = P state
 OutcomeHas L P A (Accesses wanted) = A wanted
 OutcomeHas L P A (Trapped trap) = Unit {0}
-OutcomeHas L P A (Missed missing) = Unit {0}
+OutcomeHas L P A (Missed missing wanted) = Unit {0}
 OutcomeHas L P A Called = Unit {0}
 
 -- L holds of what an HLV, HLVX or HSV leaves, if it completes
-abbrev pub HlvHas : (Completion → Type 0) → Result Completion Trap → Type 0
-HlvHas L (Ok completion) = L completion
-HlvHas L (Err trap) = Unit {0}
+abbrev pub HlvHas : (Completion → Type 0) → HlvEnd → Type 0
+HlvHas L (Completes completion) = L completion
+HlvHas L (Device missing) = Unit {0}
+HlvHas L (Traps trap) = Unit {0}

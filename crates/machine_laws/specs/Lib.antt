@@ -13,6 +13,7 @@ pub mod Caching
 pub mod ShortRuns
 -- Places of the host in place of the guest's
 pub mod HostPlaces
+pub mod MissedPlaces
 pub mod Renaming
 pub mod Reservations
 -- The laws

@@ -3,7 +3,7 @@ use Rattle.std.specs.Prelude.{ℕ, ◌≡◌, ◌+◌, ◌%◌, ◌≤◌, Bool,
 use Rattle.std.specs.Option.{option_map}
 use Rattle.arch_defs.specs.declared.modes.Access.{Access}
 use Rattle.arch_defs.specs.declared.registers.Virtual.{Virtual}
-use Rattle.arch_defs.specs.Memory.{Reading, SecondStage, Stored}
+use Rattle.arch_defs.specs.Memory.{Known, Mmu, Reading, SecondStage, Stored, mmu}
 use Rattle.machine_defs.specs.Core.{Completion, core}
 use Rattle.machine_defs.specs.Outcomes.{Outcome, Done, Trapped, Missed, Called, Waits, Fenced, Accesses}
 use Rattle.machine_laws.specs.InstructionEnds.{OutcomeHas}
@@ -26,7 +26,7 @@ stored_renamed h None = None
 abbrev pub outcome_renamed : (ℕ → ℕ) → Outcome → Outcome
 outcome_renamed h (Done state stored event) = Done (renamed h state) (stored_renamed h stored) event
 outcome_renamed h (Trapped trap) = Trapped trap
-outcome_renamed h (Missed missing) = Missed missing
+outcome_renamed h (Missed missing wanted) = Missed missing wanted
 outcome_renamed h Called = Called
 outcome_renamed h (Waits state) = Waits (renamed h state)
 outcome_renamed h (Fenced state fence) = Fenced (renamed h state) fence
@@ -74,15 +74,21 @@ abbrev pub LeavesWithin : Places → Outcome → Type 0
 LeavesWithin held o =
     OutcomeHas (CompletionWithin held) (λ state. ReservesWithin held state.reservation) (λ wanted. Unit {0}) o
 
--- one instruction of the renamed state, under the renamed second stage and reading, is the renamed one
+-- what is known of a virtual address keeps the offset in its page
+abbrev pub KeepsPage : Known → Type 0
+KeepsPage known =
+    (va address : ℕ) (access : Access) → known va access ≡ Some address → address % 4096 ≡ va % 4096
+
+-- one instruction of the renamed state, under the renamed second stage and reading, is the renamed one. What
+-- is known of virtual addresses is the same, since it names no place
 abbrev pub RenamedCore : Type 0
-RenamedCore = (h : ℕ → ℕ) (held : Places) (own : SecondStage) (reading : Reading)
+RenamedCore = (h : ℕ → ℕ) (held : Places) (known : Known) (own : SecondStage) (reading : Reading)
     (host : SecondStage) (other : Reading) (state : Virtual)
-    → IsRenamed h held own reading host other → ReservesWithin held state.reservation
-    → core host other (renamed h state) ≡ outcome_renamed h (core own reading state)
+    → KeepsPage known → IsRenamed h held own reading host other → ReservesWithin held state.reservation
+    → core (mmu known host other) (renamed h state) ≡ outcome_renamed h (core (mmu known own reading) state)
 
 -- under a second stage that gives places of a set alone, one instruction stores and reserves in it alone
 abbrev pub CoreKeepsWithin : Type 0
-CoreKeepsWithin = (held : Places) (second : SecondStage) (reading : Reading) (state : Virtual)
-    → GivesWithin held second → ReservesWithin held state.reservation
-    → LeavesWithin held (core second reading state)
+CoreKeepsWithin = (held : Places) (through : Mmu) (state : Virtual)
+    → KeepsPage through.known → GivesWithin held through.second → ReservesWithin held state.reservation
+    → LeavesWithin held (core through state)

@@ -1,7 +1,8 @@
 -- What a machine caches and reserves: places of its RAM alone.
-use Rattle.std.specs.Prelude.{ℕ, ◌≡◌, ◌+◌, ◌*◌, ◌%◌, ◌≤◌, ◌&&◌, Some, length, nat_le, nat_lt}
+use Rattle.std.specs.Prelude.{ℕ, ◌≡◌, ◌+◌, ◌*◌, ◌%◌, ◌≤◌, ◌⊎◌, ◌&&◌, Some, length, nat_le, nat_lt}
 use Rattle.std.specs.List.{All}
 use Rattle.arch_defs.specs.declared.cached.Entry.{Entry}
+use Rattle.arch_defs.specs.Devices.{device_frame}
 use Rattle.arch_defs.specs.Memory.{ram_base}
 use Rattle.guest_specs.specs.declared.guests.GuestSpec.{GuestSpec}
 use Rattle.machine_defs.specs.Fills.{fill, missing_entry}
@@ -26,19 +27,23 @@ ReservesInRam m = ReservesWithin (ram_places m) m.platform.virt.reservation
 abbrev pub IsInRam : ℕ → Entry → Type 0
 IsInRam size e = (ram_base ≤ 4096 * e.frame) × (4096 * e.frame + 4096 ≤ ram_base + size)
 
+-- or is that of the device page
+abbrev pub HasPlace : ℕ → Entry → Type 0
+HasPlace size e = IsInRam size e ⊎ (e.frame ≡ device_frame)
+
 -- and so is that of each entry of each space
 abbrev pub CachesInRam : Machine → Type 0
-CachesInRam m = All (λ s. All (IsInRam (length m.ram)) s.entries) m.spaces
+CachesInRam m = All (λ s. All (HasPlace (length m.ram)) s.entries) m.spaces
 
 -- a guest's machine has neither at its start
 abbrev pub StartIsInRam : Type 0
 StartIsInRam = (guest : GuestSpec) → CachesInRam (start guest) × ReservesInRam (start guest)
 
--- where it caches in RAM alone, its second stage gives places of RAM alone
+-- where it caches so, its second stage gives places of RAM alone
 abbrev pub GivesRamAlone : Type 0
 GivesRamAlone = (m : Machine) → CachesInRam m → GivesWithin (ram_places m) (second_of m)
 
--- a machine caches and reserves in its RAM alone, which has the size that it had
+-- a machine caches so and reserves in its RAM alone, which has the size that it had
 abbrev pub KeepsInRam : Machine → Machine → Type 0
 KeepsInRam before m = CachesInRam m × ReservesInRam m × (length m.ram ≡ length before.ram)
 

@@ -57,6 +57,7 @@ stale_machine first = record {
   spaces = record { key = stale_root; entries = stale_entry ∷ [] } ∷ [];
   space_room = 1;
   entry_room = needed;
+  device = false;
 }
 
 -- how the runs end: with an instruction access fault, since no walk gives anything, or with the instruction,

@@ -5,7 +5,8 @@ ghost use Rattle.machine_laws.specs.Caching.{FencedByWalks, FoldingRunsAreActive
 ghost use Rattle.machine_laws.specs.HostPlaces.{OnlyRamChanges, PlacesAreRenamed, RamIsRenamed, RamIsStored};
 ghost use Rattle.machine_laws.specs.Keeping.{FillKeepsOrderly, RunKeepsOrderly, StartIsOrderly, TryKeepsOrderly};
 ghost use Rattle.machine_laws.specs.Keys.{RunKeepsKeys, RunKeepsTables, StartHasKeys};
-ghost use Rattle.machine_laws.specs.Laws.{EventsCompose, FewFills, FillsAreWalks, FillsCanBeMade, FillsGoOn, FillsServeThePage, FillsSuffice, FillsSufficeForGuests, FlatIsRam, FlatMissesNothing, FoldsByFront, FrontGivesPlaces, InterruptedMissesNothing, MissingEntriesAreRead, MoreChangeNothing, OnlySpaces, PageHasOneEntry, RunsCompose, StepsEndByRule, StepsGoOn, StepsSettle, StopsAreFaults, TriesChangeSpaces, TriesEndByRule};
+ghost use Rattle.machine_laws.specs.Laws.{EventsCompose, FewFills, FillsAreDevices, FillsAreWalks, FillsCanBeMade, FillsGoOn, FillsServeTheDevice, FillsServeThePage, FillsSuffice, FillsSufficeForGuests, FlatIsRam, FlatMissesNothing, FoldsByFront, FrontGivesPlaces, InterruptedMissesNothing, MissingEntriesAreRead, MoreChangeNothing, OnlySpaces, PageHasOneEntry, RunsCompose, StepsEndByRule, StepsGoOn, StepsSettle, StopsAreFaults, TriesChangeSpaces, TriesEndByRule};
+ghost use Rattle.machine_laws.specs.MissedPlaces.{MissedIsTold, MissedIsWanted, MissedOffset};
 ghost use Rattle.machine_laws.specs.Renaming.{CoreKeepsWithin, RenamedCore};
 ghost use Rattle.machine_laws.specs.Reservations.{FillKeepsInRam, GivesRamAlone, RunKeepsInRam, StartIsInRam, TryKeepsInRam};
 ghost use Rattle.machine_laws.specs.ShortRuns.{FencedFaults, FencedFaultsFreely, MayDropStale, MayUseStale, StaleIsUsed};
@@ -21,10 +22,20 @@ pub fn runs_compose()
 /// One instruction is the same where memory's bytes stand at other places: under a second stage that gives
 /// the renamed places, and a reading that gives the same bytes there, it stores to the renamed place,
 /// reserves the renamed place, and ends alike. And where the second stage gives places of a set alone, it
-/// stores and reserves nowhere else.
+/// stores and reserves nowhere else. What is known of virtual addresses is the same for both, and keeps their
+/// offsets.
 pub fn renamed_places()
     ensures renames { RenamedCore }
     ensures stays { CoreKeepsWithin }
+{}
+
+/// Where an instruction stops at an access that the second stage gives no place, its trap tells which it is:
+/// what was wanted is what the word at pc wants, and the exact guest physical address is told by tval2 with
+/// the offset of tval, or for the read of an entry by tval2 alone.
+pub fn missed_places_are_told()
+    ensures wanted { MissedIsWanted }
+    ensures offset { MissedOffset }
+    ensures told { MissedIsTold }
 {}
 
 /// A guest's RAM in its blocks of machine memory is the lone machine's, at other places: a second stage
@@ -40,9 +51,9 @@ pub fn ram_is_renamed()
 {}
 
 /// A machine caches and reserves in its RAM alone: where RAM is of whole pages of 4,096 bytes, the frame of
-/// each cached entry is in RAM, and what the machine has reserved, if anything, is a place of RAM, all three
-/// are so after a fill, after a try, and after a run of any number of steps, and RAM has as many bytes as
-/// before. Then its second stage gives places of RAM alone.
+/// each cached entry is in RAM or that of the device page, and what the machine has reserved, if anything, is
+/// a place of RAM. Both are so after a fill, after a try, and after a run of any number of steps, and RAM has
+/// as many bytes as before. Then its second stage gives places of RAM alone.
 pub fn machines_stay_in_ram()
     ensures start { StartIsInRam }
     ensures gives { GivesRamAlone }
@@ -60,8 +71,9 @@ pub fn folds_by_the_front_space()
 {}
 
 /// What a machine lacks, where it folds and no interrupt is due: what the walk of the guest's own table gives
-/// for the access at which its next instruction stops under the entries of the front space. Else nothing.
-/// Where the instruction stops and nothing is lacking, this walk has a fault.
+/// for the access at which its next instruction stops under the entries of the front space, unless one of
+/// them has this access on the device page. Else nothing. Where the instruction stops, nothing is lacking,
+/// and no entry has the access on the device page, this walk has a fault.
 pub fn missing_entries_are_read()
     ensures read { MissingEntriesAreRead }
     ensures flat { FlatMissesNothing }
@@ -100,12 +112,14 @@ pub fn tries_are_few()
     ensures event { TryIsEvent }
 {}
 
-/// What is filled is what the walk of the guest's own table gives, and a step ends as if each access had been
-/// placed by a cached entry that permits it, and else by that walk.
+/// What is filled is what the walk of the guest's own table gives, a place in RAM or the device page, and a
+/// step ends as if each access had been placed by a cached entry that permits it, and else by that walk.
 pub fn steps_end_by_the_walk()
     ensures places { FillsAreWalks }
+    ensures devices { FillsAreDevices }
     ensures same { PageHasOneEntry }
     ensures page { FillsServeThePage }
+    ensures device_page { FillsServeTheDevice }
     ensures can { FillsCanBeMade }
     ensures tries { TriesEndByRule }
     ensures steps { StepsEndByRule }

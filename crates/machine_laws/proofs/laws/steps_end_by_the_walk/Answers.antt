@@ -1,6 +1,6 @@
 use Rattle.machine_laws.proofs.Leaves.{fills_can_be_made}
 use Rattle.machine_laws.proofs.Ruling.{steps_end_by_rule, tries_end_by_rule}
-use Rattle.machine_laws.proofs.Walks.{fills_are_walks, fills_serve_the_page, page_has_one_entry}
+use Rattle.machine_laws.proofs.Walks.{fills_are_devices, fills_are_walks, fills_serve_the_device, fills_serve_the_page, page_has_one_entry}
 use Rattle.machine_laws.proofs.laws.steps_end_by_the_walk.Goals as goal
 
 pub returns-clause-places : goal.returns-clause-places
@@ -20,3 +20,9 @@ returns-clause-page c = fills_serve_the_page
 
 pub returns-clause-same : goal.returns-clause-same
 returns-clause-same c = page_has_one_entry
+
+pub returns-clause-devices : goal.returns-clause-devices
+returns-clause-devices c = fills_are_devices
+
+pub returns-clause-device_page : goal.returns-clause-device_page
+returns-clause-device_page c = fills_serve_the_device
