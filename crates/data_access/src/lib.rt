@@ -7,5 +7,6 @@ mod purposes;
 
 pub use op_defs::{DataAccess, Purpose};
 pub use phys_mem::Mem;
-pub use places::{is_aligned, place_for};
+pub use places::{is_aligned, place_for, place_or_page};
 pub use purposes::{complete, kind_of, load, store};
+pub use two_stage_walk::Place;

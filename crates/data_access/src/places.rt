@@ -1,15 +1,15 @@
-// Where in memory an access is made, and what is read and written there.
+// Where an access is made, and what is read and written there in memory.
 
 ghost use Rattle.std.specs.Prelude.{◌≡◌, ◌%◌, ◌==◌, IfOk, length};
 ghost use Rattle.arch_defs.specs.Memory.{reading_of, with_stored};
+ghost use Rattle.arch_defs.specs.Traps.{exception, faults_of};
 ghost use Rattle.arch_defs.specs.Widths.{bytes_in};
 ghost use Rattle.machine_defs.specs.Core.{storing};
-ghost use Rattle.two_stage_walk.specs.Places.{IsWhole};
-ghost use Rattle.data_access.specs.Places.{IsPlaceFor, place_or_trap};
+ghost use Rattle.data_access.specs.Places.{FitsIn, IsPlaceFor, place_or_page, place_or_trap};
 
 use arch_defs::{Access, Csrs, Mode, Trap, Width};
 use phys_mem::Mem;
-use two_stage_walk::translate;
+use two_stage_walk::{Place, locate, translate};
 
 /// Whether an address is a multiple of a width.
 #[inline(always)]
@@ -17,6 +17,13 @@ pub fn is_aligned(address: u64, width: Width) -> bool
     ensures { result ≡ (address % bytes_in width == 0) }
 {
     address % width.bytes() as u64 == 0
+}
+
+// The trap of an access at an address that is no multiple of its width.
+fn misaligned(mode: Mode, va: u64, access: Access) -> Trap
+    ensures { result ≡ exception mode (faults_of access).misaligned va }
+{
+    Trap::of_exception(mode, access.faults().misaligned, va)
 }
 
 /// Where in memory an access to a virtual address is made as a mode, by both stages as the registers and
@@ -32,23 +39,45 @@ pub fn place_for<M: Mem>(
     access: Access,
 ) -> Result<u64, Trap>
     requires backed { M.is_backed mem.now }
-    requires whole { IsWhole (M.base mem.now) (M.bytes mem.now) }
-    ensures answer { result
-        ≡ place_or_trap (M.base mem.now) (M.bytes mem.now) csrs.now mode va width access }
-    ensures place { IfOk result (λ place. IsPlaceFor (M.base mem.now) (M.bytes mem.now) width place) }
+    ensures answer { result ≡ place_or_trap (M.memory mem.now) csrs.now mode va width access }
+    ensures place { IfOk result (λ place. IsPlaceFor (M.memory mem.now) width place) }
 {
     if !is_aligned(va, width) {
-        return Err(Trap::of_exception(mode, access.faults().misaligned, va));
+        return Err(misaligned(mode, va, access));
     }
-    translate(mem, csrs, mode, va, access)
+    mem.is_whole();
+    translate(mem, csrs, mode, va, access, false)
+}
+
+/// The same of a machine that has the device page or not, whose access may be on that page.
+#[tactic(auto, using(crate::proofs::Fitting::fits_at))]
+pub fn place_or_page<M: Mem>(
+    mem: &M,
+    device: bool,
+    csrs: &Csrs,
+    mode: Mode,
+    va: u64,
+    width: Width,
+    access: Access,
+) -> Result<Place, Trap>
+    requires backed { M.is_backed mem.now }
+    ensures answer { result ≡ place_or_page device (M.memory mem.now) csrs.now mode va width access }
+    ensures place { IfOk result (λ place. FitsIn (M.memory mem.now) width place) }
+{
+    if is_aligned(va, width) {
+        mem.is_whole();
+        locate(mem, csrs, mode, va, access, device)
+    } else {
+        Err(misaligned(mode, va, access))
+    }
 }
 
 /// The number at a place.
 #[tactic(auto, using(crate::proofs::Fitting::number_there))]
 pub fn read_at<M: Mem>(mem: &M, place: u64, width: Width) -> u64
     requires backed { M.is_backed mem.now }
-    requires place { IsPlaceFor (M.base mem.now) (M.bytes mem.now) width place }
-    ensures { result ≡ reading_of (M.base mem.now) (M.bytes mem.now) place (bytes_in width) }
+    requires place { IsPlaceFor (M.memory mem.now) width place }
+    ensures { result ≡ reading_of (M.memory mem.now) place (bytes_in width) }
 {
     match mem.get(place, width.bytes()) {
         Some(held) => held,
@@ -60,11 +89,11 @@ pub fn read_at<M: Mem>(mem: &M, place: u64, width: Width) -> u64
 #[tactic(auto, using(crate::proofs::Fitting::written_there, crate::proofs::Fitting::same_size))]
 pub fn write_at<M: Mem>(mem: &mut M, place: u64, width: Width, value: u64)
     requires backed { M.is_backed mem.old }
-    requires place { IsPlaceFor (M.base mem.old) (M.bytes mem.old) width place }
-    ensures bytes { M.bytes mem.new
-        ≡ with_stored (M.base mem.old) (storing place width value) (M.bytes mem.old) }
-    ensures size { length (M.bytes mem.new) ≡ length (M.bytes mem.old) }
-    ensures base { M.base mem.new ≡ M.base mem.old }
+    requires place { IsPlaceFor (M.memory mem.old) width place }
+    ensures bytes { (M.memory mem.new).bytes
+        ≡ with_stored (M.memory mem.old).base (storing place width value) (M.memory mem.old).bytes }
+    ensures size { length (M.memory mem.new).bytes ≡ length (M.memory mem.old).bytes }
+    ensures base { (M.memory mem.new).base ≡ (M.memory mem.old).base }
     ensures backed { M.is_backed mem.new }
     ensures keeps { M.keeps mem.old mem.new }
 {

@@ -38,14 +38,14 @@ pub fn complete<M: Mem>(
     place: u64,
 )
     requires backed { M.is_backed mem.old }
-    requires place { IsPlaceFor (M.base mem.old) (M.bytes mem.old) width place }
+    requires place { IsPlaceFor (M.memory mem.old) width place }
     ensures state { state.new ≡
-        (completed (reading_of (M.base mem.old) (M.bytes mem.old)) state.old width purpose place).state }
-    ensures bytes { M.bytes mem.new ≡ with_stored (M.base mem.old)
-        (completed (reading_of (M.base mem.old) (M.bytes mem.old)) state.old width purpose place).stored
-        (M.bytes mem.old) }
-    ensures size { length (M.bytes mem.new) ≡ length (M.bytes mem.old) }
-    ensures base { M.base mem.new ≡ M.base mem.old }
+        (completed (reading_of (M.memory mem.old)) state.old width purpose place).state }
+    ensures bytes { (M.memory mem.new).bytes ≡ with_stored (M.memory mem.old).base
+        (completed (reading_of (M.memory mem.old)) state.old width purpose place).stored
+        (M.memory mem.old).bytes }
+    ensures size { length (M.memory mem.new).bytes ≡ length (M.memory mem.old).bytes }
+    ensures base { (M.memory mem.new).base ≡ (M.memory mem.old).base }
     ensures backed { M.is_backed mem.new }
     ensures keeps { (mem.new ≡ mem.old) ⊎ M.keeps mem.old mem.new }
 {
@@ -73,9 +73,9 @@ pub fn complete<M: Mem>(
 #[inline(always)]
 pub fn load<M: Mem>(mem: &M, state: &mut Virtual, width: Width, signed: bool, rd: Reg, place: u64)
     requires backed { M.is_backed mem.now }
-    requires place { IsPlaceFor (M.base mem.now) (M.bytes mem.now) width place }
+    requires place { IsPlaceFor (M.memory mem.now) width place }
     ensures { state.new ≡ sets state.old rd
-        (extended width signed (reading_of (M.base mem.now) (M.bytes mem.now) place (bytes_in width))) }
+        (extended width signed (reading_of (M.memory mem.now) place (bytes_in width))) }
 {
     let held = read_at(mem, place, width);
     state.set(rd, extend(width, signed, held));
@@ -85,12 +85,12 @@ pub fn load<M: Mem>(mem: &M, state: &mut Virtual, width: Width, signed: bool, rd
 #[inline(always)]
 pub fn store<M: Mem>(mem: &mut M, state: &mut Virtual, width: Width, value: u64, place: u64)
     requires backed { M.is_backed mem.old }
-    requires place { IsPlaceFor (M.base mem.old) (M.bytes mem.old) width place }
+    requires place { IsPlaceFor (M.memory mem.old) width place }
     ensures state { state.new ≡ passed state.old }
-    ensures bytes { M.bytes mem.new
-        ≡ with_stored (M.base mem.old) (storing place width value) (M.bytes mem.old) }
-    ensures size { length (M.bytes mem.new) ≡ length (M.bytes mem.old) }
-    ensures base { M.base mem.new ≡ M.base mem.old }
+    ensures bytes { (M.memory mem.new).bytes
+        ≡ with_stored (M.memory mem.old).base (storing place width value) (M.memory mem.old).bytes }
+    ensures size { length (M.memory mem.new).bytes ≡ length (M.memory mem.old).bytes }
+    ensures base { (M.memory mem.new).base ≡ (M.memory mem.old).base }
     ensures backed { M.is_backed mem.new }
     ensures keeps { M.keeps mem.old mem.new }
 {
@@ -119,12 +119,12 @@ fn store_if<M: Mem>(
     place: u64,
 )
     requires backed { M.is_backed mem.old }
-    requires place { IsPlaceFor (M.base mem.old) (M.bytes mem.old) width place }
+    requires place { IsPlaceFor (M.memory mem.old) width place }
     ensures state { state.new ≡ (stored_if reserved state.old width value rd place).state }
-    ensures bytes { M.bytes mem.new ≡ with_stored (M.base mem.old)
-        (stored_if reserved state.old width value rd place).stored (M.bytes mem.old) }
-    ensures size { length (M.bytes mem.new) ≡ length (M.bytes mem.old) }
-    ensures base { M.base mem.new ≡ M.base mem.old }
+    ensures bytes { (M.memory mem.new).bytes ≡ with_stored (M.memory mem.old).base
+        (stored_if reserved state.old width value rd place).stored (M.memory mem.old).bytes }
+    ensures size { length (M.memory mem.new).bytes ≡ length (M.memory mem.old).bytes }
+    ensures base { (M.memory mem.new).base ≡ (M.memory mem.old).base }
     ensures backed { M.is_backed mem.new }
     ensures keeps { (mem.new ≡ mem.old) ⊎ M.keeps mem.old mem.new }
 {

@@ -5,7 +5,7 @@ use Rattle.arch_defs.specs.declared.modes.Trap.{Trap}
 use Rattle.arch_defs.specs.declared.registers.Csrs.{Csrs}
 use Rattle.arch_defs.specs.declared.registers.Virtual.{Virtual}
 use Rattle.arch_defs.specs.CsrAccess.{read_csr, write_csr}
-use Rattle.arch_defs.specs.Memory.{Reading, SecondStage}
+use Rattle.arch_defs.specs.Memory.{Mmu}
 use Rattle.op_defs.specs.declared.ops.CsrOp.{CsrOp}
 use Rattle.op_defs.specs.declared.ops.Op.{Op}
 use Rattle.op_defs.specs.declared.ops.Op.TheVariants as op
@@ -43,13 +43,13 @@ returned : (state : Virtual) (word : ℕ) (end : Option CsrEnd) → EndsAtOnce (
 returned state word (Some end) = tt
 returned state word None = tt
 
-pub ends_at_once : (o : Op) (state : Virtual) (word : ℕ) (second : SecondStage) (reading : Reading) → IsCsrOrSret o
-    → EndsAtOnce (decoded second reading state word (Some o))
+pub ends_at_once : (o : Op) (state : Virtual) (word : ℕ) (through : Mmu) → IsCsrOrSret o
+    → EndsAtOnce (decoded through state word (Some o))
 unfolding privileged refusal meaning
-ends_at_once (op.Csr o source rd number) state word second reading kind =
+ends_at_once (op.Csr o source rd number) state word through kind =
     accessed state word o number (operand_of source state.regs) (writes o source) rd
-ends_at_once op.Sret state word second reading kind = returned state word (refusal Sret state.csrs.hstatus state.mode)
-ends_at_once other state word second reading kind = absurd kind
+ends_at_once op.Sret state word through kind = returned state word (refusal Sret state.csrs.hstatus state.mode)
+ends_at_once other state word through kind = absurd kind
 
 -- the mode decides on them
 pub kind_decided : (o : Op) → IsCsrOrSret o → is_decided o ≡ true

@@ -1,7 +1,7 @@
 -- What `emulate` and `access` answer and leave, as the end of an instruction.
 use Rattle.std.specs.Prelude.{◌≡◌, ⊤, Bool, true, false, Some, None}
 use Rattle.arch_defs.specs.declared.registers.Virtual.{Virtual}
-use Rattle.arch_defs.specs.Memory.{Reading, SecondStage}
+use Rattle.arch_defs.specs.Memory.{Mmu}
 use Rattle.op_defs.specs.declared.ops.Op.{Op}
 use Rattle.op_defs.specs.declared.ops.Op.TheVariants as op
 use Rattle.machine_defs.specs.declared.events.Event.TheVariants.{System}
@@ -33,11 +33,10 @@ IsCsrOrSret (op.Csr o source rd number) = ⊤
 IsCsrOrSret op.Sret = ⊤
 IsCsrOrSret other = ⊥
 
--- the instruction that was decoded to this op ends so, whatever is in memory. Its word is the one that the op
--- is encoded to: an op of opcode SYSTEM has no other (`SystemOpHasOneWord` of `rv64_asm`)
+-- the instruction that was decoded to this op ends so, whatever its accesses go through. Its word is the one
+-- that the op is encoded to: an op of opcode SYSTEM has no other (`SystemOpHasOneWord` of `rv64_asm`)
 abbrev pub EndsSo : Op → Virtual → Outcome → Type 0
-EndsSo o before end = (second : SecondStage) (reading : Reading)
-    → decoded second reading before (encoded o) (Some o) ≡ end
+EndsSo o before end = (through : Mmu) → decoded through before (encoded o) (Some o) ≡ end
 
 -- how it ended, by the answer of `emulate` and the state after it
 abbrev pub emulated_outcome : Emulated → Virtual → Outcome

@@ -3,7 +3,7 @@ use Rattle.std.proofs.Common.{◌≡◌, ℕ, true, Option, Some, None, refl}
 use Rattle.arch_defs.specs.declared.csr_names.CsrEnd.{CsrEnd}
 use Rattle.arch_defs.specs.declared.modes.Trap.{Trap}
 use Rattle.arch_defs.specs.declared.registers.Virtual.{Virtual}
-use Rattle.arch_defs.specs.Memory.{Reading, SecondStage}
+use Rattle.arch_defs.specs.Memory.{Mmu}
 use Rattle.op_defs.specs.declared.ops.DataAccess.{DataAccess}
 use Rattle.op_defs.specs.declared.ops.Op.{Op}
 use Rattle.op_defs.specs.declared.ops.Op.TheVariants as op
@@ -27,16 +27,16 @@ by_refusal : (state : Virtual) (word : ℕ) (wanted : DataAccess) (end : Option 
 by_refusal state word wanted (Some end) = tt
 by_refusal state word wanted None = tt
 
-pub accesses_or_traps : (o : Op) (state : Virtual) (word : ℕ) (second : SecondStage) (reading : Reading) → IsHlvOrHsv o
-    → AccessesOrTraps (decoded second reading state word (Some o))
+pub accesses_or_traps : (o : Op) (state : Virtual) (word : ℕ) (through : Mmu) → IsHlvOrHsv o
+    → AccessesOrTraps (decoded through state word (Some o))
 unfolding privileged meaning
-accesses_or_traps (op.GuestLoad width signed rd rs1) state word second reading kind =
+accesses_or_traps (op.GuestLoad width signed rd rs1) state word through kind =
     by_refusal state word _ (refusal (HlvAccess _) state.csrs.hstatus state.mode)
-accesses_or_traps (op.GuestFetch width rd rs1) state word second reading kind =
+accesses_or_traps (op.GuestFetch width rd rs1) state word through kind =
     by_refusal state word _ (refusal (HlvAccess _) state.csrs.hstatus state.mode)
-accesses_or_traps (op.GuestStore width rs1 rs2) state word second reading kind =
+accesses_or_traps (op.GuestStore width rs1 rs2) state word through kind =
     by_refusal state word _ (refusal (HlvAccess _) state.csrs.hstatus state.mode)
-accesses_or_traps other state word second reading kind = absurd kind
+accesses_or_traps other state word through kind = absurd kind
 
 -- the mode decides on them
 pub kind_decided : (o : Op) → IsHlvOrHsv o → is_decided o ≡ true

@@ -1,13 +1,19 @@
 // HLV, HLVX and HSV (Privileged Architecture 20211203, 8.2.1, 8.3.1 and 8.6.1).
 
 ghost use Rattle.std.specs.Prelude.{◌≡◌, ◌⊎◌, length};
+ghost use Rattle.arch_defs.specs.Consoles.{ConsoleState};
+ghost use Rattle.arch_defs.specs.Memory.{Memory};
+ghost use Rattle.arch_defs.specs.Traps.{exception, faults_of};
+ghost use Rattle.machine_defs.specs.Core.{kind_of};
+ghost use Rattle.machine_defs.specs.DeviceSteps.{device_completed};
 ghost use Rattle.machine_defs.specs.HlvAccesses.{hlv_mode, hlv_outcome};
-ghost use Rattle.two_stage_walk.specs.Places.{IsWhole};
 ghost use Rattle.hcsr_emulation.specs.Ends.{IfAccessRaised};
-ghost use Rattle.hlv_hsv.specs.Ends.{EndsAs, IsAccessed, IsHlvOp};
+ghost use Rattle.hlv_hsv.specs.Ends.{EndsAs, IsAccessed, IsHlvOp, hlv_left, hlv_state, served_from};
 
-use arch_defs::{Csrs, Mode, Virtual};
-use data_access::{complete, kind_of, place_for};
+use arch_defs::{Csrs, Mode, Trap, Virtual};
+use console_dev::Console;
+use data_access::{Place, complete, kind_of, place_or_page};
+use device_page::serve;
 use hcsr_emulation::{Accessed, Emulated, emulate};
 use op_defs::{DataAccess, Op};
 use phys_mem::Mem;
@@ -26,22 +32,27 @@ fn hlv_mode(csrs: &Csrs) -> Mode
 /// Makes an HLV, HLVX or HSV, or tells its trap. Where the mode does not allow it, that is an illegal
 /// instruction or a virtual one (8.6.1), with the word of the instruction. Else the access is made as VS
 /// where hstatus.SPVP is set, else as VU, under vsatp, vsstatus and hgatp, by tables as memory has them
-/// (8.2.1, 8.3.1, 8.5); its trap is one of an access with V = 1, with its `gva`. The caller takes the trap in
-/// the mode of the instruction.
-pub fn access<M: Mem>(mem: &mut M, state: &mut Virtual, op: Op) -> Accessed
+/// (8.2.1, 8.3.1, 8.5), in memory or, of a guest that has the device page, there; its trap is one of an
+/// access with V = 1, with its `gva`. The caller takes the trap in the mode of the instruction.
+pub fn access<M: Mem>(
+    mem: &mut M,
+    state: &mut Virtual,
+    op: Op,
+    device: bool,
+    console: &mut Console,
+) -> Accessed
     requires backed { M.is_backed mem.old }
-    requires whole { IsWhole (M.base mem.old) (M.bytes mem.old) }
     requires op { IsHlvOp op }
-    ensures ends { IsAccessed op (M.base mem.old) (M.bytes mem.old) state.old
-        result state.new (M.bytes mem.new) }
-    ensures stays { IfAccessRaised result ((state.new ≡ state.old) × (mem.new ≡ mem.old)) }
-    ensures layout { (M.base mem.new ≡ M.base mem.old)
-        × (length (M.bytes mem.new) ≡ length (M.bytes mem.old)) }
+    ensures ends { IsAccessed op device (hlv_state state.old (M.memory mem.old) console.old)
+        result (hlv_state state.new (M.memory mem.new) console.new) }
+    ensures stays { IfAccessRaised result
+        ((state.new ≡ state.old) × (console.new ≡ console.old) × (mem.new ≡ mem.old)) }
+    ensures size { length (M.memory mem.new).bytes ≡ length (M.memory mem.old).bytes }
     ensures backed { M.is_backed mem.new }
     ensures keeps { (mem.new ≡ mem.old) ⊎ M.keeps mem.old mem.new }
 {
     match emulate(state, op) {
-        Emulated::Accesses(wanted) => make(mem, state, wanted),
+        Emulated::Accesses(wanted) => make(mem, state, wanted, device, console),
         Emulated::Raise(trap) => Accessed::Raise(trap),
         _ => unreachable!(),
     }
@@ -49,25 +60,57 @@ pub fn access<M: Mem>(mem: &mut M, state: &mut Virtual, op: Op) -> Accessed
 
 // Makes an access that the mode allows. An address that is no multiple of the width traps before it is
 // translated (own).
-fn make<M: Mem>(mem: &mut M, state: &mut Virtual, wanted: DataAccess) -> Accessed
+fn make<M: Mem>(
+    mem: &mut M,
+    state: &mut Virtual,
+    wanted: DataAccess,
+    device: bool,
+    console: &mut Console,
+) -> Accessed
     requires backed { M.is_backed mem.old }
-    requires whole { IsWhole (M.base mem.old) (M.bytes mem.old) }
-    ensures ends { EndsAs (M.base mem.old) (M.bytes mem.old)
-        (hlv_outcome (M.base mem.old) (M.bytes mem.old) state.old wanted)
-        result state.new (M.bytes mem.new) }
-    ensures stays { IfAccessRaised result ((state.new ≡ state.old) × (mem.new ≡ mem.old)) }
-    ensures layout { (M.base mem.new ≡ M.base mem.old)
-        × (length (M.bytes mem.new) ≡ length (M.bytes mem.old)) }
+    ensures ends { EndsAs (hlv_left wanted (hlv_state state.old (M.memory mem.old) console.old)
+        (hlv_outcome device (M.memory mem.old) state.old wanted))
+        result (hlv_state state.new (M.memory mem.new) console.new) }
+    ensures stays { IfAccessRaised result
+        ((state.new ≡ state.old) × (console.new ≡ console.old) × (mem.new ≡ mem.old)) }
+    ensures size { length (M.memory mem.new).bytes ≡ length (M.memory mem.old).bytes }
     ensures backed { M.is_backed mem.new }
     ensures keeps { (mem.new ≡ mem.old) ⊎ M.keeps mem.old mem.new }
 {
     let mode = hlv_mode(&state.csrs);
     let kind = kind_of(wanted.purpose);
-    match place_for(mem, &state.csrs, mode, wanted.address, wanted.width, kind) {
-        Ok(place) => {
+    let csrs = &state.csrs;
+    match place_or_page(mem, device, csrs, mode, wanted.address, wanted.width, kind) {
+        Ok(Place::InMemory(place)) => {
             complete(mem, state, wanted.width, wanted.purpose, place);
             Accessed::Done
         }
+        Ok(Place::OnDevice(offset)) => serve_or_fault(state, console, mode, wanted, offset),
         Err(trap) => Accessed::Raise(trap),
+    }
+}
+
+// Makes it on the device page. Where the page does not serve it, that is an access fault.
+fn serve_or_fault(
+    state: &mut Virtual,
+    console: &mut Console,
+    mode: Mode,
+    wanted: DataAccess,
+    offset: u64,
+) -> Accessed
+    ensures ends { (memory : Memory) → EndsAs
+        (served_from (hlv_state state.old memory console.old)
+        (exception mode (faults_of (kind_of wanted.purpose)).access wanted.address)
+        (device_completed state.old console.old state.old.csrs.time offset wanted.width wanted.purpose))
+        result (hlv_state state.new memory console.new) }
+    ensures stays { IfAccessRaised result
+        ((state.new ≡ state.old) × (console.new ≡ console.old)) }
+{
+    let clock = state.csrs.time;
+    if serve(state, console, clock, offset, wanted.width, wanted.purpose) {
+        Accessed::Done
+    } else {
+        let cause = kind_of(wanted.purpose).faults().access;
+        Accessed::Raise(Trap::of_exception(mode, cause, wanted.address))
     }
 }

@@ -6,10 +6,11 @@ use Rattle.std.proofs.lemmas.List.{get_or_past}
 use Rattle.arch_defs.specs.declared.modes.Access.{Access}
 use Rattle.arch_defs.specs.declared.modes.Access.TheVariants.{Fetch, Load, Store, ExecLoad, Implicit}
 use Rattle.arch_defs.specs.declared.walks.LeafPte.{LeafPte}
+use Rattle.arch_defs.specs.declared.second_walks.SecondWalkEnd.TheVariants.{GuestPageFault}
 use Rattle.arch_defs.specs.declared.walks.WalkEnd.TheVariants.{Leaf, PageFault}
 use Rattle.arch_defs.specs.Frames.{Apart, LieIn, Only, Same, Within, in_blocks, within}
 use Rattle.arch_defs.specs.Layouts.{Layout, NamesEachOnce, host_frames, in_tables, named_by, root_frames, table_frames}
-use Rattle.arch_defs.specs.Memory.{block_size, ram_base}
+use Rattle.arch_defs.specs.Memory.{block_size, machine_memory, ram_base}
 use Rattle.arch_defs.specs.Permits.{permits_second}
 use Rattle.arch_defs.specs.Ram.{SlicesLieIn, host_place}
 use Rattle.arch_defs.specs.SecondStage.{memory_words, place_under, second_end, second_walk}
@@ -17,7 +18,7 @@ use Rattle.arch_defs.proofs.FrameSets.{apart_sym, joined_within, kept, left_with
 use Rattle.arch_defs.proofs.RamBlocks.{blocks_lie_in}
 use Rattle.arch_defs.proofs.Rooms.{first_lies}
 use Rattle.host_tables.specs.HostTable.{IsHostTable, block_leaf_word, root_word}
-use Rattle.host_tables.specs.Walks.{IsHeld, GivesRam}
+use Rattle.host_tables.specs.Walks.{IsHeld, GivesRam, OutsideIsGuestPageFault}
 use Rattle.table_words.specs.Entries.{ReadsIn}
 use Rattle.table_words.proofs.Readings.{has, memory_reads, root_frame}
 use Rattle.host_tables.proofs.Entries.{entries_stay, root_in, root_room, table_in, table_room}
@@ -37,7 +38,7 @@ host_in_part part frame is = right_within (in_blocks part.blocks) (in_tables par
 none_before : (n : ℕ) → 0 + n ≡ n
 none_before n = omega arith
 
-reads : (part : Layout) (memory : List ℕ) → LieIn (named_by part) (length memory) → ReadsIn (host_frames part) memory (memory_words 0 memory)
+reads : (part : Layout) (memory : List ℕ) → LieIn (named_by part) (length memory) → ReadsIn (host_frames part) memory (memory_words (machine_memory memory))
 reads part memory lie = memory_reads (host_frames part) memory (λ frame is. lie frame (host_in_part part frame is))
 
 -- each access is permitted under a leaf with all permissions
@@ -64,7 +65,7 @@ in_memory block r size lies small = omega (arith, lies, small)
 -- the walk's end in RAM and outside it
 in_ram_end : (memory : List ℕ) (mxr : Bool) (blocks : List ℕ) (address : ℕ) (access : Access) → SlicesLieIn block_size blocks (length memory)
     → 2147483648 ≤ address → address < 2147483648 + length blocks * 2097152
-    → place_under address (second_end 0 memory mxr address access (Leaf (full (slice_index blocks ((address - ram_base) / block_size) * 512))))
+    → place_under address (second_end (machine_memory memory) mxr address access (Leaf (full (slice_index blocks ((address - ram_base) / block_size) * 512))))
     ≡ Some (host_place blocks (address - ram_base))
 in_ram_end memory mxr blocks address access lie from to =
     let block = slice_index blocks ((address - ram_base) / block_size) in
@@ -94,7 +95,7 @@ blocks_small blocks size lie small i = by (cases_lt i (length blocks))
 -- by where the address is
 end_by : (memory : List ℕ) (mxr : Bool) (blocks : List ℕ) (address : ℕ) (access : Access) → SlicesLieIn block_size blocks (length memory) → (b : Bool)
     → (nat_le ram_base address && nat_lt address (ram_base + length blocks * block_size)) ≡ b
-    → place_under address (second_end 0 memory mxr address access (cond b (Leaf (full (slice_index blocks ((address - ram_base) / block_size) * 512))) PageFault))
+    → place_under address (second_end (machine_memory memory) mxr address access (cond b (Leaf (full (slice_index blocks ((address - ram_base) / block_size) * 512))) PageFault))
     ≡ cond b (Some (host_place blocks (address - ram_base))) None
 end_by memory mxr blocks address access lie true is =
     in_ram_end memory mxr blocks address access lie (grind (arith, is)) (grind (arith, is))
@@ -107,8 +108,23 @@ gives_ram part once memory mxr vmid address access held =
     let lie = blocks_lie_in part.blocks (length memory) (first_lies (in_blocks part.blocks) (in_tables part) (length memory) held.lies) in
     let root = root_frame part.first_root once.aligned (root_small part.first_root (length memory) (root_room part (length memory) held.lies) held.size) in
     let walked = walks_to_ram part once.few (table_small part.first_table (length memory) (table_room part (length memory) held.lies) held.size)
-    (blocks_small part.blocks (length memory) lie held.size) memory (memory_words 0 memory) address access held.table (reads part memory held.lies) in
+    (blocks_small part.blocks (length memory) lie held.size) memory (memory_words (machine_memory memory)) address access held.table (reads part memory held.lies) in
     rw (root, walked) (end_by memory mxr part.blocks address access lie _ refl)
+
+-- so where there is no place the walk has no leaf
+no_leaf : (memory : List ℕ) (mxr : Bool) (blocks : List ℕ) (address : ℕ) (access : Access) → (b : Bool) → cond b (Some (host_place blocks (address - ram_base))) None ≡ None
+    → second_end (machine_memory memory) mxr address access (cond b (Leaf (full (slice_index blocks ((address - ram_base) / block_size) * 512))) PageFault) ≡ GuestPageFault
+no_leaf memory mxr blocks address access true none = absurd (cc)
+no_leaf memory mxr blocks address access false none = refl
+
+pub host_misses : (part : Layout) → NamesEachOnce part → OutsideIsGuestPageFault part
+unfolding second_walk
+host_misses part once memory mxr address access held none =
+    let lie = blocks_lie_in part.blocks (length memory) (first_lies (in_blocks part.blocks) (in_tables part) (length memory) held.lies) in
+    let root = root_frame part.first_root once.aligned (root_small part.first_root (length memory) (root_room part (length memory) held.lies) held.size) in
+    let walked = walks_to_ram part once.few (table_small part.first_table (length memory) (table_room part (length memory) held.lies) held.size)
+    (blocks_small part.blocks (length memory) lie held.size) memory (memory_words (machine_memory memory)) address access held.table (reads part memory held.lies) in
+    rw (root, walked) (no_leaf memory mxr part.blocks address access (nat_le ram_base address && nat_lt address (ram_base + length part.blocks * block_size)) none)
 
 -- the host table stays where the bytes of its frames do
 pub table_stays : (part : Layout) (old new : List ℕ) → Same (host_frames part) old new → IsHostTable part old → IsHostTable part new

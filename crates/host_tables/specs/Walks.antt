@@ -1,15 +1,16 @@
 -- What the walk of a host table gives.
-use Rattle.std.specs.Prelude.{ℕ, ◌≡◌, ◌+◌, ◌-◌, ◌*◌, ◌/◌, ◌≤◌, ◌^◌, ◌&&◌, Bool, true, List, length, slice_index, nat_le, nat_lt, if◌then◌else◌}
+use Rattle.std.specs.Prelude.{ℕ, ◌≡◌, ◌+◌, ◌-◌, ◌*◌, ◌/◌, ◌≤◌, ◌^◌, ◌&&◌, Bool, true, List, length, None, slice_index, nat_le, nat_lt, if◌then◌else◌}
 use Rattle.arch_defs.specs.declared.modes.Access.{Access}
 use Rattle.arch_defs.specs.declared.roots.GuestRoot.TheVariants as root
+use Rattle.arch_defs.specs.declared.second_walks.SecondWalkEnd.TheVariants.{GuestPageFault}
 use Rattle.arch_defs.specs.declared.walks.WalkEnd.{WalkEnd}
 use Rattle.arch_defs.specs.declared.walks.WalkEnd.TheVariants.{Leaf, PageFault}
 use Rattle.arch_defs.specs.Frames.{LieIn}
 use Rattle.arch_defs.specs.Layouts.{Layout, host_frames, named_by}
-use Rattle.arch_defs.specs.Memory.{ram_base, block_size}
+use Rattle.arch_defs.specs.Memory.{machine_memory, ram_base, block_size}
 use Rattle.arch_defs.specs.Ram.{host_answer}
 use Rattle.arch_defs.specs.Roots.{guest_shape, host_mode}
-use Rattle.arch_defs.specs.SecondStage.{second_under}
+use Rattle.arch_defs.specs.SecondStage.{second_under, second_walk}
 use Rattle.arch_defs.specs.Walk.{EntryReading, walk}
 use Rattle.host_tables.specs.HostTable.{IsHostTable}
 use Rattle.table_words.specs.Entries.{ReadsIn}
@@ -44,5 +45,12 @@ pub record IsHeld (part : Layout) (memory : List ℕ) : Type 0 where
 -- the second stage by that table has each guest physical address of RAM at its place, and no other
 abbrev pub GivesRam : Layout → Type 0
 GivesRam part = (memory : List ℕ) (mxr : Bool) (vmid address : ℕ) (access : Access) → IsHeld part memory
-    → second_under 0 memory mxr (root.Table host_mode vmid part.first_root) address access
+    → second_under (machine_memory memory) mxr (root.Table host_mode vmid part.first_root) address access
     ≡ host_answer part.blocks address
+
+-- and where it has no place for one, its walk is a guest-page fault, and no access fault
+abbrev pub OutsideIsGuestPageFault : Layout → Type 0
+OutsideIsGuestPageFault part = (memory : List ℕ) (mxr : Bool) (address : ℕ) (access : Access)
+    → IsHeld part memory → host_answer part.blocks address ≡ None
+    → second_walk (machine_memory memory) mxr (guest_shape host_mode) part.first_root address access
+    ≡ GuestPageFault

@@ -1,6 +1,6 @@
 // The law of the host table's walk.
 
-ghost use Rattle.host_tables.specs.Walks.{GivesRam, WalksToRam};
+ghost use Rattle.host_tables.specs.Walks.{GivesRam, OutsideIsGuestPageFault, WalksToRam};
 
 use arch_defs::Part;
 
@@ -15,9 +15,11 @@ pub fn walks_to_ram(part: &Part)
 }
 
 /// The second stage by the host table of a part, for memory of at most 512 MiB that holds the part, has each
-/// guest physical address of RAM at its place in the blocks, and no other address anywhere.
+/// guest physical address of RAM at its place in the blocks, and no other address anywhere: the walk of
+/// another is a guest-page fault.
 pub fn gives_ram(part: &Part)
-    ensures { GivesRam part.now }
+    ensures places { GivesRam part.now }
+    ensures misses { OutsideIsGuestPageFault part.now }
 {
     part.names_each_once();
 }

@@ -3,12 +3,12 @@ use Rattle.std.proofs.Common.{◌≡◌, ℕ, ◌+◌, ◌-◌, ◌*◌, ◌/◌
 use Rattle.std.proofs.lemmas.Bool.{and_from, and_left, and_right, le-leb, lt-leb, cases_lt}
 use Rattle.byteorder.specs.Endian.{little_bytes}
 use Rattle.byteorder.specs.Numbers.{length-bytes_low_first}
-use Rattle.arch_defs.specs.Memory.{ram_base, block_size, load, pasted}
+use Rattle.arch_defs.specs.Memory.{ram_base, block_size, load, pasted, ram_memory}
 use Rattle.arch_defs.specs.Frames.{in_blocks, LieIn, Only}
 use Rattle.arch_defs.specs.Ram.{ram_of, host_place, IsDistinct}
 use Rattle.arch_defs.proofs.FrameSets.{only_pasted}
 use Rattle.arch_defs.proofs.RamBlocks.{blocks_lie_in, ram_length, place_named, place_held, ram_load, ram_pasted}
-use Rattle.phys_mem.specs.MemoryBytes.{IsWidth, is_inside, number_at, bytes_with}
+use Rattle.phys_mem.specs.MemoryBytes.{IsWhole, IsWidth, is_inside, number_at, bytes_with}
 use Rattle.phys_mem.proofs.Places.{fits, in_frame}
 
 -- a number that lies at a multiple of its width lies in one block, and its place is such a multiple
@@ -87,7 +87,7 @@ pub aligned_offset : (width at offset : ℕ) → IsWidth width → at ≡ ram_ba
 aligned_offset width at offset w is aligned = offset_multiple width at offset w is aligned
 
 pub shown : (blocks memory : List ℕ) (at offset width : ℕ) → IsWidth width → LieIn (in_blocks blocks) (length memory) → at ≡ ram_base + offset → at % width ≡ 0
-    → offset < length blocks * block_size → is_inside ram_base (ram_of blocks memory) at width ≡ true
+    → offset < length blocks * block_size → is_inside (ram_memory (ram_of blocks memory)) at width ≡ true
 shown blocks memory at offset width w lie is aligned h =
     let size = ram_length blocks memory (blocks_lie_in blocks (length memory) lie) in
     let room = inside_ram blocks offset width w (offset_multiple width at offset w is aligned) h in
@@ -101,13 +101,13 @@ some_width width (inr (inr (inl e))) = omega arith
 some_width width (inr (inr (inr e))) = omega arith
 
 pub hidden : (blocks memory : List ℕ) (at width : ℕ) → IsWidth width → LieIn (in_blocks blocks) (length memory)
-    → (ram_base ≤ at → ram_base + length blocks * block_size ≤ at) → is_inside ram_base (ram_of blocks memory) at width ≡ false
+    → (ram_base ≤ at → ram_base + length blocks * block_size ≤ at) → is_inside (ram_memory (ram_of blocks memory)) at width ≡ false
 hidden blocks memory at width w lie out = by (cases_lt at ram_base)
   where
     size : length (ram_of blocks memory) ≡ length blocks * block_size
     size = ram_length blocks memory (blocks_lie_in blocks (length memory) lie)
 
-    by : (at < ram_base) ⊎ (ram_base ≤ at) → is_inside ram_base (ram_of blocks memory) at width ≡ false
+    by : (at < ram_base) ⊎ (ram_base ≤ at) → is_inside (ram_memory (ram_of blocks memory)) at width ≡ false
     by (inl below) = and_left (nat_le ram_base at) (nat_le (at + width) (ram_base + length (ram_of blocks memory))) (lt-leb ram_base at below)
     by (inr from) =
         and_right (nat_le ram_base at) (nat_le (at + width) (ram_base + length (ram_of blocks memory)))
@@ -118,19 +118,29 @@ offset_back : (at offset : ℕ) → at ≡ 0x80000000 + offset → at - 0x800000
 offset_back at offset is = omega arith
 
 pub got : (blocks memory : List ℕ) (at offset width value : ℕ) → IsWidth width → LieIn (in_blocks blocks) (length memory) → at ≡ ram_base + offset → at % width ≡ 0
-    → offset < length blocks * block_size → value ≡ load (ram_of blocks memory) offset width → Some value ≡ number_at ram_base (ram_of blocks memory) at width
+    → offset < length blocks * block_size → value ≡ load (ram_of blocks memory) offset width → Some value ≡ number_at (ram_memory (ram_of blocks memory)) at width
 got blocks memory at offset width value w lie is aligned h e =
     rw (shown blocks memory at offset width w lie is aligned h, offset_back at offset is, e) refl
 
 pub got_none : (blocks memory : List ℕ) (at width : ℕ) → IsWidth width → LieIn (in_blocks blocks) (length memory)
-    → (ram_base ≤ at → ram_base + length blocks * block_size ≤ at) → None ≡ number_at ram_base (ram_of blocks memory) at width
+    → (ram_base ≤ at → ram_base + length blocks * block_size ≤ at) → None ≡ number_at (ram_memory (ram_of blocks memory)) at width
 got_none blocks memory at width w lie out = rw (hidden blocks memory at width w lie out) refl
 
 pub put_there : (blocks memory bytes : List ℕ) (at offset width value : ℕ) → IsWidth width → LieIn (in_blocks blocks) (length memory) → at ≡ ram_base + offset → at % width ≡ 0
-    → offset < length blocks * block_size → bytes ≡ pasted (ram_of blocks memory) offset (little_bytes width value) → bytes ≡ bytes_with ram_base (ram_of blocks memory) at width value
+    → offset < length blocks * block_size → bytes ≡ pasted (ram_of blocks memory) offset (little_bytes width value) → bytes ≡ bytes_with (ram_memory (ram_of blocks memory)) at width value
 put_there blocks memory bytes at offset width value w lie is aligned h e =
     rw (shown blocks memory at offset width w lie is aligned h, offset_back at offset is) e
 
 pub put_nowhere : (blocks memory : List ℕ) (at width value : ℕ) → IsWidth width → LieIn (in_blocks blocks) (length memory)
-    → (ram_base ≤ at → ram_base + length blocks * block_size ≤ at) → ram_of blocks memory ≡ bytes_with ram_base (ram_of blocks memory) at width value
+    → (ram_base ≤ at → ram_base + length blocks * block_size ≤ at) → ram_of blocks memory ≡ bytes_with (ram_memory (ram_of blocks memory)) at width value
 put_nowhere blocks memory at width value w lie out = rw (hidden blocks memory at width w lie out) refl
+
+-- RAM is of whole blocks
+blocks_whole : (size count : ℕ) → size ≡ count * block_size → size % 4096 ≡ 0
+blocks_whole size count is = rw is (omega arith)
+
+pub ram_whole : (blocks memory : List ℕ) → LieIn (in_blocks blocks) (length memory) → IsWhole (ram_memory (ram_of blocks memory))
+ram_whole blocks memory lie = record {
+  aligned = refl;
+  size = blocks_whole (length (ram_of blocks memory)) (length blocks) (ram_length blocks memory (blocks_lie_in blocks (length memory) lie));
+}

@@ -1,14 +1,13 @@
 // What is read and written as memory is.
 
-ghost use Rattle.std.specs.Prelude.{◌≡◌, ℕ, ◌%◌, List};
-ghost use Rattle.phys_mem.specs.MemoryBytes.{IsWidth, is_inside, number_at, bytes_with};
+ghost use Rattle.std.specs.Prelude.{◌≡◌, ◌%◌};
+ghost use Rattle.arch_defs.specs.Memory.{Memory};
+ghost use Rattle.phys_mem.specs.MemoryBytes.{IsWhole, IsWidth, is_inside, number_at, bytes_with};
 
 /// Memory: bytes from a base on, read and written little endian.
 pub trait Mem {
-    // The address of the first byte.
-    ghost base: { Self → ℕ };
-
-    ghost bytes: { Self → List ℕ };
+    // The bytes, and the address of the first one.
+    ghost memory: { Self → Memory };
 
     // What it stands on is there: so of a view, whose places lie in memory.
     ghost is_backed: { Self → Type 0 };
@@ -21,7 +20,7 @@ pub trait Mem {
         requires width { IsWidth width }
         requires aligned { at % width ≡ 0 }
         requires backed { is_backed self.now }
-        ensures { result ≡ number_at (base self.now) (bytes self.now) at width };
+        ensures { result ≡ number_at (memory self.now) at width };
 
     /// Writes the low bytes of a value to a place, and tells whether they are all in memory. Where they
     /// are not, nothing changes.
@@ -29,9 +28,14 @@ pub trait Mem {
         requires width { IsWidth width }
         requires aligned { at % width ≡ 0 }
         requires backed { is_backed self.old }
-        ensures inside { result ≡ is_inside (base self.old) (bytes self.old) at width }
-        ensures bytes { bytes self.new ≡ bytes_with (base self.old) (bytes self.old) at width value }
-        ensures base { base self.new ≡ base self.old }
+        ensures inside { result ≡ is_inside (memory self.old) at width }
+        ensures bytes { (memory self.new).bytes ≡ bytes_with (memory self.old) at width value }
+        ensures base { (memory self.new).base ≡ (memory self.old).base }
         ensures backed { is_backed self.new }
         ensures keeps { keeps self.old self.new };
+
+    /// It is of whole frames.
+    fn is_whole(&self)
+        requires backed { is_backed self.now }
+        ensures { IsWhole (memory self.now) };
 }

@@ -3,8 +3,8 @@
 ghost use Rattle.std.specs.Prelude.{◌≡◌, ℕ, ◌+◌, ◌*◌, ◌%◌, ◌<◌, ◌≤◌, ⊤, length, IfOk};
 ghost use Rattle.byteorder.specs.Endian.{little_bytes};
 ghost use Rattle.arch_defs.specs.Frames.{most_frames};
-ghost use Rattle.arch_defs.specs.Memory.{block_size, load, pasted, zeros};
-ghost use Rattle.phys_mem.specs.MemoryBytes.{IsWidth, is_inside, number_at, block_of, bytes_with, frame_of};
+ghost use Rattle.arch_defs.specs.Memory.{block_size, load, machine_memory, pasted, zeros};
+ghost use Rattle.phys_mem.specs.MemoryBytes.{IsWhole, IsWidth, is_inside, number_at, block_of, bytes_with, frame_of};
 
 use crate::accesses::Mem;
 use crate::slices::{bytes_of, clear, copy_frames, number, paste};
@@ -225,9 +225,7 @@ impl PhysMem {
 
 // Machine memory has base 0.
 impl Mem for PhysMem {
-    ghost base = { λ _. 0 };
-
-    ghost bytes = { λ m. m };
+    ghost memory = { machine_memory };
 
     ghost is_backed = { λ _. ⊤ };
 
@@ -250,5 +248,9 @@ impl Mem for PhysMem {
         } else {
             false
         }
+    }
+
+    fn is_whole(&self) {
+        let _ = self.size();
     }
 }

@@ -3,9 +3,9 @@
 ghost use Rattle.std.specs.Prelude.{◌≡◌, ◌+◌, ◌*◌, ◌%◌, ◌<◌, ◌≤◌, length, IfSome, IfNone};
 ghost use Rattle.byteorder.specs.Endian.{little_bytes};
 ghost use Rattle.arch_defs.specs.Frames.{LieIn, Only, in_blocks};
-ghost use Rattle.arch_defs.specs.Memory.{ram_base, block_size, load, pasted};
+ghost use Rattle.arch_defs.specs.Memory.{ram_base, block_size, load, pasted, ram_memory};
 ghost use Rattle.arch_defs.specs.Ram.{ram_of};
-ghost use Rattle.phys_mem.specs.MemoryBytes.{IsWidth};
+ghost use Rattle.phys_mem.specs.MemoryBytes.{IsWhole, IsWidth};
 
 use crate::accesses::Mem;
 use crate::memory::PhysMem;
@@ -48,9 +48,7 @@ impl<'a> Ram<'a> {
 }
 
 impl Mem for Ram<'_> {
-    ghost base = { λ _. ram_base };
-
-    ghost bytes = { λ ram. ram_of ram.part.now.blocks ram.mem.now };
+    ghost memory = { λ ram. ram_memory (ram_of ram.part.now.blocks ram.mem.now) };
 
     ghost is_backed = { λ ram. LieIn (in_blocks ram.part.now.blocks) (length ram.mem.now) };
 
@@ -75,6 +73,9 @@ impl Mem for Ram<'_> {
             None => false,
         }
     }
+
+    #[tactic(auto, using(crate::proofs::Views::ram_whole))]
+    fn is_whole(&self) {}
 }
 
 // The number at an offset into RAM.

@@ -1,12 +1,14 @@
 -- Which tables have the spaces of a pool: those in use, which come first.
-use Rattle.std.proofs.Common.{cond, ◌≡◌, ℕ, zero, suc, ◌+◌, ◌<◌, ◌≤◌, ◌∙◌, Bool, true, false, List, [], ◌∷◌, Option, Some, None, length, get_or, nat_lt, refl, sym, ap, arith}
+use Rattle.std.proofs.Common.{cond, ◌≡◌, ℕ, zero, suc, ◌+◌, ◌/◌, ◌<◌, ◌≤◌, ◌∙◌, Bool, true, false, List, [], ◌∷◌, Option, Some, None, length, get_or, nat_lt, refl, sym, ap, arith}
 use Rattle.std.specs.Prelude.{not}
 use Rattle.std.specs.List.{AllPairs, cons_option, position, position_or_len}
 use Rattle.std.specs.Option.{is_none}
 use Rattle.std.proofs.lemmas.Bool.{ltb-false}
 use Rattle.arch_defs.specs.declared.cached.Entry.{Entry}
+use Rattle.arch_defs.specs.declared.modes.Access.{Access}
 use Rattle.arch_defs.specs.declared.roots.GuestRoot.{GuestRoot}
-use Rattle.arch_defs.specs.Spaces.{Space}
+use Rattle.arch_defs.specs.CachedEntries.{device_by, device_by_entries, entry_at}
+use Rattle.arch_defs.specs.Spaces.{Space, front}
 use Rattle.shadow_pool.specs.declared.slots.Slot.{Slot}
 use Rattle.shadow_pool.specs.Slots.{ComesBefore, is_spare, space_at, space_if, space_of, spaces_in}
 use Rattle.shadow_pool.proofs.Entering.{all_spare}
@@ -81,3 +83,25 @@ used_none slots order none = by (nat_lt (position_or_len is_spare slots) (length
     by true below is = absurd cc
     by false above is = let same = first_spare_is slots order in let few = few_spaces slots in
         let high = ltb-false (position_or_len is_spare slots) (length slots) above in omega (arith, same, few, high)
+
+-- the front space is that of the first table, if it is in use
+spare_front : (o : Option GuestRoot) (es : List Entry) (rest : List Space) → (o ≡ None → rest ≡ []) → o ≡ None → front (cons_option (space_if o es) rest) ≡ []
+spare_front None es rest spare none = ap front (spare refl)
+spare_front (Some key) es rest spare none = absurd cc
+
+used_front : (o : Option GuestRoot) (key : GuestRoot) (es : List Entry) (rest : List Space) → o ≡ Some key → front (cons_option (space_if o es) rest) ≡ es
+used_front None key es rest some = absurd cc
+used_front (Some other) key es rest some = refl
+
+pub front_spare : (slots : List Slot) (d : Slot) (mxr : Bool) (address : ℕ) (access : Access) → AllPairs ComesBefore slots → (get_or slots 0 d).key ≡ None
+    → device_by_entries (front (spaces_in slots)) mxr address access ≡ false
+unfolding device_by_entries
+front_spare [] d mxr address access order none = refl
+front_spare (slot ∷ slots) d mxr address access order none = ap (λ entries. device_by mxr access (entry_at (address / 4096) entries))
+    (spare_front slot.key slot.space.entries (spaces_in slots) (λ none. all_spare slots (λ k d h. (pairs_first ComesBefore slot slots order k d h).spare none)) none)
+
+pub front_used : (slots : List Slot) (d : Slot) (key : GuestRoot) (mxr : Bool) (address : ℕ) (access : Access) → 1 ≤ length slots → (get_or slots 0 d).key ≡ Some key
+    → device_by_entries (get_or slots 0 d).space.entries mxr address access ≡ device_by_entries (front (spaces_in slots)) mxr address access
+front_used [] d key mxr address access inside some = absurd (omega (arith, inside))
+front_used (slot ∷ slots) d key mxr address access inside some =
+    ap (λ entries. device_by_entries entries mxr address access) (sym (used_front slot.key key slot.space.entries (spaces_in slots) some))

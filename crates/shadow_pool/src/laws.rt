@@ -1,6 +1,6 @@
 // Laws of pools.
 
-ghost use Rattle.shadow_pool.specs.Laws.{EnteredIsInFront, FrontGivesEntries, FrontGivesRam, FrontIsEnteredAgain, FrontMissesAreGuestPageFaults, HostIsApartFromSpaces, PoolLiesWithin, RamIsApartFromSpaces, TidyPoolLasts};
+ghost use Rattle.shadow_pool.specs.Laws.{EnteredIsInFront, FarIsNotOnDevice, FrontGivesEntries, FrontGivesRam, FrontIsEnteredAgain, FrontMissesAreGuestPageFaults, HostIsApartFromSpaces, PoolLiesWithin, RamIsApartFromSpaces, TidyPoolLasts};
 
 use arch_defs::Part;
 
@@ -11,11 +11,13 @@ pub fn tidy_pool_lasts()
 
 /// The second stage by the front table of a tidy pool, in memory that holds the guest's RAM, has each guest
 /// physical address where the entries of the front space have it, at its place in machine memory. Any other
-/// access is a guest-page fault. What the entries give is in the guest's RAM.
+/// access is a guest-page fault. What the entries give is in the guest's RAM, and no access at an address
+/// beyond guest physical addresses is on the device page.
 pub fn front_gives_entries()
     ensures places { FrontGivesEntries }
     ensures faults { FrontMissesAreGuestPageFaults }
     ensures ram { FrontGivesRam }
+    ensures far { FarIsNotOnDevice }
 {}
 
 /// The space that was entered is in front, and no more happens when it is entered once more.

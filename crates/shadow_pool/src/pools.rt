@@ -2,17 +2,17 @@
 
 ghost use Rattle.std.specs.Prelude.{◌≡◌, ◌<◌, ◌≤◌, ◌%◌, ◌^◌, ℕ, List, [], length, slice_index_or, IfOk};
 ghost use Rattle.arch_defs.specs.declared.cached.Entry.{Entry};
-ghost use Rattle.arch_defs.specs.CachedEntries.{CanFill};
+ghost use Rattle.arch_defs.specs.CachedEntries.{CanFill, device_by_entries};
 ghost use Rattle.arch_defs.specs.Frames.{LieIn, Only};
-ghost use Rattle.arch_defs.specs.Spaces.{entered, fenced};
+ghost use Rattle.arch_defs.specs.Spaces.{entered, fenced, front};
 ghost use Rattle.machine_defs.specs.Fills.{filled_front};
 ghost use Rattle.shadow_space.specs.Moves.{IsMovedPart};
 ghost use Rattle.shadow_space.specs.Shadows.{AreZeros};
 ghost use Rattle.shadow_pool.specs.Moves.{pool_in_part};
 ghost use Rattle.shadow_pool.specs.Slots.{AreFolded, AreSpare, KeepsPool, TidyPool, front_root, pool_frames, room_of, space_at, spaces_of};
 
-use crate::slots::{Slot, enter, entries_at, fence, fill, key_at, move_to, used};
-use arch_defs::{Entry, Fence, Key, Part};
+use crate::slots::{Slot, enter, entries_at, fence, fill, is_on_device, key_at, move_to, used};
+use arch_defs::{Access, Entry, Fence, Key, Part};
 use no_memory::NoMemory;
 use phys_mem::PhysMem;
 use shadow_space::Space;
@@ -84,6 +84,14 @@ impl Pool {
         ensures small { result < 2 ^ 44 }
     {
         self.slots[0].space.root()
+    }
+
+    /// Whether the entry of the front space for an address's page permits an access of this kind, and is of
+    /// the device page.
+    pub fn is_on_device(&self, mxr: bool, address: u64, kind: Access) -> bool
+        ensures { result ≡ device_by_entries (front (spaces_of self.now)) mxr address kind }
+    {
+        is_on_device(self.slots.as_slice(), mxr, address, kind)
     }
 
     /// Fills an entry of the front space, if there is one: an entry of the same page is dropped, and else,

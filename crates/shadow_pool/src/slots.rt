@@ -1,10 +1,10 @@
 // The tables of a pool, those of the most recently entered spaces first.
 
-ghost use Rattle.std.specs.Prelude.{◌≡◌, [], ◌∷◌, ◌<◌, Some, length, option_map, remove, slice_index_or};
+ghost use Rattle.std.specs.Prelude.{◌≡◌, [], ◌∷◌, ◌<◌, ◌≤◌, Some, length, option_map, remove, slice_index_or};
 ghost use Rattle.std.specs.List.{AllPairs, position};
-ghost use Rattle.arch_defs.specs.CachedEntries.{CanFill};
+ghost use Rattle.arch_defs.specs.CachedEntries.{CanFill, device_by_entries};
 ghost use Rattle.arch_defs.specs.Frames.{Only};
-ghost use Rattle.arch_defs.specs.Spaces.{entered, fenced, fenced_space, names_vmid};
+ghost use Rattle.arch_defs.specs.Spaces.{entered, fenced, fenced_space, front, names_vmid};
 ghost use Rattle.machine_defs.specs.Fills.{filled_front};
 ghost use Rattle.shadow_space.specs.Moves.{IsMovedPart};
 ghost use Rattle.shadow_space.specs.Shadows.{KeepsSpace, Tidy};
@@ -12,7 +12,7 @@ ghost use Rattle.shadow_pool.specs.declared.slots.Slot.{Slot};
 ghost use Rattle.shadow_pool.specs.Moves.{pool_in_part};
 ghost use Rattle.shadow_pool.specs.Slots.{AreFolded, ComesBefore, KeepsPool, TidyPool, front_root, has_key, is_spare, most_of, part_of, pool_frames, pool_of, space_at, space_of, spaces_in};
 
-use arch_defs::{Entry, Fence, Key, Part};
+use arch_defs::{Access, Entry, Fence, Key, Part};
 use phys_mem::PhysMem;
 use shadow_space::Space;
 
@@ -106,6 +106,19 @@ pub fn entries_at(slots: &[Slot], i: usize) -> &[Entry]
     ensures { result.now ≡ (space_at (spaces_in slots.now) i).entries }
 {
     slots[i].space.entries()
+}
+
+/// Whether an access of a kind is on the device page by the front space.
+#[tactic(auto, using(crate::proofs::Listing::front_spare, crate::proofs::Listing::front_used))]
+pub fn is_on_device(slots: &[Slot], mxr: bool, address: u64, kind: Access) -> bool
+    requires some { 1 ≤ length slots.now }
+    requires order { AllPairs ComesBefore slots.now }
+    ensures { result ≡ device_by_entries (front (spaces_in slots.now)) mxr address kind }
+{
+    match slots[0].key {
+        None => false,
+        Some(_) => slots[0].space.is_on_device(mxr, address, kind),
+    }
 }
 
 // Moves a table to the front.

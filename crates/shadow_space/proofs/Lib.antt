@@ -14,6 +14,7 @@ pub mod Passing
 pub mod Placing
 pub mod Prefixes
 pub mod Putting
+pub mod Reachable
 pub mod Reaching
 pub mod Refolding
 pub mod Removing

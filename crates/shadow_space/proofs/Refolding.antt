@@ -3,7 +3,7 @@ use Rattle.std.proofs.Common.{◌≡◌, ◌≢◌, ℕ, zero, suc, ◌+◌, ◌
 use Rattle.std.proofs.lemmas.Bool.{cases_eq, eq-eqb, ne_eqb}
 use Rattle.std.proofs.lemmas.List.{get_or_default}
 use Rattle.arch_defs.specs.declared.cached.Entry.{Entry}
-use Rattle.arch_defs.specs.CachedEntries.{CanFill, entry_at}
+use Rattle.arch_defs.specs.CachedEntries.{CanFill, IsReachable, entry_at}
 use Rattle.arch_defs.specs.Frames.{Only}
 use Rattle.arch_defs.proofs.FrameSets.{only_both, only_none}
 use Rattle.arch_defs.specs.Layouts.{Layout, NamesEachOnce}
@@ -41,9 +41,11 @@ pub record HasLeafPlace (low page size : ℕ) : Type 0 where
 
 -- an entry that can be filled can be in as many other blocks
 pub can_move : (blocks moved : List ℕ) (e : Entry) → length moved ≡ length blocks → CanFill blocks e → CanFill moved e
-can_move blocks moved e same can =
-    let to = can.to in
-    record { page = can.page; from = can.from; to = omega (arith, to, same); level = can.level; right = can.right; write = can.write }
+can_move blocks moved e same can = record { page = can.page; frame = by can.frame; level = can.level; right = can.right; write = can.write }
+  where
+    by : IsReachable blocks e.frame → IsReachable moved e.frame
+    by (inl (from, to)) = inl (from, omega (arith, to, same))
+    by (inr is) = inr is
 
 -- the leaves with one page's leaf
 abbrev with_leaf : (ℕ → ℕ) → ℕ → ℕ → ℕ → ℕ

@@ -1,5 +1,5 @@
 -- Tidy spaces.
-use Rattle.std.proofs.Common.{◌≡◌, ◌≢◌, ℕ, ◌+◌, ◌-◌, ◌*◌, ◌/◌, ◌%◌, ◌<◌, ◌≤◌, ◌^◌, ◌⊎◌, inl, inr, true, List, [], Option, Some, None, length, slice_index, refl, sym, ap, subst, ◌∙◌, arith}
+use Rattle.std.proofs.Common.{◌≡◌, ◌≢◌, ℕ, ◌+◌, ◌-◌, ◌*◌, ◌/◌, ◌%◌, ◌<◌, ◌≤◌, ◌^◌, ◌⊎◌, inl, inr, Bool, true, false, List, [], Option, Some, None, length, slice_index, refl, sym, ap, subst, ◌∙◌, arith}
 use Rattle.std.specs.List.{All, AllPairs}
 use Rattle.std.proofs.lemmas.Bool.{both_ways, cases_lt, le-ltb, lt-ltb}
 use Rattle.std.proofs.lemmas.List.Elements.{All-nil}
@@ -10,13 +10,13 @@ use Rattle.arch_defs.specs.declared.walks.Next.TheVariants.{Ends}
 use Rattle.arch_defs.specs.Frames.{Apart, LieIn, Same, within}
 use Rattle.arch_defs.specs.Layouts.{Layout, NamesEachOnce, space_frames}
 use Rattle.arch_defs.specs.Memory.{block_size, ram_base}
-use Rattle.arch_defs.specs.TableEntries.{pte_of, entry_next, is_aligned}
+use Rattle.arch_defs.specs.TableEntries.{pte_of, pte_word, entry_next, is_aligned}
 use Rattle.arch_defs.specs.Walk.{EntryReading, guest_bits, path, walk}
 use Rattle.arch_defs.proofs.FrameSets.{in_range}
 use Rattle.stage_walk.proofs.Levels.{walk_refused, walk_starts}
 use Rattle.shadow_space.specs.declared.cached.CachedTable.{CachedTable}
 use Rattle.shadow_space.specs.declared.writing.Tables.{Tables}
-use Rattle.arch_defs.specs.CachedEntries.{CanFill, HasOtherPage, entry_at, guest_page_bits}
+use Rattle.arch_defs.specs.CachedEntries.{CanFill, HasOtherPage, entry_at, guest_page_bits, is_device}
 use Rattle.shadow_space.specs.Folding.{LastIs, LieWithin, leaf_end}
 use Rattle.guest_specs.specs.Needs.{tables_for}
 use Rattle.shadow_space.specs.Laws.{TidyIsFolded, TidyLasts}
@@ -156,12 +156,20 @@ every frame = let one : frame % 1 ≡ 0 = omega arith in rw one refl
 leaf_is_end : (blocks : List ℕ) (access : Access) (o : Option Entry) → ((i : ℕ) → slice_index blocks i < 2 ^ 32) → ((e : Entry) → o ≡ Some e → CanFill blocks e)
     → entry_next 0 access (pte_of (leaf_if blocks o)) ≡ Ends (leaf_end blocks access o)
 leaf_is_end blocks access None small can = zero_maps_nothing 0 access
-leaf_is_end blocks access (Some e) small can =
-    let filled = can e refl in
-    leaf_gives_rights 0 (frame_of_ram blocks e.frame) e.r e.w e.x access (frame_small blocks e small) (every (frame_of_ram blocks e.frame)) filled.right filled.write
+leaf_is_end blocks access (Some e) small can = by (is_device e) refl
+  where
+    by : (device : Bool) → is_device e ≡ device → entry_next 0 access (pte_of (leaf_word blocks e)) ≡ Ends (leaf_end blocks access (Some e))
+    by true on = rw on (zero_maps_nothing 0 access)
+    by false off =
+        let filled = can e refl in
+        rw off (leaf_gives_rights 0 (frame_of_ram blocks e.frame) e.r e.w e.x access (frame_small blocks e small) (every (frame_of_ram blocks e.frame)) filled.right filled.write)
 
-leaf_some : (blocks : List ℕ) (e : Entry) → leaf_word blocks e ≡ 0 → ⊥
-leaf_some blocks e zero = some_with_v (leaf_parts blocks e) refl zero
+-- one of RAM has a leaf
+leaf_off : (blocks : List ℕ) (e : Entry) → is_device e ≡ false → leaf_word blocks e ≡ pte_word (leaf_parts blocks e)
+leaf_off blocks e off = rw off refl
+
+leaf_some : (blocks : List ℕ) (e : Entry) → is_device e ≡ false → leaf_word blocks e ≡ 0 → ⊥
+leaf_some blocks e off zero = some_with_v (leaf_parts blocks e) refl (sym (leaf_off blocks e off) ∙ zero)
 
 low_page : (va : ℕ) → va / 4096 < 2 ^ guest_page_bits → va < 2 ^ guest_bits
 low_page va h = omega (arith, h)
@@ -181,7 +189,7 @@ module _ (space : Shadow) (memory : List ℕ) (tidy : IsTidy space memory) where
   small_frames f own = own_small (tables_in space.part space.index) f (length memory) (tables_placed space (length memory) tidy.is tidy.lies) own
 
   -- no entry is of a page beyond these bits of address
-  no_entry : (va : ℕ) → 2 ^ guest_bits ≤ va → entry_at (va / 4096) space.entries ≡ None
+  pub no_entry : (va : ℕ) → 2 ^ guest_bits ≤ va → entry_at (va / 4096) space.entries ≡ None
   no_entry va high = by (entry_at (va / 4096) space.entries) refl
     where
       by : (o : Option Entry) → entry_at (va / 4096) space.entries ≡ o → entry_at (va / 4096) space.entries ≡ None
@@ -206,22 +214,22 @@ module _ (space : Shadow) (memory : List ℕ) (tidy : IsTidy space memory) where
           ∙ sym (ap (leaf_end space.part.blocks access) (no_entry va high))
 
   -- the leaf of an entry
-  leaf_has : (page : ℕ) (e : Entry) → entry_at page space.entries ≡ Some e → (pte_of (leaves space.part.blocks space.entries page) ≡ leaf_parts space.part.blocks e) × (leaves space.part.blocks space.entries page ≢ 0)
+  leaf_has : (page : ℕ) (e : Entry) → entry_at page space.entries ≡ Some e → is_device e ≡ false → (pte_of (leaves space.part.blocks space.entries page) ≡ leaf_parts space.part.blocks e) × (leaves space.part.blocks space.entries page ≢ 0)
   unfolding leaves
-  leaf_has page e found = (
-    ap (λ o. pte_of (leaf_if space.part.blocks o)) found
+  leaf_has page e found off = (
+    ap (λ o. pte_of (leaf_if space.part.blocks o)) found ∙ ap pte_of (leaf_off space.part.blocks e off)
         ∙ reads_back (leaf_parts space.part.blocks e) (record { frame = frame_small space.part.blocks e tidy.is.small.blocks; reserved = omega arith }),
-    λ zero. leaf_some space.part.blocks e (ap (leaf_if space.part.blocks) (sym found) ∙ zero),
+    λ zero. leaf_some space.part.blocks e off (ap (leaf_if space.part.blocks) (sym found) ∙ zero),
   )
 
   leaf_last : (reading : EntryReading) (va : ℕ) (access : Access) (e : Entry) → ReadsIn (own_frames space) memory reading → entry_at (va / 4096) space.entries ≡ Some e
-      → LastIs (leaf_parts space.part.blocks e) (path reading (root_of space) folded_shape va access)
+      → is_device e ≡ false → LastIs (leaf_parts space.part.blocks e) (path reading (root_of space) folded_shape va access)
   unfolding path
-  leaf_last reading va access e reads found =
+  leaf_last reading va access e reads found off =
       let filled = can (va / 4096) e found in
       let page = filled.0.page in
       let low : va < 2 ^ guest_bits = low_page va (omega (arith, page, filled.1)) in
-      let has = leaf_has (va / 4096) e found in
+      let has = leaf_has (va / 4096) e found off in
       rw (lt-ltb va (2 ^ guest_bits) low)
       (last_is (tables_in space.part space.index) tidy.holds.stands.tree (doubleword_at memory) (leaves space.part.blocks space.entries)
       tidy.holds.stands.sound tidy.holds.stands.says small_frames reading (reads_words (tables_in space.part space.index) memory reading reads) va access (va / 4096) refl (small_page va low)

@@ -5,7 +5,7 @@ use Rattle.arch_defs.specs.declared.modes.Access.{Access}
 use Rattle.arch_defs.specs.declared.roots.GuestRoot.TheVariants as root
 use Rattle.arch_defs.specs.Frames.{Apart, Frames, LieIn, Same, Within, in_blocks}
 use Rattle.arch_defs.specs.Layouts.{Layout, host_frames, named_by, space_frames}
-use Rattle.arch_defs.specs.Memory.{ram_base, block_size, zeros}
+use Rattle.arch_defs.specs.Memory.{ram_base, block_size, machine_memory, zeros}
 use Rattle.arch_defs.specs.Ram.{host_place}
 use Rattle.arch_defs.specs.Roots.{folded_mode}
 use Rattle.arch_defs.specs.SecondStage.{second_under, second_walk}
@@ -28,16 +28,17 @@ TidyIsFolded = (space : Shadow) (memory : List ℕ) → Tidy space memory → Fo
 abbrev pub GivesEntries : Type 0
 GivesEntries = (space : Shadow) (memory : List ℕ) (mxr : Bool) (vmid address : ℕ) (access : Access)
     → Tidy space memory → LieIn (in_blocks space.part.blocks) (length memory)
-    → second_under 0 memory mxr (root.Table folded_mode vmid (root_of space)) address access
+    → second_under (machine_memory memory) mxr (root.Table folded_mode vmid (root_of space)) address access
     ≡ option_map (λ place. host_place space.part.blocks (place - ram_base))
     (second_by space.entries mxr address access)
 
--- and an access that the entries give no place is a guest-page fault, never an access fault
+-- and an access that the entries give no place, as one to the device page, is a guest-page fault, never an
+-- access fault
 abbrev pub MissesAreGuestPageFaults : Type 0
 MissesAreGuestPageFaults = (space : Shadow) (memory : List ℕ) (mxr : Bool) (address : ℕ) (access : Access)
     → Tidy space memory → LieIn (in_blocks space.part.blocks) (length memory)
     → second_by space.entries mxr address access ≡ None
-    → second_walk 0 memory mxr folded_shape (root_of space) address access ≡ GuestPageFault
+    → second_walk (machine_memory memory) mxr folded_shape (root_of space) address access ≡ GuestPageFault
 
 -- the places that the entries give are of the guest's RAM, with the offsets that the addresses have in pages
 abbrev pub EntriesGiveRam : Type 0

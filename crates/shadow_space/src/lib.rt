@@ -2,6 +2,7 @@
 #![tactic(auto)]
 
 mod cached;
+mod devices;
 mod frames;
 mod laws;
 mod levels;

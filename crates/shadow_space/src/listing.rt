@@ -1,9 +1,9 @@
 // Lists of cached translations, of a fixed size.
 
-ghost use Rattle.std.specs.Prelude.{◌≡◌, ◌≢◌, ◌≤◌, ◌<◌, [], ◌∷◌, ◌++◌, length, remove, slice_index_or, IfNone, IfSome};
+ghost use Rattle.std.specs.Prelude.{◌≡◌, ◌≢◌, ◌≤◌, ◌<◌, [], ◌∷◌, ◌++◌, length, option_map, remove, slice_index_or, IfNone, IfSome};
 ghost use Rattle.std.specs.List.{All};
 ghost use Rattle.arch_defs.specs.declared.cached.Entry.{Entry};
-ghost use Rattle.arch_defs.specs.CachedEntries.{HasLevel, holds};
+ghost use Rattle.arch_defs.specs.CachedEntries.{HasLevel, entry_at, holds};
 ghost use Rattle.arch_defs.specs.Spaces.{names_page};
 ghost use Rattle.arch_defs.specs.Walk.{most_level};
 ghost use Rattle.arch_defs.specs.TableEntries.{span};
@@ -82,6 +82,13 @@ impl EntryList {
             }
         }
         None
+    }
+
+    /// The entry of a page, if there is one.
+    pub fn entry_at(&self, page: u64) -> Option<&Entry>
+        ensures { option_map (λ e. e.now) result ≡ entry_at page self.now }
+    {
+        self.as_slice().iter().find(|entry| entry.page == page)
     }
 
     /// The entries.

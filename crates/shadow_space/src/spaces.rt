@@ -3,7 +3,7 @@
 ghost use Rattle.std.specs.Prelude.{◌≡◌, ℕ, ◌+◌, ◌-◌, ◌*◌, ◌%◌, ◌<◌, ◌≤◌, ◌^◌, [], List, length};
 ghost use Rattle.arch_defs.specs.Frames.{LieIn, Only};
 ghost use Rattle.arch_defs.specs.Layouts.{NamesEachOnce, space_frames};
-ghost use Rattle.arch_defs.specs.CachedEntries.{CanFill, cut_by, filled};
+ghost use Rattle.arch_defs.specs.CachedEntries.{CanFill, cut_by, device_by_entries, filled};
 ghost use Rattle.shadow_space.specs.Folding.{Folded};
 ghost use Rattle.shadow_space.specs.Moves.{IsMovedPart, in_part};
 ghost use Rattle.shadow_space.specs.Reaching.{FreeAreZeros};
@@ -12,10 +12,11 @@ ghost use Rattle.shadow_space.specs.Trees.{most_entries, top};
 ghost use Rattle.table_words.specs.Words.{changed};
 
 use crate::cached::CachedTable;
+use crate::devices::device_by;
 use crate::frames::TableFrames;
 use crate::listing::EntryList;
 use crate::writing::Tables;
-use arch_defs::{Entry, Part, TABLES_PER_ENTRY};
+use arch_defs::{Access, Entry, Part, TABLES_PER_ENTRY};
 use phys_mem::PhysMem;
 use std::marker::Model;
 
@@ -86,6 +87,17 @@ impl Space {
         ensures { result.now ≡ self.now.entries }
     {
         self.table.entries.as_slice()
+    }
+
+    /// Whether the entry of an address's page permits an access of this kind, and is of the device page.
+    #[tactic(auto, unfolding(arch_defs::specs::CachedEntries::device_by_entries))]
+    pub fn is_on_device(&self, mxr: bool, address: u64, kind: Access) -> bool
+        ensures { result ≡ device_by_entries self.now.entries mxr address kind }
+    {
+        match self.table.entries.entry_at(address / 4096) {
+            None => false,
+            Some(entry) => device_by(mxr, kind, entry),
+        }
     }
 
     /// Adds an entry, as the newest. An entry of the same page is dropped, and else, where there are as many

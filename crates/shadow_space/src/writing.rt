@@ -8,6 +8,7 @@ ghost use Rattle.shadow_space.specs.Trees.{most_tables};
 ghost use Rattle.table_words.specs.Entries.{named_frame};
 ghost use Rattle.table_words.specs.Words.{changed, doubleword_at};
 
+use crate::devices::is_device;
 use crate::frames::TableFrames;
 use arch_defs::{Entry, FRAME_SIZE, Part};
 use phys_mem::{PhysMem, RAM_BASE};
@@ -22,11 +23,15 @@ pub struct Tables {
     pub count: u64,
 }
 
-/// The leaf that an entry is folded into.
+/// The leaf that an entry is folded into. One of the device page has none.
+#[tactic(auto, using(crate::proofs::Reachable::is_of_ram))]
 pub fn leaf_word(part: &Part, entry: &Entry) -> u64
     requires { CanFill part.now.blocks entry.now }
     ensures { result ≡ leaf_word part.now.blocks entry.now }
 {
+    if is_device(entry) {
+        return 0;
+    }
     part.names_each_once();
     let place = part.host_place(entry.frame * FRAME_SIZE - RAM_BASE);
     pte_word(&leaf_to(place / FRAME_SIZE, entry.r, entry.w, entry.x))

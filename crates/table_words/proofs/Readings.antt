@@ -3,7 +3,7 @@ use Rattle.std.specs.Prelude.{nat_le}
 use Rattle.std.proofs.Common.{◌≡◌, ℕ, ◌+◌, ◌-◌, ◌*◌, ◌/◌, ◌%◌, ◌≤◌, ◌<◌, ◌^◌, true, List, Ok, length, refl, sym, ap, subst, ◌∙◌, arith}
 use Rattle.std.proofs.lemmas.Bool.{le-leb}
 use Rattle.arch_defs.specs.Frames.{Frames, LieIn}
-use Rattle.arch_defs.specs.Memory.{load}
+use Rattle.arch_defs.specs.Memory.{load, machine_memory}
 use Rattle.arch_defs.specs.SecondStage.{guest_root_frame, has_bytes, memory_words}
 use Rattle.arch_defs.specs.Walk.{EntryReading}
 use Rattle.table_words.specs.Entries.{ReadsIn}
@@ -32,13 +32,13 @@ from_zero n = omega arith
 entry_inside : (place size : ℕ) → place / 4096 * 4096 + 4096 ≤ size → place % 8 ≡ 0 → place + 8 ≤ size
 entry_inside place size lies aligned = omega (arith, lies, aligned)
 
-pub has : (memory : List ℕ) (place n : ℕ) → place + n ≤ length memory → has_bytes 0 memory place n ≡ true
+pub has : (memory : List ℕ) (place n : ℕ) → place + n ≤ length memory → has_bytes (machine_memory memory) place n ≡ true
 has memory place n h =
     let low : nat_le 0 place ≡ true = le-leb 0 place (omega arith) in
     let high : nat_le (place + n) (0 + length memory) ≡ true = le-leb (place + n) (0 + length memory) (omega (arith, h)) in
     rw (low, high) refl
 
-pub memory_reads : (frames : Frames) (memory : List ℕ) → LieIn frames (length memory) → ReadsIn frames memory (memory_words 0 memory)
+pub memory_reads : (frames : Frames) (memory : List ℕ) → LieIn frames (length memory) → ReadsIn frames memory (memory_words (machine_memory memory))
 memory_reads frames memory lie place is aligned =
     rw (has memory place 8 (entry_inside place (length memory) (lie (place / 4096) is) aligned), from_zero place) refl
 

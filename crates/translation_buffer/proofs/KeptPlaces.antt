@@ -16,7 +16,7 @@ use Rattle.arch_defs.specs.declared.walks.Shape.{Shape}
 use Rattle.arch_defs.specs.declared.walks.WalkEnd.{WalkEnd}
 use Rattle.arch_defs.specs.declared.walks.WalkEnd.TheVariants.{Leaf, PageFault, FetchEnd}
 use Rattle.arch_defs.specs.Frames.{Frames, Same}
-use Rattle.arch_defs.specs.Memory.{bare, load, reading_of}
+use Rattle.arch_defs.specs.Memory.{load, machine_memory, reading_of}
 use Rattle.arch_defs.specs.Roots.{guest_shape, supervisor_shape}
 use Rattle.arch_defs.specs.SecondStage.{guest_root_frame, memory_words, place_under, second_end, second_under, second_walk, walked}
 use Rattle.arch_defs.specs.Translation.{entry_word_at, entry_words_through, found_by, found_under}
@@ -72,28 +72,28 @@ number_kept frames memory other at same aligned inside =
 no_base : (at : ℕ) → at - 0 ≡ at
 no_base at = omega arith
 
-word_kept : (frames : Frames) (memory other : List ℕ) (at : ℕ) → Same frames memory other → at % 8 ≡ 0 → LiesIn frames at → memory_words 0 other at ≡ memory_words 0 memory at
+word_kept : (frames : Frames) (memory other : List ℕ) (at : ℕ) → Same frames memory other → at % 8 ≡ 0 → LiesIn frames at → memory_words (machine_memory other) at ≡ memory_words (machine_memory memory) at
 word_kept frames memory other at same aligned inside = rw (no_base at, same.size, number_kept frames memory other at same aligned inside) refl
 
 -- the second stage
 end_kept : (memory other : List ℕ) (mxr : Bool) (address : ℕ) (kind : Access) (end : WalkEnd) → length other ≡ length memory
-    → second_end 0 other mxr address kind end ≡ second_end 0 memory mxr address kind end
+    → second_end (machine_memory other) mxr address kind end ≡ second_end (machine_memory memory) mxr address kind end
 end_kept memory other mxr address kind (Leaf leaf) size = rw size refl
 end_kept memory other mxr address kind PageFault size = refl
 end_kept memory other mxr address kind (FetchEnd place trap) size = refl
 
 walked_kept : (frames : Frames) (memory other : List ℕ) (mxr : Bool) (shape : Shape) (ppn address : ℕ) (kind : Access) → Same frames memory other
-    → Each (LiesIn frames) (path (memory_words 0 memory) (guest_root_frame ppn) shape address kind)
-    → walked 0 other mxr shape ppn address kind ≡ walked 0 memory mxr shape ppn address kind
+    → Each (LiesIn frames) (path (memory_words (machine_memory memory)) (guest_root_frame ppn) shape address kind)
+    → walked (machine_memory other) mxr shape ppn address kind ≡ walked (machine_memory memory) mxr shape ppn address kind
 unfolding second_walk
 walked_kept frames memory other mxr shape ppn address kind same reads = ap (place_under address)
-    (ap (second_end 0 other mxr address kind) (walk_kept (LiesIn frames) (memory_words 0 memory) (memory_words 0 other)
+    (ap (second_end (machine_memory other) mxr address kind) (walk_kept (LiesIn frames) (memory_words (machine_memory memory)) (memory_words (machine_memory other))
     (λ at aligned inside. word_kept frames memory other at same aligned inside) (guest_root_frame ppn) shape address kind reads)
-    ∙ end_kept memory other mxr address kind (walk (memory_words 0 memory) (guest_root_frame ppn) shape address kind) same.size)
+    ∙ end_kept memory other mxr address kind (walk (memory_words (machine_memory memory)) (guest_root_frame ppn) shape address kind) same.size)
 
 pub second_kept : (frames : Frames) (memory other : List ℕ) (mxr : Bool) (root : GuestRoot) (address : ℕ) (kind : Access) → Same frames memory other
-    → SecondReads frames 0 memory address kind root → second_under 0 other mxr root address kind ≡ second_under 0 memory mxr root address kind
-second_kept frames memory other mxr guest.Bare address kind same reads = ap (λ size. bare 0 size address kind) same.size
+    → SecondReads frames (machine_memory memory) address kind root → second_under (machine_memory other) mxr root address kind ≡ second_under (machine_memory memory) mxr root address kind
+second_kept frames memory other mxr guest.Bare address kind same reads = rw same.size refl
 second_kept frames memory other mxr (guest.Table mode vmid ppn) address kind same reads = walked_kept frames memory other mxr (guest_shape mode) ppn address kind same reads
 
 -- a place is at the offset of its address
@@ -101,31 +101,31 @@ offset_near : (a place : ℕ) → Some (4096 * (place / 4096) + a % 4096) ≡ So
 offset_near a place is = let same : 4096 * (place / 4096) + a % 4096 ≡ place = cc in omega (arith, same)
 
 pub second_keeps : (memory : List ℕ) (mxr : Bool) (root : GuestRoot) (address place : ℕ) (kind : Access) → length memory % 4096 ≡ 0
-    → second_under 0 memory mxr root address kind ≡ Some place → place % 4096 ≡ address % 4096
+    → second_under (machine_memory memory) mxr root address kind ≡ Some place → place % 4096 ≡ address % 4096
 second_keeps memory mxr root address place kind size is = offset_near address place (sym (second_near memory mxr root address address place kind size refl is) ∙ is)
 
 -- the entries of the first stage
 aligned_place : (at place : ℕ) → at % 8 ≡ 0 → place % 4096 ≡ at % 4096 → place % 8 ≡ 0
 aligned_place at place aligned same = omega (arith, aligned, same)
 
-entry_kept : (frames : Frames) (memory other : List ℕ) (mxr : Bool) (root : GuestRoot) (at : ℕ) → length memory % 4096 ≡ 0 → Same frames memory other → at % 8 ≡ 0 → EntryReads 0 memory mxr root frames at
-    → entry_words_through (second_under 0 other mxr root) (reading_of 0 other) at ≡ entry_words_through (second_under 0 memory mxr root) (reading_of 0 memory) at
+entry_kept : (frames : Frames) (memory other : List ℕ) (mxr : Bool) (root : GuestRoot) (at : ℕ) → length memory % 4096 ≡ 0 → Same frames memory other → at % 8 ≡ 0 → EntryReads (machine_memory memory) mxr root frames at
+    → entry_words_through (second_under (machine_memory other) mxr root) (reading_of (machine_memory other)) at ≡ entry_words_through (second_under (machine_memory memory) mxr root) (reading_of (machine_memory memory)) at
 entry_kept frames memory other mxr root at size same aligned reads =
-    ap (entry_word_at (reading_of 0 other) at) (second_kept frames memory other mxr root at Implicit same reads.second)
-    ∙ by (second_under 0 memory mxr root at Implicit) refl
+    ap (entry_word_at (reading_of (machine_memory other)) at) (second_kept frames memory other mxr root at Implicit same reads.second)
+    ∙ by (second_under (machine_memory memory) mxr root at Implicit) refl
   where
-    by : (place : Option ℕ) → second_under 0 memory mxr root at Implicit ≡ place → entry_word_at (reading_of 0 other) at place ≡ entry_word_at (reading_of 0 memory) at place
+    by : (place : Option ℕ) → second_under (machine_memory memory) mxr root at Implicit ≡ place → entry_word_at (reading_of (machine_memory other)) at place ≡ entry_word_at (reading_of (machine_memory memory)) at place
     by (Some place) is = rw (no_base place)
         (ap Ok (number_kept frames memory other place same (aligned_place at place aligned (second_keeps memory mxr root at place Implicit size is)) (reads.own place is)))
     by None is = refl
 
 first_kept : (frames : Frames) (memory other : List ℕ) (mxr : Bool) (second : GuestRoot) (who : Privilege) (va : ℕ) (access : Access) (root : SupervisorRoot) → length memory % 4096 ≡ 0 → Same frames memory other
-    → FirstReads frames 0 memory mxr second va access root
-    → found_under (second_under 0 other mxr second) (reading_of 0 other) who va access root ≡ found_under (second_under 0 memory mxr second) (reading_of 0 memory) who va access root
+    → FirstReads frames (machine_memory memory) mxr second va access root
+    → found_under (second_under (machine_memory other) mxr second) (reading_of (machine_memory other)) who va access root ≡ found_under (second_under (machine_memory memory) mxr second) (reading_of (machine_memory memory)) who va access root
 first_kept frames memory other mxr second who va access supervisor.Bare size same reads = refl
 first_kept frames memory other mxr second who va access (supervisor.Table mode asid ppn) size same reads =
-    ap (found_by who access va) (walk_kept (EntryReads 0 memory mxr second frames) (entry_words_through (second_under 0 memory mxr second) (reading_of 0 memory))
-    (entry_words_through (second_under 0 other mxr second) (reading_of 0 other))
+    ap (found_by who access va) (walk_kept (EntryReads (machine_memory memory) mxr second frames) (entry_words_through (second_under (machine_memory memory) mxr second) (reading_of (machine_memory memory)))
+    (entry_words_through (second_under (machine_memory other) mxr second) (reading_of (machine_memory other)))
     (λ at aligned entry. entry_kept frames memory other mxr second at size same aligned entry) (ppn % 2 ^ 44) (supervisor_shape mode) va access reads)
 
 -- the law: first in the other memory, and then at the other address
@@ -147,7 +147,7 @@ translations_stay frames context who memory other va near place access size read
     by (Passes address) at placed =
         let whole : length other % 4096 ≡ 0 = rw same.size size in
         let then' : second_in context other address access ≡ Some place = second_kept frames memory other context.mxr context.second address access same (reads.last address at) ∙ placed in
-        ap (placed_by (second_in context other) access) (found_near (second_in context other) (reading_of 0 other) who near va address access context.first one (kept ∙ at))
+        ap (placed_by (second_in context other) access) (found_near (second_in context other) (reading_of (machine_memory other)) who near va address access context.first one (kept ∙ at))
         ∙ second_near other context.mxr context.second (4096 * (address / 4096) + near % 4096) address place access whole (same_offset near address place) then'
         ∙ ap Some (own_offset near address place)
     by PageFaults at placed = absurd cc

@@ -19,7 +19,8 @@ use Rattle.arch_defs.specs.declared.walks.Privilege.{Privilege}
 use Rattle.arch_defs.specs.declared.walks.Shape.{Shape}
 use Rattle.arch_defs.specs.declared.walks.WalkEnd.{WalkEnd}
 use Rattle.arch_defs.specs.declared.walks.WalkEnd.TheVariants.{Leaf, PageFault, FetchEnd}
-use Rattle.arch_defs.specs.Memory.{Reading, SecondStage, bare}
+use Rattle.arch_defs.specs.Devices.{is_on_device}
+use Rattle.arch_defs.specs.Memory.{Reading, SecondStage, bare, machine_memory}
 use Rattle.arch_defs.specs.Permits.{permits_first, permits_second}
 use Rattle.arch_defs.specs.Roots.{guest_shape, supervisor_shape}
 use Rattle.arch_defs.specs.SecondStage.{guest_root_frame, has_frame_of, memory_words, place_under, second_end, second_under, second_walk, walked}
@@ -110,15 +111,16 @@ found_near second reading who near va address access (supervisor.Table mode asid
 
 -- the second stage
 end_near : (memory : List ℕ) (mxr : Bool) (kind : Access) (near address place : ℕ) (end : WalkEnd) → near / 4096 ≡ address / 4096
-    → place_under address (second_end 0 memory mxr address kind end) ≡ Some place → place_under near (second_end 0 memory mxr near kind end) ≡ Some (4096 * (place / 4096) + near % 4096)
+    → place_under address (second_end (machine_memory memory) mxr address kind end) ≡ Some place → place_under near (second_end (machine_memory memory) mxr near kind end) ≡ Some (4096 * (place / 4096) + near % 4096)
 end_near memory mxr kind near address place (Leaf leaf) same is =
-    rw (frame_same leaf near address same) (by (not (permits_second mxr kind leaf)) (has_frame_of 0 memory (leaf_address leaf address)) is)
+    rw (frame_same leaf near address same) (by (not (permits_second mxr kind leaf)) (has_frame_of (machine_memory memory) (leaf_address leaf address)) (is_on_device (leaf_address leaf address)) is)
   where
-    by : (denied inside : Bool) → place_under address (cond denied GuestPageFault (cond inside (walk_end.Leaf leaf) AccessFault)) ≡ Some place
-        → place_under near (cond denied GuestPageFault (cond inside (walk_end.Leaf leaf) AccessFault)) ≡ Some (4096 * (place / 4096) + near % 4096)
-    by true inside is = absurd cc
-    by false true is = ap Some (under_near leaf near address same ∙ ap (λ n. 4096 * (n / 4096) + near % 4096) (same_some (leaf_address leaf address) place is))
-    by false false is = absurd cc
+    by : (denied inside device : Bool) → place_under address (cond denied GuestPageFault (cond inside (walk_end.Leaf leaf) (cond device (walk_end.Device leaf) AccessFault))) ≡ Some place
+        → place_under near (cond denied GuestPageFault (cond inside (walk_end.Leaf leaf) (cond device (walk_end.Device leaf) AccessFault))) ≡ Some (4096 * (place / 4096) + near % 4096)
+    by true inside device is = absurd cc
+    by false true device is = ap Some (under_near leaf near address same ∙ ap (λ n. 4096 * (n / 4096) + near % 4096) (same_some (leaf_address leaf address) place is))
+    by false false true is = absurd cc
+    by false false false is = absurd cc
 end_near memory mxr kind near address place PageFault same is = absurd cc
 end_near memory mxr kind near address place (FetchEnd at trap) same is = absurd cc
 
@@ -126,7 +128,7 @@ bare_inside : (near address size : ℕ) → size % 4096 ≡ 0 → near / 4096 �
 bare_inside near address size is same less = omega (arith, is, same, less)
 
 near_bare : (memory : List ℕ) (near address place : ℕ) (kind : Access) → length memory % 4096 ≡ 0 → near / 4096 ≡ address / 4096
-    → bare 0 (length memory) address kind ≡ Some place → bare 0 (length memory) near kind ≡ Some (4096 * (place / 4096) + near % 4096)
+    → bare (machine_memory memory) address kind ≡ Some place → bare (machine_memory memory) near kind ≡ Some (4096 * (place / 4096) + near % 4096)
 near_bare memory near address place kind size same is =
     let whole : (0 + length memory) % 4096 ≡ 0 = omega (arith, size) in
     by (nat_le 0 address) (nat_lt address (0 + length memory)) (nat_le 0 near) (nat_lt near (0 + length memory))
@@ -139,13 +141,13 @@ near_bare memory near address place kind size same is =
     by false to near_from near_to begins ends is = absurd cc
 
 walked_near : (memory : List ℕ) (mxr : Bool) (shape : Shape) (ppn near address place : ℕ) (kind : Access) → near / 4096 ≡ address / 4096
-    → walked 0 memory mxr shape ppn address kind ≡ Some place → walked 0 memory mxr shape ppn near kind ≡ Some (4096 * (place / 4096) + near % 4096)
+    → walked (machine_memory memory) mxr shape ppn address kind ≡ Some place → walked (machine_memory memory) mxr shape ppn near kind ≡ Some (4096 * (place / 4096) + near % 4096)
 unfolding second_walk
 walked_near memory mxr shape ppn near address place kind same is =
-    rw (walks_same (memory_words 0 memory) shape (guest_root_frame ppn) kind near address same)
-    (end_near memory mxr kind near address place (walk (memory_words 0 memory) (guest_root_frame ppn) shape address kind) same is)
+    rw (walks_same (memory_words (machine_memory memory)) shape (guest_root_frame ppn) kind near address same)
+    (end_near memory mxr kind near address place (walk (memory_words (machine_memory memory)) (guest_root_frame ppn) shape address kind) same is)
 
 pub second_near : (memory : List ℕ) (mxr : Bool) (root : GuestRoot) (near address place : ℕ) (kind : Access) → length memory % 4096 ≡ 0 → near / 4096 ≡ address / 4096
-    → second_under 0 memory mxr root address kind ≡ Some place → second_under 0 memory mxr root near kind ≡ Some (4096 * (place / 4096) + near % 4096)
+    → second_under (machine_memory memory) mxr root address kind ≡ Some place → second_under (machine_memory memory) mxr root near kind ≡ Some (4096 * (place / 4096) + near % 4096)
 second_near memory mxr guest.Bare near address place kind size same is = near_bare memory near address place kind size same is
 second_near memory mxr (guest.Table mode vmid ppn) near address place kind size same is = walked_near memory mxr (guest_shape mode) ppn near address place kind same is

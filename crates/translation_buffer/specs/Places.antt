@@ -6,7 +6,7 @@ use Rattle.arch_defs.specs.declared.registers.Csrs.{Csrs}
 use Rattle.arch_defs.specs.declared.walks.Found.{Found}
 use Rattle.arch_defs.specs.declared.walks.Privilege.{Privilege}
 use Rattle.arch_defs.specs.Frames.{Frames}
-use Rattle.arch_defs.specs.Memory.{SecondStage, reading_of}
+use Rattle.arch_defs.specs.Memory.{SecondStage, machine_memory, reading_of}
 use Rattle.arch_defs.specs.SecondStage.{second_root_of, second_under}
 use Rattle.arch_defs.specs.Translation.{found_under, supervisor_of}
 use Rattle.two_stage_walk.specs.Reads.{FirstReads, SecondReads, placed_by}
@@ -24,11 +24,11 @@ context_of csrs mode = record {
 }
 
 abbrev pub second_in : Context → List ℕ → SecondStage
-second_in context memory = second_under 0 memory context.mxr context.second
+second_in context memory = second_under (machine_memory memory) context.mxr context.second
 
 abbrev pub found_in : Context → Privilege → List ℕ → ℕ → Access → Found
 found_in context who memory va access =
-    found_under (second_in context memory) (reading_of 0 memory) who va access context.first
+    found_under (second_in context memory) (reading_of (machine_memory memory)) who va access context.first
 
 -- the place of an access at a virtual address, if both stages give one. Translations are kept for this
 -- function of memory alone
@@ -39,6 +39,6 @@ translated_place context who memory va access =
 -- all entries that it reads lie in these frames
 pub record Reads (frames : Frames) (context : Context) (who : Privilege) (memory : List ℕ) (va : ℕ)
     (access : Access) : Type 0 where
-  pub first : FirstReads frames 0 memory context.mxr context.second va access context.first
+  pub first : FirstReads frames (machine_memory memory) context.mxr context.second va access context.first
   pub last : (address : ℕ) → found_in context who memory va access ≡ Passes address
-      → SecondReads frames 0 memory address access context.second
+      → SecondReads frames (machine_memory memory) address access context.second

@@ -4,6 +4,7 @@ ghost use Rattle.std.specs.Prelude.{◌≡◌, ℕ, ◌+◌, ◌*◌, ◌/◌, �
 ghost use Rattle.arch_defs.specs.declared.modes.Mode.{Mode};
 ghost use Rattle.arch_defs.specs.declared.registers.Csrs.{Csrs};
 ghost use Rattle.arch_defs.specs.Frames.{Frames, Within};
+ghost use Rattle.arch_defs.specs.Memory.{machine_memory};
 ghost use Rattle.arch_defs.specs.Translation.{privilege_of};
 ghost use Rattle.machine_defs.specs.Answers.{answer_of, located_by_walk};
 ghost use Rattle.frame_set.specs.declared.sets.FrameSet.{FrameSet};
@@ -17,7 +18,7 @@ use crate::slots::{Slot, Slots};
 use arch_defs::{Access, Csrs, Found, Mode, Privilege, Trap};
 use frame_set::FrameSet;
 use phys_mem::PhysMem;
-use two_stage_walk::{first_noted, memory_is_whole, privilege_of, second_noted, translate};
+use two_stage_walk::{Mem, first_noted, privilege_of, second_noted, translate};
 
 /// The translations that the hart keeps, for the roots and the privilege that it accesses memory by: the
 /// slots, and the frames of all that was read for them.
@@ -55,12 +56,12 @@ fn place_noted(
     read: &mut FrameSet,
 ) -> Option<u64>
     ensures place { result ≡ translated_place context.now who memory.now va access }
-    ensures inside { IfSome result (λ place. IsPlaceOf 0 memory.now va place) }
+    ensures inside { IfSome result (λ place. IsPlaceOf (machine_memory memory.now) va place) }
     ensures more { Within (has_frame read.old) (has_frame read.new) }
     ensures noted { (frames : Frames) → Within (has_recent read.new) frames
         → Reads frames context.now who memory.now va access }
 {
-    memory_is_whole(memory);
+    memory.is_whole();
     let (mxr, second) = (context.mxr, context.second);
     let found = first_noted(memory, mxr, second, who, context.first, va, access, read);
     match found {
@@ -177,7 +178,7 @@ impl Buffer {
         requires serves { Serves self.old csrs.now mode memory.now }
         ensures place { result
             ≡ translated_place (context_of csrs.now mode) (privilege_of csrs.now mode) memory.now va access }
-        ensures inside { IfSome result (λ place. IsPlaceOf 0 memory.now va place) }
+        ensures inside { IfSome result (λ place. IsPlaceOf (machine_memory memory.now) va place) }
         ensures serves { Serves self.new csrs.now mode memory.now }
     {
         self.walks = self.walks.saturating_add(1);
@@ -213,11 +214,12 @@ impl Buffer {
         ensures place { result
             ≡ translated_place (context_of csrs.now mode) (privilege_of csrs.now mode) memory.now va access }
         ensures answer { IfSome result (λ place. Ok place
-            ≡ answer_of csrs.now 0 memory.now (located_by_walk csrs.now mode 0 memory.now va access)) }
-        ensures inside { IfSome result (λ place. IsPlaceOf 0 memory.now va place) }
+            ≡ answer_of false csrs.now (machine_memory memory.now)
+            (located_by_walk csrs.now mode (machine_memory memory.now) va access)) }
+        ensures inside { IfSome result (λ place. IsPlaceOf (machine_memory memory.now) va place) }
         ensures serves { Serves self.new csrs.now mode memory.now }
     {
-        memory_is_whole(memory);
+        memory.is_whole();
         match self.find(va, access) {
             Some(place) => Some(place),
             None => self.walk(memory, csrs, mode, va, access),
@@ -226,7 +228,7 @@ impl Buffer {
 
     /// The physical address of an access to a virtual address as a mode, by both stages as the registers and
     /// memory are, or its trap: an access fault, a page fault or a guest-page fault, with all that its entry
-    /// writes.
+    /// writes. The hart has no device page, so an access there is a trap as well.
     pub fn translate(
         &mut self,
         memory: &PhysMem,
@@ -236,16 +238,16 @@ impl Buffer {
         access: Access,
     ) -> Result<u64, Trap>
         requires serves { Serves self.old csrs.now mode memory.now }
-        ensures answer { result ≡ answer_of csrs.now 0 memory.now
-            (located_by_walk csrs.now mode 0 memory.now va access) }
-        ensures inside { IfOk result (λ place. IsPlaceOf 0 memory.now va place) }
+        ensures answer { result ≡ answer_of false csrs.now (machine_memory memory.now)
+            (located_by_walk csrs.now mode (machine_memory memory.now) va access) }
+        ensures inside { IfOk result (λ place. IsPlaceOf (machine_memory memory.now) va place) }
         ensures serves { Serves self.new csrs.now mode memory.now }
     {
         match self.place(memory, csrs, mode, va, access) {
             Some(place) => Ok(place),
             None => {
-                memory_is_whole(memory);
-                translate(memory, csrs, mode, va, access)
+                memory.is_whole();
+                translate(memory, csrs, mode, va, access, false)
             }
         }
     }

@@ -1,14 +1,11 @@
 -- Memory of whole frames has the frame of each byte that it has, and each aligned doubleword.
-use Rattle.std.proofs.Common.{◌≡◌, ℕ, ◌+◌, ◌-◌, ◌*◌, ◌/◌, ◌%◌, ◌<◌, ◌≤◌, ◌⊎◌, inl, inr, Bool, true, false, ◌&&◌, nat_le, leb, List, length, Some, None, is_some, if◌then◌else◌, refl, sym, ◌∙◌, arith}
+use Rattle.std.proofs.Common.{◌≡◌, ℕ, ◌+◌, ◌-◌, ◌*◌, ◌/◌, ◌%◌, ◌<◌, ◌≤◌, ◌⊎◌, inl, inr, Bool, true, false, ◌&&◌, nat_le, leb, length, Some, None, is_some, if◌then◌else◌, refl, sym, ◌∙◌, arith}
 use Rattle.std.proofs.lemmas.Bool.{and_from, le-leb}
 use Rattle.std.proofs.lemmas.Bool.Decides.{leb_tells}
-use Rattle.arch_defs.specs.Frames.{LieIn, in_blocks}
-use Rattle.arch_defs.specs.Memory.{load, ram_base, block_size}
-use Rattle.arch_defs.specs.Ram.{ram_of}
-use Rattle.arch_defs.proofs.RamBlocks.{blocks_lie_in, ram_length}
+use Rattle.arch_defs.specs.Memory.{Memory, load}
 use Rattle.arch_defs.specs.SecondStage.{has_frame_of}
-use Rattle.phys_mem.specs.MemoryBytes.{number_at}
-use Rattle.two_stage_walk.specs.Places.{IsWhole, IsPlaceOf}
+use Rattle.phys_mem.specs.MemoryBytes.{IsWhole, number_at}
+use Rattle.two_stage_walk.specs.Places.{IsPlaceOf}
 
 -- two tests that follow from each other are one
 told_alike : (a b c d : ℕ) → (a ≤ b → c ≤ d) → (c ≤ d → a ≤ b)
@@ -35,28 +32,21 @@ some_number : (test : Bool) (n : ℕ) → is_some (if test then Some n else None
 some_number true n = refl
 some_number false n = refl
 
-pub byte_of_frame : (base : ℕ) (bytes : List ℕ) (place : ℕ) → IsWhole base bytes
-    → is_some (number_at base bytes place 1) ≡ has_frame_of base bytes place
-byte_of_frame base bytes place whole =
-    some_number (nat_le base place && nat_le (place + 1) (base + length bytes)) (load bytes (place - base) 1)
-    ∙ rw (from_alike base place whole.aligned, to_alike (base + length bytes) place (both_whole base (length bytes) whole.aligned whole.size)) refl
+pub byte_of_frame : (memory : Memory) (place : ℕ) → IsWhole memory → is_some (number_at memory place 1) ≡ has_frame_of memory place
+byte_of_frame memory place whole = by memory.base (length memory.bytes) (load memory.bytes (place - memory.base) 1) whole.aligned whole.size
+  where
+    by : (base size n : ℕ) → base % 4096 ≡ 0 → size % 4096 ≡ 0 → is_some (if nat_le base place && nat_le (place + 1) (base + size) then Some n else None)
+        ≡ (nat_le base (place / 4096 * 4096) && nat_le (place / 4096 * 4096 + 4096) (base + size))
+    by base size n a b =
+        some_number (nat_le base place && nat_le (place + 1) (base + size)) n
+        ∙ rw (from_alike base place a, to_alike (base + size) place (both_whole base size a b)) refl
 
 -- an aligned doubleword
 doubleword_fits : (base size place : ℕ) → base % 4096 ≡ 0 → size % 4096 ≡ 0 → place % 8 ≡ 0 → place < base + size → place + 8 ≤ base + size
 doubleword_fits base size place a b c h = omega arith
 
-pub doubleword : (base : ℕ) (bytes : List ℕ) (address place : ℕ) → IsWhole base bytes → IsPlaceOf base bytes address place → place % 8 ≡ 0
-    → number_at base bytes place 8 ≡ Some (load bytes (place - base) 8)
-doubleword base bytes address place whole is aligned =
-    rw (and_from (nat_le base place) (nat_le (place + 8) (base + length bytes)) (le-leb base place is.from)
-    (le-leb (place + 8) (base + length bytes) (doubleword_fits base (length bytes) place whole.aligned whole.size aligned is.to))) refl
-
--- RAM is of whole blocks
-blocks_whole : (size count : ℕ) → size ≡ count * block_size → size % 4096 ≡ 0
-blocks_whole size count is = rw is (omega arith)
-
-pub ram_whole : (blocks memory : List ℕ) → LieIn (in_blocks blocks) (length memory) → IsWhole ram_base (ram_of blocks memory)
-ram_whole blocks memory lie = record {
-  aligned = refl;
-  size = blocks_whole (length (ram_of blocks memory)) (length blocks) (ram_length blocks memory (blocks_lie_in blocks (length memory) lie));
-}
+pub doubleword : (memory : Memory) (address place : ℕ) → IsWhole memory → IsPlaceOf memory address place → place % 8 ≡ 0
+    → number_at memory place 8 ≡ Some (load memory.bytes (place - memory.base) 8)
+doubleword memory address place whole is aligned =
+    rw (and_from (nat_le memory.base place) (nat_le (place + 8) (memory.base + length memory.bytes)) (le-leb memory.base place is.from)
+    (le-leb (place + 8) (memory.base + length memory.bytes) (doubleword_fits memory.base (length memory.bytes) place whole.aligned whole.size aligned is.to))) refl

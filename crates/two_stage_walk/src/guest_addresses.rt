@@ -1,13 +1,14 @@
 // The second stage, whose table lies in memory itself.
 
-ghost use Rattle.std.specs.Prelude.{◌≡◌, ◌^◌, ◌%◌, ◌<◌, IfSome, length};
+ghost use Rattle.std.specs.Prelude.{◌≡◌, ◌^◌, ◌%◌, ◌<◌, IfSome};
 ghost use Rattle.arch_defs.specs.SecondStage.{second_end, guest_root_frame, second_root_of, second_walk, has_frame_of, memory_words, second_by_walk, walked};
 ghost use Rattle.arch_defs.specs.Memory.{bare};
 ghost use Rattle.arch_defs.specs.Translation.{unread};
 ghost use Rattle.arch_defs.specs.Walk.{most_levels};
 ghost use Rattle.stage_walk.specs.Ends.{EndFits};
-ghost use Rattle.two_stage_walk.specs.Places.{IsPlaceOf, IsWhole, LeafIn};
+ghost use Rattle.two_stage_walk.specs.Places.{IsPlaceOf, LeafIn};
 
+use crate::devices::is_on_device;
 use crate::virtual_addresses::{leaf_address, unread};
 use arch_defs::{Access, Csrs, GuestRoot, Mode, SecondWalkEnd, Shape, Trap, WalkEnd};
 use phys_mem::Mem;
@@ -20,7 +21,7 @@ struct Words<'a, M> {
 }
 
 impl<M: Mem> Fetch for Words<'_, M> {
-    ghost reading = { λ w. memory_words (M.base w.mem.now) (M.bytes w.mem.now) };
+    ghost reading = { λ w. memory_words (M.memory w.mem.now) };
 
     ghost is_backed = { λ w. M.is_backed w.mem.now };
 
@@ -36,9 +37,9 @@ impl<M: Mem> Fetch for Words<'_, M> {
 #[tactic(auto, using(crate::proofs::Frames::byte_of_frame))]
 fn has_frame_of<M: Mem>(mem: &M, place: u64) -> bool
     requires backed { M.is_backed mem.now }
-    requires whole { IsWhole (M.base mem.now) (M.bytes mem.now) }
-    ensures { result ≡ has_frame_of (M.base mem.now) (M.bytes mem.now) place }
+    ensures { result ≡ has_frame_of (M.memory mem.now) place }
 {
+    mem.is_whole();
     mem.get(place, 1).is_some()
 }
 
@@ -51,10 +52,9 @@ pub fn second_end<M: Mem>(
     end: WalkEnd,
 ) -> SecondWalkEnd
     requires backed { M.is_backed mem.now }
-    requires whole { IsWhole (M.base mem.now) (M.bytes mem.now) }
     requires fits { EndFits most_levels end }
-    ensures value { result ≡ second_end (M.base mem.now) (M.bytes mem.now) mxr address kind end }
-    ensures leaf { LeafIn (M.base mem.now) (M.bytes mem.now) address result }
+    ensures value { result ≡ second_end (M.memory mem.now) mxr address kind end }
+    ensures leaf { LeafIn (M.memory mem.now) address result }
 {
     match end {
         WalkEnd::Leaf(leaf) => {
@@ -62,6 +62,8 @@ pub fn second_end<M: Mem>(
                 SecondWalkEnd::GuestPageFault
             } else if has_frame_of(mem, leaf_address(&leaf, address)) {
                 SecondWalkEnd::Leaf(leaf)
+            } else if is_on_device(leaf_address(&leaf, address)) {
+                SecondWalkEnd::Device(leaf)
             } else {
                 SecondWalkEnd::AccessFault
             }
@@ -84,9 +86,8 @@ pub fn second_walk<M: Mem>(
     kind: Access,
 ) -> SecondWalkEnd
     requires backed { M.is_backed mem.now }
-    requires whole { IsWhole (M.base mem.now) (M.bytes mem.now) }
-    ensures value { result ≡ second_walk (M.base mem.now) (M.bytes mem.now) mxr shape ppn address kind }
-    ensures leaf { LeafIn (M.base mem.now) (M.bytes mem.now) address result }
+    ensures value { result ≡ second_walk (M.memory mem.now) mxr shape ppn address kind }
+    ensures leaf { LeafIn (M.memory mem.now) address result }
 {
     let root = ppn / 4 % 0x400_0000_0000 * 4;
     let end = walk(&Words { mem }, root, shape, address, kind);
@@ -104,21 +105,21 @@ fn walked<M: Mem>(
     kind: Access,
 ) -> Option<u64>
     requires backed { M.is_backed mem.now }
-    requires whole { IsWhole (M.base mem.now) (M.bytes mem.now) }
-    ensures place { result ≡ walked (M.base mem.now) (M.bytes mem.now) mxr shape ppn address kind }
-    ensures inside { IfSome result (λ place. IsPlaceOf (M.base mem.now) (M.bytes mem.now) address place) }
+    ensures place { result ≡ walked (M.memory mem.now) mxr shape ppn address kind }
+    ensures inside { IfSome result (λ place. IsPlaceOf (M.memory mem.now) address place) }
 {
     match second_walk(mem, mxr, shape, ppn, address, kind) {
         SecondWalkEnd::Leaf(leaf) => Some(leaf_address(&leaf, address)),
-        SecondWalkEnd::GuestPageFault | SecondWalkEnd::AccessFault => None,
+        SecondWalkEnd::Device(_) | SecondWalkEnd::GuestPageFault | SecondWalkEnd::AccessFault =>
+            None,
     }
 }
 
 /// Bare passes on each address inside memory.
 pub fn bare<M: Mem>(mem: &M, address: u64, kind: Access) -> Option<u64>
     requires backed { M.is_backed mem.now }
-    ensures place { result ≡ bare (M.base mem.now) (length (M.bytes mem.now)) address kind }
-    ensures inside { IfSome result (λ place. IsPlaceOf (M.base mem.now) (M.bytes mem.now) address place) }
+    ensures place { result ≡ bare (M.memory mem.now) address kind }
+    ensures inside { IfSome result (λ place. IsPlaceOf (M.memory mem.now) address place) }
 {
     if mem.get(address, 1).is_some() {
         Some(address)
@@ -148,9 +149,8 @@ pub fn second_place<M: Mem>(
     kind: Access,
 ) -> Option<u64>
     requires backed { M.is_backed mem.now }
-    requires whole { IsWhole (M.base mem.now) (M.bytes mem.now) }
-    ensures place { result ≡ second_by_walk csrs.now mode (M.base mem.now) (M.bytes mem.now) address kind }
-    ensures inside { IfSome result (λ place. IsPlaceOf (M.base mem.now) (M.bytes mem.now) address place) }
+    ensures place { result ≡ second_by_walk csrs.now mode (M.memory mem.now) address kind }
+    ensures inside { IfSome result (λ place. IsPlaceOf (M.memory mem.now) address place) }
 {
     match second_root_of(csrs, mode) {
         GuestRoot::Bare => bare(mem, address, kind),

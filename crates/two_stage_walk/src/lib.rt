@@ -1,8 +1,8 @@
 // Both stages of translation, for any memory as it is.
 #![tactic(auto)]
 
+mod devices;
 mod guest_addresses;
-mod laws;
 mod noting;
 mod translating;
 mod traps;
@@ -10,11 +10,11 @@ mod virtual_addresses;
 mod walked_entries;
 
 pub use arch_defs::{Found, MissingPlace, SecondWalkEnd};
+pub use devices::{DEVICE_FRAME, is_device_now, is_on_device};
 pub use guest_addresses::{second_place, second_root_of, second_walk};
-pub use laws::{memory_is_whole, ram_is_whole};
 pub use noting::{first_noted, second_noted};
 pub use phys_mem::Mem;
-pub use translating::translate;
+pub use translating::{Place, locate, translate};
 pub use traps::{guest_page_trap, missing_place_trap};
 pub use virtual_addresses::{first_stage, found_by, leaf_address, privilege_of, supervisor_of};
 pub use walked_entries::entry_by_walk;

@@ -8,7 +8,7 @@ ghost use Rattle.arch_defs.specs.Translation.{entry_words_through, found_by, fou
 ghost use Rattle.arch_defs.specs.Walk.{path, walk};
 ghost use Rattle.frame_set.specs.Holding.{has_frame, has_recent};
 ghost use Rattle.stage_walk.specs.Reads.{Each, LiesIn};
-ghost use Rattle.two_stage_walk.specs.Places.{IsPlaceOf, IsWhole, KeepsOffset, LeafIn};
+ghost use Rattle.two_stage_walk.specs.Places.{IsPlaceOf, KeepsOffset, LeafIn};
 ghost use Rattle.two_stage_walk.specs.Reads.{EntryReads, FirstReads, SecondReads};
 
 use crate::guest_addresses::{bare, second_end};
@@ -25,7 +25,7 @@ struct NotedWords<'a, M> {
 }
 
 impl<M: Mem> NotingFetch for NotedWords<'_, M> {
-    ghost reading = { λ w. memory_words (M.base w.mem.now) (M.bytes w.mem.now) };
+    ghost reading = { λ w. memory_words (M.memory w.mem.now) };
 
     ghost reads = { λ w frames place. LiesIn frames place };
 
@@ -53,19 +53,19 @@ fn walked_noted<M: Mem>(
     read: &mut FrameSet,
 ) -> Option<u64>
     requires backed { M.is_backed mem.now }
-    requires whole { IsWhole (M.base mem.now) (M.bytes mem.now) }
-    ensures place { result ≡ walked (M.base mem.now) (M.bytes mem.now) mxr shape ppn address kind }
-    ensures inside { IfSome result (λ place. IsPlaceOf (M.base mem.now) (M.bytes mem.now) address place) }
+    ensures place { result ≡ walked (M.memory mem.now) mxr shape ppn address kind }
+    ensures inside { IfSome result (λ place. IsPlaceOf (M.memory mem.now) address place) }
     ensures more { Within (has_frame read.old) (has_frame read.new) }
     ensures recent { Within (has_recent read.old) (has_recent read.new) }
     ensures noted { (frames : Frames) → Within (has_recent read.new) frames → Each (LiesIn frames)
-        (path (memory_words (M.base mem.now) (M.bytes mem.now)) (guest_root_frame ppn) shape address kind) }
+        (path (memory_words (M.memory mem.now)) (guest_root_frame ppn) shape address kind) }
 {
     let root = ppn / 4 % 0x400_0000_0000 * 4;
     let end = walk_noted(&NotedWords { mem }, root, shape, address, kind, read);
     match second_end(mem, mxr, address, kind, end) {
         SecondWalkEnd::Leaf(leaf) => Some(leaf_address(&leaf, address)),
-        SecondWalkEnd::GuestPageFault | SecondWalkEnd::AccessFault => None,
+        SecondWalkEnd::Device(_) | SecondWalkEnd::GuestPageFault | SecondWalkEnd::AccessFault =>
+            None,
     }
 }
 
@@ -81,13 +81,12 @@ pub fn second_noted<M: Mem>(
     read: &mut FrameSet,
 ) -> Option<u64>
     requires backed { M.is_backed mem.now }
-    requires whole { IsWhole (M.base mem.now) (M.bytes mem.now) }
-    ensures place { result ≡ second_under (M.base mem.now) (M.bytes mem.now) mxr root address kind }
-    ensures inside { IfSome result (λ place. IsPlaceOf (M.base mem.now) (M.bytes mem.now) address place) }
+    ensures place { result ≡ second_under (M.memory mem.now) mxr root address kind }
+    ensures inside { IfSome result (λ place. IsPlaceOf (M.memory mem.now) address place) }
     ensures more { Within (has_frame read.old) (has_frame read.new) }
     ensures recent { Within (has_recent read.old) (has_recent read.new) }
     ensures noted { (frames : Frames) → Within (has_recent read.new) frames
-        → SecondReads frames (M.base mem.now) (M.bytes mem.now) address kind root }
+        → SecondReads frames (M.memory mem.now) address kind root }
 {
     match root {
         GuestRoot::Bare => bare(mem, address, kind),
@@ -107,12 +106,12 @@ struct NotedEntries<'a, M> {
 
 impl<M: Mem> NotingFetch for NotedEntries<'_, M> {
     ghost reading = { λ e. entry_words_through
-        (second_under (M.base e.mem.now) (M.bytes e.mem.now) e.mxr e.root)
-        (reading_of (M.base e.mem.now) (M.bytes e.mem.now)) };
+        (second_under (M.memory e.mem.now) e.mxr e.root)
+        (reading_of (M.memory e.mem.now)) };
 
-    ghost reads = { λ e. EntryReads (M.base e.mem.now) (M.bytes e.mem.now) e.mxr e.root };
+    ghost reads = { λ e. EntryReads (M.memory e.mem.now) e.mxr e.root };
 
-    ghost is_backed = { λ e. M.is_backed e.mem.now × IsWhole (M.base e.mem.now) (M.bytes e.mem.now) };
+    ghost is_backed = { λ e. M.is_backed e.mem.now };
 
     fn pte_noted(&self, place: u64, read: &mut FrameSet) -> Result<u64, Trap> {
         match second_noted(self.mem, self.mxr, self.root, place, Access::Implicit, read) {
@@ -138,14 +137,13 @@ pub fn first_noted<M: Mem>(
     read: &mut FrameSet,
 ) -> Found
     requires backed { M.is_backed mem.now }
-    requires whole { IsWhole (M.base mem.now) (M.bytes mem.now) }
-    ensures value { result ≡ found_under (second_under (M.base mem.now) (M.bytes mem.now) mxr second)
-        (reading_of (M.base mem.now) (M.bytes mem.now)) privilege va access root }
+    ensures value { result ≡ found_under (second_under (M.memory mem.now) mxr second)
+        (reading_of (M.memory mem.now)) privilege va access root }
     ensures offset { KeepsOffset va result }
     ensures more { Within (has_frame read.old) (has_frame read.new) }
     ensures recent { Within (has_recent read.old) (has_recent read.new) }
     ensures noted { (frames : Frames) → Within (has_recent read.new) frames
-        → FirstReads frames (M.base mem.now) (M.bytes mem.now) mxr second va access root }
+        → FirstReads frames (M.memory mem.now) mxr second va access root }
 {
     match root {
         SupervisorRoot::Bare => Found::Passes(va),

@@ -4,76 +4,124 @@ ghost use Rattle.std.specs.Prelude.{◌≡◌, IfOk};
 ghost use Rattle.arch_defs.specs.SecondStage.{second_by_walk};
 ghost use Rattle.machine_defs.specs.Answers.{answer_of, located_by_walk};
 ghost use Rattle.machine_defs.specs.Core.{located_by};
-ghost use Rattle.two_stage_walk.specs.Places.{IsPlaceOf, IsWhole, KeepsOffset};
+ghost use Rattle.two_stage_walk.specs.Answers.{IsPlaceBy, LiesBy, placed, placed_missing};
+ghost use Rattle.two_stage_walk.specs.Places.{KeepsOffset};
 
+use crate::devices::{DEVICE_FRAME, is_device_now};
 use crate::guest_addresses::second_place;
 use crate::traps::missing_place_trap;
 use crate::virtual_addresses::first_stage;
-use arch_defs::{Access, Csrs, Found, MissingPlace, Mode, Trap};
+use arch_defs::{Access, Csrs, FRAME_SIZE, Found, MissingPlace, Mode, Trap};
 use phys_mem::Mem;
 
-// The place of an access, or its trap, by what the first stage made of its address.
+/// Where an access is made.
+#[derive(Clone, Copy, PartialEq, Eq)]
+pub enum Place {
+    /// In memory, at this address.
+    InMemory(u64),
+    /// On the device page, at this offset.
+    OnDevice(u64),
+}
+
+// Where an access is made that has no place in memory, or its trap.
+#[cold]
+fn placed_missing<M: Mem>(
+    mem: &M,
+    device: bool,
+    csrs: &Csrs,
+    missing: &MissingPlace,
+) -> Result<Place, Trap>
+    requires backed { M.is_backed mem.now }
+    ensures { result ≡ placed_missing device csrs.now (M.memory mem.now) missing.now }
+{
+    if is_device_now(mem, device, csrs, missing) {
+        Ok(Place::OnDevice(missing.address % FRAME_SIZE))
+    } else {
+        Err(missing_place_trap(mem, csrs, missing))
+    }
+}
+
+// Where an access is made, or its trap, by what the first stage made of its address.
 fn placed_by<M: Mem>(
     mem: &M,
+    device: bool,
     csrs: &Csrs,
     mode: Mode,
     va: u64,
     access: Access,
     found: Found,
-) -> Result<u64, Trap>
+) -> Result<Place, Trap>
     requires backed { M.is_backed mem.now }
-    requires whole { IsWhole (M.base mem.now) (M.bytes mem.now) }
     requires offset { KeepsOffset va found }
-    ensures answer { result ≡ answer_of csrs.now (M.base mem.now) (M.bytes mem.now)
-        (located_by (second_by_walk csrs.now mode (M.base mem.now) (M.bytes mem.now)) mode va access found) }
-    ensures inside { IfOk result (λ place. IsPlaceOf (M.base mem.now) (M.bytes mem.now) va place) }
+    ensures answer { result ≡ placed device csrs.now (M.memory mem.now)
+        (located_by (second_by_walk csrs.now mode (M.memory mem.now)) mode va access found) }
+    ensures place { IfOk result (λ place. LiesBy device (M.memory mem.now) va place) }
 {
     match found {
         Found::Passes(address) => match second_place(mem, csrs, mode, address, access) {
-            Some(place) => Ok(place),
-            None => Err(missing_place_trap(
-                mem,
-                csrs,
-                &MissingPlace {
+            Some(place) => Ok(Place::InMemory(place)),
+            None => {
+                let missing = MissingPlace {
                     address,
                     kind: access,
                     access,
                     va,
                     mode,
-                },
-            )),
+                };
+                placed_missing(mem, device, csrs, &missing)
+            }
         },
         Found::PageFaults => Err(Trap::of_exception(mode, access.faults().page, va)),
-        Found::MissesEntry(place) => Err(missing_place_trap(
-            mem,
-            csrs,
-            &MissingPlace {
+        Found::MissesEntry(place) => {
+            let missing = MissingPlace {
                 address: place,
                 kind: Access::Implicit,
                 access,
                 va,
                 mode,
-            },
-        )),
+            };
+            placed_missing(mem, device, csrs, &missing)
+        }
     }
 }
 
-/// The physical address of an access to a virtual address as a mode, by both stages as the registers and
-/// memory are, or its trap: an access fault, a page fault or a guest-page fault, with all that its entry
-/// writes.
+/// Where an access to a virtual address is made as a mode, by both stages as the registers and memory are, of
+/// a machine that has the device page or not; or its trap: an access fault, a page fault or a guest-page
+/// fault, with all that its entry writes.
+pub fn locate<M: Mem>(
+    mem: &M,
+    csrs: &Csrs,
+    mode: Mode,
+    va: u64,
+    access: Access,
+    device: bool,
+) -> Result<Place, Trap>
+    requires backed { M.is_backed mem.now }
+    ensures answer { result ≡ placed device csrs.now (M.memory mem.now)
+        (located_by_walk csrs.now mode (M.memory mem.now) va access) }
+    ensures place { IfOk result (λ place. LiesBy device (M.memory mem.now) va place) }
+{
+    let found = first_stage(mem, csrs, mode, va, access);
+    placed_by(mem, device, csrs, mode, va, access, found)
+}
+
+/// The physical address of that place, or the trap.
 pub fn translate<M: Mem>(
     mem: &M,
     csrs: &Csrs,
     mode: Mode,
     va: u64,
     access: Access,
+    device: bool,
 ) -> Result<u64, Trap>
     requires backed { M.is_backed mem.now }
-    requires whole { IsWhole (M.base mem.now) (M.bytes mem.now) }
-    ensures answer { result ≡ answer_of csrs.now (M.base mem.now) (M.bytes mem.now)
-        (located_by_walk csrs.now mode (M.base mem.now) (M.bytes mem.now) va access) }
-    ensures inside { IfOk result (λ place. IsPlaceOf (M.base mem.now) (M.bytes mem.now) va place) }
+    ensures answer { result ≡ answer_of device csrs.now (M.memory mem.now)
+        (located_by_walk csrs.now mode (M.memory mem.now) va access) }
+    ensures place { IfOk result (λ place. IsPlaceBy device (M.memory mem.now) va place) }
 {
-    let found = first_stage(mem, csrs, mode, va, access);
-    placed_by(mem, csrs, mode, va, access, found)
+    match locate(mem, csrs, mode, va, access, device) {
+        Ok(Place::InMemory(place)) => Ok(place),
+        Ok(Place::OnDevice(offset)) => Ok(DEVICE_FRAME * FRAME_SIZE + offset),
+        Err(trap) => Err(trap),
+    }
 }

@@ -2,14 +2,13 @@
 
 ghost use Rattle.std.specs.Prelude.{◌≡◌};
 ghost use Rattle.arch_defs.specs.SecondStage.{guest_page_trap, is_implicit, missing_place_by, missing_place_trap};
-ghost use Rattle.two_stage_walk.specs.Places.{IsWhole};
 
 use crate::guest_addresses::{second_root_of, second_walk};
 use arch_defs::{Access, Csrs, GuestRoot, MissingPlace, SecondWalkEnd, Trap};
 use phys_mem::Mem;
 
-// Whether an access is the implicit read of a first-stage entry.
-fn is_implicit(kind: Access) -> bool
+/// Whether an access is the implicit read of a first-stage entry.
+pub fn is_implicit(kind: Access) -> bool
     ensures { result ≡ is_implicit kind }
 {
     matches!(kind, Access::Implicit)
@@ -33,16 +32,18 @@ fn missing_place_by(missing: &MissingPlace, end: SecondWalkEnd) -> Trap
 {
     match end {
         SecondWalkEnd::GuestPageFault => guest_page_trap(missing),
-        SecondWalkEnd::Leaf(_) | SecondWalkEnd::AccessFault => missing.access_fault(),
+        SecondWalkEnd::Leaf(_) | SecondWalkEnd::Device(_) | SecondWalkEnd::AccessFault => {
+            missing.access_fault()
+        }
     }
 }
 
-/// The trap of an access for which the second stage has no place, as the registers and memory are.
+/// The trap of an access for which the second stage has no place, as the registers and memory are, of a
+/// machine without the device page.
 #[cold]
 pub fn missing_place_trap<M: Mem>(mem: &M, csrs: &Csrs, missing: &MissingPlace) -> Trap
     requires backed { M.is_backed mem.now }
-    requires whole { IsWhole (M.base mem.now) (M.bytes mem.now) }
-    ensures { result ≡ missing_place_trap csrs.now (M.base mem.now) (M.bytes mem.now) missing.now }
+    ensures { result ≡ missing_place_trap csrs.now (M.memory mem.now) missing.now }
 {
     match second_root_of(csrs, missing.mode) {
         GuestRoot::Bare => missing.access_fault(),

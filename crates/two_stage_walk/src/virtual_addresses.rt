@@ -6,7 +6,7 @@ ghost use Rattle.arch_defs.specs.SecondStage.{second_by_walk};
 ghost use Rattle.arch_defs.specs.Translation.{entry_words_through, first_stage, found_by, privilege_of, supervisor_of, unread};
 ghost use Rattle.arch_defs.specs.Walk.{leaf_address, most_levels, walk};
 ghost use Rattle.stage_walk.specs.Ends.{EndFits, LeafFits};
-ghost use Rattle.two_stage_walk.specs.Places.{IsPlaceOf, IsWhole, KeepsOffset};
+ghost use Rattle.two_stage_walk.specs.Places.{IsPlaceOf, KeepsOffset};
 
 use crate::guest_addresses::second_place;
 use arch_defs::{
@@ -27,10 +27,10 @@ struct Entries<'a, M> {
 
 impl<M: Mem> Fetch for Entries<'_, M> {
     ghost reading = { λ e. entry_words_through
-        (second_by_walk e.csrs.now e.mode (M.base e.mem.now) (M.bytes e.mem.now))
-        (reading_of (M.base e.mem.now) (M.bytes e.mem.now)) };
+        (second_by_walk e.csrs.now e.mode (M.memory e.mem.now))
+        (reading_of (M.memory e.mem.now)) };
 
-    ghost is_backed = { λ e. M.is_backed e.mem.now × IsWhole (M.base e.mem.now) (M.bytes e.mem.now) };
+    ghost is_backed = { λ e. M.is_backed e.mem.now };
 
     fn pte_at(&self, place: u64) -> Result<u64, Trap> {
         match second_place(self.mem, self.csrs, self.mode, place, Access::Implicit) {
@@ -44,11 +44,11 @@ impl<M: Mem> Fetch for Entries<'_, M> {
 #[tactic(auto, using(crate::proofs::Frames::doubleword))]
 pub fn word_at<M: Mem>(mem: &M, place: u64) -> u64
     requires backed { M.is_backed mem.now }
-    requires whole { IsWhole (M.base mem.now) (M.bytes mem.now) }
-    requires inside { IsPlaceOf (M.base mem.now) (M.bytes mem.now) place place }
+    requires inside { IsPlaceOf (M.memory mem.now) place place }
     requires aligned { place % 8 ≡ 0 }
-    ensures { result ≡ reading_of (M.base mem.now) (M.bytes mem.now) place 8 }
+    ensures { result ≡ reading_of (M.memory mem.now) place 8 }
 {
+    mem.is_whole();
     match mem.get(place, 8) {
         Some(word) => word,
         None => unreachable!(),
@@ -132,10 +132,9 @@ fn found_in_table<M: Mem>(
     access: Access,
 ) -> Found
     requires backed { M.is_backed mem.now }
-    requires whole { IsWhole (M.base mem.now) (M.bytes mem.now) }
     ensures value { result ≡ found_by (privilege_of csrs.now mode) access va
-        (walk (entry_words_through (second_by_walk csrs.now mode (M.base mem.now) (M.bytes mem.now))
-        (reading_of (M.base mem.now) (M.bytes mem.now))) (ppn % 2 ^ 44) shape va access) }
+        (walk (entry_words_through (second_by_walk csrs.now mode (M.memory mem.now))
+        (reading_of (M.memory mem.now))) (ppn % 2 ^ 44) shape va access) }
     ensures offset { KeepsOffset va result }
 {
     let entries = Entries { mem, csrs, mode };
@@ -148,9 +147,8 @@ fn found_in_table<M: Mem>(
 #[tactic(auto, unfolding(arch_defs::specs::Translation::first_stage))]
 pub fn first_stage<M: Mem>(mem: &M, csrs: &Csrs, mode: Mode, va: u64, access: Access) -> Found
     requires backed { M.is_backed mem.now }
-    requires whole { IsWhole (M.base mem.now) (M.bytes mem.now) }
-    ensures value { result ≡ first_stage (second_by_walk csrs.now mode (M.base mem.now) (M.bytes mem.now))
-        (reading_of (M.base mem.now) (M.bytes mem.now)) csrs.now mode va access }
+    ensures value { result ≡ first_stage (second_by_walk csrs.now mode (M.memory mem.now))
+        (reading_of (M.memory mem.now)) csrs.now mode va access }
     ensures offset { KeepsOffset va result }
 {
     match supervisor_of(csrs, mode).atp {

@@ -1,10 +1,9 @@
 // What the walk of hgatp's table gives to be cached.
 
 ghost use Rattle.std.specs.Prelude.{◌≡◌};
-ghost use Rattle.arch_defs.specs.Memory.{ram_base};
+ghost use Rattle.arch_defs.specs.Memory.{ram_memory};
 ghost use Rattle.arch_defs.specs.WalkedEntries.{entry_by_end, entry_by_walk, entry_under};
 ghost use Rattle.arch_defs.specs.Walk.{most_levels};
-ghost use Rattle.two_stage_walk.specs.Places.{IsWhole};
 ghost use Rattle.stage_walk.specs.Ends.{LeafFits};
 
 use crate::guest_addresses::second_walk;
@@ -14,13 +13,19 @@ use phys_mem::Mem;
 
 /// The cached translation that the walk of hgatp's table in RAM gives for an access of a kind at a guest
 /// physical address, for this one page; none where no leaf permits the access, or RAM does not have the
-/// leaf's frame (Privileged Architecture 20211203, 8.2.10 and 8.5).
+/// leaf's frame, which is not that of the device page either, of a guest that has it (Privileged Architecture
+/// 20211203, 8.2.10 and 8.5).
 #[tactic(auto, unfolding(arch_defs::specs::WalkedEntries::entry_by_walk))]
-pub fn entry_by_walk<M: Mem>(mem: &M, csrs: &Csrs, address: u64, kind: Access) -> Option<Entry>
+pub fn entry_by_walk<M: Mem>(
+    mem: &M,
+    device: bool,
+    csrs: &Csrs,
+    address: u64,
+    kind: Access,
+) -> Option<Entry>
     requires backed { M.is_backed mem.now }
-    requires whole { IsWhole (M.base mem.now) (M.bytes mem.now) }
-    requires ram { M.base mem.now ≡ ram_base }
-    ensures { result ≡ entry_by_walk csrs.now (M.bytes mem.now) address kind }
+    requires ram { M.memory mem.now ≡ ram_memory (M.memory mem.now).bytes }
+    ensures { result ≡ entry_by_walk device csrs.now (M.memory mem.now).bytes address kind }
 {
     match csrs.hgatp {
         GuestRoot::Bare => None,
@@ -28,7 +33,10 @@ pub fn entry_by_walk<M: Mem>(mem: &M, csrs: &Csrs, address: u64, kind: Access) -
             let mxr = csrs.hs.status.mxr;
             match second_walk(mem, mxr, mode.shape(), ppn, address, kind) {
                 SecondWalkEnd::Leaf(leaf) => Some(entry_under(&leaf, address)),
-                SecondWalkEnd::GuestPageFault | SecondWalkEnd::AccessFault => None,
+                SecondWalkEnd::Device(leaf) if device => Some(entry_under(&leaf, address)),
+                SecondWalkEnd::Device(_)
+                | SecondWalkEnd::GuestPageFault
+                | SecondWalkEnd::AccessFault => None,
             }
         }
     }

@@ -1,5 +1,5 @@
 use Rattle.std.proofs.Common.{None, subst}
-use Rattle.arch_defs.specs.Memory.{Reading, SecondStage}
+use Rattle.arch_defs.specs.Memory.{Mmu, mmu, nothing_known}
 use Rattle.rv64_asm.specs.Words.{encoded}
 use Rattle.hcsr_emulation.proofs.AtOnce.{EndsAtOnce, ends_at_once, ends_else, kind_decided}
 use Rattle.hcsr_emulation.proofs.registers.access.Goals as goal
@@ -9,8 +9,7 @@ emulate-requires-clause-decided c = kind_decided c.args.op c.requires.kind
 
 pub unreachable-requires : goal.unreachable-requires
 unreachable-requires c =
-    let second : SecondStage = λ address access. None in
-    let reading : Reading = λ place bytes. 0 in
+    let through : Mmu = mmu nothing_known (λ address access. None) (λ place bytes. 0) in
     ends_else c.emulate.result c.emulate.new.state
-    (subst EndsAtOnce (c.emulate.ensures.ends second reading) (ends_at_once c.args.op c.args.state.now (encoded c.args.op) second reading c.requires.kind))
+    (subst EndsAtOnce (c.emulate.ensures.ends through) (ends_at_once c.args.op c.args.state.now (encoded c.args.op) through c.requires.kind))
     c.in_default.not-Done c.in_default.not-Raise

@@ -1,4 +1,4 @@
-use Rattle.std.proofs.Common.{◌≡◌, ◌+◌, ◌*◌, ◌≤◌, List, ℕ, length, arith, refl, sym, subst, ap, ◌∙◌}
+use Rattle.std.proofs.Common.{◌≡◌, ◌+◌, ◌*◌, ◌≤◌, length, arith, refl, sym, subst, ap, ◌∙◌}
 use Rattle.std.specs.List.{concat, copy_within}
 use Rattle.std.proofs.lemmas.List.{with_items_is}
 use Rattle.arch_defs.specs.Memory.{block_size}

@@ -15,7 +15,7 @@ returns-in-Some-clause-answer c =
 pub returns-in-Some-clause-inside : goal.returns-in-Some-clause-inside
 returns-in-Some-clause-inside c =
     placed_inside (context_of c.args.csrs.now c.args.mode) (privilege_of c.args.csrs.now c.args.mode) c.args.memory.now c.args.va c.in-Some.place c.args.access
-    c.memory_is_whole.ensures.size (c.in-Some.ensures c.args.csrs.now c.args.mode c.args.memory.now c.requires.serves)
+    c.is_whole.ensures.size (c.in-Some.ensures c.args.csrs.now c.args.mode c.args.memory.now c.requires.serves)
 
 pub returns-in-None-clause-answer : goal.returns-in-None-clause-answer
 returns-in-None-clause-answer c =

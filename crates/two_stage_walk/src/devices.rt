@@ -1,0 +1,45 @@
+// Accesses to the device page.
+
+ghost use Rattle.std.specs.Prelude.{◌≡◌};
+ghost use Rattle.arch_defs.specs.Devices.{device_frame, is_on_device};
+ghost use Rattle.arch_defs.specs.SecondStage.{device_by_walk};
+ghost use Rattle.machine_defs.specs.Answers.{is_device_now};
+
+use crate::guest_addresses::{second_root_of, second_walk};
+use crate::traps::is_implicit;
+use arch_defs::{Csrs, GuestRoot, MissingPlace, SecondWalkEnd};
+use phys_mem::Mem;
+
+/// The frame of the device page.
+pub const DEVICE_FRAME: u64 = 0x10000;
+
+/// Whether a guest physical address is on the device page.
+pub fn is_on_device(place: u64) -> bool
+    ensures { result ≡ is_on_device place }
+{
+    place / 4096 == DEVICE_FRAME
+}
+
+// Whether an access without a place is on the device page, as the registers and memory are.
+fn device_by_walk<M: Mem>(mem: &M, csrs: &Csrs, missing: &MissingPlace) -> bool
+    requires backed { M.is_backed mem.now }
+    ensures { result ≡ device_by_walk csrs.now missing.now.mode (M.memory mem.now)
+        missing.now.address missing.now.kind }
+{
+    match second_root_of(csrs, missing.mode) {
+        GuestRoot::Bare => is_on_device(missing.address),
+        GuestRoot::Table { mode, ppn, .. } => {
+            let mxr = csrs.hs.status.mxr;
+            let end = second_walk(mem, mxr, mode.shape(), ppn, missing.address, missing.kind);
+            matches!(end, SecondWalkEnd::Device(_))
+        }
+    }
+}
+
+/// The same of a machine that has the page or not, which reads no entry there.
+pub fn is_device_now<M: Mem>(mem: &M, device: bool, csrs: &Csrs, missing: &MissingPlace) -> bool
+    requires backed { M.is_backed mem.now }
+    ensures { result ≡ is_device_now device csrs.now (M.memory mem.now) missing.now }
+{
+    device && !is_implicit(missing.kind) && device_by_walk(mem, csrs, missing)
+}
