@@ -14,7 +14,7 @@ use Rattle.arch_defs.specs.declared.walks.Found.TheVariants.{Passes, PageFaults,
 use Rattle.arch_defs.specs.declared.widths.Width.{Width}
 use Rattle.arch_defs.specs.declared.widths.Width.TheVariants.{Word}
 use Rattle.arch_defs.specs.Bits.{add64}
-use Rattle.arch_defs.specs.Memory.{Reading, SecondStage}
+use Rattle.arch_defs.specs.Memory.{Mmu, Reading, SecondStage}
 use Rattle.arch_defs.specs.SecondStage.{is_implicit}
 use Rattle.arch_defs.specs.Registers.{advanced, read, passed, sets, next}
 use Rattle.arch_defs.specs.Translation.{first_stage}
@@ -30,10 +30,10 @@ use Rattle.op_defs.specs.declared.ops.Purpose.TheVariants as purpose
 use Rattle.op_defs.specs.Arithmetic.{amo}
 use Rattle.op_defs.specs.Meaning.{branch, is_branch_taken, jump, meaning}
 use Rattle.op_defs.specs.Table.{op_of}
-use Rattle.machine_defs.specs.Core.{Fails, Faults, accessed, accessed_data, called_from, completed, core, decoded, done, event_of, executed, instruction, is_reserved, kind_of, located, located_at, located_by, stored_if, storing, word_at}
+use Rattle.machine_laws.specs.MissedPlaces.{access_of, wanted_at}
+use Rattle.machine_defs.specs.Core.{At, Fails, Faults, Located, Misses, accessed, accessed_data, called_from, completed, core, decoded, done, event_of, executed, fetch_place, found_with, instruction, is_reserved, kind_of, located, located_at, located_by, stored_if, storing, word_at}
 use Rattle.world_switch.specs.Hosting.{hart_state_of, hosted_csrs, hosted_mode}
 use Rattle.world_switch.proofs.Undone.{translates_alike}
-use Rattle.guest_exit.specs.ExitCases.{access_of}
 use Rattle.guest_exit.proofs.Decided.{privileged_in, privileged_of}
 use Rattle.guest_exit.proofs.Delegation.{IsOwn, own_0, own_12, own_13, own_15, own_2, own_3, own_4, own_6, own_8}
 use Rattle.guest_exit.proofs.Privileged.{privileged_stands}
@@ -72,26 +72,27 @@ store_plain = record { told = refl; explicit = refl }
 by_second : (s : Virtual) (va : ℕ) (access : Access) (address : ℕ) (place : Option ℕ) → IsPlain access
     → SamePlace s (located_at s.mode va access address place) (located_at (hosted_mode s.mode) va access address place)
 by_second s va access address (Some place) plain = refl
-by_second s va access address None plain = (refl, refl, record { access = plain.told; kind = rw plain.explicit refl })
+by_second s va access address None plain = (refl, refl, plain.told)
 
 by_first : (s : Virtual) (second : SecondStage) (va : ℕ) (access : Access) (found : Found) → IsPlain access
     → SamePlace s (located_by second s.mode va access found) (located_by second (hosted_mode s.mode) va access found)
 by_first s second va access (Passes address) plain = by_second s va access address (second address access) plain
 by_first s second va access PageFaults plain = (_, refl, Own (faults_of access).page va refl refl (page_fault_own access))
-by_first s second va access (MissesEntry place) plain = (refl, refl, record { access = plain.told; kind = refl })
+by_first s second va access (MissesEntry place) plain = (refl, refl, plain.told)
 
-located_alike : (root : GuestRoot) (s : Virtual) (second : SecondStage) (reading : Reading) (va : ℕ) (access : Access) → IsPlain access
-    → SamePlace s (located second reading s.csrs s.mode va access) (located second reading (hosted_csrs root (is_virtual s.mode) s.csrs) (hosted_mode s.mode) va access)
-located_alike root s second reading va access plain =
-    rw (translates_alike root second reading s.csrs s.mode va access) (by_first s second va access (first_stage second reading s.csrs s.mode va access) plain)
+located_alike : (root : GuestRoot) (s : Virtual) (through : Mmu) (va : ℕ) (access : Access) → IsPlain access
+    → SamePlace s (located through s.csrs s.mode va access) (located through (hosted_csrs root (is_virtual s.mode) s.csrs) (hosted_mode s.mode) va access)
+located_alike root s through va access plain =
+    rw (translates_alike root through.second through.reading s.csrs s.mode va access)
+    (by_first s through.second va access (found_with (through.known va access) (first_stage through.second through.reading s.csrs s.mode va access)) plain)
 
-access_alike : (root : GuestRoot) (s : Virtual) (second : SecondStage) (reading : Reading) (va : ℕ) (width : Width) (access : Access) → IsPlain access
-    → SamePlace s (accessed second reading s.csrs s.mode va width access) (accessed second reading (hart_state_of root s).csrs (hosted_mode s.mode) va width access)
-access_alike root s second reading va width access plain =
+access_alike : (root : GuestRoot) (s : Virtual) (through : Mmu) (va : ℕ) (width : Width) (access : Access) → IsPlain access
+    → SamePlace s (accessed through s.csrs s.mode va width access) (accessed through (hart_state_of root s).csrs (hosted_mode s.mode) va width access)
+access_alike root s through va width access plain =
     elim (va % bytes_in width == 0) as (λ b.
-    SamePlace s (cond b (located second reading s.csrs s.mode va access) (Fails (Faults (exception s.mode (faults_of access).misaligned va))))
-    (cond b (located second reading (hosted_csrs root (is_virtual s.mode) s.csrs) (hosted_mode s.mode) va access) (Fails (Faults (exception (hosted_mode s.mode) (faults_of access).misaligned va)))))
-    [ true ↦ located_alike root s second reading va access plain | false ↦ (_, refl, Own (faults_of access).misaligned va refl refl (misaligned_own access)) ]
+    SamePlace s (cond b (located through s.csrs s.mode va access) (Fails (Faults (exception s.mode (faults_of access).misaligned va))))
+    (cond b (located through (hosted_csrs root (is_virtual s.mode) s.csrs) (hosted_mode s.mode) va access) (Fails (Faults (exception (hosted_mode s.mode) (faults_of access).misaligned va)))))
+    [ true ↦ located_alike root s through va access plain | false ↦ (_, refl, Own (faults_of access).misaligned va refl refl (misaligned_own access)) ]
 
 -- an instruction whose access to data is made at this place
 stored_if_stands : (root : GuestRoot) (s : Virtual) (pc word : ℕ) (held : Bool) (width : Width) (value rd place : ℕ)
@@ -115,11 +116,11 @@ completed_stands root reading s pc word width (purpose.Modify o operand rd) plac
     let before = reading place (bytes_in width) in
     completes root s pc word (sets s rd (extended width true before)).regs s.reservation (storing place width (amo o width before operand))
 
-data_stands : (root : GuestRoot) (second : SecondStage) (reading : Reading) (s : Virtual) (pc word : ℕ) (wanted : DataAccess) → IsPlain (kind_of wanted.purpose)
-    → Stands root s (accessed_data second reading s (event_of pc word) wanted) (accessed_data second reading (hart_state_of root s) (event_of pc word) wanted)
-data_stands root second reading s pc word wanted plain =
-    at_stands root s _ _ (λ place. completed_stands root reading s pc word wanted.width wanted.purpose place) _ _
-    (access_alike root s second reading wanted.address wanted.width (kind_of wanted.purpose) plain)
+data_stands : (root : GuestRoot) (through : Mmu) (s : Virtual) (pc word : ℕ) (wanted : DataAccess) → IsPlain (kind_of wanted.purpose)
+    → Stands root s (accessed_data through s (event_of pc word) wanted) (accessed_data through (hart_state_of root s) (event_of pc word) wanted)
+data_stands root through s pc word wanted plain =
+    at_stands root s (Some wanted) _ _ (λ place. completed_stands root through.reading s pc word wanted.width wanted.purpose place) _ _
+    (access_alike root s through wanted.address wanted.width (kind_of wanted.purpose) plain)
 
 -- a call of the environment
 called_alike : (root : GuestRoot) (s : Virtual) (mode : Mode) → Stands root (record s { mode = mode }) (called_from mode) (called_from (hosted_mode mode))
@@ -173,35 +174,46 @@ meaning_fine (op.GuestFetch width rd rs1) regs = tt
 meaning_fine (op.GuestStore width rs1 rs2) regs = tt
 
 -- what an effect does, what a decoded word does, and what was fetched
-executed_stands : (root : GuestRoot) (second : SecondStage) (reading : Reading) (s : Virtual) (word : ℕ) (effect : Effect) → IsFine effect
-    → word < 2 ^ 32 → privileged_in word s.regs ≡ privileged_of effect → Stands root s (executed second reading s word effect) (executed second reading (hart_state_of root s) word effect)
-executed_stands root second reading s word (Sets rd value next) good small decided = completes root s s.regs.pc word (advanced s.regs rd value next) s.reservation None
-executed_stands root second reading s word (Raises cause tval) good small decided = Own cause tval refl refl good
-executed_stands root second reading s word (Data wanted) good small decided = data_stands root second reading s s.regs.pc word wanted good
-executed_stands root second reading s word Calls good small decided = called_alike root s s.mode
-executed_stands root second reading s word (Privileged p) good small decided = privileged_stands root s word p small decided
+executed_stands : (root : GuestRoot) (through : Mmu) (s : Virtual) (word : ℕ) (effect : Effect) → IsFine effect
+    → word < 2 ^ 32 → privileged_in word s.regs ≡ privileged_of effect → Stands root s (executed through s word effect) (executed through (hart_state_of root s) word effect)
+executed_stands root through s word (Sets rd value next) good small decided = completes root s s.regs.pc word (advanced s.regs rd value next) s.reservation None
+executed_stands root through s word (Raises cause tval) good small decided = Own cause tval refl refl good
+executed_stands root through s word (Data wanted) good small decided = data_stands root through s s.regs.pc word wanted good
+executed_stands root through s word Calls good small decided = called_alike root s s.mode
+executed_stands root through s word (Privileged p) good small decided = privileged_stands root s word p small decided
 
 -- which instructions the mode decides on is read off the word
 decided_by : (word : ℕ) (o : Op) (regs : Regs) → op_of word ≡ Some o → privileged_in word regs ≡ privileged_of (meaning o regs)
 unfolding privileged_in
 decided_by word o regs e = ap (option_and_then (λ p. privileged_of (meaning p regs))) e
 
-decoded_stands : (root : GuestRoot) (second : SecondStage) (reading : Reading) (s : Virtual) (word : ℕ) (o : Option Op) → word < 2 ^ 32 → op_of word ≡ o
-    → Stands root s (decoded second reading s word o) (decoded second reading (hart_state_of root s) word o)
-decoded_stands root second reading s word (Some o) small e =
-    executed_stands root second reading s word (meaning o s.regs) (meaning_fine o s.regs) small (decided_by word o s.regs e)
-decoded_stands root second reading s word None small e = Own ILLEGAL_INSTRUCTION word refl refl own_2
+decoded_stands : (root : GuestRoot) (through : Mmu) (s : Virtual) (word : ℕ) (o : Option Op) → word < 2 ^ 32 → op_of word ≡ o
+    → Stands root s (decoded through s word o) (decoded through (hart_state_of root s) word o)
+decoded_stands root through s word (Some o) small e =
+    executed_stands root through s word (meaning o s.regs) (meaning_fine o s.regs) small (decided_by word o s.regs e)
+decoded_stands root through s word None small e = Own ILLEGAL_INSTRUCTION word refl refl own_2
 
 -- what is fetched is a word of 32 bits
 is_word : (n : ℕ) → n % 2 ^ 32 < 2 ^ 32
 is_word n = omega arith
 
-instruction_stands : (root : GuestRoot) (second : SecondStage) (reading : Reading) (s : Virtual) (place : ℕ)
-    → Stands root s (instruction second reading s (word_at reading place)) (instruction second reading (hart_state_of root s) (word_at reading place))
-instruction_stands root second reading s place = decoded_stands root second reading s (word_at reading place) (op_of (word_at reading place)) (is_word (reading place 4)) refl
+instruction_stands : (root : GuestRoot) (through : Mmu) (s : Virtual) (place : ℕ)
+    → Stands root s (instruction through s (word_at through.reading place)) (instruction through (hart_state_of root s) (word_at through.reading place))
+instruction_stands root through s place =
+    decoded_stands root through s (word_at through.reading place) (op_of (word_at through.reading place)) (is_word (through.reading place 4)) refl
 
 -- one instruction of the lone machine, and the same on the hart
-pub core_stands : (root : GuestRoot) (second : SecondStage) (reading : Reading) (s : Virtual) → Stands root s (core second reading s) (core second reading (hart_state_of root s))
+pub core_stands : (root : GuestRoot) (through : Mmu) (s : Virtual) → Stands root s (core through s) (core through (hart_state_of root s))
 unfolding core
-core_stands root second reading s =
-    at_stands root s _ _ (λ place. instruction_stands root second reading s place) _ _ (access_alike root s second reading s.regs.pc Word Fetch fetch_plain)
+core_stands root through s =
+    at_stands root s None _ _ (λ place. instruction_stands root through s place) _ _ (access_alike root s through s.regs.pc Word Fetch fetch_plain)
+
+-- what it wants of data, by where its word is
+pub wanted_alike : (root : GuestRoot) (through : Mmu) (s : Virtual)
+    → wanted_at through.reading (hart_state_of root s) (fetch_place through (hart_state_of root s)) ≡ wanted_at through.reading s (fetch_place through s)
+wanted_alike root through s = by (fetch_place through s) (fetch_place through (hart_state_of root s)) (access_alike root s through s.regs.pc Word Fetch fetch_plain)
+  where
+    by : (lone hart : Located) → SamePlace s lone hart → wanted_at through.reading (hart_state_of root s) hart ≡ wanted_at through.reading s lone
+    by lone (At place) e = rw e refl
+    by lone (Fails (Faults trap)) (own, e, traps) = rw e refl
+    by lone (Fails (Misses missing)) (e, mode, told) = rw e refl

@@ -16,7 +16,7 @@ use Rattle.machine_defs.specs.Machine.{Machine, Platform, has_enabled_interrupt,
 use Rattle.arch_defs.specs.Registers.{passed}
 use Rattle.machine_defs.specs.Outcomes.{Outcome, Fenced, Waits}
 use Rattle.machine_defs.specs.Runs.{left_by}
-use Rattle.machine_defs.specs.Tries.{apply_outcome, committed, enters}
+use Rattle.machine_defs.specs.Tries.{apply_outcome, committed, device_of, enters}
 use Rattle.shadow_pool.specs.Slots.{KeepsPool, pool_frames, room_of, spaces_of}
 use Rattle.guest_exit.specs.declared.guests.Guest.{Guest}
 use Rattle.guest_exit.specs.declared.hart_exit.Handled.{Handled}
@@ -28,20 +28,20 @@ use Rattle.guest_exit.proofs.Placed.{placed_by_fill, placed_by_step}
 use Rattle.guest_exit.proofs.Pools.{ram_by_pool, tidy_by_blocks}
 
 -- the machine of a guest, by what has changed
-pub machine_as : (old new : Guest) (memory changed ram : List ℕ) (p : Platform) (spaces : List Space) → new.part ≡ old.part → platform_of new ≡ p
+pub machine_as : (old new : Guest) (memory changed ram : List ℕ) (p : Platform) (spaces : List Space) → new.part ≡ old.part → new.device ≡ old.device → platform_of new ≡ p
     → ram_of old.part.blocks changed ≡ ram → spaces_of new.pool ≡ spaces → room_of new.pool ≡ room_of old.pool → new.pool.most ≡ old.pool.most
     → machine_of new changed ≡ record (machine_of old memory) { platform = p; ram = ram; spaces = spaces }
-machine_as old new memory changed ram p spaces part e rams are room most =
-    rw (part, rams, are, room, most) (ap (λ p. record (machine_of old memory) { platform = p; ram = ram; spaces = spaces }) e)
+machine_as old new memory changed ram p spaces part device e rams are room most =
+    rw (part, device, rams, are, room, most) (ap (λ p. record (machine_of old memory) { platform = p; ram = ram; spaces = spaces }) e)
 
 pub machine_is : (old new : Guest) (p : Platform) (memory : List ℕ) → KeepsSpaces old new → platform_of new ≡ p
     → machine_of new memory ≡ record (machine_of old memory) { platform = p }
 machine_is old new p memory fixed e =
-    rw (fixed.part, fixed.pool) (ap (λ p. record (machine_of old memory) { platform = p }) e)
+    rw (fixed.part, fixed.device, fixed.pool) (ap (λ p. record (machine_of old memory) { platform = p }) e)
 
 -- what leaves the spaces leaves all that no step changes
 pub stays_by : (old new : Guest) → KeepsSpaces old new → KeepsLayout old new
-stays_by old new keeps = record { part = keeps.part; pool = rw keeps.pool refl; entry_room = rw keeps.pool refl; space_room = rw keeps.pool refl }
+stays_by old new keeps = record { part = keeps.part; device = keeps.device; pool = rw keeps.pool refl; entry_room = rw keeps.pool refl; space_room = rw keeps.pool refl }
 
 pub nothing_changed : (old new : Guest) (memory : List ℕ) → IsPlaced old memory → KeepsSpaces old new → KeepsOutside old memory new memory
 nothing_changed old new memory at keeps = record { only = only_none _ memory; tidy = rw keeps.pool at.tidy; keeps = stays_by old new keeps }
@@ -69,18 +69,18 @@ pub made_stays : (old new : Guest) (memory : List ℕ) (virt : Virtual) → ente
     → machine_of new memory ≡ left_by (machine_of old memory) (committed (machine_of old memory) virt None System)
 made_stays old new memory virt off keeps e = rw off (machine_is old new _ memory keeps e)
 
-pub made_enters : (old new : Guest) (memory changed : List ℕ) (virt : Virtual) → enters old.virt virt ≡ true → HoldsTables old memory → new.part ≡ old.part → KeepsPool old.pool memory new.pool changed
+pub made_enters : (old new : Guest) (memory changed : List ℕ) (virt : Virtual) → enters old.virt virt ≡ true → HoldsTables old memory → new.part ≡ old.part → new.device ≡ old.device → KeepsPool old.pool memory new.pool changed
     → platform_of new ≡ ticked (record (platform_of old) { virt = virt }) → spaces_of new.pool ≡ entered (room_of old.pool) virt.csrs.hgatp (spaces_of old.pool)
     → machine_of new changed ≡ left_by (machine_of old memory) (committed (machine_of old memory) virt None System)
-made_enters old new memory changed virt on at part keeps e are =
-    rw on (machine_as old new memory changed _ _ _ part e (ram_by_pool old.part old.pool memory changed at.once at.own at.tidy at.held keeps.only) are keeps.room keeps.most)
+made_enters old new memory changed virt on at part device keeps e are =
+    rw on (machine_as old new memory changed _ _ _ part device e (ram_by_pool old.part old.pool memory changed at.once at.own at.tidy at.held keeps.only) are keeps.room keeps.most)
 
 -- a fence
-pub fence_made : (old new : Guest) (memory changed : List ℕ) (virt : Virtual) (fence : Fence) → HoldsTables old memory → new.part ≡ old.part → KeepsPool old.pool memory new.pool changed
+pub fence_made : (old new : Guest) (memory changed : List ℕ) (virt : Virtual) (fence : Fence) → HoldsTables old memory → new.part ≡ old.part → new.device ≡ old.device → KeepsPool old.pool memory new.pool changed
     → platform_of new ≡ ticked (record (platform_of old) { virt = virt }) → spaces_of new.pool ≡ fenced fence (spaces_of old.pool)
-    → machine_of new changed ≡ left_by (machine_of old memory) (apply_outcome (machine_of old memory) (Fenced virt fence))
-fence_made old new memory changed virt fence at part keeps e are =
-    machine_as old new memory changed _ _ _ part e (ram_by_pool old.part old.pool memory changed at.once at.own at.tidy at.held keeps.only) are keeps.room keeps.most
+    → machine_of new changed ≡ left_by (machine_of old memory) (apply_outcome (device_of (machine_of old memory)) (machine_of old memory) (Fenced virt fence))
+fence_made old new memory changed virt fence at part device keeps e are =
+    machine_as old new memory changed _ _ _ part device e (ram_by_pool old.part old.pool memory changed at.once at.own at.tidy at.held keeps.only) are keeps.room keeps.most
 
 -- an instruction that has left the guest its state enters a space where it sets V and the state folds
 pub sets_v : (nested folding : Bool) → (not nested && folding) ≡ true → nested ≡ false
@@ -94,13 +94,13 @@ folds_then true folding e = cc
 pub finish_stays : (guest new : Guest) (memory : List ℕ) (nested : Bool) → (not nested && folds guest.virt) ≡ false → KeepsSpaces guest new
     → platform_of new ≡ ticked (platform_of guest) → IsFinished nested guest memory new memory
 finish_stays guest new memory nested off keeps e = λ before own.
-    made_stays (with_state guest before) new memory guest.virt (rw own off) (record { part = keeps.part; pool = keeps.pool }) e
+    made_stays (with_state guest before) new memory guest.virt (rw own off) (record { part = keeps.part; device = keeps.device; pool = keeps.pool }) e
 
 -- a WFI, after which the guest had this state
 pub wait_made : (old new : Guest) (virt : Virtual) (memory : List ℕ) (end : Outcome) → virt ≡ passed old.virt → end ≡ Waits virt
-    → Makes (with_pc (with_state old virt) old.virt.regs.pc) new (λ m. waited m virt) → machine_of new memory ≡ left_by (machine_of old memory) (apply_outcome (machine_of old memory) end)
+    → Makes (with_pc (with_state old virt) old.virt.regs.pc) new (λ m. waited m virt) → machine_of new memory ≡ left_by (machine_of old memory) (apply_outcome (device_of (machine_of old memory)) (machine_of old memory) end)
 wait_made old new virt memory end passes is made = rw is
-    (subst (λ virt. Makes (with_pc (with_state old virt) old.virt.regs.pc) new (λ m. waited m virt) → machine_of new memory ≡ left_by (machine_of old memory) (apply_outcome (machine_of old memory) (Waits virt)))
+    (subst (λ virt. Makes (with_pc (with_state old virt) old.virt.regs.pc) new (λ m. waited m virt) → machine_of new memory ≡ left_by (machine_of old memory) (apply_outcome (device_of (machine_of old memory)) (machine_of old memory) (Waits virt)))
     (sym passes) (λ made. made memory) made)
 
 -- the answer tells whether a fill was made

@@ -5,7 +5,7 @@ use Rattle.std.proofs.lemmas.Option.{same_Some}
 use Rattle.arch_defs.specs.declared.csr_names.CsrEnd.{CsrEnd}
 use Rattle.arch_defs.specs.declared.registers.Regs.{Regs}
 use Rattle.arch_defs.specs.declared.registers.Virtual.{Virtual}
-use Rattle.arch_defs.specs.Memory.{Reading, SecondStage}
+use Rattle.arch_defs.specs.Memory.{Mmu}
 use Rattle.arch_defs.specs.declared.widths.Width.{Width}
 use Rattle.op_defs.specs.declared.ops.CsrOp.{CsrOp}
 use Rattle.op_defs.specs.declared.ops.CsrSource.{CsrSource}
@@ -70,9 +70,9 @@ unfolding decided_in
 is_decided_in word regs p i = rw (i.is, asks_decided i.o regs p i.asks) refl
 
 -- it ends as with the op's own word
-pub ends_as : (second : SecondStage) (reading : Reading) (s : Virtual) (word : ℕ) (p : Privileged) (i : IsInstruction word s.regs p) → word < 2 ^ 32
-    → privileged s word p ≡ decoded second reading s (encoded i.o) (Some i.o)
-ends_as second reading s word p i small =
+pub ends_as : (through : Mmu) (s : Virtual) (word : ℕ) (p : Privileged) (i : IsInstruction word s.regs p) → word < 2 ^ 32
+    → privileged s word p ≡ decoded through s (encoded i.o) (Some i.o)
+ends_as through s word p i small =
     let one : encoded i.o ≡ word = op_has_one_word word i.o small (decided_system i.o (asks_decided i.o s.regs p i.asks)) i.is in
     rw (one, i.asks) refl
 
@@ -105,18 +105,18 @@ none_by : (state : Virtual) (word : ℕ) (p : Privileged) (end : Option CsrEnd) 
 none_by state word p (Some end) h = tt
 none_by state word p None h = h
 
-makes_none : (o : Op) (state : Virtual) (word : ℕ) (second : SecondStage) (reading : Reading) → IsWaitOrFence o → MakesNone (decoded second reading state word (Some o))
+makes_none : (o : Op) (state : Virtual) (word : ℕ) (through : Mmu) → IsWaitOrFence o → MakesNone (decoded through state word (Some o))
 unfolding privileged meaning
-makes_none op.Wfi state word second reading kind = none_by state word Wfi (refusal Wfi state.csrs.hstatus state.mode) tt
-makes_none (op.SfenceVma rs1 rs2) state word second reading kind = none_by state word SfenceVma (refusal SfenceVma state.csrs.hstatus state.mode) tt
-makes_none (op.HfenceVvma rs1 rs2) state word second reading kind = none_by state word HfenceVvma (refusal HfenceVvma state.csrs.hstatus state.mode) tt
-makes_none (op.HfenceGvma rs1 rs2) state word second reading kind =
+makes_none op.Wfi state word through kind = none_by state word Wfi (refusal Wfi state.csrs.hstatus state.mode) tt
+makes_none (op.SfenceVma rs1 rs2) state word through kind = none_by state word SfenceVma (refusal SfenceVma state.csrs.hstatus state.mode) tt
+makes_none (op.HfenceVvma rs1 rs2) state word through kind = none_by state word HfenceVvma (refusal HfenceVvma state.csrs.hstatus state.mode) tt
+makes_none (op.HfenceGvma rs1 rs2) state word through kind =
     let fence = fence_named rs1 rs2 state.regs in none_by state word (HfenceGvma fence) (refusal (HfenceGvma fence) state.csrs.hstatus state.mode) tt
-makes_none other state word second reading kind = absurd kind
+makes_none other state word through kind = absurd kind
 
-pub accesses_never : (o : Op) (state : Virtual) (word : ℕ) (second : SecondStage) (reading : Reading) (wanted : DataAccess) → IsWaitOrFence o
-    → decoded second reading state word (Some o) ≡ Accesses wanted → ⊥
-accesses_never o state word second reading wanted kind e = subst MakesNone e (makes_none o state word second reading kind)
+pub accesses_never : (o : Op) (state : Virtual) (word : ℕ) (through : Mmu) (wanted : DataAccess) → IsWaitOrFence o
+    → decoded through state word (Some o) ≡ Accesses wanted → ⊥
+accesses_never o state word through wanted kind e = subst MakesNone e (makes_none o state word through kind)
 
 -- a WFI that is made leaves pc gone on, and nothing else changed
 abbrev PassesIfWaits : Virtual → Outcome → Type 0
@@ -127,18 +127,18 @@ waits_by : (state : Virtual) (word : ℕ) (p : Privileged) (end : Option CsrEnd)
 waits_by state word p (Some end) h = tt
 waits_by state word p None h = h
 
-passes_if_waits : (o : Op) (state : Virtual) (word : ℕ) (second : SecondStage) (reading : Reading) → IsWaitOrFence o → PassesIfWaits state (decoded second reading state word (Some o))
+passes_if_waits : (o : Op) (state : Virtual) (word : ℕ) (through : Mmu) → IsWaitOrFence o → PassesIfWaits state (decoded through state word (Some o))
 unfolding privileged meaning
-passes_if_waits op.Wfi state word second reading kind = waits_by state word Wfi (refusal Wfi state.csrs.hstatus state.mode) refl
-passes_if_waits (op.SfenceVma rs1 rs2) state word second reading kind = waits_by state word SfenceVma (refusal SfenceVma state.csrs.hstatus state.mode) tt
-passes_if_waits (op.HfenceVvma rs1 rs2) state word second reading kind = waits_by state word HfenceVvma (refusal HfenceVvma state.csrs.hstatus state.mode) tt
-passes_if_waits (op.HfenceGvma rs1 rs2) state word second reading kind =
+passes_if_waits op.Wfi state word through kind = waits_by state word Wfi (refusal Wfi state.csrs.hstatus state.mode) refl
+passes_if_waits (op.SfenceVma rs1 rs2) state word through kind = waits_by state word SfenceVma (refusal SfenceVma state.csrs.hstatus state.mode) tt
+passes_if_waits (op.HfenceVvma rs1 rs2) state word through kind = waits_by state word HfenceVvma (refusal HfenceVvma state.csrs.hstatus state.mode) tt
+passes_if_waits (op.HfenceGvma rs1 rs2) state word through kind =
     let fence = fence_named rs1 rs2 state.regs in waits_by state word (HfenceGvma fence) (refusal (HfenceGvma fence) state.csrs.hstatus state.mode) tt
-passes_if_waits other state word second reading kind = absurd kind
+passes_if_waits other state word through kind = absurd kind
 
-pub wait_passes : (o : Op) (state after : Virtual) (word : ℕ) (second : SecondStage) (reading : Reading) → IsWaitOrFence o
-    → decoded second reading state word (Some o) ≡ Waits after → after ≡ passed state
-wait_passes o state after word second reading kind e = subst (PassesIfWaits state) e (passes_if_waits o state word second reading kind)
+pub wait_passes : (o : Op) (state after : Virtual) (word : ℕ) (through : Mmu) → IsWaitOrFence o
+    → decoded through state word (Some o) ≡ Waits after → after ≡ passed state
+wait_passes o state after word through kind e = subst (PassesIfWaits state) e (passes_if_waits o state word through kind)
 
 -- the mode decides on it
 pub wait_is_op : (o : Op) → IsWaitOrFence o → IsDecidedOp o

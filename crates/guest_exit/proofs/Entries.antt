@@ -25,7 +25,7 @@ use Rattle.guest_specs.specs.declared.statuses.Status.TheVariants.{Running}
 use Rattle.machine_laws.specs.HostPlaces.{in_ram, memory_place}
 use Rattle.machine_defs.specs.Fills.{missing_entry}
 use Rattle.machine_defs.specs.Machine.{Machine, Platform, ticked, trapped, with_lines, with_pending_lines}
-use Rattle.machine_laws.specs.Reservations.{IsInRam}
+use Rattle.machine_laws.specs.Reservations.{HasPlace}
 use Rattle.machine_defs.specs.Tries.{try, try_under}
 use Rattle.arch_defs.specs.Inputs.{has_input}
 use Rattle.machine_defs.specs.Runs.{event_in, events, left_after, left_by, pc_and_word, run, trace_of}
@@ -360,7 +360,7 @@ at_next part pool m memory changed n own at only reserved there =
       spaces = at.spaces;
       space_room = at.space_room;
       entry_room = at.entry_room;
-      caches = subst (λ size. All (λ s. All (IsInRam size) s.entries) m.spaces) (before ∙ sym (size_of part changed held)) at.caches;
+      caches = subst (λ size. All (λ s. All (HasPlace size) s.entries) m.spaces) (before ∙ sym (size_of part changed held)) at.caches;
       orderly = subst IsOrderly there (stays_orderly m n at.orderly);
       storable = subst (λ m. IsStorable m.platform.virt) there (stays_storable m n at.storable);
     }

@@ -1,25 +1,29 @@
 -- Which exit a trap of the hart is, and what is known of a step by it.
-use Rattle.std.specs.Prelude.{◌==◌, ◌↔◌, nat_lt, ◌-◌}
+use Rattle.std.specs.Prelude.{◌==◌, ◌&&◌, ◌↔◌, nat_lt, ◌-◌}
 use Rattle.std.proofs.Common.{cond, ◌≡◌, ◌^◌, ◌<◌, Bool, true, false, Option, Some, None, refl, ap, sym, arith, ◌∙◌}
 use Rattle.arch_defs.specs.declared.cached.Entry.{Entry}
 use Rattle.arch_defs.specs.declared.modes.Trap.{Trap}
 use Rattle.arch_defs.specs.declared.modes.TheConstants.{VIRTUAL_INSTRUCTION}
 use Rattle.arch_defs.specs.declared.registers.Virtual.{Virtual}
+use Rattle.arch_defs.specs.declared.walks.MissingPlace.{MissingPlace}
+use Rattle.arch_defs.specs.CachedEntries.{device_by_entries}
+use Rattle.arch_defs.specs.Spaces.{front}
 use Rattle.arch_defs.specs.Traps.{is_virtual}
 use Rattle.arch_defs.specs.Walk.{guest_bits}
-use Rattle.arch_defs.specs.WalkedEntries.{folds}
+use Rattle.arch_defs.specs.WalkedEntries.{entry_by_walk, folds}
 use Rattle.op_defs.specs.declared.ops.Op.{Op}
 use Rattle.guest_specs.specs.declared.statuses.Status.TheVariants.{Running}
-use Rattle.machine_defs.specs.Fills.{missing_entry}
+use Rattle.machine_defs.specs.Fills.{missing_entry, missing_entry_at}
 use Rattle.machine_defs.specs.Machine.{Machine, Tried, WaitsForGood, trapped}
 use Rattle.machine_defs.specs.Runs.{left_by}
-use Rattle.machine_defs.specs.Tries.{try}
+use Rattle.machine_defs.specs.Outcomes.{Missed}
+use Rattle.machine_defs.specs.Tries.{device_of, try, unplaced}
 use Rattle.guest_exit.specs.declared.exit_cases.Exit.{Exit}
-use Rattle.guest_exit.specs.declared.exit_cases.Exit.TheVariants.{Instruction, Missing, OutsideRam, Call, Own}
+use Rattle.guest_exit.specs.declared.exit_cases.Exit.TheVariants.{Instruction, Missing, Call, Own}
 use Rattle.guest_exit.specs.declared.hart_exit.Handled.{Handled}
 use Rattle.guest_exit.specs.declared.hart_exit.Handled.TheVariants as handled
-use Rattle.guest_exit.specs.ExitCases.{IsLeft, decided_at, decided_in, entry_for_exit, exit_of, instruction_exit, is_guest_page_code, missing_place_exit, missing_place_of, other_exit, try_at}
-use Rattle.guest_exit.specs.HartExit.{IfInstruction, IfMissing, IsDecidedOp, IsHandled, IsMadeOf, status_after}
+use Rattle.guest_exit.specs.ExitCases.{IsLeft, data_wanted, decided_at, decided_in, entry_for, entry_for_exit, exit_of, far_exit, instruction_exit, is_guest_page_code, missing_place_exit, other_exit, try_at}
+use Rattle.guest_exit.specs.HartExit.{IfInstruction, IsDecidedOp, IsHandled, IsMadeOf, status_after}
 use Rattle.guest_exit.proofs.Decided.{decided_at_is}
 use Rattle.guest_exit.proofs.ForGood.{never_waits, waits_exactly}
 
@@ -45,35 +49,17 @@ pub left_as : (m : Machine) (tried : Tried) (lacks : Option Entry) (trap : Trap)
     → IsLeft m tried lacks (exit_of m.platform.virt trap)
 left_as m tried lacks trap left is step missing_entry = rw is (record { step = step; fills = missing_entry })
 
--- an access is missing where the guest folds
-missing_place_folds : (v : Virtual) (trap : Trap) (folding : Bool) → IfMissing (missing_place_exit v trap folding) folding
-missing_place_folds v trap true =
-    elim (nat_lt trap.tval2 (2 ^ (guest_bits - 2))) as (λ b. IfMissing (cond b (Missing (missing_place_of v trap)) (Own trap)) true) [ true ↦ refl | false ↦ tt ]
-missing_place_folds v trap false = tt
-
-instruction_folds : (trap : Trap) (op : Option Op) (folding : Bool) → IfMissing (instruction_exit trap op) folding
-instruction_folds trap (Some o) folding = tt
-instruction_folds trap None folding = tt
-
-other_folds : (trap : Trap) (virtual folding : Bool) → IfMissing (other_exit trap virtual) folding
-other_folds trap true folding = tt
-other_folds trap false folding = tt
-
-either_folds : (b : Bool) (one other : Exit) (folding : Bool) → IfMissing one folding → IfMissing other folding → IfMissing (cond b one other) folding
-either_folds true one other folding h i = h
-either_folds false one other folding h i = i
-
-pub missing_folds : (v : Virtual) (trap : Trap) → IfMissing (exit_of v trap) (folds v)
-unfolding exit_of
-missing_folds v trap =
-    either_folds (is_guest_page_code trap.cause) _ _ (folds v) (missing_place_folds v trap (folds v))
-    (either_folds (trap.cause == VIRTUAL_INSTRUCTION) _ _ (folds v) (instruction_folds trap (decided_at trap.tval) (folds v)) (other_folds trap (is_virtual v.mode) (folds v)))
-
 -- an instruction that is left is one on which the mode decides, and its fields fit
+either_decided : (b : Bool) (one other : Exit) → IfInstruction one → IfInstruction other → IfInstruction (cond b one other)
+either_decided true one other h i = h
+either_decided false one other h i = i
+
+far_decided : (v : Virtual) (trap : Trap) (folding : Bool) → IfInstruction (far_exit v trap folding)
+far_decided v trap true = tt
+far_decided v trap false = tt
+
 missing_place_decided : (v : Virtual) (trap : Trap) (folding : Bool) → IfInstruction (missing_place_exit v trap folding)
-missing_place_decided v trap true =
-    elim (nat_lt trap.tval2 (2 ^ (guest_bits - 2))) as (λ b. IfInstruction (cond b (Missing (missing_place_of v trap)) (Own trap))) [ true ↦ tt | false ↦ tt ]
-missing_place_decided v trap false = tt
+missing_place_decided v trap folding = either_decided (nat_lt trap.tval2 (2 ^ (guest_bits - 2))) _ _ tt (far_decided v trap folding)
 
 instruction_decided : (trap : Trap) (found : Option Op) → ((o : Op) → found ≡ Some o → IsDecidedOp o) → IfInstruction (instruction_exit trap found)
 instruction_decided trap (Some o) is = is o refl
@@ -82,10 +68,6 @@ instruction_decided trap None is = tt
 other_decided : (trap : Trap) (virtual : Bool) → IfInstruction (other_exit trap virtual)
 other_decided trap true = tt
 other_decided trap false = tt
-
-either_decided : (b : Bool) (one other : Exit) → IfInstruction one → IfInstruction other → IfInstruction (cond b one other)
-either_decided true one other h i = h
-either_decided false one other h i = i
 
 pub exit_decided : (v : Virtual) (trap : Trap) → IfInstruction (exit_of v trap)
 unfolding exit_of
@@ -100,11 +82,37 @@ handled_by m after left result is made = record {
   fill = λ retry. let filled = made.fill retry in (filled.0, is.fills ∙ filled.1, filled.2);
 }
 
--- where an entry is filled, the try is a trap
+-- where an entry is filled, the access is not on the device page, and the walk of the guest's own table gives it
+pub and_false : (b : Bool) → (b && false) ≡ false
+and_false true = refl
+and_false false = refl
+
+pub record IsFilled (m : Machine) (missing : MissingPlace) (e : Entry) : Type 0 where
+  pub off : device_of m missing.address missing.kind ≡ false
+  pub walked : entry_by_walk m.device m.platform.virt.csrs m.ram missing.address missing.kind ≡ Some e
+
+pub filled_by : (m : Machine) (missing : MissingPlace) (e : Entry) → entry_for m missing ≡ Some e → IsFilled m missing e
+filled_by m missing e some = by (folds m.platform.virt) refl some
+  where
+    on : Bool
+    on = device_by_entries (front m.spaces) m.platform.virt.csrs.hs.status.mxr missing.address missing.kind
+
+    walked : Option Entry
+    walked = entry_by_walk m.device m.platform.virt.csrs m.ram missing.address missing.kind
+
+    off : (b : Bool) → on ≡ b → cond b None walked ≡ Some e → folds m.platform.virt ≡ true → IsFilled m missing e
+    off true is some folding = absurd (cc)
+    off false is some folding = record { off = rw (folding, is) (and_false m.device); walked = some }
+
+    by : (folding : Bool) → folds m.platform.virt ≡ folding → cond folding (missing_entry_at m.device m.platform.virt.csrs m.ram (front m.spaces) (Missed missing None)) None ≡ Some e
+        → IsFilled m missing e
+    by true folding some = off on refl some folding
+    by false flat some = absurd (cc)
+
+-- so the try is a trap
 filled_traps : (m : Machine) (left : Exit) (e : Entry) → entry_for_exit m left ≡ Some e → (trap : Trap) × (try_at m left ≡ trapped m trap)
-filled_traps m (Missing missing) e some = (_, refl)
+filled_traps m (Missing missing) e some = (_, ap (unplaced m missing (data_wanted m)) (filled_by m missing e some).off)
 filled_traps m (Instruction o) e some = absurd (cc)
-filled_traps m (OutsideRam fault) e some = absurd (cc)
 filled_traps m Call e some = absurd (cc)
 filled_traps m (Own trap) e some = absurd (cc)
 

@@ -9,7 +9,7 @@ use Rattle.guest_specs.specs.declared.statuses.Status.TheVariants.{Running, Wait
 use Rattle.machine_defs.specs.Machine.{Machine, Platform, Tried, Ended, WaitsForGood, stepped_to, stopped_if, trapped}
 use Rattle.machine_defs.specs.Runs.{left_after, left_by}
 use Rattle.machine_defs.specs.Tries.{try}
-use Rattle.machine_laws.proofs.TryEnds.{Calls, Fences, Halts, Makes, Passes, Takes}
+use Rattle.machine_laws.proofs.TryEnds.{Calls, Fences, Halts, Makes, Passes, Serves, Takes}
 use Rattle.guest_exit.specs.declared.hart_exit.Handled.{Handled}
 use Rattle.guest_exit.specs.declared.hart_exit.Handled.TheVariants as handled
 use Rattle.guest_exit.specs.HartExit.{status_after}
@@ -31,6 +31,7 @@ stops_if m running false p same = rw same (runs m running)
 ended_by : (m : Machine) → m.platform.status ≡ Running → (tried : Tried) (fence : Option Fence) → SomeEnd m tried fence → LeavesOther tried
 ended_by m running tried fence (Takes trap) = runs m running
 ended_by m running tried fence (Makes completion event any) = runs m running
+ended_by m running tried fence (Serves rd value console leaves) = runs m running
 ended_by m running tried fence Calls = stops_if m running (read m.platform.virt.regs a7 == 8) _ refl
 ended_by m running tried fence (Passes virt moment any) = runs m running
 ended_by m running tried fence Halts = tt

@@ -1,51 +1,56 @@
--- HLV, HLVX and HSV, whose access the host makes on the guest's RAM.
-use Rattle.std.specs.Prelude.{◌&&◌, not, Result, Ok, Err}
-use Rattle.std.proofs.Common.{◌≡◌, ℕ, Bool, true, false, List, refl, ap}
+-- HLV, HLVX and HSV, whose access the host makes on the guest's RAM, or on the device page.
+use Rattle.std.specs.Prelude.{◌&&◌, ◌%◌, not}
+use Rattle.std.proofs.Common.{◌≡◌, ℕ, ◌∙◌, Bool, true, false, List, Option, Some, None, refl, ap, sym, subst}
 use Rattle.arch_defs.specs.declared.modes.Trap.{Trap}
 use Rattle.arch_defs.specs.declared.registers.Virtual.{Virtual}
-use Rattle.arch_defs.specs.Memory.{Reading, ram_base, reading_of}
+use Rattle.arch_defs.specs.declared.walks.MissingPlace.{MissingPlace}
+use Rattle.arch_defs.specs.Consoles.{ConsoleState}
+use Rattle.arch_defs.specs.Memory.{ram_memory, reading_of}
 use Rattle.arch_defs.specs.Ram.{ram_of}
-use Rattle.arch_defs.specs.Traps.{is_virtual}
+use Rattle.arch_defs.specs.Traps.{is_virtual, missing_place_fault}
 use Rattle.arch_defs.specs.Roots.{is_table}
 use Rattle.op_defs.specs.declared.ops.DataAccess.{DataAccess}
-use Rattle.machine_defs.specs.Core.{Completion}
-use Rattle.machine_defs.specs.HlvAccesses.{hlv_completed, hlv_outcome, hlv_place}
-use Rattle.machine_defs.specs.Machine.{Machine, ticked, trapped}
+use Rattle.machine_defs.specs.DeviceSteps.{DeviceCompletion, device_completed, served}
+use Rattle.machine_defs.specs.HlvAccesses.{Completes, Device, HlvEnd, Traps, hlv_outcome}
+use Rattle.machine_defs.specs.Machine.{Machine, ticked, trapped, with_pending_lines}
 use Rattle.machine_defs.specs.Outcomes.{Outcome, Done, Trapped, Missed, Called, Waits, Fenced, Accesses}
 use Rattle.machine_defs.specs.Runs.{left_by}
-use Rattle.machine_defs.specs.Tries.{apply_outcome, enters, hlv_committed}
+use Rattle.machine_defs.specs.Tries.{apply_outcome, device_of, enters, hlv_committed}
 use Rattle.machine_laws.specs.InstructionEnds.{HlvHas}
-use Rattle.machine_laws.proofs.Completions.{completed_same}
+use Rattle.machine_laws.proofs.Completions.{completed_same, hlv_each}
 use Rattle.hcsr_emulation.specs.declared.registers.Accessed.{Accessed}
 use Rattle.hcsr_emulation.specs.declared.registers.Accessed.TheVariants as answer
-use Rattle.hlv_hsv.specs.Ends.{EndsAs, EndsBy}
+use Rattle.hlv_hsv.specs.Ends.{EndsAs, EndsBy, HlvState, hlv_left, hlv_state, served_from}
 use Rattle.guest_exit.specs.declared.guests.Guest.{Guest}
 use Rattle.guest_exit.specs.Steps.{IsNotPlain}
 use Rattle.guest_exit.specs.View.{KeepsSpaces, machine_of, platform_of}
 use Rattle.guest_exit.proofs.Alone.{machine_as}
+use Rattle.guest_exit.proofs.Missed.{served_is_quiet}
 
--- where such an instruction is made, the mode stays
-abbrev KeepsMode : Virtual → Result Completion Trap → Type 0
+-- where such an instruction completes, the mode stays
+abbrev KeepsMode : Virtual → HlvEnd → Type 0
 KeepsMode s end = HlvHas (λ completion. completion.state.mode ≡ s.mode) end
 
-completion_keeps : (reading : Reading) (s : Virtual) (wanted : DataAccess) (answer : Result ℕ Trap) → KeepsMode s (hlv_completed reading s wanted answer)
-completion_keeps reading s wanted (Ok place) = ap (λ (v : Virtual). v.mode) (completed_same reading s wanted.width wanted.purpose place)
-completion_keeps reading s wanted (Err trap) = tt
+completion_keeps : (device : Bool) (ram : List ℕ) (s : Virtual) (wanted : DataAccess) → KeepsMode s (hlv_outcome device (ram_memory ram) s wanted)
+completion_keeps device ram s wanted =
+    hlv_each (λ completion. completion.state.mode ≡ s.mode) device (ram_memory ram) s wanted
+    (λ place. ap (λ (v : Virtual). v.mode) (completed_same (reading_of (ram_memory ram)) s wanted.width wanted.purpose place))
 
 -- it is no plain step
-quiet_by : (m : Machine) (end : Result Completion Trap) → IsNotPlain (hlv_committed m end)
-quiet_by m (Ok completion) = record { trace = refl; plain = refl }
-quiet_by m (Err trap) = record { trace = refl; plain = refl }
+quiet_by : (m : Machine) (wanted : DataAccess) (end : HlvEnd) → IsNotPlain (hlv_committed m wanted end)
+quiet_by m wanted (Completes completion) = record { trace = refl; plain = refl }
+quiet_by m wanted (Device missing) = served_is_quiet m missing _
+quiet_by m wanted (Traps trap) = record { trace = refl; plain = refl }
 
-pub access_is_quiet : (m : Machine) (end : Outcome) (base : ℕ) (bytes after : List ℕ) (before virt : Virtual) (given : Accessed)
-    → EndsBy base bytes before end given virt after → IsNotPlain (apply_outcome m end)
-access_is_quiet m (Accesses wanted) base bytes after before virt given ends = quiet_by m (hlv_outcome ram_base m.ram m.platform.virt wanted)
-access_is_quiet m (Trapped trap) base bytes after before virt given ends = record { trace = refl; plain = refl }
-access_is_quiet m (Done state stored event) base bytes after before virt given ends = absurd ends
-access_is_quiet m (Missed missing) base bytes after before virt given ends = absurd ends
-access_is_quiet m Called base bytes after before virt given ends = absurd ends
-access_is_quiet m (Waits state) base bytes after before virt given ends = absurd ends
-access_is_quiet m (Fenced state fence) base bytes after before virt given ends = absurd ends
+pub access_is_quiet : (m : Machine) (end : Outcome) (device : Bool) (before after : HlvState) (given : Accessed)
+    → EndsBy device before end given after → IsNotPlain (apply_outcome (device_of m) m end)
+access_is_quiet m (Accesses wanted) device before after given ends = quiet_by m wanted (hlv_outcome m.device (ram_memory m.ram) m.platform.virt wanted)
+access_is_quiet m (Trapped trap) device before after given ends = record { trace = refl; plain = refl }
+access_is_quiet m (Done state stored event) device before after given ends = absurd ends
+access_is_quiet m (Missed missing wanted) device before after given ends = absurd ends
+access_is_quiet m Called device before after given ends = absurd ends
+access_is_quiet m (Waits state) device before after given ends = absurd ends
+access_is_quiet m (Fenced state fence) device before after given ends = absurd ends
 
 -- nor does it set V
 never_both : (virtual table : Bool) → (not virtual && (virtual && table)) ≡ false
@@ -55,52 +60,83 @@ never_both false table = refl
 never_enters : (before after : Virtual) → after.mode ≡ before.mode → enters before after ≡ false
 never_enters before after mode = rw mode (never_both (is_virtual before.mode) (is_table after.csrs.hgatp))
 
+-- what it is made on of a guest, and after it
+abbrev pub state_in : Guest → List ℕ → HlvState
+state_in guest memory = hlv_state guest.virt (ram_memory (ram_of guest.part.blocks memory)) guest.console
+
+-- the clock of the page is the guest's
+abbrev pub ShowsTime : Guest → Type 0
+ShowsTime guest = guest.virt.csrs.time ≡ guest.clock.time
+
+pub shows_time : (guest : Guest) → with_pending_lines (platform_of guest) ≡ platform_of guest → ShowsTime guest
+shows_time guest current = sym (ap (λ p. p.virt.csrs.time) current)
+
 -- so where it is made, the machine of the guest is the one after it
-made_by : (old new : Guest) (memory changed : List ℕ) (virt : Virtual) (end : Result Completion Trap) → KeepsMode old.virt end
-    → EndsAs ram_base (ram_of old.part.blocks memory) end answer.Done virt (ram_of old.part.blocks changed) → KeepsSpaces old new → platform_of new ≡ ticked (record (platform_of old) { virt = virt })
-    → machine_of new changed ≡ left_by (machine_of old memory) (hlv_committed (machine_of old memory) end)
-made_by old new memory changed virt (Ok completion) keeps (state, ram) fixed platform =
-    rw (never_enters old.virt completion.state keeps)
-    (machine_as old new memory changed _ _ _ fixed.part (rw state at platform) ram (rw fixed.pool refl) (rw fixed.pool refl) (rw fixed.pool refl))
-made_by old new memory changed virt (Err trap) keeps never fixed platform = absurd never
+module _ (old new : Guest) (memory changed : List ℕ) (virt : Virtual) (console : ConsoleState) (fixed : KeepsSpaces old new)
+    (platform : platform_of new ≡ ticked (record (platform_of old) { virt = virt; console = console })) where
+  abbrev after : HlvState
+  after = hlv_state virt (ram_memory (ram_of old.part.blocks changed)) console
 
-made_at : (old new : Guest) (memory changed : List ℕ) (virt : Virtual) (wanted : DataAccess)
-    → EndsAs ram_base (ram_of old.part.blocks memory) (hlv_outcome ram_base (ram_of old.part.blocks memory) old.virt wanted) answer.Done virt (ram_of old.part.blocks changed)
-    → KeepsSpaces old new → platform_of new ≡ ticked (record (platform_of old) { virt = virt })
-    → machine_of new changed ≡ left_by (machine_of old memory) (apply_outcome (machine_of old memory) (Accesses wanted))
-made_at old new memory changed virt wanted ends fixed platform =
-    let ram = ram_of old.part.blocks memory in
-    made_by old new memory changed virt (hlv_outcome ram_base ram old.virt wanted)
-    (completion_keeps (reading_of ram_base ram) old.virt wanted (hlv_place ram_base ram old.virt.csrs wanted)) ends fixed platform
+  serves_by : (missing : MissingPlace) (completion : Option DeviceCompletion)
+      → EndsAs (served_from (state_in old memory) (missing_place_fault missing) completion) answer.Done after
+      → machine_of new changed ≡ left_by (machine_of old memory) (served (machine_of old memory) missing completion)
+  serves_by missing None never = absurd never
+  serves_by missing (Some completion) is =
+      machine_as old new memory changed _ _ _ fixed.part fixed.device
+      (platform ∙ ap (λ (a : HlvState). ticked (record (platform_of old) { virt = a.virt; console = a.console })) is)
+      (ap (λ (a : HlvState). a.memory.bytes) is) (rw fixed.pool refl) (rw fixed.pool refl) (rw fixed.pool refl)
 
-pub access_made : (old new : Guest) (memory changed : List ℕ) (virt : Virtual) (end : Outcome)
-    → EndsBy ram_base (ram_of old.part.blocks memory) old.virt end answer.Done virt (ram_of old.part.blocks changed)
-    → KeepsSpaces old new → platform_of new ≡ ticked (record (platform_of old) { virt = virt })
-    → machine_of new changed ≡ left_by (machine_of old memory) (apply_outcome (machine_of old memory) end)
-access_made old new memory changed virt (Accesses wanted) ends fixed platform = made_at old new memory changed virt wanted ends fixed platform
-access_made old new memory changed virt (Trapped trap) ends fixed platform = cc
-access_made old new memory changed virt (Done state stored event) ends fixed platform = absurd ends
-access_made old new memory changed virt (Missed missing) ends fixed platform = absurd ends
-access_made old new memory changed virt Called ends fixed platform = absurd ends
-access_made old new memory changed virt (Waits state) ends fixed platform = absurd ends
-access_made old new memory changed virt (Fenced state fence) ends fixed platform = absurd ends
+  made_by : (wanted : DataAccess) (end : HlvEnd) → KeepsMode old.virt end → ShowsTime old
+      → EndsAs (hlv_left wanted (state_in old memory) end) answer.Done after
+      → machine_of new changed ≡ left_by (machine_of old memory) (hlv_committed (machine_of old memory) wanted end)
+  made_by wanted (Completes completion) keeps time is =
+      rw (never_enters old.virt completion.state keeps)
+      (machine_as old new memory changed _ _ _ fixed.part fixed.device
+      (platform ∙ ap (λ (a : HlvState). ticked (record (platform_of old) { virt = a.virt; console = a.console })) is)
+      (ap (λ (a : HlvState). a.memory.bytes) is) (rw fixed.pool refl) (rw fixed.pool refl) (rw fixed.pool refl))
+  made_by wanted (Device missing) keeps time is =
+      serves_by missing (device_completed old.virt old.console old.clock.time (missing.address % 4096) wanted.width wanted.purpose)
+      (subst (λ clock. EndsAs (served_from (state_in old memory) (missing_place_fault missing) (device_completed old.virt old.console clock (missing.address % 4096) wanted.width wanted.purpose)) answer.Done after)
+      time is)
+  made_by wanted (Traps trap) keeps time never = absurd never
+
+  pub access_made : (end : Outcome) → ShowsTime old → EndsBy old.device (state_in old memory) end answer.Done after
+      → machine_of new changed ≡ left_by (machine_of old memory) (apply_outcome (device_of (machine_of old memory)) (machine_of old memory) end)
+  access_made (Accesses wanted) time ends =
+      made_by wanted (hlv_outcome old.device (ram_memory (ram_of old.part.blocks memory)) old.virt wanted) (completion_keeps old.device (ram_of old.part.blocks memory) old.virt wanted) time ends
+  access_made (Trapped trap) time ends = cc
+  access_made (Done state stored event) time ends = absurd ends
+  access_made (Missed missing wanted) time ends = absurd ends
+  access_made Called time ends = absurd ends
+  access_made (Waits state) time ends = absurd ends
+  access_made (Fenced state fence) time ends = absurd ends
 
 -- and where it traps, the trap is the machine's
-hlv_traps : (m : Machine) (end : Result Completion Trap) (raised : Trap) (base : ℕ) (bytes after : List ℕ) (virt : Virtual)
-    → EndsAs base bytes end (answer.Raise raised) virt after → trapped m raised ≡ hlv_committed m end
-hlv_traps m (Ok completion) raised base bytes after virt never = absurd never
-hlv_traps m (Err trap) raised base bytes after virt is = ap (trapped m) is
+module _ (m : Machine) (time : m.platform.virt.csrs.time ≡ m.platform.clock.time) (raised : Trap) (after : HlvState) where
+  abbrev before : HlvState
+  before = hlv_state m.platform.virt (ram_memory m.ram) m.platform.console
 
-raised_is : (m : Machine) (trap raised : Trap) → answer.Raise raised ≡ answer.Raise trap → trapped m raised ≡ trapped m trap
-raised_is m trap raised e = cc
+  fault_by : (missing : MissingPlace) (completion : Option DeviceCompletion)
+      → EndsAs (served_from before (missing_place_fault missing) completion) (answer.Raise raised) after → trapped m raised ≡ served m missing completion
+  fault_by missing None is = ap (trapped m) is
+  fault_by missing (Some completion) never = absurd never
 
-pub access_traps : (m : Machine) (end : Outcome) (raised : Trap) (virt : Virtual) (after : List ℕ)
-    → EndsBy ram_base m.ram m.platform.virt end (answer.Raise raised) virt after → trapped m raised ≡ apply_outcome m end
-access_traps m (Accesses wanted) raised virt after ends =
-    hlv_traps m (hlv_outcome ram_base m.ram m.platform.virt wanted) raised ram_base m.ram after virt ends
-access_traps m (Trapped trap) raised virt after ends = raised_is m trap raised ends
-access_traps m (Done state stored event) raised virt after ends = absurd ends
-access_traps m (Missed missing) raised virt after ends = absurd ends
-access_traps m Called raised virt after ends = absurd ends
-access_traps m (Waits state) raised virt after ends = absurd ends
-access_traps m (Fenced state fence) raised virt after ends = absurd ends
+  traps_by : (wanted : DataAccess) (end : HlvEnd) → EndsAs (hlv_left wanted before end) (answer.Raise raised) after → trapped m raised ≡ hlv_committed m wanted end
+  traps_by wanted (Completes completion) never = absurd never
+  traps_by wanted (Device missing) is =
+      fault_by missing (device_completed m.platform.virt m.platform.console m.platform.clock.time (missing.address % 4096) wanted.width wanted.purpose)
+      (subst (λ clock. EndsAs (served_from before (missing_place_fault missing) (device_completed m.platform.virt m.platform.console clock (missing.address % 4096) wanted.width wanted.purpose)) (answer.Raise raised) after)
+      time is)
+  traps_by wanted (Traps trap) is = ap (trapped m) is
+
+  same_raised : (trap : Trap) → answer.Raise raised ≡ answer.Raise trap → trapped m raised ≡ trapped m trap
+  same_raised trap e = cc
+
+  pub access_traps : (end : Outcome) → EndsBy m.device before end (answer.Raise raised) after → trapped m raised ≡ apply_outcome (device_of m) m end
+  access_traps (Accesses wanted) ends = traps_by wanted (hlv_outcome m.device (ram_memory m.ram) m.platform.virt wanted) ends
+  access_traps (Trapped trap) ends = same_raised trap ends
+  access_traps (Done state stored event) ends = absurd ends
+  access_traps (Missed missing wanted) ends = absurd ends
+  access_traps Called ends = absurd ends
+  access_traps (Waits state) ends = absurd ends
+  access_traps (Fenced state fence) ends = absurd ends

@@ -1,6 +1,6 @@
--- An access to which the front space gives no place: a fill, or the fault of the walk of the guest's own table.
+-- An access to which the second stage gives no place: one to the device page, a fill, or the fault of the walk of the guest's own table.
 use Rattle.std.specs.Prelude.{◌&&◌, nat_lt}
-use Rattle.std.proofs.Common.{cond, ◌≡◌, ℕ, ◌^◌, Bool, true, false, List, Some, None, refl, ap, ◌∙◌, arith}
+use Rattle.std.proofs.Common.{cond, ◌≡◌, ℕ, ◌^◌, Bool, true, false, List, Option, Some, None, refl, ap, sym, ◌∙◌, arith}
 use Rattle.arch_defs.specs.declared.cached.Entry.{Entry}
 use Rattle.arch_defs.specs.declared.second_walks.SecondWalkEnd.TheVariants.{GuestPageFault}
 use Rattle.arch_defs.specs.declared.modes.Access.{Access}
@@ -11,66 +11,97 @@ use Rattle.arch_defs.specs.declared.roots.GuestRoot.TheVariants as root
 use Rattle.arch_defs.specs.declared.registers.Virtual.{Virtual}
 use Rattle.arch_defs.specs.declared.walks.MissingPlace.{MissingPlace}
 use Rattle.arch_defs.specs.CachedEntries.{CanFill}
-use Rattle.arch_defs.specs.Memory.{ram_base}
+use Rattle.arch_defs.specs.Memory.{Memory, ram_memory}
 use Rattle.arch_defs.specs.Ram.{ram_of}
 use Rattle.arch_defs.specs.Roots.{guest_shape, is_table}
-use Rattle.arch_defs.specs.SecondStage.{guest_page_trap, missing_place_by, missing_place_trap, missing_place_under, second_walk}
-use Rattle.arch_defs.specs.Traps.{is_virtual}
+use Rattle.arch_defs.specs.SecondStage.{guest_page_trap, is_implicit, missing_place_by, missing_place_trap, missing_place_under, second_walk}
+use Rattle.arch_defs.specs.Traps.{is_virtual, missing_place_fault}
 use Rattle.arch_defs.specs.Walk.{guest_bits, end_of, path, walk}
 use Rattle.arch_defs.specs.WalkedEntries.{entry_by_end, entry_by_table, entry_by_walk, folds}
+use Rattle.op_defs.specs.declared.ops.DataAccess.{DataAccess}
+use Rattle.machine_defs.specs.DeviceSteps.{DeviceCompletion, device_wanted, served}
 use Rattle.machine_defs.specs.Fills.{fill, filled_front}
+use Rattle.machine_defs.specs.Machine.{Machine, trapped}
+use Rattle.machine_defs.specs.Tries.{device_of, unplaced}
 use Rattle.machine_laws.proofs.Leaves.{fills_can_be_made}
 use Rattle.shadow_pool.specs.Slots.{KeepsPool, spaces_of}
 use Rattle.guest_exit.specs.declared.guests.Guest.{Guest}
 use Rattle.guest_exit.specs.declared.exit_cases.Exit.TheVariants.{Missing}
-use Rattle.guest_exit.specs.ExitCases.{entry_for_exit}
+use Rattle.guest_exit.specs.ExitCases.{entry_for, entry_for_exit}
+use Rattle.guest_exit.specs.Steps.{IsNotPlain}
 use Rattle.guest_exit.specs.View.{IsPlaced, machine_of, platform_of}
 use Rattle.guest_exit.proofs.Alone.{machine_as}
+use Rattle.guest_exit.proofs.ExitCases.{filled_by}
 use Rattle.guest_exit.proofs.Pools.{ram_by_pool, size_of}
 
 -- an address of more bits than any table translates has no walk
 beyond : (address : ℕ) → nat_lt address (2 ^ guest_bits) ≡ false → nat_lt address (2 ^ 41) ≡ false
 beyond address far = grind (arith, far)
 
-far_walk : (base : ℕ) (bytes : List ℕ) (mxr : Bool) (mode : GuestMode) (ppn address : ℕ) (kind : Access) → nat_lt address (2 ^ guest_bits) ≡ false
-    → second_walk base bytes mxr (guest_shape mode) ppn address kind ≡ GuestPageFault
+far_walk : (memory : Memory) (mxr : Bool) (mode : GuestMode) (ppn address : ℕ) (kind : Access) → nat_lt address (2 ^ guest_bits) ≡ false
+    → second_walk memory mxr (guest_shape mode) ppn address kind ≡ GuestPageFault
 unfolding second_walk walk path end_of
-far_walk base bytes mxr Sv39x4 ppn address kind far = rw (beyond address far) refl
-far_walk base bytes mxr Sv48x4 ppn address kind far = rw far refl
+far_walk memory mxr Sv39x4 ppn address kind far = rw (beyond address far) refl
+far_walk memory mxr Sv48x4 ppn address kind far = rw far refl
 
 -- so nothing is filled for it, and its fault is a guest-page fault
-pub record IsFar (v : Virtual) (ram : List ℕ) (u : MissingPlace) : Type 0 where
-  pub none : entry_by_walk v.csrs ram u.address u.kind ≡ None
-  pub faults : missing_place_trap v.csrs ram_base ram u ≡ guest_page_trap u
+pub record IsFar (device : Bool) (v : Virtual) (ram : List ℕ) (u : MissingPlace) : Type 0 where
+  pub none : entry_by_walk device v.csrs ram u.address u.kind ≡ None
+  pub faults : missing_place_trap v.csrs (ram_memory ram) u ≡ guest_page_trap u
 
-pub far_is : (v : Virtual) (ram : List ℕ) (u : MissingPlace) → folds v ≡ true → u.mode ≡ v.mode → nat_lt u.address (2 ^ guest_bits) ≡ false → IsFar v ram u
+pub far_is : (device : Bool) (v : Virtual) (ram : List ℕ) (u : MissingPlace) → folds v ≡ true → u.mode ≡ v.mode → nat_lt u.address (2 ^ guest_bits) ≡ false
+    → IsFar device v ram u
 unfolding entry_by_walk
-far_is v ram u folding mode far = record {
+far_is device v ram u folding mode far = record {
   none = none v.csrs.hgatp;
-  faults = ap (λ mode. missing_place_under ram_base ram v.csrs.hs.status.mxr u (cond (is_virtual mode) v.csrs.hgatp root.Bare)) mode
+  faults = ap (λ mode. missing_place_under (ram_memory ram) v.csrs.hs.status.mxr u (cond (is_virtual mode) v.csrs.hgatp root.Bare)) mode
       ∙ faults v.csrs.hgatp (is_virtual v.mode) folding;
 }
   where
-    none : (hgatp : GuestRoot) → entry_by_table v.csrs.hs.status.mxr ram u.address u.kind hgatp ≡ None
+    none : (hgatp : GuestRoot) → entry_by_table device v.csrs.hs.status.mxr ram u.address u.kind hgatp ≡ None
     none root.Bare = refl
-    none (root.Table table vmid ppn) = ap (entry_by_end u.address) (far_walk ram_base ram v.csrs.hs.status.mxr table ppn u.address u.kind far)
+    none (root.Table table vmid ppn) = ap (entry_by_end device u.address) (far_walk (ram_memory ram) v.csrs.hs.status.mxr table ppn u.address u.kind far)
 
     faults : (hgatp : GuestRoot) (virtual : Bool) → (virtual && is_table hgatp) ≡ true
-        → missing_place_under ram_base ram v.csrs.hs.status.mxr u (cond virtual hgatp root.Bare) ≡ guest_page_trap u
+        → missing_place_under (ram_memory ram) v.csrs.hs.status.mxr u (cond virtual hgatp root.Bare) ≡ guest_page_trap u
     faults root.Bare true is = absurd cc
     faults hgatp false is = absurd cc
-    faults (root.Table table vmid ppn) true is = ap (missing_place_by u) (far_walk ram_base ram v.csrs.hs.status.mxr table ppn u.address u.kind far)
+    faults (root.Table table vmid ppn) true is = ap (missing_place_by u) (far_walk (ram_memory ram) v.csrs.hs.status.mxr table ppn u.address u.kind far)
 
 -- what it gives can be filled
-pub can_fill : (old : Guest) (memory : List ℕ) (address : ℕ) (kind : Access) (e : Entry) → IsPlaced old memory
-    → entry_by_walk old.virt.csrs (ram_of old.part.blocks memory) address kind ≡ Some e → CanFill old.pool.part.blocks e
-can_fill old memory address kind e at is =
-    rw at.own (fills_can_be_made old.virt.csrs (ram_of old.part.blocks memory) old.part.blocks address kind e (size_of old.part memory at.held) is)
+pub can_fill : (old : Guest) (memory : List ℕ) (missing : MissingPlace) (e : Entry) → IsPlaced old memory
+    → entry_for (machine_of old memory) missing ≡ Some e → CanFill old.pool.part.blocks e
+can_fill old memory missing e at some =
+    rw at.own (fills_can_be_made old.device old.virt.csrs (ram_of old.part.blocks memory) old.part.blocks missing.address missing.kind e (size_of old.part memory at.held)
+    (filled_by (machine_of old memory) missing e some).walked)
 
 -- it is filled into the front space
 pub fill_made : (old new : Guest) (memory changed : List ℕ) (missing : MissingPlace) (e : Entry) → IsPlaced old memory
-    → entry_by_walk old.virt.csrs (ram_of old.part.blocks memory) missing.address missing.kind ≡ Some e → new.part ≡ old.part → KeepsPool old.pool memory new.pool changed
+    → entry_for (machine_of old memory) missing ≡ Some e → new.part ≡ old.part → new.device ≡ old.device → KeepsPool old.pool memory new.pool changed
     → platform_of new ≡ platform_of old → spaces_of new.pool ≡ filled_front old.pool.most (spaces_of old.pool) e
     → (e : Entry) × (entry_for_exit (machine_of old memory) (Missing missing) ≡ Some e) × (machine_of new changed ≡ fill (machine_of old memory) e)
-fill_made old new memory changed missing e at some part keeps same are =
-    (e, some, machine_as old new memory changed _ _ _ part same (ram_by_pool old.part old.pool memory changed at.once at.own at.tidy at.held keeps.only) are keeps.room keeps.most)
+fill_made old new memory changed missing e at some part device keeps same are =
+    (e, some, machine_as old new memory changed _ _ _ part device same (ram_by_pool old.part old.pool memory changed at.once at.own at.tidy at.held keeps.only) are keeps.room keeps.most)
+
+-- an access that is made on the device page lacks nothing
+pub none_on_device : (m : Machine) (missing : MissingPlace) → device_of m missing.address missing.kind ≡ true → entry_for m missing ≡ None
+none_on_device m missing on = by (entry_for m missing) refl
+  where
+    by : (o : Option Entry) → entry_for m missing ≡ o → entry_for m missing ≡ None
+    by None none = none
+    by (Some e) some = let off = (filled_by m missing e some).off in let never : true ≡ false = sym on ∙ off in absurd (cc)
+
+-- such an access is no plain step
+pub served_is_quiet : (m : Machine) (missing : MissingPlace) (completion : Option DeviceCompletion) → IsNotPlain (served m missing completion)
+served_is_quiet m missing None = record { trace = refl; plain = refl }
+served_is_quiet m missing (Some completion) = record { trace = refl; plain = refl }
+
+wanted_is_quiet : (m : Machine) (missing : MissingPlace) (wanted : Option DataAccess) → IsNotPlain (device_wanted m missing wanted)
+wanted_is_quiet m missing None = record { trace = refl; plain = refl }
+wanted_is_quiet m missing (Some wanted) = served_is_quiet m missing _
+
+pub unplaced_is_quiet : (m : Machine) (missing : MissingPlace) (wanted : Option DataAccess) (on : Bool) → IsNotPlain (unplaced m missing wanted on)
+unplaced_is_quiet m missing wanted false = record { trace = refl; plain = refl }
+unplaced_is_quiet m missing wanted true =
+    elim (is_implicit missing.kind) as (λ b. IsNotPlain (cond b (trapped m (missing_place_fault missing)) (device_wanted m missing wanted)))
+    [ true ↦ record { trace = refl; plain = refl } | false ↦ wanted_is_quiet m missing wanted ]

@@ -21,7 +21,7 @@ use Rattle.host_tables.proofs.Held.{held_by_blocks}
 use Rattle.machine_laws.specs.HostPlaces.{in_ram}
 use Rattle.machine_defs.specs.Machine.{Machine}
 use Rattle.machine_laws.specs.Renaming.{ReservesWithin}
-use Rattle.machine_laws.specs.Reservations.{IsInRam, KeepsInRam, ReservesInRam, places_from}
+use Rattle.machine_laws.specs.Reservations.{HasPlace, KeepsInRam, ReservesInRam, places_from}
 use Rattle.machine_defs.specs.Runs.{left_after, run}
 use Rattle.machine_laws.proofs.InRam.{fill_stays_in_ram, stays_in_ram, try_stays_in_ram}
 use Rattle.machine_laws.specs.Keeping.{IsOrderly}
@@ -152,7 +152,7 @@ placed_new guest memory once held new zeros reserved flat storable =
       spaces = refl;
       space_room = refl;
       entry_room = refl;
-      caches = rw new.spaces (All-nil (λ (s : Space). All (IsInRam _) s.entries));
+      caches = rw new.spaces (All-nil (λ (s : Space). All (HasPlace _) s.entries));
       orderly = record {
         entries = new.entries;
         spaces = new.room;
@@ -188,7 +188,7 @@ placed_by_blocks guest memory changed at only =
       spaces = refl;
       space_room = refl;
       entry_room = refl;
-      caches = subst (λ size. All (λ (s : Space). All (IsInRam size) s.entries) (spaces_of guest.pool)) same at.caches;
+      caches = subst (λ size. All (λ (s : Space). All (HasPlace size) s.entries) (spaces_of guest.pool)) same at.caches;
       orderly = record { entries = at.orderly.entries; spaces = at.orderly.spaces; front = at.orderly.front };
       storable = at.storable;
     }

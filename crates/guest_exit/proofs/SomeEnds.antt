@@ -1,17 +1,15 @@
 -- How a try ends, where nothing need be known of what its instruction leaves.
-use Rattle.std.specs.Prelude.{Result, Ok, Err}
 use Rattle.std.proofs.Common.{Option}
 use Rattle.arch_defs.specs.declared.cached.Fence.{Fence}
-use Rattle.arch_defs.specs.declared.modes.Trap.{Trap}
 use Rattle.arch_defs.specs.declared.registers.Virtual.{Virtual}
-use Rattle.arch_defs.specs.Memory.{ram_base, reading_of}
+use Rattle.arch_defs.specs.Memory.{ram_memory}
 use Rattle.op_defs.specs.declared.ops.DataAccess.{DataAccess}
-use Rattle.machine_defs.specs.Core.{Completion, core}
-use Rattle.machine_defs.specs.HlvAccesses.{hlv_outcome}
+use Rattle.machine_defs.specs.Core.{Completion}
 use Rattle.machine_defs.specs.Machine.{Machine, Tried}
 use Rattle.machine_defs.specs.Outcomes.{Outcome, Done, Trapped, Missed, Called, Waits, Fenced, Accesses}
-use Rattle.machine_defs.specs.Tries.{fence_under, second_of, try}
-use Rattle.machine_laws.specs.InstructionEnds.{HlvHas, OutcomeHas}
+use Rattle.machine_defs.specs.Tries.{fence_under, outcome_under, stages_of, try}
+use Rattle.machine_laws.specs.InstructionEnds.{OutcomeHas}
+use Rattle.machine_laws.proofs.Completions.{hlv_each}
 use Rattle.machine_laws.proofs.TryEnds.{TryEnd, try_end}
 
 abbrev pub SomeEnd : Machine → Tried → Option Fence → Type 0
@@ -20,16 +18,13 @@ SomeEnd m tried fence = TryEnd (λ (completion : Completion). Unit {0}) (λ (vir
 any_outcome : (o : Outcome) → OutcomeHas (λ (completion : Completion). Unit {0}) (λ (virt : Virtual). Unit {0}) (λ (wanted : DataAccess). Unit {0}) o
 any_outcome (Done state stored event) = tt
 any_outcome (Trapped trap) = tt
-any_outcome (Missed missing) = tt
+any_outcome (Missed missing wanted) = tt
 any_outcome Called = tt
 any_outcome (Waits state) = tt
 any_outcome (Fenced state fence) = tt
 any_outcome (Accesses wanted) = tt
 
-any_hlv : (end : Result Completion Trap) → HlvHas (λ (completion : Completion). Unit {0}) end
-any_hlv (Ok completion) = tt
-any_hlv (Err trap) = tt
-
-pub some_end : (m : Machine) → SomeEnd m (try m) (fence_under (second_of m) m)
-some_end m = try_end _ _ (λ (wanted : DataAccess). Unit {0}) m (second_of m) (λ wanted any. any_hlv (hlv_outcome ram_base m.ram m.platform.virt wanted))
-    (any_outcome (core (second_of m) (reading_of ram_base m.ram) m.platform.virt))
+pub some_end : (m : Machine) → SomeEnd m (try m) (fence_under (stages_of m) m)
+some_end m = try_end _ _ (λ (wanted : DataAccess). Unit {0}) m (stages_of m)
+    (λ wanted any. hlv_each (λ (completion : Completion). Unit {0}) m.device (ram_memory m.ram) m.platform.virt wanted (λ place. tt))
+    (any_outcome (outcome_under (stages_of m) m))

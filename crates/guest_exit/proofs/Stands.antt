@@ -1,6 +1,5 @@
 -- What an instruction is on the hart, by what it is to the lone machine for which the hart stands.
 use Rattle.std.proofs.Common.{cond, ◌≡◌, ℕ, ◌^◌, ◌<◌, Option, Some, None, Bool, true, false, refl, ap, sym}
-use Rattle.arch_defs.specs.declared.modes.Access.TheVariants.{Implicit}
 use Rattle.arch_defs.specs.declared.modes.Trap.{Trap}
 use Rattle.arch_defs.specs.declared.modes.TheConstants.{ECALL_FROM_VS, VIRTUAL_INSTRUCTION}
 use Rattle.arch_defs.specs.declared.registers.Csrs.{Csrs}
@@ -9,8 +8,8 @@ use Rattle.arch_defs.specs.declared.registers.Regs.{Regs}
 use Rattle.arch_defs.specs.declared.registers.Virtual.{Virtual}
 use Rattle.arch_defs.specs.declared.walks.MissingPlace.{MissingPlace}
 use Rattle.arch_defs.specs.Memory.{Stored}
-use Rattle.arch_defs.specs.SecondStage.{is_implicit}
 use Rattle.arch_defs.specs.Traps.{exception, is_virtual, faults_of}
+use Rattle.op_defs.specs.declared.ops.DataAccess.{DataAccess}
 use Rattle.op_defs.specs.declared.ops.Privileged.{Privileged}
 use Rattle.op_defs.specs.Table.{is_system}
 use Rattle.machine_defs.specs.declared.events.Event.TheVariants.{Plain, System}
@@ -21,7 +20,7 @@ use Rattle.rv64_hart.specs.Steps.{enters_vs}
 use Rattle.world_switch.specs.Hosting.{guest_state_after, guest_state_of, hart_state_of, hosted_csrs, hosted_mode, saved_csrs}
 use Rattle.world_switch.specs.Laws.{KeepsHidden}
 use Rattle.world_switch.proofs.Undone.{same_csrs, same_mode, virtual_mode}
-use Rattle.guest_exit.specs.ExitCases.{access_of}
+use Rattle.machine_laws.specs.MissedPlaces.{access_of}
 use Rattle.guest_exit.proofs.Decided.{privileged_in}
 use Rattle.guest_exit.specs.HartSteps.{KeepsHart, event_for}
 use Rattle.guest_exit.proofs.Delegation.{IsOwn}
@@ -36,17 +35,17 @@ pub data Traps (s : Virtual) (lone : Outcome) (trap : Trap) : Type 0 where
   Left : (tval : ℕ) → trap ≡ exception (hosted_mode s.mode) VIRTUAL_INSTRUCTION tval → tval < 2 ^ 32 → (p : Privileged)
       → privileged_in tval s.regs ≡ Some p → lone ≡ privileged s tval p → Traps s lone trap
 
--- the guest-page fault of an access without a place tells which access it is, and of what kind
-pub record IsTold (missing : MissingPlace) : Type 0 where
-  pub access : access_of (faults_of missing.access).guest_page ≡ missing.access
-  pub kind : cond (is_implicit missing.kind) Implicit missing.access ≡ missing.kind
+-- the guest-page fault of an access without a place tells which access it is
+abbrev pub IsTold : MissingPlace → Type 0
+IsTold missing = access_of (faults_of missing.access).guest_page ≡ missing.access
 
 -- what an outcome on the hart is to the lone machine in this state
 abbrev pub Stands : (root : GuestRoot) → Virtual → Outcome → Outcome → Type 0
 Stands root s lone (Done hart stored event) =
     (lone ≡ Done (guest_state_after (enters_vs event) hart s) stored (event_for (is_virtual s.mode) event)) × KeepsHart root s hart
 Stands root s lone (Trapped trap) = Traps s lone trap
-Stands root s lone (Missed missing) = (lone ≡ Missed (record missing { mode = s.mode })) × (missing.mode ≡ hosted_mode s.mode) × IsTold missing
+Stands root s lone (Missed missing wanted) =
+    (lone ≡ Missed (record missing { mode = s.mode }) wanted) × (missing.mode ≡ hosted_mode s.mode) × IsTold missing
 Stands root s lone Called = ⊥
 Stands root s lone (Waits hart) = ⊥
 Stands root s lone (Fenced hart fence) = ⊥
@@ -60,11 +59,11 @@ SamePlace s lone (Fails (Misses missing)) =
     (lone ≡ Fails (Misses (record missing { mode = s.mode }))) × (missing.mode ≡ hosted_mode s.mode) × IsTold missing
 
 -- so what goes on there alike ends alike
-pub at_stands : (root : GuestRoot) (s : Virtual) (rest rest' : ℕ → Outcome) → ((place : ℕ) → Stands root s (rest place) (rest' place))
-    → (lone hart : Located) → SamePlace s lone hart → Stands root s (at_place lone rest) (at_place hart rest')
-at_stands root s rest rest' goes lone (At place) e = rw e (goes place)
-at_stands root s rest rest' goes lone (Fails (Faults trap)) (own, e, traps) = rw e traps
-at_stands root s rest rest' goes lone (Fails (Misses missing)) (e, mode, told) = rw e (refl, mode, told)
+pub at_stands : (root : GuestRoot) (s : Virtual) (wanted : Option DataAccess) (rest rest' : ℕ → Outcome) → ((place : ℕ) → Stands root s (rest place) (rest' place))
+    → (lone hart : Located) → SamePlace s lone hart → Stands root s (at_place wanted lone rest) (at_place wanted hart rest')
+at_stands root s wanted rest rest' goes lone (At place) e = rw e (goes place)
+at_stands root s wanted rest rest' goes lone (Fails (Faults trap)) (own, e, traps) = rw e traps
+at_stands root s wanted rest rest' goes lone (Fails (Misses missing)) (e, mode, told) = rw e (refl, mode, told)
 
 -- what the hart does not change comes back
 pub kept : (root : GuestRoot) (s : Virtual) (regs : Regs) (hart own : Csrs) (place : Option (ℕ × ℕ)) → saved_csrs (is_virtual s.mode) hart s.csrs ≡ own

@@ -16,13 +16,12 @@ use Rattle.arch_defs.specs.declared.registers.Virtual.{Virtual}
 use Rattle.arch_defs.specs.Interrupts.{interrupt_of, vs_bit}
 use Rattle.arch_defs.specs.Frames.{in_blocks}
 use Rattle.arch_defs.specs.Layouts.{Layout}
-use Rattle.arch_defs.specs.Memory.{ram_base, reading_of}
 use Rattle.arch_defs.specs.Traps.{entered_at, entered_vs, exception, is_delegated, is_virtual, target, faults_of}
 use Rattle.arch_defs.proofs.FrameSets.{only_none}
 use Rattle.machine_defs.specs.declared.events.Event.TheVariants as event
 use Rattle.machine_laws.specs.HostPlaces.{in_ram, memory_place}
 use Rattle.machine_defs.specs.Machine.{Machine, Tried, stepped_to, trapped}
-use Rattle.machine_defs.specs.Tries.{apply_outcome, second_of}
+use Rattle.machine_defs.specs.Tries.{apply_outcome, device_of, mmu_of}
 use Rattle.op_defs.specs.declared.ops.CsrOp.{CsrOp}
 use Rattle.op_defs.specs.declared.ops.Privileged.{Privileged}
 use Rattle.op_defs.specs.declared.ops.Privileged.TheVariants.{Csr, Wfi}
@@ -227,13 +226,13 @@ kept_22 root true csrs = never_22 csrs.hedeleg
 
 -- a trap of an instruction on the hart
 pub trap_follows : (part : Layout) {pool : Pooled} (root : GuestRoot) (m : Machine) (memory : List ℕ) (lacks : Option Entry) (lone : Outcome) (trap : Trap)
-    → IsAt part pool m memory → lacks ≡ None → Traps m.platform.virt lone trap → FollowsTry part root m (apply_outcome m lone) lacks memory (taken part root m memory trap)
+    → IsAt part pool m memory → lacks ≡ None → Traps m.platform.virt lone trap → FollowsTry part root m (apply_outcome (device_of m) m lone) lacks memory (taken part root m memory trap)
 trap_follows part root m memory lacks lone trap at ready (Own cause tval is e good) = rw (is, e) (exception_follows part root m memory lacks cause tval good at ready)
 trap_follows part root m memory lacks lone trap at ready (Call own is e) =
     let v = m.platform.virt in
     let call = exception (hosted_mode v.mode) ECALL_FROM_VS 0 in
     rw (is, to_host (hosted_csrs root (is_virtual v.mode) v.csrs) (hosted_mode v.mode) call (virtual_mode v.mode) (kept_10 root (is_virtual v.mode) v.csrs), e)
-    (left_as m (apply_outcome m Called) lacks call case.Call (other_exit_is v call refl refl ∙ ap (other_exit call) own) refl ready)
+    (left_as m (apply_outcome (device_of m) m Called) lacks call case.Call (other_exit_is v call refl refl ∙ ap (other_exit call) own) refl ready)
 trap_follows part root m memory lacks lone trap at ready (Nested on is e) =
     let v = m.platform.virt in
     rw (e, is, to_host (hosted_csrs root (is_virtual v.mode) v.csrs) (hosted_mode v.mode) (exception (hosted_mode v.mode) ECALL_FROM_VS 0) (virtual_mode v.mode) (kept_10 root (is_virtual v.mode) v.csrs))
@@ -243,8 +242,8 @@ trap_follows part root m memory lacks lone trap at ready (Left tval is small p e
     let left = exception (hosted_mode v.mode) VIRTUAL_INSTRUCTION tval in
     let i = instruction_of tval v.regs p e in
     rw (is, to_host (hosted_csrs root (is_virtual v.mode) v.csrs) (hosted_mode v.mode) left (virtual_mode v.mode) (kept_22 root (is_virtual v.mode) v.csrs))
-    (left_as m (apply_outcome m lone) lacks left (case.Instruction i.o) (instruction_exit_is v left i.o refl refl small (is_decided_in tval v.regs p i))
-    (ap (apply_outcome m) (f ∙ ends_as (second_of m) (reading_of ram_base m.ram) v tval p i small)) ready)
+    (left_as m (apply_outcome (device_of m) m lone) lacks left (case.Instruction i.o) (instruction_exit_is v left i.o refl refl small (is_decided_in tval v.regs p i))
+    (ap (apply_outcome (device_of m) m) (f ∙ ends_as (mmu_of m) v tval p i small)) ready)
 
 -- the hart leaves a WFI and a read of time to the host
 exits_at : (part : Layout) (root : GuestRoot) (v : Virtual) (memory : List ℕ) (word : ℕ) (effect : Privileged)

@@ -1,28 +1,28 @@
--- How the host reads the trap at which the hart leaves a step of the guest to it: five cases.
-use Rattle.std.specs.Prelude.{ℕ, ◌≡◌, ◌*◌, ◌^◌, ◌==◌, ◌||◌, nat_lt, Bool, true, false, Option, Some, None, option_and_then, if◌then◌else◌, ◌-◌}
+-- How the host reads the trap at which the hart leaves a step of the guest to it: four cases.
+use Rattle.std.specs.Prelude.{ℕ, ◌≡◌, ◌^◌, ◌==◌, ◌||◌, nat_lt, Bool, true, false, Option, Some, None, option_and_then, if◌then◌else◌, ◌-◌}
 use Rattle.arch_defs.specs.declared.cached.Entry.{Entry}
-use Rattle.arch_defs.specs.declared.modes.Access.{Access}
-use Rattle.arch_defs.specs.declared.modes.Access.TheVariants.{Fetch, Load, Store, Implicit}
 use Rattle.arch_defs.specs.declared.modes.Trap.{Trap}
 use Rattle.arch_defs.specs.declared.modes.TheConstants.{INSTRUCTION_ACCESS_FAULT, INSTRUCTION_GUEST_PAGE_FAULT, LOAD_ACCESS_FAULT, LOAD_GUEST_PAGE_FAULT, STORE_ACCESS_FAULT, STORE_GUEST_PAGE_FAULT, VIRTUAL_INSTRUCTION}
 use Rattle.arch_defs.specs.declared.registers.Virtual.{Virtual}
 use Rattle.arch_defs.specs.declared.walks.MissingPlace.{MissingPlace}
-use Rattle.arch_defs.specs.Memory.{ram_base, reading_of}
-use Rattle.arch_defs.specs.SecondStage.{missing_place_trap}
+use Rattle.arch_defs.specs.Spaces.{front}
 use Rattle.arch_defs.specs.Traps.{exception, is_virtual}
 use Rattle.arch_defs.specs.Walk.{guest_bits}
-use Rattle.arch_defs.specs.WalkedEntries.{entry_by_walk, folds}
+use Rattle.arch_defs.specs.WalkedEntries.{folds}
+use Rattle.op_defs.specs.declared.ops.DataAccess.{DataAccess}
 use Rattle.op_defs.specs.declared.ops.Op.{Op}
 use Rattle.op_defs.specs.Table.{op_of}
 use Rattle.machine_defs.specs.declared.events.Event.TheVariants.{System}
-use Rattle.machine_defs.specs.Core.{decoded}
+use Rattle.machine_defs.specs.Core.{decoded, fetch_place}
+use Rattle.machine_defs.specs.Fills.{missing_entry_at}
 use Rattle.machine_defs.specs.Machine.{Machine, Tried, called, stepped_to, trapped}
-use Rattle.machine_defs.specs.Outcomes.{Outcome}
-use Rattle.machine_defs.specs.Tries.{apply_outcome, second_of}
+use Rattle.machine_defs.specs.Outcomes.{Missed, Outcome}
+use Rattle.machine_defs.specs.Tries.{apply_outcome, device_of, mmu_of, unplaced}
+use Rattle.machine_laws.specs.MissedPlaces.{told_place, wanted_at}
 use Rattle.rv64_asm.specs.Words.{encoded}
 use Rattle.hcsr_emulation.specs.Ends.{is_decided}
 use Rattle.guest_exit.specs.declared.exit_cases.Exit.{Exit}
-use Rattle.guest_exit.specs.declared.exit_cases.Exit.TheVariants.{Instruction, Missing, OutsideRam, Call, Own}
+use Rattle.guest_exit.specs.declared.exit_cases.Exit.TheVariants.{Instruction, Missing, Call, Own}
 
 -- an instruction, if the mode decides on it
 abbrev pub if_decided : Op → Option Op
@@ -46,36 +46,24 @@ access_fault_for code =
     if code == INSTRUCTION_GUEST_PAGE_FAULT then INSTRUCTION_ACCESS_FAULT
     else if code == LOAD_GUEST_PAGE_FAULT then LOAD_ACCESS_FAULT else STORE_ACCESS_FAULT
 
--- the access of a guest-page fault of the hart, which makes no HLVX
-abbrev pub access_of : ℕ → Access
-access_of code =
-    if code == INSTRUCTION_GUEST_PAGE_FAULT then Fetch
-    else if code == LOAD_GUEST_PAGE_FAULT then Load else Store
-
--- what the trap tells of it, as an access of the guest: all but the low two bits of its guest physical
--- address (8.2.8)
-abbrev pub missing_place_of : Virtual → Trap → MissingPlace
-missing_place_of virt trap = record {
-  address = trap.tval2 * 4;
-  kind = if trap.implicit then Implicit else access_of trap.cause;
-  access = access_of trap.cause;
-  va = trap.tval;
-  mode = virt.mode;
-}
-
 -- code 22: an instruction that the mode decides on. The hart takes it for no other word, so the line for one
 -- is for completeness
 abbrev pub instruction_exit : Trap → Option Op → Exit
 instruction_exit trap (Some op) = Instruction op
 instruction_exit trap None = Own trap
 
--- a guest-page fault, by whether the guest folds. If it does, the front space has no place for the access,
--- whose guest physical address a table can translate: one beyond has no walk, and its fault is the guest's own
--- (8.5.1). If not, the host table has no place outside RAM
+-- the fault of an access at a guest physical address of more bits than any table translates, by whether the
+-- guest folds: no walk of its table is made, and the fault is the guest's own (8.5.1); or RAM has no such address
+abbrev pub far_exit : Virtual → Trap → Bool → Exit
+far_exit virt trap true = Own trap
+far_exit virt trap false = Own (exception virt.mode (access_fault_for trap.cause) trap.tval)
+
+-- a guest-page fault: the front space of a guest that folds, or the host table of one that does not, has no
+-- place for the access
 abbrev pub missing_place_exit : Virtual → Trap → Bool → Exit
-missing_place_exit virt trap true =
-    if nat_lt trap.tval2 (2 ^ (guest_bits - 2)) then Missing (missing_place_of virt trap) else Own trap
-missing_place_exit virt trap false = OutsideRam (exception virt.mode (access_fault_for trap.cause) trap.tval)
+missing_place_exit virt trap folding =
+    if nat_lt trap.tval2 (2 ^ (guest_bits - 2)) then Missing (told_place virt.mode trap)
+    else far_exit virt trap folding
 
 -- another trap, by the guest's V: the guest's HS calls the environment, or the guest does not delegate it
 abbrev pub other_exit : Trap → Bool → Exit
@@ -92,21 +80,33 @@ exit_of virt trap =
 -- how the instruction of this op ends, with the op's own word, in the guest's own mode
 abbrev pub decided_end : Machine → Op → Outcome
 decided_end m op =
-    decoded (second_of m) (reading_of ram_base m.ram) m.platform.virt (encoded op) (Some op)
+    decoded (mmu_of m) m.platform.virt (encoded op) (Some op)
+
+abbrev pub try_decided : Machine → Op → Tried
+try_decided m op = apply_outcome (device_of m) m (decided_end m op)
+
+-- what its next instruction wants of data
+abbrev pub data_wanted : Machine → Option DataAccess
+data_wanted m = let through = mmu_of m in let virt = m.platform.virt in
+    wanted_at through.reading virt (fetch_place through virt)
 
 -- the machine's try at such a step
 abbrev pub try_at : Machine → Exit → Tried
-try_at m (Instruction op) = apply_outcome m (decided_end m op)
-try_at m (Missing missing) = trapped m (missing_place_trap m.platform.virt.csrs ram_base m.ram missing)
-try_at m (OutsideRam fault) = trapped m fault
+try_at m (Instruction op) = try_decided m op
+try_at m (Missing missing) = unplaced m missing (data_wanted m) (device_of m missing.address missing.kind)
 try_at m Call = stepped_to m (called m.platform) System
 try_at m (Own trap) = trapped m trap
 
--- the cached translation that it lacks, if any: what the walk of the guest's own table gives
+-- the cached translation that a machine lacks whose access has no place: where it folds, what the walk of the
+-- guest's own table gives
+abbrev pub entry_for : Machine → MissingPlace → Option Entry
+entry_for m missing = let virt = m.platform.virt in
+    if folds virt then missing_entry_at m.device virt.csrs m.ram (front m.spaces) (Missed missing None) else None
+
+-- and one at such a step, if any
 abbrev pub entry_for_exit : Machine → Exit → Option Entry
-entry_for_exit m (Missing missing) = entry_by_walk m.platform.virt.csrs m.ram missing.address missing.kind
+entry_for_exit m (Missing missing) = entry_for m missing
 entry_for_exit m (Instruction op) = None
-entry_for_exit m (OutsideRam fault) = None
 entry_for_exit m Call = None
 entry_for_exit m (Own trap) = None
 

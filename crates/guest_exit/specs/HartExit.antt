@@ -17,13 +17,13 @@ use Rattle.machine_defs.specs.Fills.{fill}
 use Rattle.machine_defs.specs.Machine.{Machine, with_pending_lines}
 use Rattle.machine_defs.specs.Outcomes.{Fenced}
 use Rattle.machine_defs.specs.Runs.{left_by}
-use Rattle.machine_defs.specs.Tries.{apply_outcome, committed}
+use Rattle.machine_defs.specs.Tries.{apply_outcome, committed, device_of}
 use Rattle.host_tables.specs.Walks.{IsHeld}
 use Rattle.shadow_pool.specs.Slots.{TidyPool}
 use Rattle.rv64_asm.specs.Fitting.{fits}
 use Rattle.hcsr_emulation.specs.Ends.{is_decided}
 use Rattle.guest_exit.specs.declared.exit_cases.Exit.{Exit}
-use Rattle.guest_exit.specs.declared.exit_cases.Exit.TheVariants.{Instruction, Missing, OutsideRam, Call, Own}
+use Rattle.guest_exit.specs.declared.exit_cases.Exit.TheVariants.{Instruction, Missing, Call, Own}
 use Rattle.guest_exit.specs.declared.guests.Guest.{Guest}
 use Rattle.guest_exit.specs.declared.hart_exit.Handled.{Handled}
 use Rattle.guest_exit.specs.declared.hart_exit.Handled.TheVariants.{Stepped, Retry, Waits, Stopped}
@@ -109,16 +109,8 @@ IsFinished nested guest memory after changed =
 -- so is a fence that names these cached translations
 abbrev pub IsFenced : Fence → Guest → List ℕ → Guest → List ℕ → Type 0
 IsFenced named guest memory after changed =
-    (before : Virtual) → machine_of after changed ≡ left_by (machine_of (with_state guest before) memory)
-    (apply_outcome (machine_of (with_state guest before) memory) (Fenced guest.virt named))
-
--- an access that has no place by the front space is one of a guest that folds
-abbrev pub IfMissing : Exit → Bool → Type 0
-IfMissing (Missing missing) folding = folding ≡ true
-IfMissing (Instruction o) folding = Unit {0}
-IfMissing (OutsideRam fault) folding = Unit {0}
-IfMissing Call folding = Unit {0}
-IfMissing (Own trap) folding = Unit {0}
+    (before : Virtual) → let m = machine_of (with_state guest before) memory in
+    machine_of after changed ≡ left_by m (apply_outcome (device_of m) m (Fenced guest.virt named))
 
 -- an instruction on which the mode decides, and whose fields fit
 pub record IsDecidedOp (o : Op) : Type 0 where
@@ -129,7 +121,6 @@ pub record IsDecidedOp (o : Op) : Type 0 where
 abbrev pub IfInstruction : Exit → Type 0
 IfInstruction (Instruction o) = IsDecidedOp o
 IfInstruction (Missing missing) = Unit {0}
-IfInstruction (OutsideRam fault) = Unit {0}
 IfInstruction Call = Unit {0}
 IfInstruction (Own trap) = Unit {0}
 

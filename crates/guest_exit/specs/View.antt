@@ -27,6 +27,7 @@ machine_of guest memory = record {
   spaces = spaces_of guest.pool;
   space_room = room_of guest.pool;
   entry_room = guest.pool.most;
+  device = guest.device;
 }
 
 -- what the hart has for it
@@ -40,6 +41,7 @@ changed_by guest = changing guest.part guest.pool
 -- what no step changes
 pub record KeepsLayout (before after : Guest) : Type 0 where
   pub part : after.part ≡ before.part
+  pub device : after.device ≡ before.device
   pub pool : after.pool.part ≡ before.pool.part
   pub entry_room : after.pool.most ≡ before.pool.most
   pub space_room : room_of after.pool ≡ room_of before.pool
@@ -47,6 +49,7 @@ pub record KeepsLayout (before after : Guest) : Type 0 where
 -- nor does one that leaves the cached translations alone change any of them
 pub record KeepsSpaces (before after : Guest) : Type 0 where
   pub part : after.part ≡ before.part
+  pub device : after.device ≡ before.device
   pub pool : after.pool ≡ before.pool
 
 -- machine memory holds the guest's part, with its host table and the tables of its spaces, and the guest's

@@ -4,13 +4,14 @@ ghost use Rattle.std.specs.Prelude.{◌≡◌, ◌-◌, ◌^◌, ◌<◌};
 ghost use Rattle.arch_defs.specs.Walk.{guest_bits};
 ghost use Rattle.arch_defs.specs.WalkedEntries.{folds};
 ghost use Rattle.hcsr_emulation.specs.Ends.{is_decided};
-ghost use Rattle.guest_exit.specs.ExitCases.{access_fault_for, access_of, decided_at, decided_in, exit_of, instruction_exit, is_guest_page_code, missing_place_exit, missing_place_of};
+ghost use Rattle.machine_laws.specs.MissedPlaces.{access_of, told_place};
+ghost use Rattle.guest_exit.specs.ExitCases.{access_fault_for, decided_at, decided_in, exit_of, far_exit, instruction_exit, is_guest_page_code, missing_place_exit};
 
 use crate::guests::folds;
 use arch_defs::{
     Access, INSTRUCTION_ACCESS_FAULT, INSTRUCTION_GUEST_PAGE_FAULT, LOAD_ACCESS_FAULT,
-    LOAD_GUEST_PAGE_FAULT, STORE_ACCESS_FAULT, STORE_GUEST_PAGE_FAULT, Trap, VIRTUAL_INSTRUCTION,
-    Virtual,
+    LOAD_GUEST_PAGE_FAULT, Mode, STORE_ACCESS_FAULT, STORE_GUEST_PAGE_FAULT, Trap,
+    VIRTUAL_INSTRUCTION, Virtual,
 };
 use hcsr_emulation::is_decided;
 use op_defs::Op;
@@ -26,10 +27,8 @@ const PAST_ADDRESSES: u64 = 0x1_0000_0000_0000;
 pub enum Exit {
     /// An instruction on which the mode decides.
     Instruction(Op),
-    /// An access to which the front space gives no place.
+    /// An access to which the second stage gives no place: by the front space of a guest that folds, else by RAM.
     Missing(MissingPlace),
-    /// An access outside RAM, with the guest's access fault.
-    OutsideRam(Trap),
     /// A call of the execution environment.
     Call,
     /// A trap that the guest takes itself, since it does not delegate it.
@@ -62,21 +61,25 @@ fn is_guest_page_code(code: u64) -> bool
         || code == STORE_GUEST_PAGE_FAULT
 }
 
-// A guest-page fault. While the guest does not fold, the host table has no place outside RAM.
+// A guest-page fault.
 fn missing_place_exit(virt: &Virtual, trap: &Trap) -> Exit
     ensures { result ≡ missing_place_exit virt.now trap.now (folds virt.now) }
 {
-    if !folds(virt) {
-        return Exit::OutsideRam(Trap::of_exception(
-            virt.mode,
-            access_fault_for(trap.cause),
-            trap.tval,
-        ));
-    }
     if trap.tval2 < PAST_ADDRESSES {
-        Exit::Missing(missing_place_of(virt, trap))
+        Exit::Missing(told_place(virt.mode, trap))
     } else {
+        far_exit(virt, trap)
+    }
+}
+
+// The fault of an access at an address that no table translates and RAM does not have.
+fn far_exit(virt: &Virtual, trap: &Trap) -> Exit
+    ensures { result ≡ far_exit virt.now trap.now (folds virt.now) }
+{
+    if folds(virt) {
         Exit::Own(*trap)
+    } else {
+        Exit::Own(Trap::of_exception(virt.mode, access_fault_for(trap.cause), trap.tval))
     }
 }
 
@@ -91,14 +94,20 @@ fn access_fault_for(code: u64) -> u64
     }
 }
 
-// What the hart's trap tells of the access.
-fn missing_place_of(virt: &Virtual, trap: &Trap) -> MissingPlace
+// What the hart's trap tells of the access. tval2 has no low two bits of the guest physical address (Privileged
+// Architecture 20211203, 8.2.8), so its offset in the page is tval's; an entry is at a multiple of 8.
+fn told_place(mode: Mode, trap: &Trap) -> MissingPlace
     requires small { trap.now.tval2 < 2 ^ (guest_bits - 2) }
-    ensures { result ≡ missing_place_of virt.now trap.now }
+    ensures { result ≡ told_place mode trap.now }
 {
     let access = access_of(trap.cause);
+    let address = trap.tval2 * 4;
     MissingPlace {
-        address: trap.tval2 * 4,
+        address: if trap.implicit {
+            address
+        } else {
+            address / 4096 * 4096 + trap.tval % 4096
+        },
         kind: if trap.implicit {
             Access::Implicit
         } else {
@@ -106,7 +115,7 @@ fn missing_place_of(virt: &Virtual, trap: &Trap) -> MissingPlace
         },
         access,
         va: trap.tval,
-        mode: virt.mode,
+        mode,
     }
 }
 

@@ -27,6 +27,7 @@ pub struct Guest {
     pub console: Console,
     pub steps: u64,
     pub status: Status,
+    pub device: bool,
 }
 
 impl Guest {

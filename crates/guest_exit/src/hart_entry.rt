@@ -47,7 +47,7 @@ pub fn enter(
 }
 
 // The frame of the root of the table under which the hart runs for the guest.
-fn root_frame_of(guest: &Guest) -> u64
+pub(crate) fn root_frame_of(guest: &Guest) -> u64
     ensures { result ≡ root_frame_for guest.now.part guest.now.pool guest.now.virt }
 {
     if folds(&guest.virt) {

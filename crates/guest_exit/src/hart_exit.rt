@@ -2,12 +2,11 @@
 
 ghost use Rattle.std.specs.Prelude.{◌≡◌, ◌≢◌, ◌↔◌};
 ghost use Rattle.arch_defs.specs.Registers.{a7, read};
-ghost use Rattle.arch_defs.specs.WalkedEntries.{folds};
 ghost use Rattle.machine_defs.specs.declared.events.Event.TheVariants.{System};
 ghost use Rattle.machine_defs.specs.Machine.{WaitsForGood, called, stepped_to, trapped};
 ghost use Rattle.machine_defs.specs.Tries.{try};
 ghost use Rattle.guest_exit.specs.ExitCases.{exit_of, try_at};
-ghost use Rattle.guest_exit.specs.HartExit.{CanGoOn, HasExited, IfInstruction, IfMissing, IsHandled, IsMadeOf, IsStopCall, IsTold, KeepsOutside, KeepsPart};
+ghost use Rattle.guest_exit.specs.HartExit.{CanGoOn, HasExited, IfInstruction, IsHandled, IsMadeOf, IsStopCall, IsTold, KeepsOutside, KeepsPart};
 ghost use Rattle.guest_exit.specs.Steps.{CanStep, IsMiss, IsNotPlain, IsQuiet, Makes};
 ghost use Rattle.guest_exit.specs.View.{KeepsSpaces, machine_of};
 
@@ -55,7 +54,6 @@ pub fn handle(guest: &mut Guest, memory: &mut PhysMem, trap: &Trap) -> Handled
 // Makes such a step, or fills what it lacks.
 fn make(guest: &mut Guest, memory: &mut PhysMem, left: Exit) -> Handled
     requires can { CanGoOn guest.old memory.old }
-    requires folds { IfMissing left (folds guest.old.virt) }
     requires op { IfInstruction left }
     ensures makes { IsMadeOf left result
         (machine_of guest.old memory.old) (machine_of guest.new memory.new) }
@@ -67,7 +65,6 @@ fn make(guest: &mut Guest, memory: &mut PhysMem, left: Exit) -> Handled
     match left {
         Exit::Instruction(op) => emulate(guest, memory, op),
         Exit::Missing(access) => miss(guest, memory, &access),
-        Exit::OutsideRam(fault) => raise(guest, &fault),
         Exit::Call => call(guest),
         Exit::Own(trap) => raise(guest, &trap),
     }

@@ -1,6 +1,7 @@
 // Between the host and the hart: steps of a guest on the hart, and what the hart leaves to the host.
 #![tactic(auto)]
 
+mod device_accesses;
 mod entry_limit;
 mod exit_cases;
 mod guests;

@@ -2,16 +2,15 @@
 
 ghost use Rattle.std.specs.Prelude.{◌≡◌, ◌≢◌, ◌&&◌, false, length, not, true};
 ghost use Rattle.arch_defs.specs.Frames.{LieIn, Only, in_blocks};
-ghost use Rattle.arch_defs.specs.Memory.{ram_base};
+ghost use Rattle.arch_defs.specs.Memory.{ram_memory};
 ghost use Rattle.arch_defs.specs.Ram.{ram_of};
 ghost use Rattle.arch_defs.specs.WalkedEntries.{folds};
 ghost use Rattle.machine_defs.specs.Runs.{left_by};
-ghost use Rattle.machine_defs.specs.Tries.{apply_outcome};
 ghost use Rattle.machine_laws.specs.StorableStates.{IsStorable};
 ghost use Rattle.rv64_asm.specs.Fitting.{fits};
 ghost use Rattle.hcsr_emulation.specs.Ends.{IfAccessRaised, IsCsrOrSret};
-ghost use Rattle.hlv_hsv.specs.Ends.{IsAccessed, IsHlvOp};
-ghost use Rattle.guest_exit.specs.ExitCases.{decided_end};
+ghost use Rattle.hlv_hsv.specs.Ends.{IsAccessed, IsHlvOp, hlv_state};
+ghost use Rattle.guest_exit.specs.ExitCases.{try_decided};
 ghost use Rattle.guest_exit.specs.HartExit.{CanGoOn, HoldsTables, IsDecidedOp, IsFenced, IsFinished, IsTold, IsWaitOrFence, KeepsOutside};
 ghost use Rattle.guest_exit.specs.Steps.{CanStep, IsNotPlain};
 ghost use Rattle.guest_exit.specs.View.{machine_of};
@@ -20,10 +19,10 @@ use crate::guests::{Guest, folds};
 use crate::hart_exit::{Handled, raise};
 use crate::wfi::wait;
 use arch_defs::{Fence, Key, Part, Virtual};
+use console_dev::Console;
 use hcsr_emulation::{Accessed, Emulated};
 use op_defs::Op;
 use phys_mem::{PhysMem, Ram};
-use two_stage_walk::ram_is_whole;
 
 /// Makes an instruction on which the mode decides, where it is allowed: an instruction on a register; an
 /// SRET, which may enter a guest of the guest; an HLV, HLVX or HSV, which makes its access to the guest's
@@ -33,9 +32,8 @@ pub fn emulate(guest: &mut Guest, memory: &mut PhysMem, op: Op) -> Handled
     requires can { CanGoOn guest.old memory.old }
     requires op { IsDecidedOp op }
     ensures step { machine_of guest.new memory.new ≡ left_by (machine_of guest.old memory.old)
-        (apply_outcome (machine_of guest.old memory.old) (decided_end (machine_of guest.old memory.old) op)) }
-    ensures quiet { IsNotPlain
-        (apply_outcome (machine_of guest.old memory.old) (decided_end (machine_of guest.old memory.old) op)) }
+        (try_decided (machine_of guest.old memory.old) op) }
+    ensures quiet { IsNotPlain (try_decided (machine_of guest.old memory.old) op) }
     ensures went { result ≢ Handled.Retry }
     ensures runs { result ≢ Handled.Stopped }
     ensures within { KeepsOutside guest.old memory.old guest.new memory.new }
@@ -59,9 +57,8 @@ fn access_registers(guest: &mut Guest, memory: &mut PhysMem, op: Op) -> Handled
     requires kind { IsCsrOrSret op }
     requires fits { fits op ≡ true }
     ensures step { machine_of guest.new memory.new ≡ left_by (machine_of guest.old memory.old)
-        (apply_outcome (machine_of guest.old memory.old) (decided_end (machine_of guest.old memory.old) op)) }
-    ensures quiet { IsNotPlain
-        (apply_outcome (machine_of guest.old memory.old) (decided_end (machine_of guest.old memory.old) op)) }
+        (try_decided (machine_of guest.old memory.old) op) }
+    ensures quiet { IsNotPlain (try_decided (machine_of guest.old memory.old) op) }
     ensures went { result ≡ Handled.Stepped }
     ensures within { KeepsOutside guest.old memory.old guest.new memory.new }
     ensures told { IsTold result guest.old guest.new }
@@ -78,9 +75,8 @@ fn wait_or_fence(guest: &mut Guest, memory: &mut PhysMem, op: Op) -> Handled
     requires can { CanGoOn guest.old memory.old }
     requires kind { IsWaitOrFence op }
     ensures step { machine_of guest.new memory.new ≡ left_by (machine_of guest.old memory.old)
-        (apply_outcome (machine_of guest.old memory.old) (decided_end (machine_of guest.old memory.old) op)) }
-    ensures quiet { IsNotPlain
-        (apply_outcome (machine_of guest.old memory.old) (decided_end (machine_of guest.old memory.old) op)) }
+        (try_decided (machine_of guest.old memory.old) op) }
+    ensures quiet { IsNotPlain (try_decided (machine_of guest.old memory.old) op) }
     ensures went { result ≢ Handled.Retry }
     ensures runs { result ≢ Handled.Stopped }
     ensures within { KeepsOutside guest.old memory.old guest.new memory.new }
@@ -156,14 +152,14 @@ fn access_ram(guest: &mut Guest, memory: &mut PhysMem, op: Op) -> Handled
     requires can { CanGoOn guest.old memory.old }
     requires op { IsHlvOp op }
     ensures step { machine_of guest.new memory.new ≡ left_by (machine_of guest.old memory.old)
-        (apply_outcome (machine_of guest.old memory.old) (decided_end (machine_of guest.old memory.old) op)) }
-    ensures quiet { IsNotPlain
-        (apply_outcome (machine_of guest.old memory.old) (decided_end (machine_of guest.old memory.old) op)) }
+        (try_decided (machine_of guest.old memory.old) op) }
+    ensures quiet { IsNotPlain (try_decided (machine_of guest.old memory.old) op) }
     ensures went { result ≡ Handled.Stepped }
     ensures within { KeepsOutside guest.old memory.old guest.new memory.new }
     ensures told { IsTold result guest.old guest.new }
 {
-    match access_in(memory, &guest.part, &mut guest.virt, op) {
+    let (device, console) = (guest.device, &mut guest.console);
+    match access_in(memory, &guest.part, &mut guest.virt, op, device, console) {
         Accessed::Done => {
             guest.tick();
             Handled::Stepped
@@ -172,16 +168,24 @@ fn access_ram(guest: &mut Guest, memory: &mut PhysMem, op: Op) -> Handled
     }
 }
 
-// The access, in the RAM of a part of machine memory.
-fn access_in(memory: &mut PhysMem, part: &Part, virt: &mut Virtual, op: Op) -> Accessed
+// The access, in the RAM of a part of machine memory, or on the device page of a guest that has it.
+fn access_in(
+    memory: &mut PhysMem,
+    part: &Part,
+    virt: &mut Virtual,
+    op: Op,
+    device: bool,
+    console: &mut Console,
+) -> Accessed
     requires lies { LieIn (in_blocks part.now.blocks) (length memory.old) }
     requires op { IsHlvOp op }
-    ensures ends { IsAccessed op ram_base (ram_of part.now.blocks memory.old) virt.old
-        result virt.new (ram_of part.now.blocks memory.new) }
-    ensures stays { IfAccessRaised result ((virt.new ≡ virt.old) × (memory.new ≡ memory.old)) }
+    ensures ends { IsAccessed op device
+        (hlv_state virt.old (ram_memory (ram_of part.now.blocks memory.old)) console.old) result
+        (hlv_state virt.new (ram_memory (ram_of part.now.blocks memory.new)) console.new) }
+    ensures stays { IfAccessRaised result
+        ((virt.new ≡ virt.old) × (console.new ≡ console.old) × (memory.new ≡ memory.old)) }
     ensures only { Only (in_blocks part.now.blocks) memory.old memory.new }
 {
     let mut ram = Ram::new(memory, part);
-    ram_is_whole(&ram);
-    hlv_hsv::access(&mut ram, virt, op)
+    hlv_hsv::access(&mut ram, virt, op, device, console)
 }

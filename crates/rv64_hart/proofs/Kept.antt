@@ -2,7 +2,7 @@
 use Rattle.std.proofs.Common.{◌≡◌, ◌/◌, ℕ, List, Bool, true, false, refl}
 use Rattle.arch_defs.specs.declared.registers.Virtual.{Virtual}
 use Rattle.arch_defs.specs.declared.widths.Width.{Width}
-use Rattle.arch_defs.specs.Memory.{Reading, reading_of, with_stored}
+use Rattle.arch_defs.specs.Memory.{Reading, machine_memory, reading_of, with_stored}
 use Rattle.op_defs.specs.declared.ops.Purpose.{Purpose}
 use Rattle.op_defs.specs.declared.ops.Purpose.TheVariants.{Load, LoadCode, Store, Reserve, StoreReserved, Modify}
 use Rattle.machine_defs.specs.Core.{completed, is_reserved, stored_if}
@@ -37,10 +37,10 @@ quiet_kept false old new keeps none = tt
 
 -- at a place in no frame that was read
 pub serves_after : (buffer : Buffer) (state new : Virtual) (memory other : List ℕ) (width : Width) (purpose : Purpose) (place : ℕ)
-    → Serves buffer state.csrs state.mode memory → has_frame buffer.read (place / 4096) ≡ false → IsPlaceFor 0 memory width place
-    → new ≡ (completed (reading_of 0 memory) state width purpose place).state
-    → other ≡ with_stored 0 (completed (reading_of 0 memory) state width purpose place).stored memory
+    → Serves buffer state.csrs state.mode memory → has_frame buffer.read (place / 4096) ≡ false → IsPlaceFor (machine_memory memory) width place
+    → new ≡ (completed (reading_of (machine_memory memory)) state width purpose place).state
+    → other ≡ with_stored 0 (completed (reading_of (machine_memory memory)) state width purpose place).stored memory
     → Serves buffer new.csrs new.mode other
 serves_after buffer state new memory other width purpose place serves free is s b =
-    let (csrs, mode) = keeps_completed (reading_of 0 memory) state width purpose place in
-    rw (s, b, csrs, mode) (serves_completed buffer state.csrs state.mode memory (reading_of 0 memory) state width purpose place serves free is.aligned is.to)
+    let (csrs, mode) = keeps_completed (reading_of (machine_memory memory)) state width purpose place in
+    rw (s, b, csrs, mode) (serves_completed buffer state.csrs state.mode memory (reading_of (machine_memory memory)) state width purpose place serves free is.aligned is.to)

@@ -5,6 +5,7 @@ use Rattle.arch_defs.specs.declared.modes.Trap.{Trap}
 use Rattle.arch_defs.specs.declared.registers.Csrs.{Csrs}
 use Rattle.arch_defs.specs.declared.registers.Virtual.{Virtual}
 use Rattle.arch_defs.specs.Interrupts.{due}
+use Rattle.op_defs.specs.declared.ops.DataAccess.{DataAccess}
 use Rattle.machine_defs.specs.declared.events.Event.{Event}
 use Rattle.machine_defs.specs.declared.events.Event.TheVariants as event
 use Rattle.machine_defs.specs.Core.{Located, At, at_place}
@@ -16,12 +17,13 @@ use Rattle.rv64_hart.specs.declared.endings.StepEnd.{StepEnd}
 use Rattle.rv64_hart.specs.declared.endings.StepEnd.TheVariants.{Continues, Ends, Left}
 use Rattle.rv64_hart.specs.Steps.{Attempt, Makes, Raises, attempt_of, Progress, enters_vs}
 
--- where an access is made, by the answer; where it is not, whatever is to follow there, the trap that it is
--- to the hart
+-- where an access is made, by the answer; where it is not, the trap that it is to the hart, whatever it is
+-- for and is to follow there
 abbrev pub IsAnswered : Csrs → List ℕ → Located → Trap → Option ℕ → Type 0
 IsAnswered csrs memory located trap (Some place) = located ≡ At place
 IsAnswered csrs memory located trap None =
-    (mode : Mode) (rest : ℕ → Outcome) → attempt_of csrs mode memory (at_place located rest) ≡ Raises trap
+    (mode : Mode) (wanted : Option DataAccess) (rest : ℕ → Outcome)
+    → attempt_of csrs mode memory (at_place wanted located rest) ≡ Raises trap
 
 -- what a step asks for, by how its instruction ended, the trap that is told apart, the event that the step is
 -- where the instruction is a plain one, and the state and memory after it

@@ -9,7 +9,7 @@ use Rattle.arch_defs.specs.declared.modes.TheConstants.{ECALL_FROM_HS, ILLEGAL_I
 use Rattle.arch_defs.specs.declared.registers.Csrs.{Csrs}
 use Rattle.arch_defs.specs.declared.registers.Virtual.{Virtual}
 use Rattle.arch_defs.specs.Interrupts.{due, interrupt_of}
-use Rattle.arch_defs.specs.Memory.{with_stored}
+use Rattle.arch_defs.specs.Memory.{machine_memory, with_stored}
 use Rattle.arch_defs.specs.SecondStage.{missing_place_trap}
 use Rattle.arch_defs.specs.Traps.{entered_at, exception, target}
 use Rattle.machine_defs.specs.declared.events.Event.{Event}
@@ -19,7 +19,7 @@ use Rattle.machine_defs.specs.Outcomes.{Outcome, Done, Trapped, Missed, Called, 
 use Rattle.machine_defs.specs.Runs.{pc_and_word}
 use Rattle.rv64_hart.specs.declared.harts.Why.{Why}
 use Rattle.rv64_hart.specs.declared.harts.Why.TheVariants.{Limit, Exit, VsTrap}
-use Rattle.rv64_hart.specs.MachineMemory.{reading_of_memory, second_of_memory}
+use Rattle.rv64_hart.specs.MachineMemory.{mmu_of_memory}
 
 -- what a step asks for, before it is known where its trap goes: the state, the memory and what the step was,
 -- or a trap
@@ -33,7 +33,8 @@ pub data Attempt : Type 0 where
 abbrev pub attempt_of : Csrs → Mode → List ℕ → Outcome → Attempt
 attempt_of csrs mode memory (Done state stored event) = Makes state (with_stored 0 stored memory) event
 attempt_of csrs mode memory (Trapped trap) = Raises trap
-attempt_of csrs mode memory (Missed missing) = Raises (missing_place_trap csrs 0 memory missing)
+attempt_of csrs mode memory (Missed missing wanted) =
+    Raises (missing_place_trap csrs (machine_memory memory) missing)
 attempt_of csrs mode memory Called = Raises (exception mode ECALL_FROM_HS 0)
 attempt_of csrs mode memory (Waits state) = Makes state memory event.System
 attempt_of csrs mode memory (Fenced state fence) = Makes state memory event.System
@@ -43,8 +44,7 @@ attempt_of csrs mode memory (Accesses wanted) = Raises (exception mode ILLEGAL_I
 abbrev pub next_attempt : Virtual → List ℕ → Option ℕ → Attempt
 next_attempt state memory (Some code) = Raises (interrupt_of code)
 next_attempt state memory None =
-    attempt_of state.csrs state.mode memory
-    (core (second_of_memory state memory) (reading_of_memory memory) state)
+    attempt_of state.csrs state.mode memory (core (mmu_of_memory state memory) state)
 
 -- how a step of the hart ends: the state, the memory and what the step was, or a trap to HS, before which
 -- nothing changes

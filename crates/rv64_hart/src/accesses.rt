@@ -1,25 +1,25 @@
 // The accesses of an instruction of the hart: where each is made, and those to data.
 
 ghost use Rattle.std.specs.Prelude.{◌≡◌, IfSome};
+ghost use Rattle.arch_defs.specs.Memory.{machine_memory};
 ghost use Rattle.op_defs.specs.declared.ops.Purpose.TheVariants.{Load, Store};
 ghost use Rattle.machine_defs.specs.declared.events.Event.{Event};
 ghost use Rattle.machine_defs.specs.Core.{At, accessed_data, word_at};
 ghost use Rattle.data_access.specs.Places.{IsPlaceFor};
 ghost use Rattle.translation_buffer.specs.Serving.{Serves};
 ghost use Rattle.rv64_hart.specs.Endings.{IfPlain, IfRaised, IsAnswered, KeepsContext, attempt_by};
-ghost use Rattle.rv64_hart.specs.MachineMemory.{access_over, reading_of_memory, second_of_memory};
+ghost use Rattle.rv64_hart.specs.MachineMemory.{access_over, mmu_of_memory, reading_of_memory};
 ghost use Rattle.rv64_hart.specs.Steps.{attempt_of};
 
 use crate::endings::Ended;
 use arch_defs::{Access, Reg, Trap, Virtual, Width};
 use data_access::{DataAccess, complete, is_aligned, kind_of, load, place_for, store};
-use phys_mem::PhysMem;
+use phys_mem::{Mem, PhysMem};
 use translation_buffer::Buffer;
-use two_stage_walk::memory_is_whole;
 
 /// The instruction word at a place.
 pub fn word_at(memory: &PhysMem, place: u64) -> u32
-    requires { IsPlaceFor 0 memory.now Width.Word place }
+    requires { IsPlaceFor (machine_memory memory.now) Width.Word place }
     ensures { result ≡ word_at (reading_of_memory memory.now) place }
 {
     memory.load_word(place)
@@ -40,7 +40,7 @@ pub fn access_place(
     requires serves { Serves buffer.old state.now.csrs state.now.mode memory.now }
     ensures located { IsAnswered state.now.csrs memory.now
         (access_over memory.now state.now va width access) trap.new result }
-    ensures place { IfSome result (λ place. IsPlaceFor 0 memory.now width place) }
+    ensures place { IfSome result (λ place. IsPlaceFor (machine_memory memory.now) width place) }
     ensures serves { Serves buffer.new state.now.csrs state.now.mode memory.now }
 {
     match kept_place(state, memory, buffer, va, width, access) {
@@ -63,10 +63,10 @@ fn kept_place(
     requires serves { Serves buffer.old state.now.csrs state.now.mode memory.now }
     ensures located { IfSome result
         (λ place. access_over memory.now state.now va width access ≡ At place) }
-    ensures place { IfSome result (λ place. IsPlaceFor 0 memory.now width place) }
+    ensures place { IfSome result (λ place. IsPlaceFor (machine_memory memory.now) width place) }
     ensures serves { Serves buffer.new state.now.csrs state.now.mode memory.now }
 {
-    memory_is_whole(memory);
+    memory.is_whole();
     if !is_aligned(va, width) {
         return None;
     }
@@ -90,9 +90,8 @@ fn place_or_raise(
 ) -> Option<u64>
     ensures located { IsAnswered state.now.csrs memory.now
         (access_over memory.now state.now va width access) trap.new result }
-    ensures place { IfSome result (λ place. IsPlaceFor 0 memory.now width place) }
+    ensures place { IfSome result (λ place. IsPlaceFor (machine_memory memory.now) width place) }
 {
-    memory_is_whole(memory);
     match place_for(memory, &state.csrs, state.mode, va, width, access) {
         Ok(place) => Some(place),
         Err(raised) => {
@@ -113,8 +112,7 @@ pub fn access_data(
 ) -> Ended
     requires serves { Serves buffer.old state.old.csrs state.old.mode memory.old }
     ensures ends { (event : Event) → attempt_of state.old.csrs state.old.mode memory.old
-        (accessed_data (second_of_memory state.old memory.old) (reading_of_memory memory.old)
-        state.old event wanted)
+        (accessed_data (mmu_of_memory state.old memory.old) state.old event wanted)
         ≡ attempt_by result trap.new event state.new memory.new }
     ensures stays { IfRaised result ((state.new ≡ state.old) × (memory.new ≡ memory.old)) }
     ensures serves { Serves buffer.new state.new.csrs state.new.mode memory.new }
@@ -153,8 +151,8 @@ pub fn load_data(
 ) -> Ended
     requires serves { Serves buffer.old state.old.csrs state.old.mode memory.now }
     ensures ends { (event : Event) → attempt_of state.old.csrs state.old.mode memory.now
-        (accessed_data (second_of_memory state.old memory.now) (reading_of_memory memory.now)
-        state.old event (record { address = address; width = width; purpose = Load signed rd }))
+        (accessed_data (mmu_of_memory state.old memory.now) state.old event
+        (record { address = address; width = width; purpose = Load signed rd }))
         ≡ attempt_by result trap.new event state.new memory.now }
     ensures stays { IfRaised result (state.new ≡ state.old) }
     ensures serves { Serves buffer.new state.new.csrs state.new.mode memory.now }
@@ -182,8 +180,8 @@ pub fn store_data(
 ) -> Ended
     requires serves { Serves buffer.old state.old.csrs state.old.mode memory.old }
     ensures ends { (event : Event) → attempt_of state.old.csrs state.old.mode memory.old
-        (accessed_data (second_of_memory state.old memory.old) (reading_of_memory memory.old)
-        state.old event (record { address = address; width = width; purpose = Store value }))
+        (accessed_data (mmu_of_memory state.old memory.old) state.old event
+        (record { address = address; width = width; purpose = Store value }))
         ≡ attempt_by result trap.new event state.new memory.new }
     ensures stays { IfRaised result ((state.new ≡ state.old) × (memory.new ≡ memory.old)) }
     ensures serves { Serves buffer.new state.new.csrs state.new.mode memory.new }

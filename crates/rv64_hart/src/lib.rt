@@ -8,8 +8,10 @@ mod harts;
 mod laws;
 mod steps;
 mod tallies;
+mod wanted_accesses;
 
 pub use harts::{Hart, Stop, Why};
 pub use laws::guest_page_faults_exit;
 pub use phys_mem::PhysMem;
 pub use tallies::Tally;
+pub use wanted_accesses::wanted_at;

@@ -14,7 +14,7 @@ ghost use Rattle.machine_defs.specs.Privileges.{privileged};
 ghost use Rattle.translation_buffer.specs.Serving.{Serves};
 ghost use Rattle.rv64_hart.specs.Counts.{OnlyTrace};
 ghost use Rattle.rv64_hart.specs.Endings.{IfLeft, IfPlain, IfRaised, NoneDueIfQuiet, KeepsContext, attempt_by, counted_of, told_by, told_of};
-ghost use Rattle.rv64_hart.specs.MachineMemory.{reading_of_memory, second_of_memory};
+ghost use Rattle.rv64_hart.specs.MachineMemory.{mmu_of_memory};
 ghost use Rattle.rv64_hart.specs.Steps.{Exits, Raises, attempt_of, hart_step, next_attempt, one_more_step, progress, progressed, trapped_to};
 
 use crate::accesses::{access_data, access_place, load_data, store_data, word_at};
@@ -176,7 +176,7 @@ fn instruction(
     requires serves { Serves buffer.old state.old.csrs state.old.mode memory.old }
     ensures told { told_of tally.old.trace
         (attempt_of state.old.csrs state.old.mode memory.old
-        (core (second_of_memory state.old memory.old) (reading_of_memory memory.old) state.old))
+        (core (mmu_of_memory state.old memory.old) state.old))
         ≡ told_by result trap.new state.new memory.new tally.new.trace }
     ensures stays { IfRaised result
         ((state.new ≡ state.old) × (memory.new ≡ memory.old) × (tally.new ≡ tally.old)) }
@@ -205,7 +205,7 @@ fn counted(
     requires serves { Serves buffer.old state.old.csrs state.old.mode memory.old }
     ensures told { told_of tally.old.trace
         (attempt_of state.old.csrs state.old.mode memory.old
-        (instruction (second_of_memory state.old memory.old) (reading_of_memory memory.old) state.old word))
+        (instruction (mmu_of_memory state.old memory.old) state.old word))
         ≡ told_by result trap.new state.new memory.new tally.new.trace }
     ensures stays { IfRaised result
         ((state.new ≡ state.old) × (memory.new ≡ memory.old) × (tally.new ≡ tally.old)) }
@@ -248,7 +248,7 @@ fn decoded(
 ) -> Ended
     requires serves { Serves buffer.old state.old.csrs state.old.mode memory.old }
     ensures ends { attempt_of state.old.csrs state.old.mode memory.old
-        (instruction (second_of_memory state.old memory.old) (reading_of_memory memory.old) state.old word)
+        (instruction (mmu_of_memory state.old memory.old) state.old word)
         ≡ attempt_by result trap.new (event_of state.old.regs.pc word) state.new memory.new }
     ensures stays { IfRaised result ((state.new ≡ state.old) × (memory.new ≡ memory.old)) }
     ensures serves { Serves buffer.new state.new.csrs state.new.mode memory.new }
@@ -274,8 +274,7 @@ fn made(
     requires op { op_of word ≡ Some op.now }
     requires serves { Serves buffer.old state.old.csrs state.old.mode memory.old }
     ensures ends { attempt_of state.old.csrs state.old.mode memory.old
-        (executed (second_of_memory state.old memory.old) (reading_of_memory memory.old)
-        state.old word (meaning op.now state.old.regs))
+        (executed (mmu_of_memory state.old memory.old) state.old word (meaning op.now state.old.regs))
         ≡ attempt_by result trap.new (event_of state.old.regs.pc word) state.new memory.new }
     ensures stays { IfRaised result ((state.new ≡ state.old) × (memory.new ≡ memory.old)) }
     ensures serves { Serves buffer.new state.new.csrs state.new.mode memory.new }
@@ -369,8 +368,7 @@ fn sets(state: &mut Virtual, rd: Reg, value: u64) -> Ended
 #[inline(always)]
 fn jump(state: &mut Virtual, rd: Reg, to: u64, trap: &mut Trap) -> Ended
     ensures ends { (memory : List ℕ) (word : ℕ) → attempt_of state.old.csrs state.old.mode memory
-        (executed (second_of_memory state.old memory) (reading_of_memory memory) state.old word
-        (jump rd (next state.old.regs) to))
+        (executed (mmu_of_memory state.old memory) state.old word (jump rd (next state.old.regs) to))
         ≡ attempt_by result trap.new (event_of state.old.regs.pc word) state.new memory }
     ensures stays { IfRaised result (state.new ≡ state.old) }
     ensures keeps { KeepsContext state.old state.new }
@@ -388,8 +386,7 @@ fn jump(state: &mut Virtual, rd: Reg, to: u64, trap: &mut Trap) -> Ended
 #[inline(always)]
 fn branch(state: &mut Virtual, taken: bool, to: u64, trap: &mut Trap) -> Ended
     ensures ends { (memory : List ℕ) (word : ℕ) → attempt_of state.old.csrs state.old.mode memory
-        (executed (second_of_memory state.old memory) (reading_of_memory memory) state.old word
-        (branch taken (next state.old.regs) to))
+        (executed (mmu_of_memory state.old memory) state.old word (branch taken (next state.old.regs) to))
         ≡ attempt_by result trap.new (event_of state.old.regs.pc word) state.new memory }
     ensures stays { IfRaised result (state.new ≡ state.old) }
     ensures keeps { KeepsContext state.old state.new }
@@ -416,7 +413,7 @@ fn rare(
 ) -> Ended
     requires serves { Serves buffer.old state.old.csrs state.old.mode memory.old }
     ensures ends { attempt_of state.old.csrs state.old.mode memory.old
-        (instruction (second_of_memory state.old memory.old) (reading_of_memory memory.old) state.old word)
+        (instruction (mmu_of_memory state.old memory.old) state.old word)
         ≡ attempt_by result trap.new (event_of state.old.regs.pc word) state.new memory.new }
     ensures stays { IfRaised result ((state.new ≡ state.old) × (memory.new ≡ memory.old)) }
     ensures serves { Serves buffer.new state.new.csrs state.new.mode memory.new }
@@ -442,8 +439,7 @@ fn apply(
 ) -> Ended
     requires serves { Serves buffer.old state.old.csrs state.old.mode memory.old }
     ensures ends { attempt_of state.old.csrs state.old.mode memory.old
-        (executed (second_of_memory state.old memory.old) (reading_of_memory memory.old)
-        state.old word effect)
+        (executed (mmu_of_memory state.old memory.old) state.old word effect)
         ≡ attempt_by result trap.new (event_of state.old.regs.pc word) state.new memory.new }
     ensures stays { IfRaised result ((state.new ≡ state.old) × (memory.new ≡ memory.old)) }
     ensures serves { Serves buffer.new state.new.csrs state.new.mode memory.new }

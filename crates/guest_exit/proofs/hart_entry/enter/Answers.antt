@@ -30,7 +30,7 @@ returns-clause-run c =
     record {
       ready = is.need;
       steps =
-          machine_as c.args.guest.now c.take_steps.new.self c.args.memory.now c.run-stop.new.memory _ _ _ fixed.part (hart.saves is.own is.held is.state) refl
+          machine_as c.args.guest.now c.take_steps.new.self c.args.memory.now c.run-stop.new.memory _ _ _ fixed.part fixed.device (hart.saves is.own is.held is.state) refl
           (ap spaces_of fixed.pool) (ap room_of fixed.pool) (ap (λ (pool : Pooled). pool.most) fixed.pool) ∙ sym is.machine;
     }
 

@@ -1,11 +1,8 @@
 use Rattle.guest_exit.specs.View.{machine_of}
 use Rattle.guest_exit.proofs.Alone.{part_kept, retries_exactly}
 use Rattle.guest_exit.proofs.Entries.{left}
-use Rattle.guest_exit.proofs.ExitCases.{exit_decided, handled_by, handled_waits, missing_folds}
+use Rattle.guest_exit.proofs.ExitCases.{exit_decided, handled_by, handled_waits}
 use Rattle.guest_exit.proofs.hart_exit.handle.Goals as goal
-
-pub make-requires-clause-folds : goal.make-requires-clause-folds
-make-requires-clause-folds c = rw c.exit_of-left.ensures (missing_folds c.args.guest.now.virt c.args.trap.now)
 
 pub make-requires-clause-op : goal.make-requires-clause-op
 make-requires-clause-op c = rw c.exit_of-left.ensures (exit_decided c.args.guest.now.virt c.args.trap.now)

@@ -12,7 +12,7 @@ returns-then-is_hosts-clause-takes c = λ yes.
     record {
       step = λ memory. record {
         ready = (is memory).0;
-        step = rw (is memory).1 (machine_is c.args.guest.now c.tick.new.self _ memory (record { part = c.tick.ensures.keeps.part; pool = c.tick.ensures.keeps.pool })
+        step = rw (is memory).1 (machine_is c.args.guest.now c.tick.new.self _ memory (record { part = c.tick.ensures.keeps.part; device = c.tick.ensures.keeps.device; pool = c.tick.ensures.keeps.pool })
             (rw (c.take.ensures, c.of_interrupt.ensures) at c.tick.ensures.platform));
       };
       quiet = λ memory. record { trace = rw (is memory).1 refl; plain = rw (is memory).1 refl };
@@ -23,5 +23,5 @@ returns-then-is_hosts-clause-takes c = λ yes.
 
 pub returns-then-is_hosts-clause-placed : goal.returns-then-is_hosts-clause-placed
 returns-then-is_hosts-clause-placed c = λ memory placed.
-    placed_by_step c.args.guest.now c.tick.new.self memory memory placed (stays_by _ _ (record { part = c.tick.ensures.keeps.part; pool = c.tick.ensures.keeps.pool }))
+    placed_by_step c.args.guest.now c.tick.new.self memory memory placed (stays_by _ _ (record { part = c.tick.ensures.keeps.part; device = c.tick.ensures.keeps.device; pool = c.tick.ensures.keeps.pool }))
     (only_none _ memory) (rw c.tick.ensures.keeps.pool placed.tidy) ((returns-then-is_hosts-clause-takes c refl).step memory)

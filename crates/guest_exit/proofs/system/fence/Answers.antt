@@ -7,4 +7,4 @@ returns-clause-step c = λ before.
     let guest = c.args.guest.now in
     let pool = c.tick.ensures.keeps.pool in
     fence_made (with_state guest before) c.tick.new.self c.args.memory.now c.fence.new.mem guest.virt c.args.named (holds_with guest before c.args.memory.now c.requires.holds)
-    c.tick.ensures.keeps.part (rw pool c.fence.ensures.keeps) c.tick.ensures.platform (rw pool c.fence.ensures.spaces)
+    c.tick.ensures.keeps.part c.tick.ensures.keeps.device (rw pool c.fence.ensures.keeps) c.tick.ensures.platform (rw pool c.fence.ensures.spaces)

@@ -1,8 +1,7 @@
 use Rattle.std.proofs.Common.{ap, sym}
-use Rattle.arch_defs.specs.Memory.{ram_base, reading_of}
 use Rattle.machine_defs.specs.Machine.{Platform}
 use Rattle.arch_defs.specs.Registers.{passed}
-use Rattle.machine_defs.specs.Tries.{second_of}
+use Rattle.machine_defs.specs.Tries.{mmu_of}
 use Rattle.rv64_asm.specs.Words.{encoded}
 use Rattle.guest_exit.specs.View.{machine_of}
 use Rattle.guest_exit.proofs.Alone.{wait_made, waited_is_quiet}
@@ -18,39 +17,39 @@ emulate-requires-clause-fits c = (wait_is_op c.args.op c.requires.kind).fits
 pub unreachable-requires : goal.unreachable-requires
 unreachable-requires c =
     let m = machine_of c.args.guest.now c.args.memory.now in
-    accesses_never c.args.op m.platform.virt (encoded c.args.op) (second_of m) (reading_of ram_base m.ram) _ c.requires.kind
-    (c.in-Accesses.ensures.ends (second_of m) (reading_of ram_base m.ram))
+    accesses_never c.args.op m.platform.virt (encoded c.args.op) (mmu_of m) _ c.requires.kind
+    (c.in-Accesses.ensures.ends (mmu_of m))
 
 pub returns-in-Waits-clause-quiet : goal.returns-in-Waits-clause-quiet
 returns-in-Waits-clause-quiet c =
     let m = machine_of c.args.guest.now c.args.memory.now in
-    rw (c.in-Waits.ensures.ends (second_of m) (reading_of ram_base m.ram)) (waited_is_quiet m c.emulate.new.state)
+    rw (c.in-Waits.ensures.ends (mmu_of m)) (waited_is_quiet m c.emulate.new.state)
 
 pub wait-requires-clause-current : goal.wait-requires-clause-current
 wait-requires-clause-current c =
     let m = machine_of c.args.guest.now c.args.memory.now in
-    rw (wait_passes c.args.op m.platform.virt c.emulate.new.state (encoded c.args.op) (second_of m) (reading_of ram_base m.ram) c.requires.kind
-    (c.in-Waits.ensures.ends (second_of m) (reading_of ram_base m.ram)))
+    rw (wait_passes c.args.op m.platform.virt c.emulate.new.state (encoded c.args.op) (mmu_of m) c.requires.kind
+    (c.in-Waits.ensures.ends (mmu_of m)))
     (ap (λ (p : Platform). record p { virt = passed p.virt }) c.requires.can.current)
 
 pub returns-in-Waits-clause-step : goal.returns-in-Waits-clause-step
 returns-in-Waits-clause-step c =
     let m = machine_of c.args.guest.now c.args.memory.now in
-    let ends = c.in-Waits.ensures.ends (second_of m) (reading_of ram_base m.ram) in
+    let ends = c.in-Waits.ensures.ends (mmu_of m) in
     wait_made c.args.guest.now c.wait.new.guest c.emulate.new.state c.args.memory.now _
-    (wait_passes c.args.op m.platform.virt c.emulate.new.state (encoded c.args.op) (second_of m) (reading_of ram_base m.ram) c.requires.kind ends) ends c.wait.ensures.step
+    (wait_passes c.args.op m.platform.virt c.emulate.new.state (encoded c.args.op) (mmu_of m) c.requires.kind ends) ends c.wait.ensures.step
 
 pub finish-requires-clause-storable : goal.finish-requires-clause-storable
 finish-requires-clause-storable c =
     let m = machine_of c.args.guest.now c.args.memory.now in
-    done_storable m c.args.op c.emulate.new.state (wait_is_op c.args.op c.requires.kind).decided c.requires.can.placed.storable (c.in-Done.ensures.ends (second_of m) (reading_of ram_base m.ram))
+    done_storable m c.args.op c.emulate.new.state (wait_is_op c.args.op c.requires.kind).decided c.requires.can.placed.storable (c.in-Done.ensures.ends (mmu_of m))
 
 pub returns-in-Done-clause-step : goal.returns-in-Done-clause-step
 returns-in-Done-clause-step c =
     let m = machine_of c.args.guest.now c.args.memory.now in
-    rw (c.in-Done.ensures.ends (second_of m) (reading_of ram_base m.ram)) (c.finish.ensures.step c.args.guest.now.virt (sym c.is_virtual-nested.ensures))
+    rw (c.in-Done.ensures.ends (mmu_of m)) (c.finish.ensures.step c.args.guest.now.virt (sym c.is_virtual-nested.ensures))
 
 pub returns-in-Fenced-clause-step : goal.returns-in-Fenced-clause-step
 returns-in-Fenced-clause-step c =
     let m = machine_of c.args.guest.now c.args.memory.now in
-    rw (c.in-Fenced.ensures.ends (second_of m) (reading_of ram_base m.ram)) (c.fence.ensures.step c.args.guest.now.virt)
+    rw (c.in-Fenced.ensures.ends (mmu_of m)) (c.fence.ensures.step c.args.guest.now.virt)

@@ -1,4 +1,4 @@
-use Rattle.arch_defs.specs.Memory.{reading_of}
+use Rattle.arch_defs.specs.Memory.{machine_memory, reading_of}
 use Rattle.rv64_hart.proofs.Kept.{keeps_after, serves_after}
 use Rattle.rv64_hart.proofs.accesses.access_data.Goals as goal
 
@@ -10,4 +10,4 @@ returns-in-Some-clause-serves c =
 
 pub returns-in-Some-clause-plain : goal.returns-in-Some-clause-plain
 returns-in-Some-clause-plain c =
-    keeps_after (reading_of 0 c.args.memory.now) c.args.state.now c.complete.new.state c.args.wanted.width c.args.wanted.purpose c.in-Some.at c.complete.ensures.state
+    keeps_after (reading_of (machine_memory c.args.memory.now)) c.args.state.now c.complete.new.state c.args.wanted.width c.args.wanted.purpose c.in-Some.at c.complete.ensures.state

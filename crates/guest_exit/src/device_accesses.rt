@@ -1,0 +1,81 @@
+// Loads and stores of the device page by a guest, each of which is one step.
+
+ghost use Rattle.std.specs.Prelude.{◌≡◌};
+ghost use Rattle.arch_defs.specs.SecondStage.{is_implicit};
+ghost use Rattle.machine_defs.specs.DeviceSteps.{device_step, on_device};
+ghost use Rattle.guest_exit.specs.ExitCases.{data_wanted};
+ghost use Rattle.guest_exit.specs.HartExit.{CanGoOn, IsTold};
+ghost use Rattle.guest_exit.specs.Steps.{CanStep, Makes};
+ghost use Rattle.guest_exit.specs.View.{KeepsSpaces, machine_of};
+
+use crate::guests::Guest;
+use crate::hart_entry::root_frame_of;
+use crate::hart_exit::{Handled, raise};
+use arch_defs::{Access, MissingPlace};
+use op_defs::DataAccess;
+use phys_mem::PhysMem;
+use rv64_hart::wanted_at;
+use world_switch::load;
+
+/// Makes the access of the guest's next instruction to the device page. The read of an entry there, and an
+/// access that the page does not serve, are access faults.
+pub(crate) fn access_device(guest: &mut Guest, memory: &PhysMem, missing: &MissingPlace) -> Handled
+    requires can { CanGoOn guest.old memory.now }
+    ensures step { Makes guest.old guest.new
+        (λ m. on_device m missing.now (data_wanted (machine_of guest.old memory.now))) }
+    ensures told { IsTold result guest.old guest.new }
+    ensures went { result ≡ Handled.Stepped }
+    ensures keeps { KeepsSpaces guest.old guest.new }
+{
+    if is_implicit(missing.kind) {
+        return raise(guest, &missing.access_fault());
+    }
+    match wanted(guest, memory) {
+        Some(wanted) => serve(guest, missing, &wanted),
+        None => raise(guest, &missing.access_fault()),
+    }
+}
+
+// Whether an access is the implicit read of a first-stage entry.
+fn is_implicit(kind: Access) -> bool
+    ensures { result ≡ is_implicit kind }
+{
+    matches!(kind, Access::Implicit)
+}
+
+// The access to data that the guest's next instruction wants: what the hart, loaded for the guest, fetches.
+fn wanted(guest: &Guest, memory: &PhysMem) -> Option<DataAccess>
+    requires can { CanGoOn guest.now memory.now }
+    ensures { result ≡ data_wanted (machine_of guest.now memory.now) }
+{
+    let mut hart = guest.virt;
+    load(&guest.virt, &guest.part, root_frame_of(guest), &mut hart);
+    wanted_at(&hart, memory)
+}
+
+// An access to data on the page.
+fn serve(guest: &mut Guest, missing: &MissingPlace, wanted: &DataAccess) -> Handled
+    requires can { CanStep guest.old }
+    ensures step { Makes guest.old guest.new
+        (λ m. device_step m missing.now wanted.now.width wanted.now.purpose) }
+    ensures told { IsTold result guest.old guest.new }
+    ensures went { result ≡ Handled.Stepped }
+    ensures keeps { KeepsSpaces guest.old guest.new }
+{
+    let clock = guest.clock.now();
+    let offset = missing.address % 4096;
+    let (width, purpose) = (wanted.width, wanted.purpose);
+    if device_page::serve(
+        &mut guest.virt,
+        &mut guest.console,
+        clock,
+        offset,
+        width,
+        purpose,
+    ) {
+        guest.tick();
+        Handled::Stepped
+    } else {
+        raise(guest, &missing.access_fault())
+    }
+}

@@ -1,0 +1,55 @@
+// The access to data that the instruction at pc wants.
+
+ghost use Rattle.std.specs.Prelude.{◌≡◌};
+ghost use Rattle.op_defs.specs.Table.{op_of};
+ghost use Rattle.machine_laws.specs.MissedPlaces.{wanted_by, wanted_of};
+ghost use Rattle.rv64_hart.specs.MachineMemory.{wanted_next};
+
+use crate::accesses::word_at;
+use arch_defs::{Access, HartState, Virtual, Width};
+use data_access::{DataAccess, place_for};
+use op_defs::Effect;
+use op_effects::effect_of;
+use phys_mem::PhysMem;
+use rv64_decode::decode;
+
+// The access to data that an effect is.
+fn wanted_by(effect: Effect) -> Option<DataAccess>
+    ensures { result ≡ wanted_by effect }
+{
+    match effect {
+        Effect::Data(wanted) => Some(wanted),
+        Effect::Sets { .. } | Effect::Raises { .. } | Effect::Calls | Effect::Privileged(_) => None,
+    }
+}
+
+// The access to data that a word wants, if it is an instruction.
+fn wanted_of(state: &Virtual, word: u32) -> Option<DataAccess>
+    ensures { result ≡ wanted_of state.now (op_of word) }
+{
+    match decode(word) {
+        Some(op) => wanted_by(effect_of(&op, &state.regs)),
+        None => None,
+    }
+}
+
+/// The access to data that the word at pc wants, whether or not that has a place, by the hart's own fetch as
+/// memory is. None where the fetch has no place, and where the word is no instruction with such an access;
+/// that of HLV, HLVX and HSV is the host's.
+#[tactic(auto, using(crate::proofs::Places::wanted_found, crate::proofs::Places::wanted_none))]
+pub fn wanted_at(state: &HartState, memory: &PhysMem) -> Option<DataAccess>
+    ensures { result ≡ wanted_next state.now memory.now }
+{
+    let pc = state.regs.pc;
+    match place_for(
+        memory,
+        &state.csrs,
+        state.mode,
+        pc,
+        Width::Word,
+        Access::Fetch,
+    ) {
+        Ok(place) => wanted_of(state, word_at(memory, place)),
+        Err(_) => None,
+    }
+}
