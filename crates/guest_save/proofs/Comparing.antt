@@ -6,8 +6,9 @@ use Rattle.std.proofs.lemmas.Bool.{false≢true}
 use Rattle.std.proofs.lemmas.Slice.Eq.{bytes_eq-Decides}
 use Rattle.guest_save.proofs.ReadMachines.{ram_begins}
 use Rattle.guest_save.proofs.RoundTrip.{front_decides}
-use Rattle.guest_save.specs.Forms.{form, front_form}
-use Rattle.guest_save.specs.Reading.{machine_in}
+use Rattle.guest_save.specs.declared.versions.Version.{Version}
+use Rattle.guest_save.specs.Forms.{form_of, front_form}
+use Rattle.guest_save.specs.Reading.{machine_by}
 use Rattle.machine_defs.specs.Machine.{Machine}
 use Rattle.outside.specs.Faults.{Rose}
 use Rattle.outside.specs.Pieces.{Appends}
@@ -45,20 +46,20 @@ differs_is expected text n = by (bytes_eq expected text) (bytes_eq-Decides expec
     by false tells said = λ same. absurd (false≢true (tells.1 same))
 
 -- what the comparison of a front says of a whole form
-pub record TellsForm (m : Machine) (bytes : List ℕ) (found : Verdict) : Type 0 where
-  pub same : Same ≡ found → form m ≡ bytes
-  pub differs : (n : ℕ) → Differs n ≡ found → form m ≡ bytes → ⊥
+pub record TellsForm (version : Version) (m : Machine) (bytes : List ℕ) (found : Verdict) : Type 0 where
+  pub same : Same ≡ found → form_of version m ≡ bytes
+  pub differs : (n : ℕ) → Differs n ≡ found → form_of version m ≡ bytes → ⊥
 
-pub tells_form : (m : Machine) (bytes : List ℕ) (k : ℕ) (first last : Comparison) (found : Verdict) → m ≡ machine_in bytes → k ≡ length bytes - length m.ram
-    → first ≡ record { expected = take k bytes; place = 0; differs = false } → Appends Saw first last (front_form m) → last.expected ≡ first.expected
-    → ((seen : List ℕ) → Saw last seen → found ≡ verdict_of last.expected seen) → TellsForm m bytes found
-tells_form m bytes k first last found read place new put stays says =
-    let begins = ram_begins bytes m read in
-    let decides = front_decides m bytes k (omega (arith, place)) (begins.1 ∙ ap (λ (n : ℕ). drop n bytes) (sym place)) in
-    let is = says_of_text first last (take k bytes) (front_form m) found new put stays says in
+pub tells_form : (version : Version) (m : Machine) (bytes : List ℕ) (k : ℕ) (first last : Comparison) (found : Verdict) → m ≡ machine_by version bytes → k ≡ length bytes - length m.ram
+    → first ≡ record { expected = take k bytes; place = 0; differs = false } → Appends Saw first last (front_form version m) → last.expected ≡ first.expected
+    → ((seen : List ℕ) → Saw last seen → found ≡ verdict_of last.expected seen) → TellsForm version m bytes found
+tells_form version m bytes k first last found read place new put stays says =
+    let begins = ram_begins version bytes m read in
+    let decides = front_decides version m bytes k (omega (arith, place)) (begins.1 ∙ ap (λ (n : ℕ). drop n bytes) (sym place)) in
+    let is = says_of_text first last (take k bytes) (front_form version m) found new put stays says in
     record {
-      same = λ same. decides.0 (sym (same_is (take k bytes) (front_form m) (same ∙ is)));
-      differs = λ n differs whole. differs_is (take k bytes) (front_form m) n (differs ∙ is) (sym (decides.1 whole));
+      same = λ same. decides.0 (sym (same_is (take k bytes) (front_form version m) (same ∙ is)));
+      differs = λ n differs whole. differs_is (take k bytes) (front_form version m) n (differs ∙ is) (sym (decides.1 whole));
     }
 
 -- a count of faults that stands at 0 did not rise

@@ -12,6 +12,7 @@ use Rattle.arch_defs.proofs.SameRoots.{root_is, root_same}
 use Rattle.arch_defs.specs.declared.cached.Entry.{Entry}
 use Rattle.arch_defs.specs.declared.roots.GuestRoot.{GuestRoot}
 use Rattle.arch_defs.specs.CachedEntries.{HasOtherPage}
+use Rattle.arch_defs.specs.Devices.{device_frame}
 use Rattle.arch_defs.specs.Memory.{block_size, ram_base}
 use Rattle.arch_defs.specs.Roots.{is_table}
 use Rattle.arch_defs.specs.Spaces.{Space, is_for}
@@ -20,13 +21,17 @@ use Rattle.guest_save.proofs.ReadMachines.{read_is}
 use Rattle.guest_save.proofs.RoundTrip.{round_trip}
 use Rattle.guest_save.proofs.Testing.{savable_from, savable_sound}
 use Rattle.guest_save.specs.declared.headers.Header.{Header}
-use Rattle.guest_save.specs.Deciding.{all_pairs, entry_fits, has_other_key, has_other_page, has_sizes, inputs_rise, is_front, is_reserved, is_savable, is_saved, is_within, space_fits}
-use Rattle.guest_save.specs.Forms.{form}
+use Rattle.guest_save.specs.Deciding.{all_pairs, entry_fits, has_other_key, has_other_page, has_sizes, inputs_rise, is_front, is_in_ram, is_in_reach, is_reserved, is_savable, is_saved, is_within, space_fits}
+use Rattle.guest_save.specs.declared.versions.Version.{Version}
+use Rattle.guest_save.specs.declared.versions.Version.TheVariants.{Second}
+use Rattle.guest_save.specs.Forms.{form_of}
 use Rattle.guest_save.specs.Headers.{header_numbers, header_of}
 use Rattle.guest_save.specs.Laws.{FormIsSaved, SavedExactly, UnsavedIsBad}
-use Rattle.guest_save.specs.Reading.{machine_in}
-use Rattle.guest_save.specs.Savable.{Fits, HasOtherKey, HasSizes, IsSavable, IsSavableEntry, pages_of, top_level_of}
+use Rattle.guest_save.specs.Reading.{machine_by}
+use Rattle.guest_save.specs.Savable.{Fits, HasOtherKey, HasSizes, IsInReach, IsSavable, IsSavableEntry, pages_of, top_level_of}
+use Rattle.guest_save.specs.Saves.{SavedMachine, saved_form, saved_in}
 use Rattle.guest_save.specs.Tests.{IsRead, IsReserved, IsSoundSpace}
+use Rattle.guest_save.specs.Versions.{version_in}
 use Rattle.machine_defs.specs.Machine.{Machine}
 use Rattle.machine_laws.specs.FrontSpaces.{FrontIs}
 use Rattle.machine_laws.specs.Reservations.{places_from}
@@ -107,10 +112,15 @@ reserved_decided (Some (place, width)) size =
       λ is. tests.1 (is.aligned, is.inside),
     )
 
-entry_decided : (key : GuestRoot) (size : ℕ) (e : Entry) → Decides (entry_fits key size e) (IsSavableEntry key size e)
-entry_decided key size e =
-    let frame = both (le_decided ram_base (4096 * e.frame)) (le_decided (4096 * e.frame + 4096) (ram_base + size)) in
-    let tests = both (both (both (both (Decides-ltb e.page (pages_of key)) frame) (le_decided e.level (top_level_of key))) (itself (e.r || e.x))) (only_where e.w e.r (itself e.r)) in (
+reach_decided : (size : ℕ) (device : Bool) (e : Entry) → Decides (is_in_reach size device e) (IsInReach size device e)
+reach_decided size device e =
+    let ram = both (le_decided ram_base (4096 * e.frame)) (le_decided (4096 * e.frame + 4096) (ram_base + size)) in
+    let page = both (itself device) (Decides-eqb e.frame device_frame) in
+    Decides-or (is_in_ram size e) (device && e.frame == device_frame) ram page
+
+entry_decided : (key : GuestRoot) (size : ℕ) (device : Bool) (e : Entry) → Decides (entry_fits key size device e) (IsSavableEntry key size device e)
+entry_decided key size device e =
+    let tests = both (both (both (both (Decides-ltb e.page (pages_of key)) (reach_decided size device e)) (le_decided e.level (top_level_of key))) (itself (e.r || e.x))) (only_where e.w e.r (itself e.r)) in (
       λ passes. let ((((page, frame), level), right), write) = tests.0 passes in record { page = page; frame = frame; level = level; right = right; write = write },
       λ is. tests.1 ((((is.page, is.frame), is.level), is.right), is.write),
     )
@@ -118,9 +128,9 @@ entry_decided key size e =
 pages_decided : (entries : List Entry) → Decides (all_pairs has_other_page entries) (AllPairs HasOtherPage entries)
 pages_decided entries = pairs_decided has_other_page HasOtherPage (λ a b. Decides-not (a.page == b.page) (Decides-eqb a.page b.page)) entries
 
-space_decided : (size room : ℕ) (s : Space) → Decides (space_fits size room s) (IsSoundSpace size room s)
-space_decided size room s =
-    let each = all_decided (entry_fits s.key size) (IsSavableEntry s.key size) (entry_decided s.key size) s.entries in
+space_decided : (size room : ℕ) (device : Bool) (s : Space) → Decides (space_fits size room device s) (IsSoundSpace size room device s)
+space_decided size room device s =
+    let each = all_decided (entry_fits s.key size device) (IsSavableEntry s.key size device) (entry_decided s.key size device) s.entries in
     let tests = both (both (both (itself (is_table s.key)) (le_decided (length s.entries) room)) each) (pages_decided s.entries) in (
       λ passes. let (((table, few), entries), pages) = tests.0 passes in record { table = table; few = few; entries = entries; pages = pages },
       λ is. tests.1 (((is.table, is.few), is.entries), is.pages),
@@ -133,20 +143,20 @@ front_decided : (key : GuestRoot) (spaces : List Space) → Decides (is_front ke
 front_decided key [] = (λ passes. absurd (false≢true passes), λ is. absurd is)
 front_decided key (s ∷ ss) = (λ passes. root_same s.key key passes, λ is. rw is (root_is key))
 
--- pc is the tenth of the numbers
-pc_fits : (h : Header) → All Fits (header_numbers h) → h.state.regs.pc < 2 ^ 64
-pc_fits h fit = fit 9 0 (omega arith)
+-- pc is the eleventh of the numbers
+pc_fits : (h : Header) → All Fits (header_numbers Second h) → h.state.regs.pc < 2 ^ 64
+pc_fits h fit = fit 10 0 (omega arith)
 
 savable_decided : (m : Machine) → IsRead m → Decides (is_savable m) (IsSavable m)
 unfolding is_savable
 savable_decided m read = let p = m.platform in let h = header_of m in let size = length m.ram in
     let console = le_decided (length p.console.bytes) p.console.room in
     let registers = both (Decides-eqb (length p.virt.regs.x) 32) (Decides-eqb (p.virt.regs.pc % 4) 0) in
-    let numbers = all_decided _ Fits (λ (n : ℕ). Decides-ltb n (2 ^ 64)) (header_numbers h) in
+    let numbers = all_decided _ Fits (λ (n : ℕ). Decides-ltb n (2 ^ 64)) (header_numbers Second h) in
     let steps = le_decided p.steps (2 ^ 60) in
     let clock = le_decided p.clock.time (2 ^ 62 + p.steps) in
     let few = le_decided (length m.spaces) m.space_room in
-    let spaces = all_decided _ (IsSoundSpace size m.entry_room) (space_decided size m.entry_room) m.spaces in
+    let spaces = all_decided _ (IsSoundSpace size m.entry_room m.device) (space_decided size m.entry_room m.device) m.spaces in
     let front = only_where (folds p.virt) _ (front_decided p.virt.csrs.hgatp m.spaces) in
     let state = both (both (both (sizes_decided h size) console) (inputs_decided p.console.inputs)) registers in
     let progress = both (both (both state numbers) steps) clock in
@@ -163,15 +173,25 @@ savable_decided m read = let p = m.platform in let h = header_of m in let size =
 
 pub saved_exactly : SavedExactly
 unfolding is_saved
-saved_exactly bytes = both (savable_decided (machine_in bytes) (read_is bytes)) (bytes_eq-Decides (form (machine_in bytes)) bytes)
+saved_exactly bytes =
+    both (savable_decided (saved_in bytes).machine (read_is (version_in bytes) bytes)) (bytes_eq-Decides (saved_form (saved_in bytes)) bytes)
 
 pub form_is_saved : FormIsSaved
-form_is_saved m savable = let read : machine_in (form m) ≡ m = round_trip m savable in
-    (saved_exactly (form m)).1 (subst IsSavable (sym read) savable, ap form read)
+form_is_saved version m savable tells = let read = round_trip version m savable tells in
+    (saved_exactly (form_of version m)).1 (subst (λ (s : SavedMachine). IsSavable s.machine) (sym read) savable, ap saved_form read)
 
 pub unsaved_is_bad : UnsavedIsBad
-unsaved_is_bad bytes fails m savable is = absurd (false≢true (sym fails ∙ ap is_saved (sym is) ∙ form_is_saved m savable))
+unsaved_is_bad bytes fails version m savable tells is =
+    absurd (false≢true (sym fails ∙ ap is_saved (sym is) ∙ form_is_saved version m savable tells))
+
+-- what was read in the version that bytes tell
+pub read_as : (bytes : List ℕ) (version : Version) (m : Machine) → version ≡ version_in bytes → m ≡ machine_by version bytes
+    → record { version = version; machine = m } ≡ saved_in bytes
+read_as bytes version m told read =
+    let machine : m ≡ machine_by (version_in bytes) bytes = read ∙ ap (λ (v : Version). machine_by v bytes) told in
+    λ i. record { version = told i; machine = machine i }
 
 -- another test that tells it gives the same
-pub same_test : (bytes : List ℕ) (m : Machine) (b : Bool) → m ≡ machine_in bytes → Decides b (IsSavable m × (form m ≡ bytes)) → is_saved bytes ≡ b
-same_test bytes m b read tells = same_from_decides (is_saved bytes) b (saved_exactly bytes) (subst (λ (x : Machine). Decides b (IsSavable x × (form x ≡ bytes))) read tells)
+pub same_test : (bytes : List ℕ) (s : SavedMachine) (b : Bool) → s ≡ saved_in bytes → Decides b (IsSavable s.machine × (saved_form s ≡ bytes)) → is_saved bytes ≡ b
+same_test bytes s b read tells =
+    same_from_decides (is_saved bytes) b (saved_exactly bytes) (subst (λ (x : SavedMachine). Decides b (IsSavable x.machine × (saved_form x ≡ bytes))) read tells)

@@ -1,7 +1,7 @@
 -- A machine that can be saved goes on, and that of each guest can be saved at its start.
 use Rattle.std.specs.List.{All, list_all}
 use Rattle.std.specs.Prelude.{nat_lt}
-use Rattle.std.proofs.Common.{◌≡◌, ℕ, ◌+◌, ◌-◌, ◌*◌, ◌^◌, ◌≤◌, true, List, [], ◌∷◌, ◌++◌, length, replicate, refl, ap, ◌∙◌, sym, arith, length-append}
+use Rattle.std.proofs.Common.{◌≡◌, ℕ, ◌+◌, ◌-◌, ◌*◌, ◌^◌, ◌<◌, ◌≤◌, inl, inr, Bool, true, false, List, [], ◌∷◌, ◌++◌, length, replicate, refl, ap, ◌∙◌, sym, arith, length-append}
 use Rattle.std.proofs.lemmas.Bool.{and_parts, ltb-true, true≢false}
 use Rattle.std.proofs.lemmas.List.{length-replicate}
 use Rattle.std.proofs.lemmas.List.Elements.{All-append, All-cons, All-nil, All-weaker}
@@ -11,26 +11,36 @@ use Rattle.arch_defs.specs.declared.roots.GuestRoot.{GuestRoot}
 use Rattle.arch_defs.specs.declared.roots.GuestRoot.TheVariants.{Bare, Table}
 use Rattle.arch_defs.specs.CsrAccess.{enable_shown, hypervisor_shown, interrupts_shown, shown, supervisor_shown}
 use Rattle.arch_defs.specs.CsrBits.{epc_bits, hedeleg_bits, hgatp_bits, hip_bits, hstatus_bits, satp_bits, sip_bits, sstatus_bits, tvec_bits}
-use Rattle.arch_defs.specs.Memory.{loaded, zeros}
+use Rattle.arch_defs.specs.Bits.{bit_number}
+use Rattle.arch_defs.specs.CachedEntries.{IsReachable}
+use Rattle.arch_defs.specs.Memory.{block_size, loaded, zeros}
 use Rattle.arch_defs.specs.Spaces.{Space}
 use Rattle.guest_save.proofs.RoundTrip.{round_trip}
-use Rattle.guest_save.specs.Headers.{blocks_of, head_numbers, header_numbers, header_of, numbered, state_numbers}
+use Rattle.guest_save.specs.declared.headers.Header.{Header}
+use Rattle.guest_save.specs.declared.versions.Version.TheVariants.{Second}
+use Rattle.guest_save.specs.Headers.{blocks_of, device_numbers, header_numbers, header_of, later_numbers, numbered, progress_numbers, size_numbers, state_numbers}
 use Rattle.guest_save.specs.Laws.{CanStart, ResumedGoesOn, SavableGoesOn, SavableIsFilled, SavedUseFresh, StartIsSavable}
-use Rattle.guest_save.specs.Savable.{Fits, IsSavableEntry, IsSavableSpace, pages_of, top_level_of}
+use Rattle.guest_save.specs.Savable.{Fits, IsInReach, IsSavableEntry, IsSavableSpace, pages_of, top_level_of}
+use Rattle.guest_save.specs.Saves.{SavedMachine}
 use Rattle.guest_specs.specs.declared.guests.GuestSpec.{GuestSpec}
-use Rattle.machine_defs.specs.Machine.{Machine, start}
+use Rattle.machine_defs.specs.Machine.{start}
 use Rattle.machine_defs.specs.Runs.{run}
 use Rattle.machine_laws.proofs.FreshRuns.{runs_use_fresh}
 use Rattle.machine_laws.proofs.InRam.{start_is_in_ram}
 use Rattle.machine_laws.proofs.Running.{runs_compose}
 use Rattle.machine_laws.proofs.StorableRuns.{start_is_storable}
-use Rattle.machine_laws.specs.Reservations.{IsInRam}
+use Rattle.machine_laws.specs.Reservations.{HasPlace}
 
-entry_in_ram : (key : GuestRoot) (size : ℕ) (e : Entry) → IsSavableEntry key size e → IsInRam size e
-entry_in_ram key size e is = is.frame
+in_place : (size : ℕ) (device : Bool) (e : Entry) → IsInReach size device e → HasPlace size e
+in_place size device e (inl ram) = inl ram
+in_place size device e (inr page) = inr page.1
 
-space_in_ram : (size room : ℕ) (s : Space) → IsSavableSpace size room s → All (IsInRam size) s.entries
-space_in_ram size room s is = All-weaker (IsSavableEntry s.key size) (IsInRam size) (entry_in_ram s.key size) s.entries is.entries
+entry_in_place : (key : GuestRoot) (size : ℕ) (device : Bool) (e : Entry) → IsSavableEntry key size device e → HasPlace size e
+entry_in_place key size device e is = in_place size device e is.frame
+
+space_in_place : (size room : ℕ) (device : Bool) (s : Space) → IsSavableSpace size room device s → All (HasPlace size) s.entries
+space_in_place size room device s is =
+    All-weaker (IsSavableEntry s.key size device) (HasPlace size) (entry_in_place s.key size device) s.entries is.entries
 
 pub savable_goes_on : SavableGoesOn
 savable_goes_on m savable = record {
@@ -39,8 +49,8 @@ savable_goes_on m savable = record {
     spaces = savable.sizes.some_space;
     front = savable.front;
   };
-  caches = All-weaker (IsSavableSpace (length m.ram) m.entry_room) (λ s. All (IsInRam (length m.ram)) s.entries)
-      (space_in_ram (length m.ram) m.entry_room) m.spaces savable.spaces;
+  caches = All-weaker (IsSavableSpace (length m.ram) m.entry_room m.device) (λ s. All (HasPlace (length m.ram)) s.entries)
+      (space_in_place (length m.ram) m.entry_room m.device) m.spaces savable.spaces;
   reserves = savable.reservation;
   whole = omega (arith, savable.sizes.whole);
 }
@@ -55,11 +65,14 @@ level_low Bare = omega arith
 level_low (Table Sv39x4 vmid ppn) = omega arith
 level_low (Table Sv48x4 vmid ppn) = omega arith
 
+reachable : (blocks : List ℕ) (device : Bool) (e : Entry) → IsInReach (length blocks * block_size) device e → IsReachable blocks e.frame
+reachable blocks device e (inl ram) = inl (omega (arith, ram.0), omega (arith, ram.1))
+reachable blocks device e (inr page) = inr page.1
+
 pub savable_is_filled : SavableIsFilled
-savable_is_filled key blocks e is = record {
+savable_is_filled key blocks device e is = record {
   page = omega (arith, is.page, pages_few key);
-  from = omega (arith, is.frame.0);
-  to = omega (arith, is.frame.1);
+  frame = reachable blocks device e is.frame;
   level = omega (arith, is.level, level_low key);
   right = is.right;
   write = is.write;
@@ -76,23 +89,35 @@ loaded_length : (size : ℕ) (image : List ℕ) → length image ≤ size → le
 unfolding loaded zeros
 loaded_length size image fits = omega (arith, length-append image (replicate (size - length image) 0), length-replicate {A = ℕ} (size - length image) 0)
 
-head_fits : (guest : GuestSpec) → CanStart guest → blocks_of (start guest) ≡ guest.blocks → All Fits (head_numbers (header_of (start guest)))
+sizes_fit : (guest : GuestSpec) → CanStart guest → blocks_of (start guest) ≡ guest.blocks → All Fits (size_numbers (header_of (start guest)))
 unfolding start
-head_fits guest can blocks =
-    let rest : List ℕ = 0 ∷ 0 ∷ 0 ∷ 18446744073709551615 ∷ 0 ∷ 2147483648 ∷ [] in
-    All-cons Fits (blocks_of (start guest)) (guest.spaces ∷ guest.entries ∷ guest.console ∷ rest) (omega (arith, blocks, can.blocks))
-    (All-cons Fits guest.spaces (guest.entries ∷ guest.console ∷ rest) (omega (arith, can.spaces))
-    (All-cons Fits guest.entries (guest.console ∷ rest) (omega (arith, can.entries))
-    (All-cons Fits guest.console rest (omega (arith, can.console)) (fit_by_test rest refl))))
+sizes_fit guest can blocks =
+    All-cons Fits (blocks_of (start guest)) (guest.spaces ∷ guest.entries ∷ guest.console ∷ []) (omega (arith, blocks, can.blocks))
+    (All-cons Fits guest.spaces (guest.entries ∷ guest.console ∷ []) (omega (arith, can.spaces))
+    (All-cons Fits guest.entries (guest.console ∷ []) (omega (arith, can.entries))
+    (All-cons Fits guest.console [] (omega (arith, can.console)) (All-nil Fits))))
+
+device_fits : (h : Header) → All Fits (device_numbers Second h)
+device_fits h = All-cons Fits (bit_number 0 h.device) [] (small h.device) (All-nil Fits)
+  where
+    small : (device : Bool) → bit_number 0 device < 2 ^ 64
+    small true = omega arith
+    small false = omega arith
+
+progress_fits : (guest : GuestSpec) → All Fits (progress_numbers (header_of (start guest)))
+unfolding start
+progress_fits guest = fit_by_test (progress_numbers (header_of (start guest))) refl
 
 rest_fit : (guest : GuestSpec) → All Fits (numbered (start guest).platform.virt.regs ++ state_numbers (start guest).platform.virt)
 unfolding start shown supervisor_shown interrupts_shown enable_shown hypervisor_shown sstatus_bits sip_bits tvec_bits epc_bits satp_bits hstatus_bits hedeleg_bits hip_bits hgatp_bits
 rest_fit guest = fit_by_test (numbered (start guest).platform.virt.regs ++ state_numbers (start guest).platform.virt) refl
 
-numbers_fit : (guest : GuestSpec) → CanStart guest → blocks_of (start guest) ≡ guest.blocks → All Fits (header_numbers (header_of (start guest)))
+numbers_fit : (guest : GuestSpec) → CanStart guest → blocks_of (start guest) ≡ guest.blocks → All Fits (header_numbers Second (header_of (start guest)))
 numbers_fit guest can blocks =
-    All-append Fits (head_numbers (header_of (start guest))) (numbered (start guest).platform.virt.regs ++ state_numbers (start guest).platform.virt)
-    (head_fits guest can blocks) (rest_fit guest)
+    let h = header_of (start guest) in
+    All-append Fits (size_numbers h) (device_numbers Second h ++ later_numbers h) (sizes_fit guest can blocks)
+    (All-append Fits (device_numbers Second h) (later_numbers h) (device_fits h)
+    (All-append Fits (progress_numbers h) (numbered h.state.regs ++ state_numbers h.state) (progress_fits guest) (rest_fit guest)))
 
 pub start_is_savable : StartIsSavable
 unfolding start
@@ -121,14 +146,15 @@ start_is_savable guest can =
       clock = omega arith;
       reservation = (start_is_in_ram guest).1;
       few = omega arith;
-      spaces = All-nil (IsSavableSpace (length m.ram) m.entry_room);
+      spaces = All-nil (IsSavableSpace (length m.ram) m.entry_room m.device);
       keys = λ i j d before within. absurd (omega arith);
       front = λ folds. absurd (true≢false (sym folds));
     }
 
 -- a machine that was read goes on as the one that was saved
 pub resumed_goes_on : ResumedGoesOn
-resumed_goes_on m a b savable = ap (λ (read : Machine). run read b) (round_trip (run m a) savable) ∙ runs_compose m a b
+resumed_goes_on m a b savable =
+    ap (λ (read : SavedMachine). run read.machine b) (round_trip Second (run m a) savable tt) ∙ runs_compose m a b
 
 pub saved_use_fresh : SavedUseFresh
 saved_use_fresh saved n m k orderly none is = runs_use_fresh m (k + n) orderly none

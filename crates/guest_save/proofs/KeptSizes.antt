@@ -1,22 +1,33 @@
 -- A run keeps sizes: how many blocks of RAM there are, and for how many spaces, entries and console bytes
--- there is room.
-use Rattle.std.specs.Prelude.{◌==◌}
-use Rattle.std.proofs.Common.{◌≡◌, ℕ, ◌/◌, ◌%◌, ◌∙◌, Option, length, refl, ap, arith}
-use Rattle.arch_defs.specs.declared.cached.Fence.{Fence}
+-- there is room; and whether there is the device page.
+use Rattle.std.specs.Prelude.{◌==◌, ◌&&◌, option_map}
+use Rattle.std.proofs.Common.{◌≡◌, ℕ, ◌/◌, ◌%◌, ◌∙◌, Bool, true, false, Option, Some, None, length, refl, ap, arith}
+use Rattle.arch_defs.specs.declared.registers.Virtual.{Virtual}
+use Rattle.arch_defs.specs.declared.walks.MissingPlace.{MissingPlace}
+use Rattle.arch_defs.specs.declared.widths.Width.{Width}
 use Rattle.arch_defs.specs.Calls.{CallState, environment, get, put, set_timer, state_of, stopped, unknown}
-use Rattle.arch_defs.specs.Consoles.{has_room}
-use Rattle.arch_defs.specs.Memory.{block_size}
+use Rattle.arch_defs.specs.Consoles.{ConsoleState, has_room}
+use Rattle.arch_defs.specs.Devices.{DeviceEnd, device_loaded, device_status, device_stored, with_output}
+use Rattle.arch_defs.specs.Interrupts.{due}
+use Rattle.arch_defs.specs.Memory.{block_size, ram_memory}
 use Rattle.arch_defs.specs.Registers.{a7, read}
+use Rattle.arch_defs.specs.SecondStage.{OnDevice, is_implicit}
+use Rattle.arch_defs.specs.Traps.{missing_place_fault}
+use Rattle.arch_defs.specs.Widths.{bytes_in}
 use Rattle.guest_save.specs.Headers.{blocks_of}
 use Rattle.guest_save.specs.Laws.{RunKeepsSizes}
-use Rattle.machine_defs.specs.Machine.{Machine, Platform, Tried, called}
+use Rattle.op_defs.specs.declared.ops.DataAccess.{DataAccess}
+use Rattle.op_defs.specs.declared.ops.Purpose.{Purpose}
+use Rattle.op_defs.specs.declared.ops.Purpose.TheVariants.{Load, LoadCode, Store, Reserve, StoreReserved, Modify}
+use Rattle.machine_defs.specs.DeviceSteps.{device_step, device_wanted, served, with_loaded, with_put}
+use Rattle.machine_defs.specs.HlvAccesses.{Completes, Device, HlvEnd, Traps, hlv_outcome}
+use Rattle.machine_defs.specs.Machine.{Machine, Platform, Tried, called, has_enabled_interrupt, trapped, waited, waited_until}
+use Rattle.machine_defs.specs.Outcomes.{Outcome, Done, Trapped, Missed, Called, Waits, Fenced, Accesses}
 use Rattle.machine_defs.specs.Runs.{left_by, run}
-use Rattle.machine_defs.specs.Tries.{second_of}
+use Rattle.machine_defs.specs.Tries.{apply_outcome, device_of, hlv_committed, outcome_under, stages_of, tried_with, try, try_under, unplaced}
 use Rattle.machine_laws.proofs.Cached.{either}
 use Rattle.machine_laws.proofs.InRam.{stays_in_ram}
 use Rattle.machine_laws.proofs.KeptByRuns.{IsKept, kept_by_runs}
-use Rattle.machine_laws.proofs.Rooting.{RootEnd, root_end}
-use Rattle.machine_laws.proofs.TryEnds.{Calls, Fences, Halts, Makes, Passes, Takes}
 
 -- a call of the environment leaves the console's room
 environment_room : (s : CallState) → (environment s).console.room ≡ s.console.room
@@ -30,30 +41,100 @@ called_room : (p : Platform) → (called p).console.room ≡ p.console.room
 called_room p = let same = environment_room (state_of p.virt.regs p.clock p.console) in
     either (λ (q : Platform). q.console.room ≡ p.console.room) (read p.virt.regs a7 == 8) _ _ same same
 
--- there is room for as many spaces, entries and console bytes
-abbrev HasRooms : ℕ → ℕ → ℕ → Machine → Type 0
-HasRooms spaces entries console m =
-    (m.space_room ≡ spaces) × (m.entry_room ≡ entries) × (m.platform.console.room ≡ console)
+-- there is room for as many spaces, entries and console bytes, and the device page or not
+abbrev pub HasRooms : ℕ → ℕ → ℕ → Bool → Machine → Type 0
+HasRooms spaces entries console device m =
+    (m.space_room ≡ spaces) × (m.entry_room ≡ entries) × (m.platform.console.room ≡ console) × (m.device ≡ device)
 
-ended_rooms : (m : Machine) {t : Tried} {fence : Option Fence} → RootEnd m t fence
-    → HasRooms m.space_room m.entry_room m.platform.console.room (left_by m t)
-ended_rooms m (Takes trap) = (refl, refl, refl)
-ended_rooms m (Makes completion event keeps) = (refl, refl, refl)
-ended_rooms m Calls = (refl, refl, called_room m.platform)
-ended_rooms m (Passes virt moment keeps) = (refl, refl, refl)
-ended_rooms m Halts = (refl, refl, refl)
-ended_rooms m (Fences virt fence keeps) = (refl, refl, refl)
+-- what a try leaves has the same
+abbrev KeepsRooms : Machine → Tried → Type 0
+KeepsRooms m t = HasRooms m.space_room m.entry_room m.platform.console.room m.device (left_by m t)
 
-rooms_kept : (spaces entries console : ℕ) → IsKept (HasRooms spaces entries console)
-rooms_kept spaces entries console = record {
+-- so a load or a store of the device page
+abbrev RoomIs : ℕ → Option DeviceEnd → Type 0
+RoomIs room None = Unit {0}
+RoomIs room (Some end) = end.console.room ≡ room
+
+loaded_room : (offset bytes : ℕ) (console : ConsoleState) (clock : ℕ) → RoomIs console.room (device_loaded offset bytes console clock)
+unfolding device_loaded
+loaded_room offset bytes console clock = either (RoomIs console.room) (offset == 0 && bytes == 1) _ _ refl
+    (either (RoomIs console.room) (offset == 8 && bytes == 8) (Some (record { value = device_status console clock; console = console })) None refl tt)
+
+stored_room : (offset bytes value : ℕ) (console : ConsoleState) → RoomIs console.room (device_stored offset bytes value console)
+unfolding device_stored
+stored_room offset bytes value console =
+    either (RoomIs console.room) (offset == 0 && bytes == 1) (Some (record { value = 0; console = with_output console (value % 256) })) None
+    (either (λ (c : ConsoleState). c.room ≡ console.room) (has_room console) _ console refl refl) tt
+
+loaded_rooms : (m : Machine) (missing : MissingPlace) (width : Width) (signed : Bool) (rd : ℕ) (end : Option DeviceEnd) → RoomIs m.platform.console.room end
+    → KeepsRooms m (served m missing (option_map (with_loaded m.platform.virt width signed rd) end))
+loaded_rooms m missing width signed rd None room = (refl, refl, refl, refl)
+loaded_rooms m missing width signed rd (Some end) room = (refl, refl, room, refl)
+
+put_rooms : (m : Machine) (missing : MissingPlace) (end : Option DeviceEnd) → RoomIs m.platform.console.room end
+    → KeepsRooms m (served m missing (option_map (with_put m.platform.virt) end))
+put_rooms m missing None room = (refl, refl, refl, refl)
+put_rooms m missing (Some end) room = (refl, refl, room, refl)
+
+device_rooms : (m : Machine) (missing : MissingPlace) (width : Width) (purpose : Purpose) → KeepsRooms m (device_step m missing width purpose)
+device_rooms m missing width (Load signed rd) = let p = m.platform in
+    loaded_rooms m missing width signed rd _ (loaded_room (missing.address % 4096) (bytes_in width) p.console p.clock.time)
+device_rooms m missing width (LoadCode rd) = (refl, refl, refl, refl)
+device_rooms m missing width (Store value) =
+    put_rooms m missing _ (stored_room (missing.address % 4096) (bytes_in width) value m.platform.console)
+device_rooms m missing width (Reserve rd) = (refl, refl, refl, refl)
+device_rooms m missing width (StoreReserved value rd) = (refl, refl, refl, refl)
+device_rooms m missing width (Modify op operand rd) = (refl, refl, refl, refl)
+
+wanted_rooms : (m : Machine) (missing : MissingPlace) (wanted : Option DataAccess) → KeepsRooms m (device_wanted m missing wanted)
+wanted_rooms m missing None = (refl, refl, refl, refl)
+wanted_rooms m missing (Some wanted) = device_rooms m missing wanted.width wanted.purpose
+
+unplaced_rooms : (m : Machine) (missing : MissingPlace) (wanted : Option DataAccess) (on : Bool) → KeepsRooms m (unplaced m missing wanted on)
+unplaced_rooms m missing wanted true =
+    either (KeepsRooms m) (is_implicit missing.kind) (trapped m (missing_place_fault missing)) (device_wanted m missing wanted) (refl, refl, refl, refl) (wanted_rooms m missing wanted)
+unplaced_rooms m missing wanted false = (refl, refl, refl, refl)
+
+-- a wait, and an HLV, HLVX or HSV
+until_rooms : (m : Machine) (virt : Virtual) (moment : Option ℕ) → KeepsRooms m (waited_until m virt moment)
+until_rooms m virt (Some moment) = (refl, refl, refl, refl)
+until_rooms m virt None = (refl, refl, refl, refl)
+
+waited_rooms : (m : Machine) (virt : Virtual) → KeepsRooms m (waited m virt)
+waited_rooms m virt = either (KeepsRooms m) (has_enabled_interrupt m.platform.virt.csrs) _ _ (refl, refl, refl, refl) (until_rooms m virt _)
+
+hlv_rooms : (m : Machine) (wanted : DataAccess) (end : HlvEnd) → KeepsRooms m (hlv_committed m wanted end)
+hlv_rooms m wanted (Completes completion) = (refl, refl, refl, refl)
+hlv_rooms m wanted (Device missing) = device_rooms m missing wanted.width wanted.purpose
+hlv_rooms m wanted (Traps trap) = (refl, refl, refl, refl)
+
+outcome_rooms : (device : OnDevice) (m : Machine) (o : Outcome) → KeepsRooms m (apply_outcome device m o)
+outcome_rooms device m (Done virt stored event) = (refl, refl, refl, refl)
+outcome_rooms device m (Trapped trap) = (refl, refl, refl, refl)
+outcome_rooms device m (Missed missing wanted) = unplaced_rooms m missing wanted (device missing.address missing.kind)
+outcome_rooms device m Called = (refl, refl, called_room m.platform, refl)
+outcome_rooms device m (Waits virt) = waited_rooms m virt
+outcome_rooms device m (Fenced virt fence) = (refl, refl, refl, refl)
+outcome_rooms device m (Accesses wanted) = hlv_rooms m wanted (hlv_outcome m.device (ram_memory m.ram) m.platform.virt wanted)
+
+tried_rooms : (m : Machine) → KeepsRooms m (try m)
+unfolding try_under
+tried_rooms m = by (due m.platform.virt.csrs m.platform.virt.mode)
+  where
+    by : (code : Option ℕ) → KeepsRooms m (tried_with (stages_of m) m code)
+    by (Some code) = (refl, refl, refl, refl)
+    by None = outcome_rooms (device_of m) m (outcome_under (stages_of m) m)
+
+pub rooms_kept : (spaces entries console : ℕ) (device : Bool) → IsKept (HasRooms spaces entries console device)
+rooms_kept spaces entries console device = record {
   filled = λ m e has lacks. has;
-  tried = λ m (of_spaces, of_entries, of_console). let after = ended_rooms m (root_end m (second_of m)) in
-      (after.0 ∙ of_spaces, after.1 ∙ of_entries, after.2 ∙ of_console);
+  tried = λ m (of_spaces, of_entries, of_console, of_device). let after = tried_rooms m in
+      (after.0 ∙ of_spaces, after.1 ∙ of_entries, after.2 ∙ of_console, after.3 ∙ of_device);
 }
 
-rooms_stay : (m : Machine) (n : ℕ) → HasRooms m.space_room m.entry_room m.platform.console.room (run m n)
-rooms_stay m n = let rooms = HasRooms m.space_room m.entry_room m.platform.console.room in
-    kept_by_runs rooms (rooms_kept m.space_room m.entry_room m.platform.console.room) m n (refl, refl, refl)
+rooms_stay : (m : Machine) (n : ℕ) → HasRooms m.space_room m.entry_room m.platform.console.room m.device (run m n)
+rooms_stay m n = let rooms = HasRooms m.space_room m.entry_room m.platform.console.room m.device in
+    kept_by_runs rooms (rooms_kept m.space_room m.entry_room m.platform.console.room m.device) m n (refl, refl, refl, refl)
 
 -- RAM keeps its size, since what is stored is stored in it
 pub sizes_stay : RunKeepsSizes

@@ -3,6 +3,7 @@ pub mod Buffering
 pub mod Comparing
 pub mod CountedParts
 pub mod Deciding
+pub mod DevicePages
 pub mod Eights
 pub mod GoingOn
 pub mod KeptSizes

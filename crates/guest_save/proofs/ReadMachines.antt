@@ -9,11 +9,13 @@ use Rattle.std.proofs.lemmas.List.Elements.{All-cons, All-nil}
 use Rattle.arch_defs.specs.CsrBits.{guest_root_of, hgatp_bits}
 use Rattle.guest_save.proofs.Eights.{items_length}
 use Rattle.guest_save.proofs.StoredRegisters.{read_is_stored}
+use Rattle.guest_save.specs.declared.versions.Version.{Version}
 use Rattle.guest_save.specs.Headers.{header_in}
 use Rattle.guest_save.specs.Numbers.{number_in, numbers_in}
-use Rattle.guest_save.specs.Reading.{after_space, after_spaces, capped, count_in, from_console, from_inputs, from_spaces, input_of, inputs_in, machine_in, machine_with, space_in, spaces_in}
+use Rattle.guest_save.specs.Reading.{after_space, after_spaces, capped, count_in, from_console, from_inputs, from_spaces, device_in, input_of, inputs_in, machine_by, machine_with, space_in, spaces_in}
 use Rattle.guest_save.specs.Registers.{csrs_in}
 use Rattle.guest_save.specs.Tests.{IsRead}
+use Rattle.guest_save.specs.Versions.{header_end, later_begin}
 use Rattle.machine_defs.specs.Machine.{Machine, with_lines}
 use Rattle.machine_laws.proofs.StoredForms.{hgatp_stored}
 use Rattle.machine_laws.specs.StorableStates.{stored_form}
@@ -32,27 +34,27 @@ keys_stored (suc count) bytes =
     All-cons (λ s. guest_root_of (hgatp_bits s.key) ≡ s.key) (space_in bytes) (spaces_in count (after_space bytes))
     (hgatp_stored (number_in bytes)) (keys_stored count (after_space bytes))
 
-parts_read : (ns console : List ℕ) (count : ℕ) (bytes : List ℕ) (spaces : ℕ) (rest ram : List ℕ) → count ≤ 65536
-    → IsRead (machine_with (header_in ns) console (inputs_in count bytes) (spaces_in spaces rest) ram)
+parts_read : (sizes : List ℕ) (device : Bool) (ns console : List ℕ) (count : ℕ) (bytes : List ℕ) (spaces : ℕ) (rest ram : List ℕ) → count ≤ 65536
+    → IsRead (machine_with (header_in sizes device ns) console (inputs_in count bytes) (spaces_in spaces rest) ram)
 unfolding header_in
-parts_read ns console count bytes spaces rest ram few = record {
+parts_read sizes device ns console count bytes spaces rest ram few = record {
   x0 = refl;
-  csrs = lines_stored (drop 41 ns) _ _ _;
+  csrs = lines_stored (drop 37 ns) _ _ _;
   lines = refl;
   inputs = omega (arith, items_length input_of 9 count bytes, few);
   keys = keys_stored spaces rest;
 }
 
-pub read_is : (bytes : List ℕ) → IsRead (machine_in bytes)
-unfolding machine_in from_console from_inputs from_spaces
-read_is bytes =
-    let first = drop 584 bytes in
+pub read_is : (version : Version) (bytes : List ℕ) → IsRead (machine_by version bytes)
+unfolding machine_by from_console from_inputs from_spaces
+read_is version bytes =
+    let first = drop (header_end version) bytes in
     let console = count_in 1048576 first in
     let second = drop console (drop 8 first) in
     let inputs = count_in 65536 second in
     let third = drop (9 * inputs) (drop 8 second) in
     let spaces = count_in 8 third in
-    parts_read (numbers_in 72 (drop 8 bytes)) (take console (drop 8 first)) inputs (drop 8 second) spaces (drop 8 third) (after_spaces spaces (drop 8 third))
+    parts_read (numbers_in 4 (drop 8 bytes)) (device_in version bytes) (numbers_in 68 (drop (later_begin version) bytes)) (take console (drop 8 first)) inputs (drop 8 second) spaces (drop 8 third) (after_spaces spaces (drop 8 third))
     (capped_most 65536 (number_in second))
 
 -- RAM is an end of the bytes
@@ -71,14 +73,14 @@ unfolding after_spaces
 end_spaces zero rest bytes is = is
 end_spaces (suc count) rest bytes is = end_spaces count (after_space rest) bytes (end_drop _ _ bytes (end_drop 16 rest bytes is))
 
-pub ram_is_end : (bytes : List ℕ) → IsEnd (machine_in bytes).ram bytes
-unfolding machine_in from_console from_inputs from_spaces
-ram_is_end bytes =
-    end_spaces _ _ bytes (end_drop 8 _ bytes (end_drop _ _ bytes (end_drop 8 _ bytes (end_drop _ _ bytes (end_drop 8 _ bytes (end_drop 584 bytes bytes (end_all bytes)))))))
+pub ram_is_end : (version : Version) (bytes : List ℕ) → IsEnd (machine_by version bytes).ram bytes
+unfolding machine_by from_console from_inputs from_spaces
+ram_is_end version bytes =
+    end_spaces _ _ bytes (end_drop 8 _ bytes (end_drop _ _ bytes (end_drop 8 _ bytes (end_drop _ _ bytes (end_drop 8 _ bytes (end_drop (header_end version) bytes bytes (end_all bytes)))))))
 
 -- so it begins where as many bytes are left as it has
-pub ram_begins : (bytes : List ℕ) (m : Machine) → m ≡ machine_in bytes → (length m.ram ≤ length bytes) × (m.ram ≡ drop (length bytes - length m.ram) bytes)
-ram_begins bytes m is = by m (rw is (ram_is_end bytes))
+pub ram_begins : (version : Version) (bytes : List ℕ) (m : Machine) → m ≡ machine_by version bytes → (length m.ram ≤ length bytes) × (m.ram ≡ drop (length bytes - length m.ram) bytes)
+ram_begins version bytes m is = by m (rw is (ram_is_end version bytes))
   where
     by : (m : Machine) → IsEnd m.ram bytes → (length m.ram ≤ length bytes) × (m.ram ≡ drop (length bytes - length m.ram) bytes)
     by m (k, within, is) =

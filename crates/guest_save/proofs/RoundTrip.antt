@@ -1,29 +1,35 @@
 -- A machine that can be saved, read again.
 use Rattle.std.specs.List.{All, flat_map}
-use Rattle.std.specs.Prelude.{Option, Some, None, slice_index}
-use Rattle.std.proofs.Common.{◌≡◌, ℕ, ◌+◌, ◌^◌, ◌<◌, ◌≤◌, ◌⊎◌, inl, inr, List, [], ◌∷◌, ◌++◌, length, take, drop, refl, ap, ◌∙◌, sym, subst, arith, append_assoc, length-append, length-drop}
+use Rattle.std.specs.Prelude.{Bool, true, false, Option, Some, None, slice_index}
+use Rattle.std.proofs.Common.{◌≡◌, ℕ, ◌+◌, ◌*◌, ◌^◌, ◌<◌, ◌≤◌, ◌⊎◌, inl, inr, List, [], ◌∷◌, ◌++◌, length, take, drop, refl, ap, ◌∙◌, sym, subst, arith, append_assoc, length-append, length-drop}
 use Rattle.std.proofs.lemmas.List.{append_cancel_right, drop_at, get_or-append-add, length-take, take_all, take_at, take-append-drop}
-use Rattle.std.proofs.lemmas.List.Elements.{All-weaker}
+use Rattle.std.proofs.lemmas.List.Concat.{flat_map-append}
+use Rattle.std.proofs.lemmas.List.Elements.{All-cons, All-head, All-nil, All-tail, All-weaker}
 use Rattle.arch_defs.specs.declared.cached.Entry.{Entry}
 use Rattle.arch_defs.specs.declared.modes.Mode.{Mode}
 use Rattle.arch_defs.specs.declared.modes.Mode.TheVariants.{HS, U, VS, VU}
 use Rattle.arch_defs.specs.declared.roots.GuestMode.TheVariants.{Sv39x4, Sv48x4}
 use Rattle.arch_defs.specs.declared.roots.GuestRoot.{GuestRoot}
 use Rattle.arch_defs.specs.declared.roots.GuestRoot.TheVariants.{Bare, Table}
+use Rattle.arch_defs.specs.Bits.{bit, bit_number}
 use Rattle.arch_defs.specs.Clocks.{is_due}
 use Rattle.arch_defs.specs.Inputs.{has_input}
 use Rattle.arch_defs.specs.Spaces.{Space}
-use Rattle.guest_save.proofs.Eights.{after_number, numbers_length, so_many_again}
+use Rattle.guest_save.proofs.Eights.{after_number, number_again, numbers_length, so_many_again}
 use Rattle.guest_save.proofs.CountedParts.{FitsForm, SpaceFits, after_inputs, after_spaces_again, count_again, inputs_again, spaces_again}
 use Rattle.guest_save.proofs.StoredRegisters.{csrs_again}
 use Rattle.guest_save.specs.declared.headers.Header.{Header}
-use Rattle.guest_save.specs.Forms.{console_form, form, form_with, front_form, input_form, inputs_form, letters, space_form, spaces_form}
-use Rattle.guest_save.specs.Headers.{head_numbers, header_in, header_numbers, header_of, mode_number, mode_of, numbered, reservation_numbers, reservation_of, state_numbers, status_number, status_of}
+use Rattle.guest_save.specs.declared.versions.Version.{Version}
+use Rattle.guest_save.specs.declared.versions.Version.TheVariants.{First, Second}
+use Rattle.guest_save.specs.Forms.{console_form, form_of, form_with, front_form, input_form, inputs_form, space_form, spaces_form}
+use Rattle.guest_save.specs.Headers.{device_numbers, header_in, header_numbers, header_of, later_numbers, mode_number, mode_of, numbered, progress_numbers, reservation_numbers, reservation_of, size_numbers, state_numbers, status_number, status_of}
 use Rattle.guest_save.specs.Laws.{BadExactly, FrontDecides, RoundTrip}
-use Rattle.guest_save.specs.Numbers.{number, numbers}
-use Rattle.guest_save.specs.Reading.{from_console, from_inputs, from_spaces, machine_in, machine_with, platform_in}
+use Rattle.guest_save.specs.Numbers.{number, number_in, numbers, numbers_in}
+use Rattle.guest_save.specs.Reading.{from_console, from_inputs, from_spaces, device_in, machine_by, machine_with, platform_in}
 use Rattle.guest_save.specs.Registers.{csr_numbers, csrs_in}
-use Rattle.guest_save.specs.Savable.{IsSavable, IsSavableEntry, IsSavableSpace}
+use Rattle.guest_save.specs.Savable.{Fits, IsInReach, IsSavable, IsSavableEntry, IsSavableSpace}
+use Rattle.guest_save.specs.Saves.{SavedMachine, saved_form, saved_in}
+use Rattle.guest_save.specs.Versions.{CanTell, header_end, later_begin, letters, version_in}
 use Rattle.guest_specs.specs.declared.statuses.Status.{Status}
 use Rattle.guest_specs.specs.declared.statuses.Status.TheVariants.{Running, Waiting, Stopped}
 use Rattle.machine_defs.specs.Machine.{Machine, with_lines, with_pending_lines}
@@ -50,6 +56,10 @@ reservation_again (Some (place, bytes)) (whole, width) = by width
     by (inl is) = rw is refl
     by (inr is) = rw is refl
 
+device_again : (device : Bool) → bit 0 (bit_number 0 device) ≡ device
+device_again true = refl
+device_again false = refl
+
 -- the registers of a list of 32, the first of which is 0
 x_again : (x : List ℕ) → length x ≡ 32 → slice_index x 0 ≡ 0 → 0 ∷ drop 1 x ≡ x
 x_again [] size first = absurd (omega (arith, size))
@@ -61,7 +71,7 @@ behind xs ys n size = rw (← size) (get_or-append-add xs ys n 0)
 
 -- all that a header says of a machine, and its console
 pub platform_again : (m : Machine) → IsSavable m
-    → platform_in (header_in (header_numbers (header_of m))) m.platform.console.bytes m.platform.console.inputs ≡ m.platform
+    → platform_in (header_in (size_numbers (header_of m)) m.device (later_numbers (header_of m))) m.platform.console.bytes m.platform.console.inputs ≡ m.platform
 unfolding header_in
 platform_again m savable =
     let virt = m.platform.virt in
@@ -80,7 +90,7 @@ platform_again m savable =
     rw (behind xs state 29 size, behind xs state 30 size) (reservation_again virt.reservation savable.virt.reservation) in
     let status = status_again m.platform.status in
     let mode = mode_again virt.mode in
-    let same : platform_in (header_in (header_numbers (header_of m))) m.platform.console.bytes m.platform.console.inputs ≡ with_pending_lines m.platform =
+    let same : platform_in (header_in (size_numbers (header_of m)) m.device (later_numbers (header_of m))) m.platform.console.bytes m.platform.console.inputs ≡ with_pending_lines m.platform =
     λ i. record {
       virt = record { regs = record { x = x i; pc = virt.regs.pc }; csrs = csrs i; mode = mode i; reservation = reservation i };
       clock = m.platform.clock;
@@ -91,22 +101,28 @@ platform_again m savable =
     same ∙ savable.lines
 
 -- entries and spaces that can be saved have room in a form
-entry_has_room : (key : GuestRoot) (size : ℕ) → size ≤ 67108864 → (e : Entry) → IsSavableEntry key size e → FitsForm e
-entry_has_room Bare size small e is = absurd (omega (arith, is.page))
-entry_has_room (Table Sv39x4 vmid ppn) size small e is = record { page = omega (arith, is.page); frame = omega (arith, is.frame.1); level = omega (arith, is.level) }
-entry_has_room (Table Sv48x4 vmid ppn) size small e is = record { page = omega (arith, is.page); frame = omega (arith, is.frame.1); level = omega (arith, is.level) }
+frame_has_room : (size : ℕ) (device : Bool) → size ≤ 67108864 → (e : Entry) → IsInReach size device e → e.frame < 2 ^ 64
+frame_has_room size device small e (inl ram) = omega (arith, ram.1)
+frame_has_room size device small e (inr page) = omega (arith, page.1)
 
-space_has_room : (size room : ℕ) → size ≤ 67108864 → room ≤ 256 → (s : Space) → IsSavableSpace size room s → SpaceFits s
-space_has_room size room small few s is = record {
+entry_has_room : (key : GuestRoot) (size : ℕ) (device : Bool) → size ≤ 67108864 → (e : Entry) → IsSavableEntry key size device e → FitsForm e
+entry_has_room Bare size device small e is = absurd (omega (arith, is.page))
+entry_has_room (Table Sv39x4 vmid ppn) size device small e is =
+    record { page = omega (arith, is.page); frame = frame_has_room size device small e is.frame; level = omega (arith, is.level) }
+entry_has_room (Table Sv48x4 vmid ppn) size device small e is =
+    record { page = omega (arith, is.page); frame = frame_has_room size device small e is.frame; level = omega (arith, is.level) }
+
+space_has_room : (size room : ℕ) (device : Bool) → size ≤ 67108864 → room ≤ 256 → (s : Space) → IsSavableSpace size room device s → SpaceFits s
+space_has_room size room device small few s is = record {
   key = is.key.stored;
   few = omega (arith, is.few);
-  entries = All-weaker (IsSavableEntry s.key size) FitsForm (entry_has_room s.key size small) s.entries is.entries;
+  entries = All-weaker (IsSavableEntry s.key size device) FitsForm (entry_has_room s.key size device small) s.entries is.entries;
 }
 
 pub spaces_have_room : (m : Machine) → IsSavable m → All SpaceFits m.spaces
 spaces_have_room m savable =
-    All-weaker (IsSavableSpace (length m.ram) m.entry_room) SpaceFits
-    (space_has_room (length m.ram) m.entry_room (omega (arith, savable.sizes.whole, savable.sizes.most_blocks)) savable.sizes.most_entries)
+    All-weaker (IsSavableSpace (length m.ram) m.entry_room m.device) SpaceFits
+    (space_has_room (length m.ram) m.entry_room m.device (omega (arith, savable.sizes.whole, savable.sizes.most_blocks)) savable.sizes.most_entries)
     m.spaces savable.spaces
 
 -- each part of a form, from the last one on
@@ -153,11 +169,12 @@ from_console_again m h rest savable =
       drop_at bytes (inputs_form m rest) (length bytes) refl,
     ) refl
 
-header_length : (h : Header) → length h.state.regs.x ≡ 32 → length (header_numbers h) ≡ 72
-header_length h size =
+-- the numbers behind the sizes and the device page
+later_length : (h : Header) → length h.state.regs.x ≡ 32 → length (later_numbers h) ≡ 68
+later_length h size =
     omega (
       arith,
-      length-append (head_numbers h) (numbered h.state.regs ++ state_numbers h.state),
+      length-append (progress_numbers h) (numbered h.state.regs ++ state_numbers h.state),
       length-append (numbered h.state.regs) (state_numbers h.state),
       length-append (csr_numbers h.state.csrs) (reservation_numbers h.state.reservation),
       length-take 31 (drop 1 h.state.regs.x),
@@ -169,45 +186,152 @@ header_length h size =
     two None = refl
     two (Some (place, bytes)) = refl
 
-after_letters : (rest : List ℕ) → drop 8 (letters ++ rest) ≡ rest
-after_letters rest = drop_at letters rest 8 refl
+sizes_fit : (h : Header) (rest : List ℕ) → All Fits (size_numbers h ++ rest) → All Fits (size_numbers h)
+sizes_fit h rest fit =
+    let second = All-tail Fits h.blocks (h.spaces ∷ h.entries ∷ h.console ∷ rest) fit in
+    let third = All-tail Fits h.spaces (h.entries ∷ h.console ∷ rest) second in
+    let fourth = All-tail Fits h.entries (h.console ∷ rest) third in
+    All-cons Fits h.blocks (h.spaces ∷ h.entries ∷ h.console ∷ []) (All-head Fits h.blocks (h.spaces ∷ h.entries ∷ h.console ∷ rest) fit)
+    (All-cons Fits h.spaces (h.entries ∷ h.console ∷ []) (All-head Fits h.spaces (h.entries ∷ h.console ∷ rest) second)
+    (All-cons Fits h.entries (h.console ∷ []) (All-head Fits h.entries (h.console ∷ rest) third)
+    (All-cons Fits h.console [] (All-head Fits h.console rest fourth) (All-nil Fits))))
 
-after_header : (ns rest : List ℕ) → length ns ≡ 72 → drop 584 (letters ++ (numbers ns ++ rest)) ≡ rest
-after_header ns rest many =
-    ap (drop 584) (sym (append_assoc letters (numbers ns) rest))
-    ∙ drop_at (letters ++ numbers ns) rest 584 (omega (arith, length-append letters (numbers ns), numbers_length ns, many))
+later_fit : (h : Header) → All Fits (header_numbers Second h) → All Fits (later_numbers h)
+later_fit h fit =
+    let rest = device_numbers Second h ++ later_numbers h in
+    All-tail Fits (bit_number 0 h.device) (later_numbers h)
+    (All-tail Fits h.console rest
+    (All-tail Fits h.entries (h.console ∷ rest)
+    (All-tail Fits h.spaces (h.entries ∷ h.console ∷ rest)
+    (All-tail Fits h.blocks (h.spaces ∷ h.entries ∷ h.console ∷ rest) fit))))
 
-machine_in_again : (m : Machine) (rest : List ℕ) → IsSavable m
-    → machine_in (form_with m rest) ≡ from_console (header_in (header_numbers (header_of m))) (console_form m rest)
-unfolding machine_in form_with
-machine_in_again m rest savable =
-    let ns = header_numbers (header_of m) in
-    let many = header_length (header_of m) savable.registers in
-    rw (
-      after_letters (numbers ns ++ console_form m rest),
-      after_header ns (console_form m rest) many,
-      so_many_again 72 ns (console_form m rest) many savable.numbers,
-    ) refl
+-- what a header tells of a machine
+abbrev header_again : Machine → Header
+header_again m = header_in (size_numbers (header_of m)) m.device (later_numbers (header_of m))
+
+letters_length : (version : Version) → length (letters version) ≡ 8
+letters_length First = refl
+letters_length Second = refl
+
+after_letters : (version : Version) (rest : List ℕ) → drop 8 (letters version ++ rest) ≡ rest
+after_letters version rest = drop_at (letters version) rest 8 (letters_length version)
+
+header_long : (version : Version) (h : Header) → length h.state.regs.x ≡ 32 → 8 + 8 * length (header_numbers version h) ≡ header_end version
+header_long First h size = omega (arith, later_length h size)
+header_long Second h size = omega (arith, later_length h size)
+
+-- the parts of a header in a form, and what follows it
+module _ (version : Version) (m : Machine) (rest : List ℕ) (savable : IsSavable m) where
+  abbrev head : Header
+  head = header_of m
+
+  abbrev ns : List ℕ
+  ns = header_numbers version head
+
+  abbrev text : List ℕ
+  text = letters version ++ (numbers ns ++ rest)
+
+  sizes_again : numbers_in 4 (drop 8 text) ≡ size_numbers head
+  sizes_again =
+      let more = device_numbers version head ++ later_numbers head in
+      let parts : numbers ns ++ rest ≡ numbers (size_numbers head) ++ (numbers more ++ rest) =
+      ap (λ (xs : List ℕ). xs ++ rest) (flat_map-append number (size_numbers head) more) ∙ append_assoc (numbers (size_numbers head)) (numbers more) rest in
+      ap (numbers_in 4) (after_letters version (numbers ns ++ rest) ∙ parts)
+      ∙ so_many_again 4 (size_numbers head) (numbers more ++ rest) refl (sizes_fit head (device_numbers Second head ++ later_numbers head) savable.numbers)
+
+  after_header : drop (header_end version) text ≡ rest
+  after_header =
+      ap (drop (header_end version)) (sym (append_assoc (letters version) (numbers ns) rest))
+      ∙ drop_at (letters version ++ numbers ns) rest (header_end version)
+      (omega (arith, length-append (letters version) (numbers ns), letters_length version, numbers_length ns, header_long version head savable.registers))
+
+-- the numbers behind the sizes and the device page
+later_again : (version : Version) (m : Machine) (rest : List ℕ) → IsSavable m
+    → numbers_in 68 (drop (later_begin version) (letters version ++ (numbers (header_numbers version (header_of m)) ++ rest))) ≡ later_numbers (header_of m)
+later_again version m rest savable =
+    let h = header_of m in
+    let front = size_numbers h ++ device_numbers version h in
+    let later = later_numbers h in
+    let ns : header_numbers version h ≡ front ++ later = sym (append_assoc (size_numbers h) (device_numbers version h) later) in
+    let parts : letters version ++ (numbers (header_numbers version h) ++ rest) ≡ (letters version ++ numbers front) ++ (numbers later ++ rest) =
+    ap (λ (xs : List ℕ). letters version ++ (numbers xs ++ rest)) ns
+    ∙ ap (λ (xs : List ℕ). letters version ++ (xs ++ rest)) (flat_map-append number front later)
+    ∙ ap (λ (xs : List ℕ). letters version ++ xs) (append_assoc (numbers front) (numbers later) rest)
+    ∙ sym (append_assoc (letters version) (numbers front) (numbers later ++ rest)) in
+    ap (λ (xs : List ℕ). numbers_in 68 (drop (later_begin version) xs)) parts
+    ∙ ap (numbers_in 68) (drop_at (letters version ++ numbers front) (numbers later ++ rest) (later_begin version)
+    (omega (arith, length-append (letters version) (numbers front), letters_length version, numbers_length front, place version h)))
+    ∙ so_many_again 68 later rest (later_length h savable.registers) (later_fit h savable.numbers)
+  where
+    place : (version : Version) (h : Header) → 8 + 8 * length (size_numbers h ++ device_numbers version h) ≡ later_begin version
+    place First h = refl
+    place Second h = refl
+
+-- whether there is the device page, in a version that can tell the machine
+device_told : (version : Version) (m : Machine) (rest : List ℕ) → CanTell version m
+    → device_in version (letters version ++ (numbers (header_numbers version (header_of m)) ++ rest)) ≡ m.device
+device_told First m rest none = sym none
+device_told Second m rest tells =
+    let h = header_of m in
+    let device = bit_number 0 m.device in
+    let tail = numbers (later_numbers h) ++ rest in
+    let parts : letters Second ++ (numbers (header_numbers Second h) ++ rest) ≡ (letters Second ++ numbers (size_numbers h)) ++ (number device ++ tail) =
+    ap (λ (xs : List ℕ). letters Second ++ (xs ++ rest)) (flat_map-append number (size_numbers h) (device ∷ later_numbers h))
+    ∙ ap (λ (xs : List ℕ). letters Second ++ xs) (append_assoc (numbers (size_numbers h)) (number device ++ numbers (later_numbers h)) rest)
+    ∙ sym (append_assoc (letters Second) (numbers (size_numbers h)) ((number device ++ numbers (later_numbers h)) ++ rest))
+    ∙ ap (λ (xs : List ℕ). (letters Second ++ numbers (size_numbers h)) ++ xs) (append_assoc (number device) (numbers (later_numbers h)) rest) in
+    ap (λ (xs : List ℕ). bit 0 (number_in (drop 40 xs))) parts
+    ∙ ap (λ (xs : List ℕ). bit 0 (number_in xs)) (drop_at (letters Second ++ numbers (size_numbers h)) (number device ++ tail) 40
+    (omega (arith, length-append (letters Second) (numbers (size_numbers h)), letters_length Second, numbers_length (size_numbers h))))
+    ∙ ap (λ (n : ℕ). bit 0 n) (number_again device tail (small m.device)) ∙ device_again m.device
+  where
+    small : (b : Bool) → bit_number 0 b < 2 ^ 64
+    small true = omega arith
+    small false = omega arith
+
+machine_by_again : (version : Version) (m : Machine) (rest : List ℕ) → IsSavable m → CanTell version m
+    → machine_by version (form_with version m rest) ≡ from_console (header_again m) (console_form m rest)
+unfolding machine_by form_with
+machine_by_again version m rest savable tells =
+    let tail = console_form m rest in
+    let sizes = sizes_again version m tail savable in
+    let device = device_told version m tail tells in
+    let later = later_again version m tail savable in
+    let after = after_header version m tail savable in
+    λ i. from_console (header_in (sizes i) (device i) (later i)) (after i)
 
 machine_again : (m : Machine) → IsSavable m
-    → machine_with (header_in (header_numbers (header_of m))) m.platform.console.bytes m.platform.console.inputs m.spaces m.ram ≡ m
+    → machine_with (header_again m) m.platform.console.bytes m.platform.console.inputs m.spaces m.ram ≡ m
 unfolding header_in
 machine_again m savable =
     let platform = platform_again m savable in
-    λ i. record { platform = platform i; ram = m.ram; spaces = m.spaces; space_room = m.space_room; entry_room = m.entry_room }
+    λ i. record { platform = platform i; ram = m.ram; spaces = m.spaces; space_room = m.space_room; entry_room = m.entry_room; device = m.device }
 
-pub round_trip : RoundTrip
-round_trip m savable = let h = header_in (header_numbers (header_of m)) in
-    machine_in_again m m.ram savable
+-- the machine of a form in its version, and in the one that its letters tell
+machine_read : (version : Version) (m : Machine) → IsSavable m → CanTell version m → machine_by version (form_of version m) ≡ m
+machine_read version m savable tells = let h = header_again m in
+    machine_by_again version m m.ram savable tells
     ∙ from_console_again m h m.ram savable
     ∙ from_inputs_again m h m.platform.console.bytes m.ram savable
     ∙ from_spaces_again m h m.platform.console.bytes m.platform.console.inputs m.ram savable
     ∙ machine_again m savable
 
+version_again : (version : Version) (m : Machine) (rest : List ℕ) → version_in (form_with version m rest) ≡ version
+unfolding version_in form_with
+version_again First m rest = refl
+version_again Second m rest = refl
+
+pub round_trip : RoundTrip
+round_trip version m savable tells =
+    let is = version_again version m m.ram in
+    let read : machine_by (version_in (form_of version m)) (form_of version m) ≡ m =
+    ap (λ (v : Version). machine_by v (form_of version m)) is ∙ machine_read version m savable tells in
+    λ i. record { version = is i; machine = read i }
+
 pub bad_exactly : BadExactly
-bad_exactly bytes none m savable is =
-    let read : machine_in bytes ≡ m = ap machine_in (sym is) ∙ round_trip m savable in
-    none (subst IsSavable (sym read) savable) (ap form read ∙ is)
+bad_exactly bytes none version m savable tells is =
+    let read : saved_in bytes ≡ record { version = version; machine = m } = ap saved_in (sym is) ∙ round_trip version m savable tells in
+    none (subst (λ (s : SavedMachine). IsSavable s.machine) (sym read) savable) (ap saved_form read ∙ is)
 
 -- what comes after the front
 further : (a b c d : List ℕ) → a ++ (b ++ (c ++ d)) ≡ (a ++ (b ++ c)) ++ d
@@ -229,15 +353,15 @@ console_split m rest = let bytes = m.platform.console.bytes in
     ap (λ (tail : List ℕ). number (length bytes) ++ (bytes ++ tail)) (inputs_split m rest)
     ∙ further (number (length bytes)) bytes (inputs_form m []) rest
 
-pub form_split : (m : Machine) (rest : List ℕ) → form_with m rest ≡ front_form m ++ rest
+pub form_split : (version : Version) (m : Machine) (rest : List ℕ) → form_with version m rest ≡ front_form version m ++ rest
 unfolding form_with
-form_split m rest = let ns = header_numbers (header_of m) in
-    ap (λ (tail : List ℕ). letters ++ (numbers ns ++ tail)) (console_split m rest)
-    ∙ further letters (numbers ns) (console_form m []) rest
+form_split version m rest = let ns = header_numbers version (header_of m) in
+    ap (λ (tail : List ℕ). letters version ++ (numbers ns ++ tail)) (console_split m rest)
+    ∙ further (letters version) (numbers ns) (console_form m []) rest
 
 pub front_decides : FrontDecides
-front_decides m bytes k within ram = (
-  λ front. form_split m m.ram ∙ ap (λ (start : List ℕ). start ++ m.ram) front ∙ ap (λ (end : List ℕ). take k bytes ++ end) ram ∙ take-append-drop k bytes,
-  λ whole. append_cancel_right (front_form m) (take k bytes) m.ram
-      (sym (form_split m m.ram) ∙ whole ∙ sym (take-append-drop k bytes) ∙ ap (λ (end : List ℕ). take k bytes ++ end) (sym ram)),
+front_decides version m bytes k within ram = (
+  λ front. form_split version m m.ram ∙ ap (λ (start : List ℕ). start ++ m.ram) front ∙ ap (λ (end : List ℕ). take k bytes ++ end) ram ∙ take-append-drop k bytes,
+  λ whole. append_cancel_right (front_form version m) (take k bytes) m.ram
+      (sym (form_split version m m.ram) ∙ whole ∙ sym (take-append-drop k bytes) ∙ ap (λ (end : List ℕ). take k bytes ++ end) (sym ram)),
 )

@@ -12,17 +12,18 @@ use Rattle.std.proofs.lemmas.List.Elements.{All-more, All-weaker}
 use Rattle.arch_defs.specs.CsrBits.{guest_root_of, hgatp_bits}
 use Rattle.arch_defs.specs.Spaces.{Space}
 use Rattle.guest_save.specs.declared.headers.Header.{Header}
+use Rattle.guest_save.specs.declared.versions.Version.TheVariants.{Second}
 use Rattle.guest_save.specs.Headers.{header_numbers, header_of}
 use Rattle.guest_save.specs.Savable.{Fits, HasSizes, IsSavable, IsSavableSpace}
 use Rattle.guest_save.specs.Tests.{HasSoundSpaces, IsRead, IsSoundPlatform, IsSoundSpace}
 use Rattle.machine_defs.specs.Machine.{Machine}
 
-sound_space : (size room : ℕ) (s : Space) → IsSavableSpace size room s → IsSoundSpace size room s
-sound_space size room s is = record { table = is.key.table; few = is.few; entries = is.entries; pages = is.pages }
+sound_space : (size room : ℕ) (device : Bool) (s : Space) → IsSavableSpace size room device s → IsSoundSpace size room device s
+sound_space size room device s is = record { table = is.key.table; few = is.few; entries = is.entries; pages = is.pages }
 
-savable_spaces : (size room : ℕ) (spaces : List Space) → All (λ s. guest_root_of (hgatp_bits s.key) ≡ s.key) spaces → All (IsSoundSpace size room) spaces
-    → All (IsSavableSpace size room) spaces
-savable_spaces size room spaces stored sound = λ k d within.
+savable_spaces : (size room : ℕ) (device : Bool) (spaces : List Space) → All (λ s. guest_root_of (hgatp_bits s.key) ≡ s.key) spaces → All (IsSoundSpace size room device) spaces
+    → All (IsSavableSpace size room device) spaces
+savable_spaces size room device spaces stored sound = λ k d within.
     let is = sound k d within in record {
       key = record { stored = stored k d within; table = is.table };
       few = is.few;
@@ -37,7 +38,7 @@ pub record IsSound (m : Machine) : Type 0 where
   pub spaces : HasSoundSpaces (length m.ram) m
 
 pub savable_from : (m : Machine) → IsRead m → length m.platform.virt.regs.x ≡ 32 → m.platform.virt.regs.pc < 2 ^ 64
-    → All Fits (header_numbers (header_of m)) → IsSound m → IsSavable m
+    → All Fits (header_numbers Second (header_of m)) → IsSound m → IsSavable m
 savable_from m read registers pc numbers sound = record {
   sizes = sound.sizes;
   console = sound.platform.console;
@@ -55,7 +56,7 @@ savable_from m read registers pc numbers sound = record {
   clock = sound.platform.clock;
   reservation = sound.spaces.reservation.inside;
   few = sound.spaces.few;
-  spaces = savable_spaces (length m.ram) m.entry_room m.spaces read.keys sound.spaces.spaces;
+  spaces = savable_spaces (length m.ram) m.entry_room m.device m.spaces read.keys sound.spaces.spaces;
   keys = sound.spaces.keys;
   front = sound.spaces.front;
 }
@@ -74,7 +75,7 @@ savable_sound m savable = record {
   spaces = record {
     reservation = record { aligned = savable.virt.reservation; inside = savable.reservation };
     few = savable.few;
-    spaces = All-weaker (IsSavableSpace (length m.ram) m.entry_room) (IsSoundSpace (length m.ram) m.entry_room) (sound_space (length m.ram) m.entry_room) m.spaces savable.spaces;
+    spaces = All-weaker (IsSavableSpace (length m.ram) m.entry_room m.device) (IsSoundSpace (length m.ram) m.entry_room m.device) (sound_space (length m.ram) m.entry_room m.device) m.spaces savable.spaces;
     keys = savable.keys;
     front = savable.front;
   };
@@ -162,11 +163,11 @@ all_in_order xs i before rise all = subst (λ (ys : List (ℕ × ℕ)). IsNonDec
 
 -- the three tests of a machine that was read, by its header and the size of its RAM
 pub savable_by : (m : Machine) (h : Header) (size : ℕ) (b : Bool) → IsRead m → header_of m ≡ h → size ≡ length m.ram → length h.state.regs.x ≡ 32 → h.state.regs.pc < 2 ^ 64
-    → All Fits (header_numbers h) → HasSizes h size → IsSoundPlatform m.platform → (IsTrue b ↔ HasSoundSpaces size m) → IsTrue b ↔ IsSavable m
+    → All Fits (header_numbers Second h) → HasSizes h size → IsSoundPlatform m.platform → (IsTrue b ↔ HasSoundSpaces size m) → IsTrue b ↔ IsSavable m
 savable_by m h size b read same ram registers pc numbers sizes platform is =
     let own_registers = ap (λ (x : Header). length x.state.regs.x) same ∙ registers in
     let own_pc : m.platform.virt.regs.pc < 2 ^ 64 = omega (arith, ap (λ (x : Header). x.state.regs.pc) same, pc) in
-    let own_numbers = subst (λ (x : Header). All Fits (header_numbers x)) (sym same) numbers in
+    let own_numbers = subst (λ (x : Header). All Fits (header_numbers Second x)) (sym same) numbers in
     let own_sizes = subst (λ (x : Header). HasSizes x (length m.ram)) (sym same) (subst (λ (n : ℕ). HasSizes h n) ram sizes) in
     let own_spaces = subst (λ (n : ℕ). IsTrue b ↔ HasSoundSpaces n m) ram is in (
       λ (holds : IsTrue b). savable_from m read own_registers own_pc own_numbers (record { sizes = own_sizes; platform = platform; spaces = own_spaces.0 holds }),

@@ -6,15 +6,16 @@ use Rattle.arch_defs.specs.declared.cached.Entry.{Entry}
 use Rattle.arch_defs.specs.declared.registers.Regs.{Regs}
 use Rattle.arch_defs.specs.declared.registers.Virtual.{Virtual}
 use Rattle.arch_defs.specs.declared.roots.GuestRoot.{GuestRoot}
+use Rattle.arch_defs.specs.Devices.{device_frame}
 use Rattle.arch_defs.specs.Memory.{block_size, ram_base}
 use Rattle.arch_defs.specs.Roots.{is_table}
 use Rattle.arch_defs.specs.Spaces.{Space, is_for}
 use Rattle.arch_defs.specs.WalkedEntries.{folds}
 use Rattle.guest_save.specs.declared.headers.Header.{Header}
-use Rattle.guest_save.specs.Forms.{form}
+use Rattle.guest_save.specs.declared.versions.Version.TheVariants.{Second}
 use Rattle.guest_save.specs.Headers.{header_numbers, header_of}
-use Rattle.guest_save.specs.Reading.{machine_in}
 use Rattle.guest_save.specs.Savable.{pages_of, top_level_of}
+use Rattle.guest_save.specs.Saves.{saved_form, saved_in}
 use Rattle.machine_defs.specs.Machine.{Machine}
 use Rattle.machine_laws.specs.Reservations.{places_from}
 
@@ -53,11 +54,15 @@ is_reserved (Some (place, width)) size =
 abbrev pub is_in_ram : ℕ → Entry → Bool
 is_in_ram size e = nat_le ram_base (4096 * e.frame) && nat_le (4096 * e.frame + 4096) (ram_base + size)
 
+-- the frame of an entry is in RAM, or is the device page, where there is one
+abbrev pub is_in_reach : ℕ → Bool → Entry → Bool
+is_in_reach size device e = is_in_ram size e || (device && e.frame == device_frame)
+
 -- a walk of a table of this key can give an entry
-abbrev pub entry_fits : GuestRoot → ℕ → Entry → Bool
-entry_fits key size e =
+abbrev pub entry_fits : GuestRoot → ℕ → Bool → Entry → Bool
+entry_fits key size device e =
     nat_lt e.page (pages_of key)
-    && is_in_ram size e
+    && is_in_reach size device e
     && nat_le e.level (top_level_of key)
     && (e.r || e.x)
     && (not e.w || e.r)
@@ -66,11 +71,11 @@ abbrev pub has_other_page : Entry → Entry → Bool
 has_other_page a b = not (a.page == b.page)
 
 -- a space can be saved whose key was read
-abbrev pub space_fits : ℕ → ℕ → Space → Bool
-space_fits size room s =
+abbrev pub space_fits : ℕ → ℕ → Bool → Space → Bool
+space_fits size room device s =
     is_table s.key
     && nat_le (length s.entries) room
-    && list_all (entry_fits s.key size) s.entries
+    && list_all (entry_fits s.key size device) s.entries
     && all_pairs has_other_page s.entries
 
 abbrev pub has_other_key : Space → Space → Bool
@@ -91,15 +96,15 @@ is_savable m = let p = m.platform in
     && nat_le (length p.console.bytes) p.console.room
     && inputs_rise p.console.inputs
     && has_registers p.virt.regs
-    && list_all (λ n. nat_lt n (2 ^ 64)) (header_numbers (header_of m))
+    && list_all (λ n. nat_lt n (2 ^ 64)) (header_numbers Second (header_of m))
     && nat_le p.steps (2 ^ 60)
     && nat_le p.clock.time (2 ^ 62 + p.steps)
     && is_reserved p.virt.reservation (length m.ram)
     && nat_le (length m.spaces) m.space_room
-    && list_all (space_fits (length m.ram) m.entry_room) m.spaces
+    && list_all (space_fits (length m.ram) m.entry_room m.device) m.spaces
     && all_pairs has_other_key m.spaces
     && has_front p.virt m.spaces
 
--- bytes are the form of a machine that can be saved: of the one that they give
+-- bytes are the form of a machine that can be saved, in the version that they tell: of the one that they give
 unfoldable pub is_saved : List ℕ → Bool
-is_saved bytes = is_savable (machine_in bytes) && bytes_eq (form (machine_in bytes)) bytes
+is_saved bytes = is_savable (saved_in bytes).machine && bytes_eq (saved_form (saved_in bytes)) bytes

@@ -1,18 +1,17 @@
 -- A machine as bytes (own): eight letters, the header, the console's bytes and unread inputs, the spaces,
 -- each behind a count, and RAM.
-use Rattle.std.specs.Prelude.{ℕ, ◌+◌, ◌*◌, List, [], ◌∷◌, ◌++◌, length, codes}
+use Rattle.std.specs.Prelude.{ℕ, ◌+◌, ◌*◌, List, [], ◌∷◌, ◌++◌, length}
 use Rattle.std.specs.List.{flat_map}
 use Rattle.arch_defs.specs.declared.cached.Entry.{Entry}
 use Rattle.arch_defs.specs.Bits.{bit_number}
 use Rattle.arch_defs.specs.CsrBits.{hgatp_bits}
 use Rattle.arch_defs.specs.Spaces.{Space}
+use Rattle.guest_save.specs.declared.versions.Version.{Version}
+use Rattle.guest_save.specs.declared.versions.Version.TheVariants.{Second}
 use Rattle.guest_save.specs.Headers.{header_numbers, header_of}
 use Rattle.guest_save.specs.Numbers.{number, numbers}
+use Rattle.guest_save.specs.Versions.{letters}
 use Rattle.machine_defs.specs.Machine.{Machine}
-
--- the letters, which tell the version of a form
-abbrev pub letters : List ℕ
-letters = codes "NESTHV01"
 
 -- an input of the console: its moment, and its byte
 abbrev pub input_form : ℕ × ℕ → List ℕ
@@ -42,12 +41,17 @@ unfoldable pub console_form : Machine → List ℕ → List ℕ
 console_form m rest = let bytes = m.platform.console.bytes in
     number (length bytes) ++ (bytes ++ inputs_form m rest)
 
-unfoldable pub form_with : Machine → List ℕ → List ℕ
-form_with m rest = letters ++ (numbers (header_numbers (header_of m)) ++ console_form m rest)
+unfoldable pub form_with : Version → Machine → List ℕ → List ℕ
+form_with version m rest =
+    letters version ++ (numbers (header_numbers version (header_of m)) ++ console_form m rest)
 
 -- all of a machine but its RAM, and all of it
-abbrev pub front_form : Machine → List ℕ
-front_form m = form_with m []
+abbrev pub front_form : Version → Machine → List ℕ
+front_form version m = form_with version m []
 
+abbrev pub form_of : Version → Machine → List ℕ
+form_of version m = form_with version m m.ram
+
+-- the form that is written
 abbrev pub form : Machine → List ℕ
-form m = form_with m m.ram
+form m = form_of Second m

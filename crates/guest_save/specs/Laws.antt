@@ -1,38 +1,50 @@
 -- Laws of the form.
-use Rattle.std.specs.Prelude.{ℕ, ◌≡◌, ◌+◌, ◌*◌, ◌%◌, ◌≤◌, true, false, List, [], length, take, drop}
+use Rattle.std.specs.Prelude.{ℕ, ◌≡◌, ◌+◌, ◌*◌, ◌%◌, ◌≤◌, Bool, true, false, List, [], length, take, drop}
 use Rattle.arch_defs.specs.declared.cached.Entry.{Entry}
 use Rattle.arch_defs.specs.declared.roots.GuestRoot.{GuestRoot}
 use Rattle.arch_defs.specs.CachedEntries.{CanFill}
 use Rattle.arch_defs.specs.Memory.{block_size}
 use Rattle.guest_save.specs.Deciding.{is_saved}
-use Rattle.guest_save.specs.Forms.{form, front_form}
+use Rattle.guest_save.specs.declared.versions.Version.{Version}
+use Rattle.guest_save.specs.Forms.{form, form_of, front_form}
 use Rattle.guest_save.specs.Headers.{header_of}
 use Rattle.guest_save.specs.Reading.{machine_in}
 use Rattle.guest_save.specs.Registers.{csrs_in}
-use Rattle.guest_save.specs.Savable.{HasSizes, IsSavable, IsSavableEntry}
+use Rattle.guest_save.specs.Savable.{HasSizes, IsOfDevice, IsSavable, IsSavableEntry}
+use Rattle.guest_save.specs.Saves.{saved_form, saved_in}
+use Rattle.guest_save.specs.Versions.{CanTell}
 use Rattle.guest_specs.specs.declared.guests.GuestSpec.{GuestSpec}
 use Rattle.guest_specs.specs.Inputs.{AreInputs}
 use Rattle.machine_defs.specs.Freshness.{UsesFresh}
 use Rattle.machine_defs.specs.Machine.{Machine, start}
 use Rattle.machine_defs.specs.Runs.{run}
+use Rattle.machine_laws.specs.EachEntry.{EachEntry}
 use Rattle.machine_laws.specs.Keeping.{IsOrderly}
 use Rattle.machine_laws.specs.Reservations.{CachesInRam, ReservesInRam}
 use Rattle.machine_laws.specs.StorableStates.{stored_form}
 
--- the form of a machine that can be saved gives it back
+-- the form of a machine that can be saved gives it back, in each version that can tell it
 abbrev pub RoundTrip : Type 0
-RoundTrip = (m : Machine) → IsSavable m → machine_in (form m) ≡ m
+RoundTrip = (version : Version) (m : Machine) → IsSavable m → CanTell version m
+    → saved_in (form_of version m) ≡ record { version = version; machine = m }
 
--- bytes are no savable machine's form where the machine that they give cannot be saved, or has another form
+-- bytes are no form of a machine that can be saved
+abbrev pub IsNoForm : List ℕ → Type 0
+IsNoForm bytes = (version : Version) (m : Machine) → IsSavable m → CanTell version m
+    → form_of version m ≡ bytes → ⊥
+
+-- they are none where the machine that they give cannot be saved, or has another form
 abbrev pub BadExactly : Type 0
-BadExactly = (bytes : List ℕ) → (IsSavable (machine_in bytes) → form (machine_in bytes) ≡ bytes → ⊥)
-    → (m : Machine) → IsSavable m → form m ≡ bytes → ⊥
+BadExactly = (bytes : List ℕ)
+    → (IsSavable (saved_in bytes).machine → saved_form (saved_in bytes) ≡ bytes → ⊥) → IsNoForm bytes
 
 -- the front of a machine's form comes first, so bytes whose end is its RAM are its form exactly where their
 -- front is its front
 abbrev pub FrontDecides : Type 0
-FrontDecides = (m : Machine) (bytes : List ℕ) (k : ℕ) → k ≤ length bytes → m.ram ≡ drop k bytes
-    → (front_form m ≡ take k bytes → form m ≡ bytes) × (form m ≡ bytes → front_form m ≡ take k bytes)
+FrontDecides = (version : Version) (m : Machine) (bytes : List ℕ) (k : ℕ) → k ≤ length bytes
+    → m.ram ≡ drop k bytes
+    → (front_form version m ≡ take k bytes → form_of version m ≡ bytes)
+    × (form_of version m ≡ bytes → front_form version m ≡ take k bytes)
 
 -- registers that were read are as they can be stored, whatever the numbers are
 abbrev pub ReadIsStored : Type 0
@@ -51,8 +63,8 @@ abbrev pub SavableGoesOn : Type 0
 SavableGoesOn = (m : Machine) → IsSavable m → CanGoOn m
 
 abbrev pub SavableIsFilled : Type 0
-SavableIsFilled = (key : GuestRoot) (blocks : List ℕ) (e : Entry)
-    → IsSavableEntry key (length blocks * block_size) e → CanFill blocks e
+SavableIsFilled = (key : GuestRoot) (blocks : List ℕ) (device : Bool) (e : Entry)
+    → IsSavableEntry key (length blocks * block_size) device e → CanFill blocks e
 
 -- a guest that is within the limits, and whose image fits (own)
 pub record CanStart (guest : GuestSpec) : Type 0 where
@@ -75,6 +87,11 @@ abbrev pub RunKeepsSizes : Type 0
 RunKeepsSizes = (m : Machine) (n : ℕ) → CachesInRam m → ReservesInRam m
     → HasSizes (header_of m) (length m.ram) → HasSizes (header_of (run m n)) (length (run m n).ram)
 
+-- and each cached entry is of the device page only where there is one
+abbrev pub RunKeepsDevice : Type 0
+RunKeepsDevice = (m : Machine) (n : ℕ) → EachEntry (IsOfDevice m.device) m.spaces
+    → EachEntry (IsOfDevice (run m n).device) (run m n).spaces
+
 -- a run of a and then of b steps, saved between, is the run of both
 abbrev pub ResumedGoesOn : Type 0
 ResumedGoesOn = (m : Machine) (a b : ℕ) → IsSavable (run m a)
@@ -90,7 +107,7 @@ SavedUseFresh = (saved : Machine) (n : ℕ) → UsesFreshSince saved n
 
 -- bytes are the form of a machine that can be saved: of the one that they give
 abbrev pub IsSaved : List ℕ → Type 0
-IsSaved bytes = IsSavable (machine_in bytes) × (form (machine_in bytes) ≡ bytes)
+IsSaved bytes = IsSavable (saved_in bytes).machine × (saved_form (saved_in bytes) ≡ bytes)
 
 -- the test tells exactly whether they are
 abbrev pub SavedExactly : Type 0
@@ -99,7 +116,8 @@ SavedExactly = (bytes : List ℕ)
 
 -- so the form of each machine that can be saved passes, and other bytes are the form of none
 abbrev pub FormIsSaved : Type 0
-FormIsSaved = (m : Machine) → IsSavable m → is_saved (form m) ≡ true
+FormIsSaved = (version : Version) (m : Machine) → IsSavable m → CanTell version m
+    → is_saved (form_of version m) ≡ true
 
 abbrev pub UnsavedIsBad : Type 0
-UnsavedIsBad = (bytes : List ℕ) → is_saved bytes ≡ false → (m : Machine) → IsSavable m → form m ≡ bytes → ⊥
+UnsavedIsBad = (bytes : List ℕ) → is_saved bytes ≡ false → IsNoForm bytes

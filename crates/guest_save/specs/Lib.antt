@@ -8,5 +8,7 @@ pub mod Numbers
 pub mod Reading
 pub mod Registers
 pub mod Savable
+pub mod Saves
 pub mod Tests
+pub mod Versions
 pub mod View

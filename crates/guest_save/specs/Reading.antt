@@ -1,13 +1,16 @@
 -- The machine that any bytes give. Past their end a number is 0, and a count that is too large counts what
 -- may be there; whether the bytes are a machine's form is tested by writing the form again.
-use Rattle.std.specs.Prelude.{ℕ, zero, suc, ◌*◌, List, [], ◌∷◌, drop, take, slice_index, nat_le, if◌then◌else◌}
+use Rattle.std.specs.Prelude.{ℕ, zero, suc, ◌*◌, Bool, false, List, [], ◌∷◌, drop, take, slice_index, nat_le, if◌then◌else◌}
 use Rattle.arch_defs.specs.declared.cached.Entry.{Entry}
 use Rattle.arch_defs.specs.Bits.{bit, field}
 use Rattle.arch_defs.specs.CsrBits.{guest_root_of}
 use Rattle.arch_defs.specs.Spaces.{Space}
 use Rattle.guest_save.specs.declared.headers.Header.{Header}
+use Rattle.guest_save.specs.declared.versions.Version.{Version}
+use Rattle.guest_save.specs.declared.versions.Version.TheVariants.{First, Second}
 use Rattle.guest_save.specs.Headers.{header_in}
 use Rattle.guest_save.specs.Numbers.{items_in, number_in, numbers_in}
+use Rattle.guest_save.specs.Versions.{header_end, later_begin, version_in}
 use Rattle.machine_defs.specs.Machine.{Machine, Platform, with_pending_lines}
 
 -- how many console bytes, inputs and spaces a machine may have, and how many entries a space
@@ -89,6 +92,7 @@ machine_with h console inputs spaces ram = record {
   spaces = spaces;
   space_room = h.spaces;
   entry_room = h.entries;
+  device = h.device;
 }
 
 -- the machine of the parts before each part, and of the bytes from it on. RAM is what is left
@@ -104,5 +108,19 @@ unfoldable pub from_console : Header → List ℕ → Machine
 from_console h bytes = let k = count_in most_console bytes in
     from_inputs h (take k (drop 8 bytes)) (drop k (drop 8 bytes))
 
-unfoldable pub machine_in : List ℕ → Machine
-machine_in bytes = from_console (header_in (numbers_in 72 (drop 8 bytes))) (drop 584 bytes)
+-- whether bytes tell the device page: in the first version it is not there
+abbrev pub device_in : Version → List ℕ → Bool
+device_in First bytes = false
+device_in Second bytes = bit 0 (number_in (drop 40 bytes))
+
+-- the header of bytes in a version
+abbrev pub header_by : Version → List ℕ → Header
+header_by version bytes = header_in (numbers_in 4 (drop 8 bytes)) (device_in version bytes)
+    (numbers_in 68 (drop (later_begin version) bytes))
+
+-- the machine of bytes in a version, and in that which they tell
+unfoldable pub machine_by : Version → List ℕ → Machine
+machine_by version bytes = from_console (header_by version bytes) (drop (header_end version) bytes)
+
+abbrev pub machine_in : List ℕ → Machine
+machine_in bytes = machine_by (version_in bytes) bytes

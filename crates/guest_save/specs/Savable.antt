@@ -1,5 +1,5 @@
 -- The machines that can be saved (own).
-use Rattle.std.specs.Prelude.{ℕ, ◌≡◌, ◌+◌, ◌*◌, ◌<◌, ◌≤◌, ◌^◌, ◌||◌, true, false, length}
+use Rattle.std.specs.Prelude.{ℕ, ◌≡◌, ◌⊎◌, Bool, ◌+◌, ◌*◌, ◌<◌, ◌≤◌, ◌^◌, ◌||◌, true, false, length}
 use Rattle.std.specs.List.{All, AllPairs}
 use Rattle.arch_defs.specs.declared.cached.Entry.{Entry}
 use Rattle.arch_defs.specs.declared.roots.GuestMode.TheVariants.{Sv39x4, Sv48x4}
@@ -7,11 +7,13 @@ use Rattle.arch_defs.specs.declared.roots.GuestRoot.{GuestRoot}
 use Rattle.arch_defs.specs.declared.roots.GuestRoot.TheVariants.{Bare, Table}
 use Rattle.arch_defs.specs.CachedEntries.{HasOtherPage}
 use Rattle.arch_defs.specs.CsrBits.{guest_root_of, hgatp_bits}
+use Rattle.arch_defs.specs.Devices.{device_frame}
 use Rattle.arch_defs.specs.Memory.{block_size}
 use Rattle.arch_defs.specs.Roots.{is_table}
 use Rattle.arch_defs.specs.Spaces.{Space, is_for}
 use Rattle.arch_defs.specs.WalkedEntries.{folds}
 use Rattle.guest_save.specs.declared.headers.Header.{Header}
+use Rattle.guest_save.specs.declared.versions.Version.TheVariants.{Second}
 use Rattle.guest_save.specs.Headers.{header_numbers, header_of}
 use Rattle.guest_specs.specs.Inputs.{AreInputs}
 use Rattle.machine_defs.specs.Machine.{Machine, with_pending_lines}
@@ -51,18 +53,26 @@ pub record IsKey (key : GuestRoot) : Type 0 where
   pub stored : guest_root_of (hgatp_bits key) ≡ key
   pub table : is_table key ≡ true
 
+-- the frame of an entry is in RAM of this size, or is the device page, where there is one
+abbrev pub IsInReach : ℕ → Bool → Entry → Type 0
+IsInReach size device e = IsInRam size e ⊎ ((device ≡ true) × (e.frame ≡ device_frame))
+
+-- an entry is of the device page only where there is one, whatever the value of hgatp is that its space is for
+abbrev pub IsOfDevice : Bool → GuestRoot → Entry → Type 0
+IsOfDevice device key e = e.frame ≡ device_frame → device ≡ true
+
 -- an entry that a walk of a table of this key can give a guest whose RAM has this size
-pub record IsSavableEntry (key : GuestRoot) (size : ℕ) (e : Entry) : Type 0 where
+pub record IsSavableEntry (key : GuestRoot) (size : ℕ) (device : Bool) (e : Entry) : Type 0 where
   pub page : e.page < pages_of key
-  pub frame : IsInRam size e
+  pub frame : IsInReach size device e
   pub level : e.level ≤ top_level_of key
   pub right : (e.r || e.x) ≡ true
   pub write : e.w ≡ true → e.r ≡ true
 
-pub record IsSavableSpace (size room : ℕ) (s : Space) : Type 0 where
+pub record IsSavableSpace (size room : ℕ) (device : Bool) (s : Space) : Type 0 where
   pub key : IsKey s.key
   pub few : length s.entries ≤ room
-  pub entries : All (IsSavableEntry s.key size) s.entries
+  pub entries : All (IsSavableEntry s.key size device) s.entries
   pub pages : AllPairs HasOtherPage s.entries
 
 abbrev pub HasOtherKey : Space → Space → Type 0
@@ -74,12 +84,12 @@ pub record IsSavable (m : Machine) : Type 0 where
   pub inputs : AreInputs m.platform.console.inputs
   pub registers : length m.platform.virt.regs.x ≡ 32
   pub virt : IsStorable m.platform.virt
-  pub numbers : All Fits (header_numbers (header_of m))
+  pub numbers : All Fits (header_numbers Second (header_of m))
   pub lines : with_pending_lines m.platform ≡ m.platform
   pub steps : m.platform.steps ≤ 2 ^ 60
   pub clock : m.platform.clock.time ≤ 2 ^ 62 + m.platform.steps
   pub reservation : ReservesInRam m
   pub few : length m.spaces ≤ m.space_room
-  pub spaces : All (IsSavableSpace (length m.ram) m.entry_room) m.spaces
+  pub spaces : All (IsSavableSpace (length m.ram) m.entry_room m.device) m.spaces
   pub keys : AllPairs HasOtherKey m.spaces
   pub front : folds m.platform.virt ≡ true → FrontIs m.platform.virt.csrs.hgatp m.spaces

@@ -1,5 +1,5 @@
 -- What reading gives by itself, and what is tested beside it.
-use Rattle.std.specs.Prelude.{ℕ, ◌≡◌, ◌+◌, ◌%◌, ◌<◌, ◌≤◌, ◌^◌, true, Option, length, slice_index}
+use Rattle.std.specs.Prelude.{ℕ, Bool, ◌≡◌, ◌+◌, ◌%◌, ◌<◌, ◌≤◌, ◌^◌, true, Option, length, slice_index}
 use Rattle.std.specs.List.{All, AllPairs}
 use Rattle.std.specs.List.Sorted.{IsNonDecreasingBy}
 use Rattle.arch_defs.specs.CachedEntries.{HasOtherPage}
@@ -30,10 +30,10 @@ pub record IsReserved (reservation : Option (ℕ × ℕ)) (size : ℕ) : Type 0 
   pub inside : ReservesWithin (places_from ram_base size) reservation
 
 -- a space can be saved whose key was read
-pub record IsSoundSpace (size room : ℕ) (s : Space) : Type 0 where
+pub record IsSoundSpace (size room : ℕ) (device : Bool) (s : Space) : Type 0 where
   pub table : is_table s.key ≡ true
   pub few : length s.entries ≤ room
-  pub entries : All (IsSavableEntry s.key size) s.entries
+  pub entries : All (IsSavableEntry s.key size device) s.entries
   pub pages : AllPairs HasOtherPage s.entries
 
 -- progress, console and inputs of a platform that was read
@@ -49,6 +49,6 @@ pub record IsSoundPlatform (p : Platform) : Type 0 where
 pub record HasSoundSpaces (size : ℕ) (m : Machine) : Type 0 where
   pub reservation : IsReserved m.platform.virt.reservation size
   pub few : length m.spaces ≤ m.space_room
-  pub spaces : All (IsSoundSpace size m.entry_room) m.spaces
+  pub spaces : All (IsSoundSpace size m.entry_room m.device) m.spaces
   pub keys : AllPairs HasOtherKey m.spaces
   pub front : folds m.platform.virt ≡ true → FrontIs m.platform.virt.csrs.hgatp m.spaces

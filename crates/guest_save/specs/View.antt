@@ -17,6 +17,7 @@ machine_of parts = let h = parts.header in record {
   spaces = parts.spaces.items;
   space_room = h.spaces;
   entry_room = h.entries;
+  device = h.device;
 }
 
 -- the header tells how many blocks of RAM there are

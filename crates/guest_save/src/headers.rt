@@ -1,23 +1,28 @@
 // The header of a form.
 
 ghost use Rattle.std.specs.Prelude.{◌≡◌};
-ghost use Rattle.guest_save.specs.Headers.{head_numbers, header_in, mode_number, mode_of, reservation_numbers, reservation_of, status_number, status_of};
+ghost use Rattle.arch_defs.specs.Bits.{bit_number};
+ghost use Rattle.guest_save.specs.Headers.{header_in, mode_number, mode_of, progress_numbers, reservation_numbers, reservation_of, size_numbers, status_number, status_of};
 
 use crate::registers::csrs_in;
 use arch_defs::{Mode, Regs, Virtual};
 use guest_specs::Status;
 
-/// How many numbers a header has.
-pub const HEADER_NUMBERS: usize = 72;
+/// How many sizes a header has, and how many numbers behind them and the device page.
+pub const SIZE_NUMBERS: usize = 4;
+
+pub const LATER_NUMBERS: usize = 68;
 
 /// What a form of each machine has beside its letters: how many blocks of RAM there are, and at most how many
-/// spaces, entries in each and console bytes; status, steps, clock and timer; and the state of the hart.
+/// spaces, entries in each and console bytes; whether there is the device page; status, steps, clock and
+/// timer; and the state of the hart.
 #[derive(Clone, Copy)]
 pub struct Header {
     pub blocks: u64,
     pub spaces: u64,
     pub entries: u64,
     pub console: u64,
+    pub device: bool,
     pub status: Status,
     pub steps: u64,
     pub time: u64,
@@ -87,15 +92,25 @@ fn reservation_of(width: u64, place: u64) -> Option<(u64, u8)>
 }
 
 impl Header {
-    /// Its first numbers: sizes, progress, mode and pc.
-    pub fn head(&self) -> [u64; 10]
-        ensures { result ≡ head_numbers self.now }
+    /// Its first numbers: sizes.
+    pub fn sizes(&self) -> [u64; 4]
+        ensures { result ≡ size_numbers self.now }
+    {
+        [self.blocks, self.spaces, self.entries, self.console]
+    }
+
+    /// Whether there is the device page, as a number.
+    pub fn device_number(&self) -> u64
+        ensures { result ≡ bit_number 0 self.now.device }
+    {
+        self.device as u64
+    }
+
+    /// Its numbers behind these: progress, mode and pc.
+    pub fn progress(&self) -> [u64; 6]
+        ensures { result ≡ progress_numbers self.now }
     {
         [
-            self.blocks,
-            self.spaces,
-            self.entries,
-            self.console,
             status_number(self.status),
             self.steps,
             self.time,
@@ -107,25 +122,26 @@ impl Header {
 
     /// The header of its numbers.
     #[tactic(auto, unfolding(crate::specs::Headers::header_in))]
-    pub fn of(numbers: &[u64; HEADER_NUMBERS]) -> Header
-        ensures { result ≡ header_in numbers.now }
+    pub fn of(sizes: &[u64; SIZE_NUMBERS], device: bool, numbers: &[u64; LATER_NUMBERS]) -> Header
+        ensures { result ≡ header_in sizes.now device numbers.now }
     {
         let mut x = [0; 32];
-        x[1..].copy_from_slice(&numbers[10..41]);
+        x[1..].copy_from_slice(&numbers[6..37]);
         Header {
-            blocks: numbers[0],
-            spaces: numbers[1],
-            entries: numbers[2],
-            console: numbers[3],
-            status: status_of(numbers[4]),
-            steps: numbers[5],
-            time: numbers[6],
-            timer: numbers[7],
+            blocks: sizes[0],
+            spaces: sizes[1],
+            entries: sizes[2],
+            console: sizes[3],
+            device,
+            status: status_of(numbers[0]),
+            steps: numbers[1],
+            time: numbers[2],
+            timer: numbers[3],
             state: Virtual {
-                regs: Regs { x, pc: numbers[9] },
-                csrs: csrs_in(&numbers[41..]),
-                mode: mode_of(numbers[8]),
-                reservation: reservation_of(numbers[70], numbers[71]),
+                regs: Regs { x, pc: numbers[5] },
+                csrs: csrs_in(&numbers[37..]),
+                mode: mode_of(numbers[4]),
+                reservation: reservation_of(numbers[66], numbers[67]),
             },
         }
     }

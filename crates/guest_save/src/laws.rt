@@ -1,6 +1,6 @@
 // Laws of forms.
 
-ghost use Rattle.guest_save.specs.Laws.{BadExactly, FormIsSaved, FrontDecides, ReadIsStored, ResumedGoesOn, RoundTrip, RunKeepsSizes, SavableGoesOn, SavableIsFilled, SavedExactly, SavedUseFresh, StartIsSavable, UnsavedIsBad};
+ghost use Rattle.guest_save.specs.Laws.{BadExactly, FormIsSaved, FrontDecides, ReadIsStored, ResumedGoesOn, RoundTrip, RunKeepsDevice, RunKeepsSizes, SavableGoesOn, SavableIsFilled, SavedExactly, SavedUseFresh, StartIsSavable, UnsavedIsBad};
 
 /// The form of a machine that can be saved gives it back, and other bytes than such a form are bad.
 pub fn reading_is_exact()
@@ -28,7 +28,8 @@ pub fn saved_is_decided()
 {}
 
 /// A run keeps the sizes of a machine that caches and reserves in its RAM alone: they stay within the limits,
-/// and RAM stays of whole blocks.
+/// and RAM stays of whole blocks. And a run caches entries of the device page only where there is one.
 pub fn sizes_stay()
-    ensures { RunKeepsSizes }
+    ensures sizes { RunKeepsSizes }
+    ensures device { RunKeepsDevice }
 {}

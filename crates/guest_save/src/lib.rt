@@ -11,6 +11,7 @@ mod registers;
 mod savable;
 mod saved;
 mod snapshots;
+mod versions;
 mod writing;
 
 pub use headers::Header;
@@ -18,4 +19,5 @@ pub use laws::{reading_is_exact, saved_is_decided, saved_machines_go_on, sizes_s
 pub use savable::numbers_fit;
 pub use saved::{SaveEnd, Saved, read};
 pub use snapshots::Snapshot;
+pub use versions::Version;
 pub use writing::put;

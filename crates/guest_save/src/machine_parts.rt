@@ -6,14 +6,14 @@ ghost use Rattle.arch_defs.specs.Inputs.{has_input};
 ghost use Rattle.arch_defs.specs.Memory.{block_size};
 ghost use Rattle.arch_defs.specs.Spaces.{Space};
 ghost use Rattle.guest_save.specs.Headers.{blocks_of, header_of};
-ghost use Rattle.guest_save.specs.Numbers.{numbers_in};
-ghost use Rattle.guest_save.specs.Reading.{from_console, from_inputs, from_spaces, machine_in};
+ghost use Rattle.guest_save.specs.Reading.{device_in, from_console, from_inputs, from_spaces, header_by, machine_by};
 ghost use Rattle.machine_defs.specs.Machine.{Machine, with_lines};
 
-use crate::headers::{HEADER_NUMBERS, Header};
+use crate::headers::{Header, LATER_NUMBERS, SIZE_NUMBERS};
 use crate::items::{SavedSpace, after_spaces, inputs_in, spaces_in};
-use crate::numbers::{after, count_in, numbers_in};
+use crate::numbers::{after, count_in, number_in, numbers_in};
 use crate::snapshots::Snapshot;
+use crate::versions::Version;
 use arch_defs::{BLOCK_SIZE, Entry, GuestRoot};
 use no_memory::NoMemory;
 use std::alloc::Global;
@@ -193,12 +193,32 @@ fn from_console(alloc: Global, header: Header, bytes: &[u8]) -> Result<MachinePa
     from_inputs(alloc, header, console, after(rest, count))
 }
 
-/// The machine that bytes give, whatever they are.
-#[tactic(auto, unfolding(crate::specs::Reading::machine_in))]
-pub fn machine_in(alloc: Global, bytes: &[u8]) -> Result<MachineParts, NoMemory>
-    ensures { IfOk result (λ parts. parts ≡ machine_in bytes.now) }
+// Whether bytes tell the device page.
+fn device_in(version: Version, bytes: &[u8]) -> bool
+    ensures { result ≡ device_in version bytes.now }
 {
-    let mut numbers = [0; HEADER_NUMBERS];
-    numbers_in(after(bytes, 8), &mut numbers);
-    from_console(alloc, Header::of(&numbers), after(bytes, 584))
+    match version {
+        Version::First => false,
+        Version::Second => number_in(after(bytes, 40)) % 2 == 1,
+    }
+}
+
+// The header of bytes.
+fn header_by(version: Version, bytes: &[u8]) -> Header
+    ensures { result ≡ header_by version bytes.now }
+{
+    let mut sizes = [0; SIZE_NUMBERS];
+    numbers_in(after(bytes, 8), &mut sizes);
+    let mut later = [0; LATER_NUMBERS];
+    numbers_in(after(bytes, version.later_begin()), &mut later);
+    Header::of(&sizes, device_in(version, bytes), &later)
+}
+
+/// The machine that bytes give in this version, whatever they are.
+#[tactic(auto, unfolding(crate::specs::Reading::machine_by))]
+pub fn machine_by(alloc: Global, version: Version, bytes: &[u8]) -> Result<MachineParts, NoMemory>
+    ensures { IfOk result (λ parts. parts ≡ machine_by version bytes.now) }
+{
+    let header = header_by(version, bytes);
+    from_console(alloc, header, after(bytes, version.header_end()))
 }

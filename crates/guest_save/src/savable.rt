@@ -7,8 +7,9 @@ ghost use Rattle.arch_defs.specs.CachedEntries.{HasOtherPage};
 ghost use Rattle.arch_defs.specs.Memory.{ram_base};
 ghost use Rattle.arch_defs.specs.Roots.{is_root};
 ghost use Rattle.arch_defs.specs.WalkedEntries.{folds};
+ghost use Rattle.guest_save.specs.declared.versions.Version.TheVariants.{Second};
 ghost use Rattle.guest_save.specs.Headers.{header_numbers, numbered};
-ghost use Rattle.guest_save.specs.Savable.{Fits, HasOtherKey, HasSizes, IsSavable, IsSavableEntry, IsSavableSpace, pages_of, top_level_of};
+ghost use Rattle.guest_save.specs.Savable.{Fits, HasOtherKey, HasSizes, IsInReach, IsSavable, IsSavableEntry, IsSavableSpace, pages_of, top_level_of};
 ghost use Rattle.guest_save.specs.Tests.{HasSoundSpaces, IsRead, IsReserved, IsSoundPlatform, IsSoundSpace};
 ghost use Rattle.machine_laws.specs.FrontSpaces.{FrontIs};
 ghost use Rattle.machine_laws.specs.Reservations.{places_from};
@@ -21,6 +22,9 @@ use arch_defs::{BLOCK_SIZE, Entry, GuestMode, GuestRoot, Virtual};
 
 // Where RAM begins.
 const RAM_BASE: u64 = 0x8000_0000;
+
+// The frame of the device page.
+const DEVICE_FRAME: u64 = 0x10000;
 
 // Whether a number is within its limits.
 fn is_within(number: u64, least: u64, most: u64) -> bool
@@ -123,6 +127,17 @@ fn is_in_ram(frame: u64, ram: u64) -> bool
     frame >= RAM_BASE / 4096 && frame < (RAM_BASE + ram) / 4096
 }
 
+// Whether the frame of an entry is in RAM, or is the device page, where there is one.
+fn is_in_reach(entry: &Entry, ram: u64, device: bool) -> bool
+    requires { ram ≤ 67108864 }
+    ensures { IsTrue result ↔ IsInReach ram device entry.now }
+{
+    if is_in_ram(entry.frame, ram) {
+        return true;
+    }
+    device && entry.frame == DEVICE_FRAME
+}
+
 // Whether an entry lets a page be read or executed, and written only where it can be read.
 fn permits(entry: &Entry) -> bool
     ensures { IsTrue result
@@ -135,14 +150,14 @@ fn permits(entry: &Entry) -> bool
 }
 
 // Whether a walk of a table of this key can give an entry.
-fn entry_fits(entry: &Entry, key: GuestRoot, ram: u64) -> bool
+fn entry_fits(entry: &Entry, key: GuestRoot, ram: u64, device: bool) -> bool
     requires { ram ≤ 67108864 }
-    ensures { IsTrue result ↔ IsSavableEntry key ram entry.now }
+    ensures { IsTrue result ↔ IsSavableEntry key ram device entry.now }
 {
     if entry.page >= pages_of(key) {
         return false;
     }
-    if !is_in_ram(entry.frame, ram) {
+    if !is_in_reach(entry, ram, device) {
         return false;
     }
     if entry.level > top_level_of(key) {
@@ -152,12 +167,12 @@ fn entry_fits(entry: &Entry, key: GuestRoot, ram: u64) -> bool
 }
 
 // Whether it can give each of these.
-fn entries_fit(entries: &[Entry], key: GuestRoot, ram: u64) -> bool
+fn entries_fit(entries: &[Entry], key: GuestRoot, ram: u64, device: bool) -> bool
     requires { ram ≤ 67108864 }
-    ensures { IsTrue result ↔ All (IsSavableEntry key ram) entries.now }
+    ensures { IsTrue result ↔ All (IsSavableEntry key ram device) entries.now }
 {
     for entry in entries {
-        if !entry_fits(entry, key, ram) {
+        if !entry_fits(entry, key, ram, device) {
             return false;
         }
     }
@@ -189,9 +204,9 @@ fn pages_differ(entries: &[Entry]) -> bool
 }
 
 // Whether a space, whose key was read, can be saved.
-fn space_fits(space: &SavedSpace, room: u64, ram: u64) -> bool
+fn space_fits(space: &SavedSpace, room: u64, ram: u64, device: bool) -> bool
     requires { ram ≤ 67108864 }
-    ensures { IsTrue result ↔ IsSoundSpace ram room space.now }
+    ensures { IsTrue result ↔ IsSoundSpace ram room device space.now }
 {
     if !space.key.is_table() {
         return false;
@@ -199,19 +214,19 @@ fn space_fits(space: &SavedSpace, room: u64, ram: u64) -> bool
     if space.entries.len() as u64 > room {
         return false;
     }
-    if !entries_fit(&space.entries, space.key, ram) {
+    if !entries_fit(&space.entries, space.key, ram, device) {
         return false;
     }
     pages_differ(&space.entries)
 }
 
 // Whether each of these can.
-fn spaces_fit(spaces: &[SavedSpace], room: u64, ram: u64) -> bool
+fn spaces_fit(spaces: &[SavedSpace], room: u64, ram: u64, device: bool) -> bool
     requires { ram ≤ 67108864 }
-    ensures { IsTrue result ↔ All (IsSoundSpace ram room) spaces.now }
+    ensures { IsTrue result ↔ All (IsSoundSpace ram room device) spaces.now }
 {
     for space in spaces {
-        if !space_fits(space, room, ram) {
+        if !space_fits(space, room, ram, device) {
             return false;
         }
     }
@@ -293,7 +308,7 @@ fn has_spaces(parts: &MachineParts, ram: u64) -> bool
     if parts.spaces.len() as u64 > header.spaces {
         return false;
     }
-    if !spaces_fit(&parts.spaces, header.entries, ram) {
+    if !spaces_fit(&parts.spaces, header.entries, ram, header.device) {
         return false;
     }
     if !keys_differ(&parts.spaces) {
@@ -318,11 +333,13 @@ fn registers_fit(state: &Virtual)
 
 /// The numbers of a header have 64 bits, pc among them, and there are 32 registers.
 pub fn numbers_fit(header: Header)
-    ensures numbers { All Fits (header_numbers header) }
+    ensures numbers { All Fits (header_numbers Second header) }
     ensures registers { length header.state.regs.x ≡ 32 }
     ensures pc { header.state.regs.pc < 2 ^ 64 }
 {
-    fit(&header.head());
+    fit(&header.sizes());
+    fit(&[header.device_number()]);
+    fit(&header.progress());
     registers_fit(&header.state);
     fit(&csr_numbers(&header.state.csrs));
     fit(&reservation_numbers(header.state.reservation));

@@ -3,17 +3,20 @@
 ghost use Rattle.std.specs.Prelude.{◌≡◌, ◌↔◌, IfOk, IsErrOf, IsTrue, OnOk, false, length, true};
 ghost use Rattle.guest_save.specs.declared.saved.SaveEnd.TheVariants.{NoMemory, Bad};
 ghost use Rattle.guest_save.specs.Deciding.{is_saved};
-ghost use Rattle.guest_save.specs.Forms.{form, front_form};
+ghost use Rattle.guest_save.specs.Forms.{form_of, front_form};
+ghost use Rattle.guest_save.specs.Laws.{IsNoForm};
 ghost use Rattle.guest_save.specs.Needs.{need_of};
-ghost use Rattle.guest_save.specs.Reading.{machine_in};
+ghost use Rattle.guest_save.specs.Reading.{machine_by};
 ghost use Rattle.guest_save.specs.Savable.{IsSavable};
+ghost use Rattle.guest_save.specs.Saves.{saved_form, saved_in};
 ghost use Rattle.guest_save.specs.Tests.{IsRead};
-ghost use Rattle.machine_defs.specs.Machine.{Machine};
+ghost use Rattle.guest_save.specs.Versions.{version_in};
 
 use crate::headers::Header;
-use crate::machine_parts::{MachineParts, machine_in};
+use crate::machine_parts::{MachineParts, machine_by};
 use crate::savable::is_savable;
 use crate::snapshots::Snapshot;
+use crate::versions::Version;
 use crate::writing::put_front;
 use arch_defs::{Entry, GuestRoot, Need};
 use replay::{Compare, Verdict};
@@ -38,31 +41,32 @@ impl From<no_memory::NoMemory> for SaveEnd {
     }
 }
 
-/// A machine that was read, and that can be saved.
+/// A machine that was read, and that can be saved, with the version of the form that it was read from.
 #[derive(Drop)]
 pub struct Saved {
+    version: Version,
     parts: MachineParts,
-    // How many bytes its form has.
+    // How many bytes the form has.
     size: u64,
 }
 
 impl Model for Saved {
     ghost use Rattle.std.specs.Prelude.{◌≡◌, length};
-    ghost use Rattle.machine_defs.specs.Machine.{Machine};
-    ghost use Rattle.guest_save.specs.Forms.{form};
+    ghost use Rattle.guest_save.specs.Forms.{form_of};
     ghost use Rattle.guest_save.specs.Savable.{IsSavable};
+    ghost use Rattle.guest_save.specs.Saves.{SavedMachine};
 
-    ghost Value = { Machine };
+    ghost Value = { SavedMachine };
 
-    ghost view = { λ s. s.parts };
+    ghost view = { λ s. record { version = s.version; machine = s.parts } };
 
-    ghost invariant = { λ s. IsSavable s.parts × (s.size ≡ length (form s.parts)) };
+    ghost invariant = { λ s. IsSavable s.parts × (s.size ≡ length (form_of s.version s.parts)) };
 }
 
 impl Saved {
     /// What the machine needs of machine memory.
     pub fn need(&self) -> Need
-        ensures { result ≡ need_of self.now }
+        ensures { result ≡ need_of self.now.machine }
     {
         Need {
             blocks: self.parts.header.blocks,
@@ -71,30 +75,30 @@ impl Saved {
         }
     }
 
-    /// How many bytes its form has.
+    /// How many bytes the form has that it was read from.
     pub fn size(&self) -> u64
-        ensures { result ≡ length (form self.now) }
+        ensures { result ≡ length (saved_form self.now) }
     {
         self.size
     }
 
     /// All bytes of its RAM.
     pub fn ram(&self) -> &[u8]
-        ensures { result.now ≡ self.now.ram }
+        ensures { result.now ≡ self.now.machine.ram }
     {
         self.parts.ram.as_slice()
     }
 
     /// The machine can be saved.
     pub fn can_be_saved(&self)
-        ensures { IsSavable self.now }
+        ensures { IsSavable self.now.machine }
     {
         let _ = &self.parts;
     }
 }
 
 impl Snapshot for Saved {
-    ghost machine = { λ m. m };
+    ghost machine = { λ saved. saved.machine };
 
     fn header(&self) -> Header {
         self.parts.header()
@@ -131,25 +135,25 @@ impl Snapshot for Saved {
 
 // Whether the form of a machine that was read is the bytes that it was read from. RAM is what is left of
 // them, so it is not compared.
-fn has_form(parts: &MachineParts, bytes: &[u8]) -> bool
-    requires { parts.now ≡ machine_in bytes.now }
-    ensures { IsTrue result ↔ (form parts.now ≡ bytes.now) }
+fn has_form(version: Version, parts: &MachineParts, bytes: &[u8]) -> bool
+    requires { parts.now ≡ machine_by version bytes.now }
+    ensures { IsTrue result ↔ (form_of version parts.now ≡ bytes.now) }
 {
     let front = bytes.len() - parts.ram.len();
     let mut compare = Compare::new(&bytes[..front]);
-    match put_front(parts, &mut compare) {
+    match put_front(version, parts, &mut compare) {
         Ok(()) => matches!(compare.verdict(), Verdict::Same),
         Err(_) => false,
     }
 }
 
 // Whether a machine that was read can be saved, and its form is the bytes.
-fn is_saved(parts: &MachineParts, bytes: &[u8]) -> bool
+fn is_saved(version: Version, parts: &MachineParts, bytes: &[u8]) -> bool
     requires read { IsRead parts.now }
-    requires bytes { parts.now ≡ machine_in bytes.now }
-    ensures { IsTrue result ↔ (IsSavable parts.now × (form parts.now ≡ bytes.now)) }
+    requires bytes { parts.now ≡ machine_by version bytes.now }
+    ensures { IsTrue result ↔ (IsSavable parts.now × (form_of version parts.now ≡ bytes.now)) }
 {
-    is_savable(parts) && has_form(parts, bytes)
+    is_savable(parts) && has_form(version, parts, bytes)
 }
 
 /// The machine of these bytes, where they are the form of a machine that can be saved.
@@ -158,18 +162,20 @@ fn is_saved(parts: &MachineParts, bytes: &[u8]) -> bool
 ///
 /// Out of memory; `Bad` exactly where they are no such form.
 pub fn read(alloc: Global, bytes: &[u8]) -> Result<Saved, SaveEnd>
-    ensures machine { IfOk result (λ saved. saved ≡ machine_in bytes.now) }
-    ensures savable { IfOk result IsSavable }
-    ensures form { IfOk result (λ saved. form saved ≡ bytes.now) }
-    ensures bad { IsErrOf result Bad → (m : Machine) → IsSavable m → form m ≡ bytes.now → ⊥ }
+    ensures machine { IfOk result (λ saved. saved ≡ saved_in bytes.now) }
+    ensures savable { IfOk result (λ saved. IsSavable saved.machine) }
+    ensures form { IfOk result (λ saved. saved_form saved ≡ bytes.now) }
+    ensures bad { IsErrOf result Bad → IsNoForm bytes.now }
     ensures tested { OnOk result (is_saved bytes.now ≡ true) }
     ensures refused { IsErrOf result Bad → is_saved bytes.now ≡ false }
 {
-    let parts = machine_in(alloc, bytes)?;
-    if !is_saved(&parts, bytes) {
+    let version = Version::of(bytes);
+    let parts = machine_by(alloc, version, bytes)?;
+    if !is_saved(version, &parts, bytes) {
         return Err(SaveEnd::Bad);
     }
     Ok(Saved {
+        version,
         parts,
         size: bytes.len() as u64,
     })

@@ -4,9 +4,10 @@ ghost use Rattle.std.specs.Prelude.{◌≡◌, ◌≤◌, ◌<◌, ◌*◌, [], 
 ghost use Rattle.std.specs.List.{flat_map, slice_index_or};
 ghost use Rattle.arch_defs.specs.Memory.{block_size};
 ghost use Rattle.arch_defs.specs.Spaces.{Space};
+ghost use Rattle.guest_save.specs.declared.versions.Version.TheVariants.{Second};
 ghost use Rattle.guest_save.specs.Buffers.{Buffers, PutsText};
-ghost use Rattle.guest_save.specs.Forms.{console_form, entry_form, form, front_form, input_form, inputs_form, letters, space_form, spaces_form};
-ghost use Rattle.guest_save.specs.Headers.{blocks_of, header_numbers, header_of, numbered, state_numbers};
+ghost use Rattle.guest_save.specs.Forms.{console_form, entry_form, form, front_form, input_form, inputs_form, space_form, spaces_form};
+ghost use Rattle.guest_save.specs.Headers.{blocks_of, device_numbers, header_numbers, header_of, later_numbers, numbered, state_numbers};
 ghost use Rattle.guest_save.specs.Numbers.{number, numbers};
 
 use crate::buffers::{
@@ -16,11 +17,9 @@ use crate::headers::{Header, reservation_numbers};
 use crate::items::flags_of;
 use crate::registers::csr_numbers;
 use crate::snapshots::Snapshot;
+use crate::versions::Version;
 use arch_defs::{Entry, Virtual};
 use outside::{Sink, SinkFault};
-
-// The letters, which tell the version of a form.
-const LETTERS: [u8; 8] = *b"NESTHV01";
 
 // Appends control and status registers, and the reservation.
 fn append_state<O: Sink>(state: &Virtual, held: &mut Buffer, out: &mut O) -> Result<(), SinkFault>
@@ -44,13 +43,56 @@ fn append_registers<O: Sink>(
     append_state(state, held, out)
 }
 
-// Appends the numbers of a header.
-fn append_header<O: Sink>(header: &Header, held: &mut Buffer, out: &mut O) -> Result<(), SinkFault>
+// Appends progress, mode and pc, and the rest of a header.
+fn append_progress<O: Sink>(
+    header: &Header,
+    held: &mut Buffer,
+    out: &mut O,
+) -> Result<(), SinkFault>
     ensures { Buffers O.Sink result out.old held.old.items out.new held.new.items
-        (numbers (header_numbers header.now)) }
+        (numbers (later_numbers header.now)) }
 {
-    append_numbers(&header.head(), held, out)?;
+    append_numbers(&header.progress(), held, out)?;
     append_registers(&header.state, held, out)
+}
+
+// Appends whether there is the device page, and the rest of a header.
+fn append_device<O: Sink>(header: &Header, held: &mut Buffer, out: &mut O) -> Result<(), SinkFault>
+    ensures { Buffers O.Sink result out.old held.old.items out.new held.new.items
+        (numbers (device_numbers Second header.now ++ later_numbers header.now)) }
+{
+    append_number(header.device_number(), held, out)?;
+    append_progress(header, held, out)
+}
+
+// Appends what a version has of a header behind the sizes.
+fn append_after_sizes<O: Sink>(
+    version: Version,
+    header: &Header,
+    held: &mut Buffer,
+    out: &mut O,
+) -> Result<(), SinkFault>
+    ensures { Buffers O.Sink result out.old held.old.items out.new held.new.items
+        (numbers (device_numbers version header.now ++ later_numbers header.now)) }
+{
+    match version {
+        Version::First => append_progress(header, held, out),
+        Version::Second => append_device(header, held, out),
+    }
+}
+
+// Appends the numbers of a header.
+fn append_header<O: Sink>(
+    version: Version,
+    header: &Header,
+    held: &mut Buffer,
+    out: &mut O,
+) -> Result<(), SinkFault>
+    ensures { Buffers O.Sink result out.old held.old.items out.new held.new.items
+        (numbers (header_numbers version header.now)) }
+{
+    append_numbers(&header.sizes(), held, out)?;
+    append_after_sizes(version, header, held, out)
 }
 
 // Appends an input: its moment, and its byte.
@@ -214,29 +256,31 @@ fn append_from_console<S: Snapshot, O: Sink>(
 
 // Appends the header, and what follows it.
 fn append_header_on<S: Snapshot, O: Sink>(
+    version: Version,
     snapshot: &S,
     held: &mut Buffer,
     out: &mut O,
 ) -> Result<(), SinkFault>
     ensures { Buffers O.Sink result out.old held.old.items out.new held.new.items
-        (numbers (header_numbers (header_of (S.machine snapshot.now)))
+        (numbers (header_numbers version (header_of (S.machine snapshot.now)))
         ++ console_form (S.machine snapshot.now) []) }
 {
-    append_header(&snapshot.header(), held, out)?;
+    append_header(version, &snapshot.header(), held, out)?;
     append_from_console(snapshot, held, out)
 }
 
 // Appends all of a machine but its RAM.
 fn append_front<S: Snapshot, O: Sink>(
+    version: Version,
     snapshot: &S,
     held: &mut Buffer,
     out: &mut O,
 ) -> Result<(), SinkFault>
     ensures { Buffers O.Sink result out.old held.old.items out.new held.new.items
-        (front_form (S.machine snapshot.now)) }
+        (front_form version (S.machine snapshot.now)) }
 {
-    append(&LETTERS, held, out)?;
-    append_header_on(snapshot, held, out)
+    append(&version.letters(), held, out)?;
+    append_header_on(version, snapshot, held, out)
 }
 
 // Appends RAM, block by block.
@@ -255,12 +299,16 @@ fn append_ram<S: Snapshot, O: Sink>(
     Ok(())
 }
 
-// Puts all of a machine's form but its RAM.
-pub(crate) fn put_front<S: Snapshot, O: Sink>(snapshot: &S, out: &mut O) -> Result<(), SinkFault>
-    ensures { PutsText O.Sink result out.old out.new (front_form (S.machine snapshot.now)) }
+// Puts all of a machine's form in this version but its RAM.
+pub(crate) fn put_front<S: Snapshot, O: Sink>(
+    version: Version,
+    snapshot: &S,
+    out: &mut O,
+) -> Result<(), SinkFault>
+    ensures { PutsText O.Sink result out.old out.new (front_form version (S.machine snapshot.now)) }
 {
     let mut held = Buffer::new();
-    append_front(snapshot, &mut held, out)?;
+    append_front(version, snapshot, &mut held, out)?;
     flush(&mut held, out)
 }
 
@@ -274,7 +322,7 @@ fn append_machine<S: Snapshot, O: Sink>(
     ensures { Buffers O.Sink result out.old held.old.items out.new held.new.items
         (form (S.machine snapshot.now)) }
 {
-    append_front(snapshot, held, out)?;
+    append_front(Version::Second, snapshot, held, out)?;
     append_ram(snapshot, held, out)
 }
 

@@ -17,7 +17,7 @@ use Rattle.machine_defs.specs.Fills.{most_fills, ready}
 use Rattle.machine_defs.specs.Machine.{Machine, Tried, with_pending_lines}
 use Rattle.machine_defs.specs.Runs.{event_in, left_by, plain_count, run, step, stepped}
 use Rattle.machine_defs.specs.Tries.{try}
-use Rattle.machine_laws.proofs.TryEnds.{Calls, Fences, Halts, Makes, Passes, Takes}
+use Rattle.machine_laws.proofs.TryEnds.{Calls, Fences, Halts, Makes, Passes, Serves, Takes}
 use Rattle.guest_exit.specs.HartEntry.{Lasts}
 use Rattle.guest_exit.specs.HartSteps.{is_hosts}
 use Rattle.guest_exit.proofs.Entries.{run_further}
@@ -50,6 +50,7 @@ record Elapsed (m after : Machine) (n : ℕ) : Type 0 where
 plain_ticks : (m : Machine) (tried : Tried) (fence : Option Fence) → SomeEnd m tried fence → plain_count (event_in tried) ≡ 1 → Elapsed m (left_by m tried) 1
 plain_ticks m tried fence (Takes trap) plain = absurd (omega (arith, plain))
 plain_ticks m tried fence (Makes completion event any) plain = record { time = refl; timer = refl; inputs = refl }
+plain_ticks m tried fence (Serves rd value console leaves) plain = absurd (omega (arith, plain))
 plain_ticks m tried fence Calls plain = absurd (omega (arith, plain))
 plain_ticks m tried fence (Passes virt moment any) plain = absurd (omega (arith, plain))
 plain_ticks m tried fence Halts plain = absurd (omega (arith, plain))

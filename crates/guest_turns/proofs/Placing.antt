@@ -59,6 +59,7 @@ only_in_part guest old new at only =
 pub fixed_both : (old between new : Guest) → KeepsLayout old between → KeepsLayout between new → KeepsLayout old new
 fixed_both old between new first second = record {
   part = second.part ∙ first.part;
+  device = second.device ∙ first.device;
   pool = second.pool ∙ first.pool;
   entry_room = second.entry_room ∙ first.entry_room;
   space_room = second.space_room ∙ first.space_room;

@@ -31,12 +31,12 @@ can_start spec is = record {
 
 pub savable : (source : Source) → IsBootableSource source → IsSavable (machine_of_source source)
 savable (Fresh spec) is = start_is_savable spec (can_start spec is)
-savable (Kept name m) is = is
+savable (Kept name kept) is = is
 
 -- what a guest needs is within the limits
 pub is_need : (source : Source) → IsBootableSource source → IsNeed (need_of_source source)
 is_need (Fresh spec) is = record { blocks = is.blocks; spaces = is.spaces; entries = is.entries }
-is_need (Kept name m) is = record { blocks = is.sizes.most_blocks; spaces = is.sizes.most_spaces; entries = is.sizes.most_entries }
+is_need (Kept name kept) is = record { blocks = is.sizes.most_blocks; spaces = is.sizes.most_spaces; entries = is.sizes.most_entries }
 
 pub are_needs : (sources : List Source) → All IsBootableSource sources → AreNeeds (needs_of_sources sources)
 are_needs [] each i d h = absurd (omega (arith, h))
@@ -48,12 +48,12 @@ are_needs (source ∷ sources) each i d h =
 pub space_room : (source : Source) → (machine_of_source source).space_room ≡ (need_of_source source).spaces
 unfolding start
 space_room (Fresh spec) = refl
-space_room (Kept name m) = refl
+space_room (Kept name kept) = refl
 
 pub entry_room : (source : Source) → (machine_of_source source).entry_room ≡ (need_of_source source).entries
 unfolding start
 entry_room (Fresh spec) = refl
-entry_room (Kept name m) = refl
+entry_room (Kept name kept) = refl
 
 -- RAM of all bytes is loaded as it is
 pub loaded_whole : (size : ℕ) (ram : List ℕ) → length ram ≡ size → loaded size ram ≡ ram

@@ -72,6 +72,7 @@ pub header_shown : (guest : Guest) (memory : List ℕ) (m : Machine) (blocks spa
       time = time;
       timer = timer;
       state = guest.virt;
+      device = guest.device;
     }) ≡ header_of m
 header_shown guest memory m blocks spaces entries console time timer hosted is b s e c t r =
     let b_shown = b ∙ blocks_shown guest memory hosted in

@@ -226,6 +226,7 @@ made_at_start spec part guest memory at spaces lies zeros = record {
   spaces = at.pool.spaces;
   space_room = at.spaces;
   entry_room = at.entries;
+  device = at.device;
   tidy = tidy_new part guest.pool memory at.pool.part (at.spaces ∙ sym spaces) at.pool.tidy lies zeros;
 }
 
@@ -238,6 +239,7 @@ made_kept m part guest old new same made = record {
   spaces = made.spaces;
   space_room = made.space_room;
   entry_room = made.entry_room;
+  device = made.device;
   tidy = pool_lasts guest.pool old new
       (same_fewer (pool_frames guest.pool) (named_by part) old new (pool_in_part part guest.pool old made.own_pool made.tidy) same) made.tidy;
 }
@@ -325,15 +327,15 @@ memory_size : (frames size : ℕ) → frames ≤ most_frames → size ≡ frames
 memory_size frames size few is = omega (arith, few, is)
 
 -- a guest that is made is its machine, wherever its RAM is the machine's
-as_parts : (platform : Platform) (ram : List ℕ) (spaces : List Space) (space_room entry_room : ℕ) (m : Machine) → platform ≡ m.platform → ram ≡ m.ram
-    → spaces ≡ m.spaces → space_room ≡ m.space_room → entry_room ≡ m.entry_room
-    → (record { platform = platform; ram = ram; spaces = spaces; space_room = space_room; entry_room = entry_room }) ≡ m
-as_parts platform ram spaces space_room entry_room m p r e s n = rw (p, r, e, s, n) refl
+as_parts : (platform : Platform) (ram : List ℕ) (spaces : List Space) (space_room entry_room : ℕ) (device : Bool) (m : Machine) → platform ≡ m.platform → ram ≡ m.ram
+    → spaces ≡ m.spaces → space_room ≡ m.space_room → entry_room ≡ m.entry_room → device ≡ m.device
+    → (record { platform = platform; ram = ram; spaces = spaces; space_room = space_room; entry_room = entry_room; device = device }) ≡ m
+as_parts platform ram spaces space_room entry_room device m p r e s n d = rw (p, r, e, s, n, d) refl
 
 machine_made : (m : Machine) (part : Layout) (guest : Guest) (memory : List ℕ) → IsMade m part guest memory → ram_of part.blocks memory ≡ m.ram → machine_of guest memory ≡ m
 machine_made m part guest memory made ram =
-    as_parts (platform_of guest) (ram_of guest.part.blocks memory) (spaces_of guest.pool) (room_of guest.pool) guest.pool.most m made.platform
-    (ap (λ part. ram_of part.blocks memory) made.own_part ∙ ram) made.spaces made.space_room made.entry_room
+    as_parts (platform_of guest) (ram_of guest.part.blocks memory) (spaces_of guest.pool) (room_of guest.pool) guest.pool.most guest.device m made.platform
+    (ap (λ part. ram_of part.blocks memory) made.own_part ∙ ram) made.spaces made.space_room made.entry_room made.device
 
 hosted_made : (m : Machine) (part : Layout) (guest : Guest) (memory : List ℕ) → IsSavable m → IsMade m part guest memory → NamesEachOnce part → IsHeld part memory
     → ram_of part.blocks memory ≡ m.ram → IsHosted guest memory

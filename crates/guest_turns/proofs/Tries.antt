@@ -6,7 +6,7 @@ use Rattle.arch_defs.specs.Calls.{environment, state_of}
 use Rattle.arch_defs.specs.Registers.{a7, read}
 use Rattle.machine_defs.specs.Machine.{Machine, Platform, Tried, Ended, WaitsForGood, called, with_pending_lines, stopped_if, with_call}
 use Rattle.machine_defs.specs.Tries.{try}
-use Rattle.machine_laws.proofs.TryEnds.{Calls, Fences, Halts, Makes, Passes, Takes}
+use Rattle.machine_laws.proofs.TryEnds.{Calls, Fences, Halts, Makes, Passes, Serves, Takes}
 use Rattle.guest_exit.proofs.SomeEnds.{SomeEnd, some_end}
 
 pub record IsStep (m after : Machine) : Type 0 where
@@ -27,6 +27,7 @@ called_steps p = stops_or_not (with_call p (environment (state_of p.virt.regs p.
 ended_step : (m : Machine) (tried : Tried) (fence : Option Fence) → SomeEnd m tried fence → LeavesStep m tried
 ended_step m tried fence (Takes trap) = record { counted = refl; current = refl }
 ended_step m tried fence (Makes completion event any) = record { counted = refl; current = refl }
+ended_step m tried fence (Serves rd value console leaves) = record { counted = refl; current = refl }
 ended_step m tried fence Calls = record { counted = rw (called_steps m.platform) refl; current = refl }
 ended_step m tried fence (Passes virt moment any) = record { counted = refl; current = refl }
 ended_step m tried fence Halts = tt

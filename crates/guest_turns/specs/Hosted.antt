@@ -52,6 +52,7 @@ no_machine = record {
   spaces = [];
   space_room = 0;
   entry_room = 0;
+  device = false;
 }
 
 -- the machine of a guest by its number, and its part

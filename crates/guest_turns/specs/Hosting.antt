@@ -90,6 +90,7 @@ pub record IsAtStart (spec : GuestSpec) (part : Layout) (guest : Guest) : Type 0
   pub pool : IsNewPool part guest.pool
   pub spaces : room_of guest.pool ≡ spec.spaces
   pub entries : guest.pool.most ≡ spec.entries
+  pub device : guest.device ≡ spec.device
 
 -- a guest with what a machine has beside its RAM: wherever its RAM is the machine's, it is that machine
 pub record IsMade (m : Machine) (part : Layout) (guest : Guest) (memory : List ℕ) : Type 0 where
@@ -99,6 +100,7 @@ pub record IsMade (m : Machine) (part : Layout) (guest : Guest) (memory : List �
   pub spaces : spaces_of guest.pool ≡ m.spaces
   pub space_room : room_of guest.pool ≡ m.space_room
   pub entry_room : guest.pool.most ≡ m.entry_room
+  pub device : guest.device ≡ m.device
   pub tidy : TidyPool guest.pool memory
 
 -- so of each of them, in their parts

@@ -13,7 +13,7 @@ use Rattle.guest_turns.specs.Limits.{IsBootable}
 -- the machine that a guest goes on from: at its start, or as it was saved
 abbrev pub machine_of_source : Source → Machine
 machine_of_source (Fresh spec) = start spec
-machine_of_source (Kept name m) = m
+machine_of_source (Kept name kept) = kept.machine
 
 abbrev pub machines_of_sources : List Source → List Machine
 machines_of_sources sources = map machine_of_source sources
@@ -21,7 +21,7 @@ machines_of_sources sources = map machine_of_source sources
 -- what it needs of machine memory
 abbrev pub need_of_source : Source → Need
 need_of_source (Fresh spec) = need_of spec
-need_of_source (Kept name m) = saved.need_of m
+need_of_source (Kept name kept) = saved.need_of kept.machine
 
 abbrev pub needs_of_sources : List Source → List Need
 needs_of_sources sources = map need_of_source sources
@@ -32,7 +32,7 @@ blocks_of_source source = (need_of_source source).blocks
 -- a guest can be booted: what it is given is within the limits, or its machine is one that can be saved
 abbrev pub IsBootableSource : Source → Type 0
 IsBootableSource (Fresh spec) = IsBootable spec
-IsBootableSource (Kept name m) = IsSavable m
+IsBootableSource (Kept name kept) = IsSavable kept.machine
 
 -- 1 to 16 guests that can
 pub record AreBootableSources (sources : List Source) : Type 0 where

@@ -137,6 +137,7 @@ fn guest_at_start(alloc: Global, spec: GuestSpec, part: Part) -> Result<Guest, N
         console,
         steps: 0,
         status: Status::Running,
+        device: spec.device,
     };
     guest.set_pending_lines();
     Ok(guest)
@@ -150,10 +151,10 @@ fn guest_resumed(
     part: Part,
     memory: &mut PhysMem,
 ) -> Result<Guest, NoMemory>
-    requires meets { Meets (need_of saved.now) part }
+    requires meets { Meets (need_of saved.now.machine) part }
     requires lies { LieIn (named_by part) (length memory.old) }
     requires zeros { AreZeros (space_tables part) memory.old }
-    ensures made { IfOk result (λ guest. IsMade saved.now part guest memory.new) }
+    ensures made { IfOk result (λ guest. IsMade saved.now.machine part guest memory.new) }
     ensures only { IfOk result (λ guest. Only (space_tables part) memory.old memory.new) }
 {
     saved.can_be_saved();
@@ -169,13 +170,14 @@ fn guest_resumed(
         console,
         steps: header.steps,
         status: header.status,
+        device: header.device,
     })
 }
 
 // The console of a saved machine, with room for so many bytes.
 fn console_resumed(alloc: Global, saved: &Saved, room: u64) -> Result<Console, NoMemory>
-    requires { room ≡ saved.now.platform.console.room }
-    ensures { IfOk result (λ console. console ≡ saved.now.platform.console) }
+    requires { room ≡ saved.now.machine.platform.console.room }
+    ensures { IfOk result (λ console. console ≡ saved.now.machine.platform.console) }
 {
     saved.can_be_saved();
     let unread = saved.inputs();

@@ -76,6 +76,7 @@ impl Snapshot for MemoryView<'_> {
             time: guest.clock.now(),
             timer: guest.clock.timer(),
             state: guest.virt,
+            device: guest.device,
         }
     }
 

@@ -13,9 +13,9 @@ use phys_mem::PhysMem;
 /// Makes the spaces of a saved machine in a pool that has none, the last one first.
 pub fn remake(pool: &mut Pool, memory: &mut PhysMem, saved: &Saved)
     requires tidy { TidyPool pool.old memory.old }
-    requires fits { FitsPool saved.now pool.old }
+    requires fits { FitsPool saved.now.machine pool.old }
     requires empty { spaces_of pool.old ≡ [] }
-    ensures spaces { spaces_of pool.new ≡ saved.now.spaces }
+    ensures spaces { spaces_of pool.new ≡ saved.now.machine.spaces }
     ensures keeps { KeepsPool pool.old memory.old pool.new memory.new }
     ensures tidy { TidyPool pool.new memory.new }
 {
@@ -30,10 +30,10 @@ pub fn remake(pool: &mut Pool, memory: &mut PhysMem, saved: &Saved)
 // one first.
 fn remake_space(pool: &mut Pool, memory: &mut PhysMem, saved: &Saved, i: u64)
     requires tidy { TidyPool pool.old memory.old }
-    requires fits { FitsPool saved.now pool.old }
-    requires space { i < length saved.now.spaces }
-    requires behind { spaces_of pool.old ≡ drop (i + 1) saved.now.spaces }
-    ensures spaces { spaces_of pool.new ≡ drop i saved.now.spaces }
+    requires fits { FitsPool saved.now.machine pool.old }
+    requires space { i < length saved.now.machine.spaces }
+    requires behind { spaces_of pool.old ≡ drop (i + 1) saved.now.machine.spaces }
+    ensures spaces { spaces_of pool.new ≡ drop i saved.now.machine.spaces }
     ensures keeps { KeepsPool pool.old memory.old pool.new memory.new }
     ensures tidy { TidyPool pool.new memory.new }
 {

@@ -203,7 +203,7 @@ made_of_files files (s ∷ settings) =
 
 source_name : (name : List ℕ) (origin : Origin) (read : GuestFiles) → name_of_source (source_with name origin read) ≡ name
 source_name name origin (files_read.Fresh read) = refl
-source_name name origin (files_read.Saved m) = refl
+source_name name origin (files_read.Saved saved) = refl
 
 pub made_names : (settings : List GuestSettings) (read : List GuestFiles) → AreFitting settings read → names_of_sources (sources_with settings read) ≡ names_in settings
 unfolding sources_with AreFitting
@@ -231,9 +231,9 @@ fresh_bootable name guest read within fit = record {
 
 pub made_bootable : (name : List ℕ) (origin : Origin) (read : GuestFiles) → IsOriginWithin origin → FitsOrigin origin read → IsBootableSource (source_with name origin read)
 made_bootable name (Fresh guest) (files_read.Fresh read) within fit = fresh_bootable name guest read within fit
-made_bootable name (Fresh guest) (files_read.Saved m) within fit = absurd fit
+made_bootable name (Fresh guest) (files_read.Saved saved) within fit = absurd fit
 made_bootable name (Saved file) (files_read.Fresh read) within fit = absurd fit
-made_bootable name (Saved file) (files_read.Saved m) within fit = fit
+made_bootable name (Saved file) (files_read.Saved saved) within fit = fit
 
 pub all_bootable : (settings : List GuestSettings) (read : List GuestFiles) → All IsGuestWithin settings → AreFitting settings read → All IsBootableSource (sources_with settings read)
 unfolding sources_with AreFitting

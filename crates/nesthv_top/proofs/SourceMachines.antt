@@ -1,5 +1,5 @@
 -- The machines that guests go on from, and their runs.
-use Rattle.std.proofs.Common.{ℕ, ◌<◌, ◌≤◌, List, [], ◌∷◌, length, get_or, arith}
+use Rattle.std.proofs.Common.{ℕ, ◌<◌, ◌≤◌, false, List, [], ◌∷◌, length, get_or, arith}
 use Rattle.std.specs.List.{All}
 use Rattle.std.proofs.lemmas.List.{get_or-map, length-map}
 use Rattle.guest_save.specs.Laws.{SavableGoesOn, SavedUseFresh}
@@ -33,7 +33,7 @@ pub record Laws : Type 0 where
 
 uses_fresh : Laws → (source : Source) (n : ℕ) → IsBootableSource source → UsesFreshFrom source n
 uses_fresh laws (Fresh spec) n is = laws.uses spec n (omega (arith, is.some_entries)) is.some_space
-uses_fresh laws (Kept name m) n is = laws.since m n
+uses_fresh laws (Kept name saved) n is = laws.since saved.machine n
 
 -- their machines run as the architecture is written, and no step of theirs is put off for good
 pub run_as_written : (sources : List Source) (turns : List (ℕ × ℕ)) (spare : ℕ) → Laws → All IsBootableSource sources → AllRunAsWritten (plan_with sources turns spare)
@@ -49,8 +49,8 @@ run_as_written sources turns spare laws bootable i n d inside few =
 
 -- each needs a block
 pub no_source : Source
-no_source = Fresh (record { name = []; image = []; blocks = 0; spaces = 0; entries = 0; console = 0; inputs = [] })
+no_source = Fresh (record { name = []; image = []; blocks = 0; spaces = 0; entries = 0; console = 0; inputs = []; device = false })
 
 pub needs_block : (source : Source) → IsBootableSource source → 1 ≤ (need_of_source source).blocks
 needs_block (Fresh spec) is = is.some_block
-needs_block (Kept name m) is = is.sizes.some_block
+needs_block (Kept name saved) is = is.sizes.some_block

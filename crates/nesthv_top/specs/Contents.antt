@@ -3,11 +3,10 @@
 use Rattle.std.specs.Prelude.{ℕ, ◌+◌, ◌*◌, List, [], map, unwrap_or}
 use Rattle.arch_defs.specs.Memory.{block_size}
 use Rattle.command_line.specs.Commands.{FileCommand, Run, Replay, Check, Save}
-use Rattle.guest_save.specs.Reading.{machine_in}
+use Rattle.guest_save.specs.Saves.{SavedMachine, saved_in}
 use Rattle.guest_specs.specs.declared.guests.GuestSpec.{GuestSpec}
 use Rattle.guest_turns.specs.declared.sources.Source.{Source}
 use Rattle.guest_turns.specs.declared.sources.Source.TheVariants as source
-use Rattle.machine_defs.specs.Machine.{Machine}
 use Rattle.outside.specs.Files.{Files, read_of}
 use Rattle.run_config.specs.declared.guests.FreshGuest.{FreshGuest}
 use Rattle.run_config.specs.declared.guests.GuestSettings.{GuestSettings}
@@ -71,18 +70,19 @@ guest_of name guest image records = record {
   entries = guest.entries;
   console = guest.console;
   inputs = inputs_from guest.input records;
+  device = guest.device;
 }
 
 -- at most how many bytes of a saved machine are asked for: one more than the longest form of one has
 abbrev pub saved_most : ℕ
-saved_most = 68797153
+saved_most = 68797161
 
 -- what is read of the file that a resumed guest names, and the machine that it gives
 abbrev pub saved_of : Files → List ℕ → List ℕ
 saved_of files name = content files name saved_most
 
-abbrev pub resumed_of : Files → List ℕ → Machine
-resumed_of files name = machine_in (saved_of files name)
+abbrev pub resumed_of : Files → List ℕ → SavedMachine
+resumed_of files name = saved_in (saved_of files name)
 
 -- where a guest of this name comes from: it is fresh, or goes on from its saved machine
 abbrev pub source_by : Files → List ℕ → Origin → Source

@@ -1,5 +1,5 @@
 -- What was read for guests, and the guests that are made of it.
-use Rattle.std.specs.Prelude.{⊤, ◌≡◌, ◌≤◌, ℕ, List, [], ◌∷◌, None, Ok, length, map}
+use Rattle.std.specs.Prelude.{⊤, ◌≡◌, ◌≤◌, ℕ, false, List, [], ◌∷◌, None, Ok, length, map}
 use Rattle.arch_defs.specs.Frames.{most_frames}
 use Rattle.command_line.specs.Commands.{FileCommand}
 use Rattle.frame_split.specs.Shares.{frames_with}
@@ -50,9 +50,9 @@ pub record IsFreshFitting (guest : FreshGuest) (read : FreshFiles) : Type 0 wher
 -- and of any guest: for a resumed one, a machine that can be saved
 abbrev pub FitsOrigin : Origin → GuestFiles → Type 0
 FitsOrigin (Fresh guest) (files_read.Fresh read) = IsFreshFitting guest read
-FitsOrigin (Fresh guest) (files_read.Saved m) = ⊥
+FitsOrigin (Fresh guest) (files_read.Saved saved) = ⊥
 FitsOrigin (Saved name) (files_read.Fresh read) = ⊥
-FitsOrigin (Saved name) (files_read.Saved m) = IsSavable m
+FitsOrigin (Saved name) (files_read.Saved saved) = IsSavable saved.machine
 
 abbrev pub IsFitting : GuestSettings → GuestFiles → Type 0
 IsFitting settings read = FitsOrigin settings.origin read
@@ -67,14 +67,21 @@ AreFitting (settings ∷ others) (read ∷ rest) = IsFitting settings read × Ar
 -- the fresh guest that settings begin with, which is none where they begin with a saved machine
 abbrev pub fresh_in : Origin → FreshGuest
 fresh_in (Fresh guest) = guest
-fresh_in (Saved name) =
-    record { image = []; blocks = 0; spaces = 0; entries = 0; console = 0; input = Pairs [] }
+fresh_in (Saved name) = record {
+  image = [];
+  blocks = 0;
+  spaces = 0;
+  entries = 0;
+  console = 0;
+  device = false;
+  input = Pairs [];
+}
 
 -- where a guest comes from, with what was read for it, and guests
 abbrev pub source_with : List ℕ → Origin → GuestFiles → Source
 source_with name origin (files_read.Fresh read) =
     source.Fresh (guest_of name (fresh_in origin) read.image read.records)
-source_with name origin (files_read.Saved m) = source.Kept name m
+source_with name origin (files_read.Saved saved) = source.Kept name saved
 
 unfoldable pub sources_with : List GuestSettings → List GuestFiles → List Source
 sources_with [] all_read = []

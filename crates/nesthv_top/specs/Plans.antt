@@ -81,7 +81,7 @@ run_of files None = None
 -- the name of a guest, whose saved machine has none
 abbrev pub name_of_source : Source → List ℕ
 name_of_source (Fresh spec) = spec.name
-name_of_source (Kept name m) = name
+name_of_source (Kept name saved) = name
 
 -- the names of a plan's guests, and the lone machines that they go on from
 abbrev pub plan_names : Plan → List (List ℕ)
@@ -130,7 +130,7 @@ entries_of None = 0
 -- where this is a state of a run that began without any
 abbrev pub UsesFreshFrom : Source → ℕ → Type 0
 UsesFreshFrom (Fresh spec) n = UsesFresh (start spec) n
-UsesFreshFrom (Kept name m) n = UsesFreshSince m n
+UsesFreshFrom (Kept name saved) n = UsesFreshSince saved.machine n
 
 -- after n steps of its run a guest's machine lacks no cached translation for its next step, once this has
 -- made its fills, however small and however stale its spaces are: no step is put off for good. The run so far

@@ -3,6 +3,7 @@ use Rattle.std.specs.Prelude.{ℕ, List, [], ◌∷◌, ◌++◌, length, codes,
 use Rattle.guest_specs.specs.Needs.{frames_needed}
 use Rattle.command_line.specs.Commands.{Command, FileCommand, OnFiles, Run, Replay, Check, Save, Work}
 use Rattle.guest_save.specs.Forms.{form}
+use Rattle.guest_save.specs.Saves.{saved_form}
 use Rattle.guest_turns.specs.declared.sources.Source.{Source}
 use Rattle.guest_turns.specs.declared.sources.Source.TheVariants.{Fresh, Kept}
 use Rattle.guest_turns.specs.Sources.{need_of_source}
@@ -17,7 +18,7 @@ use Rattle.nesthv_top.specs.Works.{work_text}
 -- how long the file is that a guest comes from: its image, or the form of its saved machine
 abbrev pub file_length : Source → ℕ
 file_length (Fresh spec) = length spec.image
-file_length (Kept name m) = length (form m)
+file_length (Kept name saved) = length (saved_form saved)
 
 -- the line that says what a guest needs: its name, how long its file is, and its frames of machine memory
 unfoldable pub guest_check : Source → List ℕ

@@ -45,7 +45,7 @@ const CONFIG_MOST: u64 = 65_537;
 const RECORDS_MOST: u64 = 589_825;
 
 // At most how many bytes of a saved machine are asked for: one more than the longest form of one has.
-const SAVED_MOST: u64 = 68_797_153;
+const SAVED_MOST: u64 = 68_797_161;
 
 // At most how many bytes of a stored report are asked for, which are those that it is compared by.
 const REPORT_MOST: u64 = 33_554_432;
@@ -307,7 +307,7 @@ fn read_saved<S: Store>(
         reads.new.made (S.asked store.new) }
     ensures machine { (files : Files) → S.files store.old ≡ Some files
         → IfOk result (λ saved. saved ≡ resumed_of files name.now) }
-    ensures savable { IfOk result IsSavable }
+    ensures savable { IfOk result (λ saved. IsSavable saved.machine) }
     ensures leaves { Leaves S.Store 1 result store.old store.new reads.old.made reads.new.made }
 {
     let bytes = reads.read(alloc, store, name.as_str(), SAVED_MOST)?;
@@ -496,6 +496,7 @@ fn fresh_made(
                 entries: fresh.entries,
                 console: fresh.console,
                 inputs: Inputs::from_vec(inputs),
+                device: fresh.device,
             }))
         }
         Origin::Saved(_) => unreachable!(),

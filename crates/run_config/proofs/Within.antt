@@ -202,12 +202,14 @@ optional_row absent low high i t k least most fits = by_value (value_at k t) ref
         let (n, number) = is_some_value (number_within low high value) (unless_none _ _ fits) in
         rw (← number_found absent k t low high value n is number) (number_within-some low high value n number)
 
-weight_within : (format : Format) (n : ℕ) (t : Members) → wrong_option format n t ≡ None → (1 ≤ weight_at format t) × (weight_at format t ≤ 1000)
+weight_row : (n : ℕ) (t : Members) → out_of_range (Some n) t (key.Weight, integer_of 1 1000) ≡ None → (1 ≤ natural_or 1 key.Weight t) × (natural_or 1 key.Weight t ≤ 1000)
+weight_row n t fits = optional_row 1 1 1000 (Some n) t key.Weight (omega arith) (omega arith) fits
+
+weight_within : (resumed : Bool) (format : Format) (n : ℕ) (t : Members) → wrong_option resumed format n t ≡ None → (1 ≤ weight_at format t) × (weight_at format t ≤ 1000)
 unfolding wrong_option weight_at
-weight_within One n t e = (omega arith, omega arith)
-weight_within Two n t e =
-    let (fits, _) = first_none (out_of_range (Some n) t (key.Weight, integer_of 1 1000)) _ e in
-    optional_row 1 1 1000 (Some n) t key.Weight (omega arith) (omega arith) fits
+weight_within resumed One n t e = (omega arith, omega arith)
+weight_within true Two n t e = weight_row n t (first_none (out_of_range (Some n) t (key.Weight, integer_of 1 1000)) _ e).0
+weight_within false Two n t e = weight_row n t (first_none (out_of_range (Some n) t (key.Weight, integer_of 1 1000)) _ e).0
 
 fresh_within : (format : Format) (names : List (List ℕ)) (t : Members) → first_fault (guest_tests false format names t) ≡ None → IsGuestWithin (settings_by false format t)
 unfolding guest_tests absent_key wrong_value has_inputs settings_by origin_of
@@ -215,7 +217,7 @@ fresh_within format names t e =
     let n = length names in
     let (absent, e) = first_none (absent_key false n t) _ e in
     let (wrong, e) = first_none (wrong_value false n t) _ e in
-    let (option, e) = first_none (wrong_option format n t) _ e in
+    let (option, e) = first_none (wrong_option false format n t) _ e in
     let (named, e) = first_none (unless (is_new_name names (text_at key.Name t)) _) _ e in
     let (input, e) = first_none (unless (is_some (input_at format t)) _) _ e in
     let (a-name, r) = first_none (missing (Some n) t key.Name) _ absent in
@@ -236,7 +238,7 @@ fresh_within format names t e =
     let spaces = number_row (Some n) (Some n) t key.Spaces 1 8 a-spaces w-spaces in
     let entries = number_row (Some n) (Some n) t key.Entries 16 256 a-entries w-entries in
     let console = number_row (Some n) (Some n) t key.Console 0 1048576 a-console w-console in
-    let weight = weight_within format n t option in
+    let weight = weight_within false format n t option in
     record {
       name_some = name.0;
       name_most = name.1;
@@ -263,14 +265,14 @@ resumed_within format names t e =
     let n = length names in
     let (absent, e) = first_none (absent_key true n t) _ e in
     let (wrong, e) = first_none (wrong_value true n t) _ e in
-    let (option, e) = first_none (wrong_option format n t) _ e in
+    let (option, e) = first_none (wrong_option true format n t) _ e in
     let (named, e) = first_none (unless (is_new_name names (text_at key.Name t)) _) _ e in
     let (a-name, r) = first_none (missing (Some n) t key.Name) _ absent in
     let (a-resume, r) = first_none (missing (Some n) t key.Resume) _ r in
     let (w-name, w) = first_none (out_of_range (Some n) t (key.Name, any_text)) _ wrong in
     let (w-resume, w) = first_none (out_of_range (Some n) t (key.Resume, text_of 1 255)) _ w in
     let name = name-within names (text_at key.Name t) (unless_none _ _ named) in
-    let weight = weight_within format n t option in
+    let weight = weight_within true format n t option in
     record {
       name_some = name.0;
       name_most = name.1;

@@ -1,5 +1,5 @@
 -- The tests of the guests, and their settings.
-use Rattle.std.specs.Prelude.{ℕ, ◌^◌, ◌-◌, nat_le, Bool, true, false, not, ◌&&◌, List, [], ◌∷◌, ◌++◌, length, map, bytes_eq, Option, Some, None, is_some, unwrap_or, option_map}
+use Rattle.std.specs.Prelude.{ℕ, ◌^◌, ◌-◌, nat_eq, nat_le, Bool, true, false, not, ◌&&◌, List, [], ◌∷◌, ◌++◌, length, map, bytes_eq, Option, Some, None, is_some, unwrap_or, option_map}
 use Rattle.std.specs.List.{list_any}
 use Rattle.toml.specs.Data.{Data, Members, as_array}
 use Rattle.run_config.specs.declared.keys.ConfigKey.TheVariants as key
@@ -57,6 +57,11 @@ unfoldable pub weight_at : Format → Members → ℕ
 weight_at One guest = 1
 weight_at Two guest = natural_or 1 key.Weight guest
 
+-- whether a fresh guest has the device page, which format 1 does not know: not where the key is absent (own)
+unfoldable pub device_at : Format → Members → Bool
+device_at One guest = false
+device_at Two guest = nat_eq (natural_at key.Device guest) 1
+
 -- a name in its form, that no guest before has
 unfoldable pub is_new_name : List (List ℕ) → List ℕ → Bool
 is_new_name names name = is_name name && not (list_any (bytes_eq name) names)
@@ -71,15 +76,15 @@ absent_key resumed number guest =
 unfoldable pub wrong_value : Bool → ℕ → Members → Option ConfigFault
 wrong_value resumed number guest = wrong_among (Some number) guest (guest_table resumed)
 
-unfoldable pub wrong_option : Format → ℕ → Members → Option ConfigFault
-wrong_option format number guest = wrong_among (Some number) guest (optional_table format)
+unfoldable pub wrong_option : Bool → Format → ℕ → Members → Option ConfigFault
+wrong_option resumed format number guest = wrong_among (Some number) guest (optional_table resumed format)
 
 -- the tests of a guest in their order, by whether it is resumed, after guests of these names (own)
 unfoldable pub guest_tests : Bool → Format → List (List ℕ) → Members → List (Option ConfigFault)
 guest_tests resumed format names guest =
     absent_key resumed (length names) guest
     ∷ wrong_value resumed (length names) guest
-    ∷ wrong_option format (length names) guest
+    ∷ wrong_option resumed format (length names) guest
     ∷ unless (is_new_name names (text_at key.Name guest)) (fault.Name (length names))
     ∷ unless (has_inputs resumed format guest) (fault.Input (length names))
     ∷ unless (has_only (guest_keys resumed format) guest) (fault.Extra (Some (length names)))
@@ -106,6 +111,7 @@ origin_of false format guest = Fresh (record {
   spaces = natural_at key.Spaces guest;
   entries = natural_at key.Entries guest;
   console = natural_at key.Console guest;
+  device = device_at format guest;
   input = unwrap_or (input_at format guest) (Pairs []);
 })
 

@@ -11,6 +11,7 @@ use Rattle.run_config.specs.declared.guests.GuestSettings.{GuestSettings}
 use Rattle.run_config.specs.declared.guests.InputSource.{InputSource}
 use Rattle.run_config.specs.declared.guests.Origin.TheVariants.{Fresh, Saved}
 use Rattle.run_config.specs.declared.keys.ConfigKey.TheVariants as key
+use Rattle.run_config.specs.declared.settings.GuestOptions.{GuestOptions}
 use Rattle.run_config.specs.declared.settings.GuestRef.{GuestRef}
 use Rattle.run_config.specs.declared.settings.GuestValues.{GuestValues}
 use Rattle.run_config.specs.declared.settings.ResumedRef.{ResumedRef}
@@ -60,17 +61,18 @@ pub record HasValues (r : GuestRef) (table : Members) : Type 0 where
   pub entries : r.entries ≡ natural_at key.Entries table
   pub console : r.console ≡ natural_at key.Console table
 
--- the settings of a fresh guest of these values, with this weight and these inputs
-abbrev pub settings_seen : GuestRef → ℕ → InputSource → GuestSettings
-settings_seen r weight input = record {
+-- the settings of a fresh guest of these values and options, with these inputs
+abbrev pub settings_seen : GuestRef → GuestOptions → InputSource → GuestSettings
+settings_seen r options input = record {
   name = r.name.now;
-  weight = weight;
+  weight = options.weight;
   origin = Fresh (record {
     image = r.image.now;
     blocks = r.blocks;
     spaces = r.spaces;
     entries = r.entries;
     console = r.console;
+    device = options.device;
     input = input;
   });
 }

@@ -34,10 +34,12 @@ abbrev pub guest_table : Bool → List (ConfigKey × Kind)
 guest_table true = resumed_table
 guest_table false = fresh_table
 
--- the keys of the same kinds that a guest may have after these (own)
-abbrev pub optional_table : Format → List (ConfigKey × Kind)
-optional_table One = []
-optional_table Two = (key.Weight, integer_of 1 1000) ∷ []
+-- the keys of the same kinds that a guest may have after these, by whether it is resumed: the file of a resumed
+-- one tells whether it has the device page (own)
+abbrev pub optional_table : Bool → Format → List (ConfigKey × Kind)
+optional_table resumed One = []
+optional_table true Two = (key.Weight, integer_of 1 1000) ∷ []
+optional_table false Two = (key.Weight, integer_of 1 1000) ∷ (key.Device, integer_of 0 1) ∷ []
 
 -- the key of a kind of its own, which a resumed guest does not have: its file tells its inputs (own)
 abbrev pub input_keys : Bool → List ConfigKey
@@ -47,7 +49,7 @@ input_keys false = key.Input ∷ []
 -- all keys that a guest may have, by whether it is resumed
 abbrev pub guest_keys : Bool → Format → List ConfigKey
 guest_keys resumed format =
-    map (λ row. row.0) (guest_table resumed ++ optional_table format) ++ input_keys resumed
+    map (λ row. row.0) (guest_table resumed ++ optional_table resumed format) ++ input_keys resumed
 
 -- the keys of the same kinds that the document may have beside those with tests of their own (own)
 abbrev pub document_table : Format → List (ConfigKey × Kind)

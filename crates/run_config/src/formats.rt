@@ -17,7 +17,7 @@ static FRESH_KEYS_ONE: [ConfigKey; 7] = [
     ConfigKey::Input,
 ];
 
-static FRESH_KEYS_TWO: [ConfigKey; 8] = [
+static FRESH_KEYS_TWO: [ConfigKey; 9] = [
     ConfigKey::Name,
     ConfigKey::Image,
     ConfigKey::Blocks,
@@ -25,6 +25,7 @@ static FRESH_KEYS_TWO: [ConfigKey; 8] = [
     ConfigKey::Entries,
     ConfigKey::Console,
     ConfigKey::Weight,
+    ConfigKey::Device,
     ConfigKey::Input,
 ];
 
@@ -49,8 +50,8 @@ static DOCUMENT_KEYS_TWO: [ConfigKey; 6] = [
     ConfigKey::Spare,
 ];
 
-/// A format of configurations. Format 2 has weights, spare blocks and resumed guests, and takes a guest's
-/// inputs from a file.
+/// A format of configurations. Format 2 has weights, the device page, spare blocks and resumed guests, and
+/// takes a guest's inputs from a file.
 #[derive(Clone, Copy)]
 pub enum Format {
     One,

@@ -59,6 +59,8 @@ pub struct FreshGuest {
     pub entries: u64,
     /// How many bytes its console keeps.
     pub console: u64,
+    /// Whether it has the device page.
+    pub device: bool,
     /// Where the bytes that come to its console are from.
     pub input: InputSource,
 }

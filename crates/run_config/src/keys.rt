@@ -21,6 +21,7 @@ pub enum ConfigKey {
     Entries,
     Console,
     Weight,
+    Device,
     Input,
     Resume,
 }
@@ -45,6 +46,7 @@ impl ConfigKey {
             ConfigKey::Entries => "entries",
             ConfigKey::Console => "console",
             ConfigKey::Weight => "weight",
+            ConfigKey::Device => "device",
             ConfigKey::Input => "input",
             ConfigKey::Resume => "resume",
         }

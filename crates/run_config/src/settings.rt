@@ -5,10 +5,12 @@ ghost use Rattle.std.specs.List.{list_any};
 ghost use Rattle.toml.specs.View.{view, table_view};
 ghost use Rattle.run_config.specs.Answers.{IfRefused};
 ghost use Rattle.run_config.specs.declared.formats.Format.TheVariants.{Two};
-ghost use Rattle.run_config.specs.Guests.{absent_key, wrong_value, wrong_option, guest_fault, guest_tests, input_at, is_new_name, is_resumed, settings_by, settings_of, weight_at};
+ghost use Rattle.run_config.specs.declared.keys.ConfigKey.TheVariants as key;
+ghost use Rattle.run_config.specs.Guests.{absent_key, wrong_value, wrong_option, device_at, guest_fault, guest_tests, input_at, is_new_name, is_resumed, settings_by, settings_of, weight_at};
 ghost use Rattle.run_config.specs.Seen.{AreAt, AreReadFrom, HasNames, HasValues, names_of, resumed_seen, settings_seen, wrong_seen};
-ghost use Rattle.run_config.specs.Tests.{first_fault, missing};
-ghost use Rattle.run_config.specs.Values.{value_at};
+ghost use Rattle.run_config.specs.Tables.{integer_of};
+ghost use Rattle.run_config.specs.Tests.{first_fault, missing, out_of_range};
+ghost use Rattle.run_config.specs.Values.{natural_or, value_at};
 
 use crate::ends::ReadEnd;
 use crate::faults::ConfigFault;
@@ -42,6 +44,13 @@ pub struct GuestRef<'a> {
     spaces: u64,
     entries: u64,
     console: u64,
+}
+
+/// What a fresh guest may have beside these.
+#[derive(Clone, Copy)]
+pub struct GuestOptions {
+    weight: u64,
+    device: bool,
 }
 
 /// The name of a resumed guest and that of its file, with the texts still the document's.
@@ -148,17 +157,49 @@ fn names_in<'a>(table: &'a Table, guest: u32) -> Result<ResumedRef<'a>, ConfigFa
     Ok(ResumedRef { name, saved })
 }
 
-// The weight of a guest.
-#[tactic(auto, unfolding(crate::specs::Guests::weight_at, crate::specs::Guests::wrong_option))]
-fn weight_at(format: Format, table: &Table, guest: u32) -> Result<u64, ConfigFault>
-    ensures weight { IfOk result (λ n. n ≡ weight_at format (table_view table.now)) }
-    ensures passed { OnOk result (wrong_option format guest (table_view table.now) ≡ None) }
-    ensures refused { IfErr result (λ f. wrong_option format guest (table_view table.now) ≡ Some f) }
+// The weight of a guest of format 2.
+fn weight_in(table: &Table, guest: u32) -> Result<u64, ConfigFault>
+    ensures weight { IfOk result (λ n. n ≡ natural_or 1 key.Weight (table_view table.now)) }
+    ensures passed { OnOk result (
+        out_of_range (Some guest) (table_view table.now) (key.Weight, integer_of 1 1000) ≡ None) }
+    ensures refused { IfErr result (λ f.
+        out_of_range (Some guest) (table_view table.now) (key.Weight, integer_of 1 1000) ≡ Some f) }
+{
+    number_or(1, table, Some(guest), ConfigKey::Weight, 1, 1000)
+}
+
+// What a fresh guest has of what it may have.
+#[tactic(auto, unfolding(crate::specs::Guests::weight_at, crate::specs::Guests::device_at, crate::specs::Guests::wrong_option))]
+fn options_at(format: Format, table: &Table, guest: u32) -> Result<GuestOptions, ConfigFault>
+    ensures weight { IfOk result (λ o. o.weight ≡ weight_at format (table_view table.now)) }
+    ensures device { IfOk result (λ o. o.device ≡ device_at format (table_view table.now)) }
+    ensures passed { OnOk result (wrong_option false format guest (table_view table.now) ≡ None) }
+    ensures refused { IfErr result (λ f. wrong_option false format guest (table_view table.now) ≡ Some f) }
 {
     match format {
-        Format::One => Ok(1),
-        Format::Two => number_or(1, table, Some(guest), ConfigKey::Weight, 1, 1000),
+        Format::One => Ok(GuestOptions {
+            weight: 1,
+            device: false,
+        }),
+        Format::Two => {
+            let weight = weight_in(table, guest)?;
+            let device = number_or(0, table, Some(guest), ConfigKey::Device, 0, 1)?;
+            Ok(GuestOptions {
+                weight,
+                device: device == 1,
+            })
+        }
     }
+}
+
+// The weight of a resumed guest.
+#[tactic(auto, unfolding(crate::specs::Guests::weight_at, crate::specs::Guests::wrong_option))]
+fn resumed_weight(table: &Table, guest: u32) -> Result<u64, ConfigFault>
+    ensures weight { IfOk result (λ n. n ≡ weight_at Two (table_view table.now)) }
+    ensures passed { OnOk result (wrong_option true Two guest (table_view table.now) ≡ None) }
+    ensures refused { IfErr result (λ f. wrong_option true Two guest (table_view table.now) ≡ Some f) }
+{
+    weight_in(table, guest)
 }
 
 // Whether a guest before has the name.
@@ -182,20 +223,21 @@ fn is_new_name(guests: &[GuestSettings], name: &str) -> bool
 fn fresh_kept(
     alloc: Global,
     seen: GuestRef<'_>,
-    weight: u64,
+    options: GuestOptions,
     input: InputSource,
 ) -> Result<GuestSettings, AllocError>
-    ensures { IfOk result (λ g. g ≡ settings_seen seen.entry weight input) }
+    ensures { IfOk result (λ g. g ≡ settings_seen seen.entry options input) }
 {
     Ok(GuestSettings {
         name: Name::from_vec(Vec::from_slice(alloc, seen.name.as_bytes())?),
-        weight,
+        weight: options.weight,
         origin: Origin::Fresh(FreshGuest {
             image: FileName::from_string(String::from_str(alloc, seen.image)?),
             blocks: seen.blocks,
             spaces: seen.spaces,
             entries: seen.entries,
             console: seen.console,
+            device: options.device,
             input,
         }),
     })
@@ -233,7 +275,7 @@ fn fresh_settings(
 {
     let guest = before.len() as u32;
     let seen = values_of(table, guest)?;
-    let weight = weight_at(format, table, guest)?;
+    let options = options_at(format, table, guest)?;
     if !is_new_name(before, seen.name) {
         return Err(ReadEnd::Refused(ConfigFault::Name { guest }));
     }
@@ -243,7 +285,7 @@ fn fresh_settings(
     if !has_only(table, format.fresh_keys()) {
         return Err(ReadEnd::Refused(ConfigFault::Extra { guest: Some(guest) }));
     }
-    Ok(fresh_kept(alloc, seen, weight, input)?)
+    Ok(fresh_kept(alloc, seen, options, input)?)
 }
 
 // The settings of the next guest after these, a resumed one. Format 2 alone has such guests.
@@ -262,7 +304,7 @@ fn resumed_settings(
 {
     let guest = before.len() as u32;
     let seen = names_in(table, guest)?;
-    let weight = weight_at(Format::Two, table, guest)?;
+    let weight = resumed_weight(table, guest)?;
     if !is_new_name(before, seen.name) {
         return Err(ReadEnd::Refused(ConfigFault::Name { guest }));
     }

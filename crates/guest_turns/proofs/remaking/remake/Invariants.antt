@@ -5,9 +5,9 @@ use Rattle.guest_turns.proofs.remaking.remake.Given as goal
 
 abbrev pub invariant-loop-i : goal.invariant-loop-i
 invariant-loop-i l = record {
-  within : l.i ≤ length l.saved.spaces;
-  spaces : spaces_of l.pool ≡ drop l.i l.saved.spaces;
-  fits : FitsPool l.saved l.pool;
+  within : l.i ≤ length l.saved.machine.spaces;
+  spaces : spaces_of l.pool ≡ drop l.i l.saved.machine.spaces;
+  fits : FitsPool l.saved.machine l.pool;
   keeps : KeepsPool l.fn.pool l.fn.memory l.pool l.memory;
   tidy : TidyPool l.pool l.memory;
 }

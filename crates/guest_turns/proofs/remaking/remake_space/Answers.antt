@@ -14,9 +14,9 @@ use Rattle.guest_turns.proofs.remaking.remake_space.Goals as goal
 
 pub loop-j-init : goal.loop-j-init
 loop-j-init c =
-    let m = c.args.saved.now in
+    let m = c.args.saved.now.machine in
     let s = space_at m.spaces c.args.i in
-    let own : IsSavableSpace (length m.ram) m.entry_room s = c.can_be_saved.ensures.spaces c.args.i no_space c.requires.space in
+    let own : IsSavableSpace (length m.ram) m.entry_room m.device s = c.can_be_saved.ensures.spaces c.args.i no_space c.requires.space in
     let key : c.of.result ≡ s.key = c.of.ensures ∙ ap (λ key. guest_root_of (hgatp_bits key)) (c.key.ensures no_space) ∙ own.key.stored in
     record {
       within = omega arith;
@@ -32,26 +32,26 @@ loop-j-init c =
 
 pub entry-requires-clause-place : goal.entry-requires-clause-place
 entry-requires-clause-place c d =
-    let same = same_space c.args.saved.now.spaces c.args.i d no_space c.requires.space in
+    let same = same_space c.args.saved.now.machine.spaces c.args.i d no_space c.requires.space in
     omega (arith, c.loop-j-test.true, c.len-j-end.ensures no_space, ap (λ s. length s.entries) same)
 
 pub fill-requires-clause-entry : goal.fill-requires-clause-entry
 fill-requires-clause-entry c =
-    let m = c.args.saved.now in
+    let m = c.args.saved.now.machine in
     let s = space_at m.spaces c.args.i in
-    let own : IsSavableSpace (length m.ram) m.entry_room s = c.can_be_saved.ensures.spaces c.args.i no_space c.requires.space in
+    let own : IsSavableSpace (length m.ram) m.entry_room m.device s = c.can_be_saved.ensures.spaces c.args.i no_space c.requires.space in
     let inside : c.loop-j.j < length s.entries = omega (arith, c.loop-j-test.true, c.len-j-end.ensures no_space) in
     let size : length m.ram ≡ length c.loop-j.pool.part.blocks * block_size = c.can_be_saved.ensures.sizes.whole ∙ ap (λ n. n * block_size) (sym c.loop-j.invariant.fits.blocks) in
     let entry = own.entries c.loop-j.j c.entry.result inside in
     subst (CanFill c.loop-j.pool.part.blocks) (sym (c.entry.ensures no_space))
-    (savable_is_filled s.key c.loop-j.pool.part.blocks (slice_index_or s.entries c.loop-j.j c.entry.result) (subst (λ n. IsSavableEntry s.key n (slice_index_or s.entries c.loop-j.j c.entry.result)) size entry))
+    (savable_is_filled s.key c.loop-j.pool.part.blocks m.device (slice_index_or s.entries c.loop-j.j c.entry.result) (subst (λ n. IsSavableEntry s.key n m.device (slice_index_or s.entries c.loop-j.j c.entry.result)) size entry))
 
 pub loop-j-preserved : goal.loop-j-preserved
 loop-j-preserved c =
-    let m = c.args.saved.now in
+    let m = c.args.saved.now.machine in
     let s = space_at m.spaces c.args.i in
     let others = drop (c.args.i + 1) m.spaces in
-    let own : IsSavableSpace (length m.ram) m.entry_room s = c.can_be_saved.ensures.spaces c.args.i no_space c.requires.space in
+    let own : IsSavableSpace (length m.ram) m.entry_room m.device s = c.can_be_saved.ensures.spaces c.args.i no_space c.requires.space in
     let inside : c.loop-j.j < length s.entries = omega (arith, c.loop-j-test.true, c.len-j-end.ensures no_space) in
     record {
       within = omega (arith, inside);
@@ -67,7 +67,7 @@ loop-j-preserved c =
 
 pub returns-clause-spaces : goal.returns-clause-spaces
 returns-clause-spaces c =
-    let m = c.args.saved.now in
+    let m = c.args.saved.now.machine in
     let s = space_at m.spaces c.args.i in
     let all : c.loop-j.j ≡ length s.entries = omega (arith, c.loop-j-test.false, c.len-j-end.ensures no_space, c.loop-j.invariant.within) in
     c.loop-j.invariant.spaces ∙ ap (λ k. partly k s (drop (c.args.i + 1) m.spaces)) all

@@ -5,9 +5,9 @@ use Rattle.guest_turns.proofs.remaking.remake_space.Given as goal
 
 abbrev pub invariant-loop-j : goal.invariant-loop-j
 invariant-loop-j l = record {
-  within : l.j ≤ length (space_at l.saved.spaces l.i).entries;
-  spaces : spaces_of l.pool ≡ partly l.j (space_at l.saved.spaces l.i) (drop (l.i + 1) l.saved.spaces);
-  fits : FitsPool l.saved l.pool;
+  within : l.j ≤ length (space_at l.saved.machine.spaces l.i).entries;
+  spaces : spaces_of l.pool ≡ partly l.j (space_at l.saved.machine.spaces l.i) (drop (l.i + 1) l.saved.machine.spaces);
+  fits : FitsPool l.saved.machine l.pool;
   keeps : KeepsPool l.fn.pool l.fn.memory l.pool l.memory;
   tidy : TidyPool l.pool l.memory;
 }

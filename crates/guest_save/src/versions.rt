@@ -1,0 +1,64 @@
+// The versions of a form.
+
+ghost use Rattle.std.specs.Prelude.{◌≡◌, take};
+ghost use Rattle.guest_save.specs.Versions.{header_end, later_begin, letters, version_in};
+
+/// A version of a form, which its letters tell.
+#[derive(Clone, Copy, Debug, PartialEq, Eq)]
+pub enum Version {
+    /// It does not tell whether a machine has the device page: none has.
+    First,
+    /// The one that is written.
+    Second,
+}
+
+// The first bytes, at most eight.
+fn first_eight(bytes: &[u8]) -> &[u8]
+    ensures { result.now ≡ take 8 bytes.now }
+{
+    if bytes.len() < 8 { bytes } else { &bytes[..8] }
+}
+
+impl Version {
+    /// The letters that a form begins with.
+    pub fn letters(self) -> [u8; 8]
+        ensures { result ≡ letters self }
+    {
+        match self {
+            Version::First => *b"NESTHV01",
+            Version::Second => *b"NESTHV02",
+        }
+    }
+
+    /// The version of bytes.
+    #[tactic(auto, unfolding(crate::specs::Versions::version_in))]
+    pub fn of(bytes: &[u8]) -> Version
+        ensures { result ≡ version_in bytes.now }
+    {
+        if first_eight(bytes) == b"NESTHV01".as_slice() {
+            Version::First
+        } else {
+            Version::Second
+        }
+    }
+
+    /// Where the numbers behind the sizes and the device page begin.
+    pub fn later_begin(self) -> usize
+        ensures { result ≡ later_begin self }
+    {
+        match self {
+            Version::First => 40,
+            Version::Second => 48,
+        }
+    }
+
+    /// Where the header ends.
+    pub fn header_end(self) -> usize
+        ensures { result ≡ header_end self }
+    {
+        match self {
+            Version::First => 584,
+            Version::Second => 592,
+        }
+    }
+}
