@@ -14,7 +14,7 @@ pub enum Form {
 }
 
 /// The configuration in format 2, where it is of format 1 and means the same in both: it has neither inputs
-/// nor weights, and names neither spare blocks nor saved guests.
+/// nor weights, and names neither the device page nor spare blocks nor saved guests.
 pub fn in_format_two(alloc: Global, configuration: &[u8]) -> Result<Option<Vec<u8>>, NoMemory> {
     let Some((front, back)) = parts(configuration) else {
         return Ok(None);
@@ -28,7 +28,7 @@ pub fn in_format_two(alloc: Global, configuration: &[u8]) -> Result<Option<Vec<u
 // What stands before and behind the format of such a configuration.
 fn parts(configuration: &[u8]) -> Option<(&str, &str)> {
     let text = str::from_utf8(configuration).ok()?;
-    for key in ["input", "weight", "spare", "resume"] {
+    for key in ["input", "weight", "device", "spare", "resume"] {
         if text.contains(key) {
             return None;
         }

@@ -1,5 +1,6 @@
 // Page tables in machine memory, for walks.
 
+ghost use Rattle.arch_defs.specs.Memory.{machine_memory};
 ghost use Rattle.arch_defs.specs.SecondStage.{memory_words};
 
 use arch_defs::{LOAD_ACCESS_FAULT, Trap};
@@ -13,7 +14,7 @@ pub struct Words<'a> {
 }
 
 impl Fetch for Words<'_> {
-    ghost reading = { λ w. memory_words 0 w.mem.now };
+    ghost reading = { λ w. memory_words (machine_memory w.mem.now) };
 
     fn pte_at(&self, place: u64) -> Result<u64, Trap> {
         match self.mem.get(place, 8) {

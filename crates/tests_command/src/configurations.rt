@@ -13,6 +13,7 @@ struct Settings {
     entries: u64,
     console: u64,
     weight: u64,
+    device: bool,
     input: Source,
 }
 
@@ -31,6 +32,7 @@ static SETTINGS: [Settings; 3] = [
         entries: 16,
         console: 0,
         weight: 1,
+        device: false,
         input: Source::Pairs(&[]),
     },
     Settings {
@@ -41,6 +43,7 @@ static SETTINGS: [Settings; 3] = [
         entries: 256,
         console: 1_048_576,
         weight: 1,
+        device: false,
         input: Source::Pairs(&[]),
     },
     Settings {
@@ -51,6 +54,7 @@ static SETTINGS: [Settings; 3] = [
         entries: 17,
         console: 5,
         weight: 1,
+        device: false,
         input: Source::Pairs(&[(3, 48), (3, 255), (9, 0)]),
     },
 ];
@@ -64,6 +68,7 @@ static SETTINGS_TWO: [Settings; 2] = [
         entries: 16,
         console: 0,
         weight: 1000,
+        device: true,
         input: Source::File("keys 1.bin"),
     },
     Settings {
@@ -74,6 +79,7 @@ static SETTINGS_TWO: [Settings; 2] = [
         entries: 17,
         console: 5,
         weight: 1,
+        device: false,
         input: Source::Pairs(&[]),
     },
 ];
@@ -84,7 +90,8 @@ const EACH_VALUE: &str = "format=1\nturns=[[2,4294967296],[0,0],[2,7]]\n\
     {name='b',image='b',blocks=2,spaces=3,entries=17,console=5,input=[[3,48],[3,255],[9,0]]}]";
 
 const EACH_VALUE_TWO: &str = "format=2\nquantum=4294967\nrounds=2\n\
-    guest=[{name='a',image='a.bin',blocks=1,spaces=1,entries=16,console=0,weight=1_000,input='keys 1.bin'},\
+    guest=[{name='a',image='a.bin',blocks=1,spaces=1,entries=16,console=0,\
+    weight=1_000,device=1,input='keys 1.bin'},\
     {name='b',image='b',blocks=2,spaces=3,entries=17,console=5}]";
 
 const ROUNDS: &str = "format=1\nquantum=9\nrounds=2\n\
@@ -110,6 +117,7 @@ fn is_fresh(guest: &FreshGuest, settings: &Settings) -> bool {
         && guest.spaces == settings.spaces
         && guest.entries == settings.entries
         && guest.console == settings.console
+        && guest.device == settings.device
         && is_from(&guest.input, &settings.input)
 }
 

@@ -241,11 +241,26 @@ struct Fault {
     fetch: u64,
 }
 
-static FAULTS: [Fault; 3] = [
+// The leaf of block 1 of the guest's RAM, whose frame is that of the device page: memory has it not, and the
+// hart has no device.
+const DEVICE_LEAF: (u64, u64) = (0x8008, 0x0400_00DF);
+
+static FAULTS: [Fault; 4] = [
     Fault {
         name: "past memory, under the block's leaf",
         case: BARE,
         address: 0x8000_4000,
+        load: 5,
+        store: 7,
+        fetch: 1,
+    },
+    Fault {
+        name: "on the device page",
+        case: Case {
+            words: &[DEVICE_LEAF],
+            ..BARE
+        },
+        address: RAM + BLOCK,
         load: 5,
         store: 7,
         fetch: 1,

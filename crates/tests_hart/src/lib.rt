@@ -19,3 +19,5 @@ mod runs;
 mod translation;
 #[cfg(test)]
 mod traps;
+#[cfg(test)]
+mod wanted_accesses;

@@ -5,9 +5,9 @@ use Rattle.std.proofs.lemmas.List.Elements.{All-cons, All-nil}
 use Rattle.frame_split.specs.Shares.{frames_with}
 use Rattle.guest_save.specs.Needs as saved
 use Rattle.guest_save.specs.Savable.{IsSavable}
+use Rattle.guest_save.specs.Saves.{SavedMachine}
 use Rattle.guest_specs.specs.Needs.{frames_needed, need_of}
 use Rattle.guest_specs.specs.declared.guests.GuestSpec.{GuestSpec}
-use Rattle.machine_defs.specs.Machine.{Machine}
 use Rattle.guest_turns.specs.Limits.{AreBootable, IsBootable, frames_for}
 use Rattle.guest_turns.specs.Sources.{AreBootableSources, IsBootableSource, needs_of_sources}
 use Rattle.guest_turns.specs.declared.sources.Source.TheVariants.{Kept}
@@ -35,12 +35,12 @@ many_bootable guests some few each small = record {
 }
 
 -- one guest that goes on from a saved machine
-pub kept_boots : (name : List ℕ) (m : Machine) → IsSavable m → AreBootableSources (Kept name m ∷ [])
-kept_boots name m is = record {
+pub kept_boots : (name : List ℕ) (kept : SavedMachine) → IsSavable kept.machine → AreBootableSources (Kept name kept ∷ [])
+kept_boots name kept is = record {
   some = omega arith;
   few = omega arith;
-  each = All-cons IsBootableSource (Kept name m) [] is (All-nil IsBootableSource);
+  each = All-cons IsBootableSource (Kept name kept) [] is (All-nil IsBootableSource);
 }
 
-pub kept_fits : (name : List ℕ) (m : Machine) → saved.need_of m ≡ record { blocks = 1; spaces = 1; entries = 16 } → frames_with (needs_of_sources (Kept name m ∷ [])) 1 ≤ 1081
-kept_fits name m is = omega (arith, ap frames_needed is)
+pub kept_fits : (name : List ℕ) (kept : SavedMachine) → saved.need_of kept.machine ≡ record { blocks = 1; spaces = 1; entries = 16 } → frames_with (needs_of_sources (Kept name kept ∷ [])) 1 ≤ 1081
+kept_fits name kept is = omega (arith, ap frames_needed is)

@@ -39,6 +39,7 @@ fn at_start(alloc: Global, case: &Case) -> Result<Guest, NoMemory>
         console: console(alloc, case)?,
         steps: 0,
         status: Status::Running,
+        device: false,
     })
 }
 

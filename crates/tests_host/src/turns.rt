@@ -189,6 +189,7 @@ fn guest(alloc: Global, image: &[u8]) -> Result<GuestSpec, NoMemory>
         entries: 16,
         console: 1,
         inputs: Inputs::from_vec(Vec::new(alloc)),
+        device: false,
     })
 }
 

@@ -39,6 +39,7 @@ fn a_guest_needs_what_its_settings_say(rt: HostRuntime) {
         entries: 16,
         console: 100,
         inputs: Inputs::from_vec(Vec::new(rt.alloc())),
+        device: true,
     };
     let need = guest.need();
     assert!(rt; need.blocks == 2 && need.spaces == 3 && need.entries == 16);

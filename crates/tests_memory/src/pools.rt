@@ -90,6 +90,9 @@ fn frame_of(mem: &PhysMem, root: u64, page: u64) -> Option<u64>
     }
 }
 
+// The frame of the device page.
+const DEVICE_FRAME: u64 = 0x1_0000;
+
 // An entry that can be read.
 fn entry(page: u64, frame: u64, level: u8) -> Entry {
     Entry {
@@ -115,7 +118,7 @@ fn filled(machine: &mut Machine, key: GuestRoot, entry: Entry) -> u64
     if entry.page >= 0x40_0000_0000 || entry.level > 3 {
         return root;
     }
-    if entry.frame < 0x8_0000 || entry.frame >= 0x8_0400 {
+    if entry.frame != DEVICE_FRAME && (entry.frame < 0x8_0000 || entry.frame >= 0x8_0400) {
         return root;
     }
     if entry.r {
@@ -870,5 +873,35 @@ fn move_is_right(alloc: Global) -> Result<bool, NoMemory> {
 #[test]
 fn a_move_folds_anew(rt: HostRuntime) -> Result<(), Fail> {
     assert!(rt; move_is_right(rt.alloc())?);
+    Ok(())
+}
+
+// Whether a load from page 5 is on the device page exactly while the space that has an entry of it is in
+// front.
+fn device_is_of_the_front(alloc: Global) -> Result<bool, NoMemory> {
+    let Some(mut machine) = machine_with(alloc, Room::Three)? else {
+        return Ok(false);
+    };
+    let at_first = machine.pool.is_on_device(false, 0x5008, Access::Load);
+    let root = filled(&mut machine, P, entry(5, DEVICE_FRAME, 0));
+    let filled_now = machine.pool.is_on_device(false, 0x5008, Access::Load);
+    let stored = machine.pool.is_on_device(false, 0x5008, Access::Store);
+    let leaf = frame_of(&machine.mem, root, 5);
+    filled(&mut machine, R, entry(5, 0x8_0005, 0));
+    let behind = machine.pool.is_on_device(false, 0x5008, Access::Load);
+    machine.pool.enter(&mut machine.mem, Key::of(P));
+    let again = machine.pool.is_on_device(false, 0x5008, Access::Load);
+    let all = Fence {
+        vmid: None,
+        page: Some(5),
+    };
+    machine.pool.fence(&mut machine.mem, all);
+    let fenced = machine.pool.is_on_device(false, 0x5008, Access::Load);
+    Ok(!at_first && filled_now && !stored && leaf.is_none() && !behind && again && !fenced)
+}
+
+#[test]
+fn the_device_page_is_of_the_front(rt: HostRuntime) -> Result<(), Fail> {
+    assert!(rt; device_is_of_the_front(rt.alloc())?);
     Ok(())
 }

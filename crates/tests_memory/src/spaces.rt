@@ -72,6 +72,8 @@ enum Step {
     Fill(u64, u64, u8),
     /// The same by a leaf of level 0 that can be written too.
     FillDirty(u64, u64),
+    /// The same by a leaf of level 0 that can be executed alone.
+    FillCode(u64, u64),
     Cut(u64),
     Wipe,
     Root(u64),
@@ -79,6 +81,8 @@ enum Step {
     Loads(u64, Option<u64>),
     /// The same of a store.
     Stores(u64, Option<u64>),
+    /// Whether an access at the start of a page, with MXR or without, is on the device page.
+    IsDevice(bool, u64, Access, bool),
     /// The pages and frames of the entries, the oldest first, which are of level 0.
     Entries(&'static [(u64, u64)]),
     /// A doubleword of memory.
@@ -91,7 +95,7 @@ struct Case {
     steps: &'static [Step],
 }
 
-static CASES: [Case; 5] = [
+static CASES: [Case; 8] = [
     // Page 1 8008 0605 is in the table of level 0 of the pages from 1 8008 0600 on, in that of level 1 at
     // entry 3, in that of level 2 at entry 2, and in the root at entry 48, since the root's index has 11
     // bits. The leaf has V, R, X, U and A.
@@ -192,7 +196,85 @@ static CASES: [Case; 5] = [
             Step::Stores(7, Some(2560)),
         ],
     },
+    // The page's tables are those of a page of RAM beside it, and are free again where both are gone.
+    Case {
+        name: "the device page has no leaf",
+        room: Room::Sixteen,
+        steps: &[
+            Step::FillDirty(0x1_0000, 0x1_0000),
+            Step::Word(0x4000, 0x2401),
+            Step::Word(0x9000, 0x2801),
+            Step::Word(0xA400, 0x2C01),
+            Step::Word(0xB000, 0),
+            Step::Loads(0x1_0000, None),
+            Step::Stores(0x1_0000, None),
+            Step::Fill(0x1_0001, 0x8_0003, 0),
+            Step::Word(0xB000, 0),
+            Step::Word(0xB008, 0x0028_0C5B),
+            Step::Loads(0x1_0000, None),
+            Step::Loads(0x1_0001, Some(2563)),
+            Step::Cut(0x1_0000),
+            Step::Entries(&[(0x1_0001, 0x8_0003)]),
+            Step::Loads(0x1_0000, None),
+            Step::Loads(0x1_0001, Some(2563)),
+            Step::Cut(0x1_0001),
+            Step::Word(0x4000, 0),
+            Step::Word(0x9000, 0),
+            Step::Word(0xA400, 0),
+            Step::Word(0xB008, 0),
+        ],
+    },
+    Case {
+        name: "an entry of the device page goes as any other",
+        room: Room::Two,
+        steps: &[
+            Step::Fill(5, 0x1_0000, 0),
+            Step::Fill(6, 0x8_0006, 0),
+            Step::Entries(&[(5, 0x1_0000), (6, 0x8_0006)]),
+            Step::Fill(7, 0x8_0007, 0),
+            Step::Entries(&[(6, 0x8_0006), (7, 0x8_0007)]),
+            Step::IsDevice(false, 5, Access::Load, false),
+            Step::Fill(6, 0x1_0000, 0),
+            Step::Entries(&[(7, 0x8_0007), (6, 0x1_0000)]),
+            Step::Loads(6, None),
+            Step::Loads(7, Some(2567)),
+            Step::Fill(6, 0x8_0008, 0),
+            Step::Loads(6, Some(2568)),
+            Step::IsDevice(false, 6, Access::Load, false),
+            Step::Fill(6, 0x1_0000, 0),
+            Step::Wipe,
+            Step::Entries(&[]),
+            Step::IsDevice(false, 6, Access::Load, false),
+        ],
+    },
+    Case {
+        name: "an access is on the device page as the entry permits",
+        room: Room::Two,
+        steps: &[
+            Step::IsDevice(false, 5, Access::Load, false),
+            Step::Fill(5, 0x1_0000, 0),
+            Step::IsDevice(false, 5, Access::Load, true),
+            Step::IsDevice(false, 5, Access::Store, false),
+            Step::IsDevice(false, 5, Access::Fetch, true),
+            Step::IsDevice(false, 5, Access::Implicit, true),
+            Step::IsDevice(false, 6, Access::Load, false),
+            Step::IsDevice(false, 0x1_0000, Access::Load, false),
+            Step::FillDirty(5, 0x1_0000),
+            Step::IsDevice(false, 5, Access::Store, true),
+            Step::FillCode(5, 0x1_0000),
+            Step::IsDevice(false, 5, Access::Load, false),
+            Step::IsDevice(true, 5, Access::Load, true),
+            Step::IsDevice(true, 5, Access::Store, false),
+            Step::IsDevice(true, 5, Access::Implicit, false),
+            Step::IsDevice(false, 5, Access::ExecLoad, true),
+            Step::Fill(0x1_0000, 0x8_0000, 0),
+            Step::IsDevice(false, 0x1_0000, Access::Load, false),
+        ],
+    },
 ];
+
+// The frame of the device page.
+const DEVICE_FRAME: u64 = 0x1_0000;
 
 fn entry(page: u64, frame: u64, level: u8, w: bool) -> Entry {
     Entry {
@@ -202,6 +284,18 @@ fn entry(page: u64, frame: u64, level: u8, w: bool) -> Entry {
         w,
         x: true,
         level,
+    }
+}
+
+// One of level 0 that can be executed alone.
+fn code(page: u64, frame: u64) -> Entry {
+    Entry {
+        page,
+        frame,
+        r: false,
+        w: false,
+        x: true,
+        level: 0,
     }
 }
 
@@ -216,10 +310,10 @@ fn filled(space: &mut Space, mem: &mut PhysMem, entry: Entry) -> bool
     if entry.page >= 0x40_0000_0000 || entry.level > 3 {
         return false;
     }
-    if entry.frame < 0x8_0000 || entry.frame >= 0x8_0400 {
+    if entry.frame != DEVICE_FRAME && (entry.frame < 0x8_0000 || entry.frame >= 0x8_0400) {
         return false;
     }
-    if !entry.r {
+    if (!entry.r && !entry.x) || (entry.w && !entry.r) {
         return false;
     }
     space.fill(mem, entry);
@@ -278,11 +372,15 @@ fn is_made(space: &mut Space, mem: &mut PhysMem, step: Step) -> bool
             return filled(space, mem, entry(page, frame, level, false));
         }
         Step::FillDirty(page, frame) => return filled(space, mem, entry(page, frame, 0, true)),
+        Step::FillCode(page, frame) => return filled(space, mem, code(page, frame)),
         Step::Cut(page) => space.cut(mem, page),
         Step::Wipe => space.wipe(mem),
         Step::Root(frame) => return space.root() == frame,
         Step::Loads(page, frame) => return leads(mem, page, Access::Load, frame),
         Step::Stores(page, frame) => return leads(mem, page, Access::Store, frame),
+        Step::IsDevice(mxr, page, access, wanted) => {
+            return page < 0x40_0000_0000 && space.is_on_device(mxr, page * 4096, access) == wanted;
+        }
         Step::Entries(wanted) => return has_entries(space, wanted),
         Step::Word(at, word) => return word_at(mem, at) == Some(word),
     }
@@ -376,7 +474,8 @@ fn a_fill_writes_eight_doublewords(rt: HostRuntime) -> Result<(), Fail> {
 }
 
 // Whether three pages, two of block 5 and one of block 3, have the same frames of their blocks where block 7
-// is in the place of block 5. The list stays, and so does what an entry permits.
+// is in the place of block 5. The list stays, and so does what an entry permits; one of the device page has
+// no leaf afterwards either.
 fn move_is_right(alloc: Global) -> Result<bool, NoMemory> {
     let before = part(&[5, 3], 0, 8, 1, 16);
     let after = part(&[7, 3], 0, 8, 1, 16);
@@ -390,7 +489,10 @@ fn move_is_right(alloc: Global) -> Result<bool, NoMemory> {
         &mut mem,
         entry(0x3F_FFFF_FFFF, 0x8_0205, 0, false),
     );
+    filled(&mut space, &mut mem, entry(2, DEVICE_FRAME, 0, false));
     space.moved(&mut mem, &after);
+    let device = leads(&mem, 2, Access::Load, None)
+        && space.is_on_device(false, 0x2000, Access::Load);
     let leaves = leads(&mem, 1, Access::Load, Some(3587))
         && leads(&mem, 0x4_0201, Access::Load, Some(3588))
         && leads(&mem, 0x3F_FFFF_FFFF, Access::Load, Some(1541))
@@ -399,8 +501,9 @@ fn move_is_right(alloc: Global) -> Result<bool, NoMemory> {
         (1, 0x8_0003),
         (0x4_0201, 0x8_0004),
         (0x3F_FFFF_FFFF, 0x8_0205),
+        (2, DEVICE_FRAME),
     ];
-    Ok(leaves && has_entries(&space, &list) && space.root() == 4)
+    Ok(device && leaves && has_entries(&space, &list) && space.root() == 4)
 }
 
 #[test]

@@ -9,7 +9,6 @@ use phys_mem::{NoMemory, PhysMem};
 use sample_memory::{has_words, with_words};
 use std::alloc::Global;
 use std::test::Fail;
-use two_stage_walk::memory_is_whole;
 
 const START: u64 = 0x8000_0000;
 
@@ -170,7 +169,6 @@ fn started(reservation: Option<(u64, u8)>) -> Virtual {
 
 // An access as the state's mode.
 fn made(memory: &mut PhysMem, state: &mut Virtual, wanted: &DataAccess) -> Result<(), Trap> {
-    memory_is_whole(memory);
     let access = kind_of(wanted.purpose);
     let place = place_for(
         memory,
@@ -323,7 +321,6 @@ fn place_is_right(memory: &PhysMem, mode: Mode, codes: &Codes, place: &Place) ->
         End::Past => fault(codes.past, place.va, gva),
     };
     let csrs = Csrs::at_reset();
-    memory_is_whole(memory);
     place_for(memory, &csrs, mode, place.va, place.width, codes.access) == expected
 }
 

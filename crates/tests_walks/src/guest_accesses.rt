@@ -4,24 +4,21 @@
 
 ghost use Rattle.std.specs.Prelude.{◌<◌, length};
 ghost use Rattle.arch_defs.specs.Frames.{LieIn, in_blocks};
-ghost use Rattle.arch_defs.specs.Memory.{ram_base};
-ghost use Rattle.arch_defs.specs.Ram.{ram_of};
-ghost use Rattle.two_stage_walk.specs.Places.{IsWhole};
 
 use self::End::{Done, Fault, Implicit, Refused};
 use crate::states::{At, HGATP, HSTATUS, SATP, SSTATUS, START, VSATP, VSSTATUS, state_with};
 use arch_defs::{Mode, Part, Reg, Trap, Virtual, Width};
+use console_dev::Console;
 use hlv_hsv::{Accessed, Op, access};
 use phys_mem::{Mem, NoMemory, PhysMem, Ram};
 use rv64_asm::fits;
 use sample_memory::{has_words, memory, part, with_words};
 use std::alloc::Global;
 use std::test::Fail;
-use two_stage_walk::{memory_is_whole, ram_is_whole};
 
-// An instruction with its address in x11: into x10, into x0, or a value from x12.
+/// An instruction with its address in x11: into x10, into x0, or a value from x12.
 #[derive(Clone, Copy)]
-enum Made {
+pub enum Made {
     Hlv(Width),
     HlvUnsigned(Width),
     HlvToZero(Width),
@@ -47,8 +44,9 @@ const HLVX_HU: Made = Made::Hlvx(Width::Half);
 
 const HLVX_WU: Made = Made::Hlvx(Width::Word);
 
+/// How it ends.
 #[derive(Clone, Copy)]
-enum End {
+pub enum End {
     /// It is made, with this in x10, which is 7 before, and pc goes on.
     Done(u64),
     /// A trap of this cause with this tval2. It changes nothing.
@@ -59,9 +57,9 @@ enum End {
     Refused(u64, u64),
 }
 
-// An access to an address, and its end.
+/// An access to an address, and its end.
 #[derive(Clone, Copy)]
-struct Row(Made, u64, End);
+pub struct Row(pub Made, pub u64, pub End);
 
 // Accesses in this order in memory of `TABLES`, in a mode, with these CSRs; and doublewords afterwards.
 struct Case {
@@ -118,7 +116,8 @@ const GUEST_ROOT: (At, u64) = (At::Csr(HGATP), 0x8000_1000_0000_0004);
 
 const ROOT: (At, u64) = (At::Csr(VSATP), 0x8000_0000_0000_000C);
 
-const SPVP: u64 = 0x100;
+/// hstatus.SPVP.
+pub const SPVP: u64 = 0x100;
 
 const HU: u64 = 0x200;
 
@@ -558,7 +557,8 @@ fn trap(cause: u64, tval: u64, tval2: u64, is_implicit: bool, gva: bool) -> Acce
     })
 }
 
-fn expected(va: u64, end: End) -> Accessed {
+/// What the access to an address answers.
+pub fn expected(va: u64, end: End) -> Accessed {
     match end {
         Done(_) => Accessed::Done,
         Fault(cause, tval2) => trap(cause, va, tval2, false, true),
@@ -567,7 +567,8 @@ fn expected(va: u64, end: End) -> Accessed {
     }
 }
 
-fn op_of(made: Made) -> Op {
+/// The op of the instruction.
+pub fn op_of(made: Made) -> Op {
     let (rd, rs1) = (Reg::new(10), Reg::new(11));
     match made {
         Made::Hlv(width) => load(width, true, rd),
@@ -591,8 +592,8 @@ fn load(width: Width, signed: bool, rd: Reg) -> Op {
     }
 }
 
-// The state before a row. What is reserved stays.
-fn state_before(mode: Mode, given: &[(At, u64)], row: &Row) -> Virtual {
+/// The state before a row. What is reserved stays.
+pub fn state_before(mode: Mode, given: &[(At, u64)], row: &Row) -> Virtual {
     let mut state = state_with(mode, given);
     state.regs.x[10] = 7;
     state.regs.x[11] = row.1;
@@ -603,7 +604,8 @@ fn state_before(mode: Mode, given: &[(At, u64)], row: &Row) -> Virtual {
     state
 }
 
-fn state_after(mut state: Virtual, end: End) -> Virtual {
+/// The state after it.
+pub fn state_after(mut state: Virtual, end: End) -> Virtual {
     if let Done(value) = end {
         state.regs.x[10] = value;
         state.regs.pc = START + 4;
@@ -611,31 +613,43 @@ fn state_after(mut state: Virtual, end: End) -> Virtual {
     state
 }
 
-// How an access to memory ends; None where it is no HLV, HLVX or HSV.
-fn ended(memory: &mut PhysMem, state: &mut Virtual, op: Op) -> Option<Accessed> {
+/// How an access ends, of a guest that has the device page or not; None where it is no HLV, HLVX or HSV.
+pub fn ended(
+    memory: &mut PhysMem,
+    state: &mut Virtual,
+    op: Op,
+    device: bool,
+    console: &mut Console,
+) -> Option<Accessed> {
     if !fits(&op) {
         return None;
     }
-    memory_is_whole(memory);
     match op {
         Op::GuestLoad { .. } | Op::GuestFetch { .. } | Op::GuestStore { .. } => {
-            Some(access(memory, state, op))
+            Some(access(memory, state, op, device, console))
         }
         _ => None,
     }
 }
 
-fn row_is_right(memory: &mut PhysMem, mode: Mode, given: &[(At, u64)], row: &Row) -> bool {
+fn row_is_right(
+    memory: &mut PhysMem,
+    mode: Mode,
+    given: &[(At, u64)],
+    row: &Row,
+    console: &mut Console,
+) -> bool {
     let before = state_before(mode, given, row);
     let mut state = before;
-    let end = ended(memory, &mut state, op_of(row.0));
+    let end = ended(memory, &mut state, op_of(row.0), false, console);
     end == Some(expected(row.1, row.2)) && state == state_after(before, row.2)
 }
 
 fn is_right(alloc: Global, case: &Case) -> Result<bool, NoMemory> {
     let mut memory = with_words(alloc, &TABLES)?;
+    let mut console = Console::new(alloc, 0, Vec::new(alloc))?;
     for row in case.rows {
-        if !row_is_right(&mut memory, case.mode, case.given, row) {
+        if !row_is_right(&mut memory, case.mode, case.given, row, &mut console) {
             return Ok(false);
         }
     }
@@ -738,9 +752,13 @@ static IN_RAM: [InRam; 8] = [
     },
 ];
 
-fn ended_in_ram(ram: &mut Ram, state: &mut Virtual, op: Op) -> Option<Accessed>
-    requires lies { LieIn (in_blocks ram.old.part.now.blocks) (length ram.old.mem.now) }
-    requires whole { IsWhole ram_base (ram_of ram.old.part.now.blocks ram.old.mem.now) }
+fn ended_in_ram(
+    ram: &mut Ram,
+    state: &mut Virtual,
+    op: Op,
+    console: &mut Console,
+) -> Option<Accessed>
+    requires { LieIn (in_blocks ram.old.part.now.blocks) (length ram.old.mem.now) }
     ensures { LieIn (in_blocks ram.new.part.now.blocks) (length ram.new.mem.now) }
 {
     if !fits(&op) {
@@ -748,45 +766,48 @@ fn ended_in_ram(ram: &mut Ram, state: &mut Virtual, op: Op) -> Option<Accessed>
     }
     match op {
         Op::GuestLoad { .. } | Op::GuestFetch { .. } | Op::GuestStore { .. } => {
-            Some(access(ram, state, op))
+            Some(access(ram, state, op, false, console))
         }
         _ => None,
     }
 }
 
-fn in_ram_is_right(ram: &mut Ram, case: &InRam) -> bool
+fn in_ram_is_right(ram: &mut Ram, case: &InRam, console: &mut Console) -> bool
     requires { LieIn (in_blocks ram.old.part.now.blocks) (length ram.old.mem.now) }
     ensures { LieIn (in_blocks ram.new.part.now.blocks) (length ram.new.mem.now) }
 {
     let row = Row(case.made, 0x1000, case.end);
     let before = state_before(case.mode, case.given, &row);
     let mut state = before;
-    ram_is_whole(ram);
-    let end = ended_in_ram(ram, &mut state, op_of(case.made));
+    let end = ended_in_ram(ram, &mut state, op_of(case.made), console);
     end == Some(expected(0x1000, case.end)) && state == state_after(before, case.end)
 }
 
 // The name of the first access that does not end as it should.
-fn first_wrong_in_ram(ram: &mut Ram) -> Option<&'static str>
+fn first_wrong_in_ram(ram: &mut Ram, console: &mut Console) -> Option<&'static str>
     requires { LieIn (in_blocks ram.old.part.now.blocks) (length ram.old.mem.now) }
 {
     if !has_tables(ram) {
         return Some("the tables");
     }
     for i in 0..IN_RAM.len() {
-        if !in_ram_is_right(ram, &IN_RAM[i]) {
+        if !in_ram_is_right(ram, &IN_RAM[i], console) {
             return Some(IN_RAM[i].name);
         }
     }
     None
 }
 
-fn first_wrong_in_part(memory: &mut PhysMem, part: &Part) -> Option<&'static str> {
+fn first_wrong_in_part(
+    memory: &mut PhysMem,
+    part: &Part,
+    console: &mut Console,
+) -> Option<&'static str> {
     let size = memory.size();
     if !part.lies_in(size) {
         return Some("the part");
     }
-    first_wrong_in_ram(&mut Ram::new(memory, part))
+    first_wrong_in_ram(&mut Ram::new(memory, part), console)
 }
 
 // RAM is block 1 of machine memory and then block 0.
@@ -794,7 +815,8 @@ fn first_wrong_in_part(memory: &mut PhysMem, part: &Part) -> Option<&'static str
 fn execute_only(rt: HostRuntime) -> Result<(), Fail> {
     let mut memory = memory(rt.alloc(), 1029)?;
     let part = part(&[1, 0], 1024, 1028, 0, 0);
-    let wrong = first_wrong_in_part(&mut memory, &part);
+    let mut console = Console::new(rt.alloc(), 0, Vec::new(rt.alloc()))?;
+    let wrong = first_wrong_in_part(&mut memory, &part, &mut console);
     assert!(rt; wrong.is_none(), "{wrong:?}");
     Ok(())
 }

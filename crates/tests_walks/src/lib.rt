@@ -8,6 +8,8 @@ mod buffers;
 #[cfg(test)]
 mod decided_instructions;
 #[cfg(test)]
+mod device_pages;
+#[cfg(test)]
 mod frame_sets;
 #[cfg(test)]
 mod guest_accesses;

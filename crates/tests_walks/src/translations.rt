@@ -12,10 +12,10 @@ use phys_mem::{Mem, PhysMem, Ram};
 use sample_memory::{memory, part, with_words};
 use std::test::Fail;
 use trap_delegation::enter_hs;
-use two_stage_walk::{memory_is_whole, ram_is_whole, translate};
+use two_stage_walk::translate;
 
-// The registers of a guest whose hgatp names this page, and whose vsatp names that one, if any.
-fn csrs_for(guest_page: Option<u64>, page: Option<u64>) -> Csrs {
+/// The registers of a guest whose hgatp names this page, and whose vsatp names that one, if any.
+pub fn csrs_for(guest_page: Option<u64>, page: Option<u64>) -> Csrs {
     let mut csrs = Csrs::at_reset();
     if let Some(ppn) = guest_page {
         csrs.hgatp = GuestRoot::Table {
@@ -126,9 +126,9 @@ static TABLES: [(u64, u64); 36] = [
     (0xF800, 0x2001),
 ];
 
-// How a translation ends: the physical address, or the code of the fault with tval2.
+/// How a translation ends: the physical address, or the code of the fault with tval2.
 #[derive(Clone, Copy)]
-enum End {
+pub enum End {
     Place(u64),
     Fault(u64, u64),
 }
@@ -142,8 +142,7 @@ fn expected(va: u64, end: End) -> Result<u64, Trap> {
 }
 
 fn answer(memory: &PhysMem, csrs: &Csrs, mode: Mode, va: u64, access: Access) -> Result<u64, Trap> {
-    memory_is_whole(memory);
-    translate(memory, csrs, mode, va, access)
+    translate(memory, csrs, mode, va, access, false)
 }
 
 struct Translation {
@@ -856,13 +855,13 @@ fn has_tables(ram: &mut Ram) -> bool
 fn fetched(ram: &Ram, page: Option<u64>) -> Result<u64, Trap>
     requires { LieIn (in_blocks ram.now.part.now.blocks) (length ram.now.mem.now) }
 {
-    ram_is_whole(ram);
     translate(
         ram,
         &csrs_for(Some(0x8_0004), page),
         Mode::VS,
         0,
         Access::Fetch,
+        false,
     )
 }
 

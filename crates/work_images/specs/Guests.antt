@@ -1,5 +1,5 @@
 -- The generated guests.
-use Rattle.std.specs.Prelude.{ℕ, ◌+◌, ◌*◌, List, [], ◌∷◌, map}
+use Rattle.std.specs.Prelude.{ℕ, ◌+◌, ◌*◌, false, List, [], ◌∷◌, map}
 use Rattle.std.specs.List.{range_with_len}
 use Rattle.guest_specs.specs.declared.guests.GuestSpec.{GuestSpec}
 use Rattle.rv64_asm.specs.Plans.{ImagePlan, byte_at, size}
@@ -29,6 +29,7 @@ guest_with name image = record {
   entries = 16;
   console = 1048576;
   inputs = [];
+  device = false;
 }
 
 -- guest g: its commands are drawn after those of the guests before it, four draws each

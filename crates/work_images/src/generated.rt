@@ -50,5 +50,6 @@ fn guest_with(alloc: Global, g: u8, image: Vec<u8>) -> Result<GuestSpec, NoMemor
         entries: 16,
         console: 0x10_0000,
         inputs: Inputs::from_vec(Vec::new(alloc)),
+        device: false,
     })
 }
