@@ -9,7 +9,8 @@ status 1 where a section or a save differs or a run ends with another status tha
 An image is a hypervisor and one or two nested guests. The hypervisor goes through a list of deeds: it stores entries
 in its first-stage and second-stage tables of three and four levels (loops, roots outside RAM, wrong bits, superpages
 of every level), puts random words at mapped places, writes registers, delegates, fences in every form, sets timers,
-waits, makes HLV, HLVX and HSV, and enters VS, VU and U. Its trap handler puts on the console what trapped, from where,
+waits, makes HLV, HLVX and HSV, and enters VS, VU and U. Half of the guests have the device page, which their tables
+and registers name. Its trap handler puts on the console what trapped, from where,
 and a hash of the registers, and goes on with the next deed.
 """
 # Usage: bench/hypervisors.py [--first SEED] [--count N] [--steps N] [--jobs N] [--program PATH] [--keep FOLDER]
@@ -33,6 +34,7 @@ from concurrent.futures import ProcessPoolExecutor
 TOP = os.path.dirname(os.path.dirname(os.path.abspath(__file__)))
 RAM = 0x80000000
 BLOCK = 2097152
+DEVICE = 0x10000000
 
 # Where things begin in RAM: the trap handler, the deeds, their constants, second-stage tables, first-stage tables,
 # nested code, data. MIDDLES are tables of level 1, LASTS of level 0. The second root of each stage may have four
@@ -118,6 +120,9 @@ class Maker:
 
     def __init__(self, seed):
         self.random = random.Random(seed)
+        # What is of the device page is drawn apart, so that an image without it is the same as ever.
+        self.device_random = random.Random(f"device {seed}")
+        self.has_device = self.device_random.random() < 0.5
         self.blocks = self.random.choice([1, 1, 1, 2])
         self.spaces = self.random.choice([1, 1, 2, 3, 8])
         self.entries = self.random.choice([16, 16, 17, 24, 64, 256])
@@ -143,11 +148,17 @@ class Maker:
     def is_wild(self):
         return self.random.random() < self.wild
 
+    def names_device(self, share):
+        """Whether the device page is to be named here, which so many of the guests that have it do."""
+        return self.has_device and self.device_random.random() < share
+
     # the tables
 
     def page_number(self):
         """The number of a page that an entry may name: mostly one in RAM, tables among them."""
         r = self.random
+        if self.names_device(0.2):
+            return DEVICE >> 12
         ram = RAM >> 12
         pick = r.random()
         if pick < 0.55:
@@ -203,7 +214,8 @@ class Maker:
             for page in range(32):
                 offset = ((CODE if page < 8 else DATA if page < 16 else FIRSTS) + 0x1000 * (page % 8) if page < 24
                           else LASTS + 0x1000 * (page % 4) if page < 28 else DEEDS & ~0xFFF)
-                value = self.entry(True) if self.is_wild() else (RAM + offset >> 12) << 10 | 0xDF
+                frame = DEVICE >> 12 if self.names_device(0.1) else RAM + offset >> 12
+                value = self.entry(True) if self.is_wild() else frame << 10 | 0xDF
                 self.double(last + 8 * page, value)
             for _ in range(self.random.randrange(6)):
                 self.double(self.random.choice([root, top, middle, last]) + 8 * self.random.randrange(40),
@@ -320,6 +332,10 @@ class Maker:
     def pointer(self):
         r = self.random
         mapped = 0x1000 * r.choice([r.randrange(8, 16), r.randrange(32)]) + 8 * r.randrange(512)
+        if self.names_device(0.3):
+            mapped = mapped & ~0xFFF | self.device_random.choice([0, 0, 8])
+        if self.names_device(0.1):
+            return DEVICE + self.device_random.choice([0, 0, 8, self.device_random.randrange(16)])
         return r.choice([mapped] * 12 + [0x1000 * r.randrange(34), 0x1000 * r.randrange(16) + 0xFFC,
                                          RAM + r.randrange(END) & ~7, RAM + self.blocks * BLOCK - 8,
                                          r.randrange(1 << r.choice([41, 48, 50])) & ~7, r.randrange(1 << 64)])
@@ -426,12 +442,14 @@ class Maker:
         for i, value in enumerate(self.constants):
             self.double(CONSTANTS + 8 * i, value)
 
-    def table(self, name, spaces, entries, from_file=False):
-        """The guest's table in a configuration: in format 2 its inputs come from a file."""
+    def table(self, name, spaces, entries, form):
+        """The guest's table in a configuration: in format 2 its inputs come from a file, and it may have the device
+        page."""
         pairs = ", ".join(f"[{moment}, {byte}]" for moment, byte in self.inputs)
-        given = f'"{name}.inputs"' if from_file else f"[{pairs}]"
+        given = f'"{name}.inputs"' if form == 2 else f"[{pairs}]"
         return (f'[[guest]]\nname = "{name}"\nimage = "{name}.bin"\nblocks = {self.blocks}\nspaces = {spaces}\n'
-                f"entries = {entries}\nconsole = 20000\n" + (f"input = {given}\n" if pairs else ""))
+                f"entries = {entries}\nconsole = 20000\n" + (f"input = {given}\n" if pairs else "")
+                + ("device = 1\n" if self.has_device else ""))
 
     def records(self):
         """The bytes of a file of the guest's inputs."""
@@ -537,10 +555,11 @@ def tried(task):
             for ending, data in ((".bin", maker.bytes), (".inputs", maker.records())):
                 with open(os.path.join(folder, name + ending), "wb") as file:
                     file.write(data)
-        a = one.table("a", one.spaces, one.entries)
-        pair = lambda spaces, entries: a + other.table("b", spaces, entries)
-        in_two = [one.table("a", one.spaces, one.entries, True), other.table("b", other.spaces, other.entries, True)]
-        one_form = "format = 1\n"
+        form = 2 if one.has_device or other.has_device else 1
+        a = one.table("a", one.spaces, one.entries, form)
+        pair = lambda spaces, entries: a + other.table("b", spaces, entries, form)
+        in_two = [one.table("a", one.spaces, one.entries, 2), other.table("b", other.spaces, other.entries, 2)]
+        one_form = f"format = {form}\n"
         ways = [
             ("in one turn", one_form + f"turns = [[0, {steps}]]\n" + a),
             ("in random turns", one_form + turns_of(chance, steps, 1) + a),

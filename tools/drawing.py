@@ -4,6 +4,8 @@ how. A dashed line is a cached translation that is stale.
 """
 from xml.sax import saxutils
 
+import saves
+
 ROW, LEAST, SPACE, TOP, LETTER = 20, 250, 130, 30, 7.4  # LETTER is the width of one, or a little more
 MOST, MOST_NAMES = 200, 4  # boxes of a column; tables in a box of RAM
 COLOURS = ["#3566b0", "#b06a1f", "#3f8f4f", "#8a4fa0", "#a8873a", "#2f8f95"]
@@ -112,7 +114,8 @@ class Drawing:
         for low, high in pieces_of([(start, end) for start, end, _ in mapped]):
             who = list(dict.fromkeys(words for start, end, words in mapped if start <= low and high <= end))
             who = who[:MOST_NAMES] + ([f"and {len(who) - MOST_NAMES} more"] if len(who) > MOST_NAMES else [])
-            self.ram.box("", low, high - low, " " + ", ".join(who), GREY)
+            what = " the device page: " if low == saves.DEVICE else " "
+            self.ram.box("", low, high - low, what + ", ".join(who), GREY)
 
     def draw_middle(self):
         for each in self.maps:

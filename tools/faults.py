@@ -22,11 +22,12 @@ RANGES = {
     "entries": "an integer from 16 to 256",
     "console": "an integer from 0 to 1,048,576",
     "weight": "an integer from 1 to 1,000",
+    "device": "an integer, 0 or 1",
     "resume": "the name of a file, a text of 1 to 255 bytes",
 }
 FILE_RANGES = {"spare": "an integer from 0 to 32"}
 GUEST_KEYS = {1: ["name", "image", "blocks", "spaces", "entries", "console", "input"]}
-GUEST_KEYS[2] = [*GUEST_KEYS[1], "weight"]
+GUEST_KEYS[2] = [*GUEST_KEYS[1], "weight", "device"]
 RESUMED_KEYS = ["name", "resume", "weight"]  # of a guest of format 2 that goes on from a file
 FILE_KEYS = {1: ["format", "guest", "turns", "quantum", "rounds"]}
 FILE_KEYS[2] = [*FILE_KEYS[1], *FILE_RANGES]
@@ -79,6 +80,11 @@ def file_name(value):
 def is_resumed(document, guest):
     """Whether a guest of this document goes on from the file of a saved one."""
     return format_of(document) == 2 and "resume" in guest
+
+
+def has_device_page(document, guest):
+    """Whether a guest of this document that begins at its start has the device page."""
+    return format_of(document) == 2 and is_integer(guest.get("device"), 1, 1)
 
 
 def image_names(document):
@@ -284,6 +290,8 @@ class Guest:
 
     def value_wrong(self, key, value):
         shown = f"{value}" if value is not None else repr(self.table.get(key))
+        if isinstance(self.table.get(key), bool):
+            shown = "true" if self.table[key] else "false"
         return f"`{key}` of {self.who} is {shown}: it is to be {RANGES[key]}"
 
     def keys(self):
@@ -315,6 +323,9 @@ class Guest:
         is_misplaced = not is_file and set(there) & set(FILE_KEYS[2])
         moved = "; keys of the file stand before the first `[[guest]]`" if is_misplaced else ""
         who = "the file" if is_file else self.who
+        if not extra:
+            return f"each key of {who} is one that it may have: the program is of another version than " \
+                "this tool"
         return f"{who} has {extra}, and its keys are {', '.join(known)}{moved}"
 
 

@@ -1,10 +1,12 @@
 """Why a trap was taken, as far as the states up to it say."""
 import registers
 import states
+import walks
 
 TIME, SATP = 0xC01, 0x180
 WFI, SRET = 0x10500073, 0x10200073
 VTVM, VTW, VTSR = 1 << 20, 1 << 21, 1 << 22
+ACCESSES = {1: walks.FETCH, 5: walks.LOAD, 7: walks.STORE}  # by the code of an access fault
 FLOATING = (0x07, 0x27, 0x43, 0x47, 0x4B, 0x4F, 0x53)
 
 
@@ -42,6 +44,14 @@ def why_illegal(word, mode):
     return "U may not make it" if word & 0x7F == 0x73 and mode == "U" else ""
 
 
+def why_no_access(saved, word, trap):
+    """Why an access is a fault that leads to the device page of a guest that has it, in words, or nothing."""
+    view = walks.view_of_access(saved, word)
+    answer = walks.Translation(view, trap["tval"]).answers[ACCESSES[trap["cause"]]]
+    return "" if answer.device is None else "the device page serves a load and a store of 1 byte at offset " \
+        "0, and a load of 8 bytes at offset 8: any other access is an access fault"
+
+
 def conditions_of(saved, cause, target):
     """What lets the next step take an interrupt, each in words and as a question of a state."""
     bit = (cause & 2**63 - 1) + (target == "VS")
@@ -70,7 +80,8 @@ def reasons_of(session, before, word, trap):
     if trap["cause"] >> 63:
         return [words + (since(session, holds, step) if holds else "")
                 for words, holds in conditions_of(before, trap["cause"], trap["to"])]
-    why = why_refused(before, word, trap["cause"]) if trap["cause"] in (2, 22) else ""
+    why = why_refused(before, word, trap["cause"]) if trap["cause"] in (2, 22) else \
+        why_no_access(before, word, trap) if trap["cause"] in ACCESSES else ""
     return [why] if why else []
 
 

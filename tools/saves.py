@@ -1,15 +1,16 @@
-"""Files of saved guests, as `nesthv save` writes them: 608 bytes and more of numbers and lists, and RAM behind
-them. docs/saved.md has the table. Numbers have 8 bytes, the lowest first.
+"""Files of saved guests, as `nesthv save` writes them: 616 bytes and more of numbers and lists, and RAM behind
+them. docs/saved.md has the table. Numbers have 8 bytes, the lowest first. Files of the first version, which lack
+the number for the device page, are read too.
 """
 import copy
 import struct
 
 BLOCK = 2097152
-MOST_BYTES = 68797153  # that the program reads: one more than a good file has
-LETTERS = b"NESTHV01"
-RAM = 0x80000000
+MOST_BYTES = 68797161  # that the program reads: one more than a good file has
+LETTERS, FIRST_LETTERS = b"NESTHV02", b"NESTHV01"
+RAM, DEVICE_FRAME, DEVICE = 0x80000000, 0x10000, 0x10000000
 STATUSES, MODES = ["running", "waiting", "stopped"], ["HS", "U", "VS", "VU"]
-HEAD = ["blocks", "spaces", "entries", "console", "status", "steps", "clock", "timer", "mode", "pc"]
+HEAD = ["blocks", "spaces", "entries", "console", "device", "status", "steps", "clock", "timer", "mode", "pc"]
 ANY = 2**64 - 1
 # Which bits of each register a file may have, and which it has always.
 REGISTERS = {
@@ -22,8 +23,9 @@ REGISTERS = {
     "htinst": (ANY, 0), "hgatp": (0xF << 60 | 0x7F << 44 | (1 << 44) - 4, 0)}
 NAMES = [*HEAD, *(f"x{number}" for number in range(1, 32)), *REGISTERS, "reservation width",
          "reservation address"]
+FIRST_NAMES = [name for name in NAMES if name != "device"]
 RANGES = {"blocks": (1, 32), "spaces": (1, 8), "entries": (16, 256), "console": (0, 1048576),
-          "status": (0, 2), "steps": (0, 2**60), "mode": (0, 3)}
+          "device": (0, 1), "status": (0, 2), "steps": (0, 2**60), "mode": (0, 3)}
 MOST_INPUTS = 65536
 
 
@@ -63,10 +65,12 @@ class Saved:
 
     def __init__(self, data):
         reader = Reader(data)
-        wants(reader.take(8, "its letters") == LETTERS,
+        letters = reader.take(8, "its letters")
+        wants(letters in (LETTERS, FIRST_LETTERS),
               f"it does not begin with `{LETTERS.decode()}`, so `nesthv save` has not written it")
-        self.numbers = dict(zip(NAMES, reader.numbers(len(NAMES), "the numbers")))
-        test_numbers(self.numbers)
+        names = names_of(letters)
+        self.numbers = {"device": 0, **dict(zip(names, reader.numbers(len(names), "the numbers")))}
+        test_numbers(self.numbers, names)
         self.console = reader.take(reader.count(self.numbers["console"], "console bytes"), "console bytes")
         count = reader.count(MOST_INPUTS, "unread inputs")
         self.inputs = list(struct.iter_unpack("<QB", reader.take(9 * count, "unread inputs")))
@@ -118,25 +122,28 @@ class Saved:
         return 512 * number["blocks"] + 5 + number["spaces"] * (4 + 3 * number["entries"])
 
 
-def offset_of(name):
-    return 8 + 8 * NAMES.index(name)
+def names_of(letters):
+    """The names of the numbers behind these letters."""
+    return FIRST_NAMES if letters == FIRST_LETTERS else NAMES
+
+
+def offset_of(name, names):
+    return 8 + 8 * names.index(name)
 
 
 def status_of(data):
     """The status in the bytes of a file."""
-    return struct.unpack_from("<Q", data, offset_of("status"))[0]
+    return struct.unpack_from("<Q", data, offset_of("status", names_of(data[:8])))[0]
 
 
-def wrong_number(numbers, name, words):
-    return f"at offset {offset_of(name)} {name} is {numbers[name]:#x}: {words}"
-
-
-def test_numbers(numbers):
+def test_numbers(numbers, names):
+    """Tests numbers of a file that has those of these names."""
     def test(name, is_right, words):
-        wants(is_right, wrong_number(numbers, name, words))
-    for name, (least, most) in RANGES.items():
-        wants(least <= numbers[name] <= most, f"at offset {offset_of(name)} {name} is {numbers[name]}: it is "
-              f"to be {least:,} to {most:,}")
+        wants(is_right, f"at offset {offset_of(name, names)} {name} is {numbers[name]:#x}: {words}")
+    for name in filter(RANGES.get, names):
+        least, most = RANGES[name]
+        wants(least <= numbers[name] <= most, f"at offset {offset_of(name, names)} {name} is "
+              f"{numbers[name]}: it is to be {least:,} to {most:,}")
     test("clock", numbers["clock"] <= 2**62 + numbers["steps"], "at most 2^62 more than the steps")
     test("pc", numbers["pc"] % 4 == 0, "it is to be a multiple of 4")
     for name, (bits, fixed) in REGISTERS.items():
@@ -177,7 +184,9 @@ def test_entries(numbers, number, bits, entries):
         what = f"entry {index} of space {number}: "
         wants(page < 1 << bits and page not in pages, f"{what}the page {page:#x} is to be below 2^{bits}, "
               "and no other entry's")
-        wants(first <= frame < first + numbers["blocks"] * 512, f"{what}the frame {frame:#x} is not in RAM")
+        in_ram = first <= frame < first + numbers["blocks"] * 512
+        wants(in_ram or numbers["device"] and frame == DEVICE_FRAME, f"{what}the frame {frame:#x} is not in RAM"
+              + (", nor that of the device page" if numbers["device"] else ""))
         wants(flags >> 3 <= (3 if bits == 38 else 2) and flags & 7 in (1, 3, 4, 5, 7),
               f"{what}the flags are {flags:#x}: w needs r, r or x is set, and the level is 0 to "
               + ("3" if bits == 38 else "2"))

@@ -82,8 +82,8 @@ class Guest:
     def begin(self, folder, table, form):
         """Takes what a guest at its start has."""
         self.files["image"] = read(self.image, faults.BLOCK * table["blocks"] + 1, "the image")
-        self.keys.update({"image": "image"}, **{key: table[key] for key in ("blocks", "spaces", "entries",
-                                                                          "console")})
+        keys = [key for key in ("blocks", "spaces", "entries", "console", "device") if key in table]
+        self.keys.update({"image": "image"}, **{key: table[key] for key in keys})
         if "input" in table:
             self.keys["input"] = "inputs"
             self.files["inputs"] = records.bytes_of(table["input"]) if form == 1 else \

@@ -5,7 +5,7 @@ import saves
 import walks
 
 SHOWN_WORDS = 4  # of RAM, in a line of changes
-SIZES = ("blocks", "spaces", "entries", "console", "steps")
+SIZES = ("blocks", "spaces", "entries", "console", "device", "steps")
 CSRS = list(saves.REGISTERS)
 
 
@@ -47,7 +47,8 @@ def state_of(saved, guest, symbols, disassembler):
                  for name in CSRS},
         "reservation": {"address": number["reservation address"], "width": number["reservation width"]}
         if number["reservation width"] else None,
-        "console": saved.console.decode("latin-1"), "unread_inputs": len(saved.inputs),
+        "device": number["device"], "console": saved.console.decode("latin-1"),
+        "unread_inputs": len(saved.inputs),
         "next_input": list(saved.inputs[0]) if saved.inputs else None,
         "spaces": [{"key": key, "entries": len(entries), "stale": sum(each[0] == key for each in stale)}
                    for key, entries in saved.spaces]}
@@ -75,6 +76,7 @@ def lines_of_state(state):
                      f"{state['reservation']['address']:x}")
     lines += [f"space {each['key']:016x}: {each['entries']} entries, {each['stale']} stale"
               for each in state["spaces"]]
+    lines.append(f"device page at {saves.DEVICE:x}" if state["device"] else "no device page")
     console = state["console"].encode("latin-1")
     return [*lines, f"console {len(console)} bytes: {shown_text(console)}"]
 
@@ -83,6 +85,17 @@ def fault_words(answer, kind):
     """What a refused access comes to, in words."""
     code = walks.CODES[answer.fault][kind]
     return f"{registers.EXCEPTIONS[code]} ({code})"
+
+
+def device_of(answer, kind):
+    """Where on the device page an access leads, and what is served there, in words; or none."""
+    if answer.device is None:
+        return None
+    width, does = walks.SERVED.get((kind, answer.device), (0, ""))
+    other = walks.CODES["access"][kind]
+    words = does and f"of {width} byte{'s' * (width > 1)} it {does}, and any other is a " \
+        f"{registers.EXCEPTIONS[other]} ({other})"
+    return {"offset": answer.device, "bytes": width, "words": words}
 
 
 def met_of(met):
@@ -108,7 +121,8 @@ def translation_of(translation, saved):
     """An address as a mode sees it."""
     view = translation.view
     answers = {kind: {"address": answer.address, "cached": answer.is_cached, "wrong": answer.wrong,
-                      "fault": fault_words(answer, kind) if answer.wrong else ""}
+                      "fault": fault_words(answer, kind) if answer.wrong else "",
+                      "device": device_of(answer, kind)}
                for kind, answer in translation.answers.items()}
     return {"address": translation.address, "mode": view.mode, "step": saved.numbers["steps"],
             "first": {"table": registers.translation_of("vsatp" if view.is_nested else "satp", view.atp),
@@ -136,6 +150,12 @@ def lines_of_walk(walk, indent):
         yield from lines_of_met(met, indent)
 
 
+def shown_page(frame):
+    """What stands behind the address of a frame that is cached, where it is the device page: a guest without
+    the page has no such frame."""
+    return "  the device page" if frame == saves.DEVICE else ""
+
+
 def lines_of_second(second, indent, what):
     yield f"{' ' * indent}{what}, second stage:"
     if second["walk"] is None:
@@ -145,7 +165,7 @@ def lines_of_second(second, indent, what):
     cached = second["cached"]
     if cached:
         yield f"{' ' * indent}  cached   {second['address'] >> 12 << 12:x} -> {cached['frame']:x} " \
-            f"{cached['rights']} level {cached['level']}" \
+            f"{cached['rights']} level {cached['level']}" + shown_page(cached["frame"]) \
             + (f"  stale: {cached['stale']}" if cached["stale"] else "")
 
 
@@ -164,13 +184,19 @@ def lines_of_translation(found):
             lines.append(f"{kind}: {answer['fault']}: {answer['wrong']}")
         else:
             lines.append(f"{kind}: {answer['address']:x}"
-                         + (", by the cached translation" if answer["cached"] else ""))
+                         + (", by the cached translation" if answer["cached"] else "")
+                         + line_of_device(answer["device"]))
     return lines
+
+
+def line_of_device(device):
+    """What is served at a place of the device page, behind its address."""
+    return f", on the device page, offset {device['offset']:x}: {device['words']}" if device else ""
 
 
 def ranges_of(found):
     return [{"start": each.start, "size": each.size, "to": each.to, "rights": each.rights,
-             "wrong": each.wrong} for each in found.ranges]
+             "wrong": each.wrong, "is_device": each.is_device} for each in found.ranges]
 
 
 def maps_of(saved):
@@ -209,12 +235,12 @@ def lines_of_maps(found):
         for part in each["ranges"]:
             wrong = f"  not usable: {part['wrong']}" if part["wrong"] else ""
             lines.append(f"  {part['start']:016x} {part['size']:>9x}  {part['rights']}  -> {part['to']:x}"
-                         + wrong)
+                         + (shown_page(part["to"]) if part["is_device"] else wrong))
         if each["cut"]:
             lines.append("  and more: it has too many tables or ranges to be shown")
         for entry in each.get("cached", []):
             lines.append(f"  cached {entry['page'] << 12:x} -> {entry['frame']:x} {entry['rights']} level "
-                         f"{entry['level']}")
+                         f"{entry['level']}" + shown_page(entry["frame"]))
         lines += [f"  stale {entry['page'] << 12:x}: {entry['words']}" for entry in each.get("stale", [])]
     return lines
 

@@ -11,6 +11,9 @@ V, R, W, X, U, G, A, D = (1 << bit for bit in range(8))
 LETTERS = "VRWXUGAD"
 MXR, SUM = 1 << 19, 1 << 18
 MOST_TABLES, MOST_RANGES = 4096, 16384  # of a map
+# What the device page serves: by the kind of access and the offset, how many bytes, and what it does.
+SERVED = {(LOAD, 0): (1, "reads an input"), (STORE, 0): (1, "puts a byte"),
+          (LOAD, 8): (8, "reads the status")}
 CODES = {"access": {FETCH: 1, LOAD: 5, STORE: 7}, "page": {FETCH: 12, LOAD: 13, STORE: 15},
          "guest-page": {FETCH: 20, LOAD: 21, STORE: 23}}
 
@@ -112,11 +115,12 @@ class Walk:
 
 class Answer:
     """What one kind of access comes to: the address, and whether a cached translation gave it; or why it
-    traps, and by which fault."""
+    traps, and by which fault. `device` is the offset on the device page of an access that leads there."""
 
-    def __init__(self, address=None, is_cached=False, wrong="", fault="", place=None):
+    def __init__(self, address=None, is_cached=False, wrong="", fault="", place=None, device=None):
         self.address, self.is_cached, self.wrong, self.fault = address, is_cached, wrong, fault
         self.place = place  # the guest physical address of a guest-page fault
+        self.device = device
 
 
 class Second:
@@ -135,19 +139,16 @@ class Second:
         if walk.wrong:
             return walk.wrong, walk.fault
         wrong = ("" if walk.leaf & U else "U clear") or right_wrong(walk.leaf, kind, self.view.hs_mxr)
-        if not wrong and not self.view.is_in_ram(walk.address):
-            return f"{walk.address:x} is not in RAM", "access"
         return wrong, "guest-page"
 
     def answer(self, kind):
         if self.walk is None:
-            is_there = self.view.is_in_ram(self.address)
-            return Answer(self.address) if is_there else \
-                Answer(wrong=f"{self.address:x} is not in RAM", fault="access")
+            return self.view.answer(self.address, kind)
         if self.cached and permits(self.cached[1], kind, self.view.hs_mxr):
-            return Answer(self.cached[0] << 12 | self.address & 4095, is_cached=True)
+            return self.view.answer(self.cached[0] << 12 | self.address & 4095, kind, is_cached=True)
         wrong, fault = self.table_wrong(kind)
-        return Answer(wrong=wrong, fault=fault, place=self.address) if wrong else Answer(self.walk.address)
+        return Answer(wrong=wrong, fault=fault, place=self.address) if wrong else \
+            self.view.answer(self.walk.address, kind)
 
 
 def permits(flags, kind, mxr):
@@ -198,11 +199,28 @@ class View:
     def is_in_ram(self, address):
         return 0 <= address - saves.RAM < len(self.saved.ram)
 
+    def is_on_page(self, address):
+        """Whether a physical address is one of the device page, and the guest has it."""
+        return bool(self.saved.numbers["device"]) and address >> 12 == saves.DEVICE_FRAME
+
+    def answer(self, address, kind, is_cached=False):
+        """What a kind of access comes to at a physical address."""
+        if self.is_in_ram(address):
+            return Answer(address, is_cached)
+        if not self.is_on_page(address):
+            return Answer(wrong=f"{address:x} is not in RAM", fault="access")
+        offset = address & 4095
+        if (kind, offset) in SERVED:
+            return Answer(address, is_cached, device=offset)
+        wrong = f"{address:x} is on the device page, offset {offset:x}, where no {kind} is served"
+        return Answer(wrong=wrong, fault="access", device=offset)
+
     def read(self, place):
         """An entry at a physical place, or why it cannot be read, and by which fault."""
         value = self.saved.word_at(place)
+        where = "on the device page" if self.is_on_page(place) else "not in RAM"
         return (value, "", "", None) if value is not None else \
-            (None, "access", f"the entry's place {place:x} is not in RAM", None)
+            (None, "access", f"the entry's place {place:x} is {where}", None)
 
     def read_nested(self, place):
         """An entry of a first stage, at a guest physical place."""
@@ -249,11 +267,7 @@ class Translation:
             if wrong:
                 fault = self.first.fault if self.first.wrong else "page"
                 return Answer(wrong=wrong, fault=fault, place=self.implicit_place())
-        if self.second:
-            return self.second.answer(kind)
-        is_there = self.view.is_in_ram(self.between)
-        return Answer(self.between) if is_there else \
-            Answer(wrong=f"{self.between:x} is not in RAM", fault="access")
+        return self.second.answer(kind) if self.second else self.view.answer(self.between, kind)
 
     def implicit_place(self):
         """The guest physical place of the entry that the second stage refuses, or none."""
@@ -292,15 +306,17 @@ def stale_entries(saved):
 
 class Range:
     """Addresses that are mapped alike: from `start` on `size` bytes, to `to` on, with rights in letters, and
-    why they cannot be used."""
+    why they cannot be used. `is_device` where they lead to the device page."""
 
-    def __init__(self, start, size, to, rights, wrong):
+    def __init__(self, start, size, to, rights, wrong, is_device=False):
         self.start, self.size, self.to, self.rights, self.wrong = start, size, to, rights, wrong
+        self.is_device = is_device
 
     def takes(self, other):
         """Whether another one that comes next goes on with this one, which it then does."""
         goes_on = self.start + self.size == other.start and self.to + self.size == other.to
-        if goes_on and (self.rights, self.wrong) == (other.rights, other.wrong):
+        is_alike = (self.rights, self.wrong, self.is_device) == (other.rights, other.wrong, other.is_device)
+        if goes_on and is_alike:
             self.size += other.size
             return True
         return False
@@ -310,8 +326,8 @@ class Map:
     """The ranges of a table, in order. `is_cut` where it has more tables or ranges than are shown, as one
     that names itself may have."""
 
-    def __init__(self, shape, read_table, ram_size=0):
-        self.shape, self.read_table, self.ram_size = shape, read_table, ram_size
+    def __init__(self, shape, read_table, places=()):
+        self.shape, self.read_table, self.places = shape, read_table, places
         self.ranges, self.tables, self.is_cut = [], 0, False
         if shape.levels:
             self.read(shape.root, shape.levels - 1, 0)
@@ -337,7 +353,7 @@ class Map:
                 self.read(frame_of(entry) << 12, level - 1, start + index * size)
 
     def add(self, start, size, entry, level):
-        """Adds what an entry maps, in the parts that are in RAM and those that are not."""
+        """Adds what an entry maps, in the parts that are in RAM, on the device page, and neither."""
         wrong = entry_wrong(entry, level)
         if self.shape.is_second and not wrong and not entry & U:
             wrong = "U clear"
@@ -345,16 +361,21 @@ class Map:
         rights = "".join(letter if bit else "-" for letter, bit in zip("rwxu", has))
         to, rights = frame_of(entry) << 12, rights[:3] if self.shape.is_second else rights
         for at, length, is_there in self.parts(to, size):
-            self.put(Range(start + at, length, to + at, rights, wrong or ("" if is_there else "not in RAM")))
+            is_device = is_there and not wrong and bool(self.places) and to + at == saves.DEVICE
+            self.put(Range(start + at, length, to + at, rights, wrong or ("" if is_there else "not in RAM"),
+                           is_device))
 
     def parts(self, to, size):
-        """Addresses from `to` on, cut where RAM begins and ends: each part's offset and size, and whether it
-        is in RAM."""
-        if not self.ram_size:
+        """Addresses from `to` on, cut where a place begins and ends, as RAM does: each part's offset and
+        size, and whether it is in such a place."""
+        if not self.places:
             return [(0, size, True)]
-        cuts = [min(max(edge - to, 0), size) for edge in (saves.RAM, saves.RAM + self.ram_size)]
-        parts = [(0, cuts[0], False), (cuts[0], cuts[1] - cuts[0], True), (cuts[1], size - cuts[1], False)]
-        return [part for part in parts if part[1]]
+        parts, end = [], 0
+        for begin, length in self.places:
+            first, last = (min(max(edge - to, 0), size) for edge in (begin, begin + length))
+            parts += [(end, first - end, False), (first, last - first, True)]
+            end = last
+        return [part for part in [*parts, (end, size - end, False)] if part[1]]
 
     def put(self, made):
         if not self.shape.is_second and made.start >> self.shape.bits - 1:
@@ -376,7 +397,8 @@ def table_reader(saved):
 
 def map_of(saved, atp, is_second=False):
     """The map of a table whose entries are at physical places."""
-    return Map(Shape(atp, is_second), table_reader(saved), len(saved.ram))
+    places = [(saves.DEVICE, 4096)] if saved.numbers["device"] else []
+    return Map(Shape(atp, is_second), table_reader(saved), [*places, (saves.RAM, len(saved.ram))])
 
 
 def nested_map(saved):

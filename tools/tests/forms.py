@@ -14,7 +14,7 @@ def form(console=b"", inputs=(), held=(), ram=bytes(2097152), **numbers):
     fixed = {name: value for name, (_, value) in saves.REGISTERS.items()}
     start = {"blocks": 1, "spaces": 1, "entries": 16, "console": 100, "timer": 2**64 - 1, "pc": saves.RAM}
     known = {**fixed, **start, **{name.replace("_", " "): value for name, value in numbers.items()}}
-    made = b"NESTHV01" + struct.pack("<72Q", *(known.get(name, 0) for name in saves.NAMES))
+    made = b"NESTHV02" + struct.pack("<73Q", *(known.get(name, 0) for name in saves.NAMES))
     made += struct.pack("<Q", len(console)) + console + struct.pack("<Q", len(inputs))
     made += b"".join(struct.pack("<QB", *pair) for pair in inputs) + struct.pack("<Q", len(held))
     for key, entries in held:

@@ -72,10 +72,10 @@ class FormatTest(ToolTest):
         self.said(2, "`weight` of guest 0 ('a') is 0: it is to be an integer from 1 to 1,000", weight=0)
         self.said(2, "(is it to be `weight`?)", wieght=2)
 
-    def check_explained(self, line, words, head):
+    def check_explained(self, line, words, head, **keys):
         """Checks what is said of a line of the program, for one guest below these lines of a file."""
         import faults
-        path = self.configure(front=head + "quantum = 1\nrounds = 1\n")
+        path = self.configure(front=head + "quantum = 1\nrounds = 1\n", **keys)
         self.assertIn(words, faults.explained(line, path, faults.text_of(path)))
 
     def test_spare_blocks(self):
@@ -90,6 +90,24 @@ class FormatTest(ToolTest):
                 ("format = 2\nspare = 32\n", "11 value 131073", "By guest: 0: 569; `spare = 32`: 16384"),
                 ("format = 2\n", "11 value 131073", "the guests need 131073 frames")):
             self.check_explained(fault + line, words, head)
+
+    def test_device_page(self):
+        fault, two = "nesthv: configuration fault ", "format = 2\n"
+        range_ = ": it is to be an integer, 0 or 1"
+        resumed = {key: None for key in ("image", "blocks", "spaces", "entries", "console")}
+        resumed["resume"] = '"s"'
+        for head, keys, line, words in (
+                (two, {"device": 2}, "4 guest 0 key device value 2", "`device` of guest 0 ('a') is 2"
+                 + range_),
+                (two, {"device": -1}, "4 guest 0 key device value -1", "is -1" + range_),
+                (two, {"device": "true"}, "4 guest 0 key device", "is true" + range_),
+                (two, {"device": '"1"'}, "4 guest 0 key device", "is '1'" + range_),
+                (two, {"devise": 1}, "8 guest 0", "`devise` (is it to be `device`?)"),
+                (two, {"device": 1}, "8 guest 0", "each key of guest 0 ('a') is one that it may have"),
+                (two, resumed | {"device": 0}, "8 guest 0", "`device` (the file that `resume` names tells"),
+                (two + "device = 1\n", {}, "8", "the file has `device`, and its keys are"),
+                ("format = 1\n", {"device": 0}, "8 guest 0", "`device` (a key of `format = 2`)")):
+            self.check_explained(fault + line, words, head, **keys)
 
     def test_spare_blocks_of_a_guest(self):
         self.said(2, "keys of the file stand before the first `[[guest]]`", spare=1)
@@ -143,6 +161,13 @@ class QemuTest(ToolTest):
     """By a script that stands for QEMU."""
 
     QEMU = {"QEMU": os.path.join(TOOLS, "tests", "fake-qemu")}
+
+    def test_device_page(self):
+        ran = self.tool("tools/qemu-run", self.configure(front=FORMAT_2, device=1), variables=self.QEMU)
+        self.check_plain(ran, 2)
+        self.check_said(ran, "has the device page, and QEMU has another device there")
+        path = self.configure(front=FORMAT_2, device=0)
+        self.check_plain(self.tool("tools/qemu-run", path, variables=self.QEMU), 0)
 
     def test_inputs_of_a_file(self):
         self.put("in", record(5, 1))

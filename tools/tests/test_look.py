@@ -152,7 +152,6 @@ class WalkTest(unittest.TestCase):
         self.assertTrue(walks.map_of(endless, HGATP, True).is_cut)
         minidom.parseString(drawing.svg_of(views.maps_of(endless)))
 
-
     def check_apart(self, drawn):
         """Checks that no two texts of a drawing share a place, and that each box is as wide as its text."""
         places = [(int(each.getAttribute("x")), int(each.getAttribute("y")), 7.3 * len(each.firstChild.data))
@@ -163,6 +162,116 @@ class WalkTest(unittest.TestCase):
                  for each in drawn.getElementsByTagName("rect") if each.getAttribute("x")}
         for x, y, width in places:
             self.assertGreaterEqual(boxes.get((x - 4, y - 14), 2000), width)
+
+
+class DeviceTest(unittest.TestCase):
+    """A guest with the device page, to which the table of HGATP maps page 2, with V, R, W, X, U, A and D."""
+
+    LEAF = {"at80006010": 0x10000000 >> 2 | 0xDF}
+
+    def lines(self, saved, address, mode="VS"):
+        import views
+        import walks
+        found = views.translation_of(walks.Translation(walks.View(saved, mode), address), saved)
+        json.dumps(found)
+        return views.lines_of_translation(found)
+
+    def test_served(self):
+        none = "10000000 is on the device page, offset 0, where no fetch is served"
+        for saved, address, mode in ((saved_of(device=1), 0x10000000, "HS"),
+                                     (saved_of(device=1, hgatp=0), 0x10000000, "VS"),
+                                     (saved_of(device=1, words=self.LEAF), 0x2000, "VS")):
+            self.assertEqual(self.lines(saved, address, mode)[-3:], [
+                f"fetch: instruction access fault (1): {none}",
+                "load: 10000000, on the device page, offset 0: of 1 byte it reads an input, and any other is "
+                "a load access fault (5)",
+                "store: 10000000, on the device page, offset 0: of 1 byte it puts a byte, and any other is a "
+                "store/AMO access fault (7)"])
+        self.assertEqual(self.lines(saved_of(device=1), 0x10000008, "U")[-2:], [
+            "load: 10000008, on the device page, offset 8: of 8 bytes it reads the status, and any other is "
+            "a load access fault (5)",
+            "store: store/AMO access fault (7): 10000008 is on the device page, offset 8, where no store is "
+            "served"])
+        self.assertEqual(answers_of(saved_of(device=1, words=self.LEAF), 0x2FF8)["load"],
+                         "10000ff8 is on the device page, offset ff8, where no load is served")
+
+    def test_beside_the_page(self):
+        for saved, address in ((saved_of(), 0x10000000), (saved_of(device=1), 0xFFFFFF8),
+                               (saved_of(device=1), 0x10001000)):
+            self.assertEqual(set(answers_of(saved, address, "HS").values()), {f"{address:x} is not in RAM"})
+        self.assertEqual(set(answers_of(saved_of(words=self.LEAF), 0x2000).values()),
+                         {"10000000 is not in RAM"})
+
+    def test_rights(self):
+        saved = saved_of(device=1, words={"at80006010": 0x10000000 >> 2 | 0xD3})
+        self.assertEqual(answers_of(saved, 0x2000), {"fetch": "no X", "load": "10000000", "store": "no W"})
+
+    def test_cached(self):
+        saved = saved_of(device=1, held=[(HGATP, [(2, 0x10000, 7)])])
+        self.assertEqual(answers_of(saved, 0x2000)["store"], "10000000*")
+        lines = self.lines(saved, 0x2000)
+        self.assertIn("    cached   2000 -> 10000000 rwx level 0  the device page  stale: cached 10000000 "
+                      "rwx, table says V clear", lines)
+        self.assertIn("store: 10000000, by the cached translation, on the device page, offset 0: of 1 byte "
+                      "it puts a byte, and any other is a store/AMO access fault (7)", lines)
+        self.assertTrue(lines[-3].startswith("fetch: instruction access fault (1): 10000000 is on the dev"))
+
+    def test_tables(self):
+        """No entry is read from the page, whichever stage its table is of, and by a cached translation."""
+        self.assertEqual(set(answers_of(saved_of(device=1, satp=8 << 60 | 0x10000), 0x1000, "HS").values()),
+                         {"the entry's place 10000000 is on the device page"})
+        self.assertEqual(set(answers_of(saved_of(device=1, hgatp=8 << 60 | 0x10000), 0x1000).values()),
+                         {"the entry's place 10000000 is on the device page"})
+        held = [(HGATP, [(2, 0x10000, 3)])]
+        for changes in ({"words": self.LEAF}, {"held": held}):
+            saved = saved_of(device=1, vsatp=8 << 60 | 2, **changes)
+            self.assertEqual(set(answers_of(saved, 0).values()),
+                             {"at the second stage of the entry's place: 10000000 is on the device page, "
+                              "offset 0, where no implicit read is served"})
+            self.assertIn("load: load access fault (5): ", "\n".join(self.lines(saved, 0)))
+
+    def test_maps(self):
+        import drawing
+        import views
+        large = {"at80007000": 0xCF, "at80006018": 0x10000000 >> 2 | 0x97}
+        saved = saved_of(device=1, words={**self.LEAF, **large}, satp=8 << 60 | 0x80007,
+                         held=[(HGATP, [(4, 0x10000, 3)])])
+        lines = views.lines_of_maps(views.maps_of(saved))
+        for line in ("  0000000000000000  10000000  rwx-  -> 0  not usable: not in RAM",
+                     "  0000000010000000      1000  rwx-  -> 10000000  the device page",
+                     "  0000000010001000  2ffff000  rwx-  -> 10001000  not usable: not in RAM",
+                     "  0000000000002000      1000  rwx  -> 10000000  the device page",
+                     "  0000000000003000      1000  rw-  -> 10000000  not usable: A clear",
+                     "  cached 4000 -> 10000000 rw- level 0  the device page"):
+            self.assertIn(line, lines)
+        texts = [each.firstChild.data for each in
+                 minidom.parseString(drawing.svg_of(views.maps_of(saved))).getElementsByTagName("text")]
+        self.assertIn("10000000 +1000  the device page: satp rwx-, VMID 1 rwx, VMID 1 rw- stale", texts)
+        saved = saved_of(words={**self.LEAF, **large}, satp=8 << 60 | 0x80007)
+        lines = views.lines_of_maps(views.maps_of(saved))
+        self.assertIn("  0000000000000000  40000000  rwx-  -> 0  not usable: not in RAM", lines)
+        self.assertFalse([line for line in lines if "device" in line])
+
+    def test_reasons(self):
+        """Why an access to the page is a fault: that of a guest without it is one outside memory."""
+        import reasons
+        trap = {"cause": 5, "tval": 0x10000000, "to": "HS"}
+        words = "the device page serves a load and a store of 1 byte at offset 0, and a load of 8 bytes at " \
+            "offset 8: any other access is an access fault"
+        for numbers, changes, said in (({"device": 1}, {}, [words]), ({}, {}, []),
+                                       ({"device": 1}, {"cause": 7, "tval": 0x10000FFF}, [words]),
+                                       ({"device": 1}, {"cause": 1}, [words]),
+                                       ({"device": 1}, {"tval": 0x10001000}, [])):
+            found = reasons.reasons_of(None, saved_of(**numbers), 0x0002A303, {**trap, **changes})
+            self.assertEqual(found, said)
+        saved = saved_of(device=1, words=self.LEAF, mode=2, held=[(HGATP, [])])
+        self.assertEqual(reasons.reasons_of(None, saved, 0x13, {**trap, "tval": 0x2004}), [words])
+        saved = saved_of(device=1, words=self.LEAF)
+        self.assertEqual(reasons.reasons_of(None, saved, 0x6C02C373, {**trap, "tval": 0x2000}), [words])
+
+    def test_differences(self):
+        import views
+        self.assertEqual(views.differences(saved_of(), saved_of(device=1)), [])
 
 
 class RegisterTest(unittest.TestCase):
@@ -315,6 +424,44 @@ class LookTest(ToolTest):
         """The configuration of a guest that traps at its seventh step."""
         self.put("trap.bin", TRAPPING)
         return self.configure("trap.toml", front="format = 2\nturns = [[0, 100]]\n", image='"trap.bin"')
+
+
+class GuestTest(LookTest):
+    """A guest with the device page, by the program that stands for one."""
+
+    program = FAKE
+    front = "format = 2\nturns = [[0, 10]]\n"
+
+    def test_keys(self):
+        import states
+        keys = states.Guest(FAKE, self.configure(), 0).keys
+        self.assertNotIn("device", keys)
+        for device in (0, 1):
+            path = self.configure(front=self.front, device=device)
+            self.assertEqual(states.Guest(FAKE, path, 0).keys, {**keys, "device": device})
+
+    def test_at(self):
+        path = self.configure(front=self.front, device=1)
+        self.assertIn("device page at 10000000", self.lines(path, "at", "2"))
+        self.assertEqual(json.loads(self.look(path, "at", "2", "--json").stdout)["device"], 1)
+        path = self.configure(front=self.front)
+        self.assertIn("no device page", self.lines(path, "at", "2"))
+        self.assertEqual(json.loads(self.look(path, "at", "2", "--json").stdout)["device"], 0)
+
+    def test_walk(self):
+        path = self.configure(front=self.front, device=1)
+        line = self.lines(path, "walk", "10000000")[-1]
+        self.assertTrue(line.startswith("store: 10000000, on the device page"), line)
+        ran = self.look(path, "walk", "device")
+        self.check_plain(ran, 2)
+        self.check_said(ran, "device is no address")
+
+    def test_diff(self):
+        path = self.configure(front=self.front, device=1)
+        ran = self.look(path, "diff", self.configure("b.toml", front=self.front))
+        self.check_plain(ran, 1)
+        self.check_said(ran, "one guest has the device page and the other has not, which is not compared")
+        self.check_unsaid(self.look(path, "diff", path), "device page")
 
 
 class FakeTest(LookTest):

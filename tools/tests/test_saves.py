@@ -16,11 +16,11 @@ class FileTest(ToolTest):
 
     def test_offsets(self):
         import saves
-        self.assertEqual(len(form()), 2097760)
-        self.assertEqual([saves.offset_of(name) for name in ("blocks", "pc", "x1", "sstatus", "hgatp")],
-                         [8, 80, 88, 336, 560])
+        self.assertEqual(len(form()), 2097768)
+        self.assertEqual([saves.offset_of(name, saves.NAMES) for name in ("blocks", "pc", "x1", "sstatus", "hgatp")],
+                         [8, 88, 96, 344, 568])
         data = form(b"A", [(5, 66)], [(HGATP, [(1, 0x80000, 5)])])
-        self.assertEqual(saves.Saved(data).front, 608 + 1 + 9 + 40)
+        self.assertEqual(saves.Saved(data).front, 616 + 1 + 9 + 40)
 
     def test_table(self):
         """The table of docs/saved.md has each number at its offset."""
@@ -34,7 +34,7 @@ class FileTest(ToolTest):
             for index, offset in enumerate(re.findall(r"\d+", offsets)):
                 word = words[2 * index] if offsets.count(" to ") else words[index]
                 found[other.get(word, word)] = int(offset)
-        wanted = {name: saves.offset_of(name) for name in saves.NAMES}
+        wanted = {name: saves.offset_of(name, saves.NAMES) for name in saves.NAMES}
         self.assertEqual(found, {name: wanted[name] for name in found})
         self.assertEqual(set(wanted) - set(found), {f"x{number}" for number in range(2, 31)})
 
@@ -46,30 +46,48 @@ class FileTest(ToolTest):
                           reservation_address=0x801FFFF8), form(blocks=2, ram=bytes(4194304))):
             self.assertIsNone(saves.wrong(data))
 
+    def test_first_version(self):
+        """A file without the number for the device page is that of a guest that has none."""
+        import saves
+        data = form(b"A", steps=7)
+        first = b"NESTHV01" + data[8:40] + data[48:]
+        self.assertIsNone(saves.wrong(first))
+        self.assertEqual(saves.Saved(first).numbers, saves.Saved(data).numbers)
+        self.assertEqual(saves.Saved(first).form(), data)
+        self.assertIn("at offset 80 pc is 0x80000002", saves.wrong(first[:80] + b"\x02" + first[81:]))
+        self.assertIsNotNone(saves.wrong(b"NESTHV01" + data[8:]))
+
+    def test_device_page(self):
+        import saves
+        self.assertIsNone(saves.wrong(form(device=1, held=[(HGATP, [(1, 0x10000, 3)])])))
+
     def test_wrong_files(self):
         import saves
         entry = (1, 0x80000, 5)
         for data, words in (
                 (b"", "it has 0 bytes, and ends within its letters"),
                 (LETTER, "so `nesthv save` has not written it"),
-                (form()[:-1], "2,097,151 bytes stand behind offset 608, and RAM has 2,097,152: it is cut"),
+                (form()[:-1], "2,097,151 bytes stand behind offset 616, and RAM has 2,097,152: it is cut"),
                 (form() + b"\0", "it is too long"),
-                (form()[:600], "ends within spaces, which begin at offset 600"),
+                (form()[:608], "ends within spaces, which begin at offset 608"),
                 (form(blocks=33), "at offset 8 blocks is 33: it is to be 1 to 32"),
                 (form(entries=15), "at offset 24 entries is 15"),
-                (form(steps=2**60 + 1), "at offset 48 steps is"),
-                (form(clock=2**62 + 1), "at offset 56 clock is 0x4000000000000001: at most 2^62 more"),
-                (form(pc=2), "at offset 80 pc is 0x2: it is to be a multiple of 4"),
+                (form(steps=2**60 + 1), "at offset 56 steps is"),
+                (form(clock=2**62 + 1), "at offset 64 clock is 0x4000000000000001: at most 2^62 more"),
+                (form(pc=2), "at offset 88 pc is 0x2: it is to be a multiple of 4"),
                 (form(sstatus=0), "sstatus is 0x0: of the bits outside 0xc0122 it is to have 0x200000000"),
                 (form(satp=10 << 60), "its MODE is to be 8 or 9"),
                 (form(reservation_width=4), "it is to be in RAM"),
-                (form(b"x" * 101), "at offset 584 the number of console bytes is 101: at most 100"),
+                (form(b"x" * 101), "at offset 592 the number of console bytes is 101: at most 100"),
                 (form(inputs=[(5, 1), (4, 1)]), "the moment of unread input 1 is 4"),
                 (form(held=[(0, [])]), "the key of space 0 is 0x0"),
                 (form(held=[(HGATP, [])] * 2), "the number of spaces is 2: at most 1"),
                 (form(held=[(HGATP, [])] * 2, spaces=2), "the key of space 1, 0x8000100000080004, is that of"),
                 (form(held=[(HGATP, [entry, entry])]), "entry 1 of space 0: the page 0x1"),
                 (form(held=[(HGATP, [(1, 0x80200, 5)])]), "the frame 0x80200 is not in RAM"),
+                (form(held=[(HGATP, [(1, 0x10000, 3)])]), "the frame 0x10000 is not in RAM"),
+                (form(device=1, held=[(HGATP, [(1, 0x10001, 3)])]), "0x10001 is not in RAM, nor that of the"),
+                (form(device=2), "at offset 40 device is 2: it is to be 0 to 1"),
                 (form(held=[(HGATP, [(1, 0x80000, 2)])]), "the flags are 0x2"),
                 (form(mode=2, hgatp=HGATP), "the first space is that of hgatp")):
             self.assertIn(words, saves.wrong(data) or "")
@@ -79,8 +97,8 @@ class FileTest(ToolTest):
         ran = self.tool("tools/saved", "s")
         self.check_plain(ran, 0)
         for line in ("running in HS, steps 0, clock 0, timer 18446744073709551615",
-                     "blocks 1, spaces 1, entries 16, console 100",
-                     "3 console bytes, 1 unread inputs, 1 of 1 spaces", "RAM from offset 684 to 2097836",
+                     "blocks 1, spaces 1, entries 16, console 100, device 0",
+                     "3 console bytes, 1 unread inputs, 1 of 1 spaces", "RAM from offset 692 to 2097844",
                      "input 65 at 5", "space 8000100000080004: 2 entries, oldest first",
                      "  page 1 frame 80000 r-x level 0", "  page 2 frame 80001 rwx level 1"):
             self.assertIn(line, ran.stdout.decode().splitlines())
@@ -92,7 +110,7 @@ class FileTest(ToolTest):
     def test_saved_refuses(self):
         ran = self.tool("tools/saved", "a.bin")
         self.check_plain(ran, 2)
-        self.check_said(ran, "a.bin is no saved guest: it does not begin with `NESTHV01`")
+        self.check_said(ran, "a.bin is no saved guest: it does not begin with `NESTHV02`")
         self.check_plain(self.tool("tools/saved", "none"), 2)
 
 
