@@ -1,3 +1,4 @@
+pub mod FirstFills
 pub mod FrameSets
 pub mod HgatpValues
 pub mod Images
@@ -9,3 +10,4 @@ pub mod SameRoots
 pub mod Shapes
 pub mod SlicesOf
 pub mod Slots
+pub mod Spans

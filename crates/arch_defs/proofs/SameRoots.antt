@@ -1,5 +1,5 @@
 -- Values of hgatp, and of satp and vsatp, are the same exactly if MODE, PPN, and VMID or ASID are.
-use Rattle.std.proofs.Common.{◌≡◌, ℕ, ◌==◌, ◌&&◌, true, false, refl, arith}
+use Rattle.std.proofs.Common.{◌≡◌, ◌==◌, ◌&&◌, true, false, refl, arith}
 use Rattle.std.proofs.lemmas.Bool.{and_parts, both_ways, eq-eqb, eqb-true}
 use Rattle.arch_defs.specs.declared.roots.GuestMode.{GuestMode}
 use Rattle.arch_defs.specs.declared.roots.GuestMode.TheVariants.{Sv39x4, Sv48x4}

@@ -25,6 +25,7 @@ pub mod SecondStage
 pub mod WalkedEntries
 pub mod CachedEntries
 pub mod Spaces
+pub mod FirstEntries
 -- The execution environment: clock, console, calls and waits
 pub mod Clocks
 pub mod Inputs

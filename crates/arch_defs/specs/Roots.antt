@@ -80,3 +80,8 @@ asid_of (supervisor_root.Table mode asid ppn) = asid
 abbrev pub is_table : GuestRoot → Bool
 is_table guest_root.Bare = false
 is_table (guest_root.Table mode vmid ppn) = true
+
+-- whether satp or vsatp names one (4.1.11)
+abbrev pub names_table : SupervisorRoot → Bool
+names_table supervisor_root.Bare = false
+names_table (supervisor_root.Table mode asid ppn) = true

@@ -1,6 +1,6 @@
 -- The second stage as memory is: the walk of hgatp's table, and the trap of an access that it gives no place
 -- (Privileged Architecture 20211203, 8.2.10, 8.5 and 8.6).
-use Rattle.std.specs.Prelude.{ℕ, ◌+◌, ◌-◌, ◌*◌, ◌/◌, ◌^◌, Bool, true, false, not, ◌&&◌, List, length, Option, Some, None, Ok, Err, nat_le, if◌then◌else◌}
+use Rattle.std.specs.Prelude.{ℕ, ◌+◌, ◌-◌, ◌*◌, ◌/◌, ◌^◌, Bool, true, false, not, ◌&&◌, length, Option, Some, None, Ok, Err, nat_le, if◌then◌else◌}
 use Rattle.arch_defs.specs.declared.second_walks.SecondWalkEnd.{SecondWalkEnd}
 use Rattle.arch_defs.specs.declared.second_walks.SecondWalkEnd.TheVariants.{GuestPageFault, AccessFault}
 use Rattle.arch_defs.specs.declared.second_walks.SecondWalkEnd.TheVariants as guest

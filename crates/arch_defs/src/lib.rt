@@ -3,6 +3,10 @@
 
 mod cached;
 mod csr_names;
+mod devices;
+mod first;
+mod first_buffers;
+mod hart_states;
 mod keys;
 mod laws;
 mod levels;
@@ -16,7 +20,11 @@ mod widths;
 
 pub use cached::{Entry, Fence};
 pub use csr_names::{CsrEnd, EnableCsr, HypervisorCsr, InterruptCsr, Register, SupervisorCsr};
+pub use devices::DEVICE_FRAME;
+pub use first::{FirstEntry, Tag};
+pub use first_buffers::FirstBuffer;
 pub use guest_specs::{Need, TABLES_PER_ENTRY};
+pub use hart_states::HartState;
 pub use keys::Key;
 pub use laws::{frames_apart_stay, ram_is_its_blocks};
 pub use levels::{
@@ -32,8 +40,7 @@ pub use modes::{
 };
 pub use parts::{BLOCK_FRAMES, BLOCK_SIZE, FRAME_SIZE, MOST_BLOCKS, MOST_FRAMES, Part};
 pub use registers::{
-    Csrs, HartState, HypervisorStatus, Interrupts, Reg, Regs, SupervisorCsrs, SupervisorStatus,
-    Virtual,
+    Csrs, HypervisorStatus, Interrupts, Reg, Regs, SupervisorCsrs, SupervisorStatus, Virtual,
 };
 pub use roots::{FOLDED_MODE, GuestMode, GuestRoot, HOST_MODE, SupervisorMode, SupervisorRoot};
 pub use second_walks::SecondWalkEnd;

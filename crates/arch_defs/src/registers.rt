@@ -247,9 +247,6 @@ impl Csrs {
     }
 }
 
-/// What a hart has of registers, mode and reservation: as a machine, with values of its own.
-pub type HartState = Virtual;
-
 /// All of a machine that its instructions see beside memory: registers, mode, and the reservation of LR,
 /// a physical address and a width in bytes.
 #[derive(Clone, Copy, PartialEq, Eq)]

@@ -2,7 +2,7 @@
 
 ghost use Rattle.std.specs.Prelude.{◌≡◌, ◌<◌};
 ghost use Rattle.arch_defs.specs.CsrBits.{guest_root_of, hgatp_bits};
-ghost use Rattle.arch_defs.specs.Roots.{guest_mode_number, guest_mode_of, guest_shape, is_atp, is_root, is_table, supervisor_mode_number, supervisor_mode_of, supervisor_shape, vmid_of};
+ghost use Rattle.arch_defs.specs.Roots.{asid_of, guest_mode_number, guest_mode_of, guest_shape, is_atp, is_root, is_table, supervisor_mode_number, supervisor_mode_of, supervisor_shape, vmid_of};
 
 use crate::walks::Shape;
 
@@ -59,6 +59,16 @@ pub enum SupervisorRoot {
 }
 
 impl SupervisorRoot {
+    /// Its ASID, 0 under Bare.
+    pub fn asid(self) -> u64
+        ensures { result ≡ asid_of self }
+    {
+        match self {
+            SupervisorRoot::Bare => 0,
+            SupervisorRoot::Table { asid, .. } => asid,
+        }
+    }
+
     /// Whether `other` has the same MODE, ASID and PPN.
     pub fn is_root(self, other: SupervisorRoot) -> bool
         ensures { result ≡ is_atp self other }

@@ -8,7 +8,8 @@ use crate::walks::LeafPte;
 pub enum SecondWalkEnd {
     /// A leaf that permits the access. Memory has the frame that the address is in under it.
     Leaf(LeafPte),
-    /// A leaf that permits the access, under which the address is on the device page, which is outside memory.
+    /// A leaf that permits the access, under which the address is on the device page, which is outside
+    /// memory.
     Device(LeafPte),
     /// The table has no leaf for the address, or it does not permit the access.
     GuestPageFault,

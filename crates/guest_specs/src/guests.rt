@@ -121,8 +121,8 @@ impl Inputs {
 }
 
 /// What a guest is made of: its name, its image, its RAM in blocks of 2,097,152 bytes, at most how many
-/// cached spaces and entries in each, at most how many console bytes, its inputs, and whether it has the device
-/// page.
+/// cached spaces and entries in each, at most how many console bytes, its inputs, and whether it has the
+/// device page.
 #[derive(Drop)]
 pub struct GuestSpec {
     pub name: Name,

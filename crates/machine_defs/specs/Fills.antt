@@ -6,10 +6,11 @@ use Rattle.arch_defs.specs.declared.registers.Csrs.{Csrs}
 use Rattle.arch_defs.specs.declared.registers.Virtual.{Virtual}
 use Rattle.arch_defs.specs.CachedEntries.{device_by_entries, filled, second_by}
 use Rattle.arch_defs.specs.Interrupts.{due}
-use Rattle.arch_defs.specs.Memory.{mmu, nothing_known, ram_memory, reading_of}
+use Rattle.arch_defs.specs.Memory.{Known, mmu, ram_memory, reading_of}
 use Rattle.arch_defs.specs.Spaces.{Space}
 use Rattle.arch_defs.specs.WalkedEntries.{entry_by_walk, folds}
 use Rattle.machine_defs.specs.Core.{core}
+use Rattle.machine_defs.specs.FirstLeaves.{known_of, tag_of}
 use Rattle.machine_defs.specs.Machine.{Machine}
 use Rattle.machine_defs.specs.Outcomes.{Missed, Outcome}
 
@@ -21,22 +22,26 @@ missing_entry_at device csrs ram entries (Missed missing wanted) =
     else entry_by_walk device csrs ram missing.address missing.kind
 missing_entry_at device csrs ram entries _ = None
 
--- what the next instruction of a state that folds lacks under these entries
-unfoldable pub missing_entry_under : Bool → Virtual → List ℕ → List Entry → Option Entry
-missing_entry_under device virt ram entries =
+-- what the next instruction of a state that folds lacks under these entries, by what is known of virtual
+-- addresses
+unfoldable pub missing_entry_under : Bool → Known → Virtual → List ℕ → List Entry → Option Entry
+missing_entry_under device known virt ram entries =
     missing_entry_at device virt.csrs ram entries
-    (core (mmu nothing_known (second_by entries virt.csrs.hs.status.mxr) (reading_of (ram_memory ram))) virt)
+    (core (mmu known (second_by entries virt.csrs.hs.status.mxr) (reading_of (ram_memory ram))) virt)
 
 -- under those of the front space; where an interrupt is due, nothing
-abbrev pub missing_entry_with : Bool → Virtual → List ℕ → List Space → Option ℕ → Option Entry
-missing_entry_with device virt ram [] code = None
-missing_entry_with device virt ram (s ∷ ss) (Some code) = None
-missing_entry_with device virt ram (s ∷ ss) None = missing_entry_under device virt ram s.entries
+abbrev pub missing_entry_with : Bool → Known → Virtual → List ℕ → List Space → Option ℕ → Option Entry
+missing_entry_with device known virt ram [] code = None
+missing_entry_with device known virt ram (s ∷ ss) (Some code) = None
+missing_entry_with device known virt ram (s ∷ ss) None = missing_entry_under device known virt ram s.entries
 
 -- what the next try of a machine lacks
 unfoldable pub missing_entry : Machine → Option Entry
 missing_entry m = let virt = m.platform.virt in
-    if folds virt then missing_entry_with m.device virt m.ram m.spaces (due virt.csrs virt.mode) else None
+    if folds virt
+    then missing_entry_with m.device (known_of m.first (tag_of virt) virt) virt m.ram m.spaces
+    (due virt.csrs virt.mode)
+    else None
 
 -- an entry is filled into the front space
 abbrev pub filled_front : ℕ → List Space → Entry → List Space

@@ -1,9 +1,11 @@
 pub mod Answers
 pub mod Core
 pub mod Fills
+pub mod FirstLeaves
 pub mod FreeMachines
 pub mod Freshness
 pub mod HlvAccesses
+pub mod Lookups
 pub mod DeviceSteps
 pub mod Machine
 pub mod Outcomes

@@ -1,6 +1,7 @@
 -- The lone machine of a guest, its start, its execution environment, traps and waits.
 use Rattle.std.specs.Prelude.{ℕ, ◌+◌, ◌*◌, ◌==◌, ◌&&◌, Bool, Option, Some, None, List, [], if◌then◌else◌}
 use Rattle.std.specs.List.{list_any}
+use Rattle.arch_defs.specs.declared.first.FirstEntry.{FirstEntry}
 use Rattle.arch_defs.specs.declared.modes.Mode.TheVariants.{HS}
 use Rattle.arch_defs.specs.declared.modes.Trap.{Trap}
 use Rattle.arch_defs.specs.declared.registers.Csrs.{Csrs}
@@ -31,11 +32,12 @@ pub record Platform : Type 0 where
   pub status : Status
 
 -- a machine: its platform, its RAM, and its spaces, the most recently entered first, with how many there may
--- be and of how many entries; and whether it has the device page
+-- be and of how many entries; its first-stage translations, oldest first; and whether it has the device page
 pub record Machine : Type 0 where
   pub platform : Platform
   pub ram : List ℕ
   pub spaces : List Space
+  pub first : List FirstEntry
   pub space_room : ℕ
   pub entry_room : ℕ
   pub device : Bool
@@ -64,6 +66,7 @@ start guest = record {
   });
   ram = loaded (guest.blocks * block_size) guest.image;
   spaces = [];
+  first = [];
   space_room = guest.spaces;
   entry_room = guest.entries;
   device = guest.device;
@@ -96,7 +99,7 @@ pub data Tried : Type 0 where
   Ended : Machine → Event → Tried
   WaitsForGood : Tried
 
--- a step that leaves this platform, and RAM and the spaces as they were
+-- a step that leaves this platform, and all else as it was
 abbrev pub stepped_to : Machine → Platform → Event → Tried
 stepped_to m platform event = Ended (record m { platform = ticked platform }) event
 

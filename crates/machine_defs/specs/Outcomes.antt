@@ -1,6 +1,7 @@
 -- How an instruction ends, for a lone machine and for the hart alike.
-use Rattle.std.specs.Prelude.{ℕ, Option}
+use Rattle.std.specs.Prelude.{Option}
 use Rattle.arch_defs.specs.declared.cached.Fence.{Fence}
+use Rattle.arch_defs.specs.declared.first.Tag.{Tag}
 use Rattle.arch_defs.specs.declared.modes.Trap.{Trap}
 use Rattle.arch_defs.specs.declared.registers.Virtual.{Virtual}
 use Rattle.arch_defs.specs.declared.walks.MissingPlace.{MissingPlace}
@@ -22,5 +23,8 @@ pub data Outcome : Type 0 where
   Waits : Virtual → Outcome
   -- an HFENCE.GVMA that is allowed, the state after it, and what it names
   Fenced : Virtual → Fence → Outcome
+  -- an SFENCE.VMA or an HFENCE.VVMA that is allowed, the state after it, for whose accesses it is, where they
+  -- are others than those of the state, and what it names
+  FirstFenced : Virtual → Option Tag → Fence → Outcome
   -- the access of an HLV, HLVX or HSV that is allowed
   Accesses : DataAccess → Outcome

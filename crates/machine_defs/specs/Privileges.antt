@@ -3,6 +3,7 @@
 use Rattle.std.specs.Prelude.{ℕ, ◌-◌, ◌^◌, Bool, true, false, Option, Some, None, Result, Ok, Err, bit_and, bit_or, if◌then◌else◌}
 use Rattle.arch_defs.specs.declared.csr_names.CsrEnd.{CsrEnd}
 use Rattle.arch_defs.specs.declared.csr_names.CsrEnd.TheVariants.{Illegal, Virtual as VirtualInstruction}
+use Rattle.arch_defs.specs.declared.first.Tag.TheVariants.{Nested}
 use Rattle.arch_defs.specs.declared.modes.Mode.{Mode}
 use Rattle.arch_defs.specs.declared.modes.Mode.TheVariants.{HS, U, VS, VU}
 use Rattle.arch_defs.specs.declared.modes.TheConstants.{ILLEGAL_INSTRUCTION, VIRTUAL_INSTRUCTION}
@@ -17,7 +18,7 @@ use Rattle.op_defs.specs.declared.ops.Privileged.{Privileged}
 use Rattle.op_defs.specs.declared.ops.Privileged.TheVariants.{Csr, Sret, Wfi, SfenceVma, HfenceVvma, HfenceGvma, HlvAccess}
 use Rattle.machine_defs.specs.declared.events.Event.TheVariants.{System}
 use Rattle.arch_defs.specs.Registers.{passed, sets}
-use Rattle.machine_defs.specs.Outcomes.{Outcome, Done, Trapped, Waits, Fenced, Accesses}
+use Rattle.machine_defs.specs.Outcomes.{Outcome, Done, Trapped, Waits, Fenced, FirstFenced, Accesses}
 
 -- the exception of an instruction that the mode does not allow: an illegal instruction, or a virtual one
 -- (8.6.1; own: which of them, as `refusal` says)
@@ -84,23 +85,24 @@ refusal Sret hstatus mode =
     by_mode mode None (Some Illegal) (virtual_if hstatus.vtsr) (Some VirtualInstruction)
 refusal Wfi hstatus mode =
     by_mode mode None (Some Illegal) (virtual_if hstatus.vtw) (Some VirtualInstruction)
-refusal SfenceVma hstatus mode =
+refusal (SfenceVma fence) hstatus mode =
     by_mode mode None (Some Illegal) (virtual_if hstatus.vtvm) (Some VirtualInstruction)
-refusal HfenceVvma hstatus mode =
+refusal (HfenceVvma fence) hstatus mode =
     by_mode mode None (Some Illegal) (Some VirtualInstruction) (Some VirtualInstruction)
 refusal (HfenceGvma fence) hstatus mode =
     by_mode mode None (Some Illegal) (Some VirtualInstruction) (Some VirtualInstruction)
 refusal (HlvAccess wanted) hstatus mode =
     by_mode mode None (illegal_unless hstatus.hu) (Some VirtualInstruction) (Some VirtualInstruction)
 
--- how an instruction ends that is allowed. SFENCE.VMA and HFENCE.VVMA change nothing: first-stage walks read
--- memory as it is (own, within 4.2.1 and 8.3.2)
+-- how an instruction ends that is allowed. HFENCE.VVMA is for accesses with V = 1 under the present hgatp
+-- (8.3.1)
 abbrev pub performed : Virtual → ℕ → Privileged → Outcome
 performed state word (Csr op number operand writes rd) = csr_accessed state word op number operand writes rd
 performed state word Sret = left_by_sret state
 performed state word Wfi = Waits (passed state)
-performed state word SfenceVma = Done (passed state) None System
-performed state word HfenceVvma = Done (passed state) None System
+performed state word (SfenceVma fence) = FirstFenced (passed state) None fence
+performed state word (HfenceVvma fence) =
+    FirstFenced (passed state) (Some (Nested state.csrs.hgatp)) fence
 performed state word (HfenceGvma fence) = Fenced (passed state) fence
 performed state word (HlvAccess wanted) = Accesses wanted
 

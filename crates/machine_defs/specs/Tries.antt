@@ -1,15 +1,17 @@
 -- One try of a machine's next step: the due interrupt, or one instruction. While the machine folds, its
 -- second stage is by the cached translations of the front space (own, within what Privileged Architecture
 -- 20211203, 8.3.2 and 8.5, permits).
-use Rattle.std.specs.Prelude.{ℕ, ◌&&◌, Bool, true, false, not, List, Option, Some, None, if◌then◌else◌}
+use Rattle.std.specs.Prelude.{ℕ, ◌&&◌, Bool, true, false, not, List, [], Option, Some, None, unwrap_or, if◌then◌else◌}
 use Rattle.arch_defs.specs.declared.cached.Fence.{Fence}
-use Rattle.arch_defs.specs.declared.modes.Access.{Access}
+use Rattle.arch_defs.specs.declared.first.FirstEntry.{FirstEntry}
+use Rattle.arch_defs.specs.declared.first.Tag.{Tag}
 use Rattle.arch_defs.specs.declared.registers.Virtual.{Virtual}
 use Rattle.arch_defs.specs.declared.walks.MissingPlace.{MissingPlace}
 use Rattle.arch_defs.specs.CachedEntries.{device_by_entries, second_by}
 use Rattle.arch_defs.specs.Devices.{is_on_device}
+use Rattle.arch_defs.specs.FirstEntries.{all_filled, names_first, names_first_of_guest, unnamed_first}
 use Rattle.arch_defs.specs.Interrupts.{due, interrupt_of}
-use Rattle.arch_defs.specs.Memory.{Known, Mmu, SecondStage, Stored, bare, mmu, nothing_known, ram_base, ram_memory, reading_of, with_stored}
+use Rattle.arch_defs.specs.Memory.{Known, Mmu, SecondStage, Stored, bare, mmu, ram_base, ram_memory, reading_of, with_stored}
 use Rattle.arch_defs.specs.SecondStage.{OnDevice, missing_place_trap}
 use Rattle.arch_defs.specs.Spaces.{Space, entered, fenced, front}
 use Rattle.arch_defs.specs.Traps.{is_virtual}
@@ -18,10 +20,11 @@ use Rattle.machine_defs.specs.declared.events.Event.{Event}
 use Rattle.machine_defs.specs.declared.events.Event.TheVariants as event
 use Rattle.machine_defs.specs.Core.{core}
 use Rattle.machine_defs.specs.DeviceSteps.{device_step, on_device}
+use Rattle.machine_defs.specs.FirstLeaves.{known_of, leaves_found, tag_of}
 use Rattle.op_defs.specs.declared.ops.DataAccess.{DataAccess}
 use Rattle.machine_defs.specs.HlvAccesses.{Completes, Device, HlvEnd, Traps, hlv_outcome}
 use Rattle.machine_defs.specs.Machine.{Machine, Tried, called, stepped_to, trapped, waited}
-use Rattle.machine_defs.specs.Outcomes.{Outcome, Done, Trapped, Missed, Called, Waits, Fenced, Accesses}
+use Rattle.machine_defs.specs.Outcomes.{Outcome, Done, Trapped, Missed, Called, Waits, Fenced, FirstFenced, Accesses}
 
 -- a machine's own second stage: the entries of the front space while it folds, else RAM as it is
 abbrev pub second_of : Machine → SecondStage
@@ -42,10 +45,10 @@ pub record Stages : Type 0 where
   pub second : SecondStage
   pub device : OnDevice
 
--- a machine's own; nothing is known of virtual addresses, whose tables are walked at each access (own, within
--- 4.2.1 and 8.3.2)
+-- a machine's own: what its first-stage translations say is known
 abbrev pub stages_of : Machine → Stages
-stages_of m = record { known = nothing_known; second = second_of m; device = device_of m }
+stages_of m = let virt = m.platform.virt in
+    record { known = known_of m.first (tag_of virt) virt; second = second_of m; device = device_of m }
 
 -- what its accesses go through under stages, and under its own
 abbrev pub mmu_under : Stages → Machine → Mmu
@@ -82,7 +85,19 @@ unplaced m missing wanted true = on_device m missing wanted
 unplaced m missing wanted false =
     trapped m (missing_place_trap m.platform.virt.csrs (ram_memory m.ram) missing)
 
--- what the outcome of an instruction is to the machine. A fence drops the entries that it names (8.3.2)
+-- a machine without the first-stage translations that are named
+abbrev pub first_fenced : (FirstEntry → Bool) → Machine → Machine
+first_fenced named m = record m { first = unnamed_first named m.first }
+
+-- which of them the outcome of an instruction names, where the accesses are for whom a tag says, if it is a
+-- fence
+abbrev pub outcome_names : Tag → Outcome → FirstEntry → Bool
+outcome_names tag (Fenced virt fence) e = names_first_of_guest fence e
+outcome_names tag (FirstFenced virt named fence) e = names_first (unwrap_or named tag) fence e
+outcome_names tag _ e = false
+
+-- what the outcome of an instruction is to the machine. A fence drops the translations that it names (4.2.1,
+-- 8.3.1, 8.3.2)
 abbrev pub apply_outcome : OnDevice → Machine → Outcome → Tried
 apply_outcome device m (Done virt stored event) = committed m virt stored event
 apply_outcome device m (Trapped trap) = trapped m trap
@@ -91,7 +106,11 @@ apply_outcome device m (Missed missing wanted) =
 apply_outcome device m Called = stepped_to m (called m.platform) event.System
 apply_outcome device m (Waits virt) = waited m virt
 apply_outcome device m (Fenced virt fence) =
-    stepped_to (record m { spaces = fenced fence m.spaces }) (record m.platform { virt = virt }) event.System
+    stepped_to (first_fenced (names_first_of_guest fence) (record m { spaces = fenced fence m.spaces }))
+    (record m.platform { virt = virt }) event.System
+apply_outcome device m (FirstFenced virt named fence) =
+    stepped_to (first_fenced (names_first (unwrap_or named (tag_of m.platform.virt)) fence) m)
+    (record m.platform { virt = virt }) event.System
 apply_outcome device m (Accesses wanted) =
     hlv_committed m wanted (hlv_outcome m.device (ram_memory m.ram) m.platform.virt wanted)
 
@@ -99,10 +118,19 @@ apply_outcome device m (Accesses wanted) =
 abbrev pub outcome_under : Stages → Machine → Outcome
 outcome_under stages m = core (mmu_under stages m) m.platform.virt
 
--- the interrupt of this code, if one is due, or else one instruction
+-- the first-stage translations that it finds, and the machine that has cached them
+abbrev pub found_by_outcome : Stages → Machine → List FirstEntry
+found_by_outcome stages m =
+    leaves_found (tag_of m.platform.virt) (mmu_under stages m) m.platform.virt
+
+abbrev pub with_found : Stages → Machine → Machine
+with_found stages m = record m { first = all_filled m.first (found_by_outcome stages m) }
+
+-- the interrupt of this code, if one is due, or else one instruction, which has cached what it found, however
+-- it ends
 abbrev pub tried_with : Stages → Machine → Option ℕ → Tried
 tried_with stages m (Some code) = trapped m (interrupt_of code)
-tried_with stages m None = apply_outcome stages.device m (outcome_under stages m)
+tried_with stages m None = apply_outcome stages.device (with_found stages m) (outcome_under stages m)
 
 -- one try, by what translates its accesses
 unfoldable pub try_under : Stages → Machine → Tried
@@ -123,3 +151,18 @@ fence_with stages m None = outcome_fence (outcome_under stages m)
 
 unfoldable pub fence_under : Stages → Machine → Option Fence
 fence_under stages m = fence_with stages m (due m.platform.virt.csrs m.platform.virt.mode)
+
+-- the first-stage translations that a try finds, and whether it names one as a fence
+abbrev pub found_with_code : Stages → Machine → Option ℕ → List FirstEntry
+found_with_code stages m (Some code) = []
+found_with_code stages m None = found_by_outcome stages m
+
+unfoldable pub found_by_try : Stages → Machine → List FirstEntry
+found_by_try stages m = found_with_code stages m (due m.platform.virt.csrs m.platform.virt.mode)
+
+abbrev pub named_with_code : Stages → Machine → Option ℕ → FirstEntry → Bool
+named_with_code stages m (Some code) e = false
+named_with_code stages m None e = outcome_names (tag_of m.platform.virt) (outcome_under stages m) e
+
+unfoldable pub named_by_try : Stages → Machine → FirstEntry → Bool
+named_by_try stages m e = named_with_code stages m (due m.platform.virt.csrs m.platform.virt.mode) e

@@ -43,7 +43,7 @@ use Rattle.op_defs.specs.declared.ops.Privileged.TheVariants.{Csr, Sret, Wfi, Sf
 use Rattle.op_defs.specs.Meaning.{meaning}
 use Rattle.op_defs.specs.Table.{op_of}
 use Rattle.machine_defs.specs.Fills.{needed}
-use Rattle.machine_defs.specs.Outcomes.{Outcome, Done, Trapped, Missed, Called, Waits, Fenced, Accesses}
+use Rattle.machine_defs.specs.Outcomes.{Outcome, Done, Trapped, Missed, Called, Waits, Fenced, FirstFenced, Accesses}
 use Rattle.machine_defs.specs.Core.{At, Fails, Faults, Located, Misses, accessed, at_place, called_from, core, decoded, executed, fetch_place, found_with, kind_of, located, located_at, located_by, word_at}
 use Rattle.machine_defs.specs.Privileges.{combined, csr_accessed, csr_changed, csr_shown, decided, performed, privileged, refusal, value_or_zero}
 use Rattle.machine_laws.proofs.Cached.{either}
@@ -68,7 +68,7 @@ pub record IsWithin (small large : SecondStage) : Type 0 where
 
 -- an access has no place under the smaller, and is one of these; and where it has none under the larger,
 -- something is so
-abbrev StopsAt : SecondStage → SecondStage → List ℕ → ℕ → Access → Type 0 → Type 0
+abbrev pub StopsAt : SecondStage → SecondStage → List ℕ → ℕ → Access → Type 0 → Type 0
 StopsAt small large asked address kind same =
     In address asked × (small address kind ≡ None) × (large address kind ≡ None → same)
 
@@ -77,7 +77,7 @@ stops_more : (small large : SecondStage) (asked more : List ℕ) (address : ℕ)
 stops_more small large asked more address kind same same' wider then (inside, none, also) = (wider inside, none, λ n. then (also n))
 
 -- the ends of two walks
-abbrev EndsAlike : SecondStage → SecondStage → List ℕ → WalkEnd → WalkEnd → Type 0
+abbrev pub EndsAlike : SecondStage → SecondStage → List ℕ → WalkEnd → WalkEnd → Type 0
 EndsAlike small large asked (Leaf leaf) other = other ≡ Leaf leaf
 EndsAlike small large asked PageFault other = other ≡ PageFault
 EndsAlike small large asked (FetchEnd place trap) other = StopsAt small large asked place Implicit (other ≡ FetchEnd place trap)
@@ -147,7 +147,7 @@ paths_alike small large w reading shape va access (suc level) table =
         (next_alike small large access at _ _ below (entry_next level access (pte_of (reading place 8))) (is_read level access (pte_of (reading place 8))))
     by at None e below = rw e (inl refl, e, λ none. rw none refl)
 
-walks_alike : (small large : SecondStage) → IsWithin small large → (reading : Reading) (page : ℕ) (shape : Shape) (va : ℕ) (access : Access)
+pub walks_alike : (small large : SecondStage) → IsWithin small large → (reading : Reading) (page : ℕ) (shape : Shape) (va : ℕ) (access : Access)
     → EndsAlike small large (places_of (path (entry_words_through large reading) page shape va access))
     (walk (entry_words_through small reading) page shape va access) (walk (entry_words_through large reading) page shape va access)
 unfolding walk path end_of
@@ -202,6 +202,7 @@ OutcomeAlike small large asked (Trapped trap) same = same
 OutcomeAlike small large asked Called same = same
 OutcomeAlike small large asked (Waits state) same = same
 OutcomeAlike small large asked (Fenced state fence) same = same
+OutcomeAlike small large asked (FirstFenced state named fence) same = same
 OutcomeAlike small large asked (Accesses access) same = same
 
 outcome_more : (small large : SecondStage) (asked more : List ℕ) (o : Outcome) (same same' : Type 0)
@@ -213,6 +214,7 @@ outcome_more small large asked more (Trapped trap) same same' wider then alike =
 outcome_more small large asked more Called same same' wider then alike = then alike
 outcome_more small large asked more (Waits state) same same' wider then alike = then alike
 outcome_more small large asked more (Fenced state fence) same same' wider then alike = then alike
+outcome_more small large asked more (FirstFenced state named fence) same same' wider then alike = then alike
 outcome_more small large asked more (Accesses access) same same' wider then alike = then alike
 
 -- where an access is made: it asks for the entries, and for the address that they give
@@ -226,7 +228,7 @@ asked_for through csrs mode va access =
     read_for through.second through.reading va access (supervisor_of csrs mode).atp
     ++ final (found_with (through.known va access) (first_stage through.second through.reading csrs mode va access))
 
-abbrev PlacesAlike : SecondStage → SecondStage → List ℕ → Located → Located → Type 0
+abbrev pub PlacesAlike : SecondStage → SecondStage → List ℕ → Located → Located → Type 0
 PlacesAlike small large asked (At place) other = other ≡ At place
 PlacesAlike small large asked (Fails (Faults trap)) other = other ≡ Fails (Faults trap)
 PlacesAlike small large asked (Fails (Misses missing)) other = StopsAt small large asked missing.address missing.kind (other ≡ Fails (Misses missing))
@@ -253,7 +255,7 @@ unfolding first_stage
 located_alike small large w known reading csrs mode va access = by_alike small large w _ mode va access _ _
     (known_alike small large _ (known va access) _ _ (under_alike small large w reading (privilege_of csrs mode) va access (supervisor_of csrs mode).atp))
 
-accessed_alike : (small large : SecondStage) → IsWithin small large → (known : Known) (reading : Reading) (csrs : Csrs) (mode : Mode) (va : ℕ) (width : Width) (access : Access)
+pub accessed_alike : (small large : SecondStage) → IsWithin small large → (known : Known) (reading : Reading) (csrs : Csrs) (mode : Mode) (va : ℕ) (width : Width) (access : Access)
     → PlacesAlike small large (asked_for (mmu known large reading) csrs mode va access) (accessed (mmu known small reading) csrs mode va width access)
     (accessed (mmu known large reading) csrs mode va width access)
 accessed_alike small large w known reading csrs mode va width access = by (va % bytes_in width == 0)
@@ -282,6 +284,7 @@ IsDecided (Trapped trap) = Unit {0}
 IsDecided Called = Unit {0}
 IsDecided (Waits state) = Unit {0}
 IsDecided (Fenced state fence) = Unit {0}
+IsDecided (FirstFenced state named fence) = Unit {0}
 IsDecided (Accesses access) = Unit {0}
 
 decided_alike : (small large : SecondStage) (asked : List ℕ) (o : Outcome) (same : Type 0) → IsDecided o → same → OutcomeAlike small large asked o same
@@ -291,6 +294,7 @@ decided_alike small large asked (Trapped trap) same is held = held
 decided_alike small large asked Called same is held = held
 decided_alike small large asked (Waits state) same is held = held
 decided_alike small large asked (Fenced state fence) same is held = held
+decided_alike small large asked (FirstFenced state named fence) same is held = held
 decided_alike small large asked (Accesses access) same is held = held
 
 shown_decided : (s : Virtual) (word rd : ℕ) (value : Result ℕ CsrEnd) → IsDecided (csr_shown s word rd value)
@@ -311,8 +315,8 @@ performed_decided : (s : Virtual) (word : ℕ) (p : Privileged) → IsDecided (p
 performed_decided s word (Csr o number operand writes rd) = csr_decided s word o number operand writes rd
 performed_decided s word Sret = tt
 performed_decided s word Wfi = tt
-performed_decided s word SfenceVma = tt
-performed_decided s word HfenceVvma = tt
+performed_decided s word (SfenceVma fence) = tt
+performed_decided s word (HfenceVvma fence) = tt
 performed_decided s word (HfenceGvma fence) = tt
 performed_decided s word (HlvAccess wanted) = tt
 
@@ -463,4 +467,5 @@ else_alike small large w known reading s none = by (core (mmu known small readin
     by Called is same = same
     by (Waits state) is same = same
     by (Fenced state fence) is same = same
+    by (FirstFenced state named fence) is same = same
     by (Accesses access) is same = same

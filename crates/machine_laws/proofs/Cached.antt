@@ -25,8 +25,9 @@ use Rattle.arch_defs.specs.Walk.{leaf_address, walk}
 use Rattle.arch_defs.specs.WalkedEntries.{entry_by_end, entry_by_walk, entry_under, folds}
 use Rattle.op_defs.specs.declared.ops.DataAccess.{DataAccess}
 use Rattle.machine_defs.specs.Fills.{missing_entry, missing_entry_at, missing_entry_under, missing_entry_with}
+use Rattle.machine_defs.specs.FirstLeaves.{known_of, tag_of}
 use Rattle.machine_defs.specs.Machine.{Machine}
-use Rattle.machine_defs.specs.Outcomes.{Outcome, Done, Trapped, Missed, Called, Waits, Fenced, Accesses}
+use Rattle.machine_defs.specs.Outcomes.{Outcome, Done, Trapped, Missed, Called, Waits, Fenced, FirstFenced, Accesses}
 
 -- what holds of both holds of either
 pub either : {A : Type 0} (P : A → Type 0) (b : Bool) (x y : A) → P x → P y → P (cond b x y)
@@ -86,6 +87,7 @@ stopped device csrs ram entries (Trapped trap) e is = absurd cc
 stopped device csrs ram entries Called e is = absurd cc
 stopped device csrs ram entries (Waits state) e is = absurd cc
 stopped device csrs ram entries (Fenced state fence) e is = absurd cc
+stopped device csrs ram entries (FirstFenced state named fence) e is = absurd cc
 stopped device csrs ram entries (Accesses wanted) e is = absurd cc
 
 -- what a machine lacks is what a walk gives, and it folds
@@ -95,7 +97,7 @@ unfolding missing_entry missing_entry_under
 lacked m e is = by (folds m.platform.virt) refl m.spaces (due m.platform.virt.csrs m.platform.virt.mode) is
   where
     by : (b : Bool) → folds m.platform.virt ≡ b → (spaces : List Space) (code : Option ℕ)
-        → cond b (missing_entry_with m.device m.platform.virt m.ram spaces code) None ≡ Some e
+        → cond b (missing_entry_with m.device (known_of m.first (tag_of m.platform.virt) m.platform.virt) m.platform.virt m.ram spaces code) None ≡ Some e
         → (folds m.platform.virt ≡ true) × ((u : MissingPlace) × (entry_by_walk m.device m.platform.virt.csrs m.ram u.address u.kind ≡ Some e))
     by true folding (s ∷ ss) None is = let at = stopped m.device m.platform.virt.csrs m.ram s.entries _ e is in (folding, (at.missing, at.walked))
     by true folding (s ∷ ss) (Some code) is = absurd cc

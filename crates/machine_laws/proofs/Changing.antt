@@ -46,14 +46,14 @@ same_mode s after same = ap (λ mode. not (is_virtual s.mode) && (is_virtual mod
 
 -- by how it ends
 ended_spaces : (m : Machine) {t : Tried} {fence : Option Fence} → RootEnd m t fence → SpacesAre m fence t
-ended_spaces m (Takes trap) = let s = m.platform.virt in
+ended_spaces m (Takes first trap) = let s = m.platform.virt in
     stay m (entered_at s trap (target s.csrs s.mode trap)) (trap_enters s trap (target s.csrs s.mode trap) (goes_to s trap))
-ended_spaces m (Makes completion event keeps) = refl
-ended_spaces m (Serves rd value console leaves) = stay m (sets m.platform.virt rd value) (same_mode m.platform.virt (sets m.platform.virt rd value) refl)
-ended_spaces m Calls = stay m (called m.platform).virt (same_mode m.platform.virt (called m.platform).virt (called_same m.platform).0)
-ended_spaces m (Passes virt moment (mode, root)) = stay m virt (same_mode m.platform.virt virt mode)
+ended_spaces m (Makes first completion event keeps) = refl
+ended_spaces m (Serves first rd value console leaves) = stay m (sets m.platform.virt rd value) (same_mode m.platform.virt (sets m.platform.virt rd value) refl)
+ended_spaces m (Calls first) = stay m (called m.platform).virt (same_mode m.platform.virt (called m.platform).virt (called_same m.platform).0)
+ended_spaces m (Passes first virt moment (mode, root)) = stay m virt (same_mode m.platform.virt virt mode)
 ended_spaces m Halts = tt
-ended_spaces m (Fences virt fence keeps) = refl
+ended_spaces m (Fences first virt fence keeps) = refl
 
 pub try_spaces : (stages : Stages) (m : Machine) → SpacesAre m (fence_under stages m) (try_under stages m)
 try_spaces stages m = ended_spaces m (root_end m stages)

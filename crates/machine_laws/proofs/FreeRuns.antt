@@ -5,6 +5,7 @@ use Rattle.std.proofs.Common.{cond, ◌≡◌, ℕ, zero, suc, ◌/◌, ◌∙�
 use Rattle.std.proofs.lemmas.Bool.{and_parts}
 use Rattle.std.proofs.lemmas.List.Elements.{All-append, All-cons, All-contains_itself, All-head, All-map, All-nil, All-tail, All-weaker}
 use Rattle.arch_defs.specs.declared.cached.Entry.{Entry}
+use Rattle.arch_defs.specs.declared.first.FirstEntry.{FirstEntry}
 use Rattle.arch_defs.specs.declared.modes.Access.{Access}
 use Rattle.arch_defs.specs.declared.modes.Mode.{Mode}
 use Rattle.arch_defs.specs.declared.modes.Mode.TheVariants.{HS, U, VS, VU}
@@ -30,12 +31,12 @@ use Rattle.op_defs.specs.declared.ops.DataAccess.{DataAccess}
 use Rattle.op_defs.specs.declared.ops.Purpose.{Purpose}
 use Rattle.machine_defs.specs.DeviceSteps.{DeviceCompletion, device_completed, device_step, device_wanted, served}
 use Rattle.machine_defs.specs.Fills.{most_fills, ready}
-use Rattle.machine_defs.specs.FreeMachines.{Answer, CachedTranslation, FreeMachine, FreeMove, FreeStep, IsByCache, IsByWalk, IsWalked, MayTranslate, answer_by, cached_in, free_of, is_active, is_named, uncached, while_active, while_folding}
+use Rattle.machine_defs.specs.FreeMachines.{Answer, CachedTranslation, FreeMachine, FreeMove, FreeStep, IsByCache, IsByWalk, IsFirstWalked, IsWalked, MayTranslate, answer_by, cached_in, free_of, is_active, is_named, uncached, while_active, while_folding}
 use Rattle.machine_defs.specs.HlvAccesses.{HlvEnd, Completes, Device, Traps, hlv_outcome}
 use Rattle.machine_defs.specs.Machine.{Machine, has_enabled_interrupt, start, stepped_to, trapped, waited_until}
-use Rattle.machine_defs.specs.Outcomes.{Outcome, Done, Trapped, Missed, Called, Waits, Fenced, Accesses}
+use Rattle.machine_defs.specs.Outcomes.{Outcome, Done, Trapped, Missed, Called, Waits, Fenced, FirstFenced, Accesses}
 use Rattle.machine_defs.specs.Runs.{left_by, run, step}
-use Rattle.machine_defs.specs.Tries.{Stages, apply_outcome, fence_under, fence_with, hlv_committed, outcome_under, tried_with, try_under, unplaced}
+use Rattle.machine_defs.specs.Tries.{Stages, apply_outcome, fence_under, fence_with, found_by_try, hlv_committed, named_by_try, named_with_code, outcome_under, tried_with, try_under, unplaced, with_found}
 use Rattle.machine_laws.specs.Caching.{FoldingRunsAreActive, GuestsAreArchitectural, RunsAreArchitectural}
 use Rattle.machine_laws.specs.EachEntry.{EachEntry}
 use Rattle.machine_laws.specs.FrontSpaces.{FrontIs}
@@ -49,6 +50,9 @@ use Rattle.machine_laws.proofs.KeyedEntries.{HoldsOfWalks, fills_each, tried_unn
 use Rattle.machine_laws.proofs.Orderly.{filled_orderly, start_is_orderly, stays_orderly}
 use Rattle.machine_laws.proofs.Ruling.{folds_by_front, front_device, has_permitted, ruled_device, ruled_place, steps_end_by_rule}
 use Rattle.machine_laws.proofs.Running.{step_idle}
+use Rattle.machine_laws.proofs.FirstTries.{found_if_ends, tried_keeps_first, tried_unnamed_first}
+use Rattle.machine_laws.proofs.FirstWalks.{may_know, tried_walked}
+use Rattle.machine_laws.proofs.TryEnds.{having}
 
 -- the translations in spaces, and the entries with their keys
 abbrev translation : GuestRoot → Entry → CachedTranslation
@@ -58,6 +62,10 @@ pub all_cached : (Q : CachedTranslation → Type 0) (spaces : List Space) → Ea
 all_cached Q [] all = All-nil Q
 all_cached Q (s ∷ ss) all = let Holds : Space → Type 0 = λ s. All (λ e. Q (translation s.key e)) s.entries in
     All-append Q (cached_in s) (flat_map cached_in ss) (All-map Q (translation s.key) s.entries (All-head Holds s ss all)) (all_cached Q ss (All-tail Holds s ss all))
+
+split_first : (Q : FirstEntry → Type 0) (xs ys : List FirstEntry) → All Q (xs ++ ys) → All Q xs × All Q ys
+split_first Q [] ys all = (All-nil Q, all)
+split_first Q (x ∷ xs) ys all = let rest = split_first Q xs ys (All-tail Q x (xs ++ ys) all) in (All-cons Q x xs (All-head Q x (xs ++ ys) all) rest.0, rest.1)
 
 split_all : (Q : CachedTranslation → Type 0) (xs ys : List CachedTranslation) → All Q (xs ++ ys) → All Q xs × All Q ys
 split_all Q [] ys all = (All-nil Q, all)
@@ -76,65 +84,66 @@ each_of_cached Q (s ∷ ss) all = let both = split_all Q (cached_in s) (flat_map
 each_cached : (spaces : List Space) → EachEntry (λ key e. Contains (flat_map cached_in spaces) (translation key e)) spaces
 each_cached spaces = each_of_cached (Contains (flat_map cached_in spaces)) spaces (All-contains_itself (flat_map cached_in spaces))
 
--- a try leaves the same platform and RAM whatever the spaces are, and leaves whether there is a device page
+-- a try leaves the same platform and RAM whatever the translations are, and leaves whether there is a device page
 abbrev SameBeside : Bool → Machine → Machine → Type 0
 SameBeside device a b = (a.platform ≡ b.platform) × (a.ram ≡ b.ram) × (a.device ≡ device)
 
 abbrev stripped : Machine → Machine
 stripped m = uncached (free_of m)
 
-waited_beside : (m : Machine) (virt : Virtual) (moment : Option ℕ)
-    → SameBeside m.device (left_by m (waited_until m virt moment)) (left_by (stripped m) (waited_until (stripped m) virt moment))
-waited_beside m virt (Some moment) = (refl, refl, refl)
-waited_beside m virt None = (refl, refl, refl)
+waited_beside : (m : Machine) (first other : List FirstEntry) (virt : Virtual) (moment : Option ℕ)
+    → SameBeside m.device (left_by m (waited_until (having m first) virt moment)) (left_by (stripped m) (waited_until (having (stripped m) other) virt moment))
+waited_beside m first other virt (Some moment) = (refl, refl, refl)
+waited_beside m first other virt None = (refl, refl, refl)
 
-waits_beside : (m : Machine) (virt : Virtual) (b : Bool) (moment : Option ℕ)
-    → SameBeside m.device (left_by m (cond b (stepped_to m (record m.platform { virt = virt }) event.System) (waited_until m virt moment)))
-    (left_by (stripped m) (cond b (stepped_to (stripped m) (record m.platform { virt = virt }) event.System) (waited_until (stripped m) virt moment)))
-waits_beside m virt true moment = (refl, refl, refl)
-waits_beside m virt false moment = waited_beside m virt moment
+waits_beside : (m : Machine) (first other : List FirstEntry) (virt : Virtual) (b : Bool) (moment : Option ℕ)
+    → SameBeside m.device (left_by m (cond b (stepped_to (having m first) (record m.platform { virt = virt }) event.System) (waited_until (having m first) virt moment)))
+    (left_by (stripped m) (cond b (stepped_to (having (stripped m) other) (record m.platform { virt = virt }) event.System) (waited_until (having (stripped m) other) virt moment)))
+waits_beside m first other virt true moment = (refl, refl, refl)
+waits_beside m first other virt false moment = waited_beside m first other virt moment
 
-served_beside : (m : Machine) (missing : MissingPlace) (completion : Option DeviceCompletion)
-    → SameBeside m.device (left_by m (served m missing completion)) (left_by (stripped m) (served (stripped m) missing completion))
-served_beside m missing (Some completion) = (refl, refl, refl)
-served_beside m missing None = (refl, refl, refl)
+served_beside : (m : Machine) (first other : List FirstEntry) (missing : MissingPlace) (completion : Option DeviceCompletion)
+    → SameBeside m.device (left_by m (served (having m first) missing completion)) (left_by (stripped m) (served (having (stripped m) other) missing completion))
+served_beside m first other missing (Some completion) = (refl, refl, refl)
+served_beside m first other missing None = (refl, refl, refl)
 
-device_beside : (m : Machine) (missing : MissingPlace) (width : Width) (purpose : Purpose)
-    → SameBeside m.device (left_by m (device_step m missing width purpose)) (left_by (stripped m) (device_step (stripped m) missing width purpose))
-device_beside m missing width purpose = let p = m.platform in
-    served_beside m missing (device_completed p.virt p.console p.clock.time (missing.address % 4096) width purpose)
+device_beside : (m : Machine) (first other : List FirstEntry) (missing : MissingPlace) (width : Width) (purpose : Purpose)
+    → SameBeside m.device (left_by m (device_step (having m first) missing width purpose)) (left_by (stripped m) (device_step (having (stripped m) other) missing width purpose))
+device_beside m first other missing width purpose = let p = m.platform in
+    served_beside m first other missing (device_completed p.virt p.console p.clock.time (missing.address % 4096) width purpose)
 
-wanted_beside : (m : Machine) (missing : MissingPlace) (wanted : Option DataAccess)
-    → SameBeside m.device (left_by m (device_wanted m missing wanted)) (left_by (stripped m) (device_wanted (stripped m) missing wanted))
-wanted_beside m missing (Some wanted) = device_beside m missing wanted.width wanted.purpose
-wanted_beside m missing None = (refl, refl, refl)
+wanted_beside : (m : Machine) (first other : List FirstEntry) (missing : MissingPlace) (wanted : Option DataAccess)
+    → SameBeside m.device (left_by m (device_wanted (having m first) missing wanted)) (left_by (stripped m) (device_wanted (having (stripped m) other) missing wanted))
+wanted_beside m first other missing (Some wanted) = device_beside m first other missing wanted.width wanted.purpose
+wanted_beside m first other missing None = (refl, refl, refl)
 
-unplaced_beside : (m : Machine) (missing : MissingPlace) (wanted : Option DataAccess) (on : Bool)
-    → SameBeside m.device (left_by m (unplaced m missing wanted on)) (left_by (stripped m) (unplaced (stripped m) missing wanted on))
-unplaced_beside m missing wanted false = (refl, refl, refl)
-unplaced_beside m missing wanted true = by (is_implicit missing.kind)
+unplaced_beside : (m : Machine) (first other : List FirstEntry) (missing : MissingPlace) (wanted : Option DataAccess) (on : Bool)
+    → SameBeside m.device (left_by m (unplaced (having m first) missing wanted on)) (left_by (stripped m) (unplaced (having (stripped m) other) missing wanted on))
+unplaced_beside m first other missing wanted false = (refl, refl, refl)
+unplaced_beside m first other missing wanted true = by (is_implicit missing.kind)
   where
-    by : (implicit : Bool) → SameBeside m.device (left_by m (cond implicit (trapped m (missing_place_fault missing)) (device_wanted m missing wanted)))
-        (left_by (stripped m) (cond implicit (trapped (stripped m) (missing_place_fault missing)) (device_wanted (stripped m) missing wanted)))
+    by : (implicit : Bool) → SameBeside m.device (left_by m (cond implicit (trapped (having m first) (missing_place_fault missing)) (device_wanted (having m first) missing wanted)))
+        (left_by (stripped m) (cond implicit (trapped (having (stripped m) other) (missing_place_fault missing)) (device_wanted (having (stripped m) other) missing wanted)))
     by true = (refl, refl, refl)
-    by false = wanted_beside m missing wanted
+    by false = wanted_beside m first other missing wanted
 
-hlv_beside : (m : Machine) (wanted : DataAccess) (end : HlvEnd)
-    → SameBeside m.device (left_by m (hlv_committed m wanted end)) (left_by (stripped m) (hlv_committed (stripped m) wanted end))
-hlv_beside m wanted (Completes completion) = (refl, refl, refl)
-hlv_beside m wanted (Device missing) = device_beside m missing wanted.width wanted.purpose
-hlv_beside m wanted (Traps trap) = (refl, refl, refl)
+hlv_beside : (m : Machine) (first other : List FirstEntry) (wanted : DataAccess) (end : HlvEnd)
+    → SameBeside m.device (left_by m (hlv_committed (having m first) wanted end)) (left_by (stripped m) (hlv_committed (having (stripped m) other) wanted end))
+hlv_beside m first other wanted (Completes completion) = (refl, refl, refl)
+hlv_beside m first other wanted (Device missing) = device_beside m first other missing wanted.width wanted.purpose
+hlv_beside m first other wanted (Traps trap) = (refl, refl, refl)
 
-concluded_beside : (m : Machine) (device : OnDevice) (o : Outcome)
-    → SameBeside m.device (left_by m (apply_outcome device m o)) (left_by (stripped m) (apply_outcome device (stripped m) o))
-concluded_beside m device (Done virt stored event) = (refl, refl, refl)
-concluded_beside m device (Trapped trap) = (refl, refl, refl)
-concluded_beside m device (Missed missing wanted) = unplaced_beside m missing wanted (device missing.address missing.kind)
-concluded_beside m device Called = (refl, refl, refl)
-concluded_beside m device (Waits virt) = waits_beside m virt (has_enabled_interrupt m.platform.virt.csrs)
+concluded_beside : (m : Machine) (first other : List FirstEntry) (device : OnDevice) (o : Outcome)
+    → SameBeside m.device (left_by m (apply_outcome device (having m first) o)) (left_by (stripped m) (apply_outcome device (having (stripped m) other) o))
+concluded_beside m first other device (Done virt stored event) = (refl, refl, refl)
+concluded_beside m first other device (Trapped trap) = (refl, refl, refl)
+concluded_beside m first other device (Missed missing wanted) = unplaced_beside m first other missing wanted (device missing.address missing.kind)
+concluded_beside m first other device Called = (refl, refl, refl)
+concluded_beside m first other device (Waits virt) = waits_beside m first other virt (has_enabled_interrupt m.platform.virt.csrs)
     (wake_moment m.platform.virt.csrs.sie m.platform.clock.timer (next_input m.platform.console.inputs))
-concluded_beside m device (Fenced virt fence) = (refl, refl, refl)
-concluded_beside m device (Accesses wanted) = hlv_beside m wanted (hlv_outcome m.device (ram_memory m.ram) m.platform.virt wanted)
+concluded_beside m first other device (Fenced virt fence) = (refl, refl, refl)
+concluded_beside m first other device (FirstFenced virt named fence) = (refl, refl, refl)
+concluded_beside m first other device (Accesses wanted) = hlv_beside m first other wanted (hlv_outcome m.device (ram_memory m.ram) m.platform.virt wanted)
 
 tried_beside : (m : Machine) (stages : Stages) → SameBeside m.device (left_by m (try_under stages m)) (left_by (stripped m) (try_under stages (stripped m)))
 unfolding try_under
@@ -142,7 +151,7 @@ tried_beside m stages = by (due m.platform.virt.csrs m.platform.virt.mode)
   where
     by : (code : Option ℕ) → SameBeside m.device (left_by m (tried_with stages m code)) (left_by (stripped m) (tried_with stages (stripped m) code))
     by (Some code) = (refl, refl, refl)
-    by None = concluded_beside m stages.device (outcome_under stages m)
+    by None = concluded_beside m (with_found stages m).first (with_found stages (stripped m)).first stages.device (outcome_under stages m)
 
 -- and is the same fence
 fence_beside : (m : Machine) (stages : Stages) → fence_under stages m ≡ fence_under stages (stripped m)
@@ -150,6 +159,15 @@ unfolding fence_under
 fence_beside m stages = by (due m.platform.virt.csrs m.platform.virt.mode)
   where
     by : (code : Option ℕ) → fence_with stages m code ≡ fence_with stages (stripped m) code
+    by (Some code) = refl
+    by None = refl
+
+-- and names the same
+named_beside : (m : Machine) (stages : Stages) (e : FirstEntry) → named_by_try stages m e ≡ named_by_try stages (stripped m) e
+unfolding named_by_try
+named_beside m stages e = by (due m.platform.virt.csrs m.platform.virt.mode)
+  where
+    by : (code : Option ℕ) → named_with_code stages m code e ≡ named_with_code stages (stripped m) code e
     by (Some code) = refl
     by None = refl
 
@@ -211,8 +229,9 @@ by_own m address kind is own = let virt = m.platform.virt in let mxr = virt.csrs
       on_device = ruled_device m address kind true own ∙ front_device m address kind there.0 ∙ ap (λ o. m.device && device_by mxr kind o) there.1.1;
     }
 
-ruled_by_cache : (m : Machine) → IsOrderly m → MayTranslate while_folding m.device m.platform.virt m.ram (flat_map cached_in m.spaces) (ruled m)
-ruled_by_cache m is = record { known = refl; answers = λ address kind. by address kind (has_own m address kind) refl }
+ruled_by_cache : (m : Machine) → IsOrderly m → (first : List FirstEntry) → All (Contains first) m.first
+    → MayTranslate while_folding m.device m.platform.virt m.ram (flat_map cached_in m.spaces) first (ruled m)
+ruled_by_cache m is first all = record { known = may_know m.platform.virt m.first first all; answers = λ address kind. by address kind (has_own m address kind) refl }
   where
     by : (address : ℕ) (kind : Access) (own : Bool) → has_own m address kind ≡ own
         → IsByCache while_folding m.device m.platform.virt (flat_map cached_in m.spaces) address kind (answer_by (ruled m) address kind)
@@ -231,6 +250,28 @@ try_fences m stages = let after = (left_by m (try_under stages m)).spaces in
     subst (λ fence. All (λ c. is_named fence c.vmid c.entry ≡ false) (flat_map cached_in after)) (fence_beside m stages)
     (all_cached (λ c. is_named (fence_under stages m) c.vmid c.entry ≡ false) after (tried_unnamed m stages))
 
+-- of the first stage, those before a try and those that it finds
+abbrev first_held : Machine → Stages → List FirstEntry
+first_held m stages = m.first ++ found_by_try stages m
+
+first_before : (m : Machine) (stages : Stages) → All (Contains (first_held m stages)) m.first × All (Contains (first_held m stages)) (found_by_try stages m)
+first_before m stages = split_first (Contains (first_held m stages)) m.first (found_by_try stages m) (All-contains_itself (first_held m stages))
+
+first_allowed : (m : Machine) (stages : Stages)
+    → All (λ e. Contains (free_of m).first e ⊎ IsFirstWalked m.platform.virt m.ram stages.second e) (first_held m stages)
+first_allowed m stages = let Held : FirstEntry → Type 0 = λ e. Contains m.first e ⊎ IsFirstWalked m.platform.virt m.ram stages.second e in
+    All-append Held m.first (found_by_try stages m)
+    (All-weaker (Contains m.first) Held (λ e held. inl held) m.first (All-contains_itself m.first))
+    (All-weaker (IsFirstWalked m.platform.virt m.ram stages.second) Held (λ e walk. inr walk) (found_by_try stages m) (tried_walked m stages))
+
+first_kept : (m : Machine) (stages : Stages) → All (Contains (first_held m stages)) (left_by m (try_under stages m)).first
+first_kept m stages = tried_keeps_first (Contains (first_held m stages)) m stages (first_before m stages).0
+    (found_if_ends (Contains (first_held m stages)) (found_by_try stages m) (try_under stages m) (first_before m stages).1)
+
+first_unnamed : (m : Machine) (stages : Stages) → All (λ e. named_by_try stages (stripped m) e ≡ false) (left_by m (try_under stages m)).first
+first_unnamed m stages = All-weaker (λ e. named_by_try stages m e ≡ false) (λ e. named_by_try stages (stripped m) e ≡ false)
+    (λ e unnamed. sym (named_beside m stages e) ∙ unnamed) (left_by m (try_under stages m)).first (tried_unnamed_first m stages)
+
 -- a step from a machine at its last try, whose cached translations the free machine had or has walked
 step_freely : (m : Machine) (spaces : List Space) (next : Machine) → IsOrderly (record m { spaces = spaces }) → All (IsHeld m) (flat_map cached_in spaces)
     → next ≡ left_by (record m { spaces = spaces }) (try_under (ruled (record m { spaces = spaces })) (record m { spaces = spaces }))
@@ -239,13 +280,17 @@ step_freely m spaces next is held ends = let last = record m { spaces = spaces }
   cache = flat_map cached_in spaces;
   allowed = held;
   stages = stages;
-  translates = ruled_by_cache last is;
+  first = first_held last stages;
+  first_allowed = first_allowed last stages;
+  translates = ruled_by_cache last is (first_held last stages) (first_before last stages).0;
   platform = ap (λ (t : Machine). t.platform) ends ∙ (tried_beside last stages).0;
   ram = ap (λ (t : Machine). t.ram) ends ∙ (tried_beside last stages).1;
   device = ap (λ (t : Machine). t.device) ends ∙ (tried_beside last stages).2;
   kept = subst (λ (t : Machine). All (Contains (flat_map cached_in spaces)) (flat_map cached_in t.spaces)) (sym ends) (try_keeps last stages);
   fenced = subst (λ (t : Machine). All (λ c. is_named (fence_under stages (stripped last)) c.vmid c.entry ≡ false) (flat_map cached_in t.spaces))
       (sym ends) (try_fences last stages);
+  first_kept = subst (λ (t : Machine). All (Contains (first_held last stages)) t.first) (sym ends) (first_kept last stages);
+  first_fenced = subst (λ (t : Machine). All (λ e. named_by_try stages (stripped last) e ≡ false) t.first) (sym ends) (first_unnamed last stages);
 }
 
 running_freely : (m : Machine) → IsOrderly m → m.platform.status ≡ Running → FreeStep while_folding (free_of m) (free_of (step m))
@@ -306,12 +351,16 @@ step_while_active f g s = record {
   allowed = All-weaker (λ c. Contains f.cache c ⊎ IsWalked while_folding f.device f.platform.virt f.ram c)
       (λ c. Contains f.cache c ⊎ IsWalked while_active f.device f.platform.virt f.ram c) allowed s.cache s.allowed;
   stages = s.stages;
+  first = s.first;
+  first_allowed = s.first_allowed;
   translates = record { known = s.translates.known; answers = λ address kind. answers address kind (s.translates.answers address kind) };
   platform = s.platform;
   ram = s.ram;
   device = s.device;
   kept = s.kept;
   fenced = s.fenced;
+  first_kept = s.first_kept;
+  first_fenced = s.first_fenced;
 }
   where
     virt : Virtual

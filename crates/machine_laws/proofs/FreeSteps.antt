@@ -1,18 +1,19 @@
 -- Where nothing is cached, and after a fence, accesses of a free machine go by walks of RAM as it is.
 use Rattle.std.specs.Prelude.{Contains, ◌&&◌}
 use Rattle.std.specs.List.{All}
-use Rattle.std.proofs.Common.{◌≡◌, ℕ, ◌/◌, ◌∙◌, ◌⊎◌, inl, inr, Bool, true, false, List, Option, Some, None, refl, sym, subst, ap}
+use Rattle.std.proofs.Common.{◌≡◌, ℕ, ◌/◌, ◌∙◌, ◌⊎◌, inl, inr, Bool, true, false, List, [], Option, Some, None, refl, sym, subst, ap, arith}
 use Rattle.std.proofs.Math.Path.{fun_ext}
 use Rattle.std.proofs.lemmas.Bool.{and_from, both_ways, eq-eqb, eqb-true}
 use Rattle.std.proofs.lemmas.List.Elements.{All-contains, All-nil}
 use Rattle.arch_defs.specs.declared.cached.Entry.{Entry}
 use Rattle.arch_defs.specs.declared.cached.Fence.{Fence}
+use Rattle.arch_defs.specs.declared.first.FirstEntry.{FirstEntry}
 use Rattle.arch_defs.specs.declared.modes.Access.{Access}
 use Rattle.arch_defs.specs.declared.registers.Csrs.{Csrs}
 use Rattle.arch_defs.specs.declared.roots.GuestRoot.{GuestRoot}
 use Rattle.arch_defs.specs.declared.roots.GuestRoot.TheVariants as root
 use Rattle.arch_defs.specs.declared.registers.Virtual.{Virtual}
-use Rattle.arch_defs.specs.Memory.{nothing_known, ram_memory}
+use Rattle.arch_defs.specs.Memory.{Known, ram_memory}
 use Rattle.arch_defs.specs.SecondStage.{device_by_walk, second_by_walk}
 use Rattle.arch_defs.specs.Spaces.{names, names_page, names_vmid}
 use Rattle.arch_defs.specs.TableEntries.{span}
@@ -21,7 +22,8 @@ use Rattle.arch_defs.specs.Roots.{is_table}
 use Rattle.arch_defs.specs.WalkedEntries.{entry_by_table, entry_by_walk, folds}
 use Rattle.machine_defs.specs.FreeMachines.{Answer, CachedTranslation, FreeMachine, FreeStep, IsByCache, IsByWalk, IsWalked, answer_by, is_named, left_under, uncached, while_active}
 use Rattle.machine_defs.specs.Tries.{Stages, fence_under}
-use Rattle.machine_laws.specs.Caching.{FencedByWalks, IsStepUnder, UncachedByWalks, by_walks, names_address}
+use Rattle.machine_laws.specs.Caching.{FencedByWalks, IsStepUnder, NothingIsKnown, UncachedByWalks, by_walks, names_address}
+use Rattle.machine_laws.proofs.FirstWalks.{nothing_by_none}
 use Rattle.machine_laws.proofs.Ruling.{stages_same}
 use Rattle.machine_laws.proofs.Walks.{fills_serve_the_device, fills_serve_the_page, now_page}
 
@@ -60,25 +62,25 @@ walked_is_by_walk device virt ram cache address kind answer by walk = let e = by
     answer_is answer _ _ (by.place ∙ fills_serve_the_page device virt ram walk.address address walk.kind kind e folding walk.walked same)
     (by.on_device ∙ fills_serve_the_device device virt ram walk.address address walk.kind kind e folding walk.walked same)
 
--- the stages of these answers
-abbrev stages_now : Bool → Virtual → List ℕ → Stages
-stages_now device virt ram = record {
-  known = nothing_known;
+-- the stages of these answers, where this is known of virtual addresses
+abbrev stages_now : Bool → Virtual → List ℕ → Known → Stages
+stages_now device virt ram known = record {
+  known = known;
   second = λ address kind. (answer_now device virt ram address kind).place;
   device = λ address kind. (answer_now device virt ram address kind).device;
 }
 
--- stages whose answers are those of others, and which know nothing either, are the others
-stages_are : (stages : Stages) (device : Bool) (virt : Virtual) (ram : List ℕ) → stages.known ≡ nothing_known
+-- stages whose answers are those of others, and which know the same, are the others
+stages_are : (stages : Stages) (device : Bool) (virt : Virtual) (ram : List ℕ)
     → ((address : ℕ) (kind : Access) → answer_by stages address kind ≡ answer_now device virt ram address kind)
-    → stages ≡ stages_now device virt ram
-stages_are stages device virt ram known same = stages_same stages (stages_now device virt ram) known
+    → stages ≡ stages_now device virt ram stages.known
+stages_are stages device virt ram same = stages_same stages (stages_now device virt ram stages.known) refl
     (fun_ext (λ address. fun_ext (λ kind. ap (λ (answer : Answer). answer.place) (same address kind))))
     (fun_ext (λ address. fun_ext (λ kind. ap (λ (answer : Answer). answer.device) (same address kind))))
 
 -- where all that is cached is what walks of RAM as it is give, each access goes by these
-pub walked_steps : (f g : FreeMachine) (s : FreeStep while_active f g) → All (IsWalked while_active f.device f.platform.virt f.ram) f.cache → s.stages ≡ by_walks f
-walked_steps f g s all = stages_are s.stages f.device virt f.ram s.translates.known (λ address kind. at address kind (s.translates.answers address kind))
+pub walked_steps : (f g : FreeMachine) (s : FreeStep while_active f g) → All (IsWalked while_active f.device f.platform.virt f.ram) f.cache → s.stages ≡ by_walks f s.stages.known
+walked_steps f g s all = stages_are s.stages f.device virt f.ram (λ address kind. at address kind (s.translates.answers address kind))
   where
     virt : Virtual
     virt = f.platform.virt
@@ -95,8 +97,8 @@ walked_steps f g s all = stages_are s.stages f.device virt f.ram s.translates.kn
     at address kind (inr now) = by_walk_is f.device virt f.ram address kind (answer_by s.stages address kind) now
 
 -- and so where V = 0, whatever is cached
-pub flat_steps : (f g : FreeMachine) (s : FreeStep while_active f g) → is_virtual f.platform.virt.mode ≡ false → s.stages ≡ by_walks f
-flat_steps f g s flat = stages_are s.stages f.device virt f.ram s.translates.known (λ address kind. at address kind (s.translates.answers address kind))
+pub flat_steps : (f g : FreeMachine) (s : FreeStep while_active f g) → is_virtual f.platform.virt.mode ≡ false → s.stages ≡ by_walks f s.stages.known
+flat_steps f g s flat = stages_are s.stages f.device virt f.ram (λ address kind. at address kind (s.translates.answers address kind))
   where
     virt : Virtual
     virt = f.platform.virt
@@ -115,8 +117,16 @@ steps_by f g s now same = record {
 }
 
 pub uncached_by_walks : UncachedByWalks
-uncached_by_walks f g s none = steps_by f g s (by_walks f)
+uncached_by_walks f g s none = steps_by f g s (by_walks f s.stages.known)
     (walked_steps f g s (subst (All (IsWalked while_active f.device f.platform.virt f.ram)) (sym none) (All-nil (IsWalked while_active f.device f.platform.virt f.ram))))
+
+-- and where none of the first stage is cached, it knows nothing
+pub nothing_is_known : NothingIsKnown
+nothing_is_known f g s none = nothing_by_none f.platform.virt s.first s.stages.known s.translates.known
+    (λ va access answer one. by one.entry (subst (λ first. Contains first one.entry) none one.held))
+  where
+    by : (e : FirstEntry) → Contains [] e → ⊥
+    by e held = absurd (omega (arith, held.1))
 
 -- a fence names each cached translation of its VMID for an address of its page
 names_cached : (fence : Fence) (address vmid : ℕ) (e : Entry) → e.page ≡ address / 4096 → names_vmid fence.vmid vmid ≡ true → names_address fence.page address ≡ true

@@ -7,7 +7,7 @@ use Rattle.arch_defs.specs.declared.cached.Entry.{Entry}
 use Rattle.arch_defs.specs.declared.modes.Access.{Access}
 use Rattle.arch_defs.specs.declared.registers.Csrs.{Csrs}
 use Rattle.arch_defs.specs.declared.registers.Virtual.{Virtual}
-use Rattle.arch_defs.specs.Memory.{SecondStage, mmu, nothing_known, ram_memory, reading_of}
+use Rattle.arch_defs.specs.Memory.{Known, SecondStage, mmu, ram_memory, reading_of}
 use Rattle.arch_defs.specs.Permits.{permits_second}
 use Rattle.arch_defs.specs.Walk.{leaf_address}
 use Rattle.arch_defs.specs.CachedEntries.{device_by, device_by_entries, entry_at, is_device, leaf_of, place_by, second_by}
@@ -93,17 +93,17 @@ has_place device csrs ram entries address kind e held now there fresh none off =
         sym (ap (place_by mxr address kind) there ∙ place_given mxr address kind held permits elsewhere) ∙ none in
         absurd cc
 
-pub counts : (device : Bool) (virt : Virtual) (ram : List ℕ)
-    → Counts (IsFresh device virt.csrs ram) (missing_entry_under device virt ram)
-    (pages_of (asked (mmu nothing_known (second_by_walk device virt.csrs ram) (reading_of (ram_memory ram))) virt))
+pub counts : (device : Bool) (known : Known) (virt : Virtual) (ram : List ℕ)
+    → Counts (IsFresh device virt.csrs ram) (missing_entry_under device known virt ram)
+    (pages_of (asked (mmu known (second_by_walk device virt.csrs ram) (reading_of (ram_memory ram))) virt))
 unfolding missing_entry_under
-counts device virt ram = record {
+counts device known virt ram = record {
   missing = λ entries e held is there fresh.
       let by = second_by entries virt.csrs.hs.status.mxr in
       let at = stopped device virt.csrs ram entries _ e is in
       let u = at.missing in
       let page : e.page ≡ u.address / 4096 = now_page device virt.csrs ram u.address u.kind e at.walked in
-      let none = (stops by by (within_itself by) nothing_known (reading_of (ram_memory ram)) virt u at.wanted at.ends).none in
+      let none = (stops by by (within_itself by) known (reading_of (ram_memory ram)) virt u at.wanted at.ends).none in
       has_place device virt.csrs ram entries u.address u.kind e held at.walked (rw page at there) fresh none at.off;
   fresh = λ entries e is.
       let at = stopped device virt.csrs ram entries _ e is in record { address = at.missing.address; kind = at.missing.kind; found = at.walked };
@@ -112,15 +112,15 @@ counts device virt ram = record {
       let u = at.missing in
       let page : e.page ≡ u.address / 4096 = now_page device virt.csrs ram u.address u.kind e at.walked in
       let among = (stops (second_by entries virt.csrs.hs.status.mxr) (second_by_walk device virt.csrs ram) (fresh_within device virt.csrs ram entries fresh)
-      nothing_known (reading_of (ram_memory ram)) virt u at.wanted at.ends).inside in
+      known (reading_of (ram_memory ram)) virt u at.wanted at.ends).inside in
       rw page (in_pages u.address _ among);
 }
 
 -- so many fills suffice for the list of a state
-pub list_suffices : (device : Bool) (virt : Virtual) (ram : List ℕ) (most : ℕ) (entries : List Entry) → needed ≤ most
-    → missing_entry_under device virt ram (filling (missing_entry_under device virt ram) most (most + needed) entries) ≡ None
-list_suffices device virt ram most entries room =
-    let addresses = asked (mmu nothing_known (second_by_walk device virt.csrs ram) (reading_of (ram_memory ram))) virt in
+pub list_suffices : (device : Bool) (known : Known) (virt : Virtual) (ram : List ℕ) (most : ℕ) (entries : List Entry) → needed ≤ most
+    → missing_entry_under device known virt ram (filling (missing_entry_under device known virt ram) most (most + needed) entries) ≡ None
+list_suffices device known virt ram most entries room =
+    let addresses = asked (mmu known (second_by_walk device virt.csrs ram) (reading_of (ram_memory ram))) virt in
     let few : length (pages_of addresses) ≤ needed =
-    omega (arith, pages_few addresses, few_asked (mmu nothing_known (second_by_walk device virt.csrs ram) (reading_of (ram_memory ram))) virt) in
-    enough (counts device virt ram) most needed few room (omega arith) entries
+    omega (arith, pages_few addresses, few_asked (mmu known (second_by_walk device virt.csrs ram) (reading_of (ram_memory ram))) virt) in
+    enough (counts device known virt ram) most needed few room (omega arith) entries

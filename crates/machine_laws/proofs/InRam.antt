@@ -29,6 +29,7 @@ use Rattle.arch_defs.specs.Walk.{leaf_address}
 use Rattle.arch_defs.specs.WalkedEntries.{entry_by_table, entry_by_walk, entry_under, folds}
 use Rattle.arch_defs.proofs.Pastes.{length_pasted}
 use Rattle.machine_defs.specs.Fills.{missing_entry}
+use Rattle.machine_defs.specs.FirstLeaves.{tag_of}
 use Rattle.machine_defs.specs.Machine.{Machine, Platform, Tried, start}
 use Rattle.machine_laws.specs.EachEntry.{EachEntry, FrontHas}
 use Rattle.machine_laws.specs.Renaming.{CompletionWithin, GivesWithin, Places, ReservesWithin, StoresWithin}
@@ -39,6 +40,7 @@ use Rattle.machine_laws.proofs.Cached.{all_found, either, given, lacked, place_g
 use Rattle.machine_laws.proofs.HlvAccesses.{bare_held, hlv_held}
 use Rattle.machine_laws.proofs.EachEntry.{each_kept, front_each, tried_each}
 use Rattle.machine_laws.proofs.KeptByRuns.{IsKept, kept_by_runs}
+use Rattle.machine_laws.proofs.Placed.{cached_keeps_page}
 use Rattle.machine_laws.proofs.Renaming.{stays_held}
 use Rattle.machine_laws.proofs.TryEnds.{Calls, Fences, Halts, Makes, Passes, Serves, Takes, TryEnd, try_end}
 
@@ -144,16 +146,16 @@ HeldEnd m t fence = TryEnd (CompletionWithin (ram_places m)) (λ state. Reserves
 held_end : (m : Machine) → CachesInRam m → ReservesInRam m → HeldEnd m (try m) (fence_under (stages_of m) m)
 held_end m caches kept = try_end (CompletionWithin (ram_places m)) (λ state. ReservesWithin (ram_places m) state.reservation) (λ wanted. Unit {0})
     m (stages_of m) (λ wanted any. hlv_held m.device (ram_memory m.ram) m.platform.virt kept wanted)
-    (stays_held (ram_places m) (mmu_of m) m.platform.virt (λ va address access known. absurd cc) (gives_ram m caches) kept)
+    (stays_held (ram_places m) (mmu_of m) m.platform.virt (cached_keeps_page m.first (tag_of m.platform.virt) m.platform.virt) (gives_ram m caches) kept)
 
 ended_in : (m : Machine) → length m.ram % 4096 ≡ 0 → ReservesInRam m → {t : Tried} {fence : Option Fence} → HeldEnd m t fence → InRam (length m.ram) (left_by m t)
-ended_in m whole kept (Takes trap) = let s = m.platform.virt in (entered_keeps (ram_places m) s kept trap (target s.csrs s.mode trap), refl)
-ended_in m whole kept (Makes completion event (stores, reserves)) = (reserves, size_kept m completion.stored whole stores)
-ended_in m whole kept Calls = (either (λ (p : Platform). ReservesWithin (ram_places m) p.virt.reservation) (read m.platform.virt.regs a7 == 8) _ _ kept kept, refl)
-ended_in m whole kept (Serves rd value console has) = (kept, refl)
-ended_in m whole kept (Passes virt moment reserves) = (reserves, refl)
+ended_in m whole kept (Takes first trap) = let s = m.platform.virt in (entered_keeps (ram_places m) s kept trap (target s.csrs s.mode trap), refl)
+ended_in m whole kept (Makes first completion event (stores, reserves)) = (reserves, size_kept m completion.stored whole stores)
+ended_in m whole kept (Calls first) = (either (λ (p : Platform). ReservesWithin (ram_places m) p.virt.reservation) (read m.platform.virt.regs a7 == 8) _ _ kept kept, refl)
+ended_in m whole kept (Serves first rd value console has) = (kept, refl)
+ended_in m whole kept (Passes first virt moment reserves) = (reserves, refl)
 ended_in m whole kept Halts = (kept, refl)
-ended_in m whole kept (Fences virt fence reserves) = (reserves, refl)
+ended_in m whole kept (Fences first virt fence reserves) = (reserves, refl)
 
 try_in_ram : (m : Machine) → length m.ram % 4096 ≡ 0 → CachesInRam m → ReservesInRam m → InRam (length m.ram) (left_after m)
 try_in_ram m whole caches kept = ended_in m whole kept (held_end m caches kept)

@@ -72,13 +72,13 @@ pub none_named : (spaces : List Space) → EachEntry (λ key e. is_named None (v
 none_named spaces i s inside k e within = refl
 
 ended_unnamed : (m : Machine) {t : Tried} {fence : Option Fence} → RootEnd m t fence → EachEntry (IsUnnamed fence) (left_by m t).spaces
-ended_unnamed m (Takes trap) = none_named m.spaces
-ended_unnamed m (Makes completion event keeps) = none_named (spaces_after m completion.state)
-ended_unnamed m Calls = none_named m.spaces
-ended_unnamed m (Serves rd value console has) = none_named m.spaces
-ended_unnamed m (Passes virt moment keeps) = none_named m.spaces
+ended_unnamed m (Takes first trap) = none_named m.spaces
+ended_unnamed m (Makes first completion event keeps) = none_named (spaces_after m completion.state)
+ended_unnamed m (Calls first) = none_named m.spaces
+ended_unnamed m (Serves first rd value console has) = none_named m.spaces
+ended_unnamed m (Passes first virt moment keeps) = none_named m.spaces
 ended_unnamed m Halts = none_named m.spaces
-ended_unnamed m (Fences virt fence keeps) = fenced_unnamed fence m.spaces
+ended_unnamed m (Fences first virt fence keeps) = fenced_unnamed fence m.spaces
 
 pub tried_unnamed : (m : Machine) (stages : Stages)
     → EachEntry (λ key e. is_named (fence_under stages m) (vmid_of key) e ≡ false) (left_by m (try_under stages m)).spaces

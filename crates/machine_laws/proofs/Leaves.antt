@@ -30,15 +30,17 @@ use Rattle.arch_defs.proofs.Shapes.{few_levels}
 use Rattle.machine_laws.proofs.Cached.{IsGiven, given, serves}
 
 -- what holds of each leaf that a walk of so many levels ends at
-record IsSound (count : ℕ) (leaf : LeafPte) : Type 0 where
+pub record IsSound (count : ℕ) (leaf : LeafPte) : Type 0 where
   pub level : leaf.level < count
   pub right : (leaf.r || leaf.x) ≡ true
   pub write : leaf.w ≡ true → leaf.r ≡ true
+  pub frame : leaf.frame < 2 ^ 44
+  pub aligned : is_aligned leaf.level leaf.frame ≡ true
 
 ends_at : (valid is_one fit ends : Bool) (one leaf : LeafPte) (table : ℕ)
     → cond valid (cond is_one (cond fit (Ends (Leaf one)) (Ends PageFault)) (cond ends (Ends PageFault) (Below table))) (Ends PageFault) ≡ Ends (Leaf leaf)
-    → (valid ≡ true) × (is_one ≡ true) × (one ≡ leaf)
-ends_at true true true ends one leaf table is = let same : one ≡ leaf = cc in (refl, refl, same)
+    → (valid ≡ true) × (is_one ≡ true) × (fit ≡ true) × (one ≡ leaf)
+ends_at true true true ends one leaf table is = let same : one ≡ leaf = cc in (refl, refl, refl, same)
 ends_at true true false ends one leaf table is = absurd cc
 ends_at true false fit true one leaf table is = absurd cc
 ends_at true false fit false one leaf table is = absurd cc
@@ -50,13 +52,23 @@ writes true true false z valid is = absurd cc
 writes true false r z valid is = absurd cc
 writes false w r z valid is = absurd cc
 
-sound_entry : (count level : ℕ) (kind : Access) (e : Pte) (leaf : LeafPte) → level < count → entry_next level kind e ≡ Ends (Leaf leaf) → IsSound count leaf
-unfolding entry_next
-sound_entry count level kind e leaf low is =
-    let at = ends_at (is_valid e) (is_leaf e) (is_aligned level e.frame && is_marked kind e) (e.a || e.d || e.u || level == 0) (leaf_pte level e) leaf e.frame is in
-    rw (← at.2) (record { level = low; right = at.1; write = λ written. writes e.v e.w e.r (e.reserved == 0) at.0 (and_parts e.w e.d written).0 })
+small_frame : (word : ℕ) → (pte_of word).frame < 2 ^ 44
+unfolding pte_of
+small_frame word = omega arith
 
-sound_path : (count : ℕ) (reading : EntryReading) (shape : Shape) (va : ℕ) (kind : Access) (leaf : LeafPte) (level table : ℕ) → level ≤ count
+sound_entry : (count level : ℕ) (kind : Access) (e : Pte) (leaf : LeafPte) → level < count → e.frame < 2 ^ 44 → entry_next level kind e ≡ Ends (Leaf leaf) → IsSound count leaf
+unfolding entry_next
+sound_entry count level kind e leaf low small is =
+    let at = ends_at (is_valid e) (is_leaf e) (is_aligned level e.frame && is_marked kind e) (e.a || e.d || e.u || level == 0) (leaf_pte level e) leaf e.frame is in
+    rw (← at.3) (record {
+      level = low;
+      right = at.1;
+      write = λ written. writes e.v e.w e.r (e.reserved == 0) at.0 (and_parts e.w e.d written).0;
+      frame = small;
+      aligned = (and_parts (is_aligned level e.frame) (is_marked kind e) at.2).0;
+    })
+
+pub sound_path : (count : ℕ) (reading : EntryReading) (shape : Shape) (va : ℕ) (kind : Access) (leaf : LeafPte) (level table : ℕ) → level ≤ count
     → end_of kind (path_from reading shape va kind level table) ≡ Leaf leaf → IsSound count leaf
 unfolding path_from end_of
 sound_path count reading shape va kind leaf zero table low is = absurd cc
@@ -70,7 +82,7 @@ sound_path count reading shape va kind leaf (suc level) table low is =
 
     by : (at : ℕ) (read : Result ℕ Trap) → ((t : ℕ) → end_of kind (path_from reading shape va kind level t) ≡ Leaf leaf → IsSound count leaf)
         → or_else (end_of kind (later (path_from reading shape va kind level) (read_next level at kind read))) (read_next level at kind read) ≡ Leaf leaf → IsSound count leaf
-    by at (Ok word) deeper is = next (entry_next level kind (pte_of word)) (sound_entry count level kind (pte_of word) leaf (omega arith)) deeper is
+    by at (Ok word) deeper is = next (entry_next level kind (pte_of word)) (sound_entry count level kind (pte_of word) leaf (omega arith) (small_frame word)) deeper is
     by at (Err trap) deeper is = absurd cc
 
 -- the pages that a mode's tables translate

@@ -6,6 +6,11 @@ pub mod Completions
 pub mod Counting
 pub mod EachEntry
 pub mod Filling
+pub mod FirstKeys
+pub mod FirstRuns
+pub mod FirstTries
+pub mod FirstWalks
+pub mod FoundAlike
 pub mod FreeRuns
 pub mod FreeSteps
 pub mod Fresh
@@ -22,6 +27,7 @@ pub mod MissedPlaces
 pub mod OpWidths
 pub mod Orderly
 pub mod Placed
+pub mod RenamedLeaves
 pub mod Renaming
 pub mod Rooting
 pub mod Ruling

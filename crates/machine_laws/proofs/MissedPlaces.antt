@@ -38,7 +38,7 @@ use Rattle.op_defs.specs.declared.ops.Purpose.TheVariants.{Load, LoadCode, Store
 use Rattle.op_defs.specs.Meaning.{meaning}
 use Rattle.op_defs.specs.Table.{op_of}
 use Rattle.machine_defs.specs.Core.{At, Fails, Faults, Located, Misses, accessed, at_place, called_from, completed, core, data_place, decoded, done, event_of, executed, fetch_place, found_with, instruction, kind_of, located, located_at, located_by, word_at}
-use Rattle.machine_defs.specs.Outcomes.{Outcome, Done, Trapped, Missed, Called, Waits, Fenced, Accesses}
+use Rattle.machine_defs.specs.Outcomes.{Outcome, Done, Trapped, Missed, Called, Waits, Fenced, FirstFenced, Accesses}
 use Rattle.machine_defs.specs.Privileges.{privileged}
 use Rattle.machine_laws.specs.MissedPlaces.{MissedIsTold, MissedIsWanted, MissedOffset, access_of, told_place, wanted_at, wanted_by, wanted_of}
 use Rattle.machine_laws.specs.Renaming.{KeepsPage}
@@ -60,6 +60,7 @@ StopsWith Q wants (Trapped trap) = Unit {0}
 StopsWith Q wants Called = Unit {0}
 StopsWith Q wants (Waits state) = Unit {0}
 StopsWith Q wants (Fenced state fence) = Unit {0}
+StopsWith Q wants (FirstFenced state named fence) = Unit {0}
 StopsWith Q wants (Accesses wanted) = Unit {0}
 
 decided_stops : (Q : MissingPlace → Type 0) (wants : Option DataAccess) (o : Outcome) → IsDecided o → StopsWith Q wants o
@@ -69,6 +70,7 @@ decided_stops Q wants (Trapped trap) is = tt
 decided_stops Q wants Called is = tt
 decided_stops Q wants (Waits state) is = tt
 decided_stops Q wants (Fenced state fence) is = tt
+decided_stops Q wants (FirstFenced state named fence) is = tt
 decided_stops Q wants (Accesses wanted) is = tt
 
 -- no instruction makes an implicit access of its own

@@ -84,15 +84,15 @@ with_front : (m after : Machine) → IsOrderly m → after.entry_room ≡ m.entr
 with_front m after is entries spaces front = record { entries = rw entries is.entries; spaces = rw spaces is.spaces; front = front }
 
 ended_orderly : (m : Machine) → IsOrderly m → {t : Tried} {fence : Option Fence} → RootEnd m t fence → IsOrderly (left_by m t)
-ended_orderly m is (Takes trap) = let s = m.platform.virt in
+ended_orderly m is (Takes first trap) = let s = m.platform.virt in
     with_front m _ is refl refl (trap_front s m.spaces is.front trap (target s.csrs s.mode trap) (goes_to s trap))
-ended_orderly m is (Makes completion event keeps) = with_front m _ is refl refl (made_front m is.spaces is.front completion.state keeps)
-ended_orderly m is Calls = let same = called_same m.platform in
+ended_orderly m is (Makes first completion event keeps) = with_front m _ is refl refl (made_front m is.spaces is.front completion.state keeps)
+ended_orderly m is (Calls first) = let same = called_same m.platform in
     with_front m _ is refl refl (stays_front m.platform.virt (called m.platform).virt m.spaces same.0 same.1 is.front)
-ended_orderly m is (Serves rd value console has) = with_front m _ is refl refl (stays_front m.platform.virt (sets m.platform.virt rd value) m.spaces refl refl is.front)
-ended_orderly m is (Passes virt moment (mode, root)) = with_front m _ is refl refl (stays_front m.platform.virt virt m.spaces mode root is.front)
+ended_orderly m is (Serves first rd value console has) = with_front m _ is refl refl (stays_front m.platform.virt (sets m.platform.virt rd value) m.spaces refl refl is.front)
+ended_orderly m is (Passes first virt moment (mode, root)) = with_front m _ is refl refl (stays_front m.platform.virt virt m.spaces mode root is.front)
 ended_orderly m is Halts = with_front m _ is refl refl is.front
-ended_orderly m is (Fences virt fence (mode, root)) = with_front m _ is refl refl (stays_front m.platform.virt virt (fenced fence m.spaces) mode root
+ended_orderly m is (Fences first virt fence (mode, root)) = with_front m _ is refl refl (stays_front m.platform.virt virt (fenced fence m.spaces) mode root
     (λ folding. fenced_same m.platform.virt.csrs.hgatp fence m.spaces (is.front folding)))
 
 pub try_stays_orderly : TryKeepsOrderly

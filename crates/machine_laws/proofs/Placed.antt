@@ -1,9 +1,11 @@
 -- Where an access is made, under a renaming of places.
-use Rattle.std.specs.Prelude.{◌==◌, Ok}
+use Rattle.std.specs.Prelude.{find, ◌/◌, List, ◌==◌, Ok}
 use Rattle.std.specs.Option.{option_map}
 use Rattle.std.proofs.Common.{cond, ◌≡◌, ℕ, ◌+◌, ◌*◌, ◌%◌, ◌^◌, ◌≤◌, Bool, true, false, Option, Some, None, refl, ap, arith}
 use Rattle.std.proofs.lemmas.Bool.{eqb-true}
 use Rattle.std.proofs.Math.Pow.{mod-mod-pow}
+use Rattle.arch_defs.specs.declared.first.FirstEntry.{FirstEntry}
+use Rattle.arch_defs.specs.declared.first.Tag.{Tag}
 use Rattle.arch_defs.specs.declared.modes.Access.{Access}
 use Rattle.arch_defs.specs.declared.modes.Access.TheVariants.{Implicit}
 use Rattle.arch_defs.specs.declared.modes.Mode.{Mode}
@@ -17,6 +19,7 @@ use Rattle.arch_defs.specs.declared.walks.WalkEnd.{WalkEnd}
 use Rattle.arch_defs.specs.declared.walks.WalkEnd.TheVariants.{Leaf, PageFault, FetchEnd}
 use Rattle.arch_defs.specs.declared.widths.Width.{Width}
 use Rattle.arch_defs.specs.declared.widths.Width.TheVariants.{Byte, Half, Word, Double}
+use Rattle.arch_defs.specs.FirstEntries.{first_leaf, is_first_of, known_by, known_under}
 use Rattle.arch_defs.specs.Memory.{Known, Reading, SecondStage, mmu, nothing_known}
 use Rattle.arch_defs.specs.Roots.{supervisor_shape}
 use Rattle.arch_defs.specs.Permits.{permits_first}
@@ -27,7 +30,7 @@ use Rattle.arch_defs.specs.Widths.{bytes_in}
 use Rattle.op_defs.specs.declared.ops.DataAccess.{DataAccess}
 use Rattle.machine_defs.specs.Core.{Faults, Misses, Located, At, Fails, accessed, at_place, found_with, located, located_at, located_by}
 use Rattle.machine_defs.specs.Outcomes.{Outcome}
-use Rattle.machine_laws.specs.Renaming.{IsRenamed, KeepsPage, LeavesWithin, Places, outcome_renamed}
+use Rattle.machine_laws.specs.Renaming.{CachedKeepsPage, IsRenamed, KeepsPage, LeavesWithin, Places, outcome_renamed}
 use Rattle.machine_laws.proofs.AlikeWalks.{walks_alike}
 
 -- an outcome is the renamed one of another, which keeps to the places of the set
@@ -53,7 +56,7 @@ entry_fits : (place at : ℕ) → place % 4096 ≡ at % 4096 → at % 8 ≡ 0 �
 entry_fits place at offset eighth = grind arith
 
 -- entries are read alike
-entries_alike : {h : ℕ → ℕ} {held : Places} {own : SecondStage} {reading : Reading} {host : SecondStage} {other : Reading}
+pub entries_alike : {h : ℕ → ℕ} {held : Places} {own : SecondStage} {reading : Reading} {host : SecondStage} {other : Reading}
     → IsRenamed h held own reading host other → (at : ℕ) → at % 8 ≡ 0 → entry_words_through host other at ≡ entry_words_through own reading at
 entries_alike {h = h} {own = own} {reading = reading} {other = other} r at eighth = rw (r.places at Implicit) (by (own at Implicit) refl)
   where
@@ -112,6 +115,25 @@ with_known_keeps known keeps va access found first = by (known va access) refl
     by : (there : Option ℕ) → known va access ≡ there → KeepsOffset va (found_with there found)
     by (Some address) is = keeps va address access is
     by None is = first
+
+-- what first-stage translations say keeps it
+by_entry_keeps : (privilege : Privilege) (va address : ℕ) (access : Access) (there : Option FirstEntry) → known_by privilege va access there ≡ Some address
+    → address % 4096 ≡ va % 4096
+by_entry_keeps privilege va address access None is = absurd cc
+by_entry_keeps privilege va address access (Some e) is = by (permits_first privilege access (first_leaf e)) is
+  where
+    by : (permits : Bool) → cond permits (Some (leaf_address (first_leaf e) va)) None ≡ Some address → address % 4096 ≡ va % 4096
+    by true is = let same : leaf_address (first_leaf e) va ≡ address = cc in rw (← same) (leaf_keeps e.frame 0 va)
+    by false is = absurd cc
+
+under_entries_keeps : (first : List FirstEntry) (tag : Tag) (privilege : Privilege) (atp : SupervisorRoot) → KeepsPage (known_under first tag privilege atp)
+unfolding known_under
+under_entries_keeps first tag privilege root.Bare = λ va address access is. absurd cc
+under_entries_keeps first tag privilege (root.Table table asid ppn) = λ va address access is.
+    by_entry_keeps privilege va address access (find (is_first_of tag (root.Table table asid ppn) (va / 4096)) first) is
+
+pub cached_keeps_page : CachedKeepsPage
+cached_keeps_page first tag virt = under_entries_keeps first tag (privilege_of virt.csrs virt.mode) (supervisor_of virt.csrs virt.mode).atp
 
 pub nothing_keeps : KeepsPage nothing_known
 nothing_keeps = λ va address access is. absurd cc

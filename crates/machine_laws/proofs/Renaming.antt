@@ -116,8 +116,8 @@ performed_alike : (h : ℕ → ℕ) (held : Places) (s : Virtual) → ReservesWi
 performed_alike h held s kept word (Csr o number operand writes rd) = csr_alike h held s kept word o number operand writes rd
 performed_alike h held s kept word Sret = (refl, (tt, kept))
 performed_alike h held s kept word Wfi = (refl, kept)
-performed_alike h held s kept word SfenceVma = (refl, (tt, kept))
-performed_alike h held s kept word HfenceVvma = (refl, (tt, kept))
+performed_alike h held s kept word (SfenceVma fence) = (refl, kept)
+performed_alike h held s kept word (HfenceVvma fence) = (refl, kept)
 performed_alike h held s kept word (HfenceGvma fence) = (refl, kept)
 performed_alike h held s kept word (HlvAccess wanted) = (refl, tt)
 

@@ -163,8 +163,8 @@ performed_root : (s : Virtual) (word : ℕ) (p : Privileged) → KeepsRoot s (pe
 performed_root s word (Csr o number operand writes rd) = csr_root s word o number operand writes rd
 performed_root s word Sret = λ virtual. returned_root s.csrs s.regs s.mode
 performed_root s word Wfi = (refl, refl)
-performed_root s word SfenceVma = λ virtual. refl
-performed_root s word HfenceVvma = λ virtual. refl
+performed_root s word (SfenceVma fence) = (refl, refl)
+performed_root s word (HfenceVvma fence) = (refl, refl)
 performed_root s word (HfenceGvma fence) = (refl, refl)
 performed_root s word (HlvAccess wanted) = tt
 

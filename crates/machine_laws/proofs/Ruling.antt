@@ -11,8 +11,9 @@ use Rattle.arch_defs.specs.declared.roots.GuestRoot.TheVariants as root
 use Rattle.arch_defs.specs.declared.walks.MissingPlace.{MissingPlace}
 use Rattle.arch_defs.specs.CachedEntries.{device_by, device_by_entries, entry_at, leaf_of, place_by, second_by}
 use Rattle.arch_defs.specs.Devices.{is_on_device}
+use Rattle.arch_defs.specs.FirstEntries.{all_filled}
 use Rattle.arch_defs.specs.Interrupts.{due}
-use Rattle.arch_defs.specs.Memory.{SecondStage, bare, nothing_known, ram_memory, reading_of}
+use Rattle.arch_defs.specs.Memory.{Known, SecondStage, bare, ram_memory, reading_of}
 use Rattle.arch_defs.specs.Permits.{permits_second}
 use Rattle.arch_defs.specs.Roots.{is_table}
 use Rattle.arch_defs.specs.SecondStage.{OnDevice, device_by_walk, device_under, second_by_walk, second_root_of, second_under}
@@ -21,23 +22,28 @@ use Rattle.arch_defs.specs.Traps.{is_virtual}
 use Rattle.arch_defs.specs.WalkedEntries.{entry_by_walk, folds}
 use Rattle.op_defs.specs.declared.ops.DataAccess.{DataAccess}
 use Rattle.machine_defs.specs.Fills.{missing_entry, missing_entry_at, missing_entry_under, most_fills, ready}
+use Rattle.machine_defs.specs.FirstLeaves.{known_of, tag_of}
 use Rattle.machine_defs.specs.Machine.{Machine}
-use Rattle.machine_defs.specs.Outcomes.{Outcome, Done, Trapped, Missed, Called, Waits, Fenced, Accesses}
+use Rattle.machine_defs.specs.Outcomes.{Outcome, Done, Trapped, Missed, Called, Waits, Fenced, FirstFenced, Accesses}
 use Rattle.machine_defs.specs.Runs.{left_by}
-use Rattle.machine_defs.specs.Tries.{Stages, apply_outcome, device_of, outcome_under, second_of, stages_of, tried_with, try, try_under, unplaced}
+use Rattle.machine_defs.specs.Tries.{Stages, apply_outcome, device_of, outcome_under, second_of, stages_of, tried_with, try, try_under, unplaced, with_found}
 use Rattle.machine_laws.specs.FrontSpaces.{FrontIs}
 use Rattle.machine_laws.specs.Keeping.{IsOrderly}
 use Rattle.machine_laws.specs.Laws.{FlatIsRam, FoldsByFront, FrontGivesPlaces, MissingEntriesAreRead, StepsEndByRule, StopsAreFaults, TriesEndByRule, has_own, is_permitted, ruled}
 use Rattle.machine_laws.proofs.Asking.{IsWithin, else_alike, stops}
 use Rattle.machine_laws.proofs.Cached.{place_given, placed}
+use Rattle.machine_laws.proofs.FoundAlike.{found_alike}
 use Rattle.machine_laws.proofs.Filling.{machine, missing_entry_front, suffices}
 use Rattle.machine_laws.proofs.Orderly.{filled_orderly}
 use Rattle.machine_laws.proofs.Running.{step_running}
 use Rattle.machine_laws.proofs.Walks.{fills_are_devices, fills_are_walks}
 
--- stages that know nothing of virtual addresses
-abbrev staged : SecondStage → OnDevice → Stages
-staged second device = record { known = nothing_known; second = second; device = device }
+-- stages by their parts, and what a machine knows
+abbrev staged : Known → SecondStage → OnDevice → Stages
+staged known second device = record { known = known; second = second; device = device }
+
+abbrev knows : Machine → Known
+knows m = known_of m.first (tag_of m.platform.virt) m.platform.virt
 
 -- where an instruction stops, a rule has no place either, and has the access on the device page alike
 record Agree (device rule_device : OnDevice) (rule : SecondStage) (u : MissingPlace) : Type 0 where
@@ -54,18 +60,19 @@ applied_ruled m device rule_device (Trapped trap) same = refl
 applied_ruled m device rule_device Called same = refl
 applied_ruled m device rule_device (Waits state) same = refl
 applied_ruled m device rule_device (Fenced state fence) same = refl
+applied_ruled m device rule_device (FirstFenced state named fence) same = refl
 applied_ruled m device rule_device (Accesses wanted) same = refl
 
 -- so a try is one under the rule, if the two agree wherever the instruction stops
-abbrev AgreeAtStops : Machine → SecondStage → SecondStage → OnDevice → OnDevice → Type 0
-AgreeAtStops m own rule device rule_device = (u : MissingPlace) (wanted : Option DataAccess)
-    → outcome_under (staged own device) m ≡ Missed u wanted → own u.address u.kind ≡ None → Agree device rule_device rule u
+abbrev AgreeAtStops : Machine → Known → SecondStage → SecondStage → OnDevice → OnDevice → Type 0
+AgreeAtStops m known own rule device rule_device = (u : MissingPlace) (wanted : Option DataAccess)
+    → outcome_under (staged known own device) m ≡ Missed u wanted → own u.address u.kind ≡ None → Agree device rule_device rule u
 
-try_ruled : (m : Machine) (own rule : SecondStage) (device rule_device : OnDevice) → IsWithin own rule
-    → (due m.platform.virt.csrs m.platform.virt.mode ≡ None → AgreeAtStops m own rule device rule_device)
-    → try_under (staged own device) m ≡ try_under (staged rule rule_device) m
+try_ruled : (m : Machine) (known : Known) (own rule : SecondStage) (device rule_device : OnDevice) → IsWithin own rule
+    → (due m.platform.virt.csrs m.platform.virt.mode ≡ None → AgreeAtStops m known own rule device rule_device)
+    → try_under (staged known own device) m ≡ try_under (staged known rule rule_device) m
 unfolding try_under
-try_ruled m own rule device rule_device within agree = by (due m.platform.virt.csrs m.platform.virt.mode) agree
+try_ruled m known own rule device rule_device within agree = by (due m.platform.virt.csrs m.platform.virt.mode) agree
   where
     virt : Virtual
     virt = m.platform.virt
@@ -73,16 +80,19 @@ try_ruled m own rule device rule_device within agree = by (due m.platform.virt.c
     itself : IsWithin own own
     itself = record { gives = λ address place kind found. found }
 
-    alike : AgreeAtStops m own rule device rule_device → (u : MissingPlace) (wanted : Option DataAccess)
-        → outcome_under (staged own device) m ≡ Missed u wanted → Agree device rule_device rule u
-    alike agrees u wanted is = agrees u wanted is (stops own own itself nothing_known (reading_of (ram_memory m.ram)) virt u wanted is).none
+    alike : AgreeAtStops m known own rule device rule_device → (u : MissingPlace) (wanted : Option DataAccess)
+        → outcome_under (staged known own device) m ≡ Missed u wanted → Agree device rule_device rule u
+    alike agrees u wanted is = agrees u wanted is (stops own own itself known (reading_of (ram_memory m.ram)) virt u wanted is).none
 
-    by : (code : Option ℕ) → (code ≡ None → AgreeAtStops m own rule device rule_device)
-        → tried_with (staged own device) m code ≡ tried_with (staged rule rule_device) m code
+    by : (code : Option ℕ) → (code ≡ None → AgreeAtStops m known own rule device rule_device)
+        → tried_with (staged known own device) m code ≡ tried_with (staged known rule rule_device) m code
     by (Some code) agree = refl
-    by None agree = applied_ruled m device rule_device (outcome_under (staged own device) m) (λ u wanted is. (alike (agree refl) u wanted is).served)
-        ∙ ap (apply_outcome rule_device m)
-        (sym (else_alike own rule within nothing_known (reading_of (ram_memory m.ram)) virt (λ u wanted is. (alike (agree refl) u wanted is).none)))
+    by None agree =
+        applied_ruled (with_found (staged known own device) m) device rule_device (outcome_under (staged known own device) m) (λ u wanted is. (alike (agree refl) u wanted is).served)
+        ∙ ap (apply_outcome rule_device (with_found (staged known own device) m))
+        (sym (else_alike own rule within known (reading_of (ram_memory m.ram)) virt (λ u wanted is. (alike (agree refl) u wanted is).none)))
+        ∙ ap (λ found. apply_outcome rule_device (record m { first = all_filled m.first found }) (outcome_under (staged known rule rule_device) m))
+        (sym (found_alike own rule within (tag_of virt) known (reading_of (ram_memory m.ram)) virt (λ u wanted is. (alike (agree refl) u wanted is).none)))
 
 -- a machine's own second stage
 pub folds_by_front : FoldsByFront
@@ -119,7 +129,7 @@ read_front : (m : Machine) (s : Space) (ss : List Space) → folds m.platform.vi
     ≡ missing_entry_at m.device m.platform.virt.csrs m.ram s.entries (outcome_under (stages_of (machine m (s ∷ ss))) (machine m (s ∷ ss)))
 unfolding missing_entry_under
 read_front m s ss folding none = missing_entry_front m s ss folding none
-    ∙ sym (ap (λ own. missing_entry_at m.device m.platform.virt.csrs m.ram s.entries (outcome_under (staged own (device_of (machine m (s ∷ ss)))) (machine m (s ∷ ss))))
+    ∙ sym (ap (λ own. missing_entry_at m.device m.platform.virt.csrs m.ram s.entries (outcome_under (staged (knows m) own (device_of (machine m (s ∷ ss)))) (machine m (s ∷ ss))))
     (own_front m s ss folding))
 
 pub missing_entries_are_read : MissingEntriesAreRead
@@ -223,7 +233,7 @@ agree m is none folding no_interrupt u wanted stuck absent = by (has_own m u.add
         }
 
 ends_folding : (m : Machine) → IsOrderly m → missing_entry m ≡ None → folds m.platform.virt ≡ true → try m ≡ try_under (ruled m) m
-ends_folding m is none folding = try_ruled m (second_of m) (ruled m).second (device_of m) (ruled m).device (within_rule m folding) (agree m is none folding)
+ends_folding m is none folding = try_ruled m (knows m) (second_of m) (ruled m).second (device_of m) (ruled m).device (within_rule m folding) (agree m is none folding)
 
 -- a machine that does not fold has RAM as it is
 flat_root : (virt : Virtual) → folds virt ≡ false → second_root_of virt.csrs virt.mode ≡ root.Bare

@@ -33,13 +33,13 @@ HasRoom room (Ended after event) = after.entry_room ≡ room
 HasRoom room WaitsForGood = Unit {0}
 
 ended_room : (m : Machine) {t : Tried} {fence : Option Fence} → RootEnd m t fence → HasRoom m.entry_room t
-ended_room m (Takes trap) = refl
-ended_room m (Makes completion event keeps) = refl
-ended_room m (Serves rd value console leaves) = refl
-ended_room m Calls = refl
-ended_room m (Passes virt moment keeps) = refl
+ended_room m (Takes first trap) = refl
+ended_room m (Makes first completion event keeps) = refl
+ended_room m (Serves first rd value console leaves) = refl
+ended_room m (Calls first) = refl
+ended_room m (Passes first virt moment keeps) = refl
 ended_room m Halts = tt
-ended_room m (Fences virt fence keeps) = refl
+ended_room m (Fences first virt fence keeps) = refl
 
 try_room : (m : Machine) → HasRoom m.entry_room (try m)
 try_room m = ended_room m (root_end m (stages_of m))

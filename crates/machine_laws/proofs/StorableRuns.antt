@@ -41,6 +41,7 @@ use Rattle.op_defs.specs.Meaning.{address_at, branch, even, is_branch_taken, jum
 use Rattle.op_defs.specs.Table.{op_of}
 use Rattle.machine_defs.specs.declared.events.Event.{Event}
 use Rattle.machine_defs.specs.Core.{Completion, Fails, Faults, accessed, accessed_data, called_from, completed, core, data_place, decoded, done, event_of, executed, fetch_place, found_with, instruction, is_reserved, kind_of, located, located_at, located_by, stored_if, word_at}
+use Rattle.machine_defs.specs.FirstLeaves.{tag_of}
 use Rattle.machine_defs.specs.HlvAccesses.{hlv_outcome}
 use Rattle.machine_defs.specs.Machine.{Machine, Platform, Tried, called, made_by, start}
 use Rattle.arch_defs.specs.Registers.{sets, next}
@@ -55,7 +56,7 @@ use Rattle.machine_laws.proofs.Cached.{either}
 use Rattle.machine_laws.proofs.Completions.{LocatedHas, at_each, at_each_with, hlv_each}
 use Rattle.machine_laws.proofs.KeptByRuns.{IsKept, kept_by_runs}
 use Rattle.machine_laws.proofs.OpWidths.{HasWidth, HaveWidth, IsReservable, op_widths}
-use Rattle.machine_laws.proofs.Placed.{KeepsOffset, first_keeps, leaf_keeps, nothing_keeps, with_known_keeps}
+use Rattle.machine_laws.proofs.Placed.{KeepsOffset, cached_keeps_page, first_keeps, leaf_keeps, with_known_keeps}
 use Rattle.machine_laws.proofs.StorableStates.{advanced_storable, called_storable, entered_storable, next_code, returned_storable, with_pending_lines_storable, with_regs}
 use Rattle.machine_laws.proofs.StoredForms.{WriteStored, write_stored}
 use Rattle.machine_laws.proofs.TryEnds.{Calls as Called, Fences, Halts, Makes, Passes as Waited, Serves, Takes, TryEnd, try_end}
@@ -83,6 +84,9 @@ by_ram memory address place kind is = by (nat_le memory.base address && nat_lt a
     by : (b : Bool) → cond b (Some address) None ≡ Some place → place % 4096 ≡ address % 4096
     by true is = let e : address ≡ place = cc in ap (λ p. p % 4096) (sym e)
     by false is = absurd cc
+
+own_keeps : (m : Machine) → KeepsPage (mmu_of m).known
+own_keeps m = cached_keeps_page m.first (tag_of m.platform.virt) m.platform.virt
 
 own_offsets : (m : Machine) → KeepsOffsets (second_of m)
 own_offsets m = either KeepsOffsets (folds m.platform.virt) (second_by (front m.spaces) m.platform.virt.csrs.hs.status.mxr) (bare (ram_memory m.ram))
@@ -249,8 +253,8 @@ performed_fine : (s : Virtual) → IsStorable s → (word : ℕ) (p : Privileged
 performed_fine s is word (Csr o number operand writes rd) sound = csr_fine s is word o number operand writes rd
 performed_fine s is word Sret sound = returned_storable s is
 performed_fine s is word Wfi sound = sets_storable s 0 0 is
-performed_fine s is word SfenceVma sound = sets_storable s 0 0 is
-performed_fine s is word HfenceVvma sound = sets_storable s 0 0 is
+performed_fine s is word (SfenceVma fence) sound = sets_storable s 0 0 is
+performed_fine s is word (HfenceVvma fence) sound = sets_storable s 0 0 is
 performed_fine s is word (HfenceGvma fence) sound = sets_storable s 0 0 is
 performed_fine s is word (HlvAccess wanted) sound = sound
 
@@ -291,7 +295,7 @@ decoded_fine through keeps offsets s is word (Some o) width = executed_fine thro
 decoded_fine through keeps offsets s is word None width = tt
 
 pub op_fine : (m : Machine) (word : ℕ) (o : Op) → HasWidth o → IsStorable m.platform.virt → IsFine (decoded (mmu_of m) m.platform.virt word (Some o))
-op_fine m word o width is = decoded_fine (mmu_of m) nothing_keeps (own_offsets m) m.platform.virt is word (Some o) width
+op_fine m word o width is = decoded_fine (mmu_of m) (own_keeps m) (own_offsets m) m.platform.virt is word (Some o) width
 
 core_fine : (through : Mmu) → KeepsPage through.known → KeepsOffsets through.second → (s : Virtual) → IsStorable s → IsFine (core through s)
 unfolding core
@@ -311,18 +315,18 @@ made_storable : (p : Platform) (moment : ℕ) → IsStorable p.virt → IsStorab
 made_storable p moment is = with_pending_lines_storable (record p { clock = record p.clock { time = moment }; steps = p.steps + 1 }) is
 
 ended_storable : (m : Machine) → IsStorable m.platform.virt → {t : Tried} {fence : Option Fence} → TryEnd LeavesStorable IsStorable m t fence → IsStorable (left_by m t).platform.virt
-ended_storable m is (Takes trap) = made_storable (record m.platform { virt = _ }) (m.platform.clock.time + 1) (entered_storable m.platform.virt trap is)
-ended_storable m is (Makes completion event has) = made_storable (record m.platform { virt = completion.state }) (m.platform.clock.time + 1) has
-ended_storable m is (Serves rd value console leaves) =
+ended_storable m is (Takes first trap) = made_storable (record m.platform { virt = _ }) (m.platform.clock.time + 1) (entered_storable m.platform.virt trap is)
+ended_storable m is (Makes first completion event has) = made_storable (record m.platform { virt = completion.state }) (m.platform.clock.time + 1) has
+ended_storable m is (Serves first rd value console leaves) =
     made_storable (record m.platform { virt = sets m.platform.virt rd value; console = console }) (m.platform.clock.time + 1) (sets_storable m.platform.virt rd value is)
-ended_storable m is Called = made_storable (called m.platform) _ (called_storable m.platform is)
-ended_storable m is (Waited virt moment has) = made_storable (record m.platform { virt = virt }) moment has
+ended_storable m is (Called first) = made_storable (called m.platform) _ (called_storable m.platform is)
+ended_storable m is (Waited first virt moment has) = made_storable (record m.platform { virt = virt }) moment has
 ended_storable m is Halts = is
-ended_storable m is (Fences virt fence has) = made_storable (record m.platform { virt = virt }) (m.platform.clock.time + 1) has
+ended_storable m is (Fences first virt fence has) = made_storable (record m.platform { virt = virt }) (m.platform.clock.time + 1) has
 
 pub try_stays_storable : TryKeepsStorable
 try_stays_storable m is = ended_storable m is (try_end LeavesStorable IsStorable (λ wanted. ReservesNothing wanted.purpose) m (stages_of m)
-    (hlv_fine m.device (ram_memory m.ram) m.platform.virt is) (core_fine (mmu_of m) nothing_keeps (own_offsets m) m.platform.virt is))
+    (hlv_fine m.device (ram_memory m.ram) m.platform.virt is) (core_fine (mmu_of m) (own_keeps m) (own_offsets m) m.platform.virt is))
 
 -- so do a fill, which leaves the registers, and a run
 pub fill_stays_storable : FillStaysStorable

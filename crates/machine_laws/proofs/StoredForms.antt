@@ -83,7 +83,7 @@ atp_table mode asid ppn of_16 of_44 = by (supervisor_mode_number mode) (supervis
         let last : field 0 44 (number * 2 ^ 60 + asid % 2 ^ 16 * 2 ^ 44 + ppn % 2 ^ 44) ≡ ppn = omega (arith, of_44) in
         rw (high, is, first, last) refl
 
-atp_stored : (kept : SupervisorRoot) (v : ℕ) → AtpStored kept → AtpStored (supervisor_root_of kept v)
+pub atp_stored : (kept : SupervisorRoot) (v : ℕ) → AtpStored kept → AtpStored (supervisor_root_of kept v)
 unfolding supervisor_root_of
 atp_stored kept v is = by (supervisor_mode_of (field 60 4 v))
   where

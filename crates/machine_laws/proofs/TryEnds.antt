@@ -1,14 +1,16 @@
 -- How a try ends: with a trap, with what an instruction leaves, with a load or a store of the device page, with
 -- a call of the environment, with a wait, or with a fence.
-use Rattle.std.specs.Prelude.{◌%◌, ◌==◌, ◌&&◌, option_map}
-use Rattle.std.proofs.Common.{cond, ◌≡◌, ℕ, ◌+◌, ◌⊎◌, inl, inr, Bool, true, false, Option, Some, None, refl}
+use Rattle.std.specs.Prelude.{◌%◌, ◌==◌, ◌&&◌, option_map, unwrap_or}
+use Rattle.std.proofs.Common.{cond, ◌≡◌, ℕ, ◌+◌, ◌⊎◌, inl, inr, Bool, true, false, List, Option, Some, None, refl}
 use Rattle.arch_defs.specs.declared.cached.Fence.{Fence}
+use Rattle.arch_defs.specs.declared.first.FirstEntry.{FirstEntry}
 use Rattle.arch_defs.specs.declared.modes.Trap.{Trap}
 use Rattle.arch_defs.specs.declared.registers.Virtual.{Virtual}
 use Rattle.arch_defs.specs.declared.walks.MissingPlace.{MissingPlace}
 use Rattle.arch_defs.specs.declared.widths.Width.{Width}
 use Rattle.arch_defs.specs.Consoles.{ConsoleState, has_room}
 use Rattle.arch_defs.specs.Devices.{DeviceEnd, device_loaded, device_status, device_stored, with_output}
+use Rattle.arch_defs.specs.FirstEntries.{names_first, names_first_of_guest, unnamed_first}
 use Rattle.arch_defs.specs.Inputs.{next_input, unread_after}
 use Rattle.arch_defs.specs.Interrupts.{due, interrupt_of}
 use Rattle.arch_defs.specs.Memory.{ram_memory}
@@ -25,10 +27,11 @@ use Rattle.machine_defs.specs.declared.events.Event.{Event}
 use Rattle.machine_defs.specs.declared.events.Event.TheVariants.{System}
 use Rattle.machine_defs.specs.Core.{Completion, completion_of}
 use Rattle.machine_defs.specs.DeviceSteps.{device_step, device_wanted, served, with_loaded, with_put}
+use Rattle.machine_defs.specs.FirstLeaves.{tag_of}
 use Rattle.machine_defs.specs.HlvAccesses.{Completes, Device, HlvEnd, Traps, hlv_outcome}
 use Rattle.machine_defs.specs.Machine.{Ended, Machine, Platform, Tried, WaitsForGood, called, has_enabled_interrupt, made_by, stepped_to, trapped, waited, waited_until}
-use Rattle.machine_defs.specs.Outcomes.{Outcome, Done, Trapped, Missed, Called, Waits, Fenced, Accesses}
-use Rattle.machine_defs.specs.Tries.{Stages, apply_outcome, committed, fence_under, fence_with, hlv_committed, outcome_fence, outcome_under, tried_with, try_under, unplaced}
+use Rattle.machine_defs.specs.Outcomes.{Outcome, Done, Trapped, Missed, Called, Waits, Fenced, FirstFenced, Accesses}
+use Rattle.machine_defs.specs.Tries.{Stages, apply_outcome, committed, fence_under, fence_with, hlv_committed, outcome_fence, outcome_under, tried_with, try_under, unplaced, with_found}
 use Rattle.machine_laws.specs.InstructionEnds.{HlvHas, OutcomeHas}
 use Rattle.machine_laws.proofs.Cached.{either}
 
@@ -36,40 +39,47 @@ use Rattle.machine_laws.proofs.Cached.{either}
 abbrev pub passed_at : Machine → Virtual → ℕ → Machine
 passed_at m virt moment = record m { platform = made_by (record m.platform { virt = virt }) moment }
 
+-- and one with these first-stage translations
+abbrev pub having : Machine → List FirstEntry → Machine
+having m first = record m { first = first }
+
 -- what the device page leaves of the inputs that are unread: all of them, or those after the one that it reads
 abbrev pub LeavesUnread : Platform → ConsoleState → Type 0
 LeavesUnread p console =
     (console.inputs ≡ p.console.inputs) ⊎ (console.inputs ≡ unread_after p.console.inputs p.clock.time)
 
--- how a try of m ends, and the fence that it is, if it is one
+-- how a try of m ends, with which first-stage translations, and the fence that it is, if it is one of the second
+-- stage
 pub data TryEnd (L : Completion → Type 0) (P : Virtual → Type 0) (m : Machine) : Tried → Option Fence → Type 0 where
   -- a trap is taken
-  Takes : (trap : Trap) → TryEnd L P m (trapped m trap) None
+  Takes : (first : List FirstEntry) (trap : Trap) → TryEnd L P m (trapped (having m first) trap) None
   -- an instruction completes
-  Makes : (completion : Completion) (event : Event) → L completion → TryEnd L P m (committed m completion.state completion.stored event) None
+  Makes : (first : List FirstEntry) (completion : Completion) (event : Event) → L completion
+      → TryEnd L P m (committed (having m first) completion.state completion.stored event) None
   -- a load or a store of the device page: a register gets a value, or x0 none
-  Serves : (rd value : ℕ) (console : ConsoleState) → LeavesUnread m.platform console
-      → TryEnd L P m (stepped_to m (record m.platform { virt = sets m.platform.virt rd value; console = console }) System) None
+  Serves : (first : List FirstEntry) (rd value : ℕ) (console : ConsoleState) → LeavesUnread m.platform console
+      → TryEnd L P m (stepped_to (having m first) (record m.platform { virt = sets m.platform.virt rd value; console = console }) System) None
   -- a call of the environment
-  Calls : TryEnd L P m (stepped_to m (called m.platform) System) None
-  -- a wait ends at a moment, or never
-  Passes : (virt : Virtual) (moment : ℕ) → P virt → TryEnd L P m (Ended (passed_at m virt moment) System) None
+  Calls : (first : List FirstEntry) → TryEnd L P m (stepped_to (having m first) (called m.platform) System) None
+  -- a wait ends at a moment, or never; or a fence of the first stage ends at the next
+  Passes : (first : List FirstEntry) (virt : Virtual) (moment : ℕ) → P virt → TryEnd L P m (Ended (passed_at (having m first) virt moment) System) None
   Halts : TryEnd L P m WaitsForGood None
-  -- a fence drops the entries that it names
-  Fences : (virt : Virtual) (fence : Fence) → P virt
-      → TryEnd L P m (stepped_to (record m { spaces = fenced fence m.spaces }) (record m.platform { virt = virt }) System) (Some fence)
+  -- a fence of the second stage drops the entries that it names
+  Fences : (first : List FirstEntry) (virt : Virtual) (fence : Fence) → P virt
+      → TryEnd L P m (stepped_to (record (having m first) { spaces = fenced fence m.spaces }) (record m.platform { virt = virt }) System) (Some fence)
 
-until_end : (L : Completion → Type 0) (P : Virtual → Type 0) (m : Machine) (virt : Virtual) → P virt → (moment : Option ℕ) → TryEnd L P m (waited_until m virt moment) None
-until_end L P m virt has (Some moment) = Passes virt moment has
-until_end L P m virt has None = Halts
+until_end : (L : Completion → Type 0) (P : Virtual → Type 0) (m : Machine) (first : List FirstEntry) (virt : Virtual) → P virt → (moment : Option ℕ)
+    → TryEnd L P m (waited_until (having m first) virt moment) None
+until_end L P m first virt has (Some moment) = Passes first virt moment has
+until_end L P m first virt has None = Halts
 
-waited_end : (L : Completion → Type 0) (P : Virtual → Type 0) (m : Machine) (virt : Virtual) → P virt → TryEnd L P m (waited m virt) None
-waited_end L P m virt has = by (has_enabled_interrupt m.platform.virt.csrs)
+waited_end : (L : Completion → Type 0) (P : Virtual → Type 0) (m : Machine) (first : List FirstEntry) (virt : Virtual) → P virt → TryEnd L P m (waited (having m first) virt) None
+waited_end L P m first virt has = by (has_enabled_interrupt m.platform.virt.csrs)
   where
-    by : (b : Bool) → TryEnd L P m (cond b (stepped_to m (record m.platform { virt = virt }) System)
-        (waited_until m virt (wake_moment m.platform.virt.csrs.sie m.platform.clock.timer (next_input m.platform.console.inputs)))) None
-    by true = Passes virt (m.platform.clock.time + 1) has
-    by false = until_end L P m virt has _
+    by : (b : Bool) → TryEnd L P m (cond b (stepped_to (having m first) (record m.platform { virt = virt }) System)
+        (waited_until (having m first) virt (wake_moment m.platform.virt.csrs.sie m.platform.clock.timer (next_input m.platform.console.inputs)))) None
+    by true = Passes first virt (m.platform.clock.time + 1) has
+    by false = until_end L P m first virt has _
 
 -- the device page: the end of a load or of a store, if there is one, leaves the console so
 abbrev HasConsole : Platform → Option DeviceEnd → Type 0
@@ -86,53 +96,55 @@ unfolding device_stored
 stored_console p offset bytes value = either (HasConsole p) (offset == 0 && bytes == 1) (Some (record { value = 0; console = with_output p.console (value % 256) })) None
     (either (LeavesUnread p) (has_room p.console) _ p.console (inl refl) (inl refl)) tt
 
-loaded_end : (L : Completion → Type 0) (P : Virtual → Type 0) (m : Machine) (missing : MissingPlace) (width : Width) (signed : Bool) (rd : ℕ) (end : Option DeviceEnd)
-    → HasConsole m.platform end → TryEnd L P m (served m missing (option_map (with_loaded m.platform.virt width signed rd) end)) None
-loaded_end L P m missing width signed rd None has = Takes (missing_place_fault missing)
-loaded_end L P m missing width signed rd (Some end) has = Serves rd (extended width signed end.value) end.console has
+loaded_end : (L : Completion → Type 0) (P : Virtual → Type 0) (m : Machine) (first : List FirstEntry) (missing : MissingPlace) (width : Width) (signed : Bool) (rd : ℕ) (end : Option DeviceEnd)
+    → HasConsole m.platform end → TryEnd L P m (served (having m first) missing (option_map (with_loaded m.platform.virt width signed rd) end)) None
+loaded_end L P m first missing width signed rd None has = Takes first (missing_place_fault missing)
+loaded_end L P m first missing width signed rd (Some end) has = Serves first rd (extended width signed end.value) end.console has
 
-put_end : (L : Completion → Type 0) (P : Virtual → Type 0) (m : Machine) (missing : MissingPlace) (end : Option DeviceEnd)
-    → HasConsole m.platform end → TryEnd L P m (served m missing (option_map (with_put m.platform.virt) end)) None
-put_end L P m missing None has = Takes (missing_place_fault missing)
-put_end L P m missing (Some end) has = Serves 0 0 end.console has
+put_end : (L : Completion → Type 0) (P : Virtual → Type 0) (m : Machine) (first : List FirstEntry) (missing : MissingPlace) (end : Option DeviceEnd)
+    → HasConsole m.platform end → TryEnd L P m (served (having m first) missing (option_map (with_put m.platform.virt) end)) None
+put_end L P m first missing None has = Takes first (missing_place_fault missing)
+put_end L P m first missing (Some end) has = Serves first 0 0 end.console has
 
-device_end : (L : Completion → Type 0) (P : Virtual → Type 0) (m : Machine) (missing : MissingPlace) (width : Width) (purpose : Purpose)
-    → TryEnd L P m (device_step m missing width purpose) None
-device_end L P m missing width (Load signed rd) = loaded_end L P m missing width signed rd
+device_end : (L : Completion → Type 0) (P : Virtual → Type 0) (m : Machine) (first : List FirstEntry) (missing : MissingPlace) (width : Width) (purpose : Purpose)
+    → TryEnd L P m (device_step (having m first) missing width purpose) None
+device_end L P m first missing width (Load signed rd) = loaded_end L P m first missing width signed rd
     (device_loaded (missing.address % 4096) (bytes_in width) m.platform.console m.platform.clock.time) (loaded_console m.platform (missing.address % 4096) (bytes_in width))
-device_end L P m missing width (LoadCode rd) = Takes (missing_place_fault missing)
-device_end L P m missing width (Store value) = put_end L P m missing
+device_end L P m first missing width (LoadCode rd) = Takes first (missing_place_fault missing)
+device_end L P m first missing width (Store value) = put_end L P m first missing
     (device_stored (missing.address % 4096) (bytes_in width) value m.platform.console) (stored_console m.platform (missing.address % 4096) (bytes_in width) value)
-device_end L P m missing width (Reserve rd) = Takes (missing_place_fault missing)
-device_end L P m missing width (StoreReserved value rd) = Takes (missing_place_fault missing)
-device_end L P m missing width (Modify op operand rd) = Takes (missing_place_fault missing)
+device_end L P m first missing width (Reserve rd) = Takes first (missing_place_fault missing)
+device_end L P m first missing width (StoreReserved value rd) = Takes first (missing_place_fault missing)
+device_end L P m first missing width (Modify op operand rd) = Takes first (missing_place_fault missing)
 
-wanted_end : (L : Completion → Type 0) (P : Virtual → Type 0) (m : Machine) (missing : MissingPlace) (wanted : Option DataAccess)
-    → TryEnd L P m (device_wanted m missing wanted) None
-wanted_end L P m missing None = Takes (missing_place_fault missing)
-wanted_end L P m missing (Some wanted) = device_end L P m missing wanted.width wanted.purpose
+wanted_end : (L : Completion → Type 0) (P : Virtual → Type 0) (m : Machine) (first : List FirstEntry) (missing : MissingPlace) (wanted : Option DataAccess)
+    → TryEnd L P m (device_wanted (having m first) missing wanted) None
+wanted_end L P m first missing None = Takes first (missing_place_fault missing)
+wanted_end L P m first missing (Some wanted) = device_end L P m first missing wanted.width wanted.purpose
 
-unplaced_end : (L : Completion → Type 0) (P : Virtual → Type 0) (m : Machine) (missing : MissingPlace) (wanted : Option DataAccess) (on : Bool)
-    → TryEnd L P m (unplaced m missing wanted on) None
-unplaced_end L P m missing wanted true = either (λ t. TryEnd L P m t None) (is_implicit missing.kind) (trapped m (missing_place_fault missing)) (device_wanted m missing wanted)
-    (Takes (missing_place_fault missing)) (wanted_end L P m missing wanted)
-unplaced_end L P m missing wanted false = Takes (missing_place_trap m.platform.virt.csrs (ram_memory m.ram) missing)
+unplaced_end : (L : Completion → Type 0) (P : Virtual → Type 0) (m : Machine) (first : List FirstEntry) (missing : MissingPlace) (wanted : Option DataAccess) (on : Bool)
+    → TryEnd L P m (unplaced (having m first) missing wanted on) None
+unplaced_end L P m first missing wanted true = either (λ t. TryEnd L P m t None) (is_implicit missing.kind) (trapped (having m first) (missing_place_fault missing)) (device_wanted (having m first) missing wanted)
+    (Takes first (missing_place_fault missing)) (wanted_end L P m first missing wanted)
+unplaced_end L P m first missing wanted false = Takes first (missing_place_trap m.platform.virt.csrs (ram_memory m.ram) missing)
 
-hlv_end : (L : Completion → Type 0) (P : Virtual → Type 0) (m : Machine) (wanted : DataAccess) (end : HlvEnd) → HlvHas L end → TryEnd L P m (hlv_committed m wanted end) None
-hlv_end L P m wanted (Completes completion) has = Makes completion System has
-hlv_end L P m wanted (Device missing) has = device_end L P m missing wanted.width wanted.purpose
-hlv_end L P m wanted (Traps trap) has = Takes trap
+hlv_end : (L : Completion → Type 0) (P : Virtual → Type 0) (m : Machine) (first : List FirstEntry) (wanted : DataAccess) (end : HlvEnd) → HlvHas L end → TryEnd L P m (hlv_committed (having m first) wanted end) None
+hlv_end L P m first wanted (Completes completion) has = Makes first completion System has
+hlv_end L P m first wanted (Device missing) has = device_end L P m first missing wanted.width wanted.purpose
+hlv_end L P m first wanted (Traps trap) has = Takes first trap
 
-concluded_end : (L : Completion → Type 0) (P : Virtual → Type 0) (A : DataAccess → Type 0) (m : Machine) (device : OnDevice)
+concluded_end : (L : Completion → Type 0) (P : Virtual → Type 0) (A : DataAccess → Type 0) (m : Machine) (first : List FirstEntry) (device : OnDevice)
     → ((wanted : DataAccess) → A wanted → HlvHas L (hlv_outcome m.device (ram_memory m.ram) m.platform.virt wanted))
-    → (o : Outcome) → OutcomeHas L P A o → TryEnd L P m (apply_outcome device m o) (outcome_fence o)
-concluded_end L P A m device hlv (Done virt stored event) has = Makes (completion_of virt stored) event has
-concluded_end L P A m device hlv (Trapped trap) has = Takes trap
-concluded_end L P A m device hlv (Missed missing wanted) has = unplaced_end L P m missing wanted (device missing.address missing.kind)
-concluded_end L P A m device hlv Called has = Calls
-concluded_end L P A m device hlv (Waits virt) has = waited_end L P m virt has
-concluded_end L P A m device hlv (Fenced virt fence) has = Fences virt fence has
-concluded_end L P A m device hlv (Accesses wanted) has = hlv_end L P m wanted (hlv_outcome m.device (ram_memory m.ram) m.platform.virt wanted) (hlv wanted has)
+    → (o : Outcome) → OutcomeHas L P A o → TryEnd L P m (apply_outcome device (having m first) o) (outcome_fence o)
+concluded_end L P A m first device hlv (Done virt stored event) has = Makes first (completion_of virt stored) event has
+concluded_end L P A m first device hlv (Trapped trap) has = Takes first trap
+concluded_end L P A m first device hlv (Missed missing wanted) has = unplaced_end L P m first missing wanted (device missing.address missing.kind)
+concluded_end L P A m first device hlv Called has = Calls first
+concluded_end L P A m first device hlv (Waits virt) has = waited_end L P m first virt has
+concluded_end L P A m first device hlv (Fenced virt fence) has = Fences (unnamed_first (names_first_of_guest fence) first) virt fence has
+concluded_end L P A m first device hlv (FirstFenced virt named fence) has =
+    Passes (unnamed_first (names_first (unwrap_or named (tag_of m.platform.virt)) fence) first) virt (m.platform.clock.time + 1) has
+concluded_end L P A m first device hlv (Accesses wanted) has = hlv_end L P m first wanted (hlv_outcome m.device (ram_memory m.ram) m.platform.virt wanted) (hlv wanted has)
 
 -- by what is known of how the next instruction ends
 pub try_end : (L : Completion → Type 0) (P : Virtual → Type 0) (A : DataAccess → Type 0) (m : Machine) (stages : Stages)
@@ -143,5 +155,5 @@ unfolding try_under fence_under
 try_end L P A m stages hlv has = by (due m.platform.virt.csrs m.platform.virt.mode)
   where
     by : (code : Option ℕ) → TryEnd L P m (tried_with stages m code) (fence_with stages m code)
-    by (Some code) = Takes (interrupt_of code)
-    by None = concluded_end L P A m stages.device hlv (outcome_under stages m) has
+    by (Some code) = Takes m.first (interrupt_of code)
+    by None = concluded_end L P A m (with_found stages m).first stages.device hlv (outcome_under stages m) has

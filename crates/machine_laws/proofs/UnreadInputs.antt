@@ -52,13 +52,13 @@ served_good p console are (inr read) = subst AreInputs (sym read) (unread_good p
 
 -- and no other step changes them
 ended_good : (m : Machine) → HasInputs m.platform → {t : Tried} {fence : Option Fence} → RootEnd m t fence → HasInputs (left_by m t).platform
-ended_good m are (Takes trap) = are
-ended_good m are (Makes completion event keeps) = are
-ended_good m are (Serves rd value console leaves) = served_good m.platform console are leaves
-ended_good m are Calls = called_good m.platform are
-ended_good m are (Passes virt moment keeps) = are
+ended_good m are (Takes first trap) = are
+ended_good m are (Makes first completion event keeps) = are
+ended_good m are (Serves first rd value console leaves) = served_good m.platform console are leaves
+ended_good m are (Calls first) = called_good m.platform are
+ended_good m are (Passes first virt moment keeps) = are
 ended_good m are Halts = are
-ended_good m are (Fences virt fence keeps) = are
+ended_good m are (Fences first virt fence keeps) = are
 
 abbrev OfMachine : Machine → Type 0
 OfMachine m = HasInputs m.platform

@@ -2,14 +2,14 @@
 use Rattle.std.specs.Prelude.{ℕ, ◌≡◌, ◌/◌, ◌≤◌, ◌==◌, ◌&&◌, Bool, true, [], Option, Some, None}
 use Rattle.arch_defs.specs.declared.cached.Fence.{Fence}
 use Rattle.arch_defs.specs.declared.modes.Access.{Access}
-use Rattle.arch_defs.specs.Memory.{nothing_known, ram_memory}
+use Rattle.arch_defs.specs.Memory.{Known, nothing_known, ram_memory}
 use Rattle.arch_defs.specs.SecondStage.{device_by_walk, second_by_walk}
 use Rattle.arch_defs.specs.Roots.{vmid_of}
 use Rattle.arch_defs.specs.Spaces.{names_vmid}
 use Rattle.guest_specs.specs.declared.guests.GuestSpec.{GuestSpec}
 use Rattle.machine_defs.specs.Fills.{needed}
 use Rattle.machine_defs.specs.FreeMachines.{FreeMachine, FreeRun, FreeStep, IsArchitectural, answer_by, left_under, uncached, while_active, while_folding}
-use Rattle.machine_defs.specs.Freshness.{CachesFresh, UsesFresh}
+use Rattle.machine_defs.specs.Freshness.{CachesFresh, FirstFresh, UsesFresh}
 use Rattle.machine_defs.specs.Machine.{Machine, start}
 use Rattle.machine_defs.specs.Tries.{Stages, fence_under}
 use Rattle.machine_laws.specs.Keeping.{IsOrderly}
@@ -34,18 +34,24 @@ pub record IsStepUnder (stages : Stages) (f g : FreeMachine) : Type 0 where
   pub platform : g.platform ≡ (left_under stages f).platform
   pub ram : g.ram ≡ (left_under stages f).ram
 
--- the stages of which each answer is by the walk of hgatp's table as RAM is
-abbrev pub by_walks : FreeMachine → Stages
-by_walks f = let virt = f.platform.virt in record {
-  known = nothing_known;
+-- the stages of which each answer is by the walk of hgatp's table as RAM is, where this is known of virtual
+-- addresses
+abbrev pub by_walks : FreeMachine → Known → Stages
+by_walks f known = let virt = f.platform.virt in record {
+  known = known;
   second = second_by_walk virt.csrs virt.mode (ram_memory f.ram);
   device = λ address kind. f.device && device_by_walk virt.csrs virt.mode (ram_memory f.ram) address kind;
 }
 
--- where nothing is cached, a step is made under these
+-- where nothing of the second stage is cached, a step is made under these
 abbrev pub UncachedByWalks : Type 0
-UncachedByWalks = (f g : FreeMachine) → FreeStep while_active f g → f.cache ≡ []
-    → IsStepUnder (by_walks f) f g
+UncachedByWalks = (f g : FreeMachine) (s : FreeStep while_active f g) → f.cache ≡ []
+    → IsStepUnder (by_walks f s.stages.known) f g
+
+-- and nothing is known of virtual addresses where nothing of the first stage is cached
+abbrev pub NothingIsKnown : Type 0
+NothingIsKnown = (f g : FreeMachine) (s : FreeStep while_active f g) → s.first ≡ []
+    → s.stages.known ≡ nothing_known
 
 -- whether what a fence names is the page of an address, or every page
 abbrev pub names_address : Option ℕ → ℕ → Bool
@@ -59,7 +65,7 @@ FencedByWalks = (f g h : FreeMachine) (before : FreeStep while_active f g) (afte
     (fence : Fence) (address : ℕ) (kind : Access) → fence_under before.stages (uncached f) ≡ Some fence
     → names_vmid fence.vmid (vmid_of g.platform.virt.csrs.hgatp) ≡ true
     → names_address fence.page address ≡ true
-    → answer_by after.stages address kind ≡ answer_by (by_walks g) address kind
+    → answer_by after.stages address kind ≡ answer_by (by_walks g after.stages.known) address kind
 
 -- in every run of an orderly machine that begins without spaces, all cached translations are fresh
 abbrev pub RunsCacheFresh : Type 0
@@ -77,3 +83,11 @@ GuestsCacheFresh = (guest : GuestSpec) (steps : ℕ) → needed ≤ guest.entrie
 abbrev pub GuestsUseFresh : Type 0
 GuestsUseFresh = (guest : GuestSpec) (steps : ℕ) → needed ≤ guest.entries → 1 ≤ guest.spaces
     → UsesFresh (start guest) steps
+
+-- in every run that begins without first-stage translations, all that the next step may use are fresh
+abbrev pub RunsFirstFresh : Type 0
+RunsFirstFresh = (m : Machine) (steps : ℕ) → m.first ≡ [] → FirstFresh m steps
+
+-- and so in each guest's run
+abbrev pub GuestsFirstFresh : Type 0
+GuestsFirstFresh = (guest : GuestSpec) (steps : ℕ) → FirstFresh (start guest) steps

@@ -3,7 +3,7 @@ use Rattle.arch_defs.specs.declared.registers.Virtual.{Virtual}
 use Rattle.op_defs.specs.declared.ops.DataAccess.{DataAccess}
 use Rattle.machine_defs.specs.Core.{Completion, completion_of}
 use Rattle.machine_defs.specs.HlvAccesses.{HlvEnd, Completes, Device, Traps}
-use Rattle.machine_defs.specs.Outcomes.{Outcome, Done, Trapped, Missed, Called, Waits, Fenced, Accesses}
+use Rattle.machine_defs.specs.Outcomes.{Outcome, Done, Trapped, Missed, Called, Waits, Fenced, FirstFenced, Accesses}
 
 -- L holds of what an instruction leaves that completes, P of the state after one that waits or fences, and A
 -- of the access of an HLV, HLVX or HSV
@@ -11,6 +11,7 @@ abbrev pub OutcomeHas : (Completion → Type 0) → (Virtual → Type 0) → (Da
 OutcomeHas L P A (Done state stored event) = L (completion_of state stored)
 OutcomeHas L P A (Waits state) = P state
 OutcomeHas L P A (Fenced state fence) = P state
+OutcomeHas L P A (FirstFenced state named fence) = P state
 OutcomeHas L P A (Accesses wanted) = A wanted
 OutcomeHas L P A (Trapped trap) = Unit {0}
 OutcomeHas L P A (Missed missing wanted) = Unit {0}

@@ -8,7 +8,7 @@ use Rattle.arch_defs.specs.declared.registers.Virtual.{Virtual}
 use Rattle.arch_defs.specs.declared.walks.MissingPlace.{MissingPlace}
 use Rattle.arch_defs.specs.CachedEntries.{CanFill, device_by, device_by_entries, entry_at, is_device, leaf_of, place_by, second_by}
 use Rattle.arch_defs.specs.Interrupts.{due}
-use Rattle.arch_defs.specs.Memory.{bare, block_size, nothing_known, ram_memory}
+use Rattle.arch_defs.specs.Memory.{bare, block_size, ram_memory}
 use Rattle.arch_defs.specs.Permits.{permits_second}
 use Rattle.arch_defs.specs.SecondStage.{device_by_walk, second_by_walk}
 use Rattle.arch_defs.specs.Spaces.{Space, fenced, front}
@@ -19,6 +19,7 @@ use Rattle.machine_defs.specs.declared.events.Event.{Event}
 use Rattle.guest_specs.specs.declared.guests.GuestSpec.{GuestSpec}
 use Rattle.guest_specs.specs.declared.statuses.Status.TheVariants.{Running}
 use Rattle.machine_defs.specs.Fills.{after_fills, fill, fills, missing_entry, missing_entry_at, most_fills, needed, ready}
+use Rattle.machine_defs.specs.FirstLeaves.{known_of, tag_of}
 use Rattle.machine_defs.specs.Machine.{Machine, Ended, start}
 use Rattle.machine_defs.specs.Outcomes.{Missed}
 use Rattle.machine_defs.specs.Runs.{events, left_by, run, step, step_within}
@@ -173,7 +174,7 @@ has_own m address kind = let virt = m.platform.virt in
 -- the stages as a rule without fills: by an entry that permits the access, else by that walk
 abbrev pub ruled : Machine → Stages
 ruled m = let virt = m.platform.virt in record {
-  known = nothing_known;
+  known = known_of m.first (tag_of virt) virt;
   second = λ address kind. if has_own m address kind then second_of m address kind
       else second_by_walk virt.csrs virt.mode (ram_memory m.ram) address kind;
   device = λ address kind. if has_own m address kind then device_of m address kind

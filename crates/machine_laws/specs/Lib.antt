@@ -4,6 +4,7 @@ pub mod InstructionEnds
 pub mod StorableStates
 pub mod Keeping
 pub mod Keys
+pub mod FirstKeys
 pub mod UnreadInputs
 -- Fills of a step, and how many there are
 pub mod Budgets

@@ -1,11 +1,14 @@
 -- The same bytes at other places: an instruction does the same, and each place that it names is renamed.
-use Rattle.std.specs.Prelude.{ℕ, ◌≡◌, ◌+◌, ◌%◌, ◌≤◌, Bool, true, Option, Some, None}
+use Rattle.std.specs.Prelude.{List, ℕ, ◌≡◌, ◌+◌, ◌%◌, ◌≤◌, Bool, true, Option, Some, None}
 use Rattle.std.specs.Option.{option_map}
 use Rattle.arch_defs.specs.declared.modes.Access.{Access}
+use Rattle.arch_defs.specs.declared.first.FirstEntry.{FirstEntry}
+use Rattle.arch_defs.specs.declared.first.Tag.{Tag}
 use Rattle.arch_defs.specs.declared.registers.Virtual.{Virtual}
 use Rattle.arch_defs.specs.Memory.{Known, Mmu, Reading, SecondStage, Stored, mmu}
 use Rattle.machine_defs.specs.Core.{Completion, core}
-use Rattle.machine_defs.specs.Outcomes.{Outcome, Done, Trapped, Missed, Called, Waits, Fenced, Accesses}
+use Rattle.machine_defs.specs.FirstLeaves.{known_of, leaves_found}
+use Rattle.machine_defs.specs.Outcomes.{Outcome, Done, Trapped, Missed, Called, Waits, Fenced, FirstFenced, Accesses}
 use Rattle.machine_laws.specs.InstructionEnds.{OutcomeHas}
 
 -- a reservation at its place's new name
@@ -30,6 +33,7 @@ outcome_renamed h (Missed missing wanted) = Missed missing wanted
 outcome_renamed h Called = Called
 outcome_renamed h (Waits state) = Waits (renamed h state)
 outcome_renamed h (Fenced state fence) = Fenced (renamed h state) fence
+outcome_renamed h (FirstFenced state named fence) = FirstFenced (renamed h state) named fence
 outcome_renamed h (Accesses wanted) = Accesses wanted
 
 -- a set of places
@@ -79,6 +83,10 @@ abbrev pub KeepsPage : Known → Type 0
 KeepsPage known =
     (va address : ℕ) (access : Access) → known va access ≡ Some address → address % 4096 ≡ va % 4096
 
+-- so it is of what first-stage translations say
+abbrev pub CachedKeepsPage : Type 0
+CachedKeepsPage = (first : List FirstEntry) (tag : Tag) (virt : Virtual) → KeepsPage (known_of first tag virt)
+
 -- one instruction of the renamed state, under the renamed second stage and reading, is the renamed one. What
 -- is known of virtual addresses is the same, since it names no place
 abbrev pub RenamedCore : Type 0
@@ -86,6 +94,14 @@ RenamedCore = (h : ℕ → ℕ) (held : Places) (known : Known) (own : SecondSta
     (host : SecondStage) (other : Reading) (state : Virtual)
     → KeepsPage known → IsRenamed h held own reading host other → ReservesWithin held state.reservation
     → core (mmu known host other) (renamed h state) ≡ outcome_renamed h (core (mmu known own reading) state)
+
+-- and finds the same first-stage translations, which name no place either
+abbrev pub RenamedLeaves : Type 0
+RenamedLeaves = (h : ℕ → ℕ) (held : Places) (tag : Tag) (known : Known) (own : SecondStage)
+    (reading : Reading) (host : SecondStage) (other : Reading) (state : Virtual)
+    → KeepsPage known → IsRenamed h held own reading host other
+    → leaves_found tag (mmu known host other) (renamed h state)
+    ≡ leaves_found tag (mmu known own reading) state
 
 -- under a second stage that gives places of a set alone, one instruction stores and reserves in it alone
 abbrev pub CoreKeepsWithin : Type 0

@@ -1,11 +1,18 @@
--- Two short runs, computed: a guest of the guest is entered while a stale translation is cached, after an
--- HFENCE.GVMA and without one.
+-- Short runs, computed: a guest of the guest is entered while a stale translation is cached, after an
+-- HFENCE.GVMA and without one; and an instruction is fetched by a stale first-stage translation, after a
+-- fence that names it, after others and without one.
 use Rattle.std.specs.Prelude.{ℕ, ◌≡◌, ◌+◌, ◌*◌, ◌^◌, true, false, List, [], ◌∷◌, ◌++◌}
 use Rattle.arch_defs.specs.declared.cached.Entry.{Entry}
+use Rattle.arch_defs.specs.declared.first.FirstEntry.{FirstEntry}
+use Rattle.arch_defs.specs.declared.first.Tag.TheVariants.{Flat}
+use Rattle.arch_defs.specs.declared.modes.Mode.{Mode}
 use Rattle.arch_defs.specs.declared.modes.Mode.TheVariants.{HS, VS}
 use Rattle.arch_defs.specs.declared.modes.TheConstants.{INSTRUCTION_ACCESS_FAULT}
 use Rattle.arch_defs.specs.declared.registers.Csrs.{Csrs}
 use Rattle.arch_defs.specs.declared.roots.GuestRoot.{GuestRoot}
+use Rattle.arch_defs.specs.declared.roots.SupervisorMode.TheVariants.{Sv39}
+use Rattle.arch_defs.specs.declared.roots.SupervisorRoot.{SupervisorRoot}
+use Rattle.arch_defs.specs.declared.roots.SupervisorRoot.TheVariants.{Table}
 use Rattle.arch_defs.specs.Clocks.{times_at_start}
 use Rattle.arch_defs.specs.CsrBits.{guest_root_of}
 use Rattle.arch_defs.specs.Memory.{ram_base}
@@ -55,6 +62,7 @@ stale_machine first = record {
   };
   ram = code_after first;
   spaces = record { key = stale_root; entries = stale_entry ∷ [] } ∷ [];
+  first = [];
   space_room = 1;
   entry_room = needed;
   device = false;
@@ -66,13 +74,13 @@ pub record HasFaulted (p : Platform) : Type 0 where
   pub mode : p.virt.mode ≡ HS
   pub cause : p.virt.csrs.hs.cause ≡ INSTRUCTION_ACCESS_FAULT
 
-pub record HasExecuted (p : Platform) : Type 0 where
-  pub mode : p.virt.mode ≡ VS
+pub record HasExecuted (own : Mode) (p : Platform) : Type 0 where
+  pub mode : p.virt.mode ≡ own
   pub value : read p.virt.regs 1 ≡ 1
 
 -- the lone machine executes it where it made no fence, and else not
 abbrev pub StaleIsUsed : Type 0
-StaleIsUsed = HasExecuted (run (stale_machine nop) 3).platform
+StaleIsUsed = HasExecuted VS (run (stale_machine nop) 3).platform
 
 abbrev pub FencedFaults : Type 0
 FencedFaults = HasFaulted (run (stale_machine fence_bytes) 3).platform
@@ -80,11 +88,72 @@ FencedFaults = HasFaulted (run (stale_machine fence_bytes) 3).platform
 -- a free machine that caches while it folds may use the translation or drop it where it made no fence, and
 -- else no free machine can use it
 abbrev pub MayUseStale : Type 0
-MayUseStale = (end : FreeMachine) × FreeRun while_folding 3 (free_of (stale_machine nop)) end × HasExecuted end.platform
+MayUseStale = (end : FreeMachine)
+    × FreeRun while_folding 3 (free_of (stale_machine nop)) end × HasExecuted VS end.platform
 
 abbrev pub MayDropStale : Type 0
-MayDropStale = (end : FreeMachine) × FreeRun while_folding 3 (free_of (stale_machine nop)) end × HasFaulted end.platform
+MayDropStale = (end : FreeMachine)
+    × FreeRun while_folding 3 (free_of (stale_machine nop)) end × HasFaulted end.platform
 
 abbrev pub FencedFaultsFreely : Type 0
 FencedFaultsFreely =
-    (end : FreeMachine) → FreeRun while_active 3 (free_of (stale_machine fence_bytes)) end → HasFaulted end.platform
+    (end : FreeMachine) → FreeRun while_active 3 (free_of (stale_machine fence_bytes)) end
+    → HasFaulted end.platform
+
+-- satp: MODE Sv39, ASID 1, and a root outside RAM
+unfoldable pub stale_atp : SupervisorRoot
+stale_atp = Table Sv39 1 0
+
+-- for HS the first frame of RAM for page 5, which may be executed
+unfoldable pub stale_first : FirstEntry
+stale_first = record {
+  tag = Flat;
+  atp = stale_atp;
+  page = 5;
+  frame = 0x80000;
+  r = false;
+  w = false;
+  x = true;
+  u = false;
+  level = 0;
+}
+
+-- a machine that has cached this, in HS at the first of the two instructions of page 5: this one, and ADDI
+-- x1, x0, 1
+unfoldable pub first_machine : List ℕ → Machine
+first_machine first = record {
+  platform = record {
+    virt = record (virtual_at HS (5 * 4096)) {
+      csrs = record csrs_at_reset { hs = record csrs_at_reset.hs { atp = stale_atp } };
+    };
+    clock = times_at_start;
+    console = record { bytes = []; room = 0; inputs = [] };
+    steps = 0;
+    status = Running;
+  };
+  ram = first ++ (0x93 ∷ 0 ∷ 0x10 ∷ 0 ∷ []);
+  spaces = [];
+  first = stale_first ∷ [];
+  space_room = 1;
+  entry_room = needed;
+  device = false;
+}
+
+-- SFENCE.VMA x0, x0, and HFENCE.VVMA x0, x0
+abbrev pub sfence_bytes : List ℕ
+sfence_bytes = 0x73 ∷ 0 ∷ 0 ∷ 0x12 ∷ []
+
+abbrev pub hfence_bytes : List ℕ
+hfence_bytes = 0x73 ∷ 0 ∷ 0 ∷ 0x22 ∷ []
+
+-- it executes the second instruction by this translation where it made no fence, or one of those that name
+-- translations with V = 1 alone, and else not
+abbrev pub StaleFirstIsUsed : Type 0
+StaleFirstIsUsed = HasExecuted HS (run (first_machine nop) 2).platform
+
+abbrev pub OtherFencesKeepFirst : Type 0
+OtherFencesKeepFirst = HasExecuted HS (run (first_machine hfence_bytes) 2).platform
+    × HasExecuted HS (run (first_machine fence_bytes) 2).platform
+
+abbrev pub FencedFirstFaults : Type 0
+FencedFirstFaults = HasFaulted (run (first_machine sfence_bytes) 2).platform

@@ -1,15 +1,16 @@
 // Laws of the definitions.
 
 ghost use Rattle.machine_laws.specs.Budgets.{BudgetIsSmall, FillGoes, FillIsNoEvent, ReadyStepIsTry, ReadyStepsGo, TryGoes, TryIsEvent};
-ghost use Rattle.machine_laws.specs.Caching.{FencedByWalks, FoldingRunsAreActive, GuestsAreArchitectural, GuestsCacheFresh, GuestsUseFresh, RunsAreArchitectural, RunsCacheFresh, RunsUseFresh, UncachedByWalks};
+ghost use Rattle.machine_laws.specs.Caching.{FencedByWalks, FoldingRunsAreActive, GuestsAreArchitectural, GuestsCacheFresh, GuestsFirstFresh, GuestsUseFresh, NothingIsKnown, RunsAreArchitectural, RunsCacheFresh, RunsFirstFresh, RunsUseFresh, UncachedByWalks};
+ghost use Rattle.machine_laws.specs.FirstKeys.{RunKeepsFirst, RunKeepsFirstStorable, StartHasFirst};
 ghost use Rattle.machine_laws.specs.HostPlaces.{OnlyRamChanges, PlacesAreRenamed, RamIsRenamed, RamIsStored};
 ghost use Rattle.machine_laws.specs.Keeping.{FillKeepsOrderly, RunKeepsOrderly, StartIsOrderly, TryKeepsOrderly};
 ghost use Rattle.machine_laws.specs.Keys.{RunKeepsKeys, RunKeepsTables, StartHasKeys};
 ghost use Rattle.machine_laws.specs.Laws.{EventsCompose, FewFills, FillsAreDevices, FillsAreWalks, FillsCanBeMade, FillsGoOn, FillsServeTheDevice, FillsServeThePage, FillsSuffice, FillsSufficeForGuests, FlatIsRam, FlatMissesNothing, FoldsByFront, FrontGivesPlaces, InterruptedMissesNothing, MissingEntriesAreRead, MoreChangeNothing, OnlySpaces, PageHasOneEntry, RunsCompose, StepsEndByRule, StepsGoOn, StepsSettle, StopsAreFaults, TriesChangeSpaces, TriesEndByRule};
 ghost use Rattle.machine_laws.specs.MissedPlaces.{MissedIsTold, MissedIsWanted, MissedOffset};
-ghost use Rattle.machine_laws.specs.Renaming.{CoreKeepsWithin, RenamedCore};
+ghost use Rattle.machine_laws.specs.Renaming.{CachedKeepsPage, CoreKeepsWithin, RenamedCore, RenamedLeaves};
 ghost use Rattle.machine_laws.specs.Reservations.{FillKeepsInRam, GivesRamAlone, RunKeepsInRam, StartIsInRam, TryKeepsInRam};
-ghost use Rattle.machine_laws.specs.ShortRuns.{FencedFaults, FencedFaultsFreely, MayDropStale, MayUseStale, StaleIsUsed};
+ghost use Rattle.machine_laws.specs.ShortRuns.{FencedFaults, FencedFaultsFreely, FencedFirstFaults, MayDropStale, MayUseStale, OtherFencesKeepFirst, StaleFirstIsUsed, StaleIsUsed};
 ghost use Rattle.machine_laws.specs.StorableStates.{FillStaysStorable, RunKeepsStorable, StartIsStorable, TryKeepsStorable};
 ghost use Rattle.machine_laws.specs.UnreadInputs.{RunKeepsInputs, StartHasInputs};
 
@@ -23,9 +24,11 @@ pub fn runs_compose()
 /// the renamed places, and a reading that gives the same bytes there, it stores to the renamed place,
 /// reserves the renamed place, and ends alike. And where the second stage gives places of a set alone, it
 /// stores and reserves nowhere else. What is known of virtual addresses is the same for both, and keeps their
-/// offsets.
+/// offsets; so does what first-stage translations say. It finds the same first-stage translations.
 pub fn renamed_places()
     ensures renames { RenamedCore }
+    ensures keeps { CachedKeepsPage }
+    ensures leaves { RenamedLeaves }
     ensures stays { CoreKeepsWithin }
 {}
 
@@ -152,12 +155,22 @@ pub fn machines_stay_storable()
 {}
 
 /// Each space is for a value of hgatp that can be stored and names a table, and its entries are such as a
-/// table of this MODE can give: their pages have 29 bits or 38, and their levels are below 3 or 4. So it is at
-/// a guest's start, and after a run of any number of steps.
+/// table of this MODE can give: their pages have 29 bits or 38, and their levels are below 3 or 4. So it is
+/// at a guest's start, and after a run of any number of steps.
 pub fn spaces_stay_keyed()
     ensures start { StartHasKeys }
     ensures keys { RunKeepsKeys }
     ensures entries { RunKeepsTables }
+{}
+
+/// A machine has at most 32 first-stage translations, no two of the same page for the same accesses and the
+/// same value of satp or vsatp; each is for such a value that names a table, and such as a table of this MODE
+/// can give; and this value, and that of hgatp, can be stored. So it is at a guest's start, and after a run
+/// of any number of steps.
+pub fn first_stays_keyed()
+    ensures start { StartHasFirst }
+    ensures runs { RunKeepsFirst }
+    ensures storable { RunKeepsFirstStorable }
 {}
 
 /// The inputs that are unread are such as a guest may be given: at most 65,536, their moments below 2^62 and
@@ -168,16 +181,18 @@ pub fn inputs_stay_in_order()
     ensures runs { RunKeepsInputs }
 {}
 
-/// Every run of a lone machine is architectural: it is one that a machine may make which caches second-stage
-/// translations freely while it folds. Each run of such a machine is one of a machine that caches them as
-/// often as the architecture lets it (Privileged Architecture 20211203, 4.3.2, 8.2.10 and 8.3.2). Even that
-/// machine makes a step as the walk of hgatp's table gives, on RAM as it is, where it has cached nothing, and
-/// so it does each access that a fence before the step names.
+/// Every run of a lone machine is architectural: it is one that a machine may make which caches translations
+/// of both stages freely, those of the second while it folds. Each run of such a machine is one of a machine
+/// that caches them as often as the architecture lets it (Privileged Architecture 20211203, 4.2.1, 4.3.2,
+/// 8.2.10 and 8.3.2). Even that machine makes a step as the walk of hgatp's table gives, on RAM as it is,
+/// where it has cached nothing of the second stage, and so it does each access that a fence before the step
+/// names. Where it has cached nothing of the first stage, it knows nothing of virtual addresses.
 pub fn runs_are_architectural()
     ensures machines { RunsAreArchitectural }
     ensures guests { GuestsAreArchitectural }
     ensures wider { FoldingRunsAreActive }
     ensures uncached { UncachedByWalks }
+    ensures unknown { NothingIsKnown }
     ensures fenced { FencedByWalks }
 {}
 
@@ -185,21 +200,30 @@ pub fn runs_are_architectural()
 /// that the step may use, is what the walk of the guest's own table gave for its page on RAM as it was after
 /// some number of earlier steps of the run, under the same value of hgatp, and no step since then was an
 /// HFENCE.GVMA that names it (Privileged Architecture 20211203, 8.3.2). So it is in the run of each orderly
-/// machine that begins without spaces, and of each guest.
+/// machine that begins without spaces, and of each guest. Each first-stage translation that a step may use
+/// was found by an earlier step, and no step from that one on was a fence that names it (4.2.1, 8.3.1 and
+/// 8.3.2). So it is in the run of each machine that begins without any, and of each guest.
 pub fn runs_are_fresh()
     ensures cached { RunsCacheFresh }
     ensures uses { RunsUseFresh }
     ensures guests_cached { GuestsCacheFresh }
     ensures guests_uses { GuestsUseFresh }
+    ensures first { RunsFirstFresh }
+    ensures guests_first { GuestsFirstFresh }
 {}
 
 /// Two runs of three steps, computed. A guest of the guest is entered while a stale translation of its first
 /// page is cached. Without a fence the lone machine uses it, and a free machine may use or drop it. After an
-/// HFENCE.GVMA neither uses it, however often the free machine caches.
+/// HFENCE.GVMA neither uses it, however often the free machine caches. And runs of two steps: by a stale
+/// first-stage translation of HS an instruction is executed, even after an HFENCE.VVMA or an HFENCE.GVMA, but
+/// not after an SFENCE.VMA.
 pub fn stale_until_the_fence()
     ensures used { StaleIsUsed }
     ensures faults { FencedFaults }
     ensures may_use { MayUseStale }
     ensures may_drop { MayDropStale }
     ensures faults_freely { FencedFaultsFreely }
+    ensures first_used { StaleFirstIsUsed }
+    ensures first_kept { OtherFencesKeepFirst }
+    ensures first_faults { FencedFirstFaults }
 {}

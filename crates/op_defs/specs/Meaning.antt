@@ -77,6 +77,15 @@ fence_named rs1 rs2 regs =
       page = fence_operand rs1 (read regs rs1 / 2 ^ 10);
     }
 
+-- what SFENCE.VMA and HFENCE.VVMA name: an ASID by the low 16 bits of rs2, in the place of a VMID, and a
+-- virtual page by rs1 (4.2.1, 8.3.1)
+abbrev pub first_fence_named : ℕ → ℕ → Regs → Fence
+first_fence_named rs1 rs2 regs =
+    record {
+      vmid = fence_operand rs2 (read regs rs2 % 2 ^ 16);
+      page = fence_operand rs1 (read regs rs1 / 2 ^ 12);
+    }
+
 -- an access to data as the instruction's own mode, and one as VS or VU
 abbrev pub accesses : ℕ → Width → Purpose → Effect
 accesses address width purpose = Data (record { address = address; width = width; purpose = purpose })
@@ -114,8 +123,8 @@ meaning op.Sret regs = Privileged privileged.Sret
 meaning op.Wfi regs = Privileged privileged.Wfi
 meaning (op.Csr o operand rd number) regs =
     Privileged (privileged.Csr o number (operand_of operand regs) (writes o operand) rd)
-meaning (op.SfenceVma rs1 rs2) regs = Privileged privileged.SfenceVma
-meaning (op.HfenceVvma rs1 rs2) regs = Privileged privileged.HfenceVvma
+meaning (op.SfenceVma rs1 rs2) regs = Privileged (privileged.SfenceVma (first_fence_named rs1 rs2 regs))
+meaning (op.HfenceVvma rs1 rs2) regs = Privileged (privileged.HfenceVvma (first_fence_named rs1 rs2 regs))
 meaning (op.HfenceGvma rs1 rs2) regs = Privileged (privileged.HfenceGvma (fence_named rs1 rs2 regs))
 meaning (op.GuestLoad width signed rd rs1) regs = accesses_by_hlv (read regs rs1) width (Load signed rd)
 meaning (op.GuestFetch width rd rs1) regs = accesses_by_hlv (read regs rs1) width (LoadCode rd)

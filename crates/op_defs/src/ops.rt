@@ -265,9 +265,9 @@ pub enum Privileged {
     },
     Sret,
     Wfi,
-    SfenceVma,
-    HfenceVvma,
-    /// HFENCE.GVMA, with what it names.
+    /// SFENCE.VMA, HFENCE.VVMA and HFENCE.GVMA, with what each names.
+    SfenceVma(Fence),
+    HfenceVvma(Fence),
     HfenceGvma(Fence),
     /// HLV, HLVX or HSV: an access that is made as VS or VU (Privileged Architecture 20211203, 8.3.1).
     HlvAccess(DataAccess),

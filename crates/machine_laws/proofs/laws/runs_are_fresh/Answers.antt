@@ -1,3 +1,4 @@
+use Rattle.machine_laws.proofs.FirstRuns.{guests_first_fresh, runs_first_fresh}
 use Rattle.machine_laws.proofs.FreshRuns.{guests_cache_fresh, guests_use_fresh, runs_cache_fresh, runs_use_fresh}
 use Rattle.machine_laws.proofs.laws.runs_are_fresh.Goals as goal
 
@@ -12,3 +13,9 @@ returns-clause-guests_cached c = guests_cache_fresh
 
 pub returns-clause-guests_uses : goal.returns-clause-guests_uses
 returns-clause-guests_uses c = guests_use_fresh
+
+pub returns-clause-first : goal.returns-clause-first
+returns-clause-first c = runs_first_fresh
+
+pub returns-clause-guests_first : goal.returns-clause-guests_first
+returns-clause-guests_first c = guests_first_fresh

@@ -1,4 +1,4 @@
-use Rattle.machine_laws.proofs.ShortRuns.{fenced_faults, fenced_faults_freely, may_drop_stale, may_use_stale, stale_is_used}
+use Rattle.machine_laws.proofs.ShortRuns.{fenced_faults, fenced_faults_freely, fenced_first_faults, may_drop_stale, may_use_stale, other_fences_keep_first, stale_first_is_used, stale_is_used}
 use Rattle.machine_laws.proofs.laws.stale_until_the_fence.Goals as goal
 
 pub returns-clause-used : goal.returns-clause-used
@@ -15,3 +15,12 @@ returns-clause-may_drop c = may_drop_stale
 
 pub returns-clause-faults_freely : goal.returns-clause-faults_freely
 returns-clause-faults_freely c = fenced_faults_freely
+
+pub returns-clause-first_used : goal.returns-clause-first_used
+returns-clause-first_used c = stale_first_is_used
+
+pub returns-clause-first_kept : goal.returns-clause-first_kept
+returns-clause-first_kept c = other_fences_keep_first
+
+pub returns-clause-first_faults : goal.returns-clause-first_faults
+returns-clause-first_faults c = fenced_first_faults
