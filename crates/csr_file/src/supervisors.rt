@@ -51,8 +51,9 @@ fn epc_bits(value: u64) -> u64
     (value >> 2) * 4
 }
 
+/// satp or vsatp as a number (Privileged Architecture 20211203, 4.1.11).
 #[tactic(auto, unfolding(arch_defs::specs::CsrBits::satp_bits))]
-fn satp_bits(root: SupervisorRoot) -> u64
+pub fn satp_bits(root: SupervisorRoot) -> u64
     ensures { result ≡ satp_bits root }
 {
     match root {
@@ -65,9 +66,9 @@ fn satp_bits(root: SupervisorRoot) -> u64
     }
 }
 
-// The root after a write: of a MODE that names no table and is not 0 it stays.
+/// satp or vsatp after a write of this number: of a MODE that names no table and is not 0 it stays.
 #[tactic(auto, unfolding(arch_defs::specs::CsrBits::supervisor_root_of))]
-fn supervisor_root_of(kept: SupervisorRoot, value: u64) -> SupervisorRoot
+pub fn supervisor_root_of(kept: SupervisorRoot, value: u64) -> SupervisorRoot
     ensures { result ≡ supervisor_root_of kept value }
 {
     match SupervisorMode::of(value >> 60) {

@@ -1,9 +1,9 @@
--- What an HFENCE.GVMA names.
+-- What fences name.
 use Rattle.std.proofs.Common.{◌≡◌, ◌≢◌, ℕ, ◌/◌, ◌%◌, ◌^◌, ◌==◌, ◌⊎◌, inl, inr, true, false, Some, refl, ap, ◌∙◌, arith}
 use Rattle.std.proofs.lemmas.Bool.{cases_Bool, eqb-true}
 use Rattle.arch_defs.specs.Registers.{read}
 use Rattle.op_defs.specs.Meaning.{fence_operand, meaning}
-use Rattle.fence_handler.specs.Laws.{FenceNamesNoPage, FenceNamesNoVmid, FenceNamesPage, FenceNamesVmid, InstructionMakesFence}
+use Rattle.fence_handler.specs.Laws.{FenceNamesNoPage, FenceNamesNoVmid, FenceNamesPage, FenceNamesVmid, FirstFenceNamesAsid, FirstFenceNamesNoAsid, FirstFenceNamesNoPage, FirstFenceNamesPage, FirstInstructionsMakeFence, InstructionMakesFence}
 
 pub makes_fence : InstructionMakesFence
 unfolding meaning
@@ -30,3 +30,19 @@ names_page_of rs1 rs2 address regs some is = named rs1 (read regs rs1 / 2 ^ 10) 
 
 pub names_no_page : FenceNamesNoPage
 names_no_page rs2 regs = refl
+
+pub first_make_fence : FirstInstructionsMakeFence
+unfolding meaning
+first_make_fence rs1 rs2 regs = (refl, refl)
+
+pub names_asid_of : FirstFenceNamesAsid
+names_asid_of rs1 rs2 regs some = named rs2 (read regs rs2 % 2 ^ 16) some
+
+pub names_no_asid : FirstFenceNamesNoAsid
+names_no_asid rs1 regs = refl
+
+pub names_first_page_of : FirstFenceNamesPage
+names_first_page_of rs1 rs2 regs some = named rs1 (read regs rs1 / 2 ^ 12) some
+
+pub names_no_first_page : FirstFenceNamesNoPage
+names_no_first_page rs2 regs = refl

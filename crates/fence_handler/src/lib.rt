@@ -1,9 +1,9 @@
-// What an HFENCE.GVMA names.
+// What a fence names.
 #![tactic(auto)]
 
 mod laws;
 mod requests;
 
 pub use arch_defs::Fence;
-pub use laws::instruction_makes_fence;
+pub use laws::{first_instructions_make_fence, instruction_makes_fence};
 pub use requests::request;

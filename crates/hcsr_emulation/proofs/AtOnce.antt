@@ -65,4 +65,5 @@ ends_else emulated.Done state once done raises = done refl
 ends_else (emulated.Raise trap) state once done raises = raises trap refl
 ends_else emulated.Waits state once done raises = once
 ends_else (emulated.Fenced fence) state once done raises = once
+ends_else (emulated.FirstFenced named fence) state once done raises = once
 ends_else (emulated.Accesses wanted) state once done raises = once

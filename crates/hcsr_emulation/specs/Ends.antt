@@ -43,6 +43,7 @@ abbrev pub emulated_outcome : Emulated → Virtual → Outcome
 emulated_outcome emulated.Done state = outcome.Done state None System
 emulated_outcome emulated.Waits state = outcome.Waits state
 emulated_outcome (emulated.Fenced fence) state = outcome.Fenced state fence
+emulated_outcome (emulated.FirstFenced named fence) state = outcome.FirstFenced state named fence
 emulated_outcome (emulated.Accesses access) state = outcome.Accesses access
 emulated_outcome (emulated.Raise trap) state = outcome.Trapped trap
 
@@ -51,6 +52,7 @@ abbrev pub IfNotEmulated : Emulated → Type 0 → Type 0
 IfNotEmulated emulated.Done P = ⊤
 IfNotEmulated emulated.Waits P = ⊤
 IfNotEmulated (emulated.Fenced fence) P = ⊤
+IfNotEmulated (emulated.FirstFenced named fence) P = ⊤
 IfNotEmulated (emulated.Accesses access) P = P
 IfNotEmulated (emulated.Raise trap) P = P
 

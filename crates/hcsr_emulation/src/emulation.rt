@@ -7,7 +7,7 @@ ghost use Rattle.rv64_asm.specs.Fitting.{fits};
 ghost use Rattle.rv64_asm.specs.Words.{encoded};
 ghost use Rattle.hcsr_emulation.specs.Ends.{EndsSo, IfNotEmulated, is_decided, emulated_outcome};
 
-use arch_defs::{CsrEnd, Fence, Trap, Virtual};
+use arch_defs::{CsrEnd, Fence, Tag, Trap, Virtual};
 use op_defs::{DataAccess, Effect, Op, Privileged};
 use op_effects::effect_of;
 use privileged_ops::{Performed, perform, refusal_code};
@@ -22,6 +22,9 @@ pub enum Emulated {
     Waits,
     /// It was an HFENCE.GVMA, and was made but for the cached translations, of which it names these.
     Fenced(Fence),
+    /// It was an SFENCE.VMA, or an HFENCE.VVMA, which is for these accesses, and was made but for the
+    /// first-stage translations, of which it names these.
+    FirstFenced(Option<Tag>, Fence),
     /// It is an HLV, HLVX or HSV, and is allowed to make this access as VS or VU.
     Accesses(DataAccess),
     /// It trapped, and nothing has changed.
@@ -52,6 +55,7 @@ fn make(state: &mut Virtual, op: Op, effect: Privileged) -> Emulated
         Performed::Done => Emulated::Done,
         Performed::Waits => Emulated::Waits,
         Performed::Fenced(named) => Emulated::Fenced(named),
+        Performed::FirstFenced(tag, named) => Emulated::FirstFenced(tag, named),
         Performed::Accesses(wanted) => Emulated::Accesses(wanted),
         Performed::Refused(end) => Emulated::Raise(refused(state, op, end)),
     }

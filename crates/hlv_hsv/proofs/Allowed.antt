@@ -53,4 +53,5 @@ ends_else emulated.Done state once accesses raises = once
 ends_else (emulated.Raise trap) state once accesses raises = raises trap refl
 ends_else emulated.Waits state once accesses raises = once
 ends_else (emulated.Fenced fence) state once accesses raises = once
+ends_else (emulated.FirstFenced named fence) state once accesses raises = once
 ends_else (emulated.Accesses wanted) state once accesses raises = accesses wanted refl

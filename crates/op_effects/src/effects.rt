@@ -124,8 +124,8 @@ pub fn effect_of(op: &Op, regs: &Regs) -> Effect
             writes: writes(op, source),
             rd,
         }),
-        Op::SfenceVma { .. } => Effect::Privileged(Privileged::SfenceVma),
-        Op::HfenceVvma { .. } => Effect::Privileged(Privileged::HfenceVvma),
+        Op::SfenceVma { .. } => Effect::Privileged(Privileged::SfenceVma(request(*op, regs))),
+        Op::HfenceVvma { .. } => Effect::Privileged(Privileged::HfenceVvma(request(*op, regs))),
         Op::HfenceGvma { .. } => Effect::Privileged(Privileged::HfenceGvma(request(*op, regs))),
         Op::GuestLoad {
             width,

@@ -6,13 +6,14 @@ use Rattle.machine_defs.specs.Outcomes.{Outcome}
 use Rattle.machine_defs.specs.Outcomes as outcome
 use Rattle.machine_defs.specs.Privileges.{refused}
 use Rattle.privileged_ops.specs.declared.instructions.Performed.{Performed}
-use Rattle.privileged_ops.specs.declared.instructions.Performed.TheVariants.{Done, Waits, Fenced, Accesses, Refused}
+use Rattle.privileged_ops.specs.declared.instructions.Performed.TheVariants.{Done, Waits, Fenced, FirstFenced, Accesses, Refused}
 
 -- how the instruction of this word ended, by the answer and the state after it
 abbrev pub outcome_of : ℕ → Performed → Virtual → Outcome
 outcome_of word Done state = outcome.Done state None System
 outcome_of word Waits state = outcome.Waits state
 outcome_of word (Fenced fence) state = outcome.Fenced state fence
+outcome_of word (FirstFenced named fence) state = outcome.FirstFenced state named fence
 outcome_of word (Accesses access) state = outcome.Accesses access
 outcome_of word (Refused end) state = refused state word end
 
@@ -21,5 +22,6 @@ abbrev pub IfNotMade : Performed → Type 0 → Type 0
 IfNotMade Done P = ⊤
 IfNotMade Waits P = ⊤
 IfNotMade (Fenced fence) P = ⊤
+IfNotMade (FirstFenced named fence) P = ⊤
 IfNotMade (Accesses access) P = P
 IfNotMade (Refused end) P = P

@@ -8,7 +8,7 @@ ghost use Rattle.privileged_ops.specs.PrivilegedEnds.{outcome_of, IfNotMade};
 
 use crate::csrs::access;
 use crate::refusals::refusal;
-use arch_defs::{CsrEnd, Fence, Virtual};
+use arch_defs::{CsrEnd, Fence, Tag, Virtual};
 use op_defs::{DataAccess, Privileged};
 use trap_delegation::sret;
 
@@ -21,6 +21,9 @@ pub enum Performed {
     Waits,
     /// It was an HFENCE.GVMA, and was made but for the cached translations, of which it names these.
     Fenced(Fence),
+    /// It was an SFENCE.VMA, or an HFENCE.VVMA, which is for these accesses, and was made but for the
+    /// first-stage translations, of which it names these.
+    FirstFenced(Option<Tag>, Fence),
     /// It is an HLV, HLVX or HSV, and is allowed to make this access as VS or VU.
     Accesses(DataAccess),
     /// The mode does not allow it: an illegal instruction, or a virtual one.
@@ -39,8 +42,7 @@ pub fn perform(state: &mut Virtual, effect: Privileged) -> Performed
     }
 }
 
-// Makes what an instruction asks for that its mode allows. SFENCE.VMA and HFENCE.VVMA change nothing but pc,
-// since walks of the first stage read memory as it is.
+// Makes what an instruction asks for that its mode allows.
 fn perform_allowed(state: &mut Virtual, effect: Privileged) -> Performed
     requires { refusal effect state.old.csrs.hstatus state.old.mode ≡ None }
     ensures ends { (word : ℕ) → performed state.old word effect ≡ outcome_of word result state.new }
@@ -59,9 +61,13 @@ fn perform_allowed(state: &mut Virtual, effect: Privileged) -> Performed
             state.pass();
             Performed::Waits
         }
-        Privileged::SfenceVma | Privileged::HfenceVvma => {
+        Privileged::SfenceVma(named) => {
             state.pass();
-            Performed::Done
+            Performed::FirstFenced(None, named)
+        }
+        Privileged::HfenceVvma(named) => {
+            state.pass();
+            Performed::FirstFenced(Some(Tag::Nested(state.csrs.hgatp)), named)
         }
         Privileged::HfenceGvma(named) => {
             state.pass();

@@ -21,8 +21,8 @@ pub fn refusal(effect: &Privileged, hstatus: &HypervisorStatus, mode: Mode) -> O
         Privileged::Csr { .. } => None,
         Privileged::Sret => by_mode(mode, None, ILLEGAL, virtual_if(hstatus.vtsr), VIRTUAL),
         Privileged::Wfi => by_mode(mode, None, ILLEGAL, virtual_if(hstatus.vtw), VIRTUAL),
-        Privileged::SfenceVma => by_mode(mode, None, ILLEGAL, virtual_if(hstatus.vtvm), VIRTUAL),
-        Privileged::HfenceVvma => by_mode(mode, None, ILLEGAL, VIRTUAL, VIRTUAL),
+        Privileged::SfenceVma(_) => by_mode(mode, None, ILLEGAL, virtual_if(hstatus.vtvm), VIRTUAL),
+        Privileged::HfenceVvma(_) => by_mode(mode, None, ILLEGAL, VIRTUAL, VIRTUAL),
         Privileged::HfenceGvma(_) => by_mode(mode, None, ILLEGAL, VIRTUAL, VIRTUAL),
         Privileged::HlvAccess(_) => {
             by_mode(mode, None, illegal_unless(hstatus.hu), VIRTUAL, VIRTUAL)

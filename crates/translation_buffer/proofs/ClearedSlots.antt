@@ -6,7 +6,7 @@ use Rattle.std.proofs.lemmas.List.{get_or-set_same, get_or-set_other}
 use Rattle.arch_defs.specs.declared.modes.Access.{Access}
 use Rattle.frame_set.specs.declared.sets.FrameSet.{FrameSet}
 use Rattle.frame_set.specs.Holding.{has_among}
-use Rattle.translation_buffer.specs.declared.contexts.Context.{Context}
+use Rattle.translation_buffer.specs.Places.{Translator}
 use Rattle.translation_buffer.specs.declared.slots.Slot.{Slot}
 use Rattle.translation_buffer.specs.Serving.{SlotStands}
 use Rattle.translation_buffer.proofs.KeptSlots.{none_stands}
@@ -22,8 +22,8 @@ none_more slots at slot inside none before k other below = by (cases_eq k at)
     by (inl same) = ap (λ n. (get_or (set slots at slot) n other).tag) same ∙ ap (λ (s : Slot). s.tag) (get_or-set_same slots at slot other inside) ∙ none
     by (inr apart) = ap (λ (s : Slot). s.tag) (get_or-set_other slots at k slot other apart) ∙ before k other (omega (arith, below, apart))
 
-pub none_all : (slots : List Slot) (at : ℕ) → length slots ≤ at → NoneBefore at slots → (read : FrameSet) (memory : List ℕ) (context : Context) (kind : Access) → All (SlotStands read memory context kind) slots
-none_all slots at all before read memory context kind k d inside =
-    none_stands (has_among read (get_or slots k d).bits) memory context kind (get_or slots k d) (before k d (omega (arith, all, inside)))
+pub none_all : (slots : List Slot) (at : ℕ) → length slots ≤ at → NoneBefore at slots → (read : FrameSet) (memory : List ℕ) (under : Translator) (kind : Access) → All (SlotStands read memory under kind) slots
+none_all slots at all before read memory under kind k d inside =
+    none_stands (has_among read (get_or slots k d).bits) memory under kind (get_or slots k d) (before k d (omega (arith, all, inside)))
 
 pub ruleset clearing = (none_more, none_all)

@@ -1,7 +1,8 @@
--- Slots without those that have the bit of a frame.
-use Rattle.std.proofs.Common.{◌≡◌, ◌≢◌, ℕ, ◌-◌, ◌%◌, ◌^◌, ◌<◌, ◌∙◌, true, false, List, length, get_or, set, refl, ap, sym, subst, arith, ◌+◌, ◌⊎◌, inl, inr}
+-- Slots without those that have the bit of a frame, and without those of two pages.
+use Rattle.std.proofs.Common.{◌≡◌, ◌≢◌, ℕ, ◌-◌, ◌*◌, ◌/◌, ◌%◌, ◌^◌, ◌<◌, ◌∙◌, ◌==◌, Bool, true, false, List, Option, length, get_or, set, refl, ap, sym, subst, arith, ◌+◌, ◌⊎◌, inl, inr}
+use Rattle.std.specs.Prelude.{◌||◌}
 use Rattle.std.specs.List.{All}
-use Rattle.std.proofs.lemmas.Bool.{and_from, and_parts, both_ways, cases_eq}
+use Rattle.std.proofs.lemmas.Bool.{and_from, and_parts, both_ways, cases_eq, eq-eqb}
 use Rattle.std.proofs.lemmas.List.{get_or-set_same, get_or-set_other, get_or_default}
 use Rattle.std.proofs.lemmas.List.Elements.{All-set}
 use Rattle.std.proofs.lemmas.Nat.Bits.{bit_at-zero}
@@ -11,20 +12,20 @@ use Rattle.arch_defs.specs.Bits.{bit}
 use Rattle.arch_defs.specs.Frames.{Within}
 use Rattle.frame_set.specs.declared.sets.FrameSet.{FrameSet}
 use Rattle.frame_set.specs.Holding.{has_among, has_frame}
-use Rattle.translation_buffer.specs.declared.contexts.Context.{Context}
+use Rattle.translation_buffer.specs.Places.{Translator}
 use Rattle.translation_buffer.specs.declared.slots.Slot.{Slot}
 use Rattle.translation_buffer.specs.declared.slots.Slots.{Slots}
-use Rattle.translation_buffer.specs.Serving.{AllLackBit, AllStand, LacksBit, SlotStands, slots_of}
-use Rattle.translation_buffer.proofs.KeptSlots.{none_stands, stands_more}
+use Rattle.translation_buffer.specs.Serving.{AllLackBit, AllLackPages, AllStand, LacksBit, LacksPages, SlotStands, bit_of, is_page, slots_of}
+use Rattle.translation_buffer.proofs.KeptSlots.{none_stands, stands_more, tag_small}
 
 -- a slot in the place of another
 pub none_lacks : (frame : ℕ) (slot : Slot) → slot.bits ≡ 0 → LacksBit frame slot
 none_lacks frame slot none = rw (none, bit_at-zero (frame % 64)) refl
 
-pub drop_stands : (slots : List Slot) (at : ℕ) (none : Slot) → none.tag ≡ 2 ^ 64 - 1 → (read : FrameSet) (memory : List ℕ) (context : Context) (kind : Access)
-    → All (SlotStands read memory context kind) slots → All (SlotStands read memory context kind) (set slots at none)
-drop_stands slots at none is read memory context kind all =
-    All-set (SlotStands read memory context kind) slots at none (none_stands (has_among read none.bits) memory context kind none is) all
+pub drop_stands : (slots : List Slot) (at : ℕ) (none : Slot) → none.tag ≡ 2 ^ 64 - 1 → (read : FrameSet) (memory : List ℕ) (under : Translator) (kind : Access)
+    → All (SlotStands read memory under kind) slots → All (SlotStands read memory under kind) (set slots at none)
+drop_stands slots at none is read memory under kind all =
+    All-set (SlotStands read memory under kind) slots at none (none_stands (has_among read none.bits) memory under kind none is) all
 
 pub drop_lacks : (slots : List Slot) (at frame : ℕ) (none : Slot) → at < length slots → none.bits ≡ 0 → (other : Slot) → LacksBit frame (get_or (set slots at none) at other)
 drop_lacks slots at frame none inside is other = rw (get_or-set_same slots at none other inside) (none_lacks frame none is)
@@ -37,23 +38,54 @@ lacks_kept slots at frame slot other inside lacks = subst (LacksBit frame) (get_
 
 pub ruleset dropping = (drop_stands, drop_lacks, drop_others)
 
+-- slots of no address of two pages
+pub none_of_pages : (page : ℕ) (other : Option ℕ) (slot : Slot) → slot.tag ≡ 2 ^ 64 - 1 → LacksPages page other slot
+none_of_pages page other slot none who va small tag = absurd (let less = tag_small who va small in omega (arith, none, tag, less))
+
+pub pages_dropped : (slots : List Slot) (at page : ℕ) (other : Option ℕ) (none : Slot) → at < length slots → none.tag ≡ 2 ^ 64 - 1 → (d : Slot) → LacksPages page other (get_or (set slots at none) at d)
+pages_dropped slots at page other none inside is d = rw (get_or-set_same slots at none d inside) (none_of_pages page other none is)
+
+own_page : (n va : ℕ) → va < 2 ^ 64 → (4503599627370496 * n + va / 4096) % 4503599627370496 ≡ va / 4096
+own_page n va small = omega (arith, small)
+
+or_parts : (a b : Bool) → (a || b) ≡ false → (a ≡ false) × (b ≡ false)
+or_parts true b is = absurd cc
+or_parts false b is = (refl, is)
+
+pub off_pages : (page : ℕ) (other : Option ℕ) (slot : Slot) → (slot.tag % 2 ^ 52 == page || is_page other (slot.tag % 2 ^ 52)) ≡ false → LacksPages page other slot
+off_pages page other slot off who va small tag =
+    let own : slot.tag % 2 ^ 52 ≡ va / 4096 = ap (λ n. n % 2 ^ 52) tag ∙ own_page (bit_of who.user + 2 * bit_of who.sum + 4 * bit_of who.mxr) va small in
+    let parts = or_parts (slot.tag % 2 ^ 52 == page) (is_page other (slot.tag % 2 ^ 52)) off in
+    ((λ same. both_ways (slot.tag % 2 ^ 52 == page) parts.0 (eq-eqb (slot.tag % 2 ^ 52) page (own ∙ same))), ap (is_page other) (sym own) ∙ parts.1)
+
+pub pages_kept : (slots : List Slot) (at page : ℕ) (other : Option ℕ) (slot d : Slot) → at < length slots
+    → ((get_or slots at slot).tag % 2 ^ 52 == page || is_page other ((get_or slots at slot).tag % 2 ^ 52)) ≡ false → LacksPages page other (get_or slots at d)
+pages_kept slots at page other slot d inside off = subst (LacksPages page other) (get_or_default slots at slot d inside) (off_pages page other (get_or slots at slot) off)
+
 -- one after another
-pub lack_more : (old new : List Slot) (at frame : ℕ) → ((other : Slot) → LacksBit frame (get_or new at other))
+pub each_more : (P : Slot → Type 0) (old new : List Slot) (at : ℕ) → ((other : Slot) → P (get_or new at other))
     → ((place : ℕ) (other : Slot) → place ≢ at → get_or new place other ≡ get_or old place other)
-    → ((k : ℕ) (other : Slot) → k < at → LacksBit frame (get_or old k other)) → (k : ℕ) (other : Slot) → k < at + 1 → LacksBit frame (get_or new k other)
-lack_more old new at frame here others before k other below = by (cases_eq k at)
+    → ((k : ℕ) (other : Slot) → k < at → P (get_or old k other)) → (k : ℕ) (other : Slot) → k < at + 1 → P (get_or new k other)
+each_more P old new at here others before k other below = by (cases_eq k at)
   where
-    by : (k ≡ at) ⊎ (k ≢ at) → LacksBit frame (get_or new k other)
-    by (inl same) = subst (λ n. LacksBit frame (get_or new n other)) (sym same) (here other)
-    by (inr apart) = subst (LacksBit frame) (sym (others k other apart)) (before k other (omega (arith, below, apart)))
+    by : (k ≡ at) ⊎ (k ≢ at) → P (get_or new k other)
+    by (inl same) = subst (λ n. P (get_or new n other)) (sym same) (here other)
+    by (inr apart) = subst P (sym (others k other apart)) (before k other (omega (arith, below, apart)))
 
 -- those of all kinds
+each_kind : (P : Slot → Type 0) (slots : Slots) → All P slots.fetches → All P slots.loads → All P slots.stores → (kind : Access) → All P (slots_of slots kind)
+each_kind P slots fetches loads stores Fetch = fetches
+each_kind P slots fetches loads stores Load = loads
+each_kind P slots fetches loads stores Store = stores
+each_kind P slots fetches loads stores ExecLoad = λ k d inside. absurd (omega (arith, inside))
+each_kind P slots fetches loads stores Implicit = λ k d inside. absurd (omega (arith, inside))
+
 pub all_kinds : (frame : ℕ) (slots : Slots) → All (LacksBit frame) slots.fetches → All (LacksBit frame) slots.loads → All (LacksBit frame) slots.stores → AllLackBit frame slots
-all_kinds frame slots fetches loads stores Fetch = fetches
-all_kinds frame slots fetches loads stores Load = loads
-all_kinds frame slots fetches loads stores Store = stores
-all_kinds frame slots fetches loads stores ExecLoad = λ k d inside. absurd (omega (arith, inside))
-all_kinds frame slots fetches loads stores Implicit = λ k d inside. absurd (omega (arith, inside))
+all_kinds frame slots fetches loads stores = each_kind (LacksBit frame) slots fetches loads stores
+
+pub all_kinds_of_pages : (page : ℕ) (other : Option ℕ) (slots : Slots) → All (LacksPages page other) slots.fetches → All (LacksPages page other) slots.loads → All (LacksPages page other) slots.stores
+    → AllLackPages page other slots
+all_kinds_of_pages page other slots fetches loads stores = each_kind (LacksPages page other) slots fetches loads stores
 
 -- slots that lack the bit of a frame stand by a set without the frames of this bit
 apart_by_bit : (bits frame other : ℕ) → bit (frame % 64) bits ≡ false → bit (other % 64) bits ≡ true → other % 64 ≢ frame % 64
@@ -66,9 +98,9 @@ others_among old new bits frame lacks others other named =
     let parts = and_parts (has_frame old other) (bit (other % 64) bits) named in
     and_from _ _ (others other (apart_by_bit bits frame other lacks parts.1) ∙ parts.0) parts.1
 
-pub all_without : (old new : FrameSet) (frame : ℕ) (memory : List ℕ) (context : Context) (slots : Slots)
+pub all_without : (old new : FrameSet) (frame : ℕ) (memory : List ℕ) (under : Translator) (slots : Slots)
     → ((other : ℕ) → other % 64 ≢ frame % 64 → has_frame new other ≡ has_frame old other) → AllLackBit frame slots
-    → AllStand old memory context slots → AllStand new memory context slots
-all_without old new frame memory context slots others lack all kind k d inside =
+    → AllStand old memory under slots → AllStand new memory under slots
+all_without old new frame memory under slots others lack all kind k d inside =
     let slot = get_or (slots_of slots kind) k d in
-    stands_more (has_among old slot.bits) (has_among new slot.bits) memory context kind slot (others_among old new slot.bits frame (lack kind k d inside) others) (all kind k d inside)
+    stands_more (has_among old slot.bits) (has_among new slot.bits) memory under kind slot (others_among old new slot.bits frame (lack kind k d inside) others) (all kind k d inside)

@@ -1,34 +1,34 @@
 -- A place stays while the frames are the same that were read for it.
-use Rattle.std.proofs.Common.{cond, ◌≡◌, ℕ, zero, suc, ◌+◌, ◌-◌, ◌*◌, ◌/◌, ◌%◌, ◌^◌, ◌<◌, ◌≤◌, ◌∙◌, Bool, true, false, List, [], Option, Some, None, Ok, refl, ap, sym, arith}
-use Rattle.std.specs.Prelude.{length}
+use Rattle.std.proofs.Common.{cond, ◌≡◌, ℕ, zero, suc, ◌+◌, ◌-◌, ◌*◌, ◌/◌, ◌%◌, ◌<◌, ◌≤◌, ◌∙◌, Bool, true, false, List, [], Option, Some, None, refl, ap, sym, arith}
+use Rattle.std.specs.Prelude.{find, length}
+use Rattle.arch_defs.specs.declared.first.FirstEntry.{FirstEntry}
+use Rattle.arch_defs.specs.declared.first.Tag.{Tag}
 use Rattle.arch_defs.specs.declared.modes.Access.{Access}
-use Rattle.arch_defs.specs.declared.modes.Access.TheVariants.{Implicit}
 use Rattle.arch_defs.specs.declared.roots.GuestRoot.{GuestRoot}
 use Rattle.arch_defs.specs.declared.roots.GuestRoot.TheVariants as guest
 use Rattle.arch_defs.specs.declared.roots.SupervisorRoot.{SupervisorRoot}
 use Rattle.arch_defs.specs.declared.roots.SupervisorRoot.TheVariants as supervisor
-use Rattle.arch_defs.specs.declared.walks.Found.{Found}
-use Rattle.arch_defs.specs.declared.walks.Found.TheVariants.{Passes, PageFaults, MissesEntry}
 use Rattle.arch_defs.specs.declared.walks.Next.{Next}
 use Rattle.arch_defs.specs.declared.walks.Next.TheVariants.{Ends, Below}
 use Rattle.arch_defs.specs.declared.walks.Privilege.{Privilege}
 use Rattle.arch_defs.specs.declared.walks.Shape.{Shape}
 use Rattle.arch_defs.specs.declared.walks.WalkEnd.{WalkEnd}
 use Rattle.arch_defs.specs.declared.walks.WalkEnd.TheVariants.{Leaf, PageFault, FetchEnd}
+use Rattle.arch_defs.specs.FirstEntries.{first_leaf, is_first_of, known_by, known_under}
 use Rattle.arch_defs.specs.Frames.{Frames, Same}
-use Rattle.arch_defs.specs.Memory.{load, machine_memory, reading_of}
-use Rattle.arch_defs.specs.Roots.{guest_shape, supervisor_shape}
+use Rattle.arch_defs.specs.Memory.{load, machine_memory}
+use Rattle.arch_defs.specs.Permits.{permits_first}
+use Rattle.arch_defs.specs.Roots.{guest_shape}
 use Rattle.arch_defs.specs.SecondStage.{guest_root_frame, memory_words, place_under, second_end, second_under, second_walk, walked}
-use Rattle.arch_defs.specs.Translation.{entry_word_at, entry_words_through, found_by, found_under}
-use Rattle.arch_defs.specs.Walk.{EntryReading, index, is_canonical, later, levels, met_in, next_of, path, path_from, place_of, walk}
+use Rattle.arch_defs.specs.Walk.{EntryReading, index, is_canonical, later, leaf_address, levels, met_in, next_of, path, path_from, place_of, walk}
 use Rattle.arch_defs.proofs.FrameSets.{load_kept}
 use Rattle.stage_walk.specs.Laws.{SameOn}
 use Rattle.stage_walk.specs.Reads.{Each, LiesIn}
 use Rattle.stage_walk.proofs.Chains.{walks_alike}
-use Rattle.two_stage_walk.specs.Reads.{EntryReads, FirstReads, SecondReads, placed_by}
+use Rattle.two_stage_walk.specs.Reads.{SecondReads}
 use Rattle.translation_buffer.specs.Laws.{TranslationsStay}
-use Rattle.translation_buffer.specs.Places.{found_in, translated_place, second_in}
-use Rattle.translation_buffer.proofs.OnePage.{found_near, second_near}
+use Rattle.translation_buffer.specs.Places.{passed, passed_by, placed_at, second_in, translated_place}
+use Rattle.translation_buffer.proofs.OnePage.{same_some, second_near}
 
 -- readings that agree where something holds of a multiple of 8 agree on entries of which it holds
 eighth : (table part : ℕ) → (4096 * table + 8 * part) % 8 ≡ 0
@@ -104,51 +104,51 @@ pub second_keeps : (memory : List ℕ) (mxr : Bool) (root : GuestRoot) (address 
     → second_under (machine_memory memory) mxr root address kind ≡ Some place → place % 4096 ≡ address % 4096
 second_keeps memory mxr root address place kind size is = offset_near address place (sym (second_near memory mxr root address address place kind size refl is) ∙ is)
 
--- the entries of the first stage
-aligned_place : (at place : ℕ) → at % 8 ≡ 0 → place % 4096 ≡ at % 4096 → place % 8 ≡ 0
-aligned_place at place aligned same = omega (arith, aligned, same)
+-- the address that is passed on for another one of the page
+bare_passed : (near va : ℕ) → near / 4096 ≡ va / 4096 → near ≡ 4096 * (va / 4096) + near % 4096
+bare_passed near va one = omega (arith, one)
 
-entry_kept : (frames : Frames) (memory other : List ℕ) (mxr : Bool) (root : GuestRoot) (at : ℕ) → length memory % 4096 ≡ 0 → Same frames memory other → at % 8 ≡ 0 → EntryReads (machine_memory memory) mxr root frames at
-    → entry_words_through (second_under (machine_memory other) mxr root) (reading_of (machine_memory other)) at ≡ entry_words_through (second_under (machine_memory memory) mxr root) (reading_of (machine_memory memory)) at
-entry_kept frames memory other mxr root at size same aligned reads =
-    ap (entry_word_at (reading_of (machine_memory other)) at) (second_kept frames memory other mxr root at Implicit same reads.second)
-    ∙ by (second_under (machine_memory memory) mxr root at Implicit) refl
+own_page : (frame va near : ℕ) → 4096 * frame + near % 4096 ≡ 4096 * ((4096 * frame + va % 4096) / 4096) + near % 4096
+own_page frame va near = omega arith
+
+known_near : (who : Privilege) (va near address : ℕ) (access : Access) (e : Option FirstEntry) → known_by who va access e ≡ Some address
+    → known_by who near access e ≡ Some (4096 * (address / 4096) + near % 4096)
+known_near who va near address access None is = absurd cc
+known_near who va near address access (Some e) is = by (permits_first who access (first_leaf e)) is
   where
-    by : (place : Option ℕ) → second_under (machine_memory memory) mxr root at Implicit ≡ place → entry_word_at (reading_of (machine_memory other)) at place ≡ entry_word_at (reading_of (machine_memory memory)) at place
-    by (Some place) is = rw (no_base place)
-        (ap Ok (number_kept frames memory other place same (aligned_place at place aligned (second_keeps memory mxr root at place Implicit size is)) (reads.own place is)))
-    by None is = refl
+    by : (fit : Bool) → cond fit (Some (leaf_address (first_leaf e) va)) None ≡ Some address
+        → cond fit (Some (leaf_address (first_leaf e) near)) None ≡ Some (4096 * (address / 4096) + near % 4096)
+    by true is = ap Some (own_page e.frame va near ∙ ap (λ n. 4096 * (n / 4096) + near % 4096) (same_some (leaf_address (first_leaf e) va) address is))
+    by false is = absurd cc
 
-first_kept : (frames : Frames) (memory other : List ℕ) (mxr : Bool) (second : GuestRoot) (who : Privilege) (va : ℕ) (access : Access) (root : SupervisorRoot) → length memory % 4096 ≡ 0 → Same frames memory other
-    → FirstReads frames (machine_memory memory) mxr second va access root
-    → found_under (second_under (machine_memory other) mxr second) (reading_of (machine_memory other)) who va access root ≡ found_under (second_under (machine_memory memory) mxr second) (reading_of (machine_memory memory)) who va access root
-first_kept frames memory other mxr second who va access supervisor.Bare size same reads = refl
-first_kept frames memory other mxr second who va access (supervisor.Table mode asid ppn) size same reads =
-    ap (found_by who access va) (walk_kept (EntryReads (machine_memory memory) mxr second frames) (entry_words_through (second_under (machine_memory memory) mxr second) (reading_of (machine_memory memory)))
-    (entry_words_through (second_under (machine_memory other) mxr second) (reading_of (machine_memory other)))
-    (λ at aligned entry. entry_kept frames memory other mxr second at size same aligned entry) (ppn % 2 ^ 44) (supervisor_shape mode) va access reads)
+pub passed_near : (first : List FirstEntry) (owner : Tag) (who : Privilege) (va near address : ℕ) (access : Access) (atp : SupervisorRoot) → near / 4096 ≡ va / 4096
+    → passed_by first owner who atp va access ≡ Some address → passed_by first owner who atp near access ≡ Some (4096 * (address / 4096) + near % 4096)
+unfolding known_under
+passed_near first owner who va near address access supervisor.Bare one is =
+    ap Some (bare_passed near va one ∙ ap (λ n. 4096 * (n / 4096) + near % 4096) (same_some va address is))
+passed_near first owner who va near address access (supervisor.Table mode asid ppn) one is =
+    rw one (known_near who va near address access (find (is_first_of owner (supervisor.Table mode asid ppn) (va / 4096)) first) is)
 
--- the law: first in the other memory, and then at the other address
-same_offset : (near address place : ℕ) → (4096 * (address / 4096) + near % 4096) / 4096 ≡ address / 4096
-same_offset near address place = omega arith
+pub none_passed : {P : Type 0} (address : ℕ) → None ≡ Some address → P
+none_passed address is = absurd cc
+
+-- the law: first at the other address, and then in the other memory
+same_offset : (near address : ℕ) → (4096 * (address / 4096) + near % 4096) / 4096 ≡ address / 4096
+same_offset near address = omega arith
 
 own_offset : (near address place : ℕ) → 4096 * (place / 4096) + (4096 * (address / 4096) + near % 4096) % 4096 ≡ 4096 * (place / 4096) + near % 4096
 own_offset near address place = omega arith
 
 pub translations_stay : TranslationsStay
-translations_stay frames context who memory other va near place access size reads is same one =
-    by (found_in context who memory va access) refl is
+translations_stay frames under who memory other va near place access size reads is same one =
+    by (passed under who va access) refl is
   where
-    kept : found_in context who other va access ≡ found_in context who memory va access
-    kept = first_kept frames memory other context.mxr context.second who va access context.first size same reads.first
-
-    by : (found : Found) → found_in context who memory va access ≡ found → placed_by (second_in context memory) access found ≡ Some place
-        → translated_place context who other near access ≡ Some (4096 * (place / 4096) + near % 4096)
-    by (Passes address) at placed =
+    by : (found : Option ℕ) → passed under who va access ≡ found → placed_at (second_in under.context memory) access found ≡ Some place
+        → translated_place under who other near access ≡ Some (4096 * (place / 4096) + near % 4096)
+    by (Some address) at placed =
         let whole : length other % 4096 ≡ 0 = rw same.size size in
-        let then' : second_in context other address access ≡ Some place = second_kept frames memory other context.mxr context.second address access same (reads.last address at) ∙ placed in
-        ap (placed_by (second_in context other) access) (found_near (second_in context other) (reading_of (machine_memory other)) who near va address access context.first one (kept ∙ at))
-        ∙ second_near other context.mxr context.second (4096 * (address / 4096) + near % 4096) address place access whole (same_offset near address place) then'
+        let then' : second_in under.context other address access ≡ Some place = second_kept frames memory other under.context.mxr under.context.second address access same (reads address at) ∙ placed in
+        ap (placed_at (second_in under.context other) access) (passed_near under.first under.owner who va near address access under.context.first one at)
+        ∙ second_near other under.context.mxr under.context.second (4096 * (address / 4096) + near % 4096) address place access whole (same_offset near address) then'
         ∙ ap Some (own_offset near address place)
-    by PageFaults at placed = absurd cc
-    by (MissesEntry entry) at placed = absurd cc
+    by None at placed = absurd cc

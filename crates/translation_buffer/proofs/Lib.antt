@@ -1,8 +1,10 @@
-pub mod Answered
 pub mod ClearedSlots
 pub mod DroppedSlots
+pub mod FilledPages
+pub mod Hits
 pub mod KeptPlaces
 pub mod KeptSlots
 pub mod OnePage
+pub mod PlacesInside
 pub mod SameContexts
 pub mod Stored

@@ -7,24 +7,19 @@ use Rattle.std.proofs.Math.Nat.{div-div-eq-div-mul}
 use Rattle.arch_defs.specs.declared.modes.Access.{Access}
 use Rattle.arch_defs.specs.declared.roots.GuestRoot.{GuestRoot}
 use Rattle.arch_defs.specs.declared.roots.GuestRoot.TheVariants as guest
-use Rattle.arch_defs.specs.declared.roots.SupervisorRoot.{SupervisorRoot}
-use Rattle.arch_defs.specs.declared.roots.SupervisorRoot.TheVariants as supervisor
 use Rattle.arch_defs.specs.declared.second_walks.SecondWalkEnd.TheVariants.{GuestPageFault, AccessFault}
 use Rattle.arch_defs.specs.declared.second_walks.SecondWalkEnd.TheVariants as walk_end
-use Rattle.arch_defs.specs.declared.walks.Found.TheVariants.{Passes, PageFaults}
 use Rattle.arch_defs.specs.declared.walks.LeafPte.{LeafPte}
 use Rattle.arch_defs.specs.declared.walks.Next.{Next}
 use Rattle.arch_defs.specs.declared.walks.Next.TheVariants.{Ends, Below}
-use Rattle.arch_defs.specs.declared.walks.Privilege.{Privilege}
 use Rattle.arch_defs.specs.declared.walks.Shape.{Shape}
 use Rattle.arch_defs.specs.declared.walks.WalkEnd.{WalkEnd}
 use Rattle.arch_defs.specs.declared.walks.WalkEnd.TheVariants.{Leaf, PageFault, FetchEnd}
 use Rattle.arch_defs.specs.Devices.{is_on_device}
-use Rattle.arch_defs.specs.Memory.{Reading, SecondStage, bare, machine_memory}
-use Rattle.arch_defs.specs.Permits.{permits_first, permits_second}
-use Rattle.arch_defs.specs.Roots.{guest_shape, supervisor_shape}
+use Rattle.arch_defs.specs.Memory.{bare, machine_memory}
+use Rattle.arch_defs.specs.Permits.{permits_second}
+use Rattle.arch_defs.specs.Roots.{guest_shape}
 use Rattle.arch_defs.specs.SecondStage.{guest_root_frame, has_frame_of, memory_words, place_under, second_end, second_under, second_walk, walked}
-use Rattle.arch_defs.specs.Translation.{entry_words_through, found_by, found_under}
 use Rattle.arch_defs.specs.Walk.{EntryReading, end_of, index, index_bits, is_canonical, later, leaf_address, levels, met_in, next_of, path, path_from, walk}
 use Rattle.arch_defs.proofs.Shapes.{canonical_same}
 
@@ -47,7 +42,7 @@ paths_same reading shape kind a b same (suc level) table = rw (index_same shape 
     by (Ends end) deeper = refl
     by (Below t) deeper = deeper t
 
-pub walks_same : (reading : EntryReading) (shape : Shape) (root : ℕ) (kind : Access) (a b : ℕ) → a / 4096 ≡ b / 4096 → walk reading root shape a kind ≡ walk reading root shape b kind
+walks_same : (reading : EntryReading) (shape : Shape) (root : ℕ) (kind : Access) (a b : ℕ) → a / 4096 ≡ b / 4096 → walk reading root shape a kind ≡ walk reading root shape b kind
 unfolding walk path
 walks_same reading shape root kind a b same = rw (canonical_same shape a b same) (by (is_canonical shape b))
   where
@@ -72,7 +67,7 @@ frame_same : (leaf : LeafPte) (a b : ℕ) → a / 4096 ≡ b / 4096 → leaf_add
 frame_same leaf a b same = frame_under leaf a ∙ ap (λ n. leaf.frame + n % 2 ^ (9 * leaf.level)) same ∙ sym (frame_under leaf b)
 
 -- and each keeps its offset
-pub offset_under : (leaf : LeafPte) (n : ℕ) → leaf_address leaf n % 4096 ≡ n % 4096
+offset_under : (leaf : LeafPte) (n : ℕ) → leaf_address leaf n % 4096 ≡ n % 4096
 offset_under leaf n = rw (turned leaf.level) (remainder leaf.frame (n / 4096 % 2 ^ (9 * leaf.level)) n (n % 2 ^ (9 * leaf.level + 12)) (mod-pow-add n (9 * leaf.level) 12))
 
 whole : (n q r : ℕ) → n / 4096 ≡ q → n % 4096 ≡ r → n ≡ 4096 * q + r
@@ -81,33 +76,11 @@ whole n q r quot rest = omega (arith, quot, rest)
 under_near : (leaf : LeafPte) (a b : ℕ) → a / 4096 ≡ b / 4096 → leaf_address leaf a ≡ 4096 * (leaf_address leaf b / 4096) + a % 4096
 under_near leaf a b same = whole (leaf_address leaf a) (leaf_address leaf b / 4096) (a % 4096) (frame_same leaf a b same) (offset_under leaf a)
 
--- the first stage
-pub same_passes : (a b : ℕ) → Passes a ≡ Passes b → a ≡ b
-same_passes a b same = cc
-
 pub same_some : (a b : ℕ) → Some a ≡ Some b → a ≡ b
 same_some a b same = cc
 
-found_by_near : (who : Privilege) (access : Access) (near va address : ℕ) (end : WalkEnd) → near / 4096 ≡ va / 4096 → found_by who access va end ≡ Passes address
-    → found_by who access near end ≡ Passes (4096 * (address / 4096) + near % 4096)
-found_by_near who access near va address (Leaf leaf) same is = by (permits_first who access leaf) is
-  where
-    by : (fit : Bool) → cond fit (Passes (leaf_address leaf va)) PageFaults ≡ Passes address
-        → cond fit (Passes (leaf_address leaf near)) PageFaults ≡ Passes (4096 * (address / 4096) + near % 4096)
-    by true passes = ap Passes (under_near leaf near va same ∙ ap (λ n. 4096 * (n / 4096) + near % 4096) (same_passes (leaf_address leaf va) address passes))
-    by false passes = absurd cc
-found_by_near who access near va address PageFault same is = absurd cc
-found_by_near who access near va address (FetchEnd place trap) same is = absurd cc
-
 bare_near : (near va address : ℕ) → near / 4096 ≡ va / 4096 → va ≡ address → near ≡ 4096 * (address / 4096) + near % 4096
 bare_near near va address same is = omega (arith, same, is)
-
-pub found_near : (second : SecondStage) (reading : Reading) (who : Privilege) (near va address : ℕ) (access : Access) (root : SupervisorRoot) → near / 4096 ≡ va / 4096
-    → found_under second reading who va access root ≡ Passes address → found_under second reading who near access root ≡ Passes (4096 * (address / 4096) + near % 4096)
-found_near second reading who near va address access supervisor.Bare same is = ap Passes (bare_near near va address same (same_passes va address is))
-found_near second reading who near va address access (supervisor.Table mode asid ppn) same is =
-    rw (walks_same (entry_words_through second reading) (supervisor_shape mode) (ppn % 2 ^ 44) access near va same)
-    (found_by_near who access near va address (walk (entry_words_through second reading) (ppn % 2 ^ 44) (supervisor_shape mode) va access) same is)
 
 -- the second stage
 end_near : (memory : List ℕ) (mxr : Bool) (kind : Access) (near address place : ℕ) (end : WalkEnd) → near / 4096 ≡ address / 4096

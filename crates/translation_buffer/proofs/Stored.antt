@@ -3,6 +3,8 @@ use Rattle.std.proofs.Common.{◌≡◌, ℕ, ◌+◌, ◌-◌, ◌/◌, ◌%◌
 use Rattle.std.proofs.lemmas.Bool.{both_ways, cases_Bool, eq-eqb, eqb-true}
 use Rattle.byteorder.specs.Endian.{little_bytes}
 use Rattle.byteorder.specs.Numbers.{length-bytes_low_first}
+use Rattle.arch_defs.specs.declared.first.FirstEntry.{FirstEntry}
+use Rattle.arch_defs.specs.declared.first.Tag.{Tag}
 use Rattle.arch_defs.specs.declared.modes.Mode.{Mode}
 use Rattle.arch_defs.specs.declared.registers.Csrs.{Csrs}
 use Rattle.arch_defs.specs.declared.registers.Virtual.{Virtual}
@@ -17,16 +19,17 @@ use Rattle.op_defs.specs.declared.ops.Purpose.TheVariants.{Load, LoadCode, Store
 use Rattle.machine_defs.specs.Core.{completed, is_reserved, stored_if, storing}
 use Rattle.frame_set.specs.Holding.{has_frame}
 use Rattle.translation_buffer.specs.declared.buffers.Buffer.{Buffer}
+use Rattle.translation_buffer.specs.Places.{translator}
 use Rattle.translation_buffer.specs.Serving.{Serves}
 use Rattle.translation_buffer.proofs.KeptSlots.{all_same}
 
 -- where only other frames changed
-pub serves_only : (buffer : Buffer) (csrs : Csrs) (mode : Mode) (memory other : List ℕ) (changed : Frames) → Serves buffer csrs mode memory
-    → Apart (has_frame buffer.read) changed → Only changed memory other → Serves buffer csrs mode other
-serves_only buffer csrs mode memory other changed serves apart only = record {
+pub serves_only : (buffer : Buffer) (first : List FirstEntry) (owner : Tag) (csrs : Csrs) (mode : Mode) (memory other : List ℕ) (changed : Frames) → Serves buffer first owner csrs mode memory
+    → Apart (has_frame buffer.read) changed → Only changed memory other → Serves buffer first owner csrs mode other
+serves_only buffer first owner csrs mode memory other changed serves apart only = record {
   context = serves.context;
   who = serves.who;
-  slots = all_same buffer.read memory other buffer.context buffer.slots (kept (has_frame buffer.read) changed memory other apart only) serves.slots;
+  slots = all_same buffer.read memory other (translator first owner buffer.context) buffer.slots (kept (has_frame buffer.read) changed memory other apart only) serves.slots;
 }
 
 -- one frame
@@ -40,10 +43,10 @@ one_apart held frame free f named = by (cases_Bool (f == frame))
 in_frame : (place n at : ℕ) → place % 4096 + n ≤ 4096 → place ≤ at → at < place + n → at / 4096 ≡ place / 4096
 in_frame place n at one from to = omega (arith, one, from, to)
 
-pub serves_pasted : (buffer : Buffer) (csrs : Csrs) (mode : Mode) (memory : List ℕ) (place : ℕ) (piece : List ℕ) → Serves buffer csrs mode memory
-    → has_frame buffer.read (place / 4096) ≡ false → place % 4096 + length piece ≤ 4096 → place + length piece ≤ length memory → Serves buffer csrs mode (pasted memory place piece)
-serves_pasted buffer csrs mode memory place piece serves free one inside =
-    serves_only buffer csrs mode memory (pasted memory place piece) (λ f. f == place / 4096) serves (one_apart (has_frame buffer.read) (place / 4096) free)
+pub serves_pasted : (buffer : Buffer) (first : List FirstEntry) (owner : Tag) (csrs : Csrs) (mode : Mode) (memory : List ℕ) (place : ℕ) (piece : List ℕ) → Serves buffer first owner csrs mode memory
+    → has_frame buffer.read (place / 4096) ≡ false → place % 4096 + length piece ≤ 4096 → place + length piece ≤ length memory → Serves buffer first owner csrs mode (pasted memory place piece)
+serves_pasted buffer first owner csrs mode memory place piece serves free one inside =
+    serves_only buffer first owner csrs mode memory (pasted memory place piece) (λ f. f == place / 4096) serves (one_apart (has_frame buffer.read) (place / 4096) free)
     (only_pasted (λ f. f == place / 4096) memory place piece inside (λ at from to. eq-eqb (at / 4096) (place / 4096) (in_frame place (length piece) at one from to)))
 
 -- the store of an instruction
@@ -59,38 +62,38 @@ no_base place = omega arith
 no_start : (a b : ℕ) → a ≤ 0 + b → a ≤ b
 no_start a b less = omega (arith, less)
 
-pub serves_stored : (buffer : Buffer) (csrs : Csrs) (mode : Mode) (memory : List ℕ) (width : Width) (place value : ℕ) → Serves buffer csrs mode memory
+pub serves_stored : (buffer : Buffer) (first : List FirstEntry) (owner : Tag) (csrs : Csrs) (mode : Mode) (memory : List ℕ) (width : Width) (place value : ℕ) → Serves buffer first owner csrs mode memory
     → has_frame buffer.read (place / 4096) ≡ false → place % bytes_in width ≡ 0 → place + bytes_in width ≤ 0 + length memory
-    → Serves buffer csrs mode (with_stored 0 (storing place width value) memory)
-serves_stored buffer csrs mode memory width place value serves free aligned inside =
+    → Serves buffer first owner csrs mode (with_stored 0 (storing place width value) memory)
+serves_stored buffer first owner csrs mode memory width place value serves free aligned inside =
     let size : length (little_bytes (bytes_in width) value) ≡ bytes_in width = length-bytes_low_first 0 (bytes_in width) value in
-    subst (λ at. Serves buffer csrs mode (pasted memory at (little_bytes (bytes_in width) value))) (sym (no_base place))
-    (serves_pasted buffer csrs mode memory place (little_bytes (bytes_in width) value) serves free
+    subst (λ at. Serves buffer first owner csrs mode (pasted memory at (little_bytes (bytes_in width) value))) (sym (no_base place))
+    (serves_pasted buffer first owner csrs mode memory place (little_bytes (bytes_in width) value) serves free
     (subst (λ n. place % 4096 + n ≤ 4096) (sym size) (fits_frame width place aligned))
     (subst (λ n. place + n ≤ length memory) (sym size) (no_start (place + bytes_in width) (length memory) inside)))
 
 -- and of an instruction with any purpose
-pub serves_completed : (buffer : Buffer) (csrs : Csrs) (mode : Mode) (memory : List ℕ) (reading : Reading) (state : Virtual) (width : Width) (purpose : Purpose) (place : ℕ) → Serves buffer csrs mode memory
+pub serves_completed : (buffer : Buffer) (first : List FirstEntry) (owner : Tag) (csrs : Csrs) (mode : Mode) (memory : List ℕ) (reading : Reading) (state : Virtual) (width : Width) (purpose : Purpose) (place : ℕ) → Serves buffer first owner csrs mode memory
     → has_frame buffer.read (place / 4096) ≡ false → place % bytes_in width ≡ 0 → place + bytes_in width ≤ 0 + length memory
-    → Serves buffer csrs mode (with_stored 0 (completed reading state width purpose place).stored memory)
-serves_completed buffer csrs mode memory reading state width (Load signed rd) place serves free aligned inside = serves
-serves_completed buffer csrs mode memory reading state width (LoadCode rd) place serves free aligned inside = serves
-serves_completed buffer csrs mode memory reading state width (Store value) place serves free aligned inside = serves_stored buffer csrs mode memory width place value serves free aligned inside
-serves_completed buffer csrs mode memory reading state width (Reserve rd) place serves free aligned inside = serves
-serves_completed buffer csrs mode memory reading state width (StoreReserved value rd) place serves free aligned inside = by (is_reserved state.reservation place width)
+    → Serves buffer first owner csrs mode (with_stored 0 (completed reading state width purpose place).stored memory)
+serves_completed buffer first owner csrs mode memory reading state width (Load signed rd) place serves free aligned inside = serves
+serves_completed buffer first owner csrs mode memory reading state width (LoadCode rd) place serves free aligned inside = serves
+serves_completed buffer first owner csrs mode memory reading state width (Store value) place serves free aligned inside = serves_stored buffer first owner csrs mode memory width place value serves free aligned inside
+serves_completed buffer first owner csrs mode memory reading state width (Reserve rd) place serves free aligned inside = serves
+serves_completed buffer first owner csrs mode memory reading state width (StoreReserved value rd) place serves free aligned inside = by (is_reserved state.reservation place width)
   where
-    by : (reserved : Bool) → Serves buffer csrs mode (with_stored 0 (stored_if reserved state width value rd place).stored memory)
-    by true = serves_stored buffer csrs mode memory width place value serves free aligned inside
+    by : (reserved : Bool) → Serves buffer first owner csrs mode (with_stored 0 (stored_if reserved state width value rd place).stored memory)
+    by true = serves_stored buffer first owner csrs mode memory width place value serves free aligned inside
     by false = serves
-serves_completed buffer csrs mode memory reading state width (Modify op operand rd) place serves free aligned inside = serves_stored buffer csrs mode memory width place _ serves free aligned inside
+serves_completed buffer first owner csrs mode memory reading state width (Modify op operand rd) place serves free aligned inside = serves_stored buffer first owner csrs mode memory width place _ serves free aligned inside
 
 -- a doubleword
-pub serves_doubleword : (buffer : Buffer) (csrs : Csrs) (mode : Mode) (memory : List ℕ) (place value : ℕ) → Serves buffer csrs mode memory
+pub serves_doubleword : (buffer : Buffer) (first : List FirstEntry) (owner : Tag) (csrs : Csrs) (mode : Mode) (memory : List ℕ) (place value : ℕ) → Serves buffer first owner csrs mode memory
     → has_frame buffer.read (place / 4096) ≡ false → place % 8 ≡ 0 → place < length memory → length memory % 4096 ≡ 0
-    → Serves buffer csrs mode (pasted memory place (little_bytes 8 value))
-serves_doubleword buffer csrs mode memory place value serves free aligned inside whole =
+    → Serves buffer first owner csrs mode (pasted memory place (little_bytes 8 value))
+serves_doubleword buffer first owner csrs mode memory place value serves free aligned inside whole =
     let size : length (little_bytes 8 value) ≡ 8 = length-bytes_low_first 0 8 value in
-    serves_pasted buffer csrs mode memory place (little_bytes 8 value) serves free
+    serves_pasted buffer first owner csrs mode memory place (little_bytes 8 value) serves free
     (subst (λ n. place % 4096 + n ≤ 4096) (sym size) (fits_frame Double place aligned))
     (subst (λ n. place + n ≤ length memory) (sym size) (fits_whole place (length memory) aligned inside whole))
   where

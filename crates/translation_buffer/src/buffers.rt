@@ -1,24 +1,27 @@
-// The buffer: found, walked and kept, and dropped where a table may have changed.
+// The buffer: found, walked and kept, and dropped where a table or a cached first-stage translation changes.
 
-ghost use Rattle.std.specs.Prelude.{◌≡◌, ℕ, ◌+◌, ◌*◌, ◌/◌, ◌%◌, ◌^◌, ◌≤◌, false, IfOk, IfSome, List, Ok, Some, length};
+ghost use Rattle.std.specs.Prelude.{◌≡◌, ℕ, ◌+◌, ◌*◌, ◌/◌, ◌%◌, ◌^◌, ◌≤◌, false, find, option_map, IfSome, List, Some, length};
+ghost use Rattle.arch_defs.specs.declared.first.FirstEntry.{FirstEntry};
+ghost use Rattle.arch_defs.specs.declared.first.Tag.{Tag};
 ghost use Rattle.arch_defs.specs.declared.modes.Mode.{Mode};
 ghost use Rattle.arch_defs.specs.declared.registers.Csrs.{Csrs};
+ghost use Rattle.arch_defs.specs.FirstEntries.{HasGuestFrame, first_filled, is_first_of, known_by};
 ghost use Rattle.arch_defs.specs.Frames.{Frames, Within};
 ghost use Rattle.arch_defs.specs.Memory.{machine_memory};
 ghost use Rattle.arch_defs.specs.Translation.{privilege_of};
-ghost use Rattle.machine_defs.specs.Answers.{answer_of, located_by_walk};
 ghost use Rattle.frame_set.specs.declared.sets.FrameSet.{FrameSet};
 ghost use Rattle.frame_set.specs.Holding.{has_frame, has_recent};
 ghost use Rattle.two_stage_walk.specs.Places.{IsPlaceOf};
-ghost use Rattle.translation_buffer.specs.Places.{Reads, context_of, translated_place};
+ghost use Rattle.translation_buffer.specs.Places.{Reads, Translator, context_of, passed_by, translated_place, translator};
 ghost use Rattle.translation_buffer.specs.Serving.{AllStand, Serves, GivesPlaces, bit_of, tag_of, who_bits};
 
 use crate::contexts::Context;
 use crate::slots::{Slot, Slots};
-use arch_defs::{Access, Csrs, Found, Mode, Privilege, Trap};
+use arch_defs::{Access, Csrs, FirstBuffer, FirstEntry, Mode, Privilege, SupervisorRoot, Tag};
 use frame_set::FrameSet;
-use phys_mem::PhysMem;
-use two_stage_walk::{Mem, first_noted, privilege_of, second_noted, translate};
+use phys_mem::{Mem, PhysMem};
+use stage_walk::permits_first;
+use two_stage_walk::{leaf_address, privilege_of, second_noted};
 
 /// The translations that the hart keeps, for the roots and the privilege that it accesses memory by: the
 /// slots, and the frames of all that was read for them.
@@ -46,34 +49,97 @@ fn who_bits(who: Privilege) -> u64
     0x10_0000_0000_0000 * (bit_of(who.user) + 2 * bit_of(who.sum) + 4 * bit_of(who.mxr))
 }
 
-// The place of an access, where both stages give one. The frames of all that is read are added to a set.
+// The guest physical address of a virtual one under the translation of its page, if that permits the access.
+#[tactic(auto, using(crate::proofs::PlacesInside::leaf_of_entry_fits))]
+fn known_by(who: Privilege, va: u64, access: Access, entry: Option<&FirstEntry>) -> Option<u64>
+    requires fits { IfSome entry (λ e. HasGuestFrame e.now) }
+    ensures value { result ≡ known_by who va access (option_map (λ e. e.now) entry.entry) }
+    ensures offset { IfSome result (λ address. address % 4096 ≡ va % 4096) }
+{
+    match entry {
+        Some(entry) => {
+            let leaf = entry.leaf();
+            if permits_first(who, access, &leaf) {
+                Some(leaf_address(&leaf, va))
+            } else {
+                None
+            }
+        }
+        None => None,
+    }
+}
+
+// The same by the cached translation of its page under a table, if that permits the access.
+#[inline(never)]
+fn known_in(
+    first: &FirstBuffer,
+    owner: &Tag,
+    who: Privilege,
+    table: &SupervisorRoot,
+    va: u64,
+    access: Access,
+) -> Option<u64>
+    ensures value { result ≡ known_by who va access
+        (find (is_first_of owner.now table.now (va / 4096)) first.now) }
+    ensures offset { IfSome result (λ address. address % 4096 ≡ va % 4096) }
+{
+    known_by(who, va, access, first.entry_of(owner, table, va / 4096))
+}
+
+/// The guest physical address of an access for which no table of the first stage is walked: by the cached
+/// translation of its page, if that permits the access, or in Bare.
+#[inline]
+#[tactic(auto, unfolding(arch_defs::specs::FirstEntries::known_under))]
+pub fn passed_by(
+    first: &FirstBuffer,
+    owner: &Tag,
+    who: Privilege,
+    root: SupervisorRoot,
+    va: u64,
+    access: Access,
+) -> Option<u64>
+    ensures value { result ≡ passed_by first.now owner.now who root va access }
+    ensures offset { IfSome result (λ address. address % 4096 ≡ va % 4096) }
+{
+    match root {
+        SupervisorRoot::Bare => Some(va),
+        SupervisorRoot::Table { .. } => known_in(first, owner, who, &root, va, access),
+    }
+}
+
+// The place of an access for which no table of the first stage is walked, where the second stage gives one.
+// The frames of all that is read are added to a set.
 fn place_noted(
     memory: &PhysMem,
     context: &Context,
     who: Privilege,
+    first: &FirstBuffer,
+    owner: &Tag,
     va: u64,
     access: Access,
     read: &mut FrameSet,
 ) -> Option<u64>
-    ensures place { result ≡ translated_place context.now who memory.now va access }
+    ensures place { result
+        ≡ translated_place (translator first.now owner.now context.now) who memory.now va access }
     ensures inside { IfSome result (λ place. IsPlaceOf (machine_memory memory.now) va place) }
     ensures more { Within (has_frame read.old) (has_frame read.new) }
     ensures noted { (frames : Frames) → Within (has_recent read.new) frames
-        → Reads frames context.now who memory.now va access }
+        → Reads frames (translator first.now owner.now context.now) who memory.now va access }
 {
     memory.is_whole();
-    let (mxr, second) = (context.mxr, context.second);
-    let found = first_noted(memory, mxr, second, who, context.first, va, access, read);
-    match found {
-        Found::Passes(address) => second_noted(memory, mxr, second, address, access, read),
-        Found::PageFaults | Found::MissesEntry(_) => None,
+    match passed_by(first, owner, who, context.first, va, access) {
+        Some(address) => {
+            second_noted(memory, context.mxr, context.second, address, access, read)
+        }
+        None => None,
     }
 }
 
 impl Buffer {
     /// The buffer that keeps nothing, for a mode as the registers are.
     pub fn new(csrs: &Csrs, mode: Mode) -> Buffer
-        ensures { (memory : List ℕ) → Serves result csrs.now mode memory }
+        ensures { (first : List FirstEntry) (owner : Tag) (memory : List ℕ)
+            → Serves result first owner csrs.now mode memory }
     {
         Buffer {
             context: Context::of(csrs, mode),
@@ -84,7 +150,7 @@ impl Buffer {
         }
     }
 
-    /// For how many accesses both stages were walked, where no kept translation gave their place.
+    /// How often a place was looked for among what is kept and was not there.
     pub fn walks(&self) -> u64
         ensures { result ≡ self.now.walks }
     {
@@ -96,8 +162,8 @@ impl Buffer {
     fn clear(&mut self)
         ensures context { self.new.context ≡ self.old.context }
         ensures who { self.new.who ≡ self.old.who }
-        ensures slots { (read : FrameSet) (memory : List ℕ) (context : Context)
-            → AllStand read memory context self.new.slots }
+        ensures slots { (read : FrameSet) (memory : List ℕ) (under : Translator)
+            → AllStand read memory under self.new.slots }
         ensures read { (frame : ℕ) → has_frame self.new.read frame ≡ false }
     {
         self.slots.clear();
@@ -106,7 +172,8 @@ impl Buffer {
 
     /// Keeps nothing more, and is for a mode as the registers are.
     pub fn restart(&mut self, csrs: &Csrs, mode: Mode)
-        ensures { (memory : List ℕ) → Serves self.new csrs.now mode memory }
+        ensures { (first : List FirstEntry) (owner : Tag) (memory : List ℕ)
+            → Serves self.new first owner csrs.now mode memory }
     {
         self.clear();
         self.context = Context::of(csrs, mode);
@@ -116,8 +183,9 @@ impl Buffer {
     /// Goes on for a mode as the registers are: what was kept stays where the roots and sstatus.MXR are the
     /// same.
     pub fn follow(&mut self, csrs: &Csrs, mode: Mode)
-        ensures { (before : Csrs) (mode_before : Mode) (memory : List ℕ)
-            → Serves self.old before mode_before memory → Serves self.new csrs.now mode memory }
+        ensures { (first : List FirstEntry) (owner : Tag) (before : Csrs) (mode_before : Mode)
+            (memory : List ℕ) → Serves self.old first owner before mode_before memory
+            → Serves self.new first owner csrs.now mode memory }
     {
         if self.context.is_context(&Context::of(csrs, mode)) {
             self.who = who_bits(privilege_of(csrs, mode));
@@ -130,8 +198,9 @@ impl Buffer {
     #[inline(never)]
     fn drop_read(&mut self, frame: u64)
         ensures apart { has_frame self.new.read frame ≡ false }
-        ensures serves { (csrs : Csrs) (mode : Mode) (memory : List ℕ)
-            → Serves self.old csrs mode memory → Serves self.new csrs mode memory }
+        ensures serves { (first : List FirstEntry) (owner : Tag) (csrs : Csrs) (mode : Mode)
+            (memory : List ℕ) → Serves self.old first owner csrs mode memory
+            → Serves self.new first owner csrs mode memory }
     {
         self.slots.drop_read(frame);
         self.read.remove(frame);
@@ -142,20 +211,36 @@ impl Buffer {
     #[inline]
     pub fn open(&mut self, place: u64)
         ensures apart { has_frame self.new.read (place / 4096) ≡ false }
-        ensures serves { (csrs : Csrs) (mode : Mode) (memory : List ℕ)
-            → Serves self.old csrs mode memory → Serves self.new csrs mode memory }
+        ensures serves { (first : List FirstEntry) (owner : Tag) (csrs : Csrs) (mode : Mode)
+            (memory : List ℕ) → Serves self.old first owner csrs mode memory
+            → Serves self.new first owner csrs mode memory }
     {
         if self.read.holds(place / 4096) {
             self.drop_read(place / 4096);
         }
     }
 
+    /// Caches a first-stage translation, and drops the translations that were kept for its page, and for the
+    /// page of the one that is dropped for room.
+    #[inline(never)]
+    pub fn fill(&mut self, first: &mut FirstBuffer, entry: FirstEntry)
+        requires { HasGuestFrame entry }
+        ensures filled { first.new ≡ first_filled first.old entry }
+        ensures serves { (owner : Tag) (csrs : Csrs) (mode : Mode) (memory : List ℕ)
+            → Serves self.old first.old owner csrs mode memory
+            → Serves self.new first.new owner csrs mode memory }
+    {
+        let dropped = first.fill(entry);
+        self.slots.drop_pages(entry.page, dropped);
+    }
+
     /// The place of an access by what is kept, if it is.
     #[inline]
     pub fn find(&self, va: u64, access: Access) -> Option<u64>
-        ensures { (csrs : Csrs) (mode : Mode) (memory : List ℕ) → Serves self.now csrs mode memory
-            → IfSome result (λ place.
-            translated_place (context_of csrs mode) (privilege_of csrs mode) memory va access ≡ Some place) }
+        ensures { (first : List FirstEntry) (owner : Tag) (csrs : Csrs) (mode : Mode) (memory : List ℕ)
+            → Serves self.now first owner csrs mode memory → IfSome result (λ place.
+            translated_place (translator first owner (context_of csrs mode)) (privilege_of csrs mode)
+            memory va access ≡ Some place) }
     {
         let slot = self.slots.slot(va, access);
         if slot.tag == self.who.wrapping_add(va / 4096) {
@@ -165,27 +250,39 @@ impl Buffer {
         }
     }
 
-    // The place of an access by a walk, which is kept.
+    // The place of an access by the second stage, which is kept.
     #[inline(never)]
     fn walk(
         &mut self,
         memory: &PhysMem,
         csrs: &Csrs,
         mode: Mode,
+        first: &FirstBuffer,
+        owner: &Tag,
         va: u64,
         access: Access,
     ) -> Option<u64>
-        requires serves { Serves self.old csrs.now mode memory.now }
+        requires serves { Serves self.old first.now owner.now csrs.now mode memory.now }
         ensures place { result
-            ≡ translated_place (context_of csrs.now mode) (privilege_of csrs.now mode) memory.now va access }
+            ≡ translated_place (translator first.now owner.now (context_of csrs.now mode))
+            (privilege_of csrs.now mode) memory.now va access }
         ensures inside { IfSome result (λ place. IsPlaceOf (machine_memory memory.now) va place) }
-        ensures serves { Serves self.new csrs.now mode memory.now }
+        ensures serves { Serves self.new first.now owner.now csrs.now mode memory.now }
     {
         self.walks = self.walks.saturating_add(1);
         let who = privilege_of(csrs, mode);
         let context = self.context;
         self.read.begin();
-        match place_noted(memory, &context, who, va, access, &mut self.read) {
+        match place_noted(
+            memory,
+            &context,
+            who,
+            first,
+            owner,
+            va,
+            access,
+            &mut self.read,
+        ) {
             Some(place) => {
                 let _ = memory.size();
                 let slot = Slot {
@@ -200,55 +297,30 @@ impl Buffer {
         }
     }
 
-    /// The place of an access, where both stages give one as the registers and memory are, and else none.
+    /// The place of an access for which no table of the first stage is walked, where the second stage gives
+    /// one as the registers and memory are, and else none.
     #[inline]
     pub fn place(
         &mut self,
         memory: &PhysMem,
         csrs: &Csrs,
         mode: Mode,
+        first: &FirstBuffer,
+        owner: &Tag,
         va: u64,
         access: Access,
     ) -> Option<u64>
-        requires serves { Serves self.old csrs.now mode memory.now }
+        requires serves { Serves self.old first.now owner.now csrs.now mode memory.now }
         ensures place { result
-            ≡ translated_place (context_of csrs.now mode) (privilege_of csrs.now mode) memory.now va access }
-        ensures answer { IfSome result (λ place. Ok place
-            ≡ answer_of false csrs.now (machine_memory memory.now)
-            (located_by_walk csrs.now mode (machine_memory memory.now) va access)) }
+            ≡ translated_place (translator first.now owner.now (context_of csrs.now mode))
+            (privilege_of csrs.now mode) memory.now va access }
         ensures inside { IfSome result (λ place. IsPlaceOf (machine_memory memory.now) va place) }
-        ensures serves { Serves self.new csrs.now mode memory.now }
+        ensures serves { Serves self.new first.now owner.now csrs.now mode memory.now }
     {
         memory.is_whole();
         match self.find(va, access) {
             Some(place) => Some(place),
-            None => self.walk(memory, csrs, mode, va, access),
-        }
-    }
-
-    /// The physical address of an access to a virtual address as a mode, by both stages as the registers and
-    /// memory are, or its trap: an access fault, a page fault or a guest-page fault, with all that its entry
-    /// writes. The hart has no device page, so an access there is a trap as well.
-    pub fn translate(
-        &mut self,
-        memory: &PhysMem,
-        csrs: &Csrs,
-        mode: Mode,
-        va: u64,
-        access: Access,
-    ) -> Result<u64, Trap>
-        requires serves { Serves self.old csrs.now mode memory.now }
-        ensures answer { result ≡ answer_of false csrs.now (machine_memory memory.now)
-            (located_by_walk csrs.now mode (machine_memory memory.now) va access) }
-        ensures inside { IfOk result (λ place. IsPlaceOf (machine_memory memory.now) va place) }
-        ensures serves { Serves self.new csrs.now mode memory.now }
-    {
-        match self.place(memory, csrs, mode, va, access) {
-            Some(place) => Ok(place),
-            None => {
-                memory.is_whole();
-                translate(memory, csrs, mode, va, access, false)
-            }
+            None => self.walk(memory, csrs, mode, first, owner, va, access),
         }
     }
 }

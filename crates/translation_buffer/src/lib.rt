@@ -6,7 +6,7 @@ mod contexts;
 mod laws;
 mod slots;
 
-pub use buffers::Buffer;
+pub use buffers::{Buffer, passed_by};
 pub use contexts::Context;
-pub use laws::{buffers_serve_on, translations_stay};
+pub use laws::{buffers_serve_on, fills_keep_others, hits_are_known, translations_stay};
 pub use slots::{Slot, Slots};

@@ -1,12 +1,12 @@
 // Kept translations, by the kind of access.
 
-ghost use Rattle.std.specs.Prelude.{◌≡◌, ◌≢◌, ℕ, ◌+◌, ◌*◌, ◌-◌, ◌%◌, ◌<◌, ◌^◌, List, length, get_or};
+ghost use Rattle.std.specs.Prelude.{◌≡◌, ◌≢◌, ℕ, ◌+◌, ◌*◌, ◌-◌, ◌%◌, ◌<◌, ◌^◌, ◌==◌, ◌||◌, List, length, get_or};
 ghost use Rattle.std.specs.List.{All};
 ghost use Rattle.arch_defs.specs.declared.modes.Access.{Access};
 ghost use Rattle.arch_defs.specs.Bits.{bit};
 ghost use Rattle.frame_set.specs.declared.sets.FrameSet.{FrameSet};
-ghost use Rattle.translation_buffer.specs.declared.contexts.Context.{Context};
-ghost use Rattle.translation_buffer.specs.Serving.{AllLackBit, AllStand, LacksBit, SlotStands};
+ghost use Rattle.translation_buffer.specs.Places.{Translator};
+ghost use Rattle.translation_buffer.specs.Serving.{AllLackBit, AllLackPages, AllStand, LacksBit, LacksPages, SlotStands, is_page};
 
 use arch_defs::Access;
 
@@ -42,12 +42,32 @@ impl Slot {
         (self.bits >> (frame % 64)) & 1 == 1
     }
 
+    // Whether it is of one page, or of another, if there is another.
+    #[inline]
+    fn is_of(self, page: u64, other: Option<u64>) -> bool
+        ensures { result ≡ (self.tag % 2 ^ 52 == page || is_page other (self.tag % 2 ^ 52)) }
+    {
+        let own = self.tag % 0x10_0000_0000_0000;
+        own == page || is_page(other, own)
+    }
+
     /// The place of an address of the page.
     #[inline]
     pub fn place(self, va: u64) -> u64
         ensures { result ≡ 4096 * self.frame + va % 4096 }
     {
         4096 * self.frame as u64 + va % 4096
+    }
+}
+
+// Whether a page is this one, if there is one.
+#[inline]
+fn is_page(page: Option<u64>, own: u64) -> bool
+    ensures { result ≡ is_page page own }
+{
+    match page {
+        Some(page) => own == page,
+        None => false,
     }
 }
 
@@ -63,8 +83,8 @@ pub struct Slots {
 #[inline]
 #[tactic(auto, using(crate::proofs::KeptSlots::all_none))]
 fn no_slots() -> [Slot; 16]
-    ensures { (read : FrameSet) (memory : List ℕ) (context : Context) (kind : Access)
-        → All (SlotStands read memory context kind) result }
+    ensures { (read : FrameSet) (memory : List ℕ) (under : Translator) (kind : Access)
+        → All (SlotStands read memory under kind) result }
 {
     [Slot::none(); 16]
 }
@@ -73,8 +93,8 @@ fn no_slots() -> [Slot; 16]
 #[inline]
 #[tactic(auto, using(crate::proofs::ClearedSlots::clearing))]
 fn clear(slots: &mut [Slot])
-    ensures { (read : FrameSet) (memory : List ℕ) (context : Context) (kind : Access)
-        → All (SlotStands read memory context kind) slots.new }
+    ensures { (read : FrameSet) (memory : List ℕ) (under : Translator) (kind : Access)
+        → All (SlotStands read memory under kind) slots.new }
 {
     for at in 0..slots.len() {
         slots[at].tag = u64::MAX;
@@ -86,9 +106,9 @@ fn clear(slots: &mut [Slot])
 #[tactic(auto, using(crate::proofs::DroppedSlots::dropping))]
 fn drop_at(slots: &mut [Slot], at: usize, frame: u64)
     requires inside { at < length slots.old }
-    ensures stand { (read : FrameSet) (memory : List ℕ) (context : Context) (kind : Access)
-        → All (SlotStands read memory context kind) slots.old
-        → All (SlotStands read memory context kind) slots.new }
+    ensures stand { (read : FrameSet) (memory : List ℕ) (under : Translator) (kind : Access)
+        → All (SlotStands read memory under kind) slots.old
+        → All (SlotStands read memory under kind) slots.new }
     ensures lacks { (other : Slot) → LacksBit frame (get_or slots.new at other) }
     ensures others { (place : ℕ) (other : Slot) → place ≢ at
         → get_or slots.new place other ≡ get_or slots.old place other }
@@ -102,13 +122,44 @@ fn drop_at(slots: &mut [Slot], at: usize, frame: u64)
 // Drops the translations that have the bit of a frame.
 #[inline]
 fn drop_each(slots: &mut [Slot], frame: u64)
-    ensures stand { (read : FrameSet) (memory : List ℕ) (context : Context) (kind : Access)
-        → All (SlotStands read memory context kind) slots.old
-        → All (SlotStands read memory context kind) slots.new }
+    ensures stand { (read : FrameSet) (memory : List ℕ) (under : Translator) (kind : Access)
+        → All (SlotStands read memory under kind) slots.old
+        → All (SlotStands read memory under kind) slots.new }
     ensures lack { All (LacksBit frame) slots.new }
 {
     for at in 0..slots.len() {
         drop_at(slots, at, frame);
+    }
+}
+
+// Drops a translation that is of one page, or of another, if there is another.
+#[inline]
+#[tactic(auto, using(crate::proofs::DroppedSlots::dropping))]
+fn drop_of_pages(slots: &mut [Slot], at: usize, page: u64, other: Option<u64>)
+    requires inside { at < length slots.old }
+    ensures stand { (read : FrameSet) (memory : List ℕ) (under : Translator) (kind : Access)
+        → All (SlotStands read memory under kind) slots.old
+        → All (SlotStands read memory under kind) slots.new }
+    ensures lacks { (d : Slot) → LacksPages page other (get_or slots.new at d) }
+    ensures others { (place : ℕ) (d : Slot) → place ≢ at
+        → get_or slots.new place d ≡ get_or slots.old place d }
+    ensures size { length slots.new ≡ length slots.old }
+{
+    if slots[at].is_of(page, other) {
+        slots[at] = Slot::none();
+    }
+}
+
+// Drops the translations that are of one page, or of another, if there is another.
+#[inline]
+fn drop_each_of_pages(slots: &mut [Slot], page: u64, other: Option<u64>)
+    ensures stand { (read : FrameSet) (memory : List ℕ) (under : Translator) (kind : Access)
+        → All (SlotStands read memory under kind) slots.old
+        → All (SlotStands read memory under kind) slots.new }
+    ensures lack { All (LacksPages page other) slots.new }
+{
+    for at in 0..slots.len() {
+        drop_of_pages(slots, at, page, other);
     }
 }
 
@@ -117,8 +168,8 @@ impl Slots {
     #[tactic(auto, using(crate::proofs::KeptSlots::no_slot_stands))]
     #[inline]
     pub fn none() -> Slots
-        ensures { (read : FrameSet) (memory : List ℕ) (context : Context)
-            → AllStand read memory context result }
+        ensures { (read : FrameSet) (memory : List ℕ) (under : Translator)
+            → AllStand read memory under result }
     {
         Slots {
             fetches: no_slots(),
@@ -131,8 +182,8 @@ impl Slots {
     #[tactic(auto, using(crate::proofs::KeptSlots::no_slot_stands))]
     #[inline]
     pub fn clear(&mut self)
-        ensures { (read : FrameSet) (memory : List ℕ) (context : Context)
-            → AllStand read memory context self.new }
+        ensures { (read : FrameSet) (memory : List ℕ) (under : Translator)
+            → AllStand read memory under self.new }
     {
         clear(&mut self.fetches);
         clear(&mut self.loads);
@@ -142,8 +193,8 @@ impl Slots {
     /// Drops the translations that have the bit of a frame.
     #[tactic(auto, using(crate::proofs::DroppedSlots::all_kinds))]
     pub fn drop_read(&mut self, frame: u64)
-        ensures stand { (read : FrameSet) (memory : List ℕ) (context : Context)
-            → AllStand read memory context self.old → AllStand read memory context self.new }
+        ensures stand { (read : FrameSet) (memory : List ℕ) (under : Translator)
+            → AllStand read memory under self.old → AllStand read memory under self.new }
         ensures lack { AllLackBit frame self.new }
     {
         drop_each(&mut self.fetches, frame);
@@ -151,11 +202,23 @@ impl Slots {
         drop_each(&mut self.stores, frame);
     }
 
+    /// Drops the translations of one page, and of another, if there is another.
+    #[tactic(auto, using(crate::proofs::DroppedSlots::all_kinds_of_pages))]
+    pub fn drop_pages(&mut self, page: u64, other: Option<u64>)
+        ensures stand { (read : FrameSet) (memory : List ℕ) (under : Translator)
+            → AllStand read memory under self.old → AllStand read memory under self.new }
+        ensures lack { AllLackPages page other self.new }
+    {
+        drop_each_of_pages(&mut self.fetches, page, other);
+        drop_each_of_pages(&mut self.loads, page, other);
+        drop_each_of_pages(&mut self.stores, page, other);
+    }
+
     /// The slot of an address for a kind of access.
     #[inline]
     pub fn slot(&self, va: u64, access: Access) -> Slot
-        ensures { (read : FrameSet) (memory : List ℕ) (context : Context)
-            → AllStand read memory context self.now → SlotStands read memory context access result }
+        ensures { (read : FrameSet) (memory : List ℕ) (under : Translator)
+            → AllStand read memory under self.now → SlotStands read memory under access result }
     {
         let at = (va / 4096 % 16) as usize;
         match access {
@@ -168,9 +231,9 @@ impl Slots {
 
     /// Keeps a slot for an address and a kind of access.
     pub fn keep(&mut self, va: u64, access: Access, slot: Slot)
-        ensures { (read : FrameSet) (memory : List ℕ) (context : Context)
-            → SlotStands read memory context access slot → AllStand read memory context self.old
-            → AllStand read memory context self.new }
+        ensures { (read : FrameSet) (memory : List ℕ) (under : Translator)
+            → SlotStands read memory under access slot → AllStand read memory under self.old
+            → AllStand read memory under self.new }
     {
         let at = (va / 4096 % 16) as usize;
         match access {

@@ -1,3 +1,2 @@
 pub mod Frames
 mod LeafAddresses
-pub mod NotedPlaces

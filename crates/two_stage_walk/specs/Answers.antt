@@ -12,8 +12,8 @@ use Rattle.two_stage_walk.specs.declared.translating.Place.{Place}
 use Rattle.two_stage_walk.specs.declared.translating.Place.TheVariants.{InMemory, OnDevice}
 use Rattle.two_stage_walk.specs.Places.{IsPlaceOf}
 
--- where one is made that has no place in memory: on the device page, if it is there, or else nowhere, with the
--- trap of the walk of now
+-- where one is made that has no place in memory: on the device page, if it is there, or else nowhere, with
+-- the trap of the walk of now
 abbrev pub placed_if : Csrs → Memory → MissingPlace → Bool → Result Place Trap
 placed_if csrs memory missing true = Ok (OnDevice (missing.address % 4096))
 placed_if csrs memory missing false = Err (missing_place_trap csrs memory missing)

@@ -1,17 +1,14 @@
 // Accesses to the device page.
 
 ghost use Rattle.std.specs.Prelude.{◌≡◌};
-ghost use Rattle.arch_defs.specs.Devices.{device_frame, is_on_device};
+ghost use Rattle.arch_defs.specs.Devices.{is_on_device};
 ghost use Rattle.arch_defs.specs.SecondStage.{device_by_walk};
 ghost use Rattle.machine_defs.specs.Answers.{is_device_now};
 
 use crate::guest_addresses::{second_root_of, second_walk};
 use crate::traps::is_implicit;
-use arch_defs::{Csrs, GuestRoot, MissingPlace, SecondWalkEnd};
+use arch_defs::{Csrs, DEVICE_FRAME, GuestRoot, MissingPlace, SecondWalkEnd};
 use phys_mem::Mem;
-
-/// The frame of the device page.
-pub const DEVICE_FRAME: u64 = 0x10000;
 
 /// Whether a guest physical address is on the device page.
 pub fn is_on_device(place: u64) -> bool

@@ -10,11 +10,13 @@ mod virtual_addresses;
 mod walked_entries;
 
 pub use arch_defs::{Found, MissingPlace, SecondWalkEnd};
-pub use devices::{DEVICE_FRAME, is_device_now, is_on_device};
+pub use devices::{is_device_now, is_on_device};
 pub use guest_addresses::{second_place, second_root_of, second_walk};
-pub use noting::{first_noted, second_noted};
+pub use noting::second_noted;
 pub use phys_mem::Mem;
-pub use translating::{Place, locate, translate};
+pub use translating::{Place, locate, translate, translate_found};
 pub use traps::{guest_page_trap, missing_place_trap};
-pub use virtual_addresses::{first_stage, found_by, leaf_address, privilege_of, supervisor_of};
+pub use virtual_addresses::{
+    first_leaf, first_stage, found_by, leaf_address, privilege_of, supervisor_of,
+};
 pub use walked_entries::entry_by_walk;

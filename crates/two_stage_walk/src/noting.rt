@@ -1,19 +1,17 @@
-// Both stages, where the frames of what they read are noted.
+// The second stage, where the frames of what it reads are noted.
 
 ghost use Rattle.std.specs.Prelude.{◌≡◌, ◌^◌, ◌%◌, ◌<◌, IfSome};
 ghost use Rattle.arch_defs.specs.Frames.{Frames, Within};
-ghost use Rattle.arch_defs.specs.Memory.{reading_of};
 ghost use Rattle.arch_defs.specs.SecondStage.{guest_root_frame, memory_words, second_under, second_walk, walked};
-ghost use Rattle.arch_defs.specs.Translation.{entry_words_through, found_by, found_under, unread};
 ghost use Rattle.arch_defs.specs.Walk.{path, walk};
 ghost use Rattle.frame_set.specs.Holding.{has_frame, has_recent};
 ghost use Rattle.stage_walk.specs.Reads.{Each, LiesIn};
-ghost use Rattle.two_stage_walk.specs.Places.{IsPlaceOf, KeepsOffset, LeafIn};
-ghost use Rattle.two_stage_walk.specs.Reads.{EntryReads, FirstReads, SecondReads};
+ghost use Rattle.two_stage_walk.specs.Places.{IsPlaceOf, LeafIn};
+ghost use Rattle.two_stage_walk.specs.Reads.{SecondReads};
 
 use crate::guest_addresses::{bare, second_end};
-use crate::virtual_addresses::{found_by, leaf_address, unread, word_at};
-use arch_defs::{Access, Found, GuestRoot, Privilege, SecondWalkEnd, Shape, SupervisorRoot, Trap};
+use crate::virtual_addresses::{leaf_address, unread};
+use arch_defs::{Access, GuestRoot, SecondWalkEnd, Shape, Trap};
 use frame_set::FrameSet;
 use phys_mem::Mem;
 use stage_walk::{NotingFetch, walk_noted};
@@ -92,70 +90,6 @@ pub fn second_noted<M: Mem>(
         GuestRoot::Bare => bare(mem, address, kind),
         GuestRoot::Table { mode, ppn, .. } => {
             walked_noted(mem, mxr, mode.shape(), ppn, address, kind, read)
-        }
-    }
-}
-
-// Memory as what a first stage reads its entries from: each at the place that the second stage has for it.
-#[derive_where(Clone, Copy)]
-struct NotedEntries<'a, M> {
-    mem: &'a M,
-    mxr: bool,
-    root: GuestRoot,
-}
-
-impl<M: Mem> NotingFetch for NotedEntries<'_, M> {
-    ghost reading = { λ e. entry_words_through
-        (second_under (M.memory e.mem.now) e.mxr e.root)
-        (reading_of (M.memory e.mem.now)) };
-
-    ghost reads = { λ e. EntryReads (M.memory e.mem.now) e.mxr e.root };
-
-    ghost is_backed = { λ e. M.is_backed e.mem.now };
-
-    fn pte_noted(&self, place: u64, read: &mut FrameSet) -> Result<u64, Trap> {
-        match second_noted(self.mem, self.mxr, self.root, place, Access::Implicit, read) {
-            Some(at) => {
-                read.add(at / 4096);
-                Ok(word_at(self.mem, at))
-            }
-            None => Err(unread(place)),
-        }
-    }
-}
-
-/// What the first stage by a root makes of a virtual address for an access. The frames of all that is read
-/// for its entries are added to a set.
-pub fn first_noted<M: Mem>(
-    mem: &M,
-    mxr: bool,
-    second: GuestRoot,
-    privilege: Privilege,
-    root: SupervisorRoot,
-    va: u64,
-    access: Access,
-    read: &mut FrameSet,
-) -> Found
-    requires backed { M.is_backed mem.now }
-    ensures value { result ≡ found_under (second_under (M.memory mem.now) mxr second)
-        (reading_of (M.memory mem.now)) privilege va access root }
-    ensures offset { KeepsOffset va result }
-    ensures more { Within (has_frame read.old) (has_frame read.new) }
-    ensures recent { Within (has_recent read.old) (has_recent read.new) }
-    ensures noted { (frames : Frames) → Within (has_recent read.new) frames
-        → FirstReads frames (M.memory mem.now) mxr second va access root }
-{
-    match root {
-        SupervisorRoot::Bare => Found::Passes(va),
-        SupervisorRoot::Table { mode, ppn, .. } => {
-            let entries = NotedEntries {
-                mem,
-                mxr,
-                root: second,
-            };
-            let ppn = ppn % 0x1000_0000_0000;
-            let end = walk_noted(&entries, ppn, mode.shape(), va, access, read);
-            found_by(privilege, access, va, end)
         }
     }
 }

@@ -7,11 +7,11 @@ ghost use Rattle.machine_defs.specs.Core.{located_by};
 ghost use Rattle.two_stage_walk.specs.Answers.{IsPlaceBy, LiesBy, placed, placed_missing};
 ghost use Rattle.two_stage_walk.specs.Places.{KeepsOffset};
 
-use crate::devices::{DEVICE_FRAME, is_device_now};
+use crate::devices::is_device_now;
 use crate::guest_addresses::second_place;
 use crate::traps::missing_place_trap;
 use crate::virtual_addresses::first_stage;
-use arch_defs::{Access, Csrs, FRAME_SIZE, Found, MissingPlace, Mode, Trap};
+use arch_defs::{Access, Csrs, DEVICE_FRAME, FRAME_SIZE, Found, MissingPlace, Mode, Trap};
 use phys_mem::Mem;
 
 /// Where an access is made.
@@ -105,7 +105,30 @@ pub fn locate<M: Mem>(
     placed_by(mem, device, csrs, mode, va, access, found)
 }
 
-/// The physical address of that place, or the trap.
+/// The physical address of that place, or the trap, by what the first stage made of the virtual address.
+pub fn translate_found<M: Mem>(
+    mem: &M,
+    csrs: &Csrs,
+    mode: Mode,
+    va: u64,
+    access: Access,
+    device: bool,
+    found: Found,
+) -> Result<u64, Trap>
+    requires backed { M.is_backed mem.now }
+    requires offset { KeepsOffset va found }
+    ensures answer { result ≡ answer_of device csrs.now (M.memory mem.now)
+        (located_by (second_by_walk csrs.now mode (M.memory mem.now)) mode va access found) }
+    ensures place { IfOk result (λ place. IsPlaceBy device (M.memory mem.now) va place) }
+{
+    match placed_by(mem, device, csrs, mode, va, access, found) {
+        Ok(Place::InMemory(place)) => Ok(place),
+        Ok(Place::OnDevice(offset)) => Ok(DEVICE_FRAME * FRAME_SIZE + offset),
+        Err(trap) => Err(trap),
+    }
+}
+
+/// The same by both stages as the registers and memory are.
 pub fn translate<M: Mem>(
     mem: &M,
     csrs: &Csrs,
@@ -119,9 +142,6 @@ pub fn translate<M: Mem>(
         (located_by_walk csrs.now mode (M.memory mem.now) va access) }
     ensures place { IfOk result (λ place. IsPlaceBy device (M.memory mem.now) va place) }
 {
-    match locate(mem, csrs, mode, va, access, device) {
-        Ok(Place::InMemory(place)) => Ok(place),
-        Ok(Place::OnDevice(offset)) => Ok(DEVICE_FRAME * FRAME_SIZE + offset),
-        Err(trap) => Err(trap),
-    }
+    let found = first_stage(mem, csrs, mode, va, access);
+    translate_found(mem, csrs, mode, va, access, device, found)
 }

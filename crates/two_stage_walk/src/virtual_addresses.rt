@@ -1,10 +1,11 @@
 // The first stage, whose table is read through the second.
 
-ghost use Rattle.std.specs.Prelude.{◌≡◌, ◌^◌, ◌%◌, ◌<◌};
-ghost use Rattle.arch_defs.specs.Memory.{reading_of};
+ghost use Rattle.std.specs.Prelude.{◌≡◌, ◌^◌, ◌%◌, ◌<◌, IfSome};
+ghost use Rattle.arch_defs.specs.Memory.{Known, mmu, reading_of};
 ghost use Rattle.arch_defs.specs.SecondStage.{second_by_walk};
 ghost use Rattle.arch_defs.specs.Translation.{entry_words_through, first_stage, found_by, privilege_of, supervisor_of, unread};
 ghost use Rattle.arch_defs.specs.Walk.{leaf_address, most_levels, walk};
+ghost use Rattle.machine_defs.specs.FirstLeaves.{leaf_if, leaf_under};
 ghost use Rattle.stage_walk.specs.Ends.{EndFits, LeafFits};
 ghost use Rattle.two_stage_walk.specs.Places.{IsPlaceOf, KeepsOffset};
 
@@ -158,5 +159,52 @@ pub fn first_stage<M: Mem>(mem: &M, csrs: &Csrs, mode: Mode, va: u64, access: Ac
             ppn,
             ..
         } => found_in_table(mem, csrs, mode, table.shape(), ppn, va, access),
+    }
+}
+
+// The leaf at which a walk ends, if it permits the access.
+fn leaf_if(privilege: Privilege, access: Access, end: WalkEnd) -> Option<LeafPte>
+    requires { EndFits most_levels end }
+    ensures value { result ≡ leaf_if privilege access end }
+    ensures fits { IfSome result (λ leaf. LeafFits most_levels leaf) }
+{
+    match end {
+        WalkEnd::Leaf(leaf) => {
+            if permits_first(privilege, access, &leaf) {
+                Some(leaf)
+            } else {
+                None
+            }
+        }
+        WalkEnd::PageFault | WalkEnd::FetchEnd { .. } => None,
+    }
+}
+
+/// The leaf of the first stage for an access as a mode, if it permits that; Bare has none. Its entries are
+/// read where the second stage has them.
+pub fn first_leaf<M: Mem>(
+    mem: &M,
+    csrs: &Csrs,
+    mode: Mode,
+    va: u64,
+    access: Access,
+) -> Option<LeafPte>
+    requires backed { M.is_backed mem.now }
+    ensures value { (known : Known) → result ≡ leaf_under
+        (mmu known (second_by_walk csrs.now mode (M.memory mem.now)) (reading_of (M.memory mem.now)))
+        (privilege_of csrs.now mode) va access (supervisor_of csrs.now mode).atp }
+    ensures fits { IfSome result (λ leaf. LeafFits most_levels leaf) }
+{
+    match supervisor_of(csrs, mode).atp {
+        SupervisorRoot::Bare => None,
+        SupervisorRoot::Table {
+            mode: table,
+            ppn,
+            ..
+        } => {
+            let entries = Entries { mem, csrs, mode };
+            let end = walk(&entries, ppn % 0x1000_0000_0000, table.shape(), va, access);
+            leaf_if(privilege_of(csrs, mode), access, end)
+        }
     }
 }

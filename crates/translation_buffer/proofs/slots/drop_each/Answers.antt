@@ -1,10 +1,11 @@
 use Rattle.std.proofs.Common.{◌∙◌}
-use Rattle.translation_buffer.proofs.DroppedSlots.{lack_more}
+use Rattle.translation_buffer.specs.Serving.{LacksBit}
+use Rattle.translation_buffer.proofs.DroppedSlots.{each_more}
 use Rattle.translation_buffer.proofs.slots.drop_each.Goals as goal
 
 pub loop-at-preserved : goal.loop-at-preserved
 loop-at-preserved c = record {
   size = c.drop_at.ensures.size ∙ c.loop-at.invariant.size;
-  stand = λ read memory context kind all. c.drop_at.ensures.stand read memory context kind (c.loop-at.invariant.stand read memory context kind all);
-  lack = lack_more c.loop-at.slots c.drop_at.new.slots c.loop-at.at c.args.frame c.drop_at.ensures.lacks c.drop_at.ensures.others c.loop-at.invariant.lack;
+  stand = λ read memory under kind all. c.drop_at.ensures.stand read memory under kind (c.loop-at.invariant.stand read memory under kind all);
+  lack = each_more (LacksBit c.args.frame) c.loop-at.slots c.drop_at.new.slots c.loop-at.at c.drop_at.ensures.lacks c.drop_at.ensures.others c.loop-at.invariant.lack;
 }

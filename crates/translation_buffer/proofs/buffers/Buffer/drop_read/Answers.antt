@@ -1,4 +1,5 @@
 use Rattle.std.proofs.Common.{refl}
+use Rattle.translation_buffer.specs.Places.{translator}
 use Rattle.translation_buffer.proofs.DroppedSlots.{all_without}
 use Rattle.translation_buffer.proofs.buffers.Buffer.drop_read.Goals as goal
 
@@ -6,9 +7,9 @@ pub returns-clause-apart : goal.returns-clause-apart
 returns-clause-apart c = c.remove.ensures.removed c.args.frame refl
 
 pub returns-clause-serves : goal.returns-clause-serves
-returns-clause-serves c = λ csrs mode memory serves. record {
+returns-clause-serves c = λ first owner csrs mode memory serves. record {
   context = serves.context;
   who = serves.who;
-  slots = all_without c.args.self.now.read c.remove.new.self c.args.frame memory c.args.self.now.context c.drop_read.new.self c.remove.ensures.others c.drop_read.ensures.lack
-      (c.drop_read.ensures.stand c.args.self.now.read memory c.args.self.now.context serves.slots);
+  slots = all_without c.args.self.now.read c.remove.new.self c.args.frame memory (translator first owner c.args.self.now.context) c.drop_read.new.self c.remove.ensures.others c.drop_read.ensures.lack
+      (c.drop_read.ensures.stand c.args.self.now.read memory (translator first owner c.args.self.now.context) serves.slots);
 }

@@ -1,4 +1,5 @@
 use Rattle.std.proofs.Common.{rules, ◌≡◌, ◌+◌, ◌/◌, ◌%◌, ◌^◌, ◌<◌, Some, ap, sym, ◌∙◌}
+use Rattle.translation_buffer.specs.Places.{translator}
 use Rattle.translation_buffer.proofs.KeptSlots.{served}
 use Rattle.translation_buffer.proofs.buffers.Buffer.find.Goals as goal
 
@@ -6,7 +7,7 @@ pub returns-then-slot-self : goal.returns-then-slot-self
 returns-then-slot-self c =
     let small : c.args.va < 2 ^ 64 = search rules in
     let tag : c.slot-slot.result.tag ≡ (c.args.self.now.who + c.args.va / 4096) % 2 ^ 64 = search rules in
-    λ csrs mode memory serves.
-    served c.args.self.now csrs mode memory c.args.va c.args.access c.slot-slot.result serves
-    (c.slot-slot.ensures c.args.self.now.read memory c.args.self.now.context serves.slots) small tag
+    λ first owner csrs mode memory serves.
+    served c.args.self.now first owner csrs mode memory c.args.va c.args.access c.slot-slot.result serves
+    (c.slot-slot.ensures c.args.self.now.read memory (translator first owner c.args.self.now.context) serves.slots) small tag
     ∙ ap Some (sym c.place.ensures)

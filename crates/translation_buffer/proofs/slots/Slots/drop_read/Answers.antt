@@ -3,7 +3,7 @@ use Rattle.translation_buffer.proofs.KeptSlots.{no_slot_stands}
 use Rattle.translation_buffer.proofs.slots.Slots.drop_read.Goals as goal
 
 pub returns-clause-stand : goal.returns-clause-stand
-returns-clause-stand c = λ read memory context all. no_slot_stands read memory context
+returns-clause-stand c = λ read memory under all. no_slot_stands read memory under
     (record { fetches = c.drop_each.new.slots; loads = c.drop_each-2.new.slots; stores = c.drop_each-3.new.slots })
-    (c.drop_each.ensures.stand read memory context Fetch (all Fetch)) (c.drop_each-2.ensures.stand read memory context Load (all Load))
-    (c.drop_each-3.ensures.stand read memory context Store (all Store))
+    (c.drop_each.ensures.stand read memory under Fetch (all Fetch)) (c.drop_each-2.ensures.stand read memory under Load (all Load))
+    (c.drop_each-3.ensures.stand read memory under Store (all Store))

@@ -1,55 +1,34 @@
--- The place of an access is the answer of the walks of now, and lies in memory.
-use Rattle.std.proofs.Common.{cond, ◌≡◌, ℕ, ◌+◌, ◌*◌, ◌/◌, ◌%◌, ◌<◌, ◌≤◌, ◌∙◌, Bool, true, false, List, Option, Some, None, Ok, length, refl, sym, subst, arith}
-use Rattle.std.specs.Prelude.{IfSome, nat_le, nat_lt, ◌&&◌, not}
+-- The place of an access lies in memory.
+use Rattle.std.proofs.Common.{cond, ◌≡◌, ℕ, ◌+◌, ◌*◌, ◌/◌, ◌%◌, ◌<◌, ◌≤◌, ◌∙◌, Bool, true, false, List, Option, Some, None, length, refl, subst, arith}
+use Rattle.std.specs.Prelude.{find, nat_le, nat_lt, ◌&&◌, not}
 use Rattle.std.proofs.lemmas.Bool.{and_parts, leb-true, ltb-true}
+use Rattle.arch_defs.specs.declared.first.FirstEntry.{FirstEntry}
+use Rattle.arch_defs.specs.declared.first.Tag.{Tag}
 use Rattle.arch_defs.specs.declared.modes.Access.{Access}
-use Rattle.arch_defs.specs.declared.modes.Mode.{Mode}
-use Rattle.arch_defs.specs.declared.registers.Csrs.{Csrs}
 use Rattle.arch_defs.specs.declared.roots.GuestMode.{GuestMode}
 use Rattle.arch_defs.specs.declared.roots.GuestRoot.{GuestRoot}
 use Rattle.arch_defs.specs.declared.roots.GuestRoot.TheVariants as guest
+use Rattle.arch_defs.specs.declared.roots.SupervisorRoot.{SupervisorRoot}
+use Rattle.arch_defs.specs.declared.roots.SupervisorRoot.TheVariants as root
 use Rattle.arch_defs.specs.declared.second_walks.SecondWalkEnd.TheVariants.{GuestPageFault, AccessFault}
 use Rattle.arch_defs.specs.declared.second_walks.SecondWalkEnd.TheVariants as walk_end
-use Rattle.arch_defs.specs.declared.walks.Found.{Found}
-use Rattle.arch_defs.specs.declared.walks.Found.TheVariants.{Passes, PageFaults, MissesEntry}
 use Rattle.arch_defs.specs.declared.walks.Privilege.{Privilege}
 use Rattle.arch_defs.specs.declared.walks.WalkEnd.{WalkEnd}
 use Rattle.arch_defs.specs.declared.walks.WalkEnd.TheVariants.{Leaf, PageFault, FetchEnd}
 use Rattle.arch_defs.specs.Devices.{is_on_device}
-use Rattle.arch_defs.specs.Memory.{bare, machine_memory, reading_of}
-use Rattle.arch_defs.specs.Permits.{permits_second}
+use Rattle.arch_defs.specs.FirstEntries.{HasGuestFrame, first_leaf, is_first_of, known_by, known_under}
+use Rattle.arch_defs.specs.Memory.{bare, machine_memory}
+use Rattle.arch_defs.specs.Permits.{permits_first, permits_second}
 use Rattle.arch_defs.specs.Roots.{guest_shape}
-use Rattle.arch_defs.specs.SecondStage.{guest_root_frame, has_frame_of, memory_words, place_under, second_by_walk, second_end, second_under, second_walk, walked}
-use Rattle.arch_defs.specs.Translation.{first_stage, privilege_of}
-use Rattle.arch_defs.specs.Walk.{leaf_address, walk}
-use Rattle.machine_defs.specs.Answers.{answer_of, located_by_walk}
-use Rattle.machine_defs.specs.Core.{located_by}
+use Rattle.arch_defs.specs.SecondStage.{guest_root_frame, has_frame_of, memory_words, place_under, second_end, second_under, second_walk, walked}
+use Rattle.arch_defs.specs.Walk.{leaf_address, most_levels, walk}
+use Rattle.arch_defs.specs.TableEntries.{span}
+use Rattle.stage_walk.specs.Ends.{LeafFits}
 use Rattle.two_stage_walk.specs.Places.{IsPlaceOf}
-use Rattle.two_stage_walk.specs.Reads.{placed_by}
 use Rattle.translation_buffer.specs.declared.contexts.Context.{Context}
-use Rattle.translation_buffer.specs.Places.{context_of, found_in, translated_place, second_in}
+use Rattle.translation_buffer.specs.Places.{Translator, passed, passed_by, placed_at, second_in, translated_place}
 use Rattle.translation_buffer.proofs.KeptPlaces.{second_keeps}
-use Rattle.translation_buffer.proofs.OnePage.{found_near, same_passes, same_some}
-
-answer_at : (csrs : Csrs) (mode : Mode) (memory : List ℕ) (va place : ℕ) (access : Access) (found : Found)
-    → placed_by (second_by_walk csrs mode (machine_memory memory)) access found ≡ Some place
-    → Ok place ≡ answer_of false csrs (machine_memory memory) (located_by (second_by_walk csrs mode (machine_memory memory)) mode va access found)
-answer_at csrs mode memory va place access (Passes address) is = rw is refl
-answer_at csrs mode memory va place access PageFaults is = absurd cc
-answer_at csrs mode memory va place access (MissesEntry at) is = absurd cc
-
-pub answered : (csrs : Csrs) (mode : Mode) (memory : List ℕ) (va place : ℕ) (access : Access)
-    → translated_place (context_of csrs mode) (privilege_of csrs mode) memory va access ≡ Some place
-    → Ok place ≡ answer_of false csrs (machine_memory memory) (located_by_walk csrs mode (machine_memory memory) va access)
-unfolding first_stage
-answered csrs mode memory va place access is =
-    answer_at csrs mode memory va place access (found_in (context_of csrs mode) (privilege_of csrs mode) memory va access) is
-
-pub answered_if : (csrs : Csrs) (mode : Mode) (memory : List ℕ) (va : ℕ) (access : Access) (found : Option ℕ)
-    → found ≡ translated_place (context_of csrs mode) (privilege_of csrs mode) memory va access
-    → IfSome found (λ place. Ok place ≡ answer_of false csrs (machine_memory memory) (located_by_walk csrs mode (machine_memory memory) va access))
-answered_if csrs mode memory va access (Some place) is = answered csrs mode memory va place access (sym is)
-answered_if csrs mode memory va access None is = tt
+use Rattle.translation_buffer.proofs.OnePage.{same_some}
 
 -- inside memory
 frame_inside : (place size : ℕ) → place / 4096 * 4096 + 4096 ≤ size → place < size
@@ -87,20 +66,44 @@ second_inside : (memory : List ℕ) (mxr : Bool) (root : GuestRoot) (address pla
 second_inside memory mxr guest.Bare address place kind is = bare_inside memory address place kind is
 second_inside memory mxr (guest.Table mode vmid ppn) address place kind is = walked_inside memory mxr mode ppn address place kind is
 
-offset_of : (a address : ℕ) → 4096 * (address / 4096) + a % 4096 ≡ address → address % 4096 ≡ a % 4096
-offset_of a address is = omega (arith, is)
+bare_offset : (va address : ℕ) → va ≡ address → address % 4096 ≡ va % 4096
+bare_offset va address is = omega (arith, is)
 
-pub placed_inside : (context : Context) (who : Privilege) (memory : List ℕ) (va place : ℕ) (access : Access) → length memory % 4096 ≡ 0
-    → translated_place context who memory va access ≡ Some place → IsPlaceOf (machine_memory memory) va place
-placed_inside context who memory va place access whole is = by (found_in context who memory va access) refl is
+leaf_offset : (frame va address : ℕ) → 4096 * frame + va % 4096 ≡ address → address % 4096 ≡ va % 4096
+leaf_offset frame va address is = omega (arith, is)
+
+known_offset : (who : Privilege) (va address : ℕ) (access : Access) (e : Option FirstEntry) → known_by who va access e ≡ Some address → address % 4096 ≡ va % 4096
+known_offset who va address access None is = absurd cc
+known_offset who va address access (Some e) is = by (permits_first who access (first_leaf e)) is
   where
-    by : (found : Found) → found_in context who memory va access ≡ found → placed_by (second_in context memory) access found ≡ Some place → IsPlaceOf (machine_memory memory) va place
-    by (Passes address) at placed = record {
+    by : (fit : Bool) → cond fit (Some (leaf_address (first_leaf e) va)) None ≡ Some address → address % 4096 ≡ va % 4096
+    by true is = leaf_offset e.frame va address (same_some (leaf_address (first_leaf e) va) address is)
+    by false is = absurd cc
+
+passed_offset : (first : List FirstEntry) (owner : Tag) (who : Privilege) (va address : ℕ) (access : Access) (atp : SupervisorRoot) → passed_by first owner who atp va access ≡ Some address → address % 4096 ≡ va % 4096
+unfolding known_under
+passed_offset first owner who va address access root.Bare is = bare_offset va address (same_some va address is)
+passed_offset first owner who va address access (root.Table mode asid ppn) is = known_offset who va address access (find (is_first_of owner (root.Table mode asid ppn) (va / 4096)) first) is
+
+pub placed_inside : (translated : Translator) (who : Privilege) (memory : List ℕ) (va place : ℕ) (access : Access) → length memory % 4096 ≡ 0
+    → translated_place translated who memory va access ≡ Some place → IsPlaceOf (machine_memory memory) va place
+placed_inside translated who memory va place access whole is = by (passed translated who va access) refl is
+  where
+    context : Context
+    context = translated.context
+
+    by : (found : Option ℕ) → passed translated who va access ≡ found → placed_at (second_in context memory) access found ≡ Some place → IsPlaceOf (machine_memory memory) va place
+    by (Some address) at placed = record {
       from = omega arith;
       to = second_inside memory context.mxr context.second address place access placed;
       offset = second_keeps memory context.mxr context.second address place access whole placed
-          ∙ offset_of va address (same_passes (4096 * (address / 4096) + va % 4096) address
-          (sym (found_near (second_in context memory) (reading_of (machine_memory memory)) who va va address access context.first refl at) ∙ at));
+          ∙ passed_offset translated.first translated.owner who va address access context.first at;
     }
-    by PageFaults at placed = absurd cc
-    by (MissesEntry entry) at placed = absurd cc
+    by None at placed = absurd cc
+
+-- the leaf of a cached translation
+no_span : (frame : ℕ) → frame % span 0 ≡ 0
+no_span frame = omega arith
+
+pub leaf_of_entry_fits : (e : FirstEntry) → HasGuestFrame e → LeafFits most_levels (first_leaf e)
+leaf_of_entry_fits e fits = record { frame = fits; level = omega arith; aligned = no_span e.frame }

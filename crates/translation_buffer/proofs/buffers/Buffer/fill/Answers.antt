@@ -1,0 +1,15 @@
+use Rattle.std.proofs.Common.{sym, subst}
+use Rattle.translation_buffer.specs.Places.{translator}
+use Rattle.translation_buffer.specs.Serving.{AllStand}
+use Rattle.translation_buffer.proofs.FilledPages.{all_filled_stand}
+use Rattle.translation_buffer.proofs.buffers.Buffer.fill.Goals as goal
+
+pub returns-clause-serves : goal.returns-clause-serves
+returns-clause-serves c = λ owner csrs mode memory serves. record {
+  context = serves.context;
+  who = serves.who;
+  slots = subst (λ first. AllStand c.args.self.now.read memory (translator first owner c.args.self.now.context) c.drop_pages.new.self) (sym c.fill-dropped.ensures.filled)
+      (all_filled_stand c.args.self.now.read memory c.args.first.now c.args.entry c.fill-dropped.result owner c.args.self.now.context c.drop_pages.new.self
+      c.fill-dropped.ensures.dropped c.drop_pages.ensures.lack
+      (c.drop_pages.ensures.stand c.args.self.now.read memory (translator c.args.first.now owner c.args.self.now.context) serves.slots));
+}
