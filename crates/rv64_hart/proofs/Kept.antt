@@ -1,5 +1,7 @@
 -- What an access to data leaves: the registers by which memory is accessed, and a buffer that serves on.
 use Rattle.std.proofs.Common.{◌≡◌, ◌/◌, ℕ, List, Bool, true, false, refl}
+use Rattle.arch_defs.specs.declared.first.FirstEntry.{FirstEntry}
+use Rattle.arch_defs.specs.declared.first.Tag.{Tag}
 use Rattle.arch_defs.specs.declared.registers.Virtual.{Virtual}
 use Rattle.arch_defs.specs.declared.widths.Width.{Width}
 use Rattle.arch_defs.specs.Memory.{Reading, machine_memory, reading_of, with_stored}
@@ -36,11 +38,11 @@ quiet_kept true old new (csrs, mode) none = rw (csrs, mode) none
 quiet_kept false old new keeps none = tt
 
 -- at a place in no frame that was read
-pub serves_after : (buffer : Buffer) (state new : Virtual) (memory other : List ℕ) (width : Width) (purpose : Purpose) (place : ℕ)
-    → Serves buffer state.csrs state.mode memory → has_frame buffer.read (place / 4096) ≡ false → IsPlaceFor (machine_memory memory) width place
+pub serves_after : (buffer : Buffer) (first : List FirstEntry) (tag : Tag) (state new : Virtual) (memory other : List ℕ) (width : Width) (purpose : Purpose) (place : ℕ)
+    → Serves buffer first tag state.csrs state.mode memory → has_frame buffer.read (place / 4096) ≡ false → IsPlaceFor (machine_memory memory) width place
     → new ≡ (completed (reading_of (machine_memory memory)) state width purpose place).state
     → other ≡ with_stored 0 (completed (reading_of (machine_memory memory)) state width purpose place).stored memory
-    → Serves buffer new.csrs new.mode other
-serves_after buffer state new memory other width purpose place serves free is s b =
+    → Serves buffer first tag new.csrs new.mode other
+serves_after buffer first tag state new memory other width purpose place serves free is s b =
     let (csrs, mode) = keeps_completed (reading_of (machine_memory memory)) state width purpose place in
-    rw (s, b, csrs, mode) (serves_completed buffer state.csrs state.mode memory (reading_of (machine_memory memory)) state width purpose place serves free is.aligned is.to)
+    rw (s, b, csrs, mode) (serves_completed buffer first tag state.csrs state.mode memory (reading_of (machine_memory memory)) state width purpose place serves free is.aligned is.to)

@@ -1,5 +1,6 @@
 -- Where traps go.
 use Rattle.std.proofs.Common.{◌≡◌, ℕ, ◌/◌, ◌%◌, ◌^◌, ◌<◌, List, IsTrue, false, refl, rules, arith}
+use Rattle.arch_defs.specs.declared.hart_states.HartState.{HartState}
 use Rattle.arch_defs.specs.declared.levels.Level.TheVariants as level
 use Rattle.arch_defs.specs.declared.modes.Access.{Access}
 use Rattle.arch_defs.specs.declared.modes.Access.TheVariants.{Fetch, Load, Store, ExecLoad, Implicit}
@@ -7,7 +8,6 @@ use Rattle.arch_defs.specs.declared.modes.Mode.{Mode}
 use Rattle.arch_defs.specs.declared.modes.Mode.TheVariants.{HS, U, VS, VU}
 use Rattle.arch_defs.specs.declared.modes.Trap.{Trap}
 use Rattle.arch_defs.specs.declared.registers.Csrs.{Csrs}
-use Rattle.arch_defs.specs.declared.registers.Virtual.{Virtual}
 use Rattle.arch_defs.specs.declared.walks.MissingPlace.{MissingPlace}
 use Rattle.arch_defs.specs.Bits.{bit}
 use Rattle.arch_defs.specs.SecondStage.{guest_page_trap}
@@ -47,7 +47,7 @@ kept_by_hs csrs ExecLoad h = bit_21 csrs.hedeleg h
 kept_by_hs csrs Implicit h = bit_21 csrs.hedeleg h
 kept_by_hs csrs Store h = bit_23 csrs.hedeleg h
 
-pub guest_page_fault_exits : (state : Virtual) (memory : List ℕ) (missing : MissingPlace) → state.csrs.hedeleg < 2 ^ 16
-    → end_by state memory (Raises (guest_page_trap missing)) ≡ Exits (guest_page_trap missing)
-guest_page_fault_exits state memory missing h =
-    rw (left state.csrs state.mode (guest_page_trap missing) (kept_by_hs state.csrs missing.access h)) refl
+pub guest_page_fault_exits : (s : HartState) (memory : List ℕ) (missing : MissingPlace) → s.virt.csrs.hedeleg < 2 ^ 16
+    → end_by s memory (Raises (guest_page_trap missing)) ≡ Exits (guest_page_trap missing)
+guest_page_fault_exits s memory missing h =
+    rw (left s.virt.csrs s.virt.mode (guest_page_trap missing) (kept_by_hs s.virt.csrs missing.access h)) refl

@@ -1,7 +1,7 @@
 -- Steps by what is told of them.
 use Rattle.std.proofs.Common.{◌≡◌, ℕ, ◌+◌, ◌%◌, ◌^◌, ◌<◌, List, Option, Some, Bool, true, false, refl, arith, ap, ◌∙◌}
+use Rattle.arch_defs.specs.declared.hart_states.HartState.{HartState}
 use Rattle.arch_defs.specs.declared.modes.Trap.{Trap}
-use Rattle.arch_defs.specs.declared.registers.Virtual.{Virtual}
 use Rattle.arch_defs.specs.Traps.{target}
 use Rattle.op_defs.specs.Table.{is_system}
 use Rattle.machine_defs.specs.declared.events.Event.TheVariants.{System}
@@ -14,19 +14,19 @@ pub nothing_added : (trace : ℕ) → trace < 2 ^ 64 → (trace + 0) % 2 ^ 64 �
 nothing_added trace h = omega arith
 
 -- an instruction of opcode SYSTEM
-pub system_told : (trace : ℕ) (attempt : Attempt) (state : Virtual) (memory : List ℕ) → trace < 2 ^ 64
+pub system_told : (trace : ℕ) (attempt : Attempt) (state : HartState) (memory : List ℕ) → trace < 2 ^ 64
     → attempt ≡ Makes state memory System → told_of trace attempt ≡ Tells state memory trace false
 system_told trace attempt state memory h e = rw e (ap (λ n. Tells state memory n false) (nothing_added trace h))
 
-pub is_system_told : (trace : ℕ) (attempt : Attempt) (state : Virtual) (memory : List ℕ) (pc word : ℕ)
+pub is_system_told : (trace : ℕ) (attempt : Attempt) (state : HartState) (memory : List ℕ) (pc word : ℕ)
     → trace < 2 ^ 64 → is_system word ≡ true → attempt ≡ Makes state memory (event_of pc word)
     → told_of trace attempt ≡ Tells state memory trace false
 is_system_told trace attempt state memory pc word h s e =
     system_told trace attempt state memory h (e ∙ rw s refl)
 
 -- one that is made
-pub goes_on : (watch : Bool) (trace : ℕ) (old : Virtual) (before : List ℕ) (attempt : Attempt)
-    (state : Virtual) (memory : List ℕ) (after : ℕ) → told_of trace attempt ≡ Tells state memory after false
+pub goes_on : (watch : Bool) (trace : ℕ) (old : HartState) (before : List ℕ) (attempt : Attempt)
+    (state : HartState) (memory : List ℕ) (after : ℕ) → told_of trace attempt ≡ Tells state memory after false
     → progressed watch trace (end_by old before attempt) ≡ Some (progress state memory after false)
 goes_on true trace old before (Makes s m made) state memory after e = cc
 goes_on false trace old before (Makes s m made) state memory after e = cc
@@ -37,8 +37,8 @@ pub raises : (trace : ℕ) (attempt : Attempt) (trap : Trap) → told_of trace a
 raises trace (Makes s m made) trap e = absurd (cc)
 raises trace (Raises own) trap e = cc
 
-pub trap_goes : (watch : Bool) (trace : ℕ) (old : Virtual) (before : List ℕ) (attempt : Attempt) (trap : Trap)
+pub trap_goes : (watch : Bool) (trace : ℕ) (old : HartState) (before : List ℕ) (attempt : Attempt) (trap : Trap)
     (r : Option Progress) → told_of trace attempt ≡ TellsTrap trap
-    → progressed watch trace (trapped_to old before trap (target old.csrs old.mode trap)) ≡ r
+    → progressed watch trace (trapped_to old before trap (target old.virt.csrs old.virt.mode trap)) ≡ r
     → progressed watch trace (end_by old before attempt) ≡ r
 trap_goes watch trace old before attempt trap r e p = rw (raises trace attempt trap e) p

@@ -1,33 +1,66 @@
 -- What the functions inside a run of the hart answer, in a byte each; a trap is told apart.
 use Rattle.std.specs.Prelude.{ℕ, ◌≡◌, ◌+◌, ◌%◌, ◌^◌, List, Option, Some, None, Bool, true, false, ⊤}
-use Rattle.arch_defs.specs.declared.modes.Mode.{Mode}
+use Rattle.arch_defs.specs.declared.first.FirstEntry.{FirstEntry}
+use Rattle.arch_defs.specs.declared.hart_states.HartState.{HartState}
 use Rattle.arch_defs.specs.declared.modes.Trap.{Trap}
-use Rattle.arch_defs.specs.declared.registers.Csrs.{Csrs}
 use Rattle.arch_defs.specs.declared.registers.Virtual.{Virtual}
 use Rattle.arch_defs.specs.Interrupts.{due}
 use Rattle.op_defs.specs.declared.ops.DataAccess.{DataAccess}
+use Rattle.op_defs.specs.declared.ops.Effect.{Effect}
+use Rattle.op_defs.specs.Table.{op_of}
 use Rattle.machine_defs.specs.declared.events.Event.{Event}
 use Rattle.machine_defs.specs.declared.events.Event.TheVariants as event
-use Rattle.machine_defs.specs.Core.{Located, At, at_place}
+use Rattle.machine_defs.specs.Core.{Located, At, at_place, executed, instruction}
+use Rattle.machine_defs.specs.FirstLeaves.{found_by_effect, found_by_op}
 use Rattle.machine_defs.specs.Outcomes.{Outcome}
 use Rattle.machine_defs.specs.Runs.{pc_and_word}
 use Rattle.rv64_hart.specs.declared.endings.Ended.{Ended}
 use Rattle.rv64_hart.specs.declared.endings.Ended.TheVariants.{Plain, System, Raised}
 use Rattle.rv64_hart.specs.declared.endings.StepEnd.{StepEnd}
 use Rattle.rv64_hart.specs.declared.endings.StepEnd.TheVariants.{Continues, Ends, Left}
-use Rattle.rv64_hart.specs.Steps.{Attempt, Makes, Raises, attempt_of, Progress, enters_vs}
+use Rattle.translation_buffer.specs.declared.buffers.Buffer.{Buffer}
+use Rattle.translation_buffer.specs.Serving.{Serves}
+use Rattle.rv64_hart.specs.MachineMemory.{mmu_on}
+use Rattle.rv64_hart.specs.Steps.{Attempt, Makes, Raises, attempt_of, Progress, enters_vs, with_first}
 
--- where an access is made, by the answer; where it is not, the trap that it is to the hart, whatever it is
--- for and is to follow there
-abbrev pub IsAnswered : Csrs → List ℕ → Located → Trap → Option ℕ → Type 0
-IsAnswered csrs memory located trap (Some place) = located ≡ At place
-IsAnswered csrs memory located trap None =
-    (mode : Mode) (wanted : Option DataAccess) (rest : ℕ → Outcome)
-    → attempt_of csrs mode memory (at_place wanted located rest) ≡ Raises trap
+-- a buffer of kept translations serves the accesses of the hart as it is
+abbrev pub ServesHart : Buffer → HartState → List ℕ → Type 0
+ServesHart buffer s memory = Serves buffer s.first s.tag s.virt.csrs s.virt.mode memory
+
+-- where an access is made, by the answer; where it is not, the trap that it is to the hart, whatever has been
+-- found by then, and whatever it is for and is to follow there
+abbrev pub IsAnswered : HartState → List ℕ → Located → Trap → Option ℕ → Type 0
+IsAnswered s memory located trap (Some place) = located ≡ At place
+IsAnswered s memory located trap None =
+    (first : List FirstEntry) (wanted : Option DataAccess) (rest : ℕ → Outcome)
+    → attempt_of (record s { first = first }) memory (at_place wanted located rest) ≡ Raises trap
+
+-- what the instruction of a word asks for, and one that asks for this, where its own access at pc has found
+-- nothing
+abbrev pub attempt_of_word : HartState → List ℕ → ℕ → Attempt
+attempt_of_word s memory word =
+    attempt_of (with_first s (found_by_op s.tag (mmu_on s memory) s.virt (op_of word))) memory
+    (instruction (mmu_on s memory) s.virt word)
+
+abbrev pub attempt_of_effect : HartState → List ℕ → ℕ → Effect → Attempt
+attempt_of_effect s memory word effect =
+    attempt_of (with_first s (found_by_effect s.tag (mmu_on s memory) s.virt effect)) memory
+    (executed (mmu_on s memory) s.virt word effect)
+
+-- and where it has found these first-stage translations
+abbrev pub attempt_at : List FirstEntry → HartState → List ℕ → ℕ → Attempt
+attempt_at found s memory word =
+    let after = with_first (with_first s found) (found_by_op s.tag (mmu_on s memory) s.virt (op_of word)) in
+    attempt_of after memory (instruction (mmu_on s memory) s.virt word)
+
+abbrev pub attempt_with : List FirstEntry → HartState → List ℕ → ℕ → Effect → Attempt
+attempt_with found s memory word effect =
+    let after = with_first (with_first s found) (found_by_effect s.tag (mmu_on s memory) s.virt effect) in
+    attempt_of after memory (executed (mmu_on s memory) s.virt word effect)
 
 -- what a step asks for, by how its instruction ended, the trap that is told apart, the event that the step is
 -- where the instruction is a plain one, and the state and memory after it
-abbrev pub attempt_by : Ended → Trap → Event → Virtual → List ℕ → Attempt
+abbrev pub attempt_by : Ended → Trap → Event → HartState → List ℕ → Attempt
 attempt_by Plain trap made state memory = Makes state memory made
 attempt_by System trap made state memory = Makes state memory event.System
 attempt_by Raised trap made state memory = Raises trap
@@ -47,7 +80,7 @@ IfRaised Raised P = P
 -- what a step asks for, as far as the account wants it: the state, the memory, the trace with the step's
 -- event, and whether that entered VS by a trap; or a trap
 pub data Told : Type 0 where
-  Tells : Virtual → List ℕ → ℕ → Bool → Told
+  Tells : HartState → List ℕ → ℕ → Bool → Told
   TellsTrap : Trap → Told
 
 abbrev pub told_of : ℕ → Attempt → Told
@@ -57,7 +90,7 @@ told_of trace (Raises trap) = TellsTrap trap
 
 -- the same by how the instruction ended, the trap that is told apart, and the state, memory and trace after
 -- it
-abbrev pub told_by : Ended → Trap → Virtual → List ℕ → ℕ → Told
+abbrev pub told_by : Ended → Trap → HartState → List ℕ → ℕ → Told
 told_by Plain trap state memory trace = Tells state memory trace false
 told_by System trap state memory trace = Tells state memory trace false
 told_by Raised trap state memory trace = TellsTrap trap

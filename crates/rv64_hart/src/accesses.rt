@@ -1,19 +1,23 @@
 // The accesses of an instruction of the hart: where each is made, and those to data.
 
-ghost use Rattle.std.specs.Prelude.{◌≡◌, IfSome};
+ghost use Rattle.std.specs.Prelude.{◌≡◌, [], option_map, IfNone, IfSome};
+ghost use Rattle.arch_defs.specs.FirstEntries.{HasGuestFrame, all_filled};
 ghost use Rattle.arch_defs.specs.Memory.{machine_memory};
 ghost use Rattle.op_defs.specs.declared.ops.Purpose.TheVariants.{Load, Store};
 ghost use Rattle.machine_defs.specs.declared.events.Event.{Event};
-ghost use Rattle.machine_defs.specs.Core.{At, accessed_data, word_at};
+ghost use Rattle.machine_defs.specs.Core.{At, accessed_data, kind_of, word_at};
+ghost use Rattle.machine_defs.specs.FirstLeaves.{entries_of};
 ghost use Rattle.data_access.specs.Places.{IsPlaceFor};
 ghost use Rattle.translation_buffer.specs.Serving.{Serves};
-ghost use Rattle.rv64_hart.specs.Endings.{IfPlain, IfRaised, IsAnswered, KeepsContext, attempt_by};
-ghost use Rattle.rv64_hart.specs.MachineMemory.{access_over, mmu_of_memory, reading_of_memory};
-ghost use Rattle.rv64_hart.specs.Steps.{attempt_of};
+ghost use Rattle.rv64_hart.specs.Endings.{IfPlain, IfRaised, IsAnswered, KeepsContext, ServesHart, attempt_by};
+ghost use Rattle.rv64_hart.specs.MachineMemory.{access_over, found_over, hart_state, mmu_on, reading_of_memory};
+ghost use Rattle.rv64_hart.specs.Steps.{attempt_of, with_first};
 
 use crate::endings::Ended;
-use arch_defs::{Access, Reg, Trap, Virtual, Width};
-use data_access::{DataAccess, complete, is_aligned, kind_of, load, place_for, store};
+use crate::leaves::cache;
+use crate::walked_accesses::reach;
+use arch_defs::{Access, FirstBuffer, FirstEntry, HartState, Reg, Tag, Trap, Virtual, Width};
+use data_access::{DataAccess, complete, is_aligned, kind_of, load, store};
 use phys_mem::{Mem, PhysMem};
 use translation_buffer::Buffer;
 
@@ -25,75 +29,99 @@ pub fn word_at(memory: &PhysMem, place: u64) -> u32
     memory.load_word(place)
 }
 
-/// Where in memory an instruction makes an access, by both stages as memory is; where it makes none, `trap`
-/// becomes the trap of the access.
+/// Where an access is made that finds nothing, by the buffer.
 #[inline(always)]
-pub fn access_place(
-    state: &Virtual,
-    memory: &PhysMem,
-    buffer: &mut Buffer,
-    va: u64,
-    width: Width,
-    access: Access,
-    trap: &mut Trap,
-) -> Option<u64>
-    requires serves { Serves buffer.old state.now.csrs state.now.mode memory.now }
-    ensures located { IsAnswered state.now.csrs memory.now
-        (access_over memory.now state.now va width access) trap.new result }
-    ensures place { IfSome result (λ place. IsPlaceFor (machine_memory memory.now) width place) }
-    ensures serves { Serves buffer.new state.now.csrs state.now.mode memory.now }
-{
-    match kept_place(state, memory, buffer, va, width, access) {
-        Some(place) => Some(place),
-        None => place_or_raise(state, memory, va, width, access, trap),
-    }
-}
-
-// Where an access is made, by the buffer.
-#[inline(always)]
-#[tactic(auto, using(crate::proofs::Places::at_place_found, data_access::proofs::Fitting::fits_at))]
-fn kept_place(
-    state: &Virtual,
+#[tactic(auto, using(crate::proofs::Places::at_place_found, crate::proofs::Places::nothing_found, data_access::proofs::Fitting::fits_at))]
+pub fn kept_place(
+    virt: &Virtual,
+    first: &FirstBuffer,
+    tag: &Tag,
     memory: &PhysMem,
     buffer: &mut Buffer,
     va: u64,
     width: Width,
     access: Access,
 ) -> Option<u64>
-    requires serves { Serves buffer.old state.now.csrs state.now.mode memory.now }
-    ensures located { IfSome result
-        (λ place. access_over memory.now state.now va width access ≡ At place) }
+    requires serves { Serves buffer.old first.now tag.now virt.now.csrs virt.now.mode memory.now }
+    ensures located { IfSome result (λ place.
+        access_over memory.now (hart_state virt.now first.now tag.now) va width access ≡ At place) }
+    ensures none { IfSome result (λ place.
+        found_over memory.now (hart_state virt.now first.now tag.now) va width access ≡ []) }
     ensures place { IfSome result (λ place. IsPlaceFor (machine_memory memory.now) width place) }
-    ensures serves { Serves buffer.new state.now.csrs state.now.mode memory.now }
+    ensures serves { Serves buffer.new first.now tag.now virt.now.csrs virt.now.mode memory.now }
 {
     memory.is_whole();
     if !is_aligned(va, width) {
         return None;
     }
-    match buffer.place(memory, &state.csrs, state.mode, va, access) {
+    match buffer.place(memory, &virt.csrs, virt.mode, first, tag, va, access) {
         Some(place) => Some(place),
         None => None,
     }
 }
 
-// The same with no buffer.
-#[cold]
-#[inline(never)]
-#[tactic(auto, using(crate::proofs::Places::placed, crate::proofs::Places::failed))]
-fn place_or_raise(
-    state: &Virtual,
+/// Where in memory an instruction makes an access to data, as memory is, and what that finds is cached; where
+/// it makes none, `trap` becomes the trap of the access, and nothing is cached.
+#[inline(always)]
+#[tactic(auto, using(crate::proofs::FirstFound::nothing_filled))]
+fn access_place(
+    virt: &Virtual,
+    first: &mut FirstBuffer,
+    tag: &Tag,
     memory: &PhysMem,
+    buffer: &mut Buffer,
     va: u64,
     width: Width,
     access: Access,
     trap: &mut Trap,
 ) -> Option<u64>
-    ensures located { IsAnswered state.now.csrs memory.now
-        (access_over memory.now state.now va width access) trap.new result }
+    requires serves { Serves buffer.old first.old tag.now virt.now.csrs virt.now.mode memory.now }
+    ensures located { IsAnswered (hart_state virt.now first.old tag.now) memory.now
+        (access_over memory.now (hart_state virt.now first.old tag.now) va width access)
+        trap.new result }
+    ensures found { IfSome result (λ place. first.new ≡ all_filled first.old
+        (found_over memory.now (hart_state virt.now first.old tag.now) va width access)) }
+    ensures stays { IfNone result (first.new ≡ first.old) }
     ensures place { IfSome result (λ place. IsPlaceFor (machine_memory memory.now) width place) }
+    ensures serves { Serves buffer.new first.new tag.now virt.now.csrs virt.now.mode memory.now }
 {
-    match place_for(memory, &state.csrs, state.mode, va, width, access) {
-        Ok(place) => Some(place),
+    match kept_place(virt, first, tag, memory, buffer, va, width, access) {
+        Some(place) => Some(place),
+        None => place_anew(virt, first, tag, memory, buffer, va, width, access, trap),
+    }
+}
+
+// The same with no kept translation.
+#[cold]
+#[inline(never)]
+#[tactic(auto, using(crate::proofs::Places::found, crate::proofs::Places::failed))]
+fn place_anew(
+    virt: &Virtual,
+    first: &mut FirstBuffer,
+    tag: &Tag,
+    memory: &PhysMem,
+    buffer: &mut Buffer,
+    va: u64,
+    width: Width,
+    access: Access,
+    trap: &mut Trap,
+) -> Option<u64>
+    requires serves { Serves buffer.old first.old tag.now virt.now.csrs virt.now.mode memory.now }
+    ensures located { IsAnswered (hart_state virt.now first.old tag.now) memory.now
+        (access_over memory.now (hart_state virt.now first.old tag.now) va width access)
+        trap.new result }
+    ensures found { IfSome result (λ place. first.new ≡ all_filled first.old
+        (found_over memory.now (hart_state virt.now first.old tag.now) va width access)) }
+    ensures stays { IfNone result (first.new ≡ first.old) }
+    ensures place { IfSome result (λ place. IsPlaceFor (machine_memory memory.now) width place) }
+    ensures serves { Serves buffer.new first.new tag.now virt.now.csrs virt.now.mode memory.now }
+{
+    let reached = reach(virt, first, tag, memory, va, width, access);
+    match reached.place {
+        Ok(place) => {
+            cache(first, buffer, reached.entry.as_ref());
+            Some(place)
+        }
         Err(raised) => {
             *trap = raised;
             None
@@ -104,23 +132,26 @@ fn place_or_raise(
 /// An instruction's access to data. What is kept is opened for a store also where nothing is stored, by LR
 /// and an SC that fails.
 pub fn access_data(
-    state: &mut Virtual,
+    state: &mut HartState,
     memory: &mut PhysMem,
     buffer: &mut Buffer,
     wanted: DataAccess,
     trap: &mut Trap,
 ) -> Ended
-    requires serves { Serves buffer.old state.old.csrs state.old.mode memory.old }
-    ensures ends { (event : Event) → attempt_of state.old.csrs state.old.mode memory.old
-        (accessed_data (mmu_of_memory state.old memory.old) state.old event wanted)
+    requires serves { ServesHart buffer.old state.old memory.old }
+    ensures ends { (event : Event) → attempt_of (with_first state.old
+        (found_over memory.old state.old wanted.address wanted.width (kind_of wanted.purpose))) memory.old
+        (accessed_data (mmu_on state.old memory.old) state.old.virt event wanted)
         ≡ attempt_by result trap.new event state.new memory.new }
     ensures stays { IfRaised result ((state.new ≡ state.old) × (memory.new ≡ memory.old)) }
-    ensures serves { Serves buffer.new state.new.csrs state.new.mode memory.new }
-    ensures plain { IfPlain result (KeepsContext state.old state.new) }
+    ensures serves { ServesHart buffer.new state.new memory.new }
+    ensures plain { IfPlain result (KeepsContext state.old.virt state.new.virt) }
 {
     let access = kind_of(wanted.purpose);
     match access_place(
-        state,
+        &state.virt,
+        &mut state.first,
+        &state.tag,
         memory,
         buffer,
         wanted.address,
@@ -130,17 +161,64 @@ pub fn access_data(
     ) {
         Some(at) => {
             buffer.open(at);
-            complete(memory, state, wanted.width, wanted.purpose, at);
+            complete(memory, &mut state.virt, wanted.width, wanted.purpose, at);
             Ended::Plain
         }
         None => Ended::Raised,
     }
 }
 
+/// The same of an instruction whose own access at pc has found a first-stage translation, which is cached
+/// before that of the access to data, but has no part in this access.
+pub fn access_data_anew(
+    state: &mut HartState,
+    memory: &mut PhysMem,
+    buffer: &mut Buffer,
+    wanted: DataAccess,
+    found: Option<&FirstEntry>,
+    trap: &mut Trap,
+) -> Ended
+    requires serves { ServesHart buffer.old state.old memory.old }
+    requires fits { IfSome found (λ e. HasGuestFrame e.now) }
+    ensures ends { (event : Event) → attempt_of (with_first
+        (with_first state.old (entries_of (option_map (λ e. e.now) found.entry)))
+        (found_over memory.old state.old wanted.address wanted.width (kind_of wanted.purpose))) memory.old
+        (accessed_data (mmu_on state.old memory.old) state.old.virt event wanted)
+        ≡ attempt_by result trap.new event state.new memory.new }
+    ensures stays { IfRaised result ((state.new ≡ state.old) × (memory.new ≡ memory.old)) }
+    ensures serves { ServesHart buffer.new state.new memory.new }
+    ensures plain { IfPlain result (KeepsContext state.old.virt state.new.virt) }
+{
+    let access = kind_of(wanted.purpose);
+    let (address, width) = (wanted.address, wanted.width);
+    let reached = reach(
+        &state.virt,
+        &state.first,
+        &state.tag,
+        memory,
+        address,
+        width,
+        access,
+    );
+    match reached.place {
+        Ok(at) => {
+            cache(&mut state.first, buffer, found);
+            cache(&mut state.first, buffer, reached.entry.as_ref());
+            buffer.open(at);
+            complete(memory, &mut state.virt, width, wanted.purpose, at);
+            Ended::Plain
+        }
+        Err(raised) => {
+            *trap = raised;
+            Ended::Raised
+        }
+    }
+}
+
 /// A load.
 #[inline(always)]
 pub fn load_data(
-    state: &mut Virtual,
+    state: &mut HartState,
     memory: &PhysMem,
     buffer: &mut Buffer,
     address: u64,
@@ -149,18 +227,29 @@ pub fn load_data(
     rd: Reg,
     trap: &mut Trap,
 ) -> Ended
-    requires serves { Serves buffer.old state.old.csrs state.old.mode memory.now }
-    ensures ends { (event : Event) → attempt_of state.old.csrs state.old.mode memory.now
-        (accessed_data (mmu_of_memory state.old memory.now) state.old event
+    requires serves { ServesHart buffer.old state.old memory.now }
+    ensures ends { (event : Event) → attempt_of (with_first state.old
+        (found_over memory.now state.old address width Access.Load)) memory.now
+        (accessed_data (mmu_on state.old memory.now) state.old.virt event
         (record { address = address; width = width; purpose = Load signed rd }))
         ≡ attempt_by result trap.new event state.new memory.now }
     ensures stays { IfRaised result (state.new ≡ state.old) }
-    ensures serves { Serves buffer.new state.new.csrs state.new.mode memory.now }
-    ensures plain { IfPlain result (KeepsContext state.old state.new) }
+    ensures serves { ServesHart buffer.new state.new memory.now }
+    ensures plain { IfPlain result (KeepsContext state.old.virt state.new.virt) }
 {
-    match access_place(state, memory, buffer, address, width, Access::Load, trap) {
+    match access_place(
+        &state.virt,
+        &mut state.first,
+        &state.tag,
+        memory,
+        buffer,
+        address,
+        width,
+        Access::Load,
+        trap,
+    ) {
         Some(place) => {
-            load(memory, state, width, signed, rd, place);
+            load(memory, &mut state.virt, width, signed, rd, place);
             Ended::Plain
         }
         None => Ended::Raised,
@@ -170,7 +259,7 @@ pub fn load_data(
 /// A store.
 #[inline(always)]
 pub fn store_data(
-    state: &mut Virtual,
+    state: &mut HartState,
     memory: &mut PhysMem,
     buffer: &mut Buffer,
     address: u64,
@@ -178,19 +267,30 @@ pub fn store_data(
     value: u64,
     trap: &mut Trap,
 ) -> Ended
-    requires serves { Serves buffer.old state.old.csrs state.old.mode memory.old }
-    ensures ends { (event : Event) → attempt_of state.old.csrs state.old.mode memory.old
-        (accessed_data (mmu_of_memory state.old memory.old) state.old event
+    requires serves { ServesHart buffer.old state.old memory.old }
+    ensures ends { (event : Event) → attempt_of (with_first state.old
+        (found_over memory.old state.old address width Access.Store)) memory.old
+        (accessed_data (mmu_on state.old memory.old) state.old.virt event
         (record { address = address; width = width; purpose = Store value }))
         ≡ attempt_by result trap.new event state.new memory.new }
     ensures stays { IfRaised result ((state.new ≡ state.old) × (memory.new ≡ memory.old)) }
-    ensures serves { Serves buffer.new state.new.csrs state.new.mode memory.new }
-    ensures plain { IfPlain result (KeepsContext state.old state.new) }
+    ensures serves { ServesHart buffer.new state.new memory.new }
+    ensures plain { IfPlain result (KeepsContext state.old.virt state.new.virt) }
 {
-    match access_place(state, memory, buffer, address, width, Access::Store, trap) {
+    match access_place(
+        &state.virt,
+        &mut state.first,
+        &state.tag,
+        memory,
+        buffer,
+        address,
+        width,
+        Access::Store,
+        trap,
+    ) {
         Some(place) => {
             buffer.open(place);
-            store(memory, state, width, value, place);
+            store(memory, &mut state.virt, width, value, place);
             Ended::Plain
         }
         None => Ended::Raised,

@@ -1,17 +1,20 @@
 // The hart: one step of it, and runs of steps.
 
-ghost use Rattle.std.specs.Prelude.{◌≡◌, ◌+◌, ◌^◌, ◌<◌, ◌≤◌, Some, false};
+ghost use Rattle.std.specs.Prelude.{◌≡◌, ◌+◌, ◌^◌, ◌<◌, ◌≤◌, [], IfOk, Some, false};
 ghost use Rattle.std.specs.Borrow.{sem};
 ghost use Rattle.arch_defs.specs.Registers.{virtual_at};
-ghost use Rattle.translation_buffer.specs.Serving.{Serves};
+ghost use Rattle.rv64_hart.specs.Endings.{ServesHart};
 ghost use Rattle.rv64_hart.specs.Loans.{LendsState};
+ghost use Rattle.rv64_hart.specs.MachineMemory.{hart_state};
 ghost use Rattle.rv64_hart.specs.Steps.{hart_steps, progress, is_vs_trap, IsWhy};
 
 use crate::endings::StepEnd;
 use crate::steps::step;
 use crate::tallies::Tally;
-use arch_defs::{HartState, Mode, Trap, Virtual};
+use arch_defs::{FirstBuffer, HartState, Mode, Tag, Trap, Virtual};
+use no_memory::NoMemory;
 use phys_mem::PhysMem;
+use std::alloc::Global;
 use translation_buffer::Buffer;
 
 /// Why the hart stopped.
@@ -32,8 +35,8 @@ pub struct Stop {
     pub why: Why,
 }
 
-/// The hart. Both stages of its translation walk their tables in machine memory as it is: what it keeps of
-/// walks is dropped where a store may change it.
+/// The hart. Its second stage walks its table in machine memory as it is: what it keeps of walks is dropped
+/// where a store may change it. Its first stage is by the guest's cached translations, and else by walks.
 #[derive(Drop)]
 pub struct Hart {
     state: HartState,
@@ -41,13 +44,17 @@ pub struct Hart {
 }
 
 impl Hart {
-    /// A hart in VS, all registers zero.
-    pub fn new() -> Hart
-        ensures { result.state ≡ virtual_at Mode.VS 0 }
+    /// A hart in VS, all registers zero, with no first-stage translation cached. It takes the room for these
+    /// once.
+    pub fn new(alloc: Global) -> Result<Hart, NoMemory>
+        ensures { IfOk result (λ h. h.state ≡ hart_state (virtual_at Mode.VS 0) [] Tag.Flat) }
     {
-        let state = Virtual::starting_at(Mode::VS, 0);
-        let buffer = Buffer::new(&state.csrs, state.mode);
-        Hart { state, buffer }
+        let virt = Virtual::starting_at(Mode::VS, 0);
+        let buffer = Buffer::new(&virt.csrs, virt.mode);
+        let first = FirstBuffer::new(alloc)?;
+        let tag = Tag::Flat;
+        let state = HartState { virt, first, tag };
+        Ok(Hart { state, buffer })
     }
 
     /// What the hart has, lent.
@@ -65,7 +72,7 @@ impl Hart {
         &mut self.state
     }
 
-    /// For how many accesses the hart has walked both stages, where no kept translation gave their place; it
+    /// How often the place of an access was looked for among the kept translations and was not there; it
     /// stays at 2^64-1.
     pub fn walks(&self) -> u64
         ensures { result ≡ self.now.buffer.walks }
@@ -90,7 +97,8 @@ impl Hart {
         ensures taken { tally.new.taken ≡ tally.old.taken + result.taken }
     {
         tally.enter();
-        self.buffer.restart(&self.state.csrs, self.state.mode);
+        self.buffer
+            .restart(&self.state.virt.csrs, self.state.virt.mode);
         let stop = steps(
             &mut self.state,
             memory,
@@ -114,7 +122,7 @@ fn steps(
     watch: bool,
     tally: &mut Tally,
 ) -> Stop
-    requires serves { Serves buffer.old state.old.csrs state.old.mode memory.old }
+    requires serves { ServesHart buffer.old state.old memory.old }
     ensures steps { hart_steps watch result.taken
         (progress state.old memory.old tally.old.trace false)
         ≡ Some (progress state.new memory.new tally.new.trace (is_vs_trap result.why)) }

@@ -6,12 +6,15 @@ mod accesses;
 mod endings;
 mod harts;
 mod laws;
+mod leaves;
 mod steps;
 mod tallies;
+mod walked_accesses;
 mod wanted_accesses;
 
 pub use harts::{Hart, Stop, Why};
 pub use laws::guest_page_faults_exit;
+pub use leaves::{Leaves, found_at_exit};
 pub use phys_mem::PhysMem;
 pub use tallies::Tally;
 pub use wanted_accesses::wanted_at;

@@ -1,29 +1,38 @@
 // One step of the hart.
 
-ghost use Rattle.std.specs.Prelude.{◌≡◌, ◌^◌, ◌<◌, ℕ, List, Some, IsTrue, false};
+ghost use Rattle.std.specs.Prelude.{◌≡◌, ◌^◌, ◌<◌, ℕ, List, [], Some, IfSome, IsTrue, false, option_map, unwrap_or};
+ghost use Rattle.arch_defs.specs.declared.first.FirstEntry.{FirstEntry};
+ghost use Rattle.arch_defs.specs.declared.first.Tag.{Tag};
+ghost use Rattle.arch_defs.specs.declared.hart_states.HartState.{HartState};
 ghost use Rattle.arch_defs.specs.declared.modes.Mode.{Mode};
 ghost use Rattle.arch_defs.specs.declared.registers.Csrs.{Csrs};
+ghost use Rattle.arch_defs.specs.FirstEntries.{HasGuestFrame, all_filled, names_first, unnamed_first};
 ghost use Rattle.arch_defs.specs.Interrupts.{due, interrupt_of};
 ghost use Rattle.arch_defs.specs.Traps.{entered_at, exception, is_virtual, target};
 ghost use Rattle.op_defs.specs.Meaning.{branch, jump, meaning};
 ghost use Rattle.op_defs.specs.Table.{is_system, op_of};
 ghost use Rattle.machine_defs.specs.declared.events.Event.{Event};
-ghost use Rattle.machine_defs.specs.Core.{called_from, core, event_of, executed, instruction};
+ghost use Rattle.machine_defs.specs.Core.{accessed_data, called_from, core, event_of, kind_of};
+ghost use Rattle.machine_defs.specs.FirstLeaves.{entries_of};
 ghost use Rattle.arch_defs.specs.Registers.{sets, next};
 ghost use Rattle.machine_defs.specs.Privileges.{privileged};
 ghost use Rattle.translation_buffer.specs.Serving.{Serves};
 ghost use Rattle.rv64_hart.specs.Counts.{OnlyTrace};
-ghost use Rattle.rv64_hart.specs.Endings.{IfLeft, IfPlain, IfRaised, NoneDueIfQuiet, KeepsContext, attempt_by, counted_of, told_by, told_of};
-ghost use Rattle.rv64_hart.specs.MachineMemory.{mmu_of_memory};
-ghost use Rattle.rv64_hart.specs.Steps.{Exits, Raises, attempt_of, hart_step, next_attempt, one_more_step, progress, progressed, trapped_to};
+ghost use Rattle.rv64_hart.specs.Endings.{IfLeft, IfPlain, IfRaised, NoneDueIfQuiet, KeepsContext, ServesHart, attempt_at, attempt_by, attempt_of_effect, attempt_of_word, attempt_with, counted_of, told_by, told_of};
+ghost use Rattle.rv64_hart.specs.MachineMemory.{found_over, hart_state, mmu_on};
+ghost use Rattle.rv64_hart.specs.Steps.{Exits, Raises, attempt_of, found_at_exit, hart_step, next_attempt, one_more_step, progress, progressed, trapped_to, with_first, with_found_on};
 
-use crate::accesses::{access_data, access_place, load_data, store_data, word_at};
+use crate::accesses::{access_data, access_data_anew, kept_place, load_data, store_data, word_at};
 use crate::endings::{Ended, StepEnd};
+use crate::leaves::{cache, found_at_exit};
 use crate::tallies::Tally;
+use crate::walked_accesses::reach;
 use arch_defs::{
-    Access, ECALL_FROM_HS, ECALL_FROM_USER, ECALL_FROM_VS, ILLEGAL_INSTRUCTION,
-    INSTRUCTION_MISALIGNED, Level, Mode, Reg, Trap, Virtual, Width,
+    Access, ECALL_FROM_HS, ECALL_FROM_USER, ECALL_FROM_VS, Fence, FirstBuffer, FirstEntry,
+    HartState, ILLEGAL_INSTRUCTION, INSTRUCTION_MISALIGNED, Level, Mode, Reg, Tag, Trap, Virtual,
+    Width,
 };
+use data_access::DataAccess;
 use int_ops::{alu, word_alu};
 use op_defs::{Effect, Op, Privileged};
 use op_effects::{address_at, effect_of, even, is_branch_taken};
@@ -37,7 +46,7 @@ use trap_delegation::{enter_vs, pending, target};
 #[inline(always)]
 #[tactic(auto, using(crate::proofs::Told::goes_on, crate::proofs::Told::raises, crate::proofs::Told::trap_goes), unfolding(crate::specs::Steps::hart_step, crate::specs::Steps::one_more_step))]
 pub fn step(
-    state: &mut Virtual,
+    state: &mut HartState,
     memory: &mut PhysMem,
     buffer: &mut Buffer,
     watch: bool,
@@ -45,43 +54,52 @@ pub fn step(
     tally: &mut Tally,
     trap: &mut Trap,
 ) -> StepEnd
-    requires serves { Serves buffer.old state.old.csrs state.old.mode memory.old }
-    requires quiet { NoneDueIfQuiet quiet.old state.old }
+    requires serves { ServesHart buffer.old state.old memory.old }
+    requires quiet { NoneDueIfQuiet quiet.old state.old.virt }
     ensures steps { one_more_step watch (progress state.old memory.old tally.old.trace false)
         ≡ counted_of result (progress state.new memory.new tally.new.trace) }
     ensures exits { IfLeft result (hart_step state.new memory.new ≡ Exits trap.new) }
     ensures stays { IfLeft result
         ((state.new ≡ state.old) × (memory.new ≡ memory.old) × (tally.new ≡ tally.old)) }
     ensures tally { OnlyTrace tally.old tally.new }
-    ensures serves { Serves buffer.new state.new.csrs state.new.mode memory.new }
-    ensures quiet { NoneDueIfQuiet quiet.new state.new }
+    ensures serves { ServesHart buffer.new state.new memory.new }
+    ensures quiet { NoneDueIfQuiet quiet.new state.new.virt }
 {
     let _ = tally.trace();
     match attempt(state, memory, buffer, quiet, tally, trap) {
         Ended::Plain | Ended::System => StepEnd::Continues,
         Ended::Raised => {
             *quiet = false;
-            trap_to_target(state, buffer, watch, trap)
+            trap_to_target(state, memory, buffer, watch, trap)
         }
     }
 }
 
-// Takes a trap into VS, and leaves one to HS.
+// Takes a trap into VS, with what the step has found cached, and leaves one to HS.
 #[tactic(auto, using(crate::proofs::Targets::virtual_to_vs, crate::proofs::Told::nothing_added))]
 #[inline(never)]
-fn trap_to_target(state: &mut Virtual, buffer: &mut Buffer, watch: bool, trap: &Trap) -> StepEnd
-    ensures ends { (memory : List ℕ) (trace : ℕ) → trace < 2 ^ 64 → progressed watch trace
-        (trapped_to state.old memory trap.now (target state.old.csrs state.old.mode trap.now))
-        ≡ counted_of result (progress state.new memory trace) }
-    ensures exits { IfLeft result (target state.old.csrs state.old.mode trap.now ≡ Level.HS) }
+fn trap_to_target(
+    state: &mut HartState,
+    memory: &PhysMem,
+    buffer: &mut Buffer,
+    watch: bool,
+    trap: &Trap,
+) -> StepEnd
+    requires serves { ServesHart buffer.old state.old memory.now }
+    ensures ends { (trace : ℕ) → trace < 2 ^ 64 → progressed watch trace
+        (trapped_to (with_first state.old (found_at_exit state.old memory.now)) memory.now trap.now
+        (target state.old.virt.csrs state.old.virt.mode trap.now))
+        ≡ counted_of result (progress state.new memory.now trace) }
+    ensures exits { IfLeft result
+        (target state.old.virt.csrs state.old.virt.mode trap.now ≡ Level.HS) }
     ensures stays { IfLeft result (state.new ≡ state.old) }
-    ensures serves { (memory : List ℕ) → Serves buffer.old state.old.csrs state.old.mode memory
-        → Serves buffer.new state.new.csrs state.new.mode memory }
+    ensures serves { ServesHart buffer.new state.new memory.now }
 {
-    match target(&state.csrs, state.mode, trap) {
+    match target(&state.virt.csrs, state.virt.mode, trap) {
         Level::VS => {
-            take_into_vs(state, trap);
-            follow(state, buffer);
+            cache_found(&state.virt, &mut state.first, &state.tag, memory, buffer);
+            take_into_vs(&mut state.virt, trap);
+            follow(&state.virt, buffer);
             if watch {
                 StepEnd::Ends
             } else {
@@ -90,6 +108,25 @@ fn trap_to_target(state: &mut Virtual, buffer: &mut Buffer, watch: bool, trap: &
         }
         Level::HS => StepEnd::Left,
     }
+}
+
+// Caches what the next step finds.
+#[tactic(auto, using(crate::proofs::FirstFound::filled_both))]
+fn cache_found(
+    virt: &Virtual,
+    first: &mut FirstBuffer,
+    tag: &Tag,
+    memory: &PhysMem,
+    buffer: &mut Buffer,
+)
+    requires serves { Serves buffer.old first.old tag.now virt.now.csrs virt.now.mode memory.now }
+    ensures found { first.new ≡ all_filled first.old
+        (found_at_exit (hart_state virt.now first.old tag.now) memory.now) }
+    ensures serves { Serves buffer.new first.new tag.now virt.now.csrs virt.now.mode memory.now }
+{
+    let found = found_at_exit(virt, first, tag, memory);
+    cache(first, buffer, found.at_pc.as_ref());
+    cache(first, buffer, found.of_data.as_ref());
 }
 
 // Takes a trap into VS.
@@ -102,9 +139,9 @@ fn take_into_vs(state: &mut Virtual, trap: &Trap)
 
 // Has what is kept go on for the registers and the mode as they are.
 fn follow(state: &Virtual, buffer: &mut Buffer)
-    ensures { (before : Csrs) (mode_before : Mode) (memory : List ℕ)
-        → Serves buffer.old before mode_before memory
-        → Serves buffer.new state.now.csrs state.now.mode memory }
+    ensures { (first : List FirstEntry) (tag : Tag) (before : Csrs) (mode_before : Mode) (memory : List ℕ)
+        → Serves buffer.old first tag before mode_before memory
+        → Serves buffer.new first tag state.now.csrs state.now.mode memory }
 {
     buffer.follow(&state.csrs, state.mode);
 }
@@ -113,25 +150,25 @@ fn follow(state: &Virtual, buffer: &mut Buffer)
 #[tactic(auto, using(crate::proofs::Kept::quiet_kept))]
 #[inline(always)]
 fn attempt(
-    state: &mut Virtual,
+    state: &mut HartState,
     memory: &mut PhysMem,
     buffer: &mut Buffer,
     quiet: &mut bool,
     tally: &mut Tally,
     trap: &mut Trap,
 ) -> Ended
-    requires serves { Serves buffer.old state.old.csrs state.old.mode memory.old }
-    requires quiet { NoneDueIfQuiet quiet.old state.old }
+    requires serves { ServesHart buffer.old state.old memory.old }
+    requires quiet { NoneDueIfQuiet quiet.old state.old.virt }
     ensures told { told_of tally.old.trace
-        (next_attempt state.old memory.old (due state.old.csrs state.old.mode))
+        (next_attempt state.old memory.old (due state.old.virt.csrs state.old.virt.mode))
         ≡ told_by result trap.new state.new memory.new tally.new.trace }
     ensures stays { IfRaised result
         ((state.new ≡ state.old) × (memory.new ≡ memory.old) × (tally.new ≡ tally.old)) }
     ensures tally { OnlyTrace tally.old tally.new }
-    ensures serves { Serves buffer.new state.new.csrs state.new.mode memory.new }
-    ensures quiet { NoneDueIfQuiet quiet.new state.new }
+    ensures serves { ServesHart buffer.new state.new memory.new }
+    ensures quiet { NoneDueIfQuiet quiet.new state.new.virt }
 {
-    match due_now(state, quiet) {
+    match due_now(&state.virt, quiet) {
         Some(code) => raise_interrupt(code, trap),
         None => match instruction(state, memory, buffer, tally, trap) {
             Ended::Plain => Ended::Plain,
@@ -164,58 +201,154 @@ fn due_now(state: &Virtual, quiet: &mut bool) -> Option<u64>
 }
 
 // One instruction.
-#[tactic(auto, unfolding(machine_defs::specs::Core::core))]
 #[inline(always)]
 fn instruction(
-    state: &mut Virtual,
+    state: &mut HartState,
     memory: &mut PhysMem,
     buffer: &mut Buffer,
     tally: &mut Tally,
     trap: &mut Trap,
 ) -> Ended
-    requires serves { Serves buffer.old state.old.csrs state.old.mode memory.old }
-    ensures told { told_of tally.old.trace
-        (attempt_of state.old.csrs state.old.mode memory.old
-        (core (mmu_of_memory state.old memory.old) state.old))
+    requires serves { ServesHart buffer.old state.old memory.old }
+    ensures told { told_of tally.old.trace (attempt_of (with_found_on state.old memory.old) memory.old
+        (core (mmu_on state.old memory.old) state.old.virt))
         ≡ told_by result trap.new state.new memory.new tally.new.trace }
     ensures stays { IfRaised result
         ((state.new ≡ state.old) × (memory.new ≡ memory.old) × (tally.new ≡ tally.old)) }
     ensures tally { OnlyTrace tally.old tally.new }
-    ensures serves { Serves buffer.new state.new.csrs state.new.mode memory.new }
-    ensures plain { IfPlain result (KeepsContext state.old state.new) }
+    ensures serves { ServesHart buffer.new state.new memory.new }
+    ensures plain { IfPlain result (KeepsContext state.old.virt state.new.virt) }
 {
-    let pc = state.regs.pc;
-    match access_place(state, memory, buffer, pc, Width::Word, Access::Fetch, trap) {
+    let pc = state.virt.regs.pc;
+    match kept_place(
+        &state.virt,
+        &state.first,
+        &state.tag,
+        memory,
+        buffer,
+        pc,
+        Width::Word,
+        Access::Fetch,
+    ) {
         Some(place) => counted(state, memory, buffer, word_at(memory, place), tally, trap),
-        None => Ended::Raised,
+        None => instruction_anew(state, memory, buffer, tally, trap),
     }
 }
 
-// The instruction of a word, of which the tally gets the trace where it is made.
+// The same with no kept translation of pc.
+#[cold]
+#[inline(never)]
+fn instruction_anew(
+    state: &mut HartState,
+    memory: &mut PhysMem,
+    buffer: &mut Buffer,
+    tally: &mut Tally,
+    trap: &mut Trap,
+) -> Ended
+    requires serves { ServesHart buffer.old state.old memory.old }
+    ensures told { told_of tally.old.trace (attempt_of (with_found_on state.old memory.old) memory.old
+        (core (mmu_on state.old memory.old) state.old.virt))
+        ≡ told_by result trap.new state.new memory.new tally.new.trace }
+    ensures stays { IfRaised result
+        ((state.new ≡ state.old) × (memory.new ≡ memory.old) × (tally.new ≡ tally.old)) }
+    ensures tally { OnlyTrace tally.old tally.new }
+    ensures serves { ServesHart buffer.new state.new memory.new }
+    ensures plain { IfPlain result (KeepsContext state.old.virt state.new.virt) }
+{
+    let pc = state.virt.regs.pc;
+    let (width, access) = (Width::Word, Access::Fetch);
+    let fetched = reach(
+        &state.virt,
+        &state.first,
+        &state.tag,
+        memory,
+        pc,
+        width,
+        access,
+    );
+    match fetched.place {
+        Ok(place) => {
+            let found = fetched.entry.as_ref();
+            counted_anew(
+                state,
+                memory,
+                buffer,
+                word_at(memory, place),
+                found,
+                tally,
+                trap,
+            )
+        }
+        Err(raised) => {
+            *trap = raised;
+            Ended::Raised
+        }
+    }
+}
+
+// The instruction of a word, whose own access at pc has found nothing. The tally gets the trace where it is
+// made.
 #[tactic(auto, using(crate::proofs::Told::system_told, crate::proofs::Told::is_system_told))]
 #[inline(always)]
 fn counted(
-    state: &mut Virtual,
+    state: &mut HartState,
     memory: &mut PhysMem,
     buffer: &mut Buffer,
     word: u32,
     tally: &mut Tally,
     trap: &mut Trap,
 ) -> Ended
-    requires serves { Serves buffer.old state.old.csrs state.old.mode memory.old }
+    requires serves { ServesHart buffer.old state.old memory.old }
     ensures told { told_of tally.old.trace
-        (attempt_of state.old.csrs state.old.mode memory.old
-        (instruction (mmu_of_memory state.old memory.old) state.old word))
+        (attempt_of_word state.old memory.old word)
         ≡ told_by result trap.new state.new memory.new tally.new.trace }
     ensures stays { IfRaised result
         ((state.new ≡ state.old) × (memory.new ≡ memory.old) × (tally.new ≡ tally.old)) }
     ensures tally { OnlyTrace tally.old tally.new }
-    ensures serves { Serves buffer.new state.new.csrs state.new.mode memory.new }
-    ensures plain { IfPlain result (KeepsContext state.old state.new) }
+    ensures serves { ServesHart buffer.new state.new memory.new }
+    ensures plain { IfPlain result (KeepsContext state.old.virt state.new.virt) }
 {
-    let pc = state.regs.pc;
+    let pc = state.virt.regs.pc;
     let _ = tally.trace();
     match decoded(state, memory, buffer, word, trap) {
+        Ended::Plain => {
+            if is_system(word) {
+                Ended::System
+            } else {
+                tally.count(pc, word);
+                Ended::Plain
+            }
+        }
+        Ended::System => Ended::System,
+        Ended::Raised => Ended::Raised,
+    }
+}
+
+// The same where it may have found a first-stage translation.
+#[tactic(auto, using(crate::proofs::Told::system_told, crate::proofs::Told::is_system_told))]
+fn counted_anew(
+    state: &mut HartState,
+    memory: &mut PhysMem,
+    buffer: &mut Buffer,
+    word: u32,
+    found: Option<&FirstEntry>,
+    tally: &mut Tally,
+    trap: &mut Trap,
+) -> Ended
+    requires serves { ServesHart buffer.old state.old memory.old }
+    requires fits { IfSome found (λ e. HasGuestFrame e.now) }
+    ensures told { told_of tally.old.trace
+        (attempt_at (entries_of (option_map (λ e. e.now) found.entry)) state.old memory.old word)
+        ≡ told_by result trap.new state.new memory.new tally.new.trace }
+    ensures stays { IfRaised result
+        ((state.new ≡ state.old) × (memory.new ≡ memory.old) × (tally.new ≡ tally.old)) }
+    ensures tally { OnlyTrace tally.old tally.new }
+    ensures serves { ServesHart buffer.new state.new memory.new }
+    ensures plain { IfPlain result (KeepsContext state.old.virt state.new.virt) }
+{
+    let pc = state.virt.regs.pc;
+    let _ = tally.trace();
+    match rare(state, memory, buffer, word, found, trap) {
         Ended::Plain => {
             if is_system(word) {
                 Ended::System
@@ -239,32 +372,32 @@ fn is_system(word: u32) -> bool
 
 // The instruction of a word: the common ones here, and each other by `rare`.
 #[inline(always)]
+#[tactic(auto, unfolding(arch_defs::specs::FirstEntries::all_filled))]
 fn decoded(
-    state: &mut Virtual,
+    state: &mut HartState,
     memory: &mut PhysMem,
     buffer: &mut Buffer,
     word: u32,
     trap: &mut Trap,
 ) -> Ended
-    requires serves { Serves buffer.old state.old.csrs state.old.mode memory.old }
-    ensures ends { attempt_of state.old.csrs state.old.mode memory.old
-        (instruction (mmu_of_memory state.old memory.old) state.old word)
-        ≡ attempt_by result trap.new (event_of state.old.regs.pc word) state.new memory.new }
+    requires serves { ServesHart buffer.old state.old memory.old }
+    ensures ends { attempt_of_word state.old memory.old word
+        ≡ attempt_by result trap.new (event_of state.old.virt.regs.pc word) state.new memory.new }
     ensures stays { IfRaised result ((state.new ≡ state.old) × (memory.new ≡ memory.old)) }
-    ensures serves { Serves buffer.new state.new.csrs state.new.mode memory.new }
-    ensures plain { IfPlain result (KeepsContext state.old state.new) }
+    ensures serves { ServesHart buffer.new state.new memory.new }
+    ensures plain { IfPlain result (KeepsContext state.old.virt state.new.virt) }
 {
     match decode(word) {
         Some(op) => made(state, memory, buffer, word, &op, trap),
-        None => raise(state.mode, ILLEGAL_INSTRUCTION, word as u64, trap),
+        None => raise(state.virt.mode, ILLEGAL_INSTRUCTION, word as u64, trap),
     }
 }
 
 // The instruction that a word is.
 #[inline(always)]
-#[tactic(auto, unfolding(op_defs::specs::Meaning::meaning))]
+#[tactic(auto, using(crate::proofs::FirstFound::rare_ends), unfolding(op_defs::specs::Meaning::meaning, arch_defs::specs::FirstEntries::all_filled))]
 fn made(
-    state: &mut Virtual,
+    state: &mut HartState,
     memory: &mut PhysMem,
     buffer: &mut Buffer,
     word: u32,
@@ -272,19 +405,18 @@ fn made(
     trap: &mut Trap,
 ) -> Ended
     requires op { op_of word ≡ Some op.now }
-    requires serves { Serves buffer.old state.old.csrs state.old.mode memory.old }
-    ensures ends { attempt_of state.old.csrs state.old.mode memory.old
-        (executed (mmu_of_memory state.old memory.old) state.old word (meaning op.now state.old.regs))
-        ≡ attempt_by result trap.new (event_of state.old.regs.pc word) state.new memory.new }
+    requires serves { ServesHart buffer.old state.old memory.old }
+    ensures ends { attempt_of_effect state.old memory.old word (meaning op.now state.old.virt.regs)
+        ≡ attempt_by result trap.new (event_of state.old.virt.regs.pc word) state.new memory.new }
     ensures stays { IfRaised result ((state.new ≡ state.old) × (memory.new ≡ memory.old)) }
-    ensures serves { Serves buffer.new state.new.csrs state.new.mode memory.new }
-    ensures plain { IfPlain result (KeepsContext state.old state.new) }
+    ensures serves { ServesHart buffer.new state.new memory.new }
+    ensures plain { IfPlain result (KeepsContext state.old.virt state.new.virt) }
 {
     match *op {
-        Op::Lui { rd, immediate } => sets(state, rd, immediate),
+        Op::Lui { rd, immediate } => sets(&mut state.virt, rd, immediate),
         Op::Auipc { rd, immediate } => {
-            let value = state.regs.pc.wrapping_add(immediate);
-            sets(state, rd, value)
+            let value = state.virt.regs.pc.wrapping_add(immediate);
+            sets(&mut state.virt, rd, value)
         }
         Op::AluImmediate {
             op,
@@ -292,12 +424,12 @@ fn made(
             rs1,
             immediate,
         } => {
-            let value = alu(op, state.regs.read(rs1), immediate);
-            sets(state, rd, value)
+            let value = alu(op, state.virt.regs.read(rs1), immediate);
+            sets(&mut state.virt, rd, value)
         }
         Op::Alu { op, rd, rs1, rs2 } => {
-            let value = alu(op, state.regs.read(rs1), state.regs.read(rs2));
-            sets(state, rd, value)
+            let value = alu(op, state.virt.regs.read(rs1), state.virt.regs.read(rs2));
+            sets(&mut state.virt, rd, value)
         }
         Op::WordImmediate {
             op,
@@ -305,19 +437,19 @@ fn made(
             rs1,
             immediate,
         } => {
-            let value = word_alu(op, state.regs.read(rs1), immediate);
-            sets(state, rd, value)
+            let value = word_alu(op, state.virt.regs.read(rs1), immediate);
+            sets(&mut state.virt, rd, value)
         }
         Op::Word { op, rd, rs1, rs2 } => {
-            let value = word_alu(op, state.regs.read(rs1), state.regs.read(rs2));
-            sets(state, rd, value)
+            let value = word_alu(op, state.virt.regs.read(rs1), state.virt.regs.read(rs2));
+            sets(&mut state.virt, rd, value)
         }
         Op::Jal { rd, offset } => {
-            let to = state.regs.pc.wrapping_add(offset);
+            let to = state.virt.regs.pc.wrapping_add(offset);
             jump(state, rd, to, trap)
         }
         Op::Jalr { rd, rs1, offset } => {
-            let to = even(address_at(&state.regs, rs1, offset));
+            let to = even(address_at(&state.virt.regs, rs1, offset));
             jump(state, rd, to, trap)
         }
         Op::Branch {
@@ -326,8 +458,8 @@ fn made(
             rs2,
             offset,
         } => {
-            let taken = is_branch_taken(test, state.regs.read(rs1), state.regs.read(rs2));
-            let to = state.regs.pc.wrapping_add(offset);
+            let taken = is_branch_taken(test, state.virt.regs.read(rs1), state.virt.regs.read(rs2));
+            let to = state.virt.regs.pc.wrapping_add(offset);
             branch(state, taken, to, trap)
         }
         Op::Load {
@@ -337,7 +469,7 @@ fn made(
             rs1,
             offset,
         } => {
-            let address = address_at(&state.regs, rs1, offset);
+            let address = address_at(&state.virt.regs, rs1, offset);
             load_data(state, memory, buffer, address, width, signed, rd, trap)
         }
         Op::Store {
@@ -346,11 +478,11 @@ fn made(
             rs2,
             offset,
         } => {
-            let address = address_at(&state.regs, rs1, offset);
-            let value = state.regs.read(rs2);
+            let address = address_at(&state.virt.regs, rs1, offset);
+            let value = state.virt.regs.read(rs2);
             store_data(state, memory, buffer, address, width, value, trap)
         }
-        _ => rare(state, memory, buffer, word, trap),
+        _ => rare(state, memory, buffer, word, None, trap),
     }
 }
 
@@ -366,98 +498,136 @@ fn sets(state: &mut Virtual, rd: Reg, value: u64) -> Ended
 
 // A jump, which leaves the next pc in rd.
 #[inline(always)]
-fn jump(state: &mut Virtual, rd: Reg, to: u64, trap: &mut Trap) -> Ended
-    ensures ends { (memory : List ℕ) (word : ℕ) → attempt_of state.old.csrs state.old.mode memory
-        (executed (mmu_of_memory state.old memory) state.old word (jump rd (next state.old.regs) to))
-        ≡ attempt_by result trap.new (event_of state.old.regs.pc word) state.new memory }
+#[tactic(auto, unfolding(arch_defs::specs::FirstEntries::all_filled))]
+fn jump(state: &mut HartState, rd: Reg, to: u64, trap: &mut Trap) -> Ended
+    ensures ends { (memory : List ℕ) (word : ℕ) → attempt_of_effect state.old memory word
+        (jump rd (next state.old.virt.regs) to)
+        ≡ attempt_by result trap.new (event_of state.old.virt.regs.pc word) state.new memory }
     ensures stays { IfRaised result (state.new ≡ state.old) }
-    ensures keeps { KeepsContext state.old state.new }
+    ensures keeps { KeepsContext state.old.virt state.new.virt }
+    ensures first { state.new.first ≡ state.old.first }
+    ensures tag { state.new.tag ≡ state.old.tag }
 {
     if to % 4 == 0 {
-        let next = state.regs.pc.wrapping_add(4);
-        state.regs.advance(rd, next, to);
+        let next = state.virt.regs.pc.wrapping_add(4);
+        state.virt.regs.advance(rd, next, to);
         Ended::Plain
     } else {
-        raise(state.mode, INSTRUCTION_MISALIGNED, to, trap)
+        raise(state.virt.mode, INSTRUCTION_MISALIGNED, to, trap)
     }
 }
 
 // A branch.
 #[inline(always)]
-fn branch(state: &mut Virtual, taken: bool, to: u64, trap: &mut Trap) -> Ended
-    ensures ends { (memory : List ℕ) (word : ℕ) → attempt_of state.old.csrs state.old.mode memory
-        (executed (mmu_of_memory state.old memory) state.old word (branch taken (next state.old.regs) to))
-        ≡ attempt_by result trap.new (event_of state.old.regs.pc word) state.new memory }
+#[tactic(auto, unfolding(arch_defs::specs::FirstEntries::all_filled))]
+fn branch(state: &mut HartState, taken: bool, to: u64, trap: &mut Trap) -> Ended
+    ensures ends { (memory : List ℕ) (word : ℕ) → attempt_of_effect state.old memory word
+        (branch taken (next state.old.virt.regs) to)
+        ≡ attempt_by result trap.new (event_of state.old.virt.regs.pc word) state.new memory }
     ensures stays { IfRaised result (state.new ≡ state.old) }
-    ensures keeps { KeepsContext state.old state.new }
+    ensures keeps { KeepsContext state.old.virt state.new.virt }
+    ensures first { state.new.first ≡ state.old.first }
+    ensures tag { state.new.tag ≡ state.old.tag }
 {
     if !taken {
-        state.pass();
+        state.virt.pass();
         Ended::Plain
     } else if to % 4 == 0 {
-        state.regs.advance(Reg::new(0), 0, to);
+        state.virt.regs.advance(Reg::new(0), 0, to);
         Ended::Plain
     } else {
-        raise(state.mode, INSTRUCTION_MISALIGNED, to, trap)
+        raise(state.virt.mode, INSTRUCTION_MISALIGNED, to, trap)
     }
 }
 
-// The instruction of a word, by what it asks for.
+// The instruction of a word, by what it asks for. Its own access at pc may have found a first-stage
+// translation, which is cached where it is made.
 #[inline(never)]
 fn rare(
-    state: &mut Virtual,
+    state: &mut HartState,
     memory: &mut PhysMem,
     buffer: &mut Buffer,
     word: u32,
+    found: Option<&FirstEntry>,
     trap: &mut Trap,
 ) -> Ended
-    requires serves { Serves buffer.old state.old.csrs state.old.mode memory.old }
-    ensures ends { attempt_of state.old.csrs state.old.mode memory.old
-        (instruction (mmu_of_memory state.old memory.old) state.old word)
-        ≡ attempt_by result trap.new (event_of state.old.regs.pc word) state.new memory.new }
+    requires serves { ServesHart buffer.old state.old memory.old }
+    requires fits { IfSome found (λ e. HasGuestFrame e.now) }
+    ensures ends { attempt_at
+        (entries_of (option_map (λ e. e.now) found.entry)) state.old memory.old word
+        ≡ attempt_by result trap.new (event_of state.old.virt.regs.pc word) state.new memory.new }
     ensures stays { IfRaised result ((state.new ≡ state.old) × (memory.new ≡ memory.old)) }
-    ensures serves { Serves buffer.new state.new.csrs state.new.mode memory.new }
-    ensures plain { IfPlain result (KeepsContext state.old state.new) }
+    ensures serves { ServesHart buffer.new state.new memory.new }
+    ensures plain { IfPlain result (KeepsContext state.old.virt state.new.virt) }
 {
     match decode(word) {
         Some(op) => {
-            let effect = effect_of(&op, &state.regs);
-            apply(state, memory, buffer, word, effect, trap)
+            let effect = effect_of(&op, &state.virt.regs);
+            apply(state, memory, buffer, word, effect, found, trap)
         }
-        None => raise(state.mode, ILLEGAL_INSTRUCTION, word as u64, trap),
+        None => raise(state.virt.mode, ILLEGAL_INSTRUCTION, word as u64, trap),
     }
 }
 
 // Does what an instruction asks for.
+#[tactic(auto, unfolding(arch_defs::specs::FirstEntries::all_filled))]
 fn apply(
-    state: &mut Virtual,
+    state: &mut HartState,
     memory: &mut PhysMem,
     buffer: &mut Buffer,
     word: u32,
     effect: Effect,
+    found: Option<&FirstEntry>,
     trap: &mut Trap,
 ) -> Ended
-    requires serves { Serves buffer.old state.old.csrs state.old.mode memory.old }
-    ensures ends { attempt_of state.old.csrs state.old.mode memory.old
-        (executed (mmu_of_memory state.old memory.old) state.old word effect)
-        ≡ attempt_by result trap.new (event_of state.old.regs.pc word) state.new memory.new }
+    requires serves { ServesHart buffer.old state.old memory.old }
+    requires fits { IfSome found (λ e. HasGuestFrame e.now) }
+    ensures ends { attempt_with
+        (entries_of (option_map (λ e. e.now) found.entry)) state.old memory.old word effect
+        ≡ attempt_by result trap.new (event_of state.old.virt.regs.pc word) state.new memory.new }
     ensures stays { IfRaised result ((state.new ≡ state.old) × (memory.new ≡ memory.old)) }
-    ensures serves { Serves buffer.new state.new.csrs state.new.mode memory.new }
-    ensures plain { IfPlain result (KeepsContext state.old state.new) }
+    ensures serves { ServesHart buffer.new state.new memory.new }
+    ensures plain { IfPlain result (KeepsContext state.old.virt state.new.virt) }
 {
     match effect {
         Effect::Sets { rd, value, next } => {
-            state.regs.advance(rd, value, next);
+            cache(&mut state.first, buffer, found);
+            state.virt.regs.advance(rd, value, next);
             Ended::Plain
         }
-        Effect::Raises { cause, tval } => raise(state.mode, cause, tval, trap),
-        Effect::Data(wanted) => access_data(state, memory, buffer, wanted, trap),
-        Effect::Calls => call(state.mode, trap),
+        Effect::Raises { cause, tval } => raise(state.virt.mode, cause, tval, trap),
+        Effect::Data(wanted) => data(state, memory, buffer, wanted, found, trap),
+        Effect::Calls => call(state.virt.mode, trap),
         Effect::Privileged(effect) => {
-            let ended = privileged(state, word, effect, trap);
-            follow(state, buffer);
-            ended
+            privileged(state, memory, buffer, word, effect, found, trap)
         }
+    }
+}
+
+// An access to data, by kept translations where nothing has been found before.
+#[tactic(auto, unfolding(arch_defs::specs::FirstEntries::all_filled))]
+fn data(
+    state: &mut HartState,
+    memory: &mut PhysMem,
+    buffer: &mut Buffer,
+    wanted: DataAccess,
+    found: Option<&FirstEntry>,
+    trap: &mut Trap,
+) -> Ended
+    requires serves { ServesHart buffer.old state.old memory.old }
+    requires fits { IfSome found (λ e. HasGuestFrame e.now) }
+    ensures ends { (event : Event) → attempt_of (with_first
+        (with_first state.old (entries_of (option_map (λ e. e.now) found.entry)))
+        (found_over memory.old state.old wanted.address wanted.width (kind_of wanted.purpose))) memory.old
+        (accessed_data (mmu_on state.old memory.old) state.old.virt event wanted)
+        ≡ attempt_by result trap.new event state.new memory.new }
+    ensures stays { IfRaised result ((state.new ≡ state.old) × (memory.new ≡ memory.old)) }
+    ensures serves { ServesHart buffer.new state.new memory.new }
+    ensures plain { IfPlain result (KeepsContext state.old.virt state.new.virt) }
+{
+    match found {
+        Some(_) => access_data_anew(state, memory, buffer, wanted, found, trap),
+        None => access_data(state, memory, buffer, wanted, trap),
     }
 }
 
@@ -485,8 +655,8 @@ fn raise_interrupt(code: u64, trap: &mut Trap) -> Ended
 
 // ECALL, by mode.
 fn call(mode: Mode, trap: &mut Trap) -> Ended
-    ensures trap { (csrs : Csrs) (memory : List ℕ) →
-        attempt_of csrs mode memory (called_from mode) ≡ Raises trap.new }
+    ensures trap { (s : HartState) (memory : List ℕ) → s.virt.mode ≡ mode
+        → attempt_of s memory (called_from mode) ≡ Raises trap.new }
     ensures raised { result ≡ Ended.Raised }
 {
     let cause = match mode {
@@ -497,18 +667,72 @@ fn call(mode: Mode, trap: &mut Trap) -> Ended
     raise(mode, cause, 0, trap)
 }
 
-// An instruction that the mode decides on.
+// An instruction that the mode decides on. A fence drops what it names of all that is cached by then.
 #[inline(never)]
-fn privileged(state: &mut Virtual, word: u32, effect: Privileged, trap: &mut Trap) -> Ended
-    ensures ends { (memory : List ℕ) (made : Event) →
-        attempt_of state.old.csrs state.old.mode memory (privileged state.old word effect)
-        ≡ attempt_by result trap.new made state.new memory }
+#[tactic(auto, unfolding(arch_defs::specs::FirstEntries::all_filled))]
+fn privileged(
+    state: &mut HartState,
+    memory: &PhysMem,
+    buffer: &mut Buffer,
+    word: u32,
+    effect: Privileged,
+    found: Option<&FirstEntry>,
+    trap: &mut Trap,
+) -> Ended
+    requires serves { ServesHart buffer.old state.old memory.now }
+    requires fits { IfSome found (λ e. HasGuestFrame e.now) }
+    ensures ends { (made : Event) → attempt_of
+        (with_first state.old (entries_of (option_map (λ e. e.now) found.entry))) memory.now
+        (privileged state.old.virt word effect)
+        ≡ attempt_by result trap.new made state.new memory.now }
     ensures stays { IfRaised result (state.new ≡ state.old) }
-    ensures plain { IfPlain result (KeepsContext state.old state.new) }
+    ensures serves { ServesHart buffer.new state.new memory.now }
+    ensures plain { IfPlain result (KeepsContext state.old.virt state.new.virt) }
 {
-    match perform(state, effect) {
-        Performed::Done | Performed::Waits | Performed::Fenced(_) => Ended::System,
-        Performed::Accesses(_) => raise(state.mode, ILLEGAL_INSTRUCTION, 0, trap),
-        Performed::Refused(end) => raise(state.mode, refusal_code(end), word as u64, trap),
+    match perform(&mut state.virt, effect) {
+        Performed::Done => {
+            settle(state, buffer, found);
+            Ended::System
+        }
+        Performed::Waits => {
+            settle(state, buffer, found);
+            Ended::System
+        }
+        Performed::Fenced(_) => {
+            settle(state, buffer, found);
+            Ended::System
+        }
+        Performed::FirstFenced(named, fence) => {
+            settle(state, buffer, found);
+            fence_first(state, buffer, named, &fence);
+            Ended::System
+        }
+        Performed::Accesses(_) => raise(state.virt.mode, ILLEGAL_INSTRUCTION, 0, trap),
+        Performed::Refused(end) => raise(state.virt.mode, refusal_code(end), word as u64, trap),
     }
+}
+
+// Caches what an instruction's own access at pc has found, and has what is kept go on for the registers and
+// the mode as they are.
+fn settle(state: &mut HartState, buffer: &mut Buffer, found: Option<&FirstEntry>)
+    requires fits { IfSome found (λ e. HasGuestFrame e.now) }
+    ensures state { state.new ≡ with_first state.old (entries_of (option_map (λ e. e.now) found.entry)) }
+    ensures serves { (before : Csrs) (mode_before : Mode) (memory : List ℕ)
+        → Serves buffer.old state.old.first state.old.tag before mode_before memory
+        → ServesHart buffer.new state.new memory }
+{
+    cache(&mut state.first, buffer, found);
+    follow(&state.virt, buffer);
+}
+
+// Drops the first-stage translations that a fence names, made for these accesses, or else for the hart's own,
+// and all that is kept.
+fn fence_first(state: &mut HartState, buffer: &mut Buffer, named: Option<Tag>, fence: &Fence)
+    ensures state { state.new ≡ record state.old {
+      first = unnamed_first (names_first (unwrap_or named state.old.tag) fence.now) state.old.first;
+    } }
+    ensures serves { (memory : List ℕ) → ServesHart buffer.new state.new memory }
+{
+    state.first.drop_named(named.unwrap_or(state.tag), fence);
+    buffer.restart(&state.virt.csrs, state.virt.mode);
 }

@@ -3,11 +3,12 @@
 ghost use Rattle.std.specs.Prelude.{◌≡◌};
 ghost use Rattle.op_defs.specs.Table.{op_of};
 ghost use Rattle.machine_laws.specs.MissedPlaces.{wanted_by, wanted_of};
-ghost use Rattle.rv64_hart.specs.MachineMemory.{wanted_next};
+ghost use Rattle.rv64_hart.specs.MachineMemory.{hart_state, wanted_next};
 
 use crate::accesses::word_at;
-use arch_defs::{Access, HartState, Virtual, Width};
-use data_access::{DataAccess, place_for};
+use crate::walked_accesses::reach;
+use arch_defs::{Access, FirstBuffer, Tag, Virtual, Width};
+use data_access::DataAccess;
 use op_defs::Effect;
 use op_effects::effect_of;
 use phys_mem::PhysMem;
@@ -23,33 +24,32 @@ fn wanted_by(effect: Effect) -> Option<DataAccess>
     }
 }
 
-// The access to data that a word wants, if it is an instruction.
-fn wanted_of(state: &Virtual, word: u32) -> Option<DataAccess>
-    ensures { result ≡ wanted_of state.now (op_of word) }
+/// The access to data that a word wants, if it is an instruction.
+pub fn wanted_of(virt: &Virtual, word: u32) -> Option<DataAccess>
+    ensures { result ≡ wanted_of virt.now (op_of word) }
 {
     match decode(word) {
-        Some(op) => wanted_by(effect_of(&op, &state.regs)),
+        Some(op) => wanted_by(effect_of(&op, &virt.regs)),
         None => None,
     }
 }
 
 /// The access to data that the word at pc wants, whether or not that has a place, by the hart's own fetch as
-/// memory is. None where the fetch has no place, and where the word is no instruction with such an access;
-/// that of HLV, HLVX and HSV is the host's.
+/// memory is, with these registers, these first-stage translations cached, and for these accesses. None where
+/// the fetch has no place, and where the word is no instruction with such an access; that of HLV, HLVX and
+/// HSV is the host's.
 #[tactic(auto, using(crate::proofs::Places::wanted_found, crate::proofs::Places::wanted_none))]
-pub fn wanted_at(state: &HartState, memory: &PhysMem) -> Option<DataAccess>
-    ensures { result ≡ wanted_next state.now memory.now }
+pub fn wanted_at(
+    virt: &Virtual,
+    first: &FirstBuffer,
+    tag: &Tag,
+    memory: &PhysMem,
+) -> Option<DataAccess>
+    ensures { result ≡ wanted_next (hart_state virt.now first.now tag.now) memory.now }
 {
-    let pc = state.regs.pc;
-    match place_for(
-        memory,
-        &state.csrs,
-        state.mode,
-        pc,
-        Width::Word,
-        Access::Fetch,
-    ) {
-        Ok(place) => wanted_of(state, word_at(memory, place)),
+    let pc = virt.regs.pc;
+    match reach(virt, first, tag, memory, pc, Width::Word, Access::Fetch).place {
+        Ok(place) => wanted_of(virt, word_at(memory, place)),
         Err(_) => None,
     }
 }

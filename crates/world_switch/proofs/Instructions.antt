@@ -1,6 +1,7 @@
 -- Instructions that the mode decides on, which the hart makes or leaves to the host.
 use Rattle.std.specs.Prelude.{◌&&◌}
 use Rattle.std.proofs.Common.{◌≡◌, ℕ, None, Bool, true, false, refl}
+use Rattle.arch_defs.specs.declared.cached.Fence.{Fence}
 use Rattle.arch_defs.specs.declared.csr_names.CsrEnd.TheVariants.{Virtual as VirtualInstruction}
 use Rattle.arch_defs.specs.declared.modes.Mode.{Mode}
 use Rattle.arch_defs.specs.declared.modes.Mode.TheVariants.{HS, U, VS, VU}
@@ -12,7 +13,7 @@ use Rattle.arch_defs.specs.Traps.{arrived, is_supervisor, is_virtual, mode_of, r
 use Rattle.op_defs.specs.declared.ops.Privileged.TheVariants.{Sret, Wfi, SfenceVma}
 use Rattle.machine_defs.specs.declared.events.Event.TheVariants.{System}
 use Rattle.arch_defs.specs.Registers.{passed}
-use Rattle.machine_defs.specs.Outcomes.{Done}
+use Rattle.machine_defs.specs.Outcomes.{Done, FirstFenced}
 use Rattle.machine_defs.specs.Privileges.{decided, privileged, refusal, refused, virtual_if}
 use Rattle.world_switch.specs.Hosting.{guest_state_of, hart_state_of}
 use Rattle.world_switch.specs.Laws.{FencesAlike, OwnMxr, ReturnsAlike, TimeIsLeft, WaitsAreLeft}
@@ -58,29 +59,29 @@ pub returns_alike : ReturnsAlike
 returns_alike = λ root v after word e. returned_by root v after word v.mode e
 
 -- an SFENCE.VMA
-passed_saved : (root : GuestRoot) (v after : Virtual) → Done (passed (hart_state_of root v)) None System ≡ Done after None System
-    → Done (passed v) None System ≡ Done (guest_state_of after v) None System
-passed_saved root v after e =
+passed_saved : (root : GuestRoot) (v after : Virtual) (fence : Fence) → FirstFenced (passed (hart_state_of root v)) None fence ≡ FirstFenced after None fence
+    → FirstFenced (passed v) None fence ≡ FirstFenced (guest_state_of after v) None fence
+passed_saved root v after fence e =
     let is : passed (hart_state_of root v) ≡ after = cc in
     rw (← is, same_csrs root (is_virtual v.mode) v.csrs, same_mode v.mode) refl
 
-fenced_if : (root : GuestRoot) (v after : Virtual) (word : ℕ) (kept : Bool)
-    → decided (hart_state_of root v) word SfenceVma (virtual_if kept) ≡ Done after None System
-    → decided v word SfenceVma (virtual_if kept) ≡ Done (guest_state_of after v) None System
-fenced_if root v after word true e = cc
-fenced_if root v after word false e = passed_saved root v after e
+fenced_if : (root : GuestRoot) (v after : Virtual) (word : ℕ) (fence : Fence) (kept : Bool)
+    → decided (hart_state_of root v) word (SfenceVma fence) (virtual_if kept) ≡ FirstFenced after None fence
+    → decided v word (SfenceVma fence) (virtual_if kept) ≡ FirstFenced (guest_state_of after v) None fence
+fenced_if root v after word fence true e = cc
+fenced_if root v after word fence false e = passed_saved root v after fence e
 
-fenced_by : (root : GuestRoot) (v after : Virtual) (word : ℕ) (mode : Mode)
-    → privileged (hart_state_of root (record v { mode = mode })) word SfenceVma ≡ Done after None System
-    → privileged (record v { mode = mode }) word SfenceVma ≡ Done (guest_state_of after (record v { mode = mode })) None System
+fenced_by : (root : GuestRoot) (v after : Virtual) (word : ℕ) (fence : Fence) (mode : Mode)
+    → privileged (hart_state_of root (record v { mode = mode })) word (SfenceVma fence) ≡ FirstFenced after None fence
+    → privileged (record v { mode = mode }) word (SfenceVma fence) ≡ FirstFenced (guest_state_of after (record v { mode = mode })) None fence
 unfolding privileged refusal
-fenced_by root v after word HS e = passed_saved root (record v { mode = HS }) after e
-fenced_by root v after word U e = cc
-fenced_by root v after word VS e = fenced_if root (record v { mode = VS }) after word v.csrs.hstatus.vtvm e
-fenced_by root v after word VU e = cc
+fenced_by root v after word fence HS e = passed_saved root (record v { mode = HS }) after fence e
+fenced_by root v after word fence U e = cc
+fenced_by root v after word fence VS e = fenced_if root (record v { mode = VS }) after word fence v.csrs.hstatus.vtvm e
+fenced_by root v after word fence VU e = cc
 
 pub fences_alike : FencesAlike
-fences_alike = λ root v after word e. fenced_by root v after word v.mode e
+fences_alike = λ root v after word fence e. fenced_by root v after word fence v.mode e
 
 -- a WFI, and a read of time
 waits_by : (root : GuestRoot) (v : Virtual) (word : ℕ) (mode : Mode)

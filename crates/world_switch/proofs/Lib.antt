@@ -1,3 +1,4 @@
+pub mod FirstStage
 pub mod Instructions
 pub mod Registers
 pub mod Undone

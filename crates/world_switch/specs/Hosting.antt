@@ -1,6 +1,8 @@
 -- How the hart stands for a guest: with V = 0 its VS and VU for the guest's HS and U, with V = 1 for the
 -- guest's VS and VU.
-use Rattle.std.specs.Prelude.{ℕ, ◌+◌, ◌*◌, ◌%◌, Bool, true, false, not, ◌&&◌, ◌==◌, nat_lt, if◌then◌else◌}
+use Rattle.std.specs.Prelude.{ℕ, ◌+◌, ◌*◌, ◌%◌, Bool, true, false, not, ◌&&◌, ◌==◌, nat_lt, if◌then◌else◌, List}
+use Rattle.arch_defs.specs.declared.first.FirstEntry.{FirstEntry}
+use Rattle.arch_defs.specs.declared.hart_states.HartState.{HartState}
 use Rattle.arch_defs.specs.declared.levels.Level.{Level}
 use Rattle.arch_defs.specs.declared.levels.Level.TheVariants as level
 use Rattle.arch_defs.specs.declared.modes.Mode.{Mode}
@@ -17,6 +19,7 @@ use Rattle.arch_defs.specs.Layouts.{Layout}
 use Rattle.arch_defs.specs.Registers.{clear_hypervisor_status, clear_supervisor_status, csrs_at_reset, supervisor_at_reset}
 use Rattle.arch_defs.specs.Roots.{folded_mode, host_mode}
 use Rattle.arch_defs.specs.Traps.{is_supervisor, is_virtual, mode_of}
+use Rattle.machine_defs.specs.FirstLeaves.{tag_of}
 use Rattle.machine_laws.specs.HostPlaces.{memory_place}
 use Rattle.machine_laws.specs.Renaming.{renamed}
 
@@ -84,7 +87,7 @@ hosted_csrs root true csrs = record csrs_at_reset {
   hgatp = root;
 }
 
--- what the hart has for a guest under this root, the reservation at the guest's own address
+-- the hart's state for a guest under this root, the reservation at the guest's own address
 abbrev pub hart_state_of : GuestRoot → Virtual → Virtual
 hart_state_of root virt = record {
   regs = virt.regs;
@@ -99,8 +102,8 @@ is_space_root part frame =
     nat_lt part.first_root frame
     && (nat_lt frame (part.first_root + 4 * (1 + part.spaces)) && frame % 4 == 0)
 
--- the mode of the table whose root begins at a frame: that of folded tables at a space's root, else that of the
--- host table
+-- the mode of the table whose root begins at a frame: that of folded tables at a space's root, else that of
+-- the host table
 abbrev pub mode_at : Layout → ℕ → GuestMode
 mode_at part frame = if is_space_root part frame then folded_mode else host_mode
 
@@ -115,9 +118,19 @@ host_root part = Table host_mode 0 part.first_root
 abbrev pub space_root : ℕ → GuestRoot
 space_root frame = Table folded_mode 0 frame
 
--- what the hart has for that guest under a root: its reservation is at the place in machine memory
+-- its state for that guest under a root: the reservation is at the place in machine memory
 abbrev pub hart_state_in : Layout → GuestRoot → Virtual → Virtual
 hart_state_in part root virt = renamed (memory_place part.blocks) (hart_state_of root virt)
+
+-- all that it has for that guest: beside its state the guest's first-stage translations, and for whom the
+-- guest's accesses are
+abbrev pub loaded_in : Layout → GuestRoot → Virtual → List FirstEntry → HartState
+loaded_in part root virt first =
+    record { virt = hart_state_in part root virt; first = first; tag = tag_of virt }
+
+-- a hart's with other first-stage translations
+abbrev pub with_buffer : HartState → List FirstEntry → HartState
+with_buffer hart first = record hart { first = first }
 
 -- what the guest has after the hart has run, by the guest's V; what the hart does not have for it stays
 abbrev pub saved_csrs : Bool → Csrs → Csrs → Csrs

@@ -1,5 +1,8 @@
 -- Laws of the hart that stands for a guest, whatever the root of its second stage is.
-use Rattle.std.specs.Prelude.{ℕ, ◌≡◌, ◌+◌, ◌||◌, ◌&&◌, Bool, true, false, None, Ok, Err}
+use Rattle.std.specs.Prelude.{ℕ, ◌≡◌, ◌+◌, ◌||◌, ◌&&◌, Bool, true, false, List, None, Ok, Err}
+use Rattle.arch_defs.specs.declared.cached.Fence.{Fence}
+use Rattle.arch_defs.specs.declared.first.FirstEntry.{FirstEntry}
+use Rattle.arch_defs.specs.declared.first.Tag.{Tag}
 use Rattle.arch_defs.specs.declared.csr_names.CsrEnd.TheVariants.{Illegal, Virtual as VirtualInstruction}
 use Rattle.arch_defs.specs.declared.levels.Level.TheVariants as level
 use Rattle.arch_defs.specs.declared.levels.TheConstants.{VS_SOFTWARE, VS_TIMER, VS_EXTERNAL}
@@ -13,7 +16,7 @@ use Rattle.arch_defs.specs.declared.registers.Virtual.{Virtual}
 use Rattle.arch_defs.specs.CsrAccess.{read_csr, write_csr}
 use Rattle.arch_defs.specs.Interrupts.{interrupt_of, is_ready_for_hs}
 use Rattle.arch_defs.specs.Layouts.{Layout}
-use Rattle.arch_defs.specs.Memory.{Reading, SecondStage}
+use Rattle.arch_defs.specs.Memory.{Mmu, Reading, SecondStage}
 use Rattle.arch_defs.specs.Registers.{clear_interrupts, supervisor_at_reset}
 use Rattle.arch_defs.specs.Translation.{first_stage}
 use Rattle.arch_defs.specs.Traps.{entered_at, exception, is_virtual, target}
@@ -21,7 +24,8 @@ use Rattle.op_defs.specs.declared.ops.Privileged.{Privileged}
 use Rattle.op_defs.specs.declared.ops.Privileged.TheVariants.{Sret, Wfi, SfenceVma}
 use Rattle.machine_defs.specs.declared.events.Event.TheVariants.{System}
 use Rattle.machine_laws.specs.HostPlaces.{in_ram, memory_place}
-use Rattle.machine_defs.specs.Outcomes.{Done}
+use Rattle.machine_defs.specs.FirstLeaves.{known_of, leaves_found}
+use Rattle.machine_defs.specs.Outcomes.{Done, FirstFenced}
 use Rattle.machine_defs.specs.Privileges.{privileged, refused}
 use Rattle.machine_laws.specs.Renaming.{ReservesWithin, renamed}
 use Rattle.world_switch.specs.Hosting.{guest_state_after, guest_state_of, hart_state_of, hosted_csrs, hosted_level, hosted_mode, saved_csrs}
@@ -82,6 +86,18 @@ TranslatesAlike =
     → first_stage second reading (hosted_csrs root (is_virtual mode) csrs) (hosted_mode mode) va access
     ≡ first_stage second reading csrs mode va access
 
+-- with the guest's first-stage translations and tag the hart knows the same addresses
+abbrev pub KnowsAlike : Type 0
+KnowsAlike =
+    (root : GuestRoot) (v : Virtual) (first : List FirstEntry) (tag : Tag)
+    → known_of first tag (hart_state_of root v) ≡ known_of first tag v
+
+-- and finds the same
+abbrev pub FindsAlike : Type 0
+FindsAlike =
+    (root : GuestRoot) (v : Virtual) (tag : Tag) (through : Mmu)
+    → leaves_found tag through (hart_state_of root v) ≡ leaves_found tag through v
+
 -- a read that the hart makes gives what the guest's gives, and a write that it makes leaves what the guest's
 -- leaves; a number that is illegal on the hart is illegal for the guest. Each other access is a virtual
 -- instruction on the hart, which the host makes
@@ -122,12 +138,16 @@ PrivilegedAlike effect =
     → privileged (hart_state_of root v) word effect ≡ Done after None System
     → privileged v word effect ≡ Done (guest_state_of after v) None System
 
--- so is an SRET, and an SFENCE.VMA
+-- so is an SRET
 abbrev pub ReturnsAlike : Type 0
 ReturnsAlike = PrivilegedAlike Sret
 
+-- and an SFENCE.VMA, with what it names
 abbrev pub FencesAlike : Type 0
-FencesAlike = PrivilegedAlike SfenceVma
+FencesAlike =
+    (root : GuestRoot) (v after : Virtual) (word : ℕ) (fence : Fence)
+    → privileged (hart_state_of root v) word (SfenceVma fence) ≡ FirstFenced after None fence
+    → privileged v word (SfenceVma fence) ≡ FirstFenced (guest_state_of after v) None fence
 
 -- a WFI is a virtual instruction on the hart, and so is a read of time
 abbrev pub WaitsAreLeft : Type 0

@@ -1,6 +1,6 @@
 // Laws of the definitions.
 
-ghost use Rattle.world_switch.specs.Laws.{ExceptionsAlike, FencesAlike, IllegalAlike, IllegalToWriteAlike, InterruptsAlike, IsVirtual, LoadAfterSave, NestedTrapsAlike, OwnMxr, ReadsAlike, ReturnsAlike, SaveAfterLoad, TimeIsLeft, TranslatesAlike, WaitsAreLeft, WritesAlike};
+ghost use Rattle.world_switch.specs.Laws.{ExceptionsAlike, FencesAlike, FindsAlike, IllegalAlike, IllegalToWriteAlike, InterruptsAlike, IsVirtual, KnowsAlike, LoadAfterSave, NestedTrapsAlike, OwnMxr, ReadsAlike, ReturnsAlike, SaveAfterLoad, TimeIsLeft, TranslatesAlike, WaitsAreLeft, WritesAlike};
 
 /// The hart runs with V = 1: in VS for HS and VS, and in VU for U and VU. Saving what was loaded gives back
 /// what the guest had, and loading what was saved gives back what the hart had.
@@ -10,9 +10,12 @@ pub fn load_and_save()
     ensures load_after_save { LoadAfterSave }
 {}
 
-/// Each access that the hart makes is the guest's own: its translation, and its read or write of a register.
+/// Each access that the hart makes is the guest's own: its translation, with what first-stage translations
+/// say of it and what it finds of these, and its read or write of a register.
 pub fn accesses_alike()
     ensures translations { TranslatesAlike }
+    ensures known { KnowsAlike }
+    ensures found { FindsAlike }
     ensures mxr { OwnMxr }
     ensures reads { ReadsAlike }
     ensures writes { WritesAlike }

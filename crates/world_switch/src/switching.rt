@@ -1,29 +1,55 @@
-// The hart's registers for a guest, and the guest's after the hart has run.
+// What the hart has for a guest, and what the guest has after the hart has run.
 
 ghost use Rattle.std.specs.Prelude.{◌≡◌, ℕ, Option, Some, true, false};
 ghost use Rattle.arch_defs.specs.Registers.{clear_hypervisor_status, clear_interrupts};
 ghost use Rattle.arch_defs.specs.Traps.{is_virtual};
+ghost use Rattle.machine_defs.specs.FirstLeaves.{tag_of};
 ghost use Rattle.machine_laws.specs.HostPlaces.{in_ram, memory_place};
 ghost use Rattle.machine_laws.specs.Renaming.{ReservesWithin, renamed, reservation_renamed};
-ghost use Rattle.world_switch.specs.Hosting.{after_hs_trap, all_interrupts, guest_state_of, hart_state_in, hosted_csrs, hosted_mode, is_space_root, root_at, saved_csrs, saved_mode, supervisor_with};
+ghost use Rattle.world_switch.specs.Hosting.{after_hs_trap, all_interrupts, guest_state_of, hart_state_in, hosted_csrs, hosted_mode, is_space_root, loaded_in, root_at, saved_csrs, saved_mode, supervisor_with, with_buffer};
 ghost use Rattle.world_switch.specs.Laws.{Saves, SavesBack};
 
 use arch_defs::{
-    BLOCK_SIZE, Csrs, FOLDED_MODE, GuestRoot, HOST_MODE, HartState, HypervisorStatus, Interrupts,
-    Mode, Part, SupervisorCsrs, SupervisorRoot, SupervisorStatus, Virtual,
+    BLOCK_SIZE, Csrs, FOLDED_MODE, FirstBuffer, GuestRoot, HOST_MODE, HartState, HypervisorStatus,
+    Interrupts, Mode, Part, SupervisorCsrs, SupervisorRoot, SupervisorStatus, Tag, Virtual,
 };
 use csr_file::hedeleg_bits;
 use phys_mem::RAM_BASE;
+use std::mem;
 
 // The exceptions that go to VS (codes 0 to 8, 12, 13 and 15): each that a guest with V = 0 takes, and each
 // that a guest with V = 1 can delegate.
 const OWN_EXCEPTIONS: u64 = 0xB1FF;
 
-/// Sets what the hart has for the guest that has this part: its VS and VU stand for the guest's HS and U with
-/// V = 0, and for its VS and VU with V = 1, under the table whose root begins at the frame `root`: by the
-/// mode of folded tables where that is the root of one of the part's spaces, else by the host table's. The
-/// guest's reservation is at its place in machine memory.
-pub fn load(virt: &Virtual, part: &Part, root: u64, hart: &mut HartState)
+/// Gives the hart what it has for the guest that has this part: its state by `load_state`, the guest's
+/// first-stage translations, in whose place the guest gets the hart's, and for whom the guest's accesses are.
+pub fn load(virt: &Virtual, first: &mut FirstBuffer, part: &Part, root: u64, hart: &mut HartState)
+    requires held { ReservesWithin (in_ram part.now.blocks) virt.now.reservation }
+    ensures has { hart.new ≡ loaded_in part.now (root_at part.now root) virt.now first.old }
+    ensures swaps { first.new ≡ hart.old.first }
+    ensures saves { SavesBack part.now hart.new.virt virt.now }
+{
+    load_state(virt, part, root, &mut hart.virt);
+    mem::swap(first, &mut hart.first);
+    hart.tag = tag_of(virt);
+}
+
+/// For whom the accesses of a guest are, by V and hgatp.
+pub fn tag_of(virt: &Virtual) -> Tag
+    ensures { result ≡ tag_of virt.now }
+{
+    if virt.mode.is_virtual() {
+        Tag::Nested(virt.csrs.hgatp)
+    } else {
+        Tag::Flat
+    }
+}
+
+/// Sets the state that the hart has for the guest that has this part: its VS and VU stand for the guest's HS
+/// and U with V = 0, and for its VS and VU with V = 1, under the table whose root begins at the frame `root`:
+/// by the mode of folded tables where that is the root of one of the part's spaces, else by the host table's.
+/// The guest's reservation is at its place in machine memory.
+pub fn load_state(virt: &Virtual, part: &Part, root: u64, hart: &mut Virtual)
     requires held { ReservesWithin (in_ram part.now.blocks) virt.now.reservation }
     ensures has { hart.new ≡ hart_state_in part.now (root_at part.now root) virt.now }
     ensures saves { SavesBack part.now hart.new virt.now }
@@ -35,8 +61,8 @@ pub fn load(virt: &Virtual, part: &Part, root: u64, hart: &mut HartState)
     }
 }
 
-/// Sets what the hart has for a guest with V = 0: its VS stands for the guest's HS, its VU for the guest's U.
-pub fn to_guest_hs(virt: &Virtual, part: &Part, root: u64, hart: &mut HartState)
+/// Sets the hart's state for a guest with V = 0: its VS stands for the guest's HS, its VU for the guest's U.
+pub fn to_guest_hs(virt: &Virtual, part: &Part, root: u64, hart: &mut Virtual)
     requires own { is_virtual virt.now.mode ≡ false }
     requires held { ReservesWithin (in_ram part.now.blocks) virt.now.reservation }
     ensures { hart.new ≡ hart_state_in part.now (root_at part.now root) virt.now }
@@ -45,9 +71,9 @@ pub fn to_guest_hs(virt: &Virtual, part: &Part, root: u64, hart: &mut HartState)
     set_others(virt, part, hart);
 }
 
-/// Sets what the hart has for a guest with V = 1: its VS stands for the guest's VS, its VU for the guest's
+/// Sets the hart's state for a guest with V = 1: its VS stands for the guest's VS, its VU for the guest's
 /// VU.
-pub fn to_nested(virt: &Virtual, part: &Part, root: u64, hart: &mut HartState)
+pub fn to_nested(virt: &Virtual, part: &Part, root: u64, hart: &mut Virtual)
     requires nested { is_virtual virt.now.mode ≡ true }
     requires held { ReservesWithin (in_ram part.now.blocks) virt.now.reservation }
     ensures { hart.new ≡ hart_state_in part.now (root_at part.now root) virt.now }
@@ -57,7 +83,7 @@ pub fn to_nested(virt: &Virtual, part: &Part, root: u64, hart: &mut HartState)
 }
 
 // Sets what the hart has for the guest beside its control and status registers.
-fn set_others(virt: &Virtual, part: &Part, hart: &mut HartState)
+fn set_others(virt: &Virtual, part: &Part, hart: &mut Virtual)
     requires held { ReservesWithin (in_ram part.now.blocks) virt.now.reservation }
     ensures { hart.new ≡ renamed (memory_place part.now.blocks)
         (record virt.now { csrs = hart.old.csrs; mode = hosted_mode virt.now.mode }) }
@@ -67,9 +93,20 @@ fn set_others(virt: &Virtual, part: &Part, hart: &mut HartState)
     hart.reservation = placed(part, virt.reservation);
 }
 
-/// Gives the guest that has this part what the hart has for it, by the guest's V. The reservation comes back
-/// to the guest's own address. What the hart does not have for the guest stays.
-pub fn save(hart: &HartState, part: &Part, virt: &mut Virtual)
+/// Gives the guest that has this part what the hart has for it: its state, and its first-stage translations,
+/// in whose place the hart gets those that the guest has had meanwhile.
+pub fn save(hart: &mut HartState, part: &Part, virt: &mut Virtual, first: &mut FirstBuffer)
+    ensures saves { Saves part.now hart.old.virt virt.old virt.new }
+    ensures gives { first.new ≡ hart.old.first }
+    ensures swaps { hart.new ≡ with_buffer hart.old first.old }
+{
+    save_state(&hart.virt, part, virt);
+    mem::swap(first, &mut hart.first);
+}
+
+/// Gives the guest that has this part the state that the hart has for it, by the guest's V. The reservation
+/// comes back to the guest's own address. What the hart does not have for the guest stays.
+pub fn save_state(hart: &Virtual, part: &Part, virt: &mut Virtual)
     ensures { Saves part.now hart.now virt.old virt.new }
 {
     let nested = virt.mode.is_virtual();

@@ -1,7 +1,6 @@
 use Rattle.std.proofs.Common.{◌≡◌, Some, false}
-use Rattle.translation_buffer.specs.Serving.{Serves}
 use Rattle.rv64_hart.specs.Counts.{OnlyTrace}
-use Rattle.rv64_hart.specs.Endings.{NoneDueIfQuiet}
+use Rattle.rv64_hart.specs.Endings.{NoneDueIfQuiet, ServesHart}
 use Rattle.rv64_hart.specs.Steps.{hart_steps, progress}
 use Rattle.rv64_hart.proofs.harts.steps.Given as goal
 
@@ -9,7 +8,7 @@ abbrev pub invariant-loop-taken : goal.invariant-loop-taken
 invariant-loop-taken l = record {
   steps : hart_steps l.watch l.taken (progress l.fn.state l.fn.memory l.fn.tally.trace false)
       ≡ Some (progress l.state l.memory l.tally.trace false);
-  serves : Serves l.buffer l.state.csrs l.state.mode l.memory;
-  quiet : NoneDueIfQuiet l.quiet l.state;
+  serves : ServesHart l.buffer l.state l.memory;
+  quiet : NoneDueIfQuiet l.quiet l.state.virt;
   tally : OnlyTrace l.fn.tally l.tally;
 }

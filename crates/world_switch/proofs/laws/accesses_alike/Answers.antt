@@ -1,3 +1,4 @@
+use Rattle.world_switch.proofs.FirstStage.{finds_alike, knows_alike}
 use Rattle.world_switch.proofs.Instructions.{own_mxr}
 use Rattle.world_switch.proofs.Registers.{illegal_alike, illegal_to_write_alike, reads_alike, writes_alike}
 use Rattle.world_switch.proofs.Undone.{translates_alike}
@@ -20,3 +21,9 @@ returns-clause-illegal_to_write c = illegal_to_write_alike
 
 pub returns-clause-mxr : goal.returns-clause-mxr
 returns-clause-mxr c = own_mxr
+
+pub returns-clause-known : goal.returns-clause-known
+returns-clause-known c = knows_alike
+
+pub returns-clause-found : goal.returns-clause-found
+returns-clause-found c = finds_alike

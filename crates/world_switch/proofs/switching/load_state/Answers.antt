@@ -1,6 +1,6 @@
 use Rattle.world_switch.specs.Hosting.{root_at}
 use Rattle.world_switch.proofs.Undone.{saves_back}
-use Rattle.world_switch.proofs.switching.load.Goals as goal
+use Rattle.world_switch.proofs.switching.load_state.Goals as goal
 
 pub returns-then-is_virtual-clause-saves : goal.returns-then-is_virtual-clause-saves
 returns-then-is_virtual-clause-saves c =

@@ -1,0 +1,156 @@
+-- What accesses find in the first stage.
+use Rattle.std.proofs.Common.{cond, ◌≡◌, ℕ, ◌%◌, ◌^◌, Bool, true, false, List, [], ◌∷◌, ◌++◌, Option, Some, None, Err, refl, ap, sym, subst, ◌∙◌}
+use Rattle.arch_defs.specs.declared.first.FirstEntry.{FirstEntry}
+use Rattle.arch_defs.specs.declared.first.Tag.{Tag}
+use Rattle.arch_defs.specs.declared.hart_states.HartState.{HartState}
+use Rattle.arch_defs.specs.declared.modes.Access.{Access}
+use Rattle.arch_defs.specs.declared.modes.Trap.{Trap}
+use Rattle.arch_defs.specs.declared.registers.Csrs.{Csrs}
+use Rattle.arch_defs.specs.declared.modes.Access.TheVariants.{Fetch}
+use Rattle.arch_defs.specs.declared.registers.Virtual.{Virtual}
+use Rattle.arch_defs.specs.declared.roots.SupervisorRoot.{SupervisorRoot}
+use Rattle.arch_defs.specs.declared.roots.SupervisorRoot.TheVariants as root
+use Rattle.arch_defs.specs.declared.walks.Found.TheVariants.{Passes, PageFaults}
+use Rattle.arch_defs.specs.declared.walks.LeafPte.{LeafPte}
+use Rattle.arch_defs.specs.declared.walks.Privilege.{Privilege}
+use Rattle.arch_defs.specs.declared.walks.WalkEnd.{WalkEnd}
+use Rattle.arch_defs.specs.declared.walks.WalkEnd.TheVariants.{Leaf, PageFault, FetchEnd}
+use Rattle.arch_defs.specs.declared.widths.Width.TheVariants.{Word}
+use Rattle.arch_defs.specs.FirstEntries.{all_filled, first_filled, known_under}
+use Rattle.arch_defs.specs.Memory.{Mmu, Reading, SecondStage, machine_memory}
+use Rattle.arch_defs.specs.Permits.{permits_first}
+use Rattle.arch_defs.specs.Roots.{supervisor_shape}
+use Rattle.arch_defs.specs.Translation.{entry_words_through, found_by, found_under}
+use Rattle.arch_defs.specs.Walk.{leaf_address, walk}
+use Rattle.op_defs.specs.declared.ops.DataAccess.{DataAccess}
+use Rattle.op_defs.specs.declared.ops.Effect.{Effect}
+use Rattle.op_defs.specs.declared.ops.Effect.TheVariants.{Sets, Raises, Data, Calls, Privileged}
+use Rattle.op_defs.specs.declared.ops.Op.{Op}
+use Rattle.op_defs.specs.Meaning.{meaning}
+use Rattle.op_defs.specs.Table.{op_of}
+use Rattle.machine_defs.specs.Answers.{answer_of}
+use Rattle.machine_defs.specs.Core.{At, Fails, Located, accessed_data, core, decoded, event_of, fetch_place, found_with, instruction, kind_of, word_at}
+use Rattle.machine_defs.specs.FirstLeaves.{entries_of, found_at, found_by_effect, found_by_op, found_for, leaf_if, leaf_under, leaves_found, unless_known}
+use Rattle.machine_laws.specs.MissedPlaces.{wanted_by, wanted_of}
+use Rattle.translation_buffer.specs.Places.{passed_by}
+use Rattle.rv64_hart.specs.Endings.{attempt_at, attempt_of_effect, attempt_of_word, attempt_with}
+use Rattle.rv64_hart.specs.MachineMemory.{found_on, found_over, mmu_on, reading_of_memory}
+use Rattle.rv64_hart.specs.Steps.{Attempt, attempt_of, with_first, with_found_on}
+
+-- where no table is walked, the address is passed on, and nothing is found
+pub passes : (first : List FirstEntry) (tag : Tag) (second : SecondStage) (reading : Reading) (who : Privilege) (va address : ℕ) (access : Access) (atp : SupervisorRoot)
+    → Some address ≡ passed_by first tag who atp va access
+    → Passes address ≡ found_with (known_under first tag who atp va access) (found_under second reading who va access atp)
+unfolding known_under
+passes first tag second reading who va address access root.Bare is = cc
+passes first tag second reading who va address access (root.Table mode asid ppn) is = rw (sym is) refl
+
+pub passes_without : (first : List FirstEntry) (tag : Tag) (who : Privilege) (va address : ℕ) (access : Access) (atp : SupervisorRoot) (walked : SupervisorRoot → Option FirstEntry)
+    → walked root.Bare ≡ None → Some address ≡ passed_by first tag who atp va access
+    → [] ≡ unless_known (known_under first tag who atp va access) (walked atp)
+unfolding known_under
+passes_without first tag who va address access root.Bare walked bare is = sym (ap entries_of bare)
+passes_without first tag who va address access (root.Table mode asid ppn) walked bare is = rw (sym is) refl
+
+-- else it is not known
+pub not_known : (first : List FirstEntry) (tag : Tag) (who : Privilege) (va : ℕ) (access : Access) (atp : SupervisorRoot)
+    → None ≡ passed_by first tag who atp va access → known_under first tag who atp va access ≡ None
+not_known first tag who va access root.Bare is = absurd cc
+not_known first tag who va access (root.Table mode asid ppn) is = sym is
+
+-- and a leaf that a walk finds passes it on
+leaf_by : (who : Privilege) (va : ℕ) (access : Access) (leaf : LeafPte) (end : WalkEnd) → Some leaf ≡ leaf_if who access end → Passes (leaf_address leaf va) ≡ found_by who access va end
+leaf_by who va access leaf (Leaf own) is = by (permits_first who access own) is
+  where
+    by : (fit : Bool) → Some leaf ≡ cond fit (Some own) None → Passes (leaf_address leaf va) ≡ cond fit (Passes (leaf_address own va)) PageFaults
+    by true is = let same : leaf ≡ own = cc in ap (λ (l : LeafPte). Passes (leaf_address l va)) same
+    by false is = absurd cc
+leaf_by who va access leaf PageFault is = absurd cc
+leaf_by who va access leaf (FetchEnd place trap) is = absurd cc
+
+pub leaf_passes : (through : Mmu) (who : Privilege) (va : ℕ) (access : Access) (leaf : LeafPte) (atp : SupervisorRoot) → Some leaf ≡ leaf_under through who va access atp
+    → Passes (leaf_address leaf va) ≡ found_under through.second through.reading who va access atp
+leaf_passes through who va access leaf root.Bare is = absurd cc
+leaf_passes through who va access leaf (root.Table mode asid ppn) is =
+    leaf_by who va access leaf (walk (entry_words_through through.second through.reading) (ppn % 2 ^ 44) (supervisor_shape mode) va access) is
+
+-- what the access to data finds that a word wants
+abbrev found_for_wanted : Tag → Mmu → Virtual → Option DataAccess → List FirstEntry
+found_for_wanted tag through virt None = []
+found_for_wanted tag through virt (Some wanted) = found_for tag through virt wanted.address wanted.width (kind_of wanted.purpose)
+
+effect_found : (tag : Tag) (through : Mmu) (virt : Virtual) (effect : Effect) → found_by_effect tag through virt effect ≡ found_for_wanted tag through virt (wanted_by effect)
+effect_found tag through virt (Sets rd value next) = refl
+effect_found tag through virt (Raises cause tval) = refl
+effect_found tag through virt (Data wanted) = refl
+effect_found tag through virt Calls = refl
+effect_found tag through virt (Privileged effect) = refl
+
+op_found : (tag : Tag) (through : Mmu) (virt : Virtual) (op : Option Op) → found_by_op tag through virt op ≡ found_for_wanted tag through virt (wanted_of virt op)
+op_found tag through virt None = refl
+op_found tag through virt (Some op) = effect_found tag through virt (meaning op virt.regs)
+
+pub wanted_finds : (tag : Tag) (through : Mmu) (virt : Virtual) (op : Option Op) (wanted : DataAccess) (found : List FirstEntry) → Some wanted ≡ wanted_of virt op
+    → found ≡ found_for tag through virt wanted.address wanted.width (kind_of wanted.purpose) → found ≡ found_by_op tag through virt op
+wanted_finds tag through virt op wanted found is e = e ∙ ap (found_for_wanted tag through virt) is ∙ sym (op_found tag through virt op)
+
+pub none_wanted_finds : (tag : Tag) (through : Mmu) (virt : Virtual) (op : Option Op) → None ≡ wanted_of virt op → [] ≡ found_by_op tag through virt op
+none_wanted_finds tag through virt op is = ap (found_for_wanted tag through virt) is ∙ sym (op_found tag through virt op)
+
+-- all that an instruction finds, by where its word is
+pub leaves_at : (tag : Tag) (through : Mmu) (virt : Virtual) (place : ℕ) (at_pc of_data : List FirstEntry) → fetch_place through virt ≡ At place
+    → at_pc ≡ found_for tag through virt virt.regs.pc Word Fetch → of_data ≡ found_by_op tag through virt (op_of (word_at through.reading place))
+    → at_pc ++ of_data ≡ leaves_found tag through virt
+unfolding leaves_found
+leaves_at tag through virt place at_pc of_data at one two = ap (λ xs. xs ++ of_data) one
+    ∙ ap (λ xs. found_for tag through virt virt.regs.pc Word Fetch ++ xs) (two ∙ ap (found_at tag through virt) (sym at))
+
+pub leaves_nowhere : (tag : Tag) (through : Mmu) (virt : Virtual) (at_pc : List FirstEntry) → found_at tag through virt (fetch_place through virt) ≡ []
+    → at_pc ≡ found_for tag through virt virt.regs.pc Word Fetch → at_pc ++ [] ≡ leaves_found tag through virt
+unfolding leaves_found
+leaves_nowhere tag through virt at_pc none one = ap (λ xs. xs ++ []) one ∙ ap (λ xs. found_for tag through virt virt.regs.pc Word Fetch ++ xs) (sym none)
+
+pub found_nowhere : (tag : Tag) (through : Mmu) (virt : Virtual) (csrs : Csrs) (memory : List ℕ) (located : Located) (trap : Trap)
+    → Err trap ≡ answer_of false csrs (machine_memory memory) located → found_at tag through virt located ≡ []
+found_nowhere tag through virt csrs memory (At place) trap e = absurd cc
+found_nowhere tag through virt csrs memory (Fails failure) trap e = refl
+
+-- fills one after another
+pub filled_both : (entries found more : List FirstEntry) → all_filled entries (found ++ more) ≡ all_filled (all_filled entries found) more
+unfolding all_filled
+filled_both entries [] more = refl
+filled_both entries (e ∷ es) more = filled_both (first_filled entries e) es more
+
+pub nothing_filled : (entries found : List FirstEntry) → found ≡ [] → entries ≡ all_filled entries found
+unfolding all_filled
+nothing_filled entries found none = rw none refl
+
+-- an instruction at its place
+pub goes_on_at : (s : HartState) (memory : List ℕ) (place : ℕ) (found : List FirstEntry) → fetch_place (mmu_on s memory) s.virt ≡ At place
+    → found_over memory s s.virt.regs.pc Word Fetch ≡ found
+    → attempt_of (with_found_on s memory) memory (core (mmu_on s memory) s.virt) ≡ attempt_at found s memory (word_at (reading_of_memory memory) place)
+unfolding core found_on leaves_found
+goes_on_at s memory place found at is =
+    rw (at, is) (ap (λ (first : List FirstEntry). attempt_of (record s { first = first }) memory (instruction (mmu_on s memory) s.virt (word_at (reading_of_memory memory) place)))
+    (filled_both s.first found (found_by_op s.tag (mmu_on s memory) s.virt (op_of (word_at (reading_of_memory memory) place)))))
+
+-- the instruction of a word by what it asks for
+pub op_ends : (found : List FirstEntry) (s : HartState) (memory : List ℕ) (word : ℕ) (op : Op) (effect : Effect) (r : Attempt) → op_of word ≡ Some op → effect ≡ meaning op s.virt.regs
+    → attempt_with found s memory word effect ≡ r → attempt_at found s memory word ≡ r
+op_ends found s memory word op effect r is e ends =
+    subst (λ o. attempt_of (with_first (with_first s found) (found_by_op s.tag (mmu_on s memory) s.virt o)) memory (decoded (mmu_on s memory) s.virt word o) ≡ r) (sym is)
+    (subst (λ x. attempt_with found s memory word x ≡ r) e ends)
+
+pub rare_ends : (s : HartState) (memory : List ℕ) (word : ℕ) (op : Op) (r : Attempt) → op_of word ≡ Some op → attempt_at [] s memory word ≡ r → attempt_of_effect s memory word (meaning op s.virt.regs) ≡ r
+unfolding all_filled
+rare_ends s memory word op r is ends =
+    subst (λ o. attempt_of (with_first s (found_by_op s.tag (mmu_on s memory) s.virt o)) memory (decoded (mmu_on s memory) s.virt word o) ≡ r) is ends
+
+pub word_ends : (s : HartState) (memory : List ℕ) (word : ℕ) → attempt_at [] s memory word ≡ attempt_of_word s memory word
+unfolding all_filled
+word_ends s memory word = refl
+
+pub data_ends : (s : HartState) (memory : List ℕ) (word : ℕ) (op : Op) (wanted : DataAccess) (r : Attempt) → meaning op s.virt.regs ≡ Data wanted
+    → attempt_of (with_first s (found_over memory s wanted.address wanted.width (kind_of wanted.purpose))) memory (accessed_data (mmu_on s memory) s.virt (event_of s.virt.regs.pc word) wanted) ≡ r
+    → attempt_of_effect s memory word (meaning op s.virt.regs) ≡ r
+data_ends s memory word op wanted r is ends = subst (λ effect. attempt_of_effect s memory word effect ≡ r) (sym is) ends

@@ -1,0 +1,6 @@
+use Rattle.rv64_hart.proofs.steps.cache_found.Goals as goal
+
+pub returns-clause-serves : goal.returns-clause-serves
+returns-clause-serves c =
+    c.cache-2.ensures.serves c.args.tag.now c.args.virt.now.csrs c.args.virt.now.mode c.args.memory.now
+    (c.cache.ensures.serves c.args.tag.now c.args.virt.now.csrs c.args.virt.now.mode c.args.memory.now c.requires.serves)

@@ -1,0 +1,150 @@
+// Where an access is made, and what it finds in the first stage, by no kept translation.
+
+ghost use Rattle.std.specs.Prelude.{◌≡◌, ◌%◌, ◌<◌, ◌^◌, false, IfOk, IfSome};
+ghost use Rattle.arch_defs.specs.FirstEntries.{HasGuestFrame, first_entry};
+ghost use Rattle.arch_defs.specs.Memory.{Known, machine_memory, mmu};
+ghost use Rattle.arch_defs.specs.Translation.{first_stage};
+ghost use Rattle.arch_defs.specs.Walk.{most_levels};
+ghost use Rattle.machine_defs.specs.Answers.{answer_of};
+ghost use Rattle.machine_defs.specs.Core.{found_with};
+ghost use Rattle.machine_defs.specs.FirstLeaves.{entries_of, entry_walked, known_of, unless_known};
+ghost use Rattle.data_access.specs.Places.{IsPlaceFor};
+ghost use Rattle.stage_walk.specs.Ends.{LeafFits};
+ghost use Rattle.two_stage_walk.specs.Places.{KeepsOffset};
+ghost use Rattle.rv64_hart.specs.MachineMemory.{access_over, found_over, hart_state, mmu_on, reading_of_memory, second_of_memory};
+
+use arch_defs::{
+    Access, FirstBuffer, FirstEntry, Found, LeafPte, SupervisorRoot, Tag, Trap, Virtual, Width,
+};
+use data_access::is_aligned;
+use phys_mem::{Mem, PhysMem};
+use translation_buffer::passed_by;
+use two_stage_walk::{
+    first_leaf, first_stage, leaf_address, privilege_of, supervisor_of, translate_found,
+};
+
+/// Where an access is made, or its trap, and the first-stage translation that it finds.
+#[derive(Clone, Copy)]
+pub struct Reached {
+    pub place: Result<u64, Trap>,
+    pub entry: Option<FirstEntry>,
+}
+
+// What the first stage makes of an address, and the translation that it finds.
+#[derive(Clone, Copy)]
+struct FirstStage {
+    found: Found,
+    entry: Option<FirstEntry>,
+}
+
+// The translation of an address's one page under a leaf.
+fn first_entry(tag: &Tag, atp: SupervisorRoot, va: u64, leaf: &LeafPte) -> FirstEntry
+    requires { LeafFits most_levels leaf.now }
+    ensures value { result ≡ first_entry tag.now atp va leaf.now }
+    ensures fits { HasGuestFrame result }
+{
+    FirstEntry {
+        tag: *tag,
+        atp,
+        page: va / 4096,
+        frame: leaf_address(leaf, va) / 4096,
+        r: leaf.r,
+        w: leaf.w,
+        x: leaf.x,
+        u: leaf.u,
+        level: leaf.level,
+    }
+}
+
+// The same by a walk.
+#[tactic(auto, using(crate::proofs::FirstFound::leaf_passes), unfolding(arch_defs::specs::Translation::first_stage, machine_defs::specs::FirstLeaves::entry_walked))]
+fn walked(virt: &Virtual, tag: &Tag, memory: &PhysMem, va: u64, access: Access) -> FirstStage
+    ensures found { result.found ≡ first_stage (second_of_memory virt.now memory.now)
+        (reading_of_memory memory.now) virt.now.csrs virt.now.mode va access }
+    ensures entry { (known : Known) → result.entry ≡ entry_walked tag.now
+        (mmu known (second_of_memory virt.now memory.now) (reading_of_memory memory.now))
+        virt.now va access }
+    ensures offset { KeepsOffset va result.found }
+    ensures fits { IfSome result.entry HasGuestFrame }
+{
+    memory.is_whole();
+    match first_leaf(memory, &virt.csrs, virt.mode, va, access) {
+        Some(leaf) => {
+            let atp = supervisor_of(&virt.csrs, virt.mode).atp;
+            FirstStage {
+                found: Found::Passes(leaf_address(&leaf, va)),
+                entry: Some(first_entry(tag, atp, va, &leaf)),
+            }
+        }
+        None => FirstStage {
+            found: first_stage(memory, &virt.csrs, virt.mode, va, access),
+            entry: None,
+        },
+    }
+}
+
+// What the first stage makes of an address by the translations that are cached, and else by a walk.
+#[tactic(auto, unfolding(arch_defs::specs::Translation::first_stage, machine_defs::specs::FirstLeaves::entry_walked))]
+fn first_stage_of(
+    virt: &Virtual,
+    first: &FirstBuffer,
+    tag: &Tag,
+    memory: &PhysMem,
+    va: u64,
+    access: Access,
+) -> FirstStage
+    ensures found { result.found ≡ found_with (known_of first.now tag.now virt.now va access)
+        (first_stage (second_of_memory virt.now memory.now) (reading_of_memory memory.now)
+        virt.now.csrs virt.now.mode va access) }
+    ensures entry { entries_of result.entry ≡ unless_known (known_of first.now tag.now virt.now va access)
+        (entry_walked tag.now (mmu_on (hart_state virt.now first.now tag.now) memory.now)
+        virt.now va access) }
+    ensures offset { KeepsOffset va result.found }
+    ensures fits { IfSome result.entry HasGuestFrame }
+{
+    let who = privilege_of(&virt.csrs, virt.mode);
+    let atp = supervisor_of(&virt.csrs, virt.mode).atp;
+    match passed_by(first, tag, who, atp, va, access) {
+        Some(address) => FirstStage {
+            found: Found::Passes(address),
+            entry: None,
+        },
+        None => walked(virt, tag, memory, va, access),
+    }
+}
+
+/// Where an access is made, or its trap to the hart, and the first-stage translation that it finds: by those
+/// that are cached, and else by walks.
+#[tactic(auto, using(data_access::proofs::Fitting::fits_at))]
+pub fn reach(
+    virt: &Virtual,
+    first: &FirstBuffer,
+    tag: &Tag,
+    memory: &PhysMem,
+    va: u64,
+    width: Width,
+    access: Access,
+) -> Reached
+    ensures place { result.place ≡ answer_of false virt.now.csrs (machine_memory memory.now)
+        (access_over memory.now (hart_state virt.now first.now tag.now) va width access) }
+    ensures entry { entries_of result.entry
+        ≡ found_over memory.now (hart_state virt.now first.now tag.now) va width access }
+    ensures inside { IfOk result.place (λ place. IsPlaceFor (machine_memory memory.now) width place) }
+    ensures fits { IfSome result.entry HasGuestFrame }
+{
+    memory.is_whole();
+    if !is_aligned(va, width) {
+        let trap = Trap::of_exception(virt.mode, access.faults().misaligned, va);
+        return Reached {
+            place: Err(trap),
+            entry: None,
+        };
+    }
+    let stage = first_stage_of(virt, first, tag, memory, va, access);
+    let found = stage.found;
+    let place = translate_found(memory, &virt.csrs, virt.mode, va, access, false, found);
+    Reached {
+        place,
+        entry: stage.entry,
+    }
+}
