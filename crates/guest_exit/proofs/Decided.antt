@@ -16,7 +16,7 @@ use Rattle.op_defs.specs.declared.ops.Op.TheVariants as op
 use Rattle.op_defs.specs.declared.ops.Privileged.{Privileged}
 use Rattle.op_defs.specs.declared.ops.Privileged.TheVariants.{Wfi, SfenceVma, HfenceVvma, HfenceGvma}
 use Rattle.op_defs.specs.declared.ops.DataAccess.{DataAccess}
-use Rattle.op_defs.specs.Meaning.{fence_named, meaning}
+use Rattle.op_defs.specs.Meaning.{fence_named, first_fence_named, meaning}
 use Rattle.op_defs.specs.Table.{op_of}
 use Rattle.machine_defs.specs.declared.events.Event.TheVariants.{System}
 use Rattle.machine_defs.specs.Core.{decoded}
@@ -108,8 +108,10 @@ none_by state word p None h = h
 makes_none : (o : Op) (state : Virtual) (word : ℕ) (through : Mmu) → IsWaitOrFence o → MakesNone (decoded through state word (Some o))
 unfolding privileged meaning
 makes_none op.Wfi state word through kind = none_by state word Wfi (refusal Wfi state.csrs.hstatus state.mode) tt
-makes_none (op.SfenceVma rs1 rs2) state word through kind = none_by state word SfenceVma (refusal SfenceVma state.csrs.hstatus state.mode) tt
-makes_none (op.HfenceVvma rs1 rs2) state word through kind = none_by state word HfenceVvma (refusal HfenceVvma state.csrs.hstatus state.mode) tt
+makes_none (op.SfenceVma rs1 rs2) state word through kind =
+    let fence = first_fence_named rs1 rs2 state.regs in none_by state word (SfenceVma fence) (refusal (SfenceVma fence) state.csrs.hstatus state.mode) tt
+makes_none (op.HfenceVvma rs1 rs2) state word through kind =
+    let fence = first_fence_named rs1 rs2 state.regs in none_by state word (HfenceVvma fence) (refusal (HfenceVvma fence) state.csrs.hstatus state.mode) tt
 makes_none (op.HfenceGvma rs1 rs2) state word through kind =
     let fence = fence_named rs1 rs2 state.regs in none_by state word (HfenceGvma fence) (refusal (HfenceGvma fence) state.csrs.hstatus state.mode) tt
 makes_none other state word through kind = absurd kind
@@ -130,8 +132,10 @@ waits_by state word p None h = h
 passes_if_waits : (o : Op) (state : Virtual) (word : ℕ) (through : Mmu) → IsWaitOrFence o → PassesIfWaits state (decoded through state word (Some o))
 unfolding privileged meaning
 passes_if_waits op.Wfi state word through kind = waits_by state word Wfi (refusal Wfi state.csrs.hstatus state.mode) refl
-passes_if_waits (op.SfenceVma rs1 rs2) state word through kind = waits_by state word SfenceVma (refusal SfenceVma state.csrs.hstatus state.mode) tt
-passes_if_waits (op.HfenceVvma rs1 rs2) state word through kind = waits_by state word HfenceVvma (refusal HfenceVvma state.csrs.hstatus state.mode) tt
+passes_if_waits (op.SfenceVma rs1 rs2) state word through kind =
+    let fence = first_fence_named rs1 rs2 state.regs in waits_by state word (SfenceVma fence) (refusal (SfenceVma fence) state.csrs.hstatus state.mode) tt
+passes_if_waits (op.HfenceVvma rs1 rs2) state word through kind =
+    let fence = first_fence_named rs1 rs2 state.regs in waits_by state word (HfenceVvma fence) (refusal (HfenceVvma fence) state.csrs.hstatus state.mode) tt
 passes_if_waits (op.HfenceGvma rs1 rs2) state word through kind =
     let fence = fence_named rs1 rs2 state.regs in waits_by state word (HfenceGvma fence) (refusal (HfenceGvma fence) state.csrs.hstatus state.mode) tt
 passes_if_waits other state word through kind = absurd kind

@@ -1,7 +1,8 @@
 -- Which exit a trap of the hart is, and what is known of a step by it.
 use Rattle.std.specs.Prelude.{◌==◌, ◌&&◌, ◌↔◌, nat_lt, ◌-◌}
-use Rattle.std.proofs.Common.{cond, ◌≡◌, ◌^◌, ◌<◌, Bool, true, false, Option, Some, None, refl, ap, sym, arith, ◌∙◌}
+use Rattle.std.proofs.Common.{cond, ◌≡◌, ◌^◌, ◌<◌, Bool, true, false, List, Option, Some, None, refl, ap, sym, arith, ◌∙◌}
 use Rattle.arch_defs.specs.declared.cached.Entry.{Entry}
+use Rattle.arch_defs.specs.declared.first.FirstEntry.{FirstEntry}
 use Rattle.arch_defs.specs.declared.modes.Trap.{Trap}
 use Rattle.arch_defs.specs.declared.modes.TheConstants.{VIRTUAL_INSTRUCTION}
 use Rattle.arch_defs.specs.declared.registers.Virtual.{Virtual}
@@ -22,7 +23,7 @@ use Rattle.guest_exit.specs.declared.exit_cases.Exit.{Exit}
 use Rattle.guest_exit.specs.declared.exit_cases.Exit.TheVariants.{Instruction, Missing, Call, Own}
 use Rattle.guest_exit.specs.declared.hart_exit.Handled.{Handled}
 use Rattle.guest_exit.specs.declared.hart_exit.Handled.TheVariants as handled
-use Rattle.guest_exit.specs.ExitCases.{IsLeft, data_wanted, decided_at, decided_in, entry_for, entry_for_exit, exit_of, far_exit, instruction_exit, is_guest_page_code, missing_place_exit, other_exit, try_at}
+use Rattle.guest_exit.specs.ExitCases.{IsLeft, data_wanted, decided_at, decided_in, entry_for, entry_for_exit, exit_of, far_exit, having_found, instruction_exit, is_guest_page_code, missing_place_exit, other_exit, try_at}
 use Rattle.guest_exit.specs.HartExit.{IfInstruction, IsDecidedOp, IsHandled, IsMadeOf, status_after}
 use Rattle.guest_exit.proofs.Decided.{decided_at_is}
 use Rattle.guest_exit.proofs.ForGood.{never_waits, waits_exactly}
@@ -45,9 +46,9 @@ unfolding exit_of
 page_exit_is v trap page = rw page refl
 
 -- where it is read so, the step that is left is so
-pub left_as : (m : Machine) (tried : Tried) (lacks : Option Entry) (trap : Trap) (left : Exit) → exit_of m.platform.virt trap ≡ left → tried ≡ try_at m left → lacks ≡ entry_for_exit m left
-    → IsLeft m tried lacks (exit_of m.platform.virt trap)
-left_as m tried lacks trap left is step missing_entry = rw is (record { step = step; fills = missing_entry })
+pub left_as : (m : Machine) (found : List FirstEntry) (tried : Tried) (lacks : Option Entry) (trap : Trap) (left : Exit) → exit_of m.platform.virt trap ≡ left → tried ≡ try_at found m left
+    → lacks ≡ entry_for_exit m left → IsLeft m found tried lacks (exit_of m.platform.virt trap)
+left_as m found tried lacks trap left is step missing_entry = rw is (record { step = step; fills = missing_entry })
 
 -- an instruction that is left is one on which the mode decides, and its fields fit
 either_decided : (b : Bool) (one other : Exit) → IfInstruction one → IfInstruction other → IfInstruction (cond b one other)
@@ -76,8 +77,8 @@ exit_decided v trap =
     (either_decided (trap.cause == VIRTUAL_INSTRUCTION) _ _ (instruction_decided trap (decided_at trap.tval) (decided_at_is trap.tval)) (other_decided trap (is_virtual v.mode)))
 
 -- what is made of the exit is made of the machine's next step
-pub handled_by : (m after : Machine) (left : Exit) (result : Handled) → IsLeft m (try m) (missing_entry m) left → IsMadeOf left result m after → IsHandled result m after
-handled_by m after left result is made = record {
+pub handled_by : (m after : Machine) (left : Exit) (found : List FirstEntry) (result : Handled) → IsLeft m found (try m) (missing_entry m) left → IsMadeOf left found result m after → IsHandled result m after
+handled_by m after left found result is made = record {
   step = λ went. record { ready = is.fills ∙ made.ready went; step = made.step went ∙ ap (left_by m) (sym is.step) };
   fill = λ retry. let filled = made.fill retry in (filled.0, is.fills ∙ filled.1, filled.2);
 }
@@ -110,22 +111,22 @@ filled_by m missing e some = by (folds m.platform.virt) refl some
     by false flat some = absurd (cc)
 
 -- so the try is a trap
-filled_traps : (m : Machine) (left : Exit) (e : Entry) → entry_for_exit m left ≡ Some e → (trap : Trap) × (try_at m left ≡ trapped m trap)
-filled_traps m (Missing missing) e some = (_, ap (unplaced m missing (data_wanted m)) (filled_by m missing e some).off)
-filled_traps m (Instruction o) e some = absurd (cc)
-filled_traps m Call e some = absurd (cc)
-filled_traps m (Own trap) e some = absurd (cc)
+filled_traps : (m : Machine) (found : List FirstEntry) (left : Exit) (e : Entry) → entry_for_exit m left ≡ Some e → (trap : Trap) × (try_at found m left ≡ trapped (having_found found m) trap)
+filled_traps m found (Missing missing) e some = (_, ap (unplaced (having_found found m) missing (data_wanted m)) (filled_by m missing e some).off)
+filled_traps m found (Instruction o) e some = absurd (cc)
+filled_traps m found Call e some = absurd (cc)
+filled_traps m found (Own trap) e some = absurd (cc)
 
 -- the answer tells of a wait for good
-pub handled_waits : (m after : Machine) (left : Exit) (result : Handled) → m.platform.status ≡ Running → IsLeft m (try m) (missing_entry m) left → IsMadeOf left result m after
+pub handled_waits : (m after : Machine) (left : Exit) (found : List FirstEntry) (result : Handled) → m.platform.status ≡ Running → IsLeft m found (try m) (missing_entry m) left → IsMadeOf left found result m after
     → after.platform.status ≡ status_after result → (result ≡ handled.Waits) ↔ (try m ≡ WaitsForGood)
-handled_waits m after left handled.Retry running is made status =
+handled_waits m after left found handled.Retry running is made status =
     let filled = made.fill refl in
-    let trap = filled_traps m left filled.0 filled.1 in
-    never_waits m trap.0 handled.Retry (λ e. absurd (cc)) (is.step ∙ trap.1)
-handled_waits m after left handled.Stepped running is made status =
-    waits_exactly m after handled.Stepped running (((handled_by m after left handled.Stepped is made).step (λ e. absurd (cc))).step) status
-handled_waits m after left handled.Waits running is made status =
-    waits_exactly m after handled.Waits running (((handled_by m after left handled.Waits is made).step (λ e. absurd (cc))).step) status
-handled_waits m after left handled.Stopped running is made status =
-    waits_exactly m after handled.Stopped running (((handled_by m after left handled.Stopped is made).step (λ e. absurd (cc))).step) status
+    let trap = filled_traps m found left filled.0 filled.1 in
+    never_waits m (having_found found m) trap.0 handled.Retry (λ e. absurd (cc)) (is.step ∙ trap.1)
+handled_waits m after left found handled.Stepped running is made status =
+    waits_exactly m after handled.Stepped running (((handled_by m after left found handled.Stepped is made).step (λ e. absurd (cc))).step) status
+handled_waits m after left found handled.Waits running is made status =
+    waits_exactly m after handled.Waits running (((handled_by m after left found handled.Waits is made).step (λ e. absurd (cc))).step) status
+handled_waits m after left found handled.Stopped running is made status =
+    waits_exactly m after handled.Stopped running (((handled_by m after left found handled.Stopped is made).step (λ e. absurd (cc))).step) status

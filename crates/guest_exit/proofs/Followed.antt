@@ -13,7 +13,7 @@ use Rattle.arch_defs.specs.declared.registers.Virtual.{Virtual}
 use Rattle.arch_defs.specs.declared.walks.MissingPlace.{MissingPlace}
 use Rattle.arch_defs.specs.Frames.{in_blocks}
 use Rattle.arch_defs.specs.Layouts.{Layout, in_tables}
-use Rattle.arch_defs.specs.Memory.{block_size, machine_memory, nothing_known, ram_base, ram_memory, reading_of, with_stored}
+use Rattle.arch_defs.specs.Memory.{block_size, machine_memory, mmu, ram_base, ram_memory, reading_of, with_stored}
 use Rattle.arch_defs.specs.Ram.{SlicesLieIn}
 use Rattle.arch_defs.specs.Roots.{guest_shape, is_table, folded_mode}
 use Rattle.arch_defs.specs.SecondStage.{guest_page_trap, missing_place_by, missing_place_under, second_by_walk, second_walk}
@@ -22,23 +22,29 @@ use Rattle.arch_defs.proofs.RamBlocks.{blocks_lie_in, ram_length}
 use Rattle.arch_defs.proofs.Rooms.{first_lies}
 use Rattle.machine_laws.specs.HostPlaces.{in_ram, memory_place}
 use Rattle.machine_defs.specs.Machine.{Machine, Tried, stepped_to, trapped}
-use Rattle.machine_defs.specs.Tries.{apply_outcome, committed, device_of, enters, mmu_of, second_of, stages_of, tried_with, try_under, unplaced}
-use Rattle.machine_defs.specs.Outcomes.{Outcome, Done, Trapped, Missed, Called, Waits, Fenced, Accesses}
-use Rattle.machine_laws.specs.Renaming.{IsRenamed, LeavesWithin, Places, outcome_renamed, renamed}
+use Rattle.machine_defs.specs.FirstLeaves.{leaves_found, tag_of}
+use Rattle.machine_defs.specs.Tries.{apply_outcome, committed, device_of, enters, found_by_outcome, found_by_try, found_with_code, mmu_of, second_of, stages_of, tried_with, try_under, unplaced}
+use Rattle.machine_defs.specs.Outcomes.{Outcome, Done, Trapped, Missed, Called, Waits, Fenced, FirstFenced, Accesses}
+use Rattle.arch_defs.specs.declared.first.FirstEntry.{FirstEntry}
+use Rattle.arch_defs.specs.FirstEntries.{all_filled}
+use Rattle.arch_defs.proofs.FrameSets.{only_none}
+use Rattle.machine_laws.specs.Renaming.{IsRenamed, KeepsPage, LeavesWithin, Places, outcome_renamed, renamed}
 use Rattle.machine_laws.proofs.HostPlaces.{only_ram_changes, ram_is_renamed, ram_is_stored}
+use Rattle.machine_laws.proofs.RenamedLeaves.{renamed_leaves}
 use Rattle.machine_laws.proofs.Renaming.{renamed_core, stays_held}
+use Rattle.world_switch.proofs.FirstStage.{finds_alike, knows_alike}
 use Rattle.host_tables.specs.Walks.{IsHeld}
 use Rattle.host_tables.proofs.Held.{gives_ram, host_misses}
-use Rattle.world_switch.specs.Hosting.{after_hs_trap, guest_state_after, guest_state_of, hart_state_in, hart_state_of, host_root, hosted_csrs, hosted_mode, is_space_root, space_root}
+use Rattle.world_switch.specs.Hosting.{after_hs_trap, guest_state_after, guest_state_of, hart_state_in, hart_state_of, host_root, hosted_csrs, hosted_mode, is_space_root, loaded_in, space_root}
 use Rattle.world_switch.proofs.Undone.{saved_v, virtual_mode}
 use Rattle.guest_exit.specs.declared.exit_cases.Exit.{Exit}
 use Rattle.guest_exit.specs.declared.exit_cases.Exit.TheVariants as case
-use Rattle.guest_exit.specs.ExitCases.{access_fault_for, data_wanted, entry_for_exit, is_guest_page_code, missing_place_exit, try_at}
+use Rattle.guest_exit.specs.ExitCases.{access_fault_for, data_wanted, entry_for_exit, found_next, having_found, is_guest_page_code, missing_place_exit, try_at}
 use Rattle.guest_exit.proofs.ExitCases.{and_false, left_as, page_exit_is}
 use Rattle.guest_exit.proofs.Missed.{far_is}
 use Rattle.guest_exit.specs.HartSteps.{Follows, FollowsTry, IsAt, event_for, host_takes, root_for}
-use Rattle.rv64_hart.specs.MachineMemory.{reading_of_memory, second_of_memory, wanted_next}
-use Rattle.rv64_hart.specs.Steps.{attempt_of, end_by, enters_vs, hart_step, next_attempt}
+use Rattle.rv64_hart.specs.MachineMemory.{found_on, mmu_on, reading_of_memory, second_of_memory, wanted_next}
+use Rattle.rv64_hart.specs.Steps.{attempt_of, end_by, enters_vs, found_at_exit, found_by_attempt as hart_finds, hart_step, next_attempt, with_first}
 use Rattle.guest_exit.proofs.Agreement.{core_stands, wanted_alike}
 use Rattle.guest_exit.proofs.Interrupts.{IsDue, due_alike}
 use Rattle.guest_exit.proofs.Delegation.{never_20, never_21, never_23}
@@ -71,7 +77,7 @@ use Rattle.machine_laws.specs.HostPlaces.{ram_size}
 use Rattle.machine_laws.proofs.HostPlaces.{places_are_renamed}
 use Rattle.machine_laws.specs.MissedPlaces.{told_place, wanted_at}
 use Rattle.machine_laws.proofs.MissedPlaces.{missed_is_told, missed_is_wanted}
-use Rattle.machine_laws.proofs.Placed.{LocatedAlike, accessed_alike, nothing_keeps}
+use Rattle.machine_laws.proofs.Placed.{LocatedAlike, accessed_alike, cached_keeps_page}
 use Rattle.machine_laws.proofs.InRam.{gives_ram as gives_own_ram}
 use Rattle.machine_laws.proofs.Filling.{flat_misses_nothing, interrupted_misses_nothing}
 use Rattle.machine_laws.specs.Keeping.{IsOrderly}
@@ -103,6 +109,7 @@ decided_ready m (Trapped trap) is = none_of (folds m.platform.virt)
 decided_ready m Called is = none_of (folds m.platform.virt)
 decided_ready m (Waits state) is = none_of (folds m.platform.virt)
 decided_ready m (Fenced state fence) is = none_of (folds m.platform.virt)
+decided_ready m (FirstFenced state named fence) is = none_of (folds m.platform.virt)
 decided_ready m (Accesses access) is = none_of (folds m.platform.virt)
 
 traps_decided : (s : Virtual) (lone : Outcome) (trap : Trap) → Traps s lone trap → IsDecided lone
@@ -145,15 +152,15 @@ hosts Store = record { kept = kept_23; fault = refl; own = refl }
 hosts ExecLoad = record { kept = kept_21; fault = refl; own = refl }
 hosts Implicit = record { kept = kept_21; fault = refl; own = refl }
 
-guest_page_left : (part : Layout) (root : GuestRoot) (m : Machine) (memory : List ℕ) (missing : MissingPlace) (tried : Tried) (lacks : Option Entry) (left : Exit)
-    → missing_place_exit m.platform.virt (guest_page_trap missing) (folds m.platform.virt) ≡ left → tried ≡ try_at m left → lacks ≡ entry_for_exit m left
-    → FollowsTry part root m tried lacks memory (taken part root m memory (guest_page_trap missing))
-guest_page_left part root m memory missing tried lacks left is step missing_entry =
+guest_page_left : (part : Layout) (root : GuestRoot) (m : Machine) (memory : List ℕ) (found : List FirstEntry) (missing : MissingPlace) (tried : Tried) (lacks : Option Entry) (left : Exit)
+    → missing_place_exit m.platform.virt (guest_page_trap missing) (folds m.platform.virt) ≡ left → tried ≡ try_at found m left → lacks ≡ entry_for_exit m left
+    → FollowsTry part root m found tried lacks memory (taken part root m (all_filled m.first found) memory (guest_page_trap missing))
+guest_page_left part root m memory found missing tried lacks left is step missing_entry =
     let v = m.platform.virt in
     let trap = guest_page_trap missing in
     let h = hosts missing.access in
     rw (to_host (hosted_csrs root (is_virtual v.mode) v.csrs) (hosted_mode v.mode) trap (virtual_mode v.mode) (h.kept root (is_virtual v.mode) v.csrs))
-    (left_as m tried lacks trap left (page_exit_is v trap h.fault ∙ is) step missing_entry)
+    (left_as m found tried lacks trap left (page_exit_is v trap h.fault ∙ is) step missing_entry)
 
 -- where the machine does not fold, an access without a place is an access fault
 flat_fault : (v : Virtual) (ram : List ℕ) (missing : MissingPlace) → folds v ≡ false → missing.mode ≡ v.mode
@@ -172,9 +179,10 @@ flat_fault v ram missing flat mode =
 far_told : (address : ℕ) → nat_lt (address / 4) (2 ^ (guest_bits - 2)) ≡ false → nat_lt address (2 ^ guest_bits) ≡ false
 far_told address far = grind (arith, far)
 
-far_step : (m : Machine) (own : MissingPlace) (wanted : Option DataAccess) (trap : Trap) → device_of m own.address own.kind ≡ false
-    → missing_place_trap m.platform.virt.csrs (ram_memory m.ram) own ≡ trap → apply_outcome (device_of m) m (Missed own wanted) ≡ trapped m trap
-far_step m own wanted trap off is = rw (off, is) refl
+far_step : (m : Machine) (found : List FirstEntry) (own : MissingPlace) (wanted : Option DataAccess) (trap : Trap) → device_of m own.address own.kind ≡ false
+    → missing_place_trap m.platform.virt.csrs (ram_memory m.ram) own ≡ trap
+    → apply_outcome (device_of m) (having_found found m) (Missed own wanted) ≡ trapped (having_found found m) trap
+far_step m found own wanted trap off is = ap (unplaced (having_found found m) own wanted) off ∙ ap (trapped (having_found found m)) is
 
 far_off : (address : ℕ) → nat_lt address (2 ^ guest_bits) ≡ false → is_on_device address ≡ false
 far_off address far = grind (arith, far)
@@ -196,56 +204,56 @@ pub record StopsThere (m : Machine) (missing : MissingPlace) (wanted : Option Da
   pub wants : wanted ≡ data_wanted m
   pub absent : second_of m missing.address missing.kind ≡ None
 
-small_follows : (part : Layout) (root : GuestRoot) (m : Machine) (memory : List ℕ) (missing : MissingPlace) (wanted : Option DataAccess) → StopsThere m missing wanted
+small_follows : (part : Layout) (root : GuestRoot) (m : Machine) (memory : List ℕ) (found : List FirstEntry) (missing : MissingPlace) (wanted : Option DataAccess) → StopsThere m missing wanted
     → nat_lt (missing.address / 4) (2 ^ (guest_bits - 2)) ≡ true
-    → FollowsTry part root m (apply_outcome (device_of m) m (Missed (own_of m missing) wanted)) (missing_entry_by m (Missed (own_of m missing) wanted)) memory
-    (taken part root m memory (guest_page_trap missing))
-small_follows part root m memory missing wanted stop small =
-    guest_page_left part root m memory missing _ _ (case.Missing (own_of m missing)) (rw small (ap case.Missing stop.told))
-    (ap (λ wanted. unplaced m (own_of m missing) wanted (device_of m missing.address missing.kind)) stop.wants) refl
+    → FollowsTry part root m found (apply_outcome (device_of m) (having_found found m) (Missed (own_of m missing) wanted)) (missing_entry_by m (Missed (own_of m missing) wanted)) memory
+    (taken part root m (all_filled m.first found) memory (guest_page_trap missing))
+small_follows part root m memory found missing wanted stop small =
+    guest_page_left part root m memory found missing _ _ (case.Missing (own_of m missing)) (rw small (ap case.Missing stop.told))
+    (ap (λ wanted. unplaced (having_found found m) (own_of m missing) wanted (device_of m missing.address missing.kind)) stop.wants) refl
 
-far_folding : (part : Layout) (pool : Pooled) (root : GuestRoot) (m : Machine) (memory : List ℕ) (missing : MissingPlace) (wanted : Option DataAccess) → IsAt part pool m memory
+far_folding : (part : Layout) (pool : Pooled) (root : GuestRoot) (m : Machine) (memory : List ℕ) (found : List FirstEntry) (missing : MissingPlace) (wanted : Option DataAccess) → IsAt part pool m memory
     → StopsThere m missing wanted → folds m.platform.virt ≡ true → nat_lt (missing.address / 4) (2 ^ (guest_bits - 2)) ≡ false
-    → FollowsTry part root m (apply_outcome (device_of m) m (Missed (own_of m missing) wanted)) (missing_entry_by m (Missed (own_of m missing) wanted)) memory
-    (taken part root m memory (guest_page_trap missing))
-far_folding part pool root m memory missing wanted at stop folding far =
+    → FollowsTry part root m found (apply_outcome (device_of m) (having_found found m) (Missed (own_of m missing) wanted)) (missing_entry_by m (Missed (own_of m missing) wanted)) memory
+    (taken part root m (all_filled m.first found) memory (guest_page_trap missing))
+far_folding part pool root m memory found missing wanted at stop folding far =
     let v = m.platform.virt in
     let own = own_of m missing in
     let mode : missing.mode ≡ v.mode = stop.mode ∙ hosted_here v.mode (virtual_of v folding) in
     let is = far_is m.device v m.ram own folding refl (far_told missing.address far) in
     let off : device_by_entries (front m.spaces) v.csrs.hs.status.mxr missing.address missing.kind ≡ false =
     far_lacks part pool m memory at missing.address missing.kind (far_told missing.address far) in
-    guest_page_left part root m memory missing _ _ (case.Own (guest_page_trap missing)) (rw (far, folding) refl)
-    (far_step m own wanted (guest_page_trap missing) (rw (folding, off) (and_false m.device)) (is.faults ∙ ap (λ mode. guest_page_trap (record missing { mode = mode })) (sym mode)))
+    guest_page_left part root m memory found missing _ _ (case.Own (guest_page_trap missing)) (rw (far, folding) refl)
+    (far_step m found own wanted (guest_page_trap missing) (rw (folding, off) (and_false m.device)) (is.faults ∙ ap (λ mode. guest_page_trap (record missing { mode = mode })) (sym mode)))
     (rw (folding, off, is.none) refl)
 
-far_flat : (part : Layout) (root : GuestRoot) (m : Machine) (memory : List ℕ) (missing : MissingPlace) (wanted : Option DataAccess)
+far_flat : (part : Layout) (root : GuestRoot) (m : Machine) (memory : List ℕ) (found : List FirstEntry) (missing : MissingPlace) (wanted : Option DataAccess)
     → folds m.platform.virt ≡ false → nat_lt (missing.address / 4) (2 ^ (guest_bits - 2)) ≡ false
-    → FollowsTry part root m (apply_outcome (device_of m) m (Missed (own_of m missing) wanted)) (missing_entry_by m (Missed (own_of m missing) wanted)) memory
-    (taken part root m memory (guest_page_trap missing))
-far_flat part root m memory missing wanted flat far =
+    → FollowsTry part root m found (apply_outcome (device_of m) (having_found found m) (Missed (own_of m missing) wanted)) (missing_entry_by m (Missed (own_of m missing) wanted)) memory
+    (taken part root m (all_filled m.first found) memory (guest_page_trap missing))
+far_flat part root m memory found missing wanted flat far =
     let v = m.platform.virt in
     let own = own_of m missing in
     let h = hosts missing.access in
     let fault = exception v.mode (access_fault_for (faults_of missing.access).guest_page) missing.va in
-    guest_page_left part root m memory missing _ _ (case.Own fault) (rw (far, flat) refl)
-    (far_step m own wanted fault (rw (flat, far_off missing.address (far_told missing.address far)) (and_false m.device))
+    guest_page_left part root m memory found missing _ _ (case.Own fault) (rw (far, flat) refl)
+    (far_step m found own wanted fault (rw (flat, far_off missing.address (far_told missing.address far)) (and_false m.device))
     (flat_fault v m.ram own flat refl ∙ ap (λ cause. exception v.mode cause missing.va) (sym h.own)))
     (rw flat refl)
 
 -- so a guest-page fault of the hart is the machine's stop
-stop_follows : (part : Layout) (pool : Pooled) (root : GuestRoot) (m : Machine) (memory : List ℕ) (missing : MissingPlace) (wanted : Option DataAccess) → IsAt part pool m memory
+stop_follows : (part : Layout) (pool : Pooled) (root : GuestRoot) (m : Machine) (memory : List ℕ) (found : List FirstEntry) (missing : MissingPlace) (wanted : Option DataAccess) → IsAt part pool m memory
     → StopsThere m missing wanted
-    → FollowsTry part root m (apply_outcome (device_of m) m (Missed (own_of m missing) wanted)) (missing_entry_by m (Missed (own_of m missing) wanted)) memory
-    (taken part root m memory (guest_page_trap missing))
-stop_follows part pool root m memory missing wanted at stop = by (nat_lt (missing.address / 4) (2 ^ (guest_bits - 2))) refl (folds m.platform.virt) refl
+    → FollowsTry part root m found (apply_outcome (device_of m) (having_found found m) (Missed (own_of m missing) wanted)) (missing_entry_by m (Missed (own_of m missing) wanted)) memory
+    (taken part root m (all_filled m.first found) memory (guest_page_trap missing))
+stop_follows part pool root m memory found missing wanted at stop = by (nat_lt (missing.address / 4) (2 ^ (guest_bits - 2))) refl (folds m.platform.virt) refl
   where
     by : (small : Bool) → nat_lt (missing.address / 4) (2 ^ (guest_bits - 2)) ≡ small → (folding : Bool) → folds m.platform.virt ≡ folding
-        → FollowsTry part root m (apply_outcome (device_of m) m (Missed (own_of m missing) wanted)) (missing_entry_by m (Missed (own_of m missing) wanted)) memory
-        (taken part root m memory (guest_page_trap missing))
-    by true small folding folds_is = small_follows part root m memory missing wanted stop small
-    by false far true folding = far_folding part pool root m memory missing wanted at stop folding far
-    by false far false flat = far_flat part root m memory missing wanted flat far
+        → FollowsTry part root m found (apply_outcome (device_of m) (having_found found m) (Missed (own_of m missing) wanted)) (missing_entry_by m (Missed (own_of m missing) wanted)) memory
+        (taken part root m (all_filled m.first found) memory (guest_page_trap missing))
+    by true small folding folds_is = small_follows part root m memory found missing wanted stop small
+    by false far true folding = far_folding part pool root m memory found missing wanted at stop folding far
+    by false far false flat = far_flat part root m memory found missing wanted flat far
 
 -- the table under which the hart runs
 root_flat : (part : Layout) (pool : Pooled) (v : Virtual) → folds v ≡ false → root_for part pool v ≡ host_root part
@@ -391,47 +399,60 @@ made_same m virt stored event e =
 absent_at : (m : Machine) (missing : MissingPlace) (wanted : Option DataAccess) → core (mmu_of m) m.platform.virt ≡ Missed missing wanted
     → second_of m missing.address missing.kind ≡ None
 absent_at m missing wanted is =
-    (stops (second_of m) (second_of m) (record { gives = λ address place kind e. e }) nothing_known (reading_of (ram_memory m.ram)) m.platform.virt missing wanted is).none
+    (stops (second_of m) (second_of m) (record { gives = λ address place kind e. e }) (stages_of m).known (reading_of (ram_memory m.ram)) m.platform.virt missing wanted is).none
+
+-- what its first-stage translations say keeps the offset in a page
+keeps_page : (m : Machine) → KeepsPage (stages_of m).known
+keeps_page m = cached_keeps_page m.first (tag_of m.platform.virt) m.platform.virt
 
 -- the hart's stop is the machine's
 stops_there : (m : Machine) (root : GuestRoot) (missing : MissingPlace) (wanted : Option DataAccess) → core (mmu_of m) (hart_state_of root m.platform.virt) ≡ Missed missing wanted
     → core (mmu_of m) m.platform.virt ≡ Missed (own_of m missing) wanted → missing.mode ≡ hosted_mode m.platform.virt.mode → IsTold missing → StopsThere m missing wanted
 stops_there m root missing wanted hart lone mode told = record {
   mode = mode;
-  told = ap (λ place. own_of m place) (missed_is_told (mmu_of m) (hart_state_of root m.platform.virt) missing wanted nothing_keeps hart told);
+  told = ap (λ place. own_of m place) (missed_is_told (mmu_of m) (hart_state_of root m.platform.virt) missing wanted (keeps_page m) hart told);
   wants = missed_is_wanted (mmu_of m) m.platform.virt (own_of m missing) wanted lone;
   absent = absent_at m (own_of m missing) wanted lone;
 }
 
 -- an instruction's end on the hart
-outcome_follows : (part : Layout) (pool : Pooled) (m : Machine) (memory : List ℕ) (lone hart : Outcome) → IsAt part pool m memory
+outcome_follows : (part : Layout) (pool : Pooled) (m : Machine) (memory : List ℕ) (found : List FirstEntry) (lone hart : Outcome) → IsAt part pool m memory
     → lone ≡ core (mmu_of m) m.platform.virt → hart ≡ core (mmu_of m) (hart_state_of (root_for part pool m.platform.virt) m.platform.virt)
     → Stands (root_for part pool m.platform.virt) m.platform.virt lone hart → LeavesWithin (in_ram part.blocks) hart
-    → FollowsTry part (root_for part pool m.platform.virt) m (apply_outcome (device_of m) m lone) (missing_entry_by m lone) memory (end_by (hart_state_in part (root_for part pool m.platform.virt) m.platform.virt) memory
-    (attempt_of (hosted_csrs (root_for part pool m.platform.virt) (is_virtual m.platform.virt.mode) m.platform.virt.csrs) (hosted_mode m.platform.virt.mode) memory
-    (outcome_renamed (memory_place part.blocks) hart)))
-outcome_follows part pool m memory lone (Done hart stored event) at lone_is hart_is (e, keeps) (stores, reserves) =
+    → FollowsTry part (root_for part pool m.platform.virt) m found (apply_outcome (device_of m) (having_found found m) lone) (missing_entry_by m lone) memory
+    (end_by (loaded_in part (root_for part pool m.platform.virt) m.platform.virt (all_filled m.first found)) memory
+    (attempt_of (loaded_in part (root_for part pool m.platform.virt) m.platform.virt (all_filled m.first found)) memory (outcome_renamed (memory_place part.blocks) hart)))
+outcome_follows part pool m memory found lone (Done hart stored event) at lone_is hart_is (e, keeps) (stores, reserves) =
     let v = m.platform.virt in
     let lie = lie_of part memory at.held in
     record {
       own = hart;
-      state = refl;
+      stands = record { state = refl; tag = refl };
       step = rw (e, ram_is_stored part.blocks memory stored lie at.once.distinct stores, ← at.ram)
-          (made_same m (guest_state_after (enters_vs event) hart v) stored (event_for (is_virtual v.mode) event) (never_set (is_virtual v.mode) _ _ (back_v (enters_vs event) hart v)));
+          (made_same (having_found found m) (guest_state_after (enters_vs event) hart v) stored (event_for (is_virtual v.mode) event) (never_set (is_virtual v.mode) _ _ (back_v (enters_vs event) hart v)));
       ready = rw e (none_of (folds v));
       keeps = keeps;
       held = reserves;
       only = only_ram_changes part.blocks memory stored lie stores;
     }
-outcome_follows part pool m memory lone (Trapped trap) at lone_is hart_is traps leaves =
-    trap_follows part (root_for part pool m.platform.virt) m memory (missing_entry_by m lone) lone trap at (decided_ready m lone (traps_decided m.platform.virt lone trap traps)) traps
-outcome_follows part pool m memory lone (Missed missing wanted) at lone_is hart_is (e, mode, told) leaves =
+outcome_follows part pool m memory found lone (Trapped trap) at lone_is hart_is traps leaves =
+    trap_follows part (root_for part pool m.platform.virt) m memory found (missing_entry_by m lone) lone trap at (decided_ready m lone (traps_decided m.platform.virt lone trap traps)) traps
+outcome_follows part pool m memory found lone (Missed missing wanted) at lone_is hart_is (e, mode, told) leaves =
     let stop = stops_there m (root_for part pool m.platform.virt) missing wanted (sym hart_is) (sym lone_is ∙ e) mode told in
-    rw (e, stuck_traps part pool m memory missing wanted at stop) (stop_follows part pool (root_for part pool m.platform.virt) m memory missing wanted at stop)
-outcome_follows part pool m memory lone Called at lone_is hart_is e leaves = absurd e
-outcome_follows part pool m memory lone (Waits hart) at lone_is hart_is e leaves = absurd e
-outcome_follows part pool m memory lone (Fenced hart fence) at lone_is hart_is e leaves = absurd e
-outcome_follows part pool m memory lone (Accesses access) at lone_is hart_is e leaves = absurd e
+    rw (e, stuck_traps part pool m memory missing wanted at stop) (stop_follows part pool (root_for part pool m.platform.virt) m memory found missing wanted at stop)
+outcome_follows part pool m memory found lone Called at lone_is hart_is e leaves = absurd e
+outcome_follows part pool m memory found lone (Waits hart) at lone_is hart_is e leaves = absurd e
+outcome_follows part pool m memory found lone (Fenced hart fence) at lone_is hart_is e leaves = absurd e
+outcome_follows part pool m memory found lone (FirstFenced hart named fence) at lone_is hart_is (e, keeps) reserves = record {
+  own = hart;
+  stands = record { state = refl; tag = refl };
+  step = rw (e, ← at.ram) refl;
+  ready = rw e (none_of (folds m.platform.virt));
+  keeps = keeps;
+  held = reserves;
+  only = only_none (in_blocks part.blocks) memory;
+}
+outcome_follows part pool m memory found lone (Accesses access) at lone_is hart_is e leaves = absurd e
 
 -- the hart's second stage is the machine's, with places renamed
 second_is : (csrs : Csrs) (mode : Mode) (memory : List ℕ) (root : GuestRoot) → is_virtual mode ≡ true → csrs.hgatp ≡ root
@@ -487,28 +508,72 @@ view part pool m memory at =
     by true folding = folding_renamed part pool m memory at folding
     by false flat = flat_renamed part pool m memory at flat
 
+-- one instruction on the hart, loaded for a guest, is one of a hart with the machine's own memory, with places renamed
+core_on_hart : (part : Layout) (pool : Pooled) (m : Machine) (memory : List ℕ) → IsAt part pool m memory
+    → core (mmu_on (loaded_in part (root_for part pool m.platform.virt) m.platform.virt m.first) memory) (hart_state_in part (root_for part pool m.platform.virt) m.platform.virt)
+    ≡ outcome_renamed (memory_place part.blocks) (core (mmu_of m) (hart_state_of (root_for part pool m.platform.virt) m.platform.virt))
+core_on_hart part pool m memory at =
+    let root = root_for part pool m.platform.virt in
+    let v = hart_state_of root m.platform.virt in
+    let s = loaded_in part root m.platform.virt m.first in
+    let reading = reading_of (ram_memory m.ram) in
+    ap (λ known. core (mmu known (second_of_memory s.virt memory) (reading_of_memory memory)) s.virt) (knows_alike root m.platform.virt m.first (tag_of m.platform.virt))
+    ∙ renamed_core (memory_place part.blocks) (in_ram part.blocks) (stages_of m).known (second_of m) reading _ _ v (keeps_page m) (view part pool m memory at) at.reserved
+
+-- and finds the first-stage translations that the machine finds
+found_on_hart : (part : Layout) (pool : Pooled) (m : Machine) (memory : List ℕ) → IsAt part pool m memory
+    → found_on (loaded_in part (root_for part pool m.platform.virt) m.platform.virt m.first) memory ≡ found_by_outcome (stages_of m) m
+unfolding found_on
+found_on_hart part pool m memory at =
+    let root = root_for part pool m.platform.virt in
+    let v = hart_state_of root m.platform.virt in
+    let s = loaded_in part root m.platform.virt m.first in
+    let tag = tag_of m.platform.virt in
+    let reading = reading_of (ram_memory m.ram) in
+    ap (λ known. leaves_found tag (mmu known (second_of_memory s.virt memory) (reading_of_memory memory)) s.virt) (knows_alike root m.platform.virt m.first tag)
+    ∙ renamed_leaves (memory_place part.blocks) (in_ram part.blocks) tag (stages_of m).known (second_of m) reading _ _ v (keeps_page m) (view part pool m memory at)
+    ∙ finds_alike root m.platform.virt tag (mmu_of m)
+
 -- by the interrupt that is due, if any
 try_follows : (part : Layout) (pool : Pooled) (m : Machine) (memory : List ℕ) (lone hart : Option ℕ) → due m.platform.virt.csrs m.platform.virt.mode ≡ lone
     → IsDue lone (is_virtual m.platform.virt.mode) m.platform.virt.csrs.hideleg hart → IsAt part pool m memory
-    → FollowsTry part (root_for part pool m.platform.virt) m (tried_with (stages_of m) m lone) (missing_entry m) memory
-    (end_by (hart_state_in part (root_for part pool m.platform.virt) m.platform.virt) memory (next_attempt (hart_state_in part (root_for part pool m.platform.virt) m.platform.virt) memory hart))
+    → FollowsTry part (root_for part pool m.platform.virt) m (found_with_code (stages_of m) m lone) (tried_with (stages_of m) m lone) (missing_entry m) memory
+    (end_by (with_first (loaded_in part (root_for part pool m.platform.virt) m.platform.virt m.first)
+    (hart_finds (loaded_in part (root_for part pool m.platform.virt) m.platform.virt m.first) memory hart)) memory
+    (next_attempt (loaded_in part (root_for part pool m.platform.virt) m.platform.virt m.first) memory hart))
 try_follows part pool m memory None hart none e at =
     let root = root_for part pool m.platform.virt in
     let v = hart_state_of root m.platform.virt in
-    let seen = view part pool m memory at in
-    let reading = reading_of (ram_memory m.ram) in
-    rw (e, renamed_core (memory_place part.blocks) (in_ram part.blocks) nothing_known (second_of m) reading _ _ v nothing_keeps seen at.reserved, lacks_by m at.orderly none)
-    (outcome_follows part pool m memory _ _ at refl refl (core_stands root (mmu_of m) m.platform.virt)
-    (stays_held (in_ram part.blocks) (mmu_of m) v nothing_keeps seen.inside at.reserved))
+    rw (e, core_on_hart part pool m memory at, found_on_hart part pool m memory at, lacks_by m at.orderly none)
+    (outcome_follows part pool m memory (found_by_outcome (stages_of m) m) _ _ at refl refl (core_stands root (mmu_of m) m.platform.virt)
+    (stays_held (in_ram part.blocks) (mmu_of m) v (keeps_page m) (view part pool m memory at).inside at.reserved))
 try_follows part pool m memory (Some code) hart some is at =
-    interrupt_follows part (root_for part pool m.platform.virt) m memory (missing_entry m) code hart (is_virtual m.platform.virt.mode) refl is at (interrupted_misses_nothing m code some)
+    interrupt_follows part (root_for part pool m.platform.virt) m memory [] (missing_entry m) code hart (is_virtual m.platform.virt.mode) refl is at (interrupted_misses_nothing m code some)
 
 -- one step of the hart is one try
 pub followed : (part : Layout) (pool : Pooled) (m : Machine) (memory : List ℕ) → host_takes m.platform.virt ≡ false → IsAt part pool m memory
-    → Follows part (root_for part pool m.platform.virt) m memory (hart_step (hart_state_in part (root_for part pool m.platform.virt) m.platform.virt) memory)
-unfolding try_under hart_step
+    → Follows part (root_for part pool m.platform.virt) m memory (hart_step (loaded_in part (root_for part pool m.platform.virt) m.platform.virt m.first) memory)
+unfolding try_under found_by_try hart_step found_at_exit
 followed part pool m memory free at =
     let v = m.platform.virt in try_follows part pool m memory _ _ refl (due_alike (root_for part pool v) v.csrs v.mode free) at
+
+-- what the hart, loaded for the guest, would find at an exit is what the machine's next step finds
+found_by_due : (part : Layout) (pool : Pooled) (m : Machine) (memory : List ℕ) (lone hart : Option ℕ) → IsDue lone (is_virtual m.platform.virt.mode) m.platform.virt.csrs.hideleg hart
+    → IsAt part pool m memory
+    → hart_finds (loaded_in part (root_for part pool m.platform.virt) m.platform.virt m.first) memory hart ≡ found_with_code (stages_of m) m lone
+found_by_due part pool m memory None hart e at = rw e (found_on_hart part pool m memory at)
+found_by_due part pool m memory (Some code) hart is at = by (is_virtual m.platform.virt.mode) is
+  where
+    by : (virtual : Bool) → IsDue (Some code) virtual m.platform.virt.csrs.hideleg hart
+        → hart_finds (loaded_in part (root_for part pool m.platform.virt) m.platform.virt m.first) memory hart ≡ []
+    by false (e, good) = rw e refl
+    by true (e, good) = rw e refl
+
+pub found_is : (part : Layout) (pool : Pooled) (m : Machine) (memory : List ℕ) → host_takes m.platform.virt ≡ false → IsAt part pool m memory
+    → found_at_exit (loaded_in part (root_for part pool m.platform.virt) m.platform.virt m.first) memory ≡ found_next m
+unfolding found_by_try found_at_exit
+found_is part pool m memory free at =
+    let v = m.platform.virt in found_by_due part pool m memory _ _ (due_alike (root_for part pool v) v.csrs v.mode free) at
 
 -- what the hart, loaded for the guest, fetches wants what the machine's next instruction wants
 renamed_wanted : (h : ℕ → ℕ) (virt : Virtual) (reading other : Reading) (own host : Located) → ((place : ℕ) → own ≡ At place → other (h place) 4 ≡ reading place 4)
@@ -517,14 +582,17 @@ renamed_wanted h virt reading other (At place) host same held (e, in_set, fits) 
 renamed_wanted h virt reading other (Fails failure) host same held e = rw e refl
 
 pub wanted_is : (part : Layout) (pool : Pooled) (m : Machine) (memory : List ℕ) → IsAt part pool m memory
-    → wanted_next (hart_state_in part (root_for part pool m.platform.virt) m.platform.virt) memory ≡ data_wanted m
+    → wanted_next (loaded_in part (root_for part pool m.platform.virt) m.platform.virt m.first) memory ≡ data_wanted m
 wanted_is part pool m memory at =
     let root = root_for part pool m.platform.virt in
     let v = hart_state_of root m.platform.virt in
+    let s = loaded_in part root m.platform.virt m.first in
     let seen = view part pool m memory at in
     let place = fetch_place (mmu_of m) v in
-    let alike = accessed_alike seen nothing_known nothing_keeps v.csrs v.mode v.regs.pc Word Fetch in
-    renamed_wanted (memory_place part.blocks) v (reading_of (ram_memory m.ram)) (reading_of_memory memory) place _ (read_there place _ alike) (in_ram part.blocks) alike
+    let alike = accessed_alike seen (stages_of m).known (keeps_page m) v.csrs v.mode v.regs.pc Word Fetch in
+    ap (λ known. wanted_at (reading_of_memory memory) s.virt (fetch_place (mmu known (second_of_memory s.virt memory) (reading_of_memory memory)) s.virt))
+    (knows_alike root m.platform.virt m.first (tag_of m.platform.virt))
+    ∙ renamed_wanted (memory_place part.blocks) v (reading_of (ram_memory m.ram)) (reading_of_memory memory) place _ (read_there place _ alike) (in_ram part.blocks) alike
     ∙ wanted_alike root (mmu_of m) m.platform.virt
   where
     read_there : (own host : Located) → LocatedAlike (memory_place part.blocks) (in_ram part.blocks) 4 own host → (place : ℕ) → own ≡ At place

@@ -1,15 +1,16 @@
 -- Which tries wait for good: those that leave the status so.
 use Rattle.std.specs.Prelude.{◌≢◌, ◌↔◌, ◌==◌}
-use Rattle.std.proofs.Common.{◌≡◌, Bool, true, false, Option, refl, sym, ap, ◌∙◌}
+use Rattle.std.proofs.Common.{◌≡◌, Bool, true, false, List, Option, refl, sym, ap, ◌∙◌}
 use Rattle.arch_defs.specs.declared.modes.Trap.{Trap}
 use Rattle.arch_defs.specs.declared.cached.Fence.{Fence}
+use Rattle.arch_defs.specs.declared.first.FirstEntry.{FirstEntry}
 use Rattle.arch_defs.specs.Registers.{a7, read}
 use Rattle.machine_defs.specs.declared.events.Event.TheVariants.{System}
 use Rattle.guest_specs.specs.declared.statuses.Status.TheVariants.{Running, Waiting}
 use Rattle.machine_defs.specs.Machine.{Machine, Platform, Tried, Ended, WaitsForGood, stepped_to, stopped_if, trapped}
 use Rattle.machine_defs.specs.Runs.{left_after, left_by}
 use Rattle.machine_defs.specs.Tries.{try}
-use Rattle.machine_laws.proofs.TryEnds.{Calls, Fences, Halts, Makes, Passes, Serves, Takes}
+use Rattle.machine_laws.proofs.TryEnds.{Calls, Fences, Halts, Makes, Passes, Serves, Takes, having}
 use Rattle.guest_exit.specs.declared.hart_exit.Handled.{Handled}
 use Rattle.guest_exit.specs.declared.hart_exit.Handled.TheVariants as handled
 use Rattle.guest_exit.specs.HartExit.{status_after}
@@ -23,19 +24,19 @@ LeavesOther WaitsForGood = Unit {0}
 runs : (m : Machine) → m.platform.status ≡ Running → m.platform.status ≢ Waiting
 runs m running = λ e. let never : Running ≡ Waiting = sym running ∙ e in absurd (cc)
 
-stops_if : (m : Machine) → m.platform.status ≡ Running → (stops : Bool) (p : Platform) → p.status ≡ m.platform.status
-    → LeavesOther (stepped_to m (stopped_if stops p) System)
-stops_if m running true p same = λ e. absurd (cc)
-stops_if m running false p same = rw same (runs m running)
+stops_if : (m : Machine) (first : List FirstEntry) → m.platform.status ≡ Running → (stops : Bool) (p : Platform) → p.status ≡ m.platform.status
+    → LeavesOther (stepped_to (having m first) (stopped_if stops p) System)
+stops_if m first running true p same = λ e. absurd (cc)
+stops_if m first running false p same = rw same (runs m running)
 
 ended_by : (m : Machine) → m.platform.status ≡ Running → (tried : Tried) (fence : Option Fence) → SomeEnd m tried fence → LeavesOther tried
-ended_by m running tried fence (Takes trap) = runs m running
-ended_by m running tried fence (Makes completion event any) = runs m running
-ended_by m running tried fence (Serves rd value console leaves) = runs m running
-ended_by m running tried fence Calls = stops_if m running (read m.platform.virt.regs a7 == 8) _ refl
-ended_by m running tried fence (Passes virt moment any) = runs m running
+ended_by m running tried fence (Takes first trap) = runs m running
+ended_by m running tried fence (Makes first completion event any) = runs m running
+ended_by m running tried fence (Serves first rd value console leaves) = runs m running
+ended_by m running tried fence (Calls first) = stops_if m first running (read m.platform.virt.regs a7 == 8) _ refl
+ended_by m running tried fence (Passes first virt moment any) = runs m running
 ended_by m running tried fence Halts = tt
-ended_by m running tried fence (Fences virt named any) = runs m running
+ended_by m running tried fence (Fences first virt named any) = runs m running
 
 leaves_other : (m : Machine) → m.platform.status ≡ Running → LeavesOther (try m)
 leaves_other m running = ended_by m running (try m) _ (some_end m)
@@ -61,5 +62,5 @@ waits_exactly m after result running step status =
     )
 
 -- a trap is no wait
-pub never_waits : (m : Machine) (trap : Trap) (result : Handled) → result ≢ handled.Waits → try m ≡ trapped m trap → (result ≡ handled.Waits) ↔ (try m ≡ WaitsForGood)
-never_waits m trap result goes is = (λ e. absurd (goes e), λ e. let never : WaitsForGood ≡ trapped m trap = sym e ∙ is in absurd (cc))
+pub never_waits : (m other : Machine) (trap : Trap) (result : Handled) → result ≢ handled.Waits → try m ≡ trapped other trap → (result ≡ handled.Waits) ↔ (try m ≡ WaitsForGood)
+never_waits m other trap result goes is = (λ e. absurd (goes e), λ e. let never : WaitsForGood ≡ trapped other trap = sym e ∙ is in absurd (cc))

@@ -13,7 +13,7 @@ use Rattle.op_defs.specs.declared.ops.DataAccess.{DataAccess}
 use Rattle.machine_defs.specs.DeviceSteps.{DeviceCompletion, device_completed, served}
 use Rattle.machine_defs.specs.HlvAccesses.{Completes, Device, HlvEnd, Traps, hlv_outcome}
 use Rattle.machine_defs.specs.Machine.{Machine, ticked, trapped, with_pending_lines}
-use Rattle.machine_defs.specs.Outcomes.{Outcome, Done, Trapped, Missed, Called, Waits, Fenced, Accesses}
+use Rattle.machine_defs.specs.Outcomes.{Outcome, Done, Trapped, Missed, Called, Waits, Fenced, FirstFenced, Accesses}
 use Rattle.machine_defs.specs.Runs.{left_by}
 use Rattle.machine_defs.specs.Tries.{apply_outcome, device_of, enters, hlv_committed}
 use Rattle.machine_laws.specs.InstructionEnds.{HlvHas}
@@ -23,7 +23,7 @@ use Rattle.hcsr_emulation.specs.declared.registers.Accessed.TheVariants as answe
 use Rattle.hlv_hsv.specs.Ends.{EndsAs, EndsBy, HlvState, hlv_left, hlv_state, served_from}
 use Rattle.guest_exit.specs.declared.guests.Guest.{Guest}
 use Rattle.guest_exit.specs.Steps.{IsNotPlain}
-use Rattle.guest_exit.specs.View.{KeepsSpaces, machine_of, platform_of}
+use Rattle.guest_exit.specs.View.{KeepsCached, machine_of, platform_of}
 use Rattle.guest_exit.proofs.Alone.{machine_as}
 use Rattle.guest_exit.proofs.Missed.{served_is_quiet}
 
@@ -51,6 +51,7 @@ access_is_quiet m (Missed missing wanted) device before after given ends = absur
 access_is_quiet m Called device before after given ends = absurd ends
 access_is_quiet m (Waits state) device before after given ends = absurd ends
 access_is_quiet m (Fenced state fence) device before after given ends = absurd ends
+access_is_quiet m (FirstFenced state named fence) device before after given ends = absurd ends
 
 -- nor does it set V
 never_both : (virtual table : Bool) → (not virtual && (virtual && table)) ≡ false
@@ -71,29 +72,29 @@ ShowsTime guest = guest.virt.csrs.time ≡ guest.clock.time
 pub shows_time : (guest : Guest) → with_pending_lines (platform_of guest) ≡ platform_of guest → ShowsTime guest
 shows_time guest current = sym (ap (λ p. p.virt.csrs.time) current)
 
--- so where it is made, the machine of the guest is the one after it
-module _ (old new : Guest) (memory changed : List ℕ) (virt : Virtual) (console : ConsoleState) (fixed : KeepsSpaces old new)
+-- so where it is made, the machine of the guest is the one after it, whatever the machine of a wait for good would be
+module _ (old new : Guest) (base : Machine) (memory changed : List ℕ) (virt : Virtual) (console : ConsoleState) (fixed : KeepsCached old new)
     (platform : platform_of new ≡ ticked (record (platform_of old) { virt = virt; console = console })) where
   abbrev after : HlvState
   after = hlv_state virt (ram_memory (ram_of old.part.blocks changed)) console
 
   serves_by : (missing : MissingPlace) (completion : Option DeviceCompletion)
       → EndsAs (served_from (state_in old memory) (missing_place_fault missing) completion) answer.Done after
-      → machine_of new changed ≡ left_by (machine_of old memory) (served (machine_of old memory) missing completion)
+      → machine_of new changed ≡ left_by base (served (machine_of old memory) missing completion)
   serves_by missing None never = absurd never
   serves_by missing (Some completion) is =
-      machine_as old new memory changed _ _ _ fixed.part fixed.device
+      machine_as old new memory changed _ _ _ _ fixed.part fixed.device
       (platform ∙ ap (λ (a : HlvState). ticked (record (platform_of old) { virt = a.virt; console = a.console })) is)
-      (ap (λ (a : HlvState). a.memory.bytes) is) (rw fixed.pool refl) (rw fixed.pool refl) (rw fixed.pool refl)
+      (ap (λ (a : HlvState). a.memory.bytes) is) (rw fixed.pool refl) fixed.first (rw fixed.pool refl) (rw fixed.pool refl)
 
   made_by : (wanted : DataAccess) (end : HlvEnd) → KeepsMode old.virt end → ShowsTime old
       → EndsAs (hlv_left wanted (state_in old memory) end) answer.Done after
-      → machine_of new changed ≡ left_by (machine_of old memory) (hlv_committed (machine_of old memory) wanted end)
+      → machine_of new changed ≡ left_by base (hlv_committed (machine_of old memory) wanted end)
   made_by wanted (Completes completion) keeps time is =
       rw (never_enters old.virt completion.state keeps)
-      (machine_as old new memory changed _ _ _ fixed.part fixed.device
+      (machine_as old new memory changed _ _ _ _ fixed.part fixed.device
       (platform ∙ ap (λ (a : HlvState). ticked (record (platform_of old) { virt = a.virt; console = a.console })) is)
-      (ap (λ (a : HlvState). a.memory.bytes) is) (rw fixed.pool refl) (rw fixed.pool refl) (rw fixed.pool refl))
+      (ap (λ (a : HlvState). a.memory.bytes) is) (rw fixed.pool refl) fixed.first (rw fixed.pool refl) (rw fixed.pool refl))
   made_by wanted (Device missing) keeps time is =
       serves_by missing (device_completed old.virt old.console old.clock.time (missing.address % 4096) wanted.width wanted.purpose)
       (subst (λ clock. EndsAs (served_from (state_in old memory) (missing_place_fault missing) (device_completed old.virt old.console clock (missing.address % 4096) wanted.width wanted.purpose)) answer.Done after)
@@ -101,7 +102,7 @@ module _ (old new : Guest) (memory changed : List ℕ) (virt : Virtual) (console
   made_by wanted (Traps trap) keeps time never = absurd never
 
   pub access_made : (end : Outcome) → ShowsTime old → EndsBy old.device (state_in old memory) end answer.Done after
-      → machine_of new changed ≡ left_by (machine_of old memory) (apply_outcome (device_of (machine_of old memory)) (machine_of old memory) end)
+      → machine_of new changed ≡ left_by base (apply_outcome (device_of (machine_of old memory)) (machine_of old memory) end)
   access_made (Accesses wanted) time ends =
       made_by wanted (hlv_outcome old.device (ram_memory (ram_of old.part.blocks memory)) old.virt wanted) (completion_keeps old.device (ram_of old.part.blocks memory) old.virt wanted) time ends
   access_made (Trapped trap) time ends = cc
@@ -110,6 +111,7 @@ module _ (old new : Guest) (memory changed : List ℕ) (virt : Virtual) (console
   access_made Called time ends = absurd ends
   access_made (Waits state) time ends = absurd ends
   access_made (Fenced state fence) time ends = absurd ends
+  access_made (FirstFenced state named fence) time ends = absurd ends
 
 -- and where it traps, the trap is the machine's
 module _ (m : Machine) (time : m.platform.virt.csrs.time ≡ m.platform.clock.time) (raised : Trap) (after : HlvState) where
@@ -140,3 +142,4 @@ module _ (m : Machine) (time : m.platform.virt.csrs.time ≡ m.platform.clock.ti
   access_traps Called ends = absurd ends
   access_traps (Waits state) ends = absurd ends
   access_traps (Fenced state fence) ends = absurd ends
+  access_traps (FirstFenced state named fence) ends = absurd ends

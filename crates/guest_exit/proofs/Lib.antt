@@ -10,6 +10,7 @@ pub mod HlvAccesses
 pub mod Interrupts
 pub mod Missed
 pub mod Moments
+pub mod NoTable
 pub mod Placed
 pub mod Pools
 pub mod Privileged

@@ -77,11 +77,11 @@ can_fill old memory missing e at some =
 
 -- it is filled into the front space
 pub fill_made : (old new : Guest) (memory changed : List ℕ) (missing : MissingPlace) (e : Entry) → IsPlaced old memory
-    → entry_for (machine_of old memory) missing ≡ Some e → new.part ≡ old.part → new.device ≡ old.device → KeepsPool old.pool memory new.pool changed
+    → entry_for (machine_of old memory) missing ≡ Some e → new.part ≡ old.part → new.device ≡ old.device → new.first ≡ old.first → KeepsPool old.pool memory new.pool changed
     → platform_of new ≡ platform_of old → spaces_of new.pool ≡ filled_front old.pool.most (spaces_of old.pool) e
     → (e : Entry) × (entry_for_exit (machine_of old memory) (Missing missing) ≡ Some e) × (machine_of new changed ≡ fill (machine_of old memory) e)
-fill_made old new memory changed missing e at some part device keeps same are =
-    (e, some, machine_as old new memory changed _ _ _ part device same (ram_by_pool old.part old.pool memory changed at.once at.own at.tidy at.held keeps.only) are keeps.room keeps.most)
+fill_made old new memory changed missing e at some part device first keeps same are =
+    (e, some, machine_as old new memory changed _ _ _ _ part device same (ram_by_pool old.part old.pool memory changed at.once at.own at.tidy at.held keeps.only) are first keeps.room keeps.most)
 
 -- an access that is made on the device page lacks nothing
 pub none_on_device : (m : Machine) (missing : MissingPlace) → device_of m missing.address missing.kind ≡ true → entry_for m missing ≡ None

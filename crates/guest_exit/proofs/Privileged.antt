@@ -1,6 +1,6 @@
 -- Instructions that the mode decides on, on the lone machine and on the hart.
 use Rattle.std.specs.Prelude.{◌^◌, nat_le, Result, Err}
-use Rattle.std.proofs.Common.{cond, ◌≡◌, ℕ, ◌<◌, Some, None, Bool, true, false, refl}
+use Rattle.std.proofs.Common.{cond, ◌≡◌, ℕ, ◌<◌, Some, None, Bool, true, false, refl, ap}
 use Rattle.arch_defs.specs.declared.cached.Fence.{Fence}
 use Rattle.arch_defs.specs.declared.csr_names.CsrEnd.{CsrEnd}
 use Rattle.arch_defs.specs.declared.csr_names.CsrEnd.TheVariants.{Illegal, Virtual as VirtualInstruction}
@@ -17,9 +17,8 @@ use Rattle.op_defs.specs.declared.ops.CsrOp.{CsrOp}
 use Rattle.op_defs.specs.declared.ops.DataAccess.{DataAccess}
 use Rattle.op_defs.specs.declared.ops.Privileged.{Privileged}
 use Rattle.op_defs.specs.declared.ops.Privileged.TheVariants.{Csr, Sret, Wfi, SfenceVma, HfenceVvma, HfenceGvma, HlvAccess}
-use Rattle.machine_defs.specs.declared.events.Event.TheVariants.{System}
 use Rattle.arch_defs.specs.Registers.{passed, sets}
-use Rattle.machine_defs.specs.Outcomes.{Outcome, Done}
+use Rattle.machine_defs.specs.Outcomes.{Outcome, FirstFenced}
 use Rattle.machine_defs.specs.Privileges.{combined, csr_accessed, csr_changed, csr_shown, decided, left_by_sret, privileged, refusal, refused, value_or_zero, virtual_if}
 use Rattle.guest_exit.proofs.Decided.{privileged_in}
 use Rattle.world_switch.specs.Hosting.{hart_state_of, hosted_csrs, hosted_mode}
@@ -27,7 +26,7 @@ use Rattle.world_switch.proofs.Instructions.{always_virtual, supervisor_again}
 use Rattle.world_switch.proofs.Registers.{Nothing, Withheld, Both, Reaches, reached_alike}
 use Rattle.world_switch.proofs.Undone.{same_csrs}
 use Rattle.guest_exit.proofs.Delegation.{own_2}
-use Rattle.guest_exit.proofs.Stands.{Own, Stands, Traps, ends_csrs, left, none_written}
+use Rattle.guest_exit.proofs.Stands.{Own, Stands, Traps, as_loaded, ends_csrs, kept, left, none_written}
 
 -- what the hart leaves to the host
 abbrev Leaves : Virtual → Outcome → ℕ → Type 0
@@ -73,23 +72,26 @@ csr_stands root s word op n operand true rd leaves =
 csr_stands root s word op n operand false rd leaves =
     shown_stands root s word n rd _ _ leaves (reached_alike root s.csrs s.mode n (register_of n) refl)
 
--- SFENCE.VMA, which changes nothing where it is made
-passes : (root : GuestRoot) (s : Virtual) → Stands root s (Done (passed s) None System) (Done (passed (hart_state_of root s)) None System)
-passes root s =
-    ends_csrs root s (sets s 0 0).regs (hosted_csrs root (is_virtual s.mode) s.csrs) s.csrs (same_csrs root (is_virtual s.mode) s.csrs) (none_written root (is_virtual s.mode) s.csrs)
+-- SFENCE.VMA, which changes no register where it is made
+fences : (root : GuestRoot) (s : Virtual) (fence : Fence) → Stands root s (FirstFenced (passed s) None fence) (FirstFenced (passed (hart_state_of root s)) None fence)
+fences root s fence = (
+  ap (λ v. FirstFenced v None fence)
+      (kept root s (passed s).regs (hosted_csrs root (is_virtual s.mode) s.csrs) s.csrs s.reservation (same_csrs root (is_virtual s.mode) s.csrs)),
+  as_loaded root s (passed s).regs s.reservation,
+)
 
-fence_if : (root : GuestRoot) (s : Virtual) (word : ℕ) (kept : Bool) → Leaves s (decided s word SfenceVma (virtual_if kept)) word
-    → Stands root s (decided s word SfenceVma (virtual_if kept)) (decided (hart_state_of root s) word SfenceVma (virtual_if kept))
-fence_if root s word true leaves = leaves
-fence_if root s word false leaves = passes root s
+fence_if : (root : GuestRoot) (s : Virtual) (word : ℕ) (fence : Fence) (kept : Bool) → Leaves s (decided s word (SfenceVma fence) (virtual_if kept)) word
+    → Stands root s (decided s word (SfenceVma fence) (virtual_if kept)) (decided (hart_state_of root s) word (SfenceVma fence) (virtual_if kept))
+fence_if root s word fence true leaves = leaves
+fence_if root s word fence false leaves = fences root s fence
 
-fence_stands : (root : GuestRoot) (s : Virtual) (word : ℕ) (mode : Mode) → Leaves (record s { mode = mode }) (privileged (record s { mode = mode }) word SfenceVma) word
-    → Stands root (record s { mode = mode }) (privileged (record s { mode = mode }) word SfenceVma) (privileged (hart_state_of root (record s { mode = mode })) word SfenceVma)
+fence_stands : (root : GuestRoot) (s : Virtual) (word : ℕ) (fence : Fence) (mode : Mode) → Leaves (record s { mode = mode }) (privileged (record s { mode = mode }) word (SfenceVma fence)) word
+    → Stands root (record s { mode = mode }) (privileged (record s { mode = mode }) word (SfenceVma fence)) (privileged (hart_state_of root (record s { mode = mode })) word (SfenceVma fence))
 unfolding privileged refusal
-fence_stands root s word HS leaves = passes root (record s { mode = HS })
-fence_stands root s word U leaves = leaves
-fence_stands root s word VS leaves = fence_if root (record s { mode = VS }) word s.csrs.hstatus.vtvm leaves
-fence_stands root s word VU leaves = leaves
+fence_stands root s word fence HS leaves = fences root (record s { mode = HS }) fence
+fence_stands root s word fence U leaves = leaves
+fence_stands root s word fence VS leaves = fence_if root (record s { mode = VS }) word fence s.csrs.hstatus.vtvm leaves
+fence_stands root s word fence VU leaves = leaves
 
 -- an SRET of VS, where the guest lets it
 returns : (root : GuestRoot) (s : Virtual) → Stands root (record s { mode = VS }) (left_by_sret (record s { mode = VS })) (left_by_sret (hart_state_of root (record s { mode = VS })))
@@ -118,16 +120,16 @@ return_stands root s word VU leaves = leaves
 -- what the hart has in neither of its modes
 record IsWithheld (s : Virtual) (word : ℕ) : Type 0 where
   wfi : privileged s word Wfi ≡ refused s word VirtualInstruction
-  vvma : privileged s word HfenceVvma ≡ refused s word VirtualInstruction
+  vvma : (fence : Fence) → privileged s word (HfenceVvma fence) ≡ refused s word VirtualInstruction
   gvma : (fence : Fence) → privileged s word (HfenceGvma fence) ≡ refused s word VirtualInstruction
   hlv : (wanted : DataAccess) → privileged s word (HlvAccess wanted) ≡ refused s word VirtualInstruction
 
 withheld : (root : GuestRoot) (s : Virtual) (word : ℕ) (mode : Mode) → IsWithheld (hart_state_of root (record s { mode = mode })) word
 unfolding privileged refusal
-withheld root s word HS = record { wfi = refl; vvma = refl; gvma = λ fence. refl; hlv = λ wanted. refl }
-withheld root s word U = record { wfi = refl; vvma = refl; gvma = λ fence. refl; hlv = λ wanted. refl }
-withheld root s word VS = record { wfi = refl; vvma = refl; gvma = λ fence. refl; hlv = λ wanted. refl }
-withheld root s word VU = record { wfi = refl; vvma = refl; gvma = λ fence. refl; hlv = λ wanted. refl }
+withheld root s word HS = record { wfi = refl; vvma = λ fence. refl; gvma = λ fence. refl; hlv = λ wanted. refl }
+withheld root s word U = record { wfi = refl; vvma = λ fence. refl; gvma = λ fence. refl; hlv = λ wanted. refl }
+withheld root s word VS = record { wfi = refl; vvma = λ fence. refl; gvma = λ fence. refl; hlv = λ wanted. refl }
+withheld root s word VU = record { wfi = refl; vvma = λ fence. refl; gvma = λ fence. refl; hlv = λ wanted. refl }
 
 csr_decided : (root : GuestRoot) (s : Virtual) (word : ℕ) (op : CsrOp) (n operand : ℕ) (writes : Bool) (rd : ℕ) → Leaves s (privileged s word (Csr op n operand writes rd)) word
     → Stands root s (privileged s word (Csr op n operand writes rd)) (privileged (hart_state_of root s) word (Csr op n operand writes rd))
@@ -140,8 +142,8 @@ decided_stands : (root : GuestRoot) (s : Virtual) (word : ℕ) (p : Privileged) 
 decided_stands root s word (Csr op n operand writes rd) leaves = csr_decided root s word op n operand writes rd leaves
 decided_stands root s word Sret leaves = return_stands root s word s.mode leaves
 decided_stands root s word Wfi leaves = rw (withheld root s word s.mode).wfi leaves
-decided_stands root s word SfenceVma leaves = fence_stands root s word s.mode leaves
-decided_stands root s word HfenceVvma leaves = rw (withheld root s word s.mode).vvma leaves
+decided_stands root s word (SfenceVma fence) leaves = fence_stands root s word fence s.mode leaves
+decided_stands root s word (HfenceVvma fence) leaves = rw ((withheld root s word s.mode).vvma fence) leaves
 decided_stands root s word (HfenceGvma fence) leaves = rw ((withheld root s word s.mode).gvma fence) leaves
 decided_stands root s word (HlvAccess wanted) leaves = rw ((withheld root s word s.mode).hlv wanted) leaves
 

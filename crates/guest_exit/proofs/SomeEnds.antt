@@ -6,7 +6,7 @@ use Rattle.arch_defs.specs.Memory.{ram_memory}
 use Rattle.op_defs.specs.declared.ops.DataAccess.{DataAccess}
 use Rattle.machine_defs.specs.Core.{Completion}
 use Rattle.machine_defs.specs.Machine.{Machine, Tried}
-use Rattle.machine_defs.specs.Outcomes.{Outcome, Done, Trapped, Missed, Called, Waits, Fenced, Accesses}
+use Rattle.machine_defs.specs.Outcomes.{Outcome, Done, Trapped, Missed, Called, Waits, Fenced, FirstFenced, Accesses}
 use Rattle.machine_defs.specs.Tries.{fence_under, outcome_under, stages_of, try}
 use Rattle.machine_laws.specs.InstructionEnds.{OutcomeHas}
 use Rattle.machine_laws.proofs.Completions.{hlv_each}
@@ -22,6 +22,7 @@ any_outcome (Missed missing wanted) = tt
 any_outcome Called = tt
 any_outcome (Waits state) = tt
 any_outcome (Fenced state fence) = tt
+any_outcome (FirstFenced state named fence) = tt
 any_outcome (Accesses wanted) = tt
 
 pub some_end : (m : Machine) → SomeEnd m (try m) (fence_under (stages_of m) m)

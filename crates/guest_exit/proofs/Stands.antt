@@ -14,7 +14,7 @@ use Rattle.op_defs.specs.declared.ops.Privileged.{Privileged}
 use Rattle.op_defs.specs.Table.{is_system}
 use Rattle.machine_defs.specs.declared.events.Event.TheVariants.{Plain, System}
 use Rattle.machine_defs.specs.Core.{Located, At, Fails, Faults, Misses, at_place, event_of}
-use Rattle.machine_defs.specs.Outcomes.{Outcome, Done, Trapped, Missed, Called, Waits, Fenced, Accesses}
+use Rattle.machine_defs.specs.Outcomes.{Outcome, Done, Trapped, Missed, Called, Waits, Fenced, FirstFenced, Accesses}
 use Rattle.machine_defs.specs.Privileges.{privileged}
 use Rattle.rv64_hart.specs.Steps.{enters_vs}
 use Rattle.world_switch.specs.Hosting.{guest_state_after, guest_state_of, hart_state_of, hosted_csrs, hosted_mode, saved_csrs}
@@ -49,6 +49,7 @@ Stands root s lone (Missed missing wanted) =
 Stands root s lone Called = ⊥
 Stands root s lone (Waits hart) = ⊥
 Stands root s lone (Fenced hart fence) = ⊥
+Stands root s lone (FirstFenced hart named fence) = (lone ≡ FirstFenced (guest_state_of hart s) named fence) × KeepsHart root s hart
 Stands root s lone (Accesses access) = ⊥
 
 -- where an access is made, in both, by where the hart makes it
@@ -75,7 +76,7 @@ pub none_written : (root : GuestRoot) (virtual : Bool) (csrs : Csrs) → KeepsHi
 none_written root false csrs = record { rest = refl; timer = λ e. refl; external = λ e. refl; waits = refl }
 none_written root true csrs = record { rest = refl; timer = λ e. cc; external = λ e. cc; waits = refl }
 
-as_loaded : (root : GuestRoot) (s : Virtual) (regs : Regs) (place : Option (ℕ × ℕ)) → KeepsHart root s (record (hart_state_of root s) { regs = regs; reservation = place })
+pub as_loaded : (root : GuestRoot) (s : Virtual) (regs : Regs) (place : Option (ℕ × ℕ)) → KeepsHart root s (record (hart_state_of root s) { regs = regs; reservation = place })
 as_loaded root s regs place = record { csrs = none_written root (is_virtual s.mode) s.csrs; mode = virtual_mode s.mode }
 
 -- an instruction that changes registers, memory and the reservation alone

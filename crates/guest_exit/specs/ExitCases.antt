@@ -1,10 +1,12 @@
 -- How the host reads the trap at which the hart leaves a step of the guest to it: four cases.
-use Rattle.std.specs.Prelude.{ℕ, ◌≡◌, ◌^◌, ◌==◌, ◌||◌, nat_lt, Bool, true, false, Option, Some, None, option_and_then, if◌then◌else◌, ◌-◌}
+use Rattle.std.specs.Prelude.{ℕ, ◌≡◌, ◌^◌, ◌==◌, ◌||◌, nat_lt, Bool, true, false, List, Option, Some, None, option_and_then, if◌then◌else◌, ◌-◌}
 use Rattle.arch_defs.specs.declared.cached.Entry.{Entry}
+use Rattle.arch_defs.specs.declared.first.FirstEntry.{FirstEntry}
 use Rattle.arch_defs.specs.declared.modes.Trap.{Trap}
 use Rattle.arch_defs.specs.declared.modes.TheConstants.{INSTRUCTION_ACCESS_FAULT, INSTRUCTION_GUEST_PAGE_FAULT, LOAD_ACCESS_FAULT, LOAD_GUEST_PAGE_FAULT, STORE_ACCESS_FAULT, STORE_GUEST_PAGE_FAULT, VIRTUAL_INSTRUCTION}
 use Rattle.arch_defs.specs.declared.registers.Virtual.{Virtual}
 use Rattle.arch_defs.specs.declared.walks.MissingPlace.{MissingPlace}
+use Rattle.arch_defs.specs.FirstEntries.{all_filled}
 use Rattle.arch_defs.specs.Spaces.{front}
 use Rattle.arch_defs.specs.Traps.{exception, is_virtual}
 use Rattle.arch_defs.specs.Walk.{guest_bits}
@@ -17,7 +19,7 @@ use Rattle.machine_defs.specs.Core.{decoded, fetch_place}
 use Rattle.machine_defs.specs.Fills.{missing_entry_at}
 use Rattle.machine_defs.specs.Machine.{Machine, Tried, called, stepped_to, trapped}
 use Rattle.machine_defs.specs.Outcomes.{Missed, Outcome}
-use Rattle.machine_defs.specs.Tries.{apply_outcome, device_of, mmu_of, unplaced}
+use Rattle.machine_defs.specs.Tries.{apply_outcome, device_of, found_by_try, mmu_of, stages_of, unplaced}
 use Rattle.machine_laws.specs.MissedPlaces.{told_place, wanted_at}
 use Rattle.rv64_asm.specs.Words.{encoded}
 use Rattle.hcsr_emulation.specs.Ends.{is_decided}
@@ -53,7 +55,8 @@ instruction_exit trap (Some op) = Instruction op
 instruction_exit trap None = Own trap
 
 -- the fault of an access at a guest physical address of more bits than any table translates, by whether the
--- guest folds: no walk of its table is made, and the fault is the guest's own (8.5.1); or RAM has no such address
+-- guest folds: no walk of its table is made, and the fault is the guest's own (8.5.1); or RAM has no such
+-- address
 abbrev pub far_exit : Virtual → Trap → Bool → Exit
 far_exit virt trap true = Own trap
 far_exit virt trap false = Own (exception virt.mode (access_fault_for trap.cause) trap.tval)
@@ -77,31 +80,41 @@ exit_of virt trap =
     else if trap.cause == VIRTUAL_INSTRUCTION then instruction_exit trap (decided_at trap.tval)
     else other_exit trap (is_virtual virt.mode)
 
+-- the first-stage translations that a machine's next step finds, and the machine that has cached such
+abbrev pub found_next : Machine → List FirstEntry
+found_next m = found_by_try (stages_of m) m
+
+abbrev pub having_found : List FirstEntry → Machine → Machine
+having_found found m = record m { first = all_filled m.first found }
+
 -- how the instruction of this op ends, with the op's own word, in the guest's own mode
 abbrev pub decided_end : Machine → Op → Outcome
 decided_end m op =
     decoded (mmu_of m) m.platform.virt (encoded op) (Some op)
 
-abbrev pub try_decided : Machine → Op → Tried
-try_decided m op = apply_outcome (device_of m) m (decided_end m op)
+-- and what that is to the machine, which has cached what it found
+abbrev pub try_decided : List FirstEntry → Machine → Op → Tried
+try_decided found m op = apply_outcome (device_of m) (having_found found m) (decided_end m op)
 
 -- what its next instruction wants of data
 abbrev pub data_wanted : Machine → Option DataAccess
 data_wanted m = let through = mmu_of m in let virt = m.platform.virt in
     wanted_at through.reading virt (fetch_place through virt)
 
--- the machine's try at such a step
-abbrev pub try_at : Machine → Exit → Tried
-try_at m (Instruction op) = try_decided m op
-try_at m (Missing missing) = unplaced m missing (data_wanted m) (device_of m missing.address missing.kind)
-try_at m Call = stepped_to m (called m.platform) System
-try_at m (Own trap) = trapped m trap
+-- the machine's try at such a step, which finds these first-stage translations
+abbrev pub try_at : List FirstEntry → Machine → Exit → Tried
+try_at found m (Instruction op) = try_decided found m op
+try_at found m (Missing missing) =
+    unplaced (having_found found m) missing (data_wanted m) (device_of m missing.address missing.kind)
+try_at found m Call = stepped_to (having_found found m) (called m.platform) System
+try_at found m (Own trap) = trapped (having_found found m) trap
 
 -- the cached translation that a machine lacks whose access has no place: where it folds, what the walk of the
 -- guest's own table gives
 abbrev pub entry_for : Machine → MissingPlace → Option Entry
 entry_for m missing = let virt = m.platform.virt in
-    if folds virt then missing_entry_at m.device virt.csrs m.ram (front m.spaces) (Missed missing None) else None
+    if folds virt
+    then missing_entry_at m.device virt.csrs m.ram (front m.spaces) (Missed missing None) else None
 
 -- and one at such a step, if any
 abbrev pub entry_for_exit : Machine → Exit → Option Entry
@@ -111,6 +124,7 @@ entry_for_exit m Call = None
 entry_for_exit m (Own trap) = None
 
 -- a step that the hart has left to the host is so
-pub record IsLeft (m : Machine) (tried : Tried) (lacks : Option Entry) (left : Exit) : Type 0 where
-  pub step : tried ≡ try_at m left
+pub record IsLeft (m : Machine) (found : List FirstEntry) (tried : Tried) (lacks : Option Entry)
+    (left : Exit) : Type 0 where
+  pub step : tried ≡ try_at found m left
   pub fills : lacks ≡ entry_for_exit m left

@@ -20,7 +20,7 @@ use Rattle.rv64_hart.specs.declared.harts.Why.TheVariants.{Limit, Exit, VsTrap}
 use Rattle.rv64_hart.specs.Counts.{Counts, IsRaisedBy}
 use Rattle.rv64_hart.specs.Steps.{Exits, Progress, hart_step, hart_steps, progress}
 use Rattle.shadow_pool.specs.Slots.{Pooled}
-use Rattle.world_switch.specs.Hosting.{guest_state_after, hart_state_in}
+use Rattle.world_switch.specs.Hosting.{guest_state_after, loaded_in}
 use Rattle.world_switch.specs.Laws.{waits_for_hs}
 use Rattle.guest_exit.specs.declared.guests.Guest.{Guest}
 use Rattle.guest_exit.specs.HartSteps.{host_takes, root_for}
@@ -77,7 +77,8 @@ GivesSteps part before hart trapped taken after =
 pub record Hands (part : Layout) (pool : Pooled) (m : Machine) (memory : List ℕ) (trap : Trap)
     : Type 0 where
   pub own : host_takes m.platform.virt ≡ false
-  pub exits : hart_step (hart_state_in part (root_for part pool m.platform.virt) m.platform.virt) memory
+  pub exits :
+      hart_step (loaded_in part (root_for part pool m.platform.virt) m.platform.virt m.first) memory
       ≡ Exits trap
 
 -- the hart stops after a trap into VS that stands for one into the guest's HS with V = 0, which the host has
@@ -107,12 +108,14 @@ pub record Stops (part : Layout) (pool : Pooled) (before after : Machine) (memor
 
 -- the hart has made so many steps for a guest, from what it has for it, with V = 0 none but the last a trap
 -- into VS. What it has then is the guest's: what is saved of it and, after such a trap, what that leaves to
--- the host
+-- the host; and its first-stage translations
 pub record HartMakes (n : ℕ) (before after : Guest) (memory : List ℕ) (trace : ℕ) (made : Progress)
     : Type 0 where
   pub steps : hart_steps (is_watched before.virt) n (progress (loaded_for before) memory trace false)
       ≡ Some made
-  pub saves : GivesSteps before.part (platform_of before) made.state made.trapped n (platform_of after)
+  pub saves :
+      GivesSteps before.part (platform_of before) made.state.virt made.trapped n (platform_of after)
+  pub first : after.first ≡ made.state.first
 
 -- the hart's account of one entry: so many steps, of so much pc and word
 pub record IsAccounted (steps sum : ℕ) (before after : Counts) : Type 0 where
@@ -129,7 +132,7 @@ pub record GoesOn (taken : ℕ) (before after : Guest) : Type 0 where
   pub current : with_pending_lines (platform_of after) ≡ platform_of after
 
 -- of machine memory only bytes of the guest's blocks change, and it holds the guest's part as before, whose
--- cached translations stay
+-- spaces stay
 pub record KeepsTables (before : Guest) (memory : List ℕ) (after : Guest) (changed : List ℕ) : Type 0 where
   pub only : Only (in_blocks before.part.blocks) memory changed
   pub placed : IsPlaced after changed

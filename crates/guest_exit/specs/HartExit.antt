@@ -2,6 +2,7 @@
 use Rattle.std.specs.Prelude.{ℕ, ◌≡◌, ◌≢◌, ◌+◌, ◌^◌, ◌≤◌, Bool, true, List, Some, None, ⊤}
 use Rattle.arch_defs.specs.declared.cached.Entry.{Entry}
 use Rattle.arch_defs.specs.declared.cached.Fence.{Fence}
+use Rattle.arch_defs.specs.declared.first.FirstEntry.{FirstEntry}
 use Rattle.arch_defs.specs.declared.modes.Trap.{Trap}
 use Rattle.arch_defs.specs.declared.registers.Virtual.{Virtual}
 use Rattle.arch_defs.specs.Frames.{Only}
@@ -132,8 +133,10 @@ IsWaitOrFence (op.HfenceVvma rs1 rs2) = ⊤
 IsWaitOrFence (op.HfenceGvma rs1 rs2) = ⊤
 IsWaitOrFence other = ⊥
 
--- the step that the hart has left so is made of the machine, or what it lacks is filled
-pub record IsMadeOf (left : Exit) (result : Handled) (before after : Machine) : Type 0 where
+-- the step that the hart has left so, and that finds these first-stage translations, is made of the machine,
+-- or what it lacks is filled
+pub record IsMadeOf (left : Exit) (found : List FirstEntry) (result : Handled) (before after : Machine)
+    : Type 0 where
   pub ready : result ≢ Retry → entry_for_exit before left ≡ None
-  pub step : result ≢ Retry → after ≡ left_by before (try_at before left)
+  pub step : result ≢ Retry → after ≡ left_by before (try_at found before left)
   pub fill : result ≡ Retry → (e : Entry) × (entry_for_exit before left ≡ Some e) × (after ≡ fill before e)

@@ -1,6 +1,8 @@
 -- What one step of the hart is to the guest's lone machine.
 use Rattle.std.specs.Prelude.{ℕ, ◌≡◌, ◌==◌, ◌||◌, Bool, true, false, not, Option, Some, None, if◌then◌else◌, List}
 use Rattle.arch_defs.specs.declared.cached.Entry.{Entry}
+use Rattle.arch_defs.specs.declared.first.FirstEntry.{FirstEntry}
+use Rattle.arch_defs.specs.declared.hart_states.HartState.{HartState}
 use Rattle.arch_defs.specs.declared.levels.TheConstants.{VS_SOFTWARE, VS_TIMER, VS_EXTERNAL}
 use Rattle.arch_defs.specs.declared.modes.TheConstants.{VIRTUAL_INSTRUCTION}
 use Rattle.arch_defs.specs.declared.registers.Virtual.{Virtual}
@@ -18,6 +20,7 @@ use Rattle.op_defs.specs.declared.ops.Privileged.TheVariants.{Csr, Wfi}
 use Rattle.machine_defs.specs.declared.events.Event.{Event}
 use Rattle.machine_defs.specs.declared.events.Event.TheVariants as event
 use Rattle.machine_defs.specs.Fills.{missing_entry}
+use Rattle.machine_defs.specs.FirstLeaves.{tag_of}
 use Rattle.machine_laws.specs.HostPlaces.{in_ram, memory_place}
 use Rattle.machine_defs.specs.Machine.{Machine, Tried, stepped_to, trapped}
 use Rattle.machine_defs.specs.Privileges.{privileged}
@@ -29,9 +32,9 @@ use Rattle.machine_laws.specs.StorableStates.{IsStorable}
 use Rattle.host_tables.specs.Walks.{IsHeld}
 use Rattle.shadow_pool.specs.Slots.{Pooled, TidyPool, front_root, pool_frames, room_of, spaces_of}
 use Rattle.rv64_hart.specs.Steps.{HartEnd, Goes, Exits, attempt_of, end_by, enters_vs, hart_step}
-use Rattle.world_switch.specs.Hosting.{guest_state_after, hart_state_in, hosted_level, root_at}
+use Rattle.world_switch.specs.Hosting.{guest_state_after, hosted_level, loaded_in, root_at}
 use Rattle.world_switch.specs.Laws.{KeepsHidden}
-use Rattle.guest_exit.specs.ExitCases.{IsLeft, exit_of}
+use Rattle.guest_exit.specs.ExitCases.{IsLeft, exit_of, found_next}
 
 -- whether an interrupt is one that the hart does not take for the guest, by the guest's V and hideleg: with
 -- V = 0 one of VS, with V = 1 one that is not delegated, which goes to HS
@@ -67,35 +70,44 @@ pub record KeepsHart (root : GuestRoot) (before hart : Virtual) : Type 0 where
   pub csrs : KeepsHidden root (is_virtual before.mode) before.csrs hart.csrs
   pub mode : is_virtual hart.mode ≡ true
 
--- the step of the machine that a step of the hart is
-abbrev pub step_for : Machine → Virtual → Bool → List ℕ → Event → Tried
-step_for m hart trapped memory event =
+-- the step of the machine that a step of the hart is, with the first-stage translations that it leaves
+abbrev pub step_for : Machine → Virtual → List FirstEntry → Bool → List ℕ → Event → Tried
+step_for m hart first trapped memory event =
     let platform = record m.platform { virt = guest_state_after trapped hart m.platform.virt } in
-    stepped_to (record m { ram = memory }) platform event
+    stepped_to (record m { ram = memory; first = first }) platform event
 
--- a step that the hart has made in a part of machine memory is the machine's, which lacks nothing: the hart's
--- state is the one that stands for the machine after it, with its reservation's place in memory
+-- what the hart has stands for a guest: its state is this one, with its reservation's place in memory, and
+-- the accesses are for whom the guest's are
+pub record IsOf (part : Layout) (virt own : Virtual) (hart : HartState) : Type 0 where
+  pub state : hart.virt ≡ renamed (memory_place part.blocks) own
+  pub tag : hart.tag ≡ tag_of virt
+
+-- a step that the hart has made in a part of machine memory is the machine's, which lacks nothing: what the
+-- hart has stands for the machine after it, whose first-stage translations are the hart's
 pub record IsMade (part : Layout) (root : GuestRoot) (m : Machine) (tried : Tried) (lacks : Option Entry)
-    (memory : List ℕ) (hart : Virtual) (changed : List ℕ) (event : Event) : Type 0 where
+    (memory : List ℕ) (hart : HartState) (changed : List ℕ) (event : Event) : Type 0 where
   pub own : Virtual
-  pub state : hart ≡ renamed (memory_place part.blocks) own
+  pub stands : IsOf part m.platform.virt own hart
   pub step : tried
-      ≡ step_for m own (enters_vs event) (ram_of part.blocks changed)
+      ≡ step_for m own hart.first (enters_vs event) (ram_of part.blocks changed)
       (event_for (is_virtual m.platform.virt.mode) event)
   pub ready : lacks ≡ None
   pub keeps : KeepsHart root m.platform.virt own
   pub held : ReservesWithin (in_ram part.blocks) own.reservation
   pub only : Only (in_blocks part.blocks) memory changed
 
--- what a step of the hart under a root is to a try of the machine for which it stands, and to what that lacks
-abbrev pub FollowsTry : Layout → GuestRoot → Machine → Tried → Option Entry → List ℕ → HartEnd → Type 0
-FollowsTry part root m tried lacks memory (Goes hart changed event) =
+-- what a step of the hart under a root is to a try of the machine for which it stands, by the first-stage
+-- translations that this finds, and to what the machine lacks
+abbrev pub FollowsTry : Layout → GuestRoot → Machine → List FirstEntry → Tried → Option Entry → List ℕ
+    → HartEnd → Type 0
+FollowsTry part root m found tried lacks memory (Goes hart changed event) =
     IsMade part root m tried lacks memory hart changed event
-FollowsTry part root m tried lacks memory (Exits trap) =
-    IsLeft m tried lacks (exit_of m.platform.virt trap)
+FollowsTry part root m found tried lacks memory (Exits trap) =
+    IsLeft m found tried lacks (exit_of m.platform.virt trap)
 
 abbrev pub Follows : Layout → GuestRoot → Machine → List ℕ → HartEnd → Type 0
-Follows part root m memory end = FollowsTry part root m (try m) (missing_entry m) memory end
+Follows part root m memory end =
+    FollowsTry part root m (found_next m) (try m) (missing_entry m) memory end
 
 -- a machine in a part of machine memory: the part names no frame twice, and memory holds it with its host
 -- table; RAM is the bytes of its blocks; what is reserved, if anything, is a place of RAM; the spaces are
@@ -122,21 +134,23 @@ StepsFollow =
     (part : Layout) (pool : Pooled) (m : Machine) (memory : List ℕ)
     → host_takes m.platform.virt ≡ false → IsAt part pool m memory
     → Follows part (root_for part pool m.platform.virt) m memory
-    (hart_step (hart_state_in part (root_for part pool m.platform.virt) m.platform.virt) memory)
+    (hart_step (loaded_in part (root_for part pool m.platform.virt) m.platform.virt m.first) memory)
 
 -- the hart, loaded for a guest, exits at an instruction that the mode decides on, with its word
-abbrev pub ExitsAt : Layout → GuestRoot → Virtual → List ℕ → ℕ → Privileged → Type 0
-ExitsAt part root virt memory word effect =
-    let hart = hart_state_in part root virt in
-    end_by hart memory (attempt_of hart.csrs hart.mode memory (privileged hart word effect))
-    ≡ Exits (exception hart.mode VIRTUAL_INSTRUCTION word)
+abbrev pub ExitsAt : Layout → GuestRoot → Virtual → List FirstEntry → List ℕ → ℕ → Privileged → Type 0
+ExitsAt part root virt first memory word effect =
+    let hart = loaded_in part root virt first in
+    end_by hart memory (attempt_of hart memory (privileged hart.virt word effect))
+    ≡ Exits (exception hart.virt.mode VIRTUAL_INSTRUCTION word)
 
 -- so it does at a WFI, and at a read of time, whatever the guest's mode and registers are
 abbrev pub WaitsExit : Type 0
-WaitsExit = (part : Layout) (root : GuestRoot) (virt : Virtual) (memory : List ℕ) (word : ℕ)
-    → ExitsAt part root virt memory word Wfi
+WaitsExit =
+    (part : Layout) (root : GuestRoot) (virt : Virtual) (first : List FirstEntry) (memory : List ℕ)
+    (word : ℕ) → ExitsAt part root virt first memory word Wfi
 
 abbrev pub TimeExits : Type 0
 TimeExits =
-    (part : Layout) (root : GuestRoot) (virt : Virtual) (memory : List ℕ) (word : ℕ)
-    (op : CsrOp) (operand rd : ℕ) → ExitsAt part root virt memory word (Csr op 0xC01 operand false rd)
+    (part : Layout) (root : GuestRoot) (virt : Virtual) (first : List FirstEntry) (memory : List ℕ)
+    (word : ℕ) (op : CsrOp) (operand rd : ℕ)
+    → ExitsAt part root virt first memory word (Csr op 0xC01 operand false rd)

@@ -3,34 +3,42 @@
 ghost use Rattle.std.specs.Prelude.{◌≡◌};
 ghost use Rattle.arch_defs.specs.SecondStage.{is_implicit};
 ghost use Rattle.machine_defs.specs.DeviceSteps.{device_step, on_device};
-ghost use Rattle.guest_exit.specs.ExitCases.{data_wanted};
+ghost use Rattle.guest_exit.specs.ExitCases.{data_wanted, having_found};
 ghost use Rattle.guest_exit.specs.HartExit.{CanGoOn, IsTold};
 ghost use Rattle.guest_exit.specs.Steps.{CanStep, Makes};
-ghost use Rattle.guest_exit.specs.View.{KeepsSpaces, machine_of};
+ghost use Rattle.guest_exit.specs.View.{KeepsCached, KeepsSpaces, machine_of};
 
+use crate::found_leaves::FoundLeaves;
 use crate::guests::Guest;
-use crate::hart_entry::root_frame_of;
+use crate::hart_entry::hart_state_for;
 use crate::hart_exit::{Handled, raise};
 use arch_defs::{Access, MissingPlace};
 use op_defs::DataAccess;
 use phys_mem::PhysMem;
 use rv64_hart::wanted_at;
-use world_switch::load;
+use world_switch::tag_of;
 
-/// Makes the access of the guest's next instruction to the device page. The read of an entry there, and an
-/// access that the page does not serve, are access faults.
-pub(crate) fn access_device(guest: &mut Guest, memory: &PhysMem, missing: &MissingPlace) -> Handled
+/// Makes the access of the guest's next instruction to the device page, which finds these first-stage
+/// translations. The read of an entry there, and an access that the page does not serve, are access faults.
+pub(crate) fn access_device(
+    guest: &mut Guest,
+    memory: &PhysMem,
+    missing: &MissingPlace,
+    found: &FoundLeaves,
+) -> Handled
     requires can { CanGoOn guest.old memory.now }
-    ensures step { Makes guest.old guest.new
-        (λ m. on_device m missing.now (data_wanted (machine_of guest.old memory.now))) }
+    ensures step { Makes guest.old guest.new (λ m. on_device (having_found found.now m) missing.now
+        (data_wanted (machine_of guest.old memory.now))) }
     ensures told { IsTold result guest.old guest.new }
     ensures went { result ≡ Handled.Stepped }
     ensures keeps { KeepsSpaces guest.old guest.new }
 {
+    let wanted = wanted(guest, memory);
+    found.fill(&mut guest.first);
     if is_implicit(missing.kind) {
         return raise(guest, &missing.access_fault());
     }
-    match wanted(guest, memory) {
+    match wanted {
         Some(wanted) => serve(guest, missing, &wanted),
         None => raise(guest, &missing.access_fault()),
     }
@@ -48,9 +56,9 @@ fn wanted(guest: &Guest, memory: &PhysMem) -> Option<DataAccess>
     requires can { CanGoOn guest.now memory.now }
     ensures { result ≡ data_wanted (machine_of guest.now memory.now) }
 {
-    let mut hart = guest.virt;
-    load(&guest.virt, &guest.part, root_frame_of(guest), &mut hart);
-    wanted_at(&hart, memory)
+    let hart = hart_state_for(guest);
+    let tag = tag_of(&guest.virt);
+    wanted_at(&hart, &guest.first, &tag, memory)
 }
 
 // An access to data on the page.
@@ -60,7 +68,7 @@ fn serve(guest: &mut Guest, missing: &MissingPlace, wanted: &DataAccess) -> Hand
         (λ m. device_step m missing.now wanted.now.width wanted.now.purpose) }
     ensures told { IsTold result guest.old guest.new }
     ensures went { result ≡ Handled.Stepped }
-    ensures keeps { KeepsSpaces guest.old guest.new }
+    ensures keeps { KeepsCached guest.old guest.new }
 {
     let clock = guest.clock.now();
     let offset = missing.address % 4096;

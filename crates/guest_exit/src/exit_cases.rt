@@ -27,7 +27,8 @@ const PAST_ADDRESSES: u64 = 0x1_0000_0000_0000;
 pub enum Exit {
     /// An instruction on which the mode decides.
     Instruction(Op),
-    /// An access to which the second stage gives no place: by the front space of a guest that folds, else by RAM.
+    /// An access to which the second stage gives no place: by the front space of a guest that folds, else by
+    /// RAM.
     Missing(MissingPlace),
     /// A call of the execution environment.
     Call,
@@ -94,8 +95,9 @@ fn access_fault_for(code: u64) -> u64
     }
 }
 
-// What the hart's trap tells of the access. tval2 has no low two bits of the guest physical address (Privileged
-// Architecture 20211203, 8.2.8), so its offset in the page is tval's; an entry is at a multiple of 8.
+// What the hart's trap tells of the access. tval2 has no low two bits of the guest physical address
+// (Privileged Architecture 20211203, 8.2.8), so its offset in the page is tval's; an entry is at a multiple
+// of 8.
 fn told_place(mode: Mode, trap: &Trap) -> MissingPlace
     requires small { trap.now.tval2 < 2 ^ (guest_bits - 2) }
     ensures { result ≡ told_place mode trap.now }

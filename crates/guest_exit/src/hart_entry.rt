@@ -3,8 +3,11 @@
 ghost use Rattle.std.specs.Prelude.{◌≡◌};
 ghost use Rattle.machine_defs.specs.Runs.{events, trace_of};
 ghost use Rattle.rv64_hart.specs.Steps.{is_vs_trap, progress};
+ghost use Rattle.machine_laws.specs.HostPlaces.{in_ram};
+ghost use Rattle.machine_laws.specs.Renaming.{ReservesWithin};
+ghost use Rattle.world_switch.specs.Hosting.{hart_state_in, with_buffer};
 ghost use Rattle.guest_exit.specs.HartEntry.{CanEnter, GoesOn, HartMakes, HasRoomForEntry, IsAccounted, KeepsTables, Stops, is_watched};
-ghost use Rattle.guest_exit.specs.HartSteps.{root_frame_for};
+ghost use Rattle.guest_exit.specs.HartSteps.{root_for, root_frame_for};
 ghost use Rattle.guest_exit.specs.Steps.{MakesSteps};
 ghost use Rattle.guest_exit.specs.View.{machine_of};
 
@@ -12,7 +15,7 @@ use crate::guests::{Guest, folds};
 use arch_defs::Virtual;
 use phys_mem::PhysMem;
 use rv64_hart::{Hart, Stop, Tally, Why};
-use world_switch::load;
+use world_switch::{load, load_state};
 
 /// Enters the hart for at most `limit` steps of the guest, which are steps of its lone machine, and gives the
 /// guest what the hart then has for it. After `Exit` the machine's next step is for `handle`. `VsTrap` comes
@@ -32,22 +35,29 @@ pub fn enter(
     ensures why { Stops guest.old.part guest.old.pool (machine_of guest.old memory.old)
         (machine_of guest.new memory.new) memory.new limit result }
     ensures hart { HartMakes result.taken guest.old guest.new memory.old tally.old.trace
-        (progress hart.new.state memory.new tally.new.trace (is_vs_trap result.why)) }
+        (progress (with_buffer hart.new.state guest.new.first) memory.new tally.new.trace
+        (is_vs_trap result.why)) }
     ensures account { IsAccounted result.taken
         (trace_of (events (machine_of guest.old memory.old) result.taken)) tally.old tally.new }
     ensures goes { GoesOn result.taken guest.old guest.new }
     ensures keeps { KeepsTables guest.old memory.old guest.new memory.new }
 {
     let root = root_frame_of(guest);
-    load(&guest.virt, &guest.part, root, hart.state_mut());
     let watch = is_watched(&guest.virt);
+    load(
+        &guest.virt,
+        &mut guest.first,
+        &guest.part,
+        root,
+        hart.state_mut(),
+    );
     let stop = hart.run(memory, limit, watch, tally);
-    guest.take_steps(hart.state(), is_vs_trap(&stop.why), stop.taken);
+    guest.take_steps(hart.state_mut(), is_vs_trap(&stop.why), stop.taken);
     stop
 }
 
 // The frame of the root of the table under which the hart runs for the guest.
-pub(crate) fn root_frame_of(guest: &Guest) -> u64
+fn root_frame_of(guest: &Guest) -> u64
     ensures { result ≡ root_frame_for guest.now.part guest.now.pool guest.now.virt }
 {
     if folds(&guest.virt) {
@@ -55,6 +65,18 @@ pub(crate) fn root_frame_of(guest: &Guest) -> u64
     } else {
         guest.part.host_root()
     }
+}
+
+/// The state that the hart has for the guest, where it is loaded.
+#[tactic(auto, unfolding(crate::specs::HartSteps::root_for))]
+pub(crate) fn hart_state_for(guest: &Guest) -> Virtual
+    requires held { ReservesWithin (in_ram guest.now.part.blocks) guest.now.virt.reservation }
+    ensures { result ≡ hart_state_in guest.now.part
+        (root_for guest.now.part guest.now.pool guest.now.virt) guest.now.virt }
+{
+    let mut hart = guest.virt;
+    load_state(&guest.virt, &guest.part, root_frame_of(guest), &mut hart);
+    hart
 }
 
 // Whether the hart is to stop after a trap into VS.

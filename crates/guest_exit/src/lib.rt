@@ -4,6 +4,7 @@
 mod device_accesses;
 mod entry_limit;
 mod exit_cases;
+mod found_leaves;
 mod guests;
 mod hart_entry;
 mod hart_exit;

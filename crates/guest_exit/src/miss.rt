@@ -16,6 +16,7 @@ ghost use Rattle.guest_exit.specs.View.{machine_of};
 
 use crate::device_accesses::access_device;
 use crate::exit_cases::Exit;
+use crate::found_leaves::FoundLeaves;
 use crate::guests::{Guest, folds};
 use crate::hart_exit::{Handled, raise};
 use arch_defs::{Entry, Trap};
@@ -24,26 +25,36 @@ use two_stage_walk::{MissingPlace, entry_by_walk, is_on_device, missing_place_tr
 
 /// An access to which the second stage gives no place. On the device page of a guest that has one it is made
 /// there. Else, where the guest folds and the walk of its own table has a leaf for it, the entry is filled,
-/// and no step is made; and else the fault of that walk is taken.
-pub fn miss(guest: &mut Guest, memory: &mut PhysMem, access: &MissingPlace) -> Handled
+/// no step is made, and what the step finds of the first stage is not cached; and else the fault of that walk
+/// is taken.
+pub fn miss(
+    guest: &mut Guest,
+    memory: &mut PhysMem,
+    access: &MissingPlace,
+    found: &FoundLeaves,
+) -> Handled
     requires can { CanGoOn guest.old memory.old }
-    ensures makes { IsMadeOf (Exit.Missing access.now) result
+    ensures makes { IsMadeOf (Exit.Missing access.now) found.now result
         (machine_of guest.old memory.old) (machine_of guest.new memory.new) }
-    ensures quiet { IsNotPlain (try_at (machine_of guest.old memory.old) (Exit.Missing access.now)) }
+    ensures quiet { IsNotPlain
+        (try_at found.now (machine_of guest.old memory.old) (Exit.Missing access.now)) }
     ensures goes { result ≢ Handled.Waits }
     ensures runs { result ≢ Handled.Stopped }
     ensures within { KeepsOutside guest.old memory.old guest.new memory.new }
     ensures told { IsTold result guest.old guest.new }
 {
     if has_on_device(guest, access) {
-        return access_device(guest, memory, access);
+        return access_device(guest, memory, access, found);
     }
     match entry_for(guest, memory, access) {
         Ok(entry) => {
             guest.pool.fill(memory, entry);
             Handled::Retry
         }
-        Err(fault) => raise(guest, &fault),
+        Err(fault) => {
+            found.fill(&mut guest.first);
+            raise(guest, &fault)
+        }
     }
 }
 

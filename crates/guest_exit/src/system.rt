@@ -1,69 +1,76 @@
 // Instructions on which the mode decides, made in the guest's own mode.
 
 ghost use Rattle.std.specs.Prelude.{◌≡◌, ◌≢◌, ◌&&◌, false, length, not, true};
+ghost use Rattle.arch_defs.specs.FirstEntries.{names_first};
 ghost use Rattle.arch_defs.specs.Frames.{LieIn, Only, in_blocks};
 ghost use Rattle.arch_defs.specs.Memory.{ram_memory};
 ghost use Rattle.arch_defs.specs.Ram.{ram_of};
 ghost use Rattle.arch_defs.specs.WalkedEntries.{folds};
+ghost use Rattle.machine_defs.specs.declared.events.Event.TheVariants.{System};
+ghost use Rattle.machine_defs.specs.Machine.{stepped_to};
 ghost use Rattle.machine_defs.specs.Runs.{left_by};
+ghost use Rattle.machine_defs.specs.Tries.{first_fenced};
 ghost use Rattle.machine_laws.specs.StorableStates.{IsStorable};
 ghost use Rattle.rv64_asm.specs.Fitting.{fits};
 ghost use Rattle.hcsr_emulation.specs.Ends.{IfAccessRaised, IsCsrOrSret};
 ghost use Rattle.hlv_hsv.specs.Ends.{IsAccessed, IsHlvOp, hlv_state};
 ghost use Rattle.guest_exit.specs.ExitCases.{try_decided};
 ghost use Rattle.guest_exit.specs.HartExit.{CanGoOn, HoldsTables, IsDecidedOp, IsFenced, IsFinished, IsTold, IsWaitOrFence, KeepsOutside};
-ghost use Rattle.guest_exit.specs.Steps.{CanStep, IsNotPlain};
-ghost use Rattle.guest_exit.specs.View.{machine_of};
+ghost use Rattle.guest_exit.specs.Steps.{CanStep, IsNotPlain, Makes};
+ghost use Rattle.guest_exit.specs.View.{KeepsSpaces, machine_of};
 
+use crate::found_leaves::FoundLeaves;
 use crate::guests::{Guest, folds};
 use crate::hart_exit::{Handled, raise};
 use crate::wfi::wait;
-use arch_defs::{Fence, Key, Part, Virtual};
+use arch_defs::{Fence, Key, Part, Tag, Virtual};
 use console_dev::Console;
 use hcsr_emulation::{Accessed, Emulated};
 use op_defs::Op;
 use phys_mem::{PhysMem, Ram};
+use world_switch::tag_of;
 
 /// Makes an instruction on which the mode decides, where it is allowed: an instruction on a register; an
 /// SRET, which may enter a guest of the guest; an HLV, HLVX or HSV, which makes its access to the guest's
 /// RAM; a WFI, which waits; or a fence, which drops cached translations. Where the mode does not allow it,
-/// its exception is taken.
-pub fn emulate(guest: &mut Guest, memory: &mut PhysMem, op: Op) -> Handled
+/// its exception is taken. What it finds of the first stage is cached before that, unless it waits for good.
+pub fn emulate(guest: &mut Guest, memory: &mut PhysMem, op: Op, found: &FoundLeaves) -> Handled
     requires can { CanGoOn guest.old memory.old }
     requires op { IsDecidedOp op }
     ensures step { machine_of guest.new memory.new ≡ left_by (machine_of guest.old memory.old)
-        (try_decided (machine_of guest.old memory.old) op) }
-    ensures quiet { IsNotPlain (try_decided (machine_of guest.old memory.old) op) }
+        (try_decided found.now (machine_of guest.old memory.old) op) }
+    ensures quiet { IsNotPlain (try_decided found.now (machine_of guest.old memory.old) op) }
     ensures went { result ≢ Handled.Retry }
     ensures runs { result ≢ Handled.Stopped }
     ensures within { KeepsOutside guest.old memory.old guest.new memory.new }
     ensures told { IsTold result guest.old guest.new }
 {
     match op {
-        Op::Csr { .. } | Op::Sret => access_registers(guest, memory, op),
+        Op::Csr { .. } | Op::Sret => access_registers(guest, memory, op, found),
         Op::GuestLoad { .. } | Op::GuestFetch { .. } | Op::GuestStore { .. } => {
-            access_ram(guest, memory, op)
+            access_ram(guest, memory, op, found)
         }
         Op::Wfi | Op::SfenceVma { .. } | Op::HfenceVvma { .. } | Op::HfenceGvma { .. } => {
-            wait_or_fence(guest, memory, op)
+            wait_or_fence(guest, memory, op, found)
         }
         _ => unreachable!(),
     }
 }
 
 // An instruction on a control and status register, or an SRET.
-fn access_registers(guest: &mut Guest, memory: &mut PhysMem, op: Op) -> Handled
+fn access_registers(guest: &mut Guest, memory: &mut PhysMem, op: Op, found: &FoundLeaves) -> Handled
     requires can { CanGoOn guest.old memory.old }
     requires kind { IsCsrOrSret op }
     requires fits { fits op ≡ true }
     ensures step { machine_of guest.new memory.new ≡ left_by (machine_of guest.old memory.old)
-        (try_decided (machine_of guest.old memory.old) op) }
-    ensures quiet { IsNotPlain (try_decided (machine_of guest.old memory.old) op) }
+        (try_decided found.now (machine_of guest.old memory.old) op) }
+    ensures quiet { IsNotPlain (try_decided found.now (machine_of guest.old memory.old) op) }
     ensures went { result ≡ Handled.Stepped }
     ensures within { KeepsOutside guest.old memory.old guest.new memory.new }
     ensures told { IsTold result guest.old guest.new }
 {
     let nested = guest.virt.mode.is_virtual();
+    found.fill(&mut guest.first);
     match hcsr_emulation::access(&mut guest.virt, op) {
         Accessed::Done => finish(guest, memory, nested),
         Accessed::Raise(trap) => raise(guest, &trap),
@@ -71,24 +78,38 @@ fn access_registers(guest: &mut Guest, memory: &mut PhysMem, op: Op) -> Handled
 }
 
 // A WFI or a fence.
-fn wait_or_fence(guest: &mut Guest, memory: &mut PhysMem, op: Op) -> Handled
+fn wait_or_fence(guest: &mut Guest, memory: &mut PhysMem, op: Op, found: &FoundLeaves) -> Handled
     requires can { CanGoOn guest.old memory.old }
     requires kind { IsWaitOrFence op }
     ensures step { machine_of guest.new memory.new ≡ left_by (machine_of guest.old memory.old)
-        (try_decided (machine_of guest.old memory.old) op) }
-    ensures quiet { IsNotPlain (try_decided (machine_of guest.old memory.old) op) }
+        (try_decided found.now (machine_of guest.old memory.old) op) }
+    ensures quiet { IsNotPlain (try_decided found.now (machine_of guest.old memory.old) op) }
     ensures went { result ≢ Handled.Retry }
     ensures runs { result ≢ Handled.Stopped }
     ensures within { KeepsOutside guest.old memory.old guest.new memory.new }
     ensures told { IsTold result guest.old guest.new }
 {
     let nested = guest.virt.mode.is_virtual();
+    let own = tag_of(&guest.virt);
     let pc = guest.virt.regs.pc;
     match hcsr_emulation::emulate(&mut guest.virt, op) {
-        Emulated::Done => finish(guest, memory, nested),
-        Emulated::Waits => wait(guest, pc),
-        Emulated::Fenced(named) => fence(guest, memory, named),
-        Emulated::Raise(trap) => raise(guest, &trap),
+        Emulated::Done => {
+            found.fill(&mut guest.first);
+            finish(guest, memory, nested)
+        }
+        Emulated::Waits => wait(guest, pc, found),
+        Emulated::Fenced(named) => {
+            found.fill(&mut guest.first);
+            fence(guest, memory, named)
+        }
+        Emulated::FirstFenced(tag, named) => {
+            found.fill(&mut guest.first);
+            first_fence(guest, tag.unwrap_or(own), &named)
+        }
+        Emulated::Raise(trap) => {
+            found.fill(&mut guest.first);
+            raise(guest, &trap)
+        }
         Emulated::Accesses(_) => unreachable!(),
     }
 }
@@ -133,7 +154,8 @@ fn enter_space(guest: &mut Guest, memory: &mut PhysMem) -> Handled
     Handled::Stepped
 }
 
-// An HFENCE.GVMA has left the guest its state, and drops the cached translations that it names.
+// An HFENCE.GVMA has left the guest its state, and drops the cached translations of both stages that it
+// names.
 fn fence(guest: &mut Guest, memory: &mut PhysMem, named: Fence) -> Handled
     requires can { CanStep guest.old }
     requires holds { HoldsTables guest.old memory.old }
@@ -143,21 +165,38 @@ fn fence(guest: &mut Guest, memory: &mut PhysMem, named: Fence) -> Handled
     ensures told { IsTold result guest.old guest.new }
 {
     guest.pool.fence(memory, named);
+    guest.first.drop_of_guest(&named);
+    guest.tick();
+    Handled::Stepped
+}
+
+// A fence of the first stage has left the guest its state, and drops the first-stage translations that it
+// names, made for these accesses.
+fn first_fence(guest: &mut Guest, tag: Tag, named: &Fence) -> Handled
+    requires can { CanStep guest.old }
+    ensures step { Makes guest.old guest.new
+        (λ m. stepped_to (first_fenced (names_first tag named.now) m) m.platform System) }
+    ensures told { IsTold result guest.old guest.new }
+    ensures went { result ≡ Handled.Stepped }
+    ensures keeps { KeepsSpaces guest.old guest.new }
+{
+    guest.first.drop_named(tag, named);
     guest.tick();
     Handled::Stepped
 }
 
 // An HLV, HLVX or HSV. Its trap is taken in the mode of the instruction.
-fn access_ram(guest: &mut Guest, memory: &mut PhysMem, op: Op) -> Handled
+fn access_ram(guest: &mut Guest, memory: &mut PhysMem, op: Op, found: &FoundLeaves) -> Handled
     requires can { CanGoOn guest.old memory.old }
     requires op { IsHlvOp op }
     ensures step { machine_of guest.new memory.new ≡ left_by (machine_of guest.old memory.old)
-        (try_decided (machine_of guest.old memory.old) op) }
-    ensures quiet { IsNotPlain (try_decided (machine_of guest.old memory.old) op) }
+        (try_decided found.now (machine_of guest.old memory.old) op) }
+    ensures quiet { IsNotPlain (try_decided found.now (machine_of guest.old memory.old) op) }
     ensures went { result ≡ Handled.Stepped }
     ensures within { KeepsOutside guest.old memory.old guest.new memory.new }
     ensures told { IsTold result guest.old guest.new }
 {
+    found.fill(&mut guest.first);
     let (device, console) = (guest.device, &mut guest.console);
     match access_in(memory, &guest.part, &mut guest.virt, op, device, console) {
         Accessed::Done => {

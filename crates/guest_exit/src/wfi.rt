@@ -2,10 +2,12 @@
 
 ghost use Rattle.std.specs.Prelude.{◌≡◌, ◌≢◌, ◌&&◌, ◌||◌, false};
 ghost use Rattle.machine_defs.specs.Machine.{has_enabled_interrupt, waited, with_pending_lines};
+ghost use Rattle.guest_exit.specs.ExitCases.{having_found};
 ghost use Rattle.guest_exit.specs.HartExit.{IsTold, with_pc};
 ghost use Rattle.guest_exit.specs.Steps.{CanStep, Makes};
 ghost use Rattle.guest_exit.specs.View.{KeepsSpaces, platform_of};
 
+use crate::found_leaves::FoundLeaves;
 use crate::guests::Guest;
 use crate::hart_exit::Handled;
 use arch_defs::{Csrs, Interrupts};
@@ -13,29 +15,33 @@ use machine_defs::Status;
 use virtual_timer::{WaitEnd, wake_moment_is_least};
 
 /// A WFI, which stood at `pc` and has left the guest its state. Where an interrupt is pending and enabled it
-/// goes on at once, and else it waits for the wake moment, or for good: then pc is what it was.
-pub fn wait(guest: &mut Guest, pc: u64) -> Handled
+/// goes on at once, and else it waits for the wake moment, or for good: then pc is what it was, and the
+/// first-stage translations that it has found are not cached.
+pub fn wait(guest: &mut Guest, pc: u64, found: &FoundLeaves) -> Handled
     requires can { CanStep guest.old }
     requires current { with_pending_lines (platform_of guest.old) ≡ platform_of guest.old }
-    ensures step { Makes (with_pc guest.old pc) guest.new (λ m. waited m guest.old.virt) }
+    ensures step { Makes (with_pc guest.old pc) guest.new
+        (λ m. waited (having_found found.now m) guest.old.virt) }
     ensures told { IsTold result guest.old guest.new }
     ensures went { result ≢ Handled.Retry }
     ensures runs { result ≢ Handled.Stopped }
     ensures keeps { KeepsSpaces guest.old guest.new }
 {
     if has_enabled_interrupt(&guest.virt.csrs) {
+        found.fill(&mut guest.first);
         guest.tick();
         return Handled::Stepped;
     }
-    wait_for_wake(guest, pc)
+    wait_for_wake(guest, pc, found)
 }
 
 // A WFI at which no enabled interrupt is pending.
-fn wait_for_wake(guest: &mut Guest, pc: u64) -> Handled
+fn wait_for_wake(guest: &mut Guest, pc: u64, found: &FoundLeaves) -> Handled
     requires can { CanStep guest.old }
     requires current { with_pending_lines (platform_of guest.old) ≡ platform_of guest.old }
     requires none { has_enabled_interrupt guest.old.virt.csrs ≡ false }
-    ensures step { Makes (with_pc guest.old pc) guest.new (λ m. waited m guest.old.virt) }
+    ensures step { Makes (with_pc guest.old pc) guest.new
+        (λ m. waited (having_found found.now m) guest.old.virt) }
     ensures told { IsTold result guest.old guest.new }
     ensures went { result ≢ Handled.Retry }
     ensures runs { result ≢ Handled.Stopped }
@@ -44,6 +50,7 @@ fn wait_for_wake(guest: &mut Guest, pc: u64) -> Handled
     wake_moment_is_least();
     match guest.clock.wait(guest.virt.csrs.sie, guest.console.next()) {
         WaitEnd::Woke => {
+            found.fill(&mut guest.first);
             guest.count();
             Handled::Stepped
         }

@@ -1,12 +1,13 @@
 -- Registers and flags as numbers, read again.
 use Rattle.std.proofs.Common.{◌≡◌, ℕ, ◌+◌, ◌*◌, ◌/◌, ◌%◌, ◌^◌, ◌<◌, ◌≤◌, Bool, true, false, refl, arith}
 use Rattle.arch_defs.specs.declared.cached.Entry.{Entry}
+use Rattle.arch_defs.specs.declared.first.FirstEntry.{FirstEntry}
 use Rattle.arch_defs.specs.declared.registers.HypervisorStatus.{HypervisorStatus}
 use Rattle.arch_defs.specs.declared.registers.Interrupts.{Interrupts}
 use Rattle.arch_defs.specs.declared.registers.SupervisorStatus.{SupervisorStatus}
 use Rattle.arch_defs.specs.Bits.{bit, bit_number, field}
 use Rattle.arch_defs.specs.CsrBits.{hip_bits, hstatus_bits, hstatus_of, sip_bits, sstatus_bits, sstatus_of, supervisor_interrupts, virtual_interrupts}
-use Rattle.guest_save.specs.Forms.{flags_of}
+use Rattle.guest_save.specs.Forms.{first_flags_of, flags_of}
 
 abbrev one : Bool → ℕ
 one true = 1
@@ -116,3 +117,26 @@ flags_again e small =
 pub flags_small : (e : Entry) → e.level < 256 → flags_of e < 2 ^ 64
 flags_small e small =
     omega (arith, worth 0 e.r, worth 1 e.w, worth 2 e.x, one_small e.r, one_small e.w, one_small e.x)
+
+-- what a first-stage translation permits, and its level
+first_permissions : (v a b c l d : ℕ) → a ≤ 1 → b ≤ 1 → c ≤ 1 → l < 4 → d ≤ 1 → v ≡ a + 2 * b + 4 * c + 8 * l + 32 * d
+    → (v / 1 % 2 ≡ a) × (v / 2 % 2 ≡ b) × (v / 4 % 2 ≡ c) × (v / 8 % 4 ≡ l) × (v / 32 % 2 ≡ d)
+first_permissions v a b c l d of_a of_b of_c of_l of_d is = (omega arith, omega arith, omega arith, omega arith, omega arith)
+
+pub record AreFirstFlags (e : FirstEntry) (flags : ℕ) : Type 0 where
+  pub r : bit 0 flags ≡ e.r
+  pub w : bit 1 flags ≡ e.w
+  pub x : bit 2 flags ≡ e.x
+  pub u : bit 5 flags ≡ e.u
+  pub level : field 3 2 flags ≡ e.level
+
+pub first_flags_again : (e : FirstEntry) → e.level < 4 → AreFirstFlags e (first_flags_of e)
+first_flags_again e small =
+    let flags = first_flags_of e in
+    let f = first_permissions flags (one e.r) (one e.w) (one e.x) e.level (one e.u) (one_small e.r) (one_small e.w) (one_small e.x) small (one_small e.u)
+    (omega (arith, worth 0 e.r, worth 1 e.w, worth 2 e.x, worth 5 e.u)) in
+    record { r = bit_is 0 flags e.r f.0; w = bit_is 1 flags e.w f.1; x = bit_is 2 flags e.x f.2; u = bit_is 5 flags e.u f.4; level = f.3 }
+
+pub first_flags_small : (e : FirstEntry) → e.level < 4 → first_flags_of e < 2 ^ 64
+first_flags_small e small =
+    omega (arith, worth 0 e.r, worth 1 e.w, worth 2 e.x, worth 5 e.u, one_small e.r, one_small e.w, one_small e.x, one_small e.u)

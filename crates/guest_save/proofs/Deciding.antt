@@ -10,20 +10,22 @@ use Rattle.std.proofs.lemmas.List.Kept.{AllPairs-cons}
 use Rattle.std.proofs.lemmas.Slice.Eq.{bytes_eq-Decides}
 use Rattle.arch_defs.proofs.SameRoots.{root_is, root_same}
 use Rattle.arch_defs.specs.declared.cached.Entry.{Entry}
+use Rattle.arch_defs.specs.declared.first.FirstEntry.{FirstEntry}
 use Rattle.arch_defs.specs.declared.roots.GuestRoot.{GuestRoot}
 use Rattle.arch_defs.specs.CachedEntries.{HasOtherPage}
 use Rattle.arch_defs.specs.Devices.{device_frame}
+use Rattle.arch_defs.specs.FirstEntries.{first_room, is_first_of}
 use Rattle.arch_defs.specs.Memory.{block_size, ram_base}
-use Rattle.arch_defs.specs.Roots.{is_table}
+use Rattle.arch_defs.specs.Roots.{is_table, names_table}
 use Rattle.arch_defs.specs.Spaces.{Space, is_for}
 use Rattle.arch_defs.specs.WalkedEntries.{folds}
 use Rattle.guest_save.proofs.ReadMachines.{read_is}
 use Rattle.guest_save.proofs.RoundTrip.{round_trip}
 use Rattle.guest_save.proofs.Testing.{savable_from, savable_sound}
 use Rattle.guest_save.specs.declared.headers.Header.{Header}
-use Rattle.guest_save.specs.Deciding.{all_pairs, entry_fits, has_other_key, has_other_page, has_sizes, inputs_rise, is_front, is_in_ram, is_in_reach, is_reserved, is_savable, is_saved, is_within, space_fits}
+use Rattle.guest_save.specs.Deciding.{all_pairs, entry_fits, first_fits, has_first, has_other_key, has_other_page, has_sizes, inputs_rise, is_apart, is_front, is_in_ram, is_in_reach, is_reserved, is_savable, is_saved, is_within, space_fits}
 use Rattle.guest_save.specs.declared.versions.Version.{Version}
-use Rattle.guest_save.specs.declared.versions.Version.TheVariants.{Second}
+use Rattle.guest_save.specs.declared.versions.Version.TheVariants.{Third}
 use Rattle.guest_save.specs.Forms.{form_of}
 use Rattle.guest_save.specs.Headers.{header_numbers, header_of}
 use Rattle.guest_save.specs.Laws.{FormIsSaved, SavedExactly, UnsavedIsBad}
@@ -34,6 +36,7 @@ use Rattle.guest_save.specs.Tests.{IsRead, IsReserved, IsSoundSpace}
 use Rattle.guest_save.specs.Versions.{version_in}
 use Rattle.machine_defs.specs.Machine.{Machine}
 use Rattle.machine_laws.specs.FrontSpaces.{FrontIs}
+use Rattle.machine_laws.specs.FirstKeys.{AreApart, HasFirst, IsOfFirstTable, first_levels}
 use Rattle.machine_laws.specs.Reservations.{places_from}
 
 both : {x y : Bool} {P Q : Type 0} → Decides x P → Decides y Q → Decides (x && y) (P × Q)
@@ -143,8 +146,28 @@ front_decided : (key : GuestRoot) (spaces : List Space) → Decides (is_front ke
 front_decided key [] = (λ passes. absurd (false≢true passes), λ is. absurd is)
 front_decided key (s ∷ ss) = (λ passes. root_same s.key key passes, λ is. rw is (root_is key))
 
+-- first-stage translations
+first_decided : (e : FirstEntry) → Decides (first_fits e) (IsOfFirstTable e)
+first_decided e =
+    let page = Decides-ltb e.page (2 ^ 52) in
+    let frame = Decides-ltb e.frame (2 ^ 44) in
+    let level = Decides-ltb e.level (first_levels e.atp) in
+    let tests = both (both (both (both (both (itself (names_table e.atp)) page) frame) level) (itself (e.r || e.x))) (only_where e.w e.r (itself e.r)) in (
+      λ passes. let (((((table, page), frame), level), right), write) = tests.0 passes in
+          record { table = table; page = page; frame = frame; level = level; right = right; write = write },
+      λ is. tests.1 (((((is.table, is.page), is.frame), is.level), is.right), is.write),
+    )
+
+has_first_decided : (first : List FirstEntry) → Decides (has_first first) (HasFirst first)
+has_first_decided first =
+    let apart = pairs_decided is_apart AreApart (λ a b. failing (is_first_of b.tag b.atp b.page a)) first in
+    let tests = both (both (le_decided (length first) first_room) apart) (all_decided first_fits IsOfFirstTable first_decided first) in (
+      λ passes. let ((few, apart), tables) = tests.0 passes in record { few = few; apart = apart; tables = tables },
+      λ is. tests.1 ((is.few, is.apart), is.tables),
+    )
+
 -- pc is the eleventh of the numbers
-pc_fits : (h : Header) → All Fits (header_numbers Second h) → h.state.regs.pc < 2 ^ 64
+pc_fits : (h : Header) → All Fits (header_numbers Third h) → h.state.regs.pc < 2 ^ 64
 pc_fits h fit = fit 10 0 (omega arith)
 
 savable_decided : (m : Machine) → IsRead m → Decides (is_savable m) (IsSavable m)
@@ -152,7 +175,7 @@ unfolding is_savable
 savable_decided m read = let p = m.platform in let h = header_of m in let size = length m.ram in
     let console = le_decided (length p.console.bytes) p.console.room in
     let registers = both (Decides-eqb (length p.virt.regs.x) 32) (Decides-eqb (p.virt.regs.pc % 4) 0) in
-    let numbers = all_decided _ Fits (λ (n : ℕ). Decides-ltb n (2 ^ 64)) (header_numbers Second h) in
+    let numbers = all_decided _ Fits (λ (n : ℕ). Decides-ltb n (2 ^ 64)) (header_numbers Third h) in
     let steps = le_decided p.steps (2 ^ 60) in
     let clock = le_decided p.clock.time (2 ^ 62 + p.steps) in
     let few = le_decided (length m.spaces) m.space_room in
@@ -160,15 +183,17 @@ savable_decided m read = let p = m.platform in let h = header_of m in let size =
     let front = only_where (folds p.virt) _ (front_decided p.virt.csrs.hgatp m.spaces) in
     let state = both (both (both (sizes_decided h size) console) (inputs_decided p.console.inputs)) registers in
     let progress = both (both (both state numbers) steps) clock in
-    let tests = both (both (both (both (both progress (reserved_decided p.virt.reservation size)) few) spaces) (keys_decided m.spaces)) front in (
-      λ passes. let (((((((((((sizes, console), inputs), registers), numbers), steps), clock), reservation), few), spaces), keys), front) = tests.0 passes in
+    let cached = both (both (both (both (both progress (reserved_decided p.virt.reservation size)) few) spaces) (keys_decided m.spaces)) front in
+    let tests = both cached (has_first_decided m.first) in (
+      λ passes. let ((((((((((((sizes, console), inputs), registers), numbers), steps), clock), reservation), few), spaces), keys), front), first) = tests.0 passes in
           savable_from m read registers.0 (pc_fits h numbers) numbers (record {
             sizes = sizes;
             platform = record { pc = registers.1; steps = steps; clock = clock; console = console; moments = inputs.0; order = inputs.1 };
             spaces = record { reservation = reservation; few = few; spaces = spaces; keys = keys; front = front };
+            first = first;
           }),
       λ savable. let sound = savable_sound m savable in let p = sound.platform in let s = sound.spaces in
-          tests.1 (((((((((((sound.sizes, p.console), (p.moments, p.order)), (savable.registers, p.pc)), savable.numbers), p.steps), p.clock), s.reservation), s.few), s.spaces), s.keys), s.front),
+          tests.1 ((((((((((((sound.sizes, p.console), (p.moments, p.order)), (savable.registers, p.pc)), savable.numbers), p.steps), p.clock), s.reservation), s.few), s.spaces), s.keys), s.front), sound.first),
     )
 
 pub saved_exactly : SavedExactly

@@ -17,14 +17,16 @@ use Rattle.arch_defs.specs.Memory.{block_size, loaded, zeros}
 use Rattle.arch_defs.specs.Spaces.{Space}
 use Rattle.guest_save.proofs.RoundTrip.{round_trip}
 use Rattle.guest_save.specs.declared.headers.Header.{Header}
-use Rattle.guest_save.specs.declared.versions.Version.TheVariants.{Second}
+use Rattle.guest_save.specs.declared.versions.Version.TheVariants.{Third}
 use Rattle.guest_save.specs.Headers.{blocks_of, device_numbers, header_numbers, header_of, later_numbers, numbered, progress_numbers, size_numbers, state_numbers}
-use Rattle.guest_save.specs.Laws.{CanStart, ResumedGoesOn, SavableGoesOn, SavableIsFilled, SavedUseFresh, StartIsSavable}
+use Rattle.guest_save.specs.Laws.{CanStart, ResumedGoesOn, SavableGoesOn, SavableIsFilled, SavedFirstFresh, SavedUseFresh, StartIsSavable}
 use Rattle.guest_save.specs.Savable.{Fits, IsInReach, IsSavableEntry, IsSavableSpace, pages_of, top_level_of}
 use Rattle.guest_save.specs.Saves.{SavedMachine}
 use Rattle.guest_specs.specs.declared.guests.GuestSpec.{GuestSpec}
 use Rattle.machine_defs.specs.Machine.{start}
 use Rattle.machine_defs.specs.Runs.{run}
+use Rattle.machine_laws.proofs.FirstKeys.{start_has_first}
+use Rattle.machine_laws.proofs.FirstRuns.{runs_first_fresh}
 use Rattle.machine_laws.proofs.FreshRuns.{runs_use_fresh}
 use Rattle.machine_laws.proofs.InRam.{start_is_in_ram}
 use Rattle.machine_laws.proofs.Running.{runs_compose}
@@ -97,7 +99,7 @@ sizes_fit guest can blocks =
     (All-cons Fits guest.entries (guest.console ∷ []) (omega (arith, can.entries))
     (All-cons Fits guest.console [] (omega (arith, can.console)) (All-nil Fits))))
 
-device_fits : (h : Header) → All Fits (device_numbers Second h)
+device_fits : (h : Header) → All Fits (device_numbers Third h)
 device_fits h = All-cons Fits (bit_number 0 h.device) [] (small h.device) (All-nil Fits)
   where
     small : (device : Bool) → bit_number 0 device < 2 ^ 64
@@ -112,11 +114,11 @@ rest_fit : (guest : GuestSpec) → All Fits (numbered (start guest).platform.vir
 unfolding start shown supervisor_shown interrupts_shown enable_shown hypervisor_shown sstatus_bits sip_bits tvec_bits epc_bits satp_bits hstatus_bits hedeleg_bits hip_bits hgatp_bits
 rest_fit guest = fit_by_test (numbered (start guest).platform.virt.regs ++ state_numbers (start guest).platform.virt) refl
 
-numbers_fit : (guest : GuestSpec) → CanStart guest → blocks_of (start guest) ≡ guest.blocks → All Fits (header_numbers Second (header_of (start guest)))
+numbers_fit : (guest : GuestSpec) → CanStart guest → blocks_of (start guest) ≡ guest.blocks → All Fits (header_numbers Third (header_of (start guest)))
 numbers_fit guest can blocks =
     let h = header_of (start guest) in
-    All-append Fits (size_numbers h) (device_numbers Second h ++ later_numbers h) (sizes_fit guest can blocks)
-    (All-append Fits (device_numbers Second h) (later_numbers h) (device_fits h)
+    All-append Fits (size_numbers h) (device_numbers Third h ++ later_numbers h) (sizes_fit guest can blocks)
+    (All-append Fits (device_numbers Third h) (later_numbers h) (device_fits h)
     (All-append Fits (progress_numbers h) (numbered h.state.regs ++ state_numbers h.state) (progress_fits guest) (rest_fit guest)))
 
 pub start_is_savable : StartIsSavable
@@ -149,12 +151,17 @@ start_is_savable guest can =
       spaces = All-nil (IsSavableSpace (length m.ram) m.entry_room m.device);
       keys = λ i j d before within. absurd (omega arith);
       front = λ folds. absurd (true≢false (sym folds));
+      first = (start_has_first guest).0;
+      storable = (start_has_first guest).1;
     }
 
 -- a machine that was read goes on as the one that was saved
 pub resumed_goes_on : ResumedGoesOn
 resumed_goes_on m a b savable =
-    ap (λ (read : SavedMachine). run read.machine b) (round_trip Second (run m a) savable tt) ∙ runs_compose m a b
+    ap (λ (read : SavedMachine). run read.machine b) (round_trip Third (run m a) savable tt) ∙ runs_compose m a b
 
 pub saved_use_fresh : SavedUseFresh
 saved_use_fresh saved n m k orderly none is = runs_use_fresh m (k + n) orderly none
+
+pub saved_first_fresh : SavedFirstFresh
+saved_first_fresh saved n m k none is = runs_first_fresh m (k + n) none

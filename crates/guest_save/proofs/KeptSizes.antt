@@ -1,13 +1,15 @@
 -- A run keeps sizes: how many blocks of RAM there are, and for how many spaces, entries and console bytes
 -- there is room; and whether there is the device page.
 use Rattle.std.specs.Prelude.{◌==◌, ◌&&◌, option_map}
-use Rattle.std.proofs.Common.{◌≡◌, ℕ, ◌/◌, ◌%◌, ◌∙◌, Bool, true, false, Option, Some, None, length, refl, ap, arith}
+use Rattle.std.proofs.Common.{◌≡◌, ℕ, ◌/◌, ◌%◌, ◌∙◌, Bool, true, false, List, Option, Some, None, length, refl, ap, arith}
+use Rattle.arch_defs.specs.declared.first.FirstEntry.{FirstEntry}
 use Rattle.arch_defs.specs.declared.registers.Virtual.{Virtual}
 use Rattle.arch_defs.specs.declared.walks.MissingPlace.{MissingPlace}
 use Rattle.arch_defs.specs.declared.widths.Width.{Width}
 use Rattle.arch_defs.specs.Calls.{CallState, environment, get, put, set_timer, state_of, stopped, unknown}
 use Rattle.arch_defs.specs.Consoles.{ConsoleState, has_room}
 use Rattle.arch_defs.specs.Devices.{DeviceEnd, device_loaded, device_status, device_stored, with_output}
+use Rattle.arch_defs.specs.FirstEntries.{all_filled}
 use Rattle.arch_defs.specs.Interrupts.{due}
 use Rattle.arch_defs.specs.Memory.{block_size, ram_memory}
 use Rattle.arch_defs.specs.Registers.{a7, read}
@@ -21,10 +23,10 @@ use Rattle.op_defs.specs.declared.ops.Purpose.{Purpose}
 use Rattle.op_defs.specs.declared.ops.Purpose.TheVariants.{Load, LoadCode, Store, Reserve, StoreReserved, Modify}
 use Rattle.machine_defs.specs.DeviceSteps.{device_step, device_wanted, served, with_loaded, with_put}
 use Rattle.machine_defs.specs.HlvAccesses.{Completes, Device, HlvEnd, Traps, hlv_outcome}
-use Rattle.machine_defs.specs.Machine.{Machine, Platform, Tried, called, has_enabled_interrupt, trapped, waited, waited_until}
-use Rattle.machine_defs.specs.Outcomes.{Outcome, Done, Trapped, Missed, Called, Waits, Fenced, Accesses}
+use Rattle.machine_defs.specs.Machine.{Ended, Machine, Platform, Tried, WaitsForGood, called, has_enabled_interrupt, trapped, waited, waited_until}
+use Rattle.machine_defs.specs.Outcomes.{Outcome, Done, Trapped, Missed, Called, Waits, Fenced, FirstFenced, Accesses}
 use Rattle.machine_defs.specs.Runs.{left_by, run}
-use Rattle.machine_defs.specs.Tries.{apply_outcome, device_of, hlv_committed, outcome_under, stages_of, tried_with, try, try_under, unplaced}
+use Rattle.machine_defs.specs.Tries.{apply_outcome, device_of, found_by_outcome, hlv_committed, outcome_under, stages_of, tried_with, try, try_under, unplaced, with_found}
 use Rattle.machine_laws.proofs.Cached.{either}
 use Rattle.machine_laws.proofs.InRam.{stays_in_ram}
 use Rattle.machine_laws.proofs.KeptByRuns.{IsKept, kept_by_runs}
@@ -115,7 +117,13 @@ outcome_rooms device m (Missed missing wanted) = unplaced_rooms m missing wanted
 outcome_rooms device m Called = (refl, refl, called_room m.platform, refl)
 outcome_rooms device m (Waits virt) = waited_rooms m virt
 outcome_rooms device m (Fenced virt fence) = (refl, refl, refl, refl)
+outcome_rooms device m (FirstFenced virt named fence) = (refl, refl, refl, refl)
 outcome_rooms device m (Accesses wanted) = hlv_rooms m wanted (hlv_outcome m.device (ram_memory m.ram) m.platform.virt wanted)
+
+-- what the machine has cached has no part in it
+found_rooms : (m : Machine) (first : List FirstEntry) (t : Tried) → KeepsRooms (record m { first = first }) t → KeepsRooms m t
+found_rooms m first (Ended after event) rooms = rooms
+found_rooms m first WaitsForGood rooms = rooms
 
 tried_rooms : (m : Machine) → KeepsRooms m (try m)
 unfolding try_under
@@ -123,7 +131,8 @@ tried_rooms m = by (due m.platform.virt.csrs m.platform.virt.mode)
   where
     by : (code : Option ℕ) → KeepsRooms m (tried_with (stages_of m) m code)
     by (Some code) = (refl, refl, refl, refl)
-    by None = outcome_rooms (device_of m) m (outcome_under (stages_of m) m)
+    by None = found_rooms m (all_filled m.first (found_by_outcome (stages_of m) m)) (tried_with (stages_of m) m None)
+        (outcome_rooms (device_of m) (with_found (stages_of m) m) (outcome_under (stages_of m) m))
 
 pub rooms_kept : (spaces entries console : ℕ) (device : Bool) → IsKept (HasRooms spaces entries console device)
 rooms_kept spaces entries console device = record {

@@ -1,6 +1,7 @@
 pub mod Bits
 pub mod Buffering
 pub mod Comparing
+pub mod CountedFirst
 pub mod CountedParts
 pub mod Deciding
 pub mod DevicePages

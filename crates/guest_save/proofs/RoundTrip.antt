@@ -16,12 +16,13 @@ use Rattle.arch_defs.specs.Clocks.{is_due}
 use Rattle.arch_defs.specs.Inputs.{has_input}
 use Rattle.arch_defs.specs.Spaces.{Space}
 use Rattle.guest_save.proofs.Eights.{after_number, number_again, numbers_length, so_many_again}
+use Rattle.guest_save.proofs.CountedFirst.{after_first_again, first_again}
 use Rattle.guest_save.proofs.CountedParts.{FitsForm, SpaceFits, after_inputs, after_spaces_again, count_again, inputs_again, spaces_again}
 use Rattle.guest_save.proofs.StoredRegisters.{csrs_again}
 use Rattle.guest_save.specs.declared.headers.Header.{Header}
 use Rattle.guest_save.specs.declared.versions.Version.{Version}
-use Rattle.guest_save.specs.declared.versions.Version.TheVariants.{First, Second}
-use Rattle.guest_save.specs.Forms.{console_form, form_of, form_with, front_form, input_form, inputs_form, space_form, spaces_form}
+use Rattle.guest_save.specs.declared.versions.Version.TheVariants.{First, Second, Third}
+use Rattle.guest_save.specs.Forms.{console_form, first_entry_form, first_form, form_of, form_with, front_form, input_form, inputs_form, space_form, spaces_form}
 use Rattle.guest_save.specs.Headers.{device_numbers, header_in, header_numbers, header_of, later_numbers, mode_number, mode_of, numbered, progress_numbers, reservation_numbers, reservation_of, size_numbers, state_numbers, status_number, status_of}
 use Rattle.guest_save.specs.Laws.{BadExactly, FrontDecides, RoundTrip}
 use Rattle.guest_save.specs.Numbers.{number, number_in, numbers, numbers_in}
@@ -126,47 +127,50 @@ spaces_have_room m savable =
     m.spaces savable.spaces
 
 -- each part of a form, from the last one on
-from_spaces_again : (m : Machine) (h : Header) (console : List ℕ) (inputs : List (ℕ × ℕ)) (rest : List ℕ) → IsSavable m
-    → from_spaces h console inputs (spaces_form m rest) ≡ machine_with h console inputs m.spaces rest
+from_spaces_again : (version : Version) (m : Machine) (h : Header) (console : List ℕ) (inputs : List (ℕ × ℕ)) (rest : List ℕ) → IsSavable m → CanTell version m
+    → from_spaces version h console inputs (spaces_form version m rest) ≡ machine_with h console inputs m.spaces m.first rest
 unfolding from_spaces spaces_form
-from_spaces_again m h console inputs rest savable =
+from_spaces_again version m h console inputs rest savable tells =
     let few : length m.spaces ≤ 8 = omega (arith, savable.few, savable.sizes.most_spaces) in
-    let tail = flat_map space_form m.spaces ++ rest in
+    let last = first_form version m rest in
+    let tail = flat_map space_form m.spaces ++ last in
     let fit = spaces_have_room m savable in
     rw (
       count_again 8 (length m.spaces) tail few (omega (arith, few)),
       after_number (length m.spaces) tail,
-      spaces_again m.spaces rest fit,
-      after_spaces_again m.spaces rest fit,
+      spaces_again m.spaces last fit,
+      after_spaces_again m.spaces last fit,
+      first_again version m rest savable tells,
+      after_first_again version m rest savable,
     ) refl
 
-from_inputs_again : (m : Machine) (h : Header) (console rest : List ℕ) → IsSavable m
-    → from_inputs h console (inputs_form m rest) ≡ from_spaces h console m.platform.console.inputs (spaces_form m rest)
+from_inputs_again : (version : Version) (m : Machine) (h : Header) (console rest : List ℕ) → IsSavable m
+    → from_inputs version h console (inputs_form version m rest) ≡ from_spaces version h console m.platform.console.inputs (spaces_form version m rest)
 unfolding from_inputs inputs_form
-from_inputs_again m h console rest savable =
+from_inputs_again version m h console rest savable =
     let inputs = m.platform.console.inputs in
     let few = savable.inputs.count in
-    let tail = flat_map input_form inputs ++ spaces_form m rest in
+    let tail = flat_map input_form inputs ++ spaces_form version m rest in
     let early = All-weaker (λ (input : ℕ × ℕ). input.0 < 2 ^ 62) (λ input. input.0 < 2 ^ 64) (λ input below. omega (arith, below)) inputs savable.inputs.moments in
     rw (
       count_again 65536 (length inputs) tail few (omega (arith, few)),
       after_number (length inputs) tail,
-      inputs_again inputs (spaces_form m rest) early,
-      after_inputs inputs (spaces_form m rest),
+      inputs_again inputs (spaces_form version m rest) early,
+      after_inputs inputs (spaces_form version m rest),
     ) refl
 
-from_console_again : (m : Machine) (h : Header) (rest : List ℕ) → IsSavable m
-    → from_console h (console_form m rest) ≡ from_inputs h m.platform.console.bytes (inputs_form m rest)
+from_console_again : (version : Version) (m : Machine) (h : Header) (rest : List ℕ) → IsSavable m
+    → from_console version h (console_form version m rest) ≡ from_inputs version h m.platform.console.bytes (inputs_form version m rest)
 unfolding from_console console_form
-from_console_again m h rest savable =
+from_console_again version m h rest savable =
     let bytes = m.platform.console.bytes in
     let few : length bytes ≤ 1048576 = omega (arith, savable.console, savable.sizes.most_console) in
-    let tail = bytes ++ inputs_form m rest in
+    let tail = bytes ++ inputs_form version m rest in
     rw (
       count_again 1048576 (length bytes) tail few (omega (arith, few)),
       after_number (length bytes) tail,
-      take_at bytes (inputs_form m rest) (length bytes) refl,
-      drop_at bytes (inputs_form m rest) (length bytes) refl,
+      take_at bytes (inputs_form version m rest) (length bytes) refl,
+      drop_at bytes (inputs_form version m rest) (length bytes) refl,
     ) refl
 
 -- the numbers behind the sizes and the device page
@@ -196,9 +200,9 @@ sizes_fit h rest fit =
     (All-cons Fits h.entries (h.console ∷ []) (All-head Fits h.entries (h.console ∷ rest) third)
     (All-cons Fits h.console [] (All-head Fits h.console rest fourth) (All-nil Fits))))
 
-later_fit : (h : Header) → All Fits (header_numbers Second h) → All Fits (later_numbers h)
+later_fit : (h : Header) → All Fits (header_numbers Third h) → All Fits (later_numbers h)
 later_fit h fit =
-    let rest = device_numbers Second h ++ later_numbers h in
+    let rest = device_numbers Third h ++ later_numbers h in
     All-tail Fits (bit_number 0 h.device) (later_numbers h)
     (All-tail Fits h.console rest
     (All-tail Fits h.entries (h.console ∷ rest)
@@ -212,6 +216,7 @@ header_again m = header_in (size_numbers (header_of m)) m.device (later_numbers 
 letters_length : (version : Version) → length (letters version) ≡ 8
 letters_length First = refl
 letters_length Second = refl
+letters_length Third = refl
 
 after_letters : (version : Version) (rest : List ℕ) → drop 8 (letters version ++ rest) ≡ rest
 after_letters version rest = drop_at (letters version) rest 8 (letters_length version)
@@ -219,6 +224,7 @@ after_letters version rest = drop_at (letters version) rest 8 (letters_length ve
 header_long : (version : Version) (h : Header) → length h.state.regs.x ≡ 32 → 8 + 8 * length (header_numbers version h) ≡ header_end version
 header_long First h size = omega (arith, later_length h size)
 header_long Second h size = omega (arith, later_length h size)
+header_long Third h size = omega (arith, later_length h size)
 
 -- the parts of a header in a form, and what follows it
 module _ (version : Version) (m : Machine) (rest : List ℕ) (savable : IsSavable m) where
@@ -237,7 +243,7 @@ module _ (version : Version) (m : Machine) (rest : List ℕ) (savable : IsSavabl
       let parts : numbers ns ++ rest ≡ numbers (size_numbers head) ++ (numbers more ++ rest) =
       ap (λ (xs : List ℕ). xs ++ rest) (flat_map-append number (size_numbers head) more) ∙ append_assoc (numbers (size_numbers head)) (numbers more) rest in
       ap (numbers_in 4) (after_letters version (numbers ns ++ rest) ∙ parts)
-      ∙ so_many_again 4 (size_numbers head) (numbers more ++ rest) refl (sizes_fit head (device_numbers Second head ++ later_numbers head) savable.numbers)
+      ∙ so_many_again 4 (size_numbers head) (numbers more ++ rest) refl (sizes_fit head (device_numbers Third head ++ later_numbers head) savable.numbers)
 
   after_header : drop (header_end version) text ≡ rest
   after_header =
@@ -266,60 +272,68 @@ later_again version m rest savable =
     place : (version : Version) (h : Header) → 8 + 8 * length (size_numbers h ++ device_numbers version h) ≡ later_begin version
     place First h = refl
     place Second h = refl
+    place Third h = refl
 
--- whether there is the device page, in a version that can tell the machine
-device_told : (version : Version) (m : Machine) (rest : List ℕ) → CanTell version m
-    → device_in version (letters version ++ (numbers (header_numbers version (header_of m)) ++ rest)) ≡ m.device
-device_told First m rest none = sym none
-device_told Second m rest tells =
+-- whether there is the device page: behind letters that no number has a part in, in a version that can tell the
+-- machine
+device_number_again : (begin : List ℕ) (m : Machine) (rest : List ℕ) → length begin ≡ 8
+    → bit 0 (number_in (drop 40 (begin ++ (numbers (header_numbers Third (header_of m)) ++ rest)))) ≡ m.device
+device_number_again begin m rest size =
     let h = header_of m in
     let device = bit_number 0 m.device in
     let tail = numbers (later_numbers h) ++ rest in
-    let parts : letters Second ++ (numbers (header_numbers Second h) ++ rest) ≡ (letters Second ++ numbers (size_numbers h)) ++ (number device ++ tail) =
-    ap (λ (xs : List ℕ). letters Second ++ (xs ++ rest)) (flat_map-append number (size_numbers h) (device ∷ later_numbers h))
-    ∙ ap (λ (xs : List ℕ). letters Second ++ xs) (append_assoc (numbers (size_numbers h)) (number device ++ numbers (later_numbers h)) rest)
-    ∙ sym (append_assoc (letters Second) (numbers (size_numbers h)) ((number device ++ numbers (later_numbers h)) ++ rest))
-    ∙ ap (λ (xs : List ℕ). (letters Second ++ numbers (size_numbers h)) ++ xs) (append_assoc (number device) (numbers (later_numbers h)) rest) in
+    let parts : begin ++ (numbers (header_numbers Third h) ++ rest) ≡ (begin ++ numbers (size_numbers h)) ++ (number device ++ tail) =
+    ap (λ (xs : List ℕ). begin ++ (xs ++ rest)) (flat_map-append number (size_numbers h) (device ∷ later_numbers h))
+    ∙ ap (λ (xs : List ℕ). begin ++ xs) (append_assoc (numbers (size_numbers h)) (number device ++ numbers (later_numbers h)) rest)
+    ∙ sym (append_assoc begin (numbers (size_numbers h)) ((number device ++ numbers (later_numbers h)) ++ rest))
+    ∙ ap (λ (xs : List ℕ). (begin ++ numbers (size_numbers h)) ++ xs) (append_assoc (number device) (numbers (later_numbers h)) rest) in
     ap (λ (xs : List ℕ). bit 0 (number_in (drop 40 xs))) parts
-    ∙ ap (λ (xs : List ℕ). bit 0 (number_in xs)) (drop_at (letters Second ++ numbers (size_numbers h)) (number device ++ tail) 40
-    (omega (arith, length-append (letters Second) (numbers (size_numbers h)), letters_length Second, numbers_length (size_numbers h))))
+    ∙ ap (λ (xs : List ℕ). bit 0 (number_in xs)) (drop_at (begin ++ numbers (size_numbers h)) (number device ++ tail) 40
+    (omega (arith, length-append begin (numbers (size_numbers h)), size, numbers_length (size_numbers h))))
     ∙ ap (λ (n : ℕ). bit 0 n) (number_again device tail (small m.device)) ∙ device_again m.device
   where
     small : (b : Bool) → bit_number 0 b < 2 ^ 64
     small true = omega arith
     small false = omega arith
 
+device_told : (version : Version) (m : Machine) (rest : List ℕ) → CanTell version m
+    → device_in version (letters version ++ (numbers (header_numbers version (header_of m)) ++ rest)) ≡ m.device
+device_told First m rest tells = sym tells.0
+device_told Second m rest tells = device_number_again (letters Second) m rest refl
+device_told Third m rest tells = device_number_again (letters Third) m rest refl
+
 machine_by_again : (version : Version) (m : Machine) (rest : List ℕ) → IsSavable m → CanTell version m
-    → machine_by version (form_with version m rest) ≡ from_console (header_again m) (console_form m rest)
+    → machine_by version (form_with version m rest) ≡ from_console version (header_again m) (console_form version m rest)
 unfolding machine_by form_with
 machine_by_again version m rest savable tells =
-    let tail = console_form m rest in
+    let tail = console_form version m rest in
     let sizes = sizes_again version m tail savable in
     let device = device_told version m tail tells in
     let later = later_again version m tail savable in
     let after = after_header version m tail savable in
-    λ i. from_console (header_in (sizes i) (device i) (later i)) (after i)
+    λ i. from_console version (header_in (sizes i) (device i) (later i)) (after i)
 
 machine_again : (m : Machine) → IsSavable m
-    → machine_with (header_again m) m.platform.console.bytes m.platform.console.inputs m.spaces m.ram ≡ m
+    → machine_with (header_again m) m.platform.console.bytes m.platform.console.inputs m.spaces m.first m.ram ≡ m
 unfolding header_in
 machine_again m savable =
     let platform = platform_again m savable in
-    λ i. record { platform = platform i; ram = m.ram; spaces = m.spaces; space_room = m.space_room; entry_room = m.entry_room; device = m.device }
+    λ i. record { platform = platform i; ram = m.ram; spaces = m.spaces; first = m.first; space_room = m.space_room; entry_room = m.entry_room; device = m.device }
 
 -- the machine of a form in its version, and in the one that its letters tell
 machine_read : (version : Version) (m : Machine) → IsSavable m → CanTell version m → machine_by version (form_of version m) ≡ m
 machine_read version m savable tells = let h = header_again m in
     machine_by_again version m m.ram savable tells
-    ∙ from_console_again m h m.ram savable
-    ∙ from_inputs_again m h m.platform.console.bytes m.ram savable
-    ∙ from_spaces_again m h m.platform.console.bytes m.platform.console.inputs m.ram savable
+    ∙ from_console_again version m h m.ram savable
+    ∙ from_inputs_again version m h m.platform.console.bytes m.ram savable
+    ∙ from_spaces_again version m h m.platform.console.bytes m.platform.console.inputs m.ram savable tells
     ∙ machine_again m savable
 
 version_again : (version : Version) (m : Machine) (rest : List ℕ) → version_in (form_with version m rest) ≡ version
 unfolding version_in form_with
 version_again First m rest = refl
 version_again Second m rest = refl
+version_again Third m rest = refl
 
 pub round_trip : RoundTrip
 round_trip version m savable tells =
@@ -337,27 +351,35 @@ bad_exactly bytes none version m savable tells is =
 further : (a b c d : List ℕ) → a ++ (b ++ (c ++ d)) ≡ (a ++ (b ++ c)) ++ d
 further a b c d = simp append_assoc
 
-spaces_split : (m : Machine) (rest : List ℕ) → spaces_form m rest ≡ spaces_form m [] ++ rest
+first_split : (version : Version) (m : Machine) (rest : List ℕ) → first_form version m rest ≡ first_form version m [] ++ rest
+unfolding first_form
+first_split First m rest = refl
+first_split Second m rest = refl
+first_split Third m rest = further (number (length m.first)) (flat_map first_entry_form m.first) [] rest
+
+spaces_split : (version : Version) (m : Machine) (rest : List ℕ) → spaces_form version m rest ≡ spaces_form version m [] ++ rest
 unfolding spaces_form
-spaces_split m rest = further (number (length m.spaces)) (flat_map space_form m.spaces) [] rest
+spaces_split version m rest =
+    ap (λ (tail : List ℕ). number (length m.spaces) ++ (flat_map space_form m.spaces ++ tail)) (first_split version m rest)
+    ∙ further (number (length m.spaces)) (flat_map space_form m.spaces) (first_form version m []) rest
 
-inputs_split : (m : Machine) (rest : List ℕ) → inputs_form m rest ≡ inputs_form m [] ++ rest
+inputs_split : (version : Version) (m : Machine) (rest : List ℕ) → inputs_form version m rest ≡ inputs_form version m [] ++ rest
 unfolding inputs_form
-inputs_split m rest = let inputs = m.platform.console.inputs in
-    ap (λ (tail : List ℕ). number (length inputs) ++ (flat_map input_form inputs ++ tail)) (spaces_split m rest)
-    ∙ further (number (length inputs)) (flat_map input_form inputs) (spaces_form m []) rest
+inputs_split version m rest = let inputs = m.platform.console.inputs in
+    ap (λ (tail : List ℕ). number (length inputs) ++ (flat_map input_form inputs ++ tail)) (spaces_split version m rest)
+    ∙ further (number (length inputs)) (flat_map input_form inputs) (spaces_form version m []) rest
 
-console_split : (m : Machine) (rest : List ℕ) → console_form m rest ≡ console_form m [] ++ rest
+console_split : (version : Version) (m : Machine) (rest : List ℕ) → console_form version m rest ≡ console_form version m [] ++ rest
 unfolding console_form
-console_split m rest = let bytes = m.platform.console.bytes in
-    ap (λ (tail : List ℕ). number (length bytes) ++ (bytes ++ tail)) (inputs_split m rest)
-    ∙ further (number (length bytes)) bytes (inputs_form m []) rest
+console_split version m rest = let bytes = m.platform.console.bytes in
+    ap (λ (tail : List ℕ). number (length bytes) ++ (bytes ++ tail)) (inputs_split version m rest)
+    ∙ further (number (length bytes)) bytes (inputs_form version m []) rest
 
 pub form_split : (version : Version) (m : Machine) (rest : List ℕ) → form_with version m rest ≡ front_form version m ++ rest
 unfolding form_with
 form_split version m rest = let ns = header_numbers version (header_of m) in
-    ap (λ (tail : List ℕ). letters version ++ (numbers ns ++ tail)) (console_split m rest)
-    ∙ further (letters version) (numbers ns) (console_form m []) rest
+    ap (λ (tail : List ℕ). letters version ++ (numbers ns ++ tail)) (console_split version m rest)
+    ∙ further (letters version) (numbers ns) (console_form version m []) rest
 
 pub front_decides : FrontDecides
 front_decides version m bytes k within ram = (

@@ -30,7 +30,7 @@ unfolding satp_bits
 mode_read Sv39 asid ppn = let is : field 60 4 (8 * 2 ^ 60 + asid % 2 ^ 16 * 2 ^ 44 + ppn % 2 ^ 44) ≡ 8 = omega arith in rw is refl
 mode_read Sv48 asid ppn = let is : field 60 4 (9 * 2 ^ 60 + asid % 2 ^ 16 * 2 ^ 44 + ppn % 2 ^ 44) ≡ 9 = omega arith in rw is refl
 
-satp_again : (root : SupervisorRoot) → AtpStored root → supervisor_root_of Bare (satp_bits root) ≡ root
+pub satp_again : (root : SupervisorRoot) → AtpStored root → supervisor_root_of Bare (satp_bits root) ≡ root
 satp_again Bare stored = stored
 satp_again (Table mode asid ppn) stored =
     kept_apart Bare (Table mode asid ppn) (satp_bits (Table mode asid ppn)) mode (mode_read mode asid ppn) ∙ stored

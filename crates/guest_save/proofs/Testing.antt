@@ -12,11 +12,12 @@ use Rattle.std.proofs.lemmas.List.Elements.{All-more, All-weaker}
 use Rattle.arch_defs.specs.CsrBits.{guest_root_of, hgatp_bits}
 use Rattle.arch_defs.specs.Spaces.{Space}
 use Rattle.guest_save.specs.declared.headers.Header.{Header}
-use Rattle.guest_save.specs.declared.versions.Version.TheVariants.{Second}
+use Rattle.guest_save.specs.declared.versions.Version.TheVariants.{Third}
 use Rattle.guest_save.specs.Headers.{header_numbers, header_of}
 use Rattle.guest_save.specs.Savable.{Fits, HasSizes, IsSavable, IsSavableSpace}
 use Rattle.guest_save.specs.Tests.{HasSoundSpaces, IsRead, IsSoundPlatform, IsSoundSpace}
 use Rattle.machine_defs.specs.Machine.{Machine}
+use Rattle.machine_laws.specs.FirstKeys.{HasFirst}
 
 sound_space : (size room : ℕ) (device : Bool) (s : Space) → IsSavableSpace size room device s → IsSoundSpace size room device s
 sound_space size room device s is = record { table = is.key.table; few = is.few; entries = is.entries; pages = is.pages }
@@ -36,9 +37,10 @@ pub record IsSound (m : Machine) : Type 0 where
   pub sizes : HasSizes (header_of m) (length m.ram)
   pub platform : IsSoundPlatform m.platform
   pub spaces : HasSoundSpaces (length m.ram) m
+  pub first : HasFirst m.first
 
 pub savable_from : (m : Machine) → IsRead m → length m.platform.virt.regs.x ≡ 32 → m.platform.virt.regs.pc < 2 ^ 64
-    → All Fits (header_numbers Second (header_of m)) → IsSound m → IsSavable m
+    → All Fits (header_numbers Third (header_of m)) → IsSound m → IsSavable m
 savable_from m read registers pc numbers sound = record {
   sizes = sound.sizes;
   console = sound.platform.console;
@@ -59,6 +61,8 @@ savable_from m read registers pc numbers sound = record {
   spaces = savable_spaces (length m.ram) m.entry_room m.device m.spaces read.keys sound.spaces.spaces;
   keys = sound.spaces.keys;
   front = sound.spaces.front;
+  first = sound.first;
+  storable = read.storable;
 }
 
 pub savable_sound : (m : Machine) → IsSavable m → IsSound m
@@ -79,6 +83,7 @@ savable_sound m savable = record {
     keys = savable.keys;
     front = savable.front;
   };
+  first = savable.first;
 }
 
 -- loops that test each element: one more passed, one failed, and all passed
@@ -161,15 +166,15 @@ all_early xs i before rise all = subst (λ (ys : List (ℕ × ℕ)). All (λ inp
 pub all_in_order : (xs : List (ℕ × ℕ)) (i before : ℕ) → Rise xs i before → length xs ≤ i → IsNonDecreasingBy (λ input. input.0) xs
 all_in_order xs i before rise all = subst (λ (ys : List (ℕ × ℕ)). IsNonDecreasingBy (λ input. input.0) ys) (take_all i xs all) rise.order
 
--- the three tests of a machine that was read, by its header and the size of its RAM
+-- the four tests of a machine that was read, by its header and the size of its RAM
 pub savable_by : (m : Machine) (h : Header) (size : ℕ) (b : Bool) → IsRead m → header_of m ≡ h → size ≡ length m.ram → length h.state.regs.x ≡ 32 → h.state.regs.pc < 2 ^ 64
-    → All Fits (header_numbers Second h) → HasSizes h size → IsSoundPlatform m.platform → (IsTrue b ↔ HasSoundSpaces size m) → IsTrue b ↔ IsSavable m
-savable_by m h size b read same ram registers pc numbers sizes platform is =
+    → All Fits (header_numbers Third h) → HasSizes h size → IsSoundPlatform m.platform → HasFirst m.first → (IsTrue b ↔ HasSoundSpaces size m) → IsTrue b ↔ IsSavable m
+savable_by m h size b read same ram registers pc numbers sizes platform first is =
     let own_registers = ap (λ (x : Header). length x.state.regs.x) same ∙ registers in
     let own_pc : m.platform.virt.regs.pc < 2 ^ 64 = omega (arith, ap (λ (x : Header). x.state.regs.pc) same, pc) in
-    let own_numbers = subst (λ (x : Header). All Fits (header_numbers Second x)) (sym same) numbers in
+    let own_numbers = subst (λ (x : Header). All Fits (header_numbers Third x)) (sym same) numbers in
     let own_sizes = subst (λ (x : Header). HasSizes x (length m.ram)) (sym same) (subst (λ (n : ℕ). HasSizes h n) ram sizes) in
     let own_spaces = subst (λ (n : ℕ). IsTrue b ↔ HasSoundSpaces n m) ram is in (
-      λ (holds : IsTrue b). savable_from m read own_registers own_pc own_numbers (record { sizes = own_sizes; platform = platform; spaces = own_spaces.0 holds }),
+      λ (holds : IsTrue b). savable_from m read own_registers own_pc own_numbers (record { sizes = own_sizes; platform = platform; spaces = own_spaces.0 holds; first = first }),
       λ (savable : IsSavable m). own_spaces.1 (savable_sound m savable).spaces,
     )

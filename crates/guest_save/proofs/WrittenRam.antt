@@ -1,4 +1,4 @@
--- RAM that is appended block by block, and spaces and entries.
+-- RAM that is appended block by block, and what is appended before it.
 use Rattle.std.specs.List.{flat_map}
 use Rattle.std.specs.Prelude.{Ok, Err}
 use Rattle.std.proofs.Common.{◌≡◌, ℕ, ◌+◌, ◌*◌, ◌≤◌, List, [], ◌++◌, length, take, drop, ap, ◌∙◌, subst, sym, arith}
@@ -8,8 +8,9 @@ use Rattle.arch_defs.specs.declared.roots.GuestRoot.TheVariants.{Bare}
 use Rattle.arch_defs.specs.Memory.{block_size}
 use Rattle.arch_defs.specs.Spaces.{Space}
 use Rattle.guest_save.proofs.Buffering.{buffers_stopped, buffers_then}
+use Rattle.guest_save.specs.declared.versions.Version.TheVariants.{Third}
 use Rattle.guest_save.specs.Buffers.{Buffers}
-use Rattle.guest_save.specs.Forms.{space_form, spaces_form}
+use Rattle.guest_save.specs.Forms.{first_entry_form, first_form}
 use Rattle.guest_save.specs.Numbers.{number}
 use Rattle.machine_defs.specs.Machine.{Machine}
 use Rattle.outside.specs.declared.sinks.Sink as sinks
@@ -18,10 +19,10 @@ use Rattle.outside.specs.declared.sinks.Sink as sinks
 pub no_space : Space
 no_space = record { key = Bare; entries = [] }
 
--- spaces, with nothing behind them
-pub spaces_whole : (m : Machine) → spaces_form m [] ≡ number (length m.spaces) ++ flat_map space_form m.spaces
-unfolding spaces_form
-spaces_whole m = ap (λ (bytes : List ℕ). number (length m.spaces) ++ bytes) (append-nil (flat_map space_form m.spaces))
+-- first-stage translations, with nothing behind them
+pub first_whole : (m : Machine) → first_form Third m [] ≡ number (length m.first) ++ flat_map first_entry_form m.first
+unfolding first_form
+first_whole m = ap (λ (bytes : List ℕ). number (length m.first) ++ bytes) (append-nil (flat_map first_entry_form m.first))
 
 module _ (ram : List ℕ) where
   next_block : (n : ℕ) → take ((n + 1) * block_size) ram ≡ take (n * block_size) ram ++ take block_size (drop (n * block_size) ram)

@@ -3,20 +3,23 @@
 use Rattle.std.specs.Prelude.{ℕ, ◌+◌, ◌*◌, ◌%◌, ◌^◌, Bool, true, false, not, ◌&&◌, ◌||◌, ◌==◌, nat_le, nat_lt, List, [], ◌∷◌, Option, Some, None, length, bytes_eq}
 use Rattle.std.specs.List.{list_all}
 use Rattle.arch_defs.specs.declared.cached.Entry.{Entry}
+use Rattle.arch_defs.specs.declared.first.FirstEntry.{FirstEntry}
 use Rattle.arch_defs.specs.declared.registers.Regs.{Regs}
 use Rattle.arch_defs.specs.declared.registers.Virtual.{Virtual}
 use Rattle.arch_defs.specs.declared.roots.GuestRoot.{GuestRoot}
 use Rattle.arch_defs.specs.Devices.{device_frame}
+use Rattle.arch_defs.specs.FirstEntries.{first_room, is_first_of}
 use Rattle.arch_defs.specs.Memory.{block_size, ram_base}
-use Rattle.arch_defs.specs.Roots.{is_table}
+use Rattle.arch_defs.specs.Roots.{is_table, names_table}
 use Rattle.arch_defs.specs.Spaces.{Space, is_for}
 use Rattle.arch_defs.specs.WalkedEntries.{folds}
 use Rattle.guest_save.specs.declared.headers.Header.{Header}
-use Rattle.guest_save.specs.declared.versions.Version.TheVariants.{Second}
+use Rattle.guest_save.specs.declared.versions.Version.TheVariants.{Third}
 use Rattle.guest_save.specs.Headers.{header_numbers, header_of}
 use Rattle.guest_save.specs.Savable.{pages_of, top_level_of}
 use Rattle.guest_save.specs.Saves.{saved_form, saved_in}
 use Rattle.machine_defs.specs.Machine.{Machine}
+use Rattle.machine_laws.specs.FirstKeys.{first_levels}
 use Rattle.machine_laws.specs.Reservations.{places_from}
 
 -- whether a test passes of each element and each later one
@@ -89,6 +92,23 @@ is_front key (s ∷ ss) = is_for key s
 abbrev pub has_front : Virtual → List Space → Bool
 has_front state spaces = not (folds state) || is_front state.csrs.hgatp spaces
 
+-- a table can give a first-stage translation
+abbrev pub first_fits : FirstEntry → Bool
+first_fits e =
+    names_table e.atp
+    && nat_lt e.page (2 ^ 52)
+    && nat_lt e.frame (2 ^ 44)
+    && nat_lt e.level (first_levels e.atp)
+    && (e.r || e.x)
+    && (not e.w || e.r)
+
+abbrev pub is_apart : FirstEntry → FirstEntry → Bool
+is_apart a b = not (is_first_of b.tag b.atp b.page a)
+
+-- first-stage translations, whose values of hgatp, satp and vsatp were read, can be saved
+abbrev pub has_first : List FirstEntry → Bool
+has_first first = nat_le (length first) first_room && all_pairs is_apart first && list_all first_fits first
+
 -- a machine that was read can be saved
 unfoldable pub is_savable : Machine → Bool
 is_savable m = let p = m.platform in
@@ -96,7 +116,7 @@ is_savable m = let p = m.platform in
     && nat_le (length p.console.bytes) p.console.room
     && inputs_rise p.console.inputs
     && has_registers p.virt.regs
-    && list_all (λ n. nat_lt n (2 ^ 64)) (header_numbers Second (header_of m))
+    && list_all (λ n. nat_lt n (2 ^ 64)) (header_numbers Third (header_of m))
     && nat_le p.steps (2 ^ 60)
     && nat_le p.clock.time (2 ^ 62 + p.steps)
     && is_reserved p.virt.reservation (length m.ram)
@@ -104,6 +124,7 @@ is_savable m = let p = m.platform in
     && list_all (space_fits (length m.ram) m.entry_room m.device) m.spaces
     && all_pairs has_other_key m.spaces
     && has_front p.virt m.spaces
+    && has_first m.first
 
 -- bytes are the form of a machine that can be saved, in the version that they tell: of the one that they give
 unfoldable pub is_saved : List ℕ → Bool

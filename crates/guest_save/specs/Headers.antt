@@ -10,7 +10,7 @@ use Rattle.guest_specs.specs.declared.statuses.Status.TheVariants.{Running, Wait
 use Rattle.arch_defs.specs.Bits.{bit_number}
 use Rattle.guest_save.specs.declared.headers.Header.{Header}
 use Rattle.guest_save.specs.declared.versions.Version.{Version}
-use Rattle.guest_save.specs.declared.versions.Version.TheVariants.{First, Second}
+use Rattle.guest_save.specs.declared.versions.Version.TheVariants.{First, Second, Third}
 use Rattle.guest_save.specs.Registers.{csr_numbers, csrs_in}
 use Rattle.machine_defs.specs.Machine.{Machine}
 
@@ -38,6 +38,7 @@ size_numbers h = h.blocks ∷ h.spaces ∷ h.entries ∷ h.console ∷ []
 abbrev pub device_numbers : Version → Header → List ℕ
 device_numbers First h = []
 device_numbers Second h = bit_number 0 h.device ∷ []
+device_numbers Third h = bit_number 0 h.device ∷ []
 
 -- progress, mode and pc
 abbrev pub progress_numbers : Header → List ℕ

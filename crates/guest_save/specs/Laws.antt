@@ -15,7 +15,7 @@ use Rattle.guest_save.specs.Saves.{saved_form, saved_in}
 use Rattle.guest_save.specs.Versions.{CanTell}
 use Rattle.guest_specs.specs.declared.guests.GuestSpec.{GuestSpec}
 use Rattle.guest_specs.specs.Inputs.{AreInputs}
-use Rattle.machine_defs.specs.Freshness.{UsesFresh}
+use Rattle.machine_defs.specs.Freshness.{FirstFresh, UsesFresh}
 use Rattle.machine_defs.specs.Machine.{Machine, start}
 use Rattle.machine_defs.specs.Runs.{run}
 use Rattle.machine_laws.specs.EachEntry.{EachEntry}
@@ -104,6 +104,13 @@ UsesFreshSince saved n = (m : Machine) (k : ℕ) → IsOrderly m → m.spaces �
 
 abbrev pub SavedUseFresh : Type 0
 SavedUseFresh = (saved : Machine) (n : ℕ) → UsesFreshSince saved n
+
+-- and so are its first-stage translations, in each run without any at its begin of which it is a state
+abbrev pub FirstFreshSince : Machine → ℕ → Type 0
+FirstFreshSince saved n = (m : Machine) (k : ℕ) → m.first ≡ [] → saved ≡ run m k → FirstFresh m (k + n)
+
+abbrev pub SavedFirstFresh : Type 0
+SavedFirstFresh = (saved : Machine) (n : ℕ) → FirstFreshSince saved n
 
 -- bytes are the form of a machine that can be saved: of the one that they give
 abbrev pub IsSaved : List ℕ → Type 0

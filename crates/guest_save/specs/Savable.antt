@@ -13,10 +13,11 @@ use Rattle.arch_defs.specs.Roots.{is_table}
 use Rattle.arch_defs.specs.Spaces.{Space, is_for}
 use Rattle.arch_defs.specs.WalkedEntries.{folds}
 use Rattle.guest_save.specs.declared.headers.Header.{Header}
-use Rattle.guest_save.specs.declared.versions.Version.TheVariants.{Second}
+use Rattle.guest_save.specs.declared.versions.Version.TheVariants.{Third}
 use Rattle.guest_save.specs.Headers.{header_numbers, header_of}
 use Rattle.guest_specs.specs.Inputs.{AreInputs}
 use Rattle.machine_defs.specs.Machine.{Machine, with_pending_lines}
+use Rattle.machine_laws.specs.FirstKeys.{AreStorable, HasFirst}
 use Rattle.machine_laws.specs.FrontSpaces.{FrontIs}
 use Rattle.machine_laws.specs.Reservations.{IsInRam, ReservesInRam}
 use Rattle.machine_laws.specs.StorableStates.{IsStorable}
@@ -57,7 +58,8 @@ pub record IsKey (key : GuestRoot) : Type 0 where
 abbrev pub IsInReach : ℕ → Bool → Entry → Type 0
 IsInReach size device e = IsInRam size e ⊎ ((device ≡ true) × (e.frame ≡ device_frame))
 
--- an entry is of the device page only where there is one, whatever the value of hgatp is that its space is for
+-- an entry is of the device page only where there is one, whatever the value of hgatp is that its space is
+-- for
 abbrev pub IsOfDevice : Bool → GuestRoot → Entry → Type 0
 IsOfDevice device key e = e.frame ≡ device_frame → device ≡ true
 
@@ -84,7 +86,7 @@ pub record IsSavable (m : Machine) : Type 0 where
   pub inputs : AreInputs m.platform.console.inputs
   pub registers : length m.platform.virt.regs.x ≡ 32
   pub virt : IsStorable m.platform.virt
-  pub numbers : All Fits (header_numbers Second (header_of m))
+  pub numbers : All Fits (header_numbers Third (header_of m))
   pub lines : with_pending_lines m.platform ≡ m.platform
   pub steps : m.platform.steps ≤ 2 ^ 60
   pub clock : m.platform.clock.time ≤ 2 ^ 62 + m.platform.steps
@@ -93,3 +95,5 @@ pub record IsSavable (m : Machine) : Type 0 where
   pub spaces : All (IsSavableSpace (length m.ram) m.entry_room m.device) m.spaces
   pub keys : AllPairs HasOtherKey m.spaces
   pub front : folds m.platform.virt ≡ true → FrontIs m.platform.virt.csrs.hgatp m.spaces
+  pub first : HasFirst m.first
+  pub storable : AreStorable m.first

@@ -10,19 +10,21 @@ use Rattle.arch_defs.specs.Spaces.{Space}
 use Rattle.arch_defs.specs.WalkedEntries.{folds}
 use Rattle.guest_save.specs.Savable.{HasOtherKey, IsSavableEntry}
 use Rattle.machine_defs.specs.Machine.{Machine, Platform, with_pending_lines}
+use Rattle.machine_laws.specs.FirstKeys.{AreStorable}
 use Rattle.machine_laws.specs.FrontSpaces.{FrontIs}
 use Rattle.machine_laws.specs.Renaming.{ReservesWithin}
 use Rattle.machine_laws.specs.Reservations.{places_from}
 use Rattle.machine_laws.specs.StorableStates.{ReservesAligned, stored_form}
 
--- a machine that bytes give, whatever they are: x0 is 0, registers and keys are as they can be stored, and
--- the bits that the clock and the console set are as these have them
+-- a machine that bytes give, whatever they are: x0 is 0, registers, keys and what first-stage translations
+-- are for are as they can be stored, and the bits that the clock and the console set are as these have them
 pub record IsRead (m : Machine) : Type 0 where
   pub x0 : slice_index m.platform.virt.regs.x 0 ≡ 0
   pub csrs : stored_form m.platform.virt.csrs ≡ m.platform.virt.csrs
   pub lines : with_pending_lines m.platform ≡ m.platform
   pub inputs : length m.platform.console.inputs ≤ 65536
   pub keys : All (λ s. guest_root_of (hgatp_bits s.key) ≡ s.key) m.spaces
+  pub storable : AreStorable m.first
 
 -- what is reserved, if anything is, lies aligned in RAM of this size
 pub record IsReserved (reservation : Option (ℕ × ℕ)) (size : ℕ) : Type 0 where

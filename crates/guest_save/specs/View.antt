@@ -15,6 +15,7 @@ machine_of parts = let h = parts.header in record {
   };
   ram = parts.ram.items;
   spaces = parts.spaces.items;
+  first = parts.first.items;
   space_room = h.spaces;
   entry_room = h.entries;
   device = h.device;

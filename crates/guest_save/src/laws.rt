@@ -1,6 +1,6 @@
 // Laws of forms.
 
-ghost use Rattle.guest_save.specs.Laws.{BadExactly, FormIsSaved, FrontDecides, ReadIsStored, ResumedGoesOn, RoundTrip, RunKeepsDevice, RunKeepsSizes, SavableGoesOn, SavableIsFilled, SavedExactly, SavedUseFresh, StartIsSavable, UnsavedIsBad};
+ghost use Rattle.guest_save.specs.Laws.{BadExactly, FormIsSaved, FrontDecides, ReadIsStored, ResumedGoesOn, RoundTrip, RunKeepsDevice, RunKeepsSizes, SavableGoesOn, SavableIsFilled, SavedExactly, SavedFirstFresh, SavedUseFresh, StartIsSavable, UnsavedIsBad};
 
 /// The form of a machine that can be saved gives it back, and other bytes than such a form are bad.
 pub fn reading_is_exact()
@@ -18,6 +18,7 @@ pub fn saved_machines_go_on()
     ensures start { StartIsSavable }
     ensures resumed { ResumedGoesOn }
     ensures fresh { SavedUseFresh }
+    ensures first { SavedFirstFresh }
 {}
 
 /// A test tells exactly which bytes are the form of a machine that can be saved.

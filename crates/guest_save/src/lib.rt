@@ -2,6 +2,7 @@
 #![tactic(auto)]
 
 mod buffers;
+mod first_entries;
 mod headers;
 mod items;
 mod laws;

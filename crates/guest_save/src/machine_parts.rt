@@ -9,12 +9,13 @@ ghost use Rattle.guest_save.specs.Headers.{blocks_of, header_of};
 ghost use Rattle.guest_save.specs.Reading.{device_in, from_console, from_inputs, from_spaces, header_by, machine_by};
 ghost use Rattle.machine_defs.specs.Machine.{Machine, with_lines};
 
+use crate::first_entries::{after_first, first_in};
 use crate::headers::{Header, LATER_NUMBERS, SIZE_NUMBERS};
 use crate::items::{SavedSpace, after_spaces, inputs_in, spaces_in};
 use crate::numbers::{after, count_in, number_in, numbers_in};
 use crate::snapshots::Snapshot;
 use crate::versions::Version;
-use arch_defs::{BLOCK_SIZE, Entry, GuestRoot};
+use arch_defs::{BLOCK_SIZE, Entry, FirstEntry, GuestRoot};
 use no_memory::NoMemory;
 use std::alloc::Global;
 use std::marker::Model;
@@ -36,6 +37,7 @@ pub struct MachineParts {
     pub console: Vec<u8>,
     pub inputs: Vec<(u64, u8)>,
     pub spaces: Vec<SavedSpace>,
+    pub first: Vec<FirstEntry>,
     pub ram: Vec<u8>,
 }
 
@@ -82,6 +84,10 @@ impl Snapshot for MachineParts {
     fn entry(&self, space: u64, place: u64) -> Entry {
         let found = &self.spaces[space as usize];
         found.entries[place as usize]
+    }
+
+    fn first(&self) -> &[FirstEntry] {
+        self.first.as_slice()
     }
 
     fn block(&self, number: u64) -> &[u8] {
@@ -131,7 +137,7 @@ fn copied(alloc: Global, bytes: &[u8]) -> Result<Vec<u8>, NoMemory>
 }
 
 // The first of these bytes, at most so many.
-fn first(bytes: &[u8], count: usize) -> &[u8]
+fn at_most(bytes: &[u8], count: usize) -> &[u8]
     ensures { result.now ≡ take count bytes.now }
 {
     if count <= bytes.len() {
@@ -145,23 +151,28 @@ fn first(bytes: &[u8], count: usize) -> &[u8]
 #[tactic(auto, unfolding(crate::specs::Reading::from_spaces))]
 fn from_spaces(
     alloc: Global,
+    version: Version,
     header: Header,
     console: Vec<u8>,
     inputs: Vec<(u64, u8)>,
     bytes: &[u8],
 ) -> Result<MachineParts, NoMemory>
-    ensures { IfOk result (λ parts. parts ≡ from_spaces header console.items inputs.items bytes.now) }
+    ensures { IfOk result (λ parts. parts
+        ≡ from_spaces version header console.items inputs.items bytes.now) }
 {
     let count = count_in(bytes, MOST_SPACES);
     let rest = after(bytes, 8);
     let spaces = spaces_in(alloc, count, rest)?;
-    let ram = copied(alloc, after_spaces(count, rest))?;
+    let rest = after_spaces(count, rest);
+    let first = first_in(alloc, version, rest)?;
+    let ram = copied(alloc, after_first(version, rest))?;
     let blocks = ram.len() as u64 / BLOCK_SIZE;
     Ok(MachineParts {
         header: completed(header, inputs.as_slice(), blocks),
         console,
         inputs,
         spaces,
+        first,
         ram,
     })
 }
@@ -170,27 +181,40 @@ fn from_spaces(
 #[tactic(auto, unfolding(crate::specs::Reading::from_inputs))]
 fn from_inputs(
     alloc: Global,
+    version: Version,
     header: Header,
     console: Vec<u8>,
     bytes: &[u8],
 ) -> Result<MachineParts, NoMemory>
-    ensures { IfOk result (λ parts. parts ≡ from_inputs header console.items bytes.now) }
+    ensures { IfOk result (λ parts. parts ≡ from_inputs version header console.items bytes.now) }
 {
     let count = count_in(bytes, MOST_INPUTS);
     let rest = after(bytes, 8);
     let inputs = inputs_in(alloc, count, rest)?;
-    from_spaces(alloc, header, console, inputs, after(rest, 9 * count))
+    from_spaces(
+        alloc,
+        version,
+        header,
+        console,
+        inputs,
+        after(rest, 9 * count),
+    )
 }
 
 // The machine of its header, and of the bytes from its console bytes on.
 #[tactic(auto, unfolding(crate::specs::Reading::from_console))]
-fn from_console(alloc: Global, header: Header, bytes: &[u8]) -> Result<MachineParts, NoMemory>
-    ensures { IfOk result (λ parts. parts ≡ from_console header bytes.now) }
+fn from_console(
+    alloc: Global,
+    version: Version,
+    header: Header,
+    bytes: &[u8],
+) -> Result<MachineParts, NoMemory>
+    ensures { IfOk result (λ parts. parts ≡ from_console version header bytes.now) }
 {
     let count = count_in(bytes, MOST_CONSOLE);
     let rest = after(bytes, 8);
-    let console = copied(alloc, first(rest, count))?;
-    from_inputs(alloc, header, console, after(rest, count))
+    let console = copied(alloc, at_most(rest, count))?;
+    from_inputs(alloc, version, header, console, after(rest, count))
 }
 
 // Whether bytes tell the device page.
@@ -199,7 +223,7 @@ fn device_in(version: Version, bytes: &[u8]) -> bool
 {
     match version {
         Version::First => false,
-        Version::Second => number_in(after(bytes, 40)) % 2 == 1,
+        Version::Second | Version::Third => number_in(after(bytes, 40)) % 2 == 1,
     }
 }
 
@@ -220,5 +244,5 @@ pub fn machine_by(alloc: Global, version: Version, bytes: &[u8]) -> Result<Machi
     ensures { IfOk result (λ parts. parts ≡ machine_by version bytes.now) }
 {
     let header = header_by(version, bytes);
-    from_console(alloc, header, after(bytes, version.header_end()))
+    from_console(alloc, version, header, after(bytes, version.header_end()))
 }

@@ -7,17 +7,19 @@ ghost use Rattle.arch_defs.specs.CachedEntries.{HasOtherPage};
 ghost use Rattle.arch_defs.specs.Memory.{ram_base};
 ghost use Rattle.arch_defs.specs.Roots.{is_root};
 ghost use Rattle.arch_defs.specs.WalkedEntries.{folds};
-ghost use Rattle.guest_save.specs.declared.versions.Version.TheVariants.{Second};
+ghost use Rattle.guest_save.specs.declared.versions.Version.TheVariants.{Third};
 ghost use Rattle.guest_save.specs.Headers.{header_numbers, numbered};
 ghost use Rattle.guest_save.specs.Savable.{Fits, HasOtherKey, HasSizes, IsInReach, IsSavable, IsSavableEntry, IsSavableSpace, pages_of, top_level_of};
 ghost use Rattle.guest_save.specs.Tests.{HasSoundSpaces, IsRead, IsReserved, IsSoundPlatform, IsSoundSpace};
 ghost use Rattle.machine_laws.specs.FrontSpaces.{FrontIs};
 ghost use Rattle.machine_laws.specs.Reservations.{places_from};
 
+use crate::first_entries::has_first;
 use crate::headers::{Header, reservation_numbers};
 use crate::items::SavedSpace;
 use crate::machine_parts::MachineParts;
 use crate::registers::csr_numbers;
+use crate::snapshots::Snapshot;
 use arch_defs::{BLOCK_SIZE, Entry, GuestMode, GuestRoot, Virtual};
 
 // Where RAM begins.
@@ -333,7 +335,7 @@ fn registers_fit(state: &Virtual)
 
 /// The numbers of a header have 64 bits, pc among them, and there are 32 registers.
 pub fn numbers_fit(header: Header)
-    ensures numbers { All Fits (header_numbers Second header) }
+    ensures numbers { All Fits (header_numbers Third header) }
     ensures registers { length header.state.regs.x ≡ 32 }
     ensures pc { header.state.regs.pc < 2 ^ 64 }
 {
@@ -356,6 +358,9 @@ pub fn is_savable(parts: &MachineParts) -> bool
         return false;
     }
     if !has_progress(parts) {
+        return false;
+    }
+    if !has_first(parts.first()) {
         return false;
     }
     has_spaces(parts, ram)

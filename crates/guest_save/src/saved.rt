@@ -18,7 +18,7 @@ use crate::savable::is_savable;
 use crate::snapshots::Snapshot;
 use crate::versions::Version;
 use crate::writing::put_front;
-use arch_defs::{Entry, GuestRoot, Need};
+use arch_defs::{Entry, FirstEntry, GuestRoot, Need};
 use replay::{Compare, Verdict};
 use std::alloc::Global;
 use std::marker::Model;
@@ -126,6 +126,10 @@ impl Snapshot for Saved {
 
     fn entry(&self, space: u64, place: u64) -> Entry {
         self.parts.entry(space, place)
+    }
+
+    fn first(&self) -> &[FirstEntry] {
+        self.parts.first()
     }
 
     fn block(&self, number: u64) -> &[u8] {

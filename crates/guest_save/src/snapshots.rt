@@ -8,7 +8,7 @@ ghost use Rattle.guest_save.specs.Headers.{blocks_of, header_of};
 ghost use Rattle.machine_defs.specs.Machine.{Machine};
 
 use crate::headers::Header;
-use arch_defs::{Entry, GuestRoot};
+use arch_defs::{Entry, FirstEntry, GuestRoot};
 
 /// A machine that can be written, seen by its parts.
 pub trait Snapshot {
@@ -47,6 +47,10 @@ pub trait Snapshot {
             → place < length (slice_index_or (machine self.now).spaces space d).entries }
         ensures { (d : Space) → result
             ≡ slice_index_or (slice_index_or (machine self.now).spaces space d).entries place result };
+
+    /// Its first-stage translations, oldest first.
+    fn first(&self) -> &[FirstEntry]
+        ensures { result.now ≡ (machine self.now).first };
 
     /// A block of its RAM.
     fn block(&self, number: u64) -> &[u8]

@@ -6,10 +6,13 @@ ghost use Rattle.guest_save.specs.Versions.{header_end, later_begin, letters, ve
 /// A version of a form, which its letters tell.
 #[derive(Clone, Copy, Debug, PartialEq, Eq)]
 pub enum Version {
-    /// It does not tell whether a machine has the device page: none has.
+    /// It does not tell whether a machine has the device page: none has. Nor has one first-stage translations
+    /// cached.
     First,
-    /// The one that is written.
+    /// It tells no first-stage translations: none are cached.
     Second,
+    /// The one that is written.
+    Third,
 }
 
 // The first bytes, at most eight.
@@ -27,6 +30,7 @@ impl Version {
         match self {
             Version::First => *b"NESTHV01",
             Version::Second => *b"NESTHV02",
+            Version::Third => *b"NESTHV03",
         }
     }
 
@@ -35,10 +39,13 @@ impl Version {
     pub fn of(bytes: &[u8]) -> Version
         ensures { result ≡ version_in bytes.now }
     {
-        if first_eight(bytes) == b"NESTHV01".as_slice() {
+        let begin = first_eight(bytes);
+        if begin == b"NESTHV01".as_slice() {
             Version::First
-        } else {
+        } else if begin == b"NESTHV02".as_slice() {
             Version::Second
+        } else {
+            Version::Third
         }
     }
 
@@ -48,7 +55,7 @@ impl Version {
     {
         match self {
             Version::First => 40,
-            Version::Second => 48,
+            Version::Second | Version::Third => 48,
         }
     }
 
@@ -58,7 +65,7 @@ impl Version {
     {
         match self {
             Version::First => 584,
-            Version::Second => 592,
+            Version::Second | Version::Third => 592,
         }
     }
 }

@@ -4,21 +4,22 @@ ghost use Rattle.std.specs.Prelude.{◌≡◌, ◌≤◌, ◌<◌, ◌*◌, [], 
 ghost use Rattle.std.specs.List.{flat_map, slice_index_or};
 ghost use Rattle.arch_defs.specs.Memory.{block_size};
 ghost use Rattle.arch_defs.specs.Spaces.{Space};
-ghost use Rattle.guest_save.specs.declared.versions.Version.TheVariants.{Second};
+ghost use Rattle.guest_save.specs.declared.versions.Version.TheVariants.{Third};
 ghost use Rattle.guest_save.specs.Buffers.{Buffers, PutsText};
-ghost use Rattle.guest_save.specs.Forms.{console_form, entry_form, form, front_form, input_form, inputs_form, space_form, spaces_form};
+ghost use Rattle.guest_save.specs.Forms.{console_form, entry_form, first_entry_form, first_form, form, front_form, input_form, inputs_form, space_form, spaces_form};
 ghost use Rattle.guest_save.specs.Headers.{blocks_of, device_numbers, header_numbers, header_of, later_numbers, numbered, state_numbers};
 ghost use Rattle.guest_save.specs.Numbers.{number, numbers};
 
 use crate::buffers::{
     Buffer, append, append_number, append_numbers, append_piece, append_whole, flush,
 };
+use crate::first_entries::first_numbers;
 use crate::headers::{Header, reservation_numbers};
 use crate::items::flags_of;
 use crate::registers::csr_numbers;
 use crate::snapshots::Snapshot;
 use crate::versions::Version;
-use arch_defs::{Entry, Virtual};
+use arch_defs::{Entry, FirstEntry, Virtual};
 use outside::{Sink, SinkFault};
 
 // Appends control and status registers, and the reservation.
@@ -59,7 +60,7 @@ fn append_progress<O: Sink>(
 // Appends whether there is the device page, and the rest of a header.
 fn append_device<O: Sink>(header: &Header, held: &mut Buffer, out: &mut O) -> Result<(), SinkFault>
     ensures { Buffers O.Sink result out.old held.old.items out.new held.new.items
-        (numbers (device_numbers Second header.now ++ later_numbers header.now)) }
+        (numbers (device_numbers Third header.now ++ later_numbers header.now)) }
 {
     append_number(header.device_number(), held, out)?;
     append_progress(header, held, out)
@@ -77,7 +78,7 @@ fn append_after_sizes<O: Sink>(
 {
     match version {
         Version::First => append_progress(header, held, out),
-        Version::Second => append_device(header, held, out),
+        Version::Second | Version::Third => append_device(header, held, out),
     }
 }
 
@@ -188,70 +189,147 @@ fn append_spaces<S: Snapshot, O: Sink>(
     Ok(())
 }
 
-// Appends how many spaces there are, and these.
-fn append_from_spaces<S: Snapshot, O: Sink>(
+// Appends a first-stage translation: for whom it is, satp or vsatp, its page, its frame, and its flags.
+fn append_first_entry<O: Sink>(
+    entry: &FirstEntry,
+    held: &mut Buffer,
+    out: &mut O,
+) -> Result<(), SinkFault>
+    ensures { Buffers O.Sink result out.old held.old.items out.new held.new.items
+        (first_entry_form entry.now) }
+{
+    append_numbers(&first_numbers(entry), held, out)
+}
+
+// Appends first-stage translations, oldest first.
+fn append_first_entries<O: Sink>(
+    entries: &[FirstEntry],
+    held: &mut Buffer,
+    out: &mut O,
+) -> Result<(), SinkFault>
+    ensures { Buffers O.Sink result out.old held.old.items out.new held.new.items
+        (flat_map first_entry_form entries.now) }
+{
+    for i in 0..entries.len() {
+        append_first_entry(&entries[i], held, out)?;
+    }
+    Ok(())
+}
+
+// Appends how many first-stage translations there are, and these.
+fn append_counted_first<S: Snapshot, O: Sink>(
     snapshot: &S,
     held: &mut Buffer,
     out: &mut O,
 ) -> Result<(), SinkFault>
     ensures { Buffers O.Sink result out.old held.old.items out.new held.new.items
-        (spaces_form (S.machine snapshot.now) []) }
+        (first_form Third (S.machine snapshot.now) []) }
+{
+    append_number(snapshot.first().len() as u64, held, out)?;
+    append_first_entries(snapshot.first(), held, out)
+}
+
+// Appends what a version has of them.
+#[tactic(auto, unfolding(crate::specs::Forms::first_form))]
+fn append_first<S: Snapshot, O: Sink>(
+    version: Version,
+    snapshot: &S,
+    held: &mut Buffer,
+    out: &mut O,
+) -> Result<(), SinkFault>
+    ensures { Buffers O.Sink result out.old held.old.items out.new held.new.items
+        (first_form version (S.machine snapshot.now) []) }
+{
+    match version {
+        Version::First | Version::Second => Ok(()),
+        Version::Third => append_counted_first(snapshot, held, out),
+    }
+}
+
+// Appends all spaces, and what follows them.
+fn append_spaces_on<S: Snapshot, O: Sink>(
+    version: Version,
+    snapshot: &S,
+    held: &mut Buffer,
+    out: &mut O,
+) -> Result<(), SinkFault>
+    ensures { Buffers O.Sink result out.old held.old.items out.new held.new.items
+        (flat_map space_form (S.machine snapshot.now).spaces
+        ++ first_form version (S.machine snapshot.now) []) }
+{
+    append_spaces(snapshot, held, out)?;
+    append_first(version, snapshot, held, out)
+}
+
+// Appends how many spaces there are, these, and what follows them.
+fn append_from_spaces<S: Snapshot, O: Sink>(
+    version: Version,
+    snapshot: &S,
+    held: &mut Buffer,
+    out: &mut O,
+) -> Result<(), SinkFault>
+    ensures { Buffers O.Sink result out.old held.old.items out.new held.new.items
+        (spaces_form version (S.machine snapshot.now) []) }
 {
     append_number(snapshot.held(), held, out)?;
-    append_spaces(snapshot, held, out)
+    append_spaces_on(version, snapshot, held, out)
 }
 
 // Appends the unread inputs, and what follows them.
 fn append_inputs_on<S: Snapshot, O: Sink>(
+    version: Version,
     snapshot: &S,
     held: &mut Buffer,
     out: &mut O,
 ) -> Result<(), SinkFault>
     ensures { Buffers O.Sink result out.old held.old.items out.new held.new.items
         (flat_map input_form (S.machine snapshot.now).platform.console.inputs
-        ++ spaces_form (S.machine snapshot.now) []) }
+        ++ spaces_form version (S.machine snapshot.now) []) }
 {
     append_inputs(snapshot.inputs(), held, out)?;
-    append_from_spaces(snapshot, held, out)
+    append_from_spaces(version, snapshot, held, out)
 }
 
-// Appends how many unread inputs there are, these, and the spaces.
+// Appends how many unread inputs there are, these, and what follows them.
 fn append_from_inputs<S: Snapshot, O: Sink>(
+    version: Version,
     snapshot: &S,
     held: &mut Buffer,
     out: &mut O,
 ) -> Result<(), SinkFault>
     ensures { Buffers O.Sink result out.old held.old.items out.new held.new.items
-        (inputs_form (S.machine snapshot.now) []) }
+        (inputs_form version (S.machine snapshot.now) []) }
 {
     append_number(snapshot.inputs().len() as u64, held, out)?;
-    append_inputs_on(snapshot, held, out)
+    append_inputs_on(version, snapshot, held, out)
 }
 
 // Appends the bytes of the console, and what follows them.
 fn append_console_on<S: Snapshot, O: Sink>(
+    version: Version,
     snapshot: &S,
     held: &mut Buffer,
     out: &mut O,
 ) -> Result<(), SinkFault>
     ensures { Buffers O.Sink result out.old held.old.items out.new held.new.items
-        ((S.machine snapshot.now).platform.console.bytes ++ inputs_form (S.machine snapshot.now) []) }
+        ((S.machine snapshot.now).platform.console.bytes ++ inputs_form version (S.machine snapshot.now) []) }
 {
     append_piece(snapshot.console(), held, out)?;
-    append_from_inputs(snapshot, held, out)
+    append_from_inputs(version, snapshot, held, out)
 }
 
-// Appends how many console bytes there are, these, inputs and spaces.
+// Appends how many console bytes there are, these, and what follows them.
 fn append_from_console<S: Snapshot, O: Sink>(
+    version: Version,
     snapshot: &S,
     held: &mut Buffer,
     out: &mut O,
 ) -> Result<(), SinkFault>
     ensures { Buffers O.Sink result out.old held.old.items out.new held.new.items
-        (console_form (S.machine snapshot.now) []) }
+        (console_form version (S.machine snapshot.now) []) }
 {
     append_number(snapshot.console().len() as u64, held, out)?;
-    append_console_on(snapshot, held, out)
+    append_console_on(version, snapshot, held, out)
 }
 
 // Appends the header, and what follows it.
@@ -263,10 +341,10 @@ fn append_header_on<S: Snapshot, O: Sink>(
 ) -> Result<(), SinkFault>
     ensures { Buffers O.Sink result out.old held.old.items out.new held.new.items
         (numbers (header_numbers version (header_of (S.machine snapshot.now)))
-        ++ console_form (S.machine snapshot.now) []) }
+        ++ console_form version (S.machine snapshot.now) []) }
 {
     append_header(version, &snapshot.header(), held, out)?;
-    append_from_console(snapshot, held, out)
+    append_from_console(version, snapshot, held, out)
 }
 
 // Appends all of a machine but its RAM.
@@ -322,7 +400,7 @@ fn append_machine<S: Snapshot, O: Sink>(
     ensures { Buffers O.Sink result out.old held.old.items out.new held.new.items
         (form (S.machine snapshot.now)) }
 {
-    append_front(Version::Second, snapshot, held, out)?;
+    append_front(Version::Third, snapshot, held, out)?;
     append_ram(snapshot, held, out)
 }
 

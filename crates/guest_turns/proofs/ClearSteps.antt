@@ -48,13 +48,13 @@ record Elapsed (m after : Machine) (n : ℕ) : Type 0 where
 
 -- so it is after a plain step
 plain_ticks : (m : Machine) (tried : Tried) (fence : Option Fence) → SomeEnd m tried fence → plain_count (event_in tried) ≡ 1 → Elapsed m (left_by m tried) 1
-plain_ticks m tried fence (Takes trap) plain = absurd (omega (arith, plain))
-plain_ticks m tried fence (Makes completion event any) plain = record { time = refl; timer = refl; inputs = refl }
-plain_ticks m tried fence (Serves rd value console leaves) plain = absurd (omega (arith, plain))
-plain_ticks m tried fence Calls plain = absurd (omega (arith, plain))
-plain_ticks m tried fence (Passes virt moment any) plain = absurd (omega (arith, plain))
+plain_ticks m tried fence (Takes first trap) plain = absurd (omega (arith, plain))
+plain_ticks m tried fence (Makes first completion event any) plain = record { time = refl; timer = refl; inputs = refl }
+plain_ticks m tried fence (Serves first rd value console leaves) plain = absurd (omega (arith, plain))
+plain_ticks m tried fence (Calls first) plain = absurd (omega (arith, plain))
+plain_ticks m tried fence (Passes first virt moment any) plain = absurd (omega (arith, plain))
 plain_ticks m tried fence Halts plain = absurd (omega (arith, plain))
-plain_ticks m tried fence (Fences virt named any) plain = absurd (omega (arith, plain))
+plain_ticks m tried fence (Fences first virt named any) plain = absurd (omega (arith, plain))
 
 abbrev AreClear : Machine → ℕ → Type 0
 AreClear m k = (i : ℕ) → i < k → IsClear (run m i)

@@ -1,5 +1,6 @@
 pub mod Accounts
 pub mod Among
+pub mod BlockBytes
 pub mod CalmSteps
 pub mod ClearSteps
 pub mod Current

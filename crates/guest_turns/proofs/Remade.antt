@@ -4,6 +4,9 @@ use Rattle.std.specs.List.{All, AllPairs, filter, find}
 use Rattle.std.proofs.lemmas.Bool.Decides.{eqb_tells}
 use Rattle.std.proofs.lemmas.List.{drop_more, get_or_default, get_or-drop, get_or-take, length-drop, length_push, take_all, take_more}
 use Rattle.std.proofs.lemmas.List.Elements.{All-head, All-tail}
+use Rattle.arch_defs.specs.declared.first.FirstEntry.{FirstEntry}
+use Rattle.arch_defs.specs.FirstEntries.{first_filled, first_room, is_first_of, without_first}
+use Rattle.machine_laws.specs.FirstKeys.{HasFirst}
 use Rattle.arch_defs.specs.declared.cached.Entry.{Entry}
 use Rattle.arch_defs.specs.declared.roots.GuestRoot.{GuestRoot}
 use Rattle.arch_defs.specs.CachedEntries.{HasOtherPage, filled, without}
@@ -85,6 +88,26 @@ fills_whole i spaces d inside =
     let s = get_or spaces i d in
     ap (λ entries. record s { entries = entries } ∷ drop (i + 1) spaces) (take_all (length s.entries) s.entries (omega arith))
     ∙ sym (drop_more spaces i d inside)
+
+-- a first-stage translation of another page than those before it is filled behind them
+none_taken_out : (e : FirstEntry) (entries : List FirstEntry) → All (λ x. is_first_of e.tag e.atp e.page x ≡ false) entries → without_first e entries ≡ entries
+none_taken_out e [] none = refl
+none_taken_out e (x ∷ xs) none =
+    let first = All-head (λ x. is_first_of e.tag e.atp e.page x ≡ false) x xs none in
+    rw first (ap (λ xs. x ∷ xs) (none_taken_out e xs (All-tail (λ x. is_first_of e.tag e.atp e.page x ≡ false) x xs none)))
+
+pub first_next : (k : ℕ) (entries : List FirstEntry) (d : FirstEntry) → HasFirst entries → k < length entries
+    → first_filled (take k entries) (get_or entries k d) ≡ take (k + 1) entries
+unfolding first_filled
+first_next k entries d has inside =
+    let e = get_or entries k d in
+    let before = length-take-le k entries (omega (arith, inside)) in
+    let others = none_taken_out e (take k entries) (λ j c h.
+    let early : j < k = omega (arith, h, before) in
+    let same = get_or_default entries k d c inside in
+    rw (get_or-take k entries j c early, same) (has.apart j k c early inside)) in
+    let none : length (take k entries ++ e ∷ []) - first_room ≡ 0 = omega (arith, length_push (take k entries) e, before, has.few, inside) in
+    rw (others, none) (sym (take_more entries k d inside))
 
 -- what calls on a pool keep, one after the other
 pub keeps_none : (pool : Pooled) (memory : List ℕ) → KeepsPool pool memory pool memory

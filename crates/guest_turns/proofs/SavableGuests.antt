@@ -16,7 +16,7 @@ use Rattle.guest_exit.specs.declared.guests.Guest.{Guest}
 use Rattle.guest_exit.specs.View.{machine_of}
 use Rattle.guest_exit.proofs.Pools.{size_of}
 use Rattle.guest_save.specs.Headers.{header_numbers, header_of}
-use Rattle.guest_save.specs.declared.versions.Version.TheVariants.{Second}
+use Rattle.guest_save.specs.declared.versions.Version.TheVariants.{Third}
 use Rattle.guest_save.specs.Savable.{Fits, HasOtherKey, IsInReach, IsOfDevice, IsSavable, IsSavableEntry, IsSavableSpace}
 use Rattle.guest_specs.specs.Inputs.{AreInputs}
 use Rattle.machine_laws.specs.EachEntry.{EachEntry}
@@ -100,7 +100,7 @@ other_keys part most (first ∷ rest) are i j d before h =
 
 -- what is reserved, where RAM has the size of the part's blocks
 pub savable_hosted : (guest : Guest) (memory : List ℕ) → IsHosted guest memory → MayBeSaved (machine_of guest memory) → AreInputs guest.console.inputs
-    → length guest.console.bytes ≤ guest.console.room → All Fits (header_numbers Second (header_of (machine_of guest memory))) → length guest.virt.regs.x ≡ 32
+    → length guest.console.bytes ≤ guest.console.room → All Fits (header_numbers Third (header_of (machine_of guest memory))) → length guest.virt.regs.x ≡ 32
     → IsSavable (machine_of guest memory)
 savable_hosted guest memory hosted may inputs console numbers registers = record {
   sizes = may.sizes;
@@ -117,6 +117,8 @@ savable_hosted guest memory hosted may inputs console numbers registers = record
   spaces = savable_spaces guest.pool.part guest.pool.most (length (machine_of guest memory).ram) guest.device guest.pool.slots memory hosted.placed.tidy.slots hosted.placed.tidy.tables may.keys may.tables hosted.placed.caches may.device;
   keys = other_keys guest.pool.part guest.pool.most guest.pool.slots hosted.placed.tidy.slots;
   front = hosted.placed.orderly.front;
+  first = may.first;
+  storable = may.storable;
 }
   where
     size : length (machine_of guest memory).ram ≡ ram_size guest.part.blocks

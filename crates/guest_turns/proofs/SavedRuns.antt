@@ -16,6 +16,7 @@ use Rattle.machine_defs.specs.Machine.{Machine}
 use Rattle.machine_defs.specs.Runs.{run}
 use Rattle.machine_laws.specs.EachEntry.{EachEntry}
 use Rattle.machine_laws.specs.Keys.{HaveKeys, IsKey, IsOfTable}
+use Rattle.machine_laws.proofs.FirstKeys.{first_stays, first_stays_storable}
 use Rattle.machine_laws.proofs.Keys.{keys_stay, tables_stay}
 use Rattle.guest_turns.specs.declared.sources.Source.{Source}
 use Rattle.guest_turns.specs.Saving.{MayBeSaved}
@@ -67,6 +68,8 @@ run_of m n is few = let on = savable_goes_on m is in record {
   keys = keys_stay m n is.virt (keys_of m is);
   tables = tables_stay m n on.orderly (tables_of m is);
   device = device_stays m n (device_of m is);
+  first = first_stays m n is.first;
+  storable = first_stays_storable m n is.virt is.storable;
 }
 
 pub may_be_saved : (s : Source) (n : ℕ) → IsBootableSource s → (run (machine_of_source s) n).platform.steps ≤ 2 ^ 60

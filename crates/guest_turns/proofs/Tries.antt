@@ -25,13 +25,13 @@ called_steps : (p : Platform) → (called p).steps ≡ p.steps
 called_steps p = stops_or_not (with_call p (environment (state_of p.virt.regs p.clock p.console))) (read p.virt.regs a7 == 8)
 
 ended_step : (m : Machine) (tried : Tried) (fence : Option Fence) → SomeEnd m tried fence → LeavesStep m tried
-ended_step m tried fence (Takes trap) = record { counted = refl; current = refl }
-ended_step m tried fence (Makes completion event any) = record { counted = refl; current = refl }
-ended_step m tried fence (Serves rd value console leaves) = record { counted = refl; current = refl }
-ended_step m tried fence Calls = record { counted = rw (called_steps m.platform) refl; current = refl }
-ended_step m tried fence (Passes virt moment any) = record { counted = refl; current = refl }
+ended_step m tried fence (Takes first trap) = record { counted = refl; current = refl }
+ended_step m tried fence (Makes first completion event any) = record { counted = refl; current = refl }
+ended_step m tried fence (Serves first rd value console leaves) = record { counted = refl; current = refl }
+ended_step m tried fence (Calls first) = record { counted = rw (called_steps m.platform) refl; current = refl }
+ended_step m tried fence (Passes first virt moment any) = record { counted = refl; current = refl }
 ended_step m tried fence Halts = tt
-ended_step m tried fence (Fences virt named any) = record { counted = refl; current = refl }
+ended_step m tried fence (Fences first virt named any) = record { counted = refl; current = refl }
 
 pub try_step : (m : Machine) → LeavesStep m (try m)
 try_step m = ended_step m (try m) _ (some_end m)

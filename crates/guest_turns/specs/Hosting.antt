@@ -83,11 +83,12 @@ used_by Retry = 0
 used_by Waits = 1
 used_by Stopped = 1
 
--- a guest that has made no step and entered no space
+-- a guest that has made no step, entered no space, and cached nothing
 pub record IsAtStart (spec : GuestSpec) (part : Layout) (guest : Guest) : Type 0 where
   pub own_part : guest.part ≡ part
   pub platform : platform_of guest ≡ (start spec).platform
   pub pool : IsNewPool part guest.pool
+  pub first : guest.first ≡ []
   pub spaces : room_of guest.pool ≡ spec.spaces
   pub entries : guest.pool.most ≡ spec.entries
   pub device : guest.device ≡ spec.device
@@ -98,6 +99,7 @@ pub record IsMade (m : Machine) (part : Layout) (guest : Guest) (memory : List �
   pub own_pool : guest.pool.part ≡ part
   pub platform : platform_of guest ≡ m.platform
   pub spaces : spaces_of guest.pool ≡ m.spaces
+  pub first : guest.first ≡ m.first
   pub space_room : room_of guest.pool ≡ m.space_room
   pub entry_room : guest.pool.most ≡ m.entry_room
   pub device : guest.device ≡ m.device

@@ -13,7 +13,7 @@ ghost use Rattle.guest_turns.specs.Sources.{IsBootableSource, machine_of_source,
 
 use crate::remaking::remake;
 use crate::sources::Source;
-use arch_defs::{Mode, Need, Part, Virtual};
+use arch_defs::{FirstBuffer, Mode, Need, Part, Virtual};
 use console_dev::Console;
 use frame_split::{PlanFault, Split, plan};
 use guest_exit::{Guest, Pool};
@@ -129,10 +129,12 @@ fn guest_at_start(alloc: Global, spec: GuestSpec, part: Part) -> Result<Guest, N
 {
     let console = Console::new(alloc, spec.console, spec.inputs.into_vec())?;
     let pool = Pool::new(alloc, &part, spec.spaces, spec.entries)?;
+    let first = FirstBuffer::new(alloc)?;
     let mut guest = Guest {
         part,
         virt: Virtual::starting_at(Mode::HS, RAM_BASE),
         pool,
+        first,
         clock: Clock::new(),
         console,
         steps: 0,
@@ -162,16 +164,31 @@ fn guest_resumed(
     let console = console_resumed(alloc, saved, header.console)?;
     let mut pool = Pool::new(alloc, &part, header.spaces, header.entries)?;
     remake(&mut pool, memory, saved);
+    let first = first_resumed(alloc, saved)?;
     Ok(Guest {
         part,
         virt: header.state,
         pool,
+        first,
         clock: Clock::at(header.time, header.timer),
         console,
         steps: header.steps,
         status: header.status,
         device: header.device,
     })
+}
+
+// The first-stage translations of a saved machine, filled in order.
+fn first_resumed(alloc: Global, saved: &Saved) -> Result<FirstBuffer, NoMemory>
+    ensures { IfOk result (λ first. first ≡ saved.now.machine.first) }
+{
+    saved.can_be_saved();
+    let mut first = FirstBuffer::new(alloc)?;
+    let entries = saved.first();
+    for i in 0..entries.len() {
+        first.fill(entries[i]);
+    }
+    Ok(first)
 }
 
 // The console of a saved machine, with room for so many bytes.

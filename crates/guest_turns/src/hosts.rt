@@ -1,12 +1,14 @@
 // The host of the guests.
 
-ghost use Rattle.std.specs.Prelude.{◌≡◌, ◌≢◌, ℕ, ◌+◌, ◌^◌, ◌<◌, ◌≤◌, ◌↔◌, true, false, is_ok, length, map, All, IfErr, IfOk, IsErr, OnErr};
+ghost use Rattle.std.specs.Prelude.{◌≡◌, ◌≢◌, ℕ, ◌+◌, ◌^◌, ◌<◌, ◌≤◌, ◌↔◌, true, false, is_ok, length, map, All, IfErr, IfOk, IfSome, IsErr, OnErr};
 ghost use Rattle.arch_defs.specs.Frames.{Only, most_frames, within};
 ghost use Rattle.arch_defs.specs.Layouts.{named_by};
+ghost use Rattle.arch_defs.specs.Memory.{ram_memory};
 ghost use Rattle.frame_split.specs.Shares.{IsSplit, blocks_of_all, frames_with};
 ghost use Rattle.guest_save.specs.Forms.{form};
 ghost use Rattle.guest_save.specs.Savable.{IsSavable};
 ghost use Rattle.guest_specs.specs.declared.statuses.Status.TheVariants.{Running};
+ghost use Rattle.machine_defs.specs.Lookups.{looked_up};
 ghost use Rattle.machine_defs.specs.Machine.{start};
 ghost use Rattle.machine_defs.specs.Runs.{run};
 ghost use Rattle.outside.specs.Faults.{Rose};
@@ -18,7 +20,9 @@ ghost use Rattle.guest_turns.specs.Moves.{HasMoved, HasRetired};
 ghost use Rattle.guest_turns.specs.Saving.{MayBeSaved};
 ghost use Rattle.guest_turns.specs.Sources.{AreBootableSources, machines_of_sources, needs_of_sources};
 ghost use Rattle.guest_turns.specs.TurnLists.{updated};
+ghost use Rattle.two_stage_walk.specs.Places.{IsPlaceOf};
 
+use crate::addresses::place_in;
 use crate::booting::{guests_from, lay_out, share};
 use crate::free_blocks::FreeBlocks;
 use crate::memory_views::MemoryView;
@@ -26,6 +30,7 @@ use crate::relocation::{MoveFault, Moves, shift};
 use crate::retirement::vacate;
 use crate::sources::{Source, fresh_sources};
 use crate::turning::turn_of;
+use arch_defs::{Access, Virtual};
 use guest_exit::Guest;
 use guest_save::put;
 use machine_defs::{GuestSpec, Status};
@@ -119,7 +124,7 @@ impl Host {
         lay_out(&mut memory, sources.as_slice(), split.parts.as_slice());
         let guests = guests_from(alloc, sources, split.parts.as_slice(), &mut memory)?;
         Ok(Host {
-            hart: Hart::new(),
+            hart: Hart::new(alloc)?,
             memory,
             guests,
             free: FreeBlocks::from(split.blocks, spare),
@@ -211,6 +216,30 @@ impl Host {
         put(&view, out)
     }
 
+    /// The machine of a guest that has not retired, lent to be read.
+    pub fn view(&self, g: u32) -> MemoryView<'_>
+        requires guest { g < length self.now.machines }
+        requires active { is_set self.now.retired g ≡ false }
+        ensures { result ≡ machine_at self.now.machines g }
+    {
+        MemoryView::of(&self.guests[g as usize], &self.memory)
+    }
+
+    /// The physical address in RAM of an access to a virtual address by the walk of the present mode of a
+    /// guest that has not retired, both stages as its registers and its RAM are, if there is one. Nothing
+    /// changes.
+    pub fn place(&mut self, g: u32, va: u64, access: Access) -> Option<u64>
+        requires guest { g < length self.old.machines }
+        requires active { is_set self.old.retired g ≡ false }
+        ensures place { result ≡ looked_up (machine_at self.old.machines g) va access }
+        ensures inside { IfSome result (λ place.
+            IsPlaceOf (ram_memory (machine_at self.old.machines g).ram) va place) }
+        ensures stays { self.new ≡ self.old }
+    {
+        let guest = &self.guests[g as usize];
+        place_in(&mut self.memory, guest, va, access)
+    }
+
     /// The machine of a guest that has not retired can be saved, where it has what a host does not keep of
     /// it.
     pub fn can_be_saved(&self, g: u32)
@@ -286,6 +315,14 @@ impl Host {
         ensures { result ≡ (machine_at self.now.machines g).platform.steps }
     {
         self.guests[g as usize].steps
+    }
+
+    /// The registers, the mode and the reservation of a guest's machine.
+    pub fn state(&self, g: u32) -> &Virtual
+        requires { g < length self.now.machines }
+        ensures { result.now ≡ (machine_at self.now.machines g).platform.virt }
+    {
+        &self.guests[g as usize].virt
     }
 
     /// The bytes on a guest's console.

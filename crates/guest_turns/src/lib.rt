@@ -1,6 +1,7 @@
 // The guests on the hart: turns of steps, which are the steps of their lone machines.
 #![tactic(auto)]
 
+mod addresses;
 mod booting;
 mod free_blocks;
 mod hosts;
@@ -14,5 +15,6 @@ mod turning;
 
 pub use hosts::Host;
 pub use laws::{clear_steps_are_calm, turns_are_apart, turns_count_alike};
+pub use memory_views::MemoryView;
 pub use relocation::{MoveFault, Moves};
 pub use sources::{Source, fresh_sources};

@@ -1,6 +1,6 @@
 // A guest in machine memory, as a machine that can be written.
 
-ghost use Rattle.std.specs.Prelude.{◌≡◌, ◌*◌, length};
+ghost use Rattle.std.specs.Prelude.{◌≡◌, ◌*◌, ◌<◌, length, slice_index};
 ghost use Rattle.arch_defs.specs.Memory.{block_size};
 ghost use Rattle.guest_exit.specs.View.{machine_of};
 ghost use Rattle.guest_save.specs.Headers.{blocks_of};
@@ -8,10 +8,10 @@ ghost use Rattle.guest_save.specs.Savable.{IsSavable};
 ghost use Rattle.guest_turns.specs.Hosting.{IsHosted};
 ghost use Rattle.guest_turns.specs.Saving.{MayBeSaved};
 
-use arch_defs::{Entry, GuestRoot};
+use arch_defs::{Entry, FirstEntry, GuestRoot};
 use guest_exit::Guest;
 use guest_save::{Header, Snapshot, numbers_fit};
-use phys_mem::PhysMem;
+use phys_mem::{BLOCK_SIZE, PhysMem};
 use std::marker::Model;
 
 /// A guest with the memory that it is in, which contracts see as its lone machine.
@@ -50,6 +50,15 @@ impl<'a> MemoryView<'a> {
         let console = &self.guest.console;
         let _put = console.bytes();
         let _unread = console.unread();
+    }
+
+    /// The byte at an offset into its RAM.
+    pub fn byte(&self, offset: u64) -> u8
+        requires { offset < length self.now.ram }
+        ensures { result ≡ slice_index self.now.ram offset }
+    {
+        self.has_whole_blocks();
+        self.block(offset / BLOCK_SIZE)[(offset % BLOCK_SIZE) as usize]
     }
 
     /// Its RAM is of whole blocks.
@@ -102,6 +111,10 @@ impl Snapshot for MemoryView<'_> {
 
     fn entry(&self, space: u64, place: u64) -> Entry {
         self.guest.pool.entry(space, place)
+    }
+
+    fn first(&self) -> &[FirstEntry] {
+        self.guest.first.as_slice()
     }
 
     fn block(&self, number: u64) -> &[u8] {

@@ -2,16 +2,16 @@
 use Rattle.std.proofs.Common.{ℕ, ◌<◌, ◌≤◌, false, List, [], ◌∷◌, length, get_or, arith}
 use Rattle.std.specs.List.{All}
 use Rattle.std.proofs.lemmas.List.{get_or-map, length-map}
-use Rattle.guest_save.specs.Laws.{SavableGoesOn, SavedUseFresh}
+use Rattle.guest_save.specs.Laws.{SavableGoesOn, SavedFirstFresh, SavedUseFresh}
 use Rattle.guest_turns.specs.declared.sources.Source.{Source}
 use Rattle.guest_turns.specs.declared.sources.Source.TheVariants.{Fresh, Kept}
 use Rattle.guest_turns.specs.Sources.{IsBootableSource, machine_of_source, machines_of_sources, need_of_source}
 use Rattle.guest_turns.proofs.Savables.{savable}
 use Rattle.machine_defs.specs.Runs.{run}
-use Rattle.machine_laws.specs.Caching.{GuestsUseFresh, RunsAreArchitectural}
+use Rattle.machine_laws.specs.Caching.{GuestsFirstFresh, GuestsUseFresh, RunsAreArchitectural}
 use Rattle.machine_laws.specs.Keeping.{RunKeepsOrderly}
 use Rattle.machine_laws.specs.Laws.{FillsSuffice}
-use Rattle.nesthv_top.specs.Plans.{AllRunAsWritten, UsesFreshFrom}
+use Rattle.nesthv_top.specs.Plans.{AllRunAsWritten, FirstFreshFrom, UsesFreshFrom}
 use Rattle.nesthv_top.specs.Seen.{plan_with}
 
 -- their rooms are small
@@ -28,12 +28,18 @@ pub record Laws : Type 0 where
   pub orderly : RunKeepsOrderly
   pub architectural : RunsAreArchitectural
   pub uses : GuestsUseFresh
+  pub first : GuestsFirstFresh
   pub goes_on : SavableGoesOn
   pub since : SavedUseFresh
+  pub first_since : SavedFirstFresh
 
 uses_fresh : Laws → (source : Source) (n : ℕ) → IsBootableSource source → UsesFreshFrom source n
 uses_fresh laws (Fresh spec) n is = laws.uses spec n (omega (arith, is.some_entries)) is.some_space
 uses_fresh laws (Kept name saved) n is = laws.since saved.machine n
+
+first_fresh : Laws → (source : Source) (n : ℕ) → FirstFreshFrom source n
+first_fresh laws (Fresh spec) n = laws.first spec n
+first_fresh laws (Kept name saved) n = laws.first_since saved.machine n
 
 -- their machines run as the architecture is written, and no step of theirs is put off for good
 pub run_as_written : (sources : List Source) (turns : List (ℕ × ℕ)) (spare : ℕ) → Laws → All IsBootableSource sources → AllRunAsWritten (plan_with sources turns spare)
@@ -45,6 +51,7 @@ run_as_written sources turns spare laws bootable i n d inside few =
       fills = laws.suffice (run (machine_of_source source) n) (laws.orderly (machine_of_source source) n orderly).entries;
       architectural = laws.architectural (machine_of_source source) n orderly;
       fresh = uses_fresh laws source n is;
+      first = first_fresh laws source n;
     }
 
 -- each needs a block

@@ -75,7 +75,7 @@ guest_of name guest image records = record {
 
 -- at most how many bytes of a saved machine are asked for: one more than the longest form of one has
 abbrev pub saved_most : ℕ
-saved_most = 68797161
+saved_most = 68798705
 
 -- what is read of the file that a resumed guest names, and the machine that it gives
 abbrev pub saved_of : Files → List ℕ → List ℕ

@@ -2,7 +2,7 @@
 use Rattle.std.specs.Prelude.{ℕ, ◌≡◌, ◌+◌, ◌<◌, ◌≤◌, ◌^◌, List, [], ◌∷◌, ◌++◌, Option, Some, None, Result, Ok, Err, get_or, length, map, sum_by}
 use Rattle.command_line.specs.Commands.{Command, FileCommand, OnFiles, Run, Replay, Check, Save, Work}
 use Rattle.frame_split.specs.Shares.{frames_with}
-use Rattle.guest_save.specs.Laws.{UsesFreshSince}
+use Rattle.guest_save.specs.Laws.{FirstFreshSince, UsesFreshSince}
 use Rattle.guest_save.specs.Savable.{IsSavable}
 use Rattle.guest_turns.specs.Hosted.{machine_at}
 use Rattle.guest_turns.specs.declared.sources.Source.{Source}
@@ -12,7 +12,7 @@ use Rattle.guest_turns.specs.TurnLists.{entries_for, own_events, own_steps}
 use Rattle.machine_defs.specs.declared.events.Event.{Event}
 use Rattle.machine_defs.specs.Fills.{missing_entry, ready}
 use Rattle.machine_defs.specs.FreeMachines.{IsArchitectural}
-use Rattle.machine_defs.specs.Freshness.{UsesFresh}
+use Rattle.machine_defs.specs.Freshness.{FirstFresh, UsesFresh}
 use Rattle.machine_defs.specs.Machine.{Machine, start}
 use Rattle.machine_defs.specs.Report.{section_of}
 use Rattle.machine_defs.specs.Runs.{run}
@@ -126,20 +126,26 @@ abbrev pub entries_of : Option Plan → ℕ
 entries_of (Some plan) = plan_entries plan
 entries_of None = 0
 
--- each cached translation that the next step may use is fresh, of a guest that goes on from a saved machine
--- where this is a state of a run that began without any
+-- each cached translation of the second stage that the next step may use is fresh, of a guest that goes on
+-- from a saved machine where this is a state of a run that began without any
 abbrev pub UsesFreshFrom : Source → ℕ → Type 0
 UsesFreshFrom (Fresh spec) n = UsesFresh (start spec) n
 UsesFreshFrom (Kept name saved) n = UsesFreshSince saved.machine n
 
+-- and so is each of the first stage
+abbrev pub FirstFreshFrom : Source → ℕ → Type 0
+FirstFreshFrom (Fresh spec) n = FirstFresh (start spec) n
+FirstFreshFrom (Kept name saved) n = FirstFreshSince saved.machine n
+
 -- after n steps of its run a guest's machine lacks no cached translation for its next step, once this has
 -- made its fills, however small and however stale its spaces are: no step is put off for good. The run so far
--- is one of the written architecture. And what the next step may use is fresh: it is stale at most until the
--- fence that names it
+-- is one of the written architecture. And what the next step may use is fresh, of both stages: it is stale at
+-- most until the fence that names it
 pub record RunsAsWritten (source : Source) (n : ℕ) : Type 0 where
   pub fills : missing_entry (ready (run (machine_of_source source) n)) ≡ None
   pub architectural : IsArchitectural (machine_of_source source) n
   pub fresh : UsesFreshFrom source n
+  pub first : FirstFreshFrom source n
 
 -- so does each guest of a plan, after each number of steps up to those of its section
 abbrev pub AllRunAsWritten : Plan → Type 0

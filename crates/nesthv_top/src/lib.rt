@@ -13,5 +13,9 @@ mod running;
 mod top;
 mod works;
 
+pub use ends::{Ended, Job, LoadEnd, Loaded};
+pub use lines::tell;
+pub use loading::load;
 pub use programs::program;
-pub use top::nesthv;
+pub use reads::Reads;
+pub use top::{nesthv, status_of};

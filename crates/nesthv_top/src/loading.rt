@@ -45,7 +45,7 @@ const CONFIG_MOST: u64 = 65_537;
 const RECORDS_MOST: u64 = 589_825;
 
 // At most how many bytes of a saved machine are asked for: one more than the longest form of one has.
-const SAVED_MOST: u64 = 68_797_161;
+const SAVED_MOST: u64 = 68_798_705;
 
 // At most how many bytes of a stored report are asked for, which are those that it is compared by.
 const REPORT_MOST: u64 = 33_554_432;

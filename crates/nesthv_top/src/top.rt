@@ -34,8 +34,8 @@ pub fn nesthv<S: Store, O: Sink, E: Sink>(
     requires moves { moves.old ≤ 2 ^ 61 }
 
     // The headline: on status 0 and 6 the text of the command has been written: of a run, the report of the
-    // guests' lone machines. Their runs are of the written architecture, their second-stage translations
-    // stale only until the matching fence.
+    // guests' lone machines. Their runs are of the written architecture, their cached translations of both
+    // stages stale only until the matching fence.
     ensures text { IsDone result → HasPlan (S.files store.old) (command_of words.now)
         (λ files command plan. Appends O.stands_for out.old out.new (text_of files command plan)) }
     ensures machines { IsDone result → HasPlan (S.files store.old) (command_of words.now)

@@ -1,12 +1,10 @@
 use Rattle.std.proofs.Common.{◌∙◌}
-use Rattle.guest_exit.specs.HartSteps.{root_for}
 use Rattle.guest_exit.specs.View.{machine_of}
 use Rattle.guest_exit.proofs.Followed.{wanted_is}
 use Rattle.guest_exit.proofs.device_accesses.wanted.Goals as goal
 
 pub returns : goal.returns
-unfolding root_for
 returns c =
     let guest = c.args.guest.now in
-    (rw (c.load.ensures.has, c.root_frame_of.ensures) at c.wanted_at.ensures)
+    (rw (c.hart_state_for-hart.ensures, c.tag_of-tag.ensures) at c.wanted_at.ensures)
     ∙ wanted_is guest.part guest.pool (machine_of guest c.args.memory.now) c.args.memory.now c.requires.can.placed

@@ -1,3 +1,4 @@
+use Rattle.guest_exit.specs.ExitCases.{found_next}
 use Rattle.guest_exit.specs.View.{machine_of}
 use Rattle.guest_exit.proofs.Alone.{part_kept, retries_exactly}
 use Rattle.guest_exit.proofs.Entries.{left}
@@ -11,7 +12,7 @@ pub returns-clause-does : goal.returns-clause-does
 returns-clause-does c =
     let m = machine_of c.args.guest.now c.args.memory.now in
     let is = left c.args.guest.now.part c.args.guest.now.pool m c.args.memory.now c.args.trap.now c.requires.exited.can.placed c.requires.exited.hands in
-    handled_by m (machine_of c.make.new.guest c.make.new.memory) _ c.make.result is (rw c.exit_of-left.ensures at c.make.ensures.makes)
+    handled_by m (machine_of c.make.new.guest c.make.new.memory) _ (found_next m) c.make.result is (rw (c.exit_of-left.ensures, c.found_by-found.ensures) at c.make.ensures.makes)
 
 pub returns-clause-retry : goal.returns-clause-retry
 returns-clause-retry c =
@@ -21,14 +22,14 @@ pub returns-clause-waits : goal.returns-clause-waits
 returns-clause-waits c =
     let m = machine_of c.args.guest.now c.args.memory.now in
     let is = left c.args.guest.now.part c.args.guest.now.pool m c.args.memory.now c.args.trap.now c.requires.exited.can.placed c.requires.exited.hands in
-    handled_waits m (machine_of c.make.new.guest c.make.new.memory) _ c.make.result c.requires.exited.can.step.running is
-    (rw c.exit_of-left.ensures at c.make.ensures.makes) c.make.ensures.told.status
+    handled_waits m (machine_of c.make.new.guest c.make.new.memory) _ (found_next m) c.make.result c.requires.exited.can.step.running is
+    (rw (c.exit_of-left.ensures, c.found_by-found.ensures) at c.make.ensures.makes) c.make.ensures.told.status
 
 pub returns-clause-quiet : goal.returns-clause-quiet
 returns-clause-quiet c =
     let m = machine_of c.args.guest.now c.args.memory.now in
     let is = left c.args.guest.now.part c.args.guest.now.pool m c.args.memory.now c.args.trap.now c.requires.exited.can.placed c.requires.exited.hands in
-    rw is.step (rw c.exit_of-left.ensures at c.make.ensures.quiet)
+    rw is.step (rw (c.exit_of-left.ensures, c.found_by-found.ensures) at c.make.ensures.quiet)
 
 pub returns-clause-keeps : goal.returns-clause-keeps
 returns-clause-keeps c =

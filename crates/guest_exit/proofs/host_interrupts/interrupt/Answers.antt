@@ -12,7 +12,7 @@ returns-then-is_hosts-clause-takes c = λ yes.
     record {
       step = λ memory. record {
         ready = (is memory).0;
-        step = rw (is memory).1 (machine_is c.args.guest.now c.tick.new.self _ memory (record { part = c.tick.ensures.keeps.part; device = c.tick.ensures.keeps.device; pool = c.tick.ensures.keeps.pool })
+        step = rw (is memory).1 (machine_is c.args.guest.now c.tick.new.self _ memory (record { part = c.tick.ensures.keeps.part; device = c.tick.ensures.keeps.device; pool = c.tick.ensures.keeps.pool; first = c.tick.ensures.keeps.first })
             (rw (c.take.ensures, c.of_interrupt.ensures) at c.tick.ensures.platform));
       };
       quiet = λ memory. record { trace = rw (is memory).1 refl; plain = rw (is memory).1 refl };

@@ -3,7 +3,7 @@ use Rattle.machine_defs.specs.Machine.{trapped}
 use Rattle.machine_defs.specs.Runs.{left_by}
 use Rattle.machine_defs.specs.Tries.{device_of, unplaced}
 use Rattle.guest_exit.specs.declared.hart_exit.Handled.TheVariants as handled
-use Rattle.guest_exit.specs.ExitCases.{data_wanted}
+use Rattle.guest_exit.specs.ExitCases.{data_wanted, having_found}
 use Rattle.guest_exit.specs.View.{machine_of}
 use Rattle.guest_exit.proofs.Missed.{can_fill, fill_made, none_on_device, unplaced_is_quiet}
 use Rattle.guest_exit.proofs.miss.miss.Goals as goal
@@ -19,7 +19,7 @@ returns-in-Ok-clause-makes c = record {
   fill = λ retry.
       fill_made c.args.guest.now (record c.args.guest.now { pool = c.fill.new.self }) c.args.memory.now c.fill.new.mem c.args.access.now c.in-Ok.entry
       c.requires.can.placed c.in-Ok.ensures.entry
-      refl refl (rw c.entry_for.ensures.stays at c.fill.ensures.keeps) refl c.fill.ensures.spaces;
+      refl refl refl (rw c.entry_for.ensures.stays at c.fill.ensures.keeps) refl c.fill.ensures.spaces;
 }
 
 -- on the device page nothing is lacking
@@ -30,7 +30,7 @@ returns-then-has_on_device-clause-makes c =
     let on : device_of m missing.address missing.kind ≡ true = sym (c.has_on_device.ensures c.args.memory.now) ∙ c.if-has_on_device.true in
     record {
       ready = λ went. none_on_device m missing on;
-      step = λ went. c.access_device.ensures.step c.args.memory.now ∙ ap (λ b. left_by m (unplaced m missing (data_wanted m) b)) (sym on);
+      step = λ went. c.access_device.ensures.step c.args.memory.now ∙ ap (λ b. left_by m (unplaced (having_found c.args.found.now m) missing (data_wanted m) b)) (sym on);
       fill = λ retry. let never : handled.Stepped ≡ handled.Retry = sym c.access_device.ensures.went ∙ retry in absurd (cc);
     }
 
@@ -41,20 +41,20 @@ returns-in-Err-clause-makes c =
     let off : device_of m missing.address missing.kind ≡ false = sym (c.has_on_device.ensures c.args.memory.now) ∙ c.if-has_on_device.false in
     rw c.entry_for.ensures.stays (record {
       ready = λ went. c.in-Err.ensures.none;
-      step = λ went. c.raise.ensures.step c.args.memory.now ∙ ap (λ trap. left_by m (trapped m trap)) c.in-Err.ensures.fault
-          ∙ ap (λ b. left_by m (unplaced m missing (data_wanted m) b)) (sym off);
+      step = λ went. (rw c.fill-in-Err.ensures at c.raise.ensures.step c.args.memory.now) ∙ ap (λ trap. left_by m (trapped (having_found c.args.found.now m) trap)) c.in-Err.ensures.fault
+          ∙ ap (λ b. left_by m (unplaced (having_found c.args.found.now m) missing (data_wanted m) b)) (sym off);
       fill = λ retry. let never : handled.Stepped ≡ handled.Retry = sym c.raise.ensures.went ∙ retry in absurd (cc);
     })
 
 -- whatever the answer is
 pub returns-then-has_on_device-clause-quiet : goal.returns-then-has_on_device-clause-quiet
 returns-then-has_on_device-clause-quiet c =
-    let m = machine_of c.args.guest.now c.args.memory.now in unplaced_is_quiet m c.args.access.now (data_wanted m) (device_of m c.args.access.now.address c.args.access.now.kind)
+    let m = machine_of c.args.guest.now c.args.memory.now in unplaced_is_quiet (having_found c.args.found.now m) c.args.access.now (data_wanted m) (device_of m c.args.access.now.address c.args.access.now.kind)
 
 pub returns-in-Ok-clause-quiet : goal.returns-in-Ok-clause-quiet
 returns-in-Ok-clause-quiet c =
-    let m = machine_of c.args.guest.now c.args.memory.now in unplaced_is_quiet m c.args.access.now (data_wanted m) (device_of m c.args.access.now.address c.args.access.now.kind)
+    let m = machine_of c.args.guest.now c.args.memory.now in unplaced_is_quiet (having_found c.args.found.now m) c.args.access.now (data_wanted m) (device_of m c.args.access.now.address c.args.access.now.kind)
 
 pub returns-in-Err-clause-quiet : goal.returns-in-Err-clause-quiet
 returns-in-Err-clause-quiet c =
-    let m = machine_of c.args.guest.now c.args.memory.now in unplaced_is_quiet m c.args.access.now (data_wanted m) (device_of m c.args.access.now.address c.args.access.now.kind)
+    let m = machine_of c.args.guest.now c.args.memory.now in unplaced_is_quiet (having_found c.args.found.now m) c.args.access.now (data_wanted m) (device_of m c.args.access.now.address c.args.access.now.kind)

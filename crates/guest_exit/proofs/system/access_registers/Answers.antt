@@ -13,4 +13,4 @@ finish-requires-clause-storable c =
 pub returns-in-Done-clause-step : goal.returns-in-Done-clause-step
 returns-in-Done-clause-step c =
     let m = machine_of c.args.guest.now c.args.memory.now in
-    rw (c.in-Done.ensures.ends (mmu_of m)) (c.finish.ensures.step c.args.guest.now.virt (sym c.is_virtual-nested.ensures))
+    rw (c.in-Done.ensures.ends (mmu_of m)) (rw c.fill.ensures at (c.finish.ensures.step c.args.guest.now.virt (sym c.is_virtual-nested.ensures)))

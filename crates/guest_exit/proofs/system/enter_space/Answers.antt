@@ -10,5 +10,5 @@ returns-clause-step c = λ before own.
     let guest = c.args.guest.now in
     let pool = c.tick.ensures.keeps.pool in
     made_enters (with_state guest before) c.tick.new.self c.args.memory.now c.enter.new.mem guest.virt (rw (own, c.requires.folds) refl) (holds_with guest before c.args.memory.now c.requires.holds)
-    c.tick.ensures.keeps.part c.tick.ensures.keeps.device (rw pool c.enter.ensures.keeps) c.tick.ensures.platform
+    c.tick.ensures.keeps.part c.tick.ensures.keeps.device c.tick.ensures.keeps.first (rw pool c.enter.ensures.keeps) c.tick.ensures.platform
     (rw pool (c.enter.ensures.spaces ∙ ap (λ key. entered (room_of guest.pool) key (spaces_of guest.pool)) (c.of.ensures ∙ ap (λ csrs. csrs.hgatp) c.requires.storable.csrs)))

@@ -14,4 +14,4 @@ returns-then-enters-clause-step c = λ before own.
 pub returns-clause-step : goal.returns-clause-step
 returns-clause-step c =
     finish_stays c.args.guest.now c.tick.new.self c.args.memory.now c.args.nested (sym c.enters.ensures ∙ c.if-enters.false)
-    (record { part = c.tick.ensures.keeps.part; device = c.tick.ensures.keeps.device; pool = c.tick.ensures.keeps.pool }) c.tick.ensures.platform
+    c.tick.ensures.keeps c.tick.ensures.platform

@@ -3,6 +3,7 @@ use Rattle.machine_defs.specs.Machine.{Platform}
 use Rattle.arch_defs.specs.Registers.{passed}
 use Rattle.machine_defs.specs.Tries.{mmu_of}
 use Rattle.rv64_asm.specs.Words.{encoded}
+use Rattle.guest_exit.specs.ExitCases.{having_found}
 use Rattle.guest_exit.specs.View.{machine_of}
 use Rattle.guest_exit.proofs.Alone.{wait_made, waited_is_quiet}
 use Rattle.guest_exit.proofs.Decided.{accesses_never, done_storable, wait_is_op, wait_passes}
@@ -23,7 +24,7 @@ unreachable-requires c =
 pub returns-in-Waits-clause-quiet : goal.returns-in-Waits-clause-quiet
 returns-in-Waits-clause-quiet c =
     let m = machine_of c.args.guest.now c.args.memory.now in
-    rw (c.in-Waits.ensures.ends (mmu_of m)) (waited_is_quiet m c.emulate.new.state)
+    rw (c.in-Waits.ensures.ends (mmu_of m)) (waited_is_quiet (having_found c.args.found.now m) c.emulate.new.state)
 
 pub wait-requires-clause-current : goal.wait-requires-clause-current
 wait-requires-clause-current c =
@@ -36,7 +37,7 @@ pub returns-in-Waits-clause-step : goal.returns-in-Waits-clause-step
 returns-in-Waits-clause-step c =
     let m = machine_of c.args.guest.now c.args.memory.now in
     let ends = c.in-Waits.ensures.ends (mmu_of m) in
-    wait_made c.args.guest.now c.wait.new.guest c.emulate.new.state c.args.memory.now _
+    wait_made c.args.guest.now c.wait.new.guest c.emulate.new.state c.args.found.now c.args.memory.now _
     (wait_passes c.args.op m.platform.virt c.emulate.new.state (encoded c.args.op) (mmu_of m) c.requires.kind ends) ends c.wait.ensures.step
 
 pub finish-requires-clause-storable : goal.finish-requires-clause-storable
@@ -47,9 +48,14 @@ finish-requires-clause-storable c =
 pub returns-in-Done-clause-step : goal.returns-in-Done-clause-step
 returns-in-Done-clause-step c =
     let m = machine_of c.args.guest.now c.args.memory.now in
-    rw (c.in-Done.ensures.ends (mmu_of m)) (c.finish.ensures.step c.args.guest.now.virt (sym c.is_virtual-nested.ensures))
+    rw (c.in-Done.ensures.ends (mmu_of m)) (rw c.fill.ensures at (c.finish.ensures.step c.args.guest.now.virt (sym c.is_virtual-nested.ensures)))
 
 pub returns-in-Fenced-clause-step : goal.returns-in-Fenced-clause-step
 returns-in-Fenced-clause-step c =
     let m = machine_of c.args.guest.now c.args.memory.now in
-    rw (c.in-Fenced.ensures.ends (mmu_of m)) (c.fence.ensures.step c.args.guest.now.virt)
+    rw (c.in-Fenced.ensures.ends (mmu_of m)) (rw c.fill-in-Fenced.ensures at (c.fence.ensures.step c.args.guest.now.virt))
+
+pub returns-in-FirstFenced-clause-step : goal.returns-in-FirstFenced-clause-step
+returns-in-FirstFenced-clause-step c =
+    let m = machine_of c.args.guest.now c.args.memory.now in
+    rw (c.in-FirstFenced.ensures.ends (mmu_of m)) (rw (c.fill-in-FirstFenced.ensures, c.unwrap_or.ensures, c.tag_of-own.ensures) at (c.first_fence.ensures.step c.args.memory.now))

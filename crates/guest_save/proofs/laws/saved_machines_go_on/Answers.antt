@@ -1,4 +1,4 @@
-use Rattle.guest_save.proofs.GoingOn.{resumed_goes_on, savable_goes_on, savable_is_filled, saved_use_fresh, start_is_savable}
+use Rattle.guest_save.proofs.GoingOn.{resumed_goes_on, savable_goes_on, savable_is_filled, saved_first_fresh, saved_use_fresh, start_is_savable}
 use Rattle.guest_save.proofs.laws.saved_machines_go_on.Goals as goal
 
 pub returns-clause-goes_on : goal.returns-clause-goes_on
@@ -15,3 +15,6 @@ returns-clause-resumed c = resumed_goes_on
 
 pub returns-clause-fresh : goal.returns-clause-fresh
 returns-clause-fresh c = saved_use_fresh
+
+pub returns-clause-first : goal.returns-clause-first
+returns-clause-first c = saved_first_fresh

@@ -17,8 +17,10 @@ returns-in_err-host-clause-written c =
       orderly = c.machines_stay_orderly.ensures.stays;
       architectural = c.runs_are_architectural.ensures.machines;
       uses = c.runs_are_fresh.ensures.guests_uses;
+      first = c.runs_are_fresh.ensures.guests_first;
       goes_on = c.saved_machines_go_on.ensures.goes_on;
       since = c.saved_machines_go_on.ensures.fresh;
+      first_since = c.saved_machines_go_on.ensures.first;
     }) c.requires.sources.each
 
 pub run_moving-requires-clause-movable : goal.run_moving-requires-clause-movable
@@ -62,8 +64,10 @@ returns-clause-written c =
       orderly = c.machines_stay_orderly.ensures.stays;
       architectural = c.runs_are_architectural.ensures.machines;
       uses = c.runs_are_fresh.ensures.guests_uses;
+      first = c.runs_are_fresh.ensures.guests_first;
       goes_on = c.saved_machines_go_on.ensures.goes_on;
       since = c.saved_machines_go_on.ensures.fresh;
+      first_since = c.saved_machines_go_on.ensures.first;
     }) c.requires.sources.each
 
 pub returns-clause-kept : goal.returns-clause-kept

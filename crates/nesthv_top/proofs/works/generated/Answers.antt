@@ -24,8 +24,10 @@ returns-in_err-guests-clause-written c =
       orderly = c.machines_stay_orderly.ensures.stays;
       architectural = c.runs_are_architectural.ensures.machines;
       uses = c.runs_are_fresh.ensures.guests_uses;
+      first = c.runs_are_fresh.ensures.guests_first;
       goes_on = c.saved_machines_go_on.ensures.goes_on;
       since = c.saved_machines_go_on.ensures.fresh;
+      first_since = c.saved_machines_go_on.ensures.first;
     }) (sources_bootable c.args.seed c.args.size c.requires.most)
 
 pub returns-in_err-turns-clause-written : goal.returns-in_err-turns-clause-written
@@ -35,8 +37,10 @@ returns-in_err-turns-clause-written c =
       orderly = c.machines_stay_orderly.ensures.stays;
       architectural = c.runs_are_architectural.ensures.machines;
       uses = c.runs_are_fresh.ensures.guests_uses;
+      first = c.runs_are_fresh.ensures.guests_first;
       goes_on = c.saved_machines_go_on.ensures.goes_on;
       since = c.saved_machines_go_on.ensures.fresh;
+      first_since = c.saved_machines_go_on.ensures.first;
     }) (sources_bootable c.args.seed c.args.size c.requires.most)
 
 pub returns-in_err-sources-clause-written : goal.returns-in_err-sources-clause-written
@@ -46,8 +50,10 @@ returns-in_err-sources-clause-written c =
       orderly = c.machines_stay_orderly.ensures.stays;
       architectural = c.runs_are_architectural.ensures.machines;
       uses = c.runs_are_fresh.ensures.guests_uses;
+      first = c.runs_are_fresh.ensures.guests_first;
       goes_on = c.saved_machines_go_on.ensures.goes_on;
       since = c.saved_machines_go_on.ensures.fresh;
+      first_since = c.saved_machines_go_on.ensures.first;
     }) (sources_bootable c.args.seed c.args.size c.requires.most)
 
 pub hosted-requires-clause-sources : goal.hosted-requires-clause-sources

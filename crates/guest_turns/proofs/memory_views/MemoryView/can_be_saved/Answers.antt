@@ -1,7 +1,7 @@
 use Rattle.std.proofs.Common.{◌≡◌, ℕ, ◌≤◌, List, length, ap, subst, sym, ◌∙◌}
 use Rattle.std.specs.List.{All}
 use Rattle.guest_save.specs.declared.headers.Header.{Header}
-use Rattle.guest_save.specs.declared.versions.Version.TheVariants.{Second}
+use Rattle.guest_save.specs.declared.versions.Version.TheVariants.{Third}
 use Rattle.guest_save.specs.Headers.{header_numbers, header_of}
 use Rattle.guest_save.specs.Savable.{Fits, IsSavable}
 use Rattle.guest_specs.specs.Inputs.{AreInputs}
@@ -18,5 +18,5 @@ returns c = λ may.
     (savable_hosted guest memory c.self.invariant (subst MayBeSaved (sym c.self.view_is) may)
     (subst AreInputs c.unread-unread.ensures.inputs c.unread-unread.ensures.given)
     (subst (λ (bytes : List ℕ). length bytes ≤ guest.console.room) c.bytes-put.ensures.bytes c.bytes-put.ensures.within)
-    (subst (λ (h : Header). All Fits (header_numbers Second h)) header c.numbers_fit.ensures.numbers)
+    (subst (λ (h : Header). All Fits (header_numbers Third h)) header c.numbers_fit.ensures.numbers)
     (subst (λ (h : Header). length h.state.regs.x ≡ 32) header c.numbers_fit.ensures.registers))

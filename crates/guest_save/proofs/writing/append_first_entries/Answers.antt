@@ -1,0 +1,24 @@
+use Rattle.std.specs.Prelude.{Err}
+use Rattle.std.proofs.Common.{◌≡◌, [], sym, rules}
+use Rattle.std.proofs.lemmas.List.{append-nil}
+use Rattle.guest_save.proofs.Buffering.{kept, list_done, list_more, list_stopped}
+use Rattle.guest_save.specs.Forms.{first_entry_form}
+use Rattle.guest_save.proofs.writing.append_first_entries.Goals as goal
+
+pub loop-i-init : goal.loop-i-init
+loop-i-init g c = kept g.O.Sink tt c.args.out.now c.args.held.now.items c.args.held.now.items [] (sym (append-nil c.args.held.now.items))
+
+pub loop-i-preserved : goal.loop-i-preserved
+loop-i-preserved g c =
+    list_more g.O.Sink first_entry_form c.args.entries.now tt tt c.args.out.now c.loop-i.out c.append_first_entry.new.out c.args.held.now.items c.loop-i.held.items c.append_first_entry.new.held.items
+    c.loop-i.i _ c.loop-i-test.true c.loop-i.invariant c.in_ok-append_first_entry.ensures
+
+pub returns-in_err-append_first_entry : goal.returns-in_err-append_first_entry
+returns-in_err-append_first_entry g c =
+    let is : c.from_residual.result ≡ Err c.in_err-append_first_entry.field-0.0 = search rules in
+    rw is (list_stopped g.O.Sink first_entry_form c.args.entries.now tt c.in_err-append_first_entry.field-0.0 c.args.out.now c.loop-i.out c.append_first_entry.new.out
+    c.args.held.now.items c.loop-i.held.items c.append_first_entry.new.held.items c.loop-i.i _ c.loop-i-test.true c.loop-i.invariant c.in_err-append_first_entry.ensures)
+
+pub returns : goal.returns
+returns g c =
+    list_done g.O.Sink first_entry_form c.args.entries.now tt c.args.out.now c.loop-i.out c.args.held.now.items c.loop-i.held.items c.loop-i.i c.loop-i-test.false c.loop-i.invariant
