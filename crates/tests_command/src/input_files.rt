@@ -4,8 +4,8 @@ use run_config::{InputEnd, inputs};
 use std::alloc::{AllocError, Global};
 use std::test::Fail;
 
-// The records of a file, the bytes behind them, and the number of the first bad record. Without one the inputs
-// are the records.
+// The records of a file, the bytes behind them, and the number of the first bad record. Without one the
+// inputs are the records.
 struct Case {
     records: &'static [(u64, u8)],
     rest: &'static [u8],

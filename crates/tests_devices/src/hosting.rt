@@ -2,13 +2,19 @@
 // Architecture 20211203, 8.2 and 8.6, and places by hand: a block is 2,097,152 bytes, 200000 in hexadecimal.
 
 ghost use Rattle.std.specs.Prelude.{◌≡◌, [], ◌∷◌, Some, true};
+ghost use Rattle.arch_defs.specs.FirstEntries.{HasGuestFrame};
 ghost use Rattle.arch_defs.specs.Layouts.{names_each_once};
 ghost use Rattle.machine_laws.specs.HostPlaces.{in_ram};
 ghost use Rattle.machine_laws.specs.Renaming.{ReservesWithin};
 ghost use Rattle.world_switch.specs.Hosting.{hart_state_in, root_at};
 
-use arch_defs::{GuestMode, GuestRoot, HartState, Interrupts, Mode, Part, Virtual};
-use world_switch::{fix_up, load, save};
+use arch_defs::{
+    FirstBuffer, FirstEntry, GuestMode, GuestRoot, HartState, Interrupts, Mode, Part,
+    SupervisorRoot, Tag, Virtual,
+};
+use no_memory::NoMemory;
+use std::alloc::Global;
+use world_switch::{fix_up, load, load_state, save, save_state};
 
 const START: u64 = 0x8000_0000;
 
@@ -65,13 +71,13 @@ fn guest(mode: Mode) -> Virtual
     virt
 }
 
-// What a hart has that had something else before.
-fn loaded_for(virt: &Virtual, part: &Part, root: u64) -> HartState
+// The state of a hart that had something else before.
+fn loaded_for(virt: &Virtual, part: &Part, root: u64) -> Virtual
     requires { ReservesWithin (in_ram part.now.blocks) virt.now.reservation }
     ensures { result ≡ hart_state_in part.now (root_at part.now root) virt.now }
 {
     let mut hart = Virtual::starting_at(Mode::VU, START);
-    load(virt, part, root, &mut hart);
+    load_state(virt, part, root, &mut hart);
     hart
 }
 
@@ -177,7 +183,7 @@ fn reserved_at(address: u64, part: &Part) -> (Option<(u64, u8)>, Option<(u64, u8
     virt.reservation = Some((address, 8));
     let hart = loaded_for(&virt, part, ROOT);
     let mut after = Virtual::starting_at(Mode::HS, START);
-    save(&hart, part, &mut after);
+    save_state(&hart, part, &mut after);
     (hart.reservation, after.reservation)
 }
 
@@ -198,7 +204,7 @@ fn is_reservation_lost() -> bool {
     let mut virt = guest(Mode::HS);
     let mut hart = loaded_for(&virt, &part, ROOT);
     hart.reservation = None;
-    save(&hart, &part, &mut virt);
+    save_state(&hart, &part, &mut virt);
     virt.reservation.is_none()
 }
 
@@ -208,7 +214,7 @@ fn is_saved(mode: Mode) -> bool {
     let virt = guest(mode);
     let hart = loaded_for(&virt, &part, ROOT);
     let mut after = virt;
-    save(&hart, &part, &mut after);
+    save_state(&hart, &part, &mut after);
     after == virt
 }
 
@@ -232,12 +238,72 @@ fn is_saved_after_a_trap() -> bool {
     hart.mode = Mode::VS;
     hart.csrs.vs.cause = 8;
     let mut after = virt;
-    save(&hart, &part, &mut after);
+    save_state(&hart, &part, &mut after);
     after.mode == Mode::HS
         && after.csrs.hs.cause == 8
         && after.csrs.hstatus.spv
         && after.csrs.htval == 0x400
         && after.csrs.vs == virt.csrs.vs
+}
+
+// A first-stage translation of this page.
+fn translation(page: u64) -> FirstEntry
+    ensures { HasGuestFrame result }
+{
+    FirstEntry {
+        tag: Tag::Flat,
+        atp: SupervisorRoot::Bare,
+        page,
+        frame: 0x8_0000,
+        r: true,
+        w: true,
+        x: true,
+        u: false,
+        level: 0,
+    }
+}
+
+// A buffer with one translation.
+fn buffer(alloc: Global, page: u64) -> Result<FirstBuffer, NoMemory> {
+    let mut first = FirstBuffer::new(alloc)?;
+    first.fill(translation(page));
+    Ok(first)
+}
+
+fn has(first: &FirstBuffer, page: u64) -> bool {
+    first.as_slice() == [translation(page)].as_slice()
+}
+
+// While the hart has the guest's first-stage translations, the guest has the hart's; the accesses are for
+// whom the guest's are.
+fn is_first_switched(alloc: Global, mode: Mode, tag: Tag) -> Result<bool, NoMemory> {
+    let part = part();
+    let mut virt = guest(mode);
+    let mut first = buffer(alloc, 1)?;
+    let mut hart = HartState {
+        virt: Virtual::starting_at(Mode::VU, START),
+        first: buffer(alloc, 2)?,
+        tag: Tag::Nested(GuestRoot::Bare),
+    };
+    load(&virt, &mut first, &part, ROOT, &mut hart);
+    let loaded = has(&hart.first, 1) && has(&first, 2) && hart.tag == tag;
+    hart.first.fill(translation(3));
+    save(&mut hart, &part, &mut virt, &mut first);
+    let both = [translation(1), translation(3)];
+    Ok(loaded && virt == guest(mode) && first.as_slice() == both.as_slice() && has(&hart.first, 2))
+}
+
+#[test]
+fn first_switched(rt: HostRuntime) {
+    let nested = Tag::Nested(guest(Mode::VS).csrs.hgatp);
+    for (mode, tag) in [
+        (Mode::HS, Tag::Flat),
+        (Mode::U, Tag::Flat),
+        (Mode::VS, nested),
+        (Mode::VU, nested),
+    ] {
+        assert!(rt; is_first_switched(rt.alloc(), mode, tag) == Ok(true));
+    }
 }
 
 #[test]

@@ -2,7 +2,8 @@
 
 ghost use Rattle.std.specs.Prelude.{◌≡◌, ◌⊎◌, ◌≤◌};
 
-use arch_defs::{HartState, Mode, Trap, Virtual};
+use arch_defs::{Mode, Trap, Virtual};
+use no_memory::NoMemory;
 use rv64_hart::{Hart, PhysMem, Stop, Tally, Why};
 use sample_programs::places::{At, set_all, value_at};
 use sample_programs::{LineFault, words};
@@ -147,7 +148,7 @@ pub fn memory_of(alloc: Global, case: &Case) -> Result<PhysMem, LineFault> {
     Ok(memory)
 }
 
-pub fn started(case: &Case) -> HartState {
+pub fn started(case: &Case) -> Virtual {
     let mut state = Virtual::starting_at(case.mode, START);
     let (regs, csrs, mode) = (&mut state.regs, &mut state.csrs, &mut state.mode);
     set_all(regs, csrs, mode, case.setting);
@@ -156,6 +157,13 @@ pub fn started(case: &Case) -> HartState {
         set_all(regs, csrs, mode, &[(At::X(9), value)]);
     }
     state
+}
+
+/// A hart that begins as a case says, with no first-stage translation cached.
+pub fn hart_of(alloc: Global, case: &Case) -> Result<Hart, NoMemory> {
+    let mut hart = Hart::new(alloc)?;
+    hart.state_mut().virt = started(case);
+    Ok(hart)
 }
 
 /// The trap of a cause. With V = 1 stval has a guest virtual address but for an illegal or virtual
@@ -202,26 +210,25 @@ pub fn stop_of(taken: u64, end: End) -> Stop {
 pub fn holds(alloc: Global, case: &Case) -> Result<bool, LineFault> {
     let mut memory = memory_of(alloc, case)?;
     let before = started(case);
-    let mut hart = Hart::new();
-    *hart.state_mut() = before;
+    let mut hart = hart_of(alloc, case)?;
     let mut tally = Tally::new();
     let stop = hart.run(&mut memory, case.limit.min(MOST), case.watch, &mut tally);
     Ok(
         stop == stop_of(case.taken, case.end)
-            && are_registers_left(case, &before, hart.state())
+            && are_registers_left(case, &before, &hart.state().virt)
             && is_memory_left(case.leaves, &memory)
             && is_counted(case, &tally),
     )
 }
 
-fn are_registers_left(case: &Case, before: &HartState, after: &HartState) -> bool {
+fn are_registers_left(case: &Case, before: &Virtual, after: &Virtual) -> bool {
     have(case.gives, after)
         && stay(case.stays, before, after)
         && after.reservation == case.reserved
         && (case.taken != 0 || after == before)
 }
 
-fn have(values: &[(At, u64)], state: &HartState) -> bool {
+fn have(values: &[(At, u64)], state: &Virtual) -> bool {
     for &(at, value) in values {
         if value_at(state, at) != Some(value) {
             return false;
@@ -230,7 +237,7 @@ fn have(values: &[(At, u64)], state: &HartState) -> bool {
     true
 }
 
-fn stay(places: &[At], before: &HartState, after: &HartState) -> bool {
+fn stay(places: &[At], before: &Virtual, after: &Virtual) -> bool {
     for &at in places {
         if value_at(after, at) != value_at(before, at) {
             return false;

@@ -3,9 +3,9 @@
 // the format of 4.4.1: the physical page number from bit 10 on, D A G U X W R V in bits 7 to 0.
 
 use crate::cases::{
-    CASE, Case, End, GuestPageFault, HELD, holds, memory_of, put, started, stop_of,
+    CASE, Case, End, GuestPageFault, HELD, hart_of, holds, memory_of, put, stop_of,
 };
-use rv64_hart::{Hart, Tally};
+use rv64_hart::Tally;
 use sample_programs::LineFault;
 use sample_programs::places::At::{Pc, X};
 use sample_programs::places::{At, HEDELEG, HGATP, VSATP};
@@ -311,8 +311,7 @@ const CLEARED: Case = Case {
 // The walk is of memory as it is: without its leaf the block has no address any more.
 fn is_walked_as_it_is(alloc: Global) -> Result<bool, LineFault> {
     let mut memory = memory_of(alloc, &CLEARED)?;
-    let mut hart = Hart::new();
-    *hart.state_mut() = started(&CLEARED);
+    let mut hart = hart_of(alloc, &CLEARED)?;
     let before = hart.run(&mut memory, 1, false, &mut Tally::new());
     let (at, _) = HOST_LEAF;
     put(&mut memory, at, 8, 0);

@@ -27,13 +27,13 @@ const PROGRAM: Case = Case {
 // call itself. The sum of the four words made is 2_804F_F728, and that of their pcs 1C.
 fn is_run(alloc: Global) -> Result<bool, LineFault> {
     let mut memory = memory_of(alloc, &PROGRAM)?;
-    let mut hart = Hart::new();
+    let mut hart = Hart::new(alloc)?;
     let mut tally = Tally::new();
     let none = hart.run(&mut memory, 0, false, &mut tally);
     let two = hart.run(&mut memory, 2, false, &mut tally);
-    let between = value_at(hart.state(), Pc);
+    let between = value_at(&hart.state().virt, Pc);
     let to_call = hart.run(&mut memory, 10, true, &mut tally);
-    let state = hart.state();
+    let state = &hart.state().virt;
     Ok(
         none == stop_of(0, End::Limit)
             && two == stop_of(2, End::Limit)

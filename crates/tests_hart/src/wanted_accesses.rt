@@ -2,7 +2,7 @@
 // 2.6 and 8). That access is told whether or not it has a place.
 
 use crate::cases::{CASE, Case, DATA, memory_of, started};
-use arch_defs::{Reg, Width};
+use arch_defs::{FirstBuffer, Reg, Tag, Width};
 use op_defs::{AmoOp, DataAccess, Purpose};
 use rv64_hart::wanted_at;
 use sample_programs::LineFault;
@@ -188,7 +188,9 @@ fn access_of(wants: Option<(u64, Width, What)>) -> Option<DataAccess> {
 
 fn is_told(alloc: Global, row: &Row) -> Result<bool, LineFault> {
     let memory = memory_of(alloc, &row.case)?;
-    Ok(wanted_at(&started(&row.case), &memory) == access_of(row.wants))
+    let first = FirstBuffer::new(alloc)?;
+    let wanted = wanted_at(&started(&row.case), &first, &Tag::Flat, &memory);
+    Ok(wanted == access_of(row.wants))
 }
 
 #[test]

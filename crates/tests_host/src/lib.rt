@@ -8,6 +8,8 @@ mod cases;
 #[cfg(test)]
 mod clock;
 #[cfg(test)]
+mod first_stage;
+#[cfg(test)]
 mod folded;
 #[cfg(test)]
 mod guests;

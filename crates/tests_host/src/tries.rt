@@ -41,19 +41,20 @@ pub fn tries(
     requires entries { tally.old.entries ≡ 0 }
     requires taken { tally.old.taken ≡ 0 }
 {
+    let mut hart = Hart::new(alloc)?;
     let mut made = Vec::new(alloc);
     while made.len() < count {
         if guest.status != Status::Running {
             return Ok(made);
         }
         guest.set_pending_lines();
-        made.push(one(guest, memory, most, tally))?;
+        made.push(one(guest, &mut hart, memory, most, tally))?;
     }
     Ok(made)
 }
 
 // One try.
-fn one(guest: &mut Guest, memory: &mut PhysMem, most: u64, tally: &mut Tally) -> By
+fn one(guest: &mut Guest, hart: &mut Hart, memory: &mut PhysMem, most: u64, tally: &mut Tally) -> By
     requires running { guest.old.status ≡ Running }
     requires current { with_pending_lines (platform_of guest.old) ≡ platform_of guest.old }
     requires clock { guest.old.clock.time ≤ 2 ^ 62 + guest.old.steps }
@@ -73,7 +74,7 @@ fn one(guest: &mut Guest, memory: &mut PhysMem, most: u64, tally: &mut Tally) ->
         return By::HostByInterrupt;
     }
     let limit = limit(guest, most);
-    let stop = enter(guest, &mut Hart::new(), memory, limit, tally);
+    let stop = enter(guest, hart, memory, limit, tally);
     match stop.why {
         Why::Limit => By::Hart(stop.taken),
         Why::VsTrap => By::HartByTrap(stop.taken),

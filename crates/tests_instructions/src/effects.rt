@@ -52,6 +52,57 @@ fn fences_of_guests(rt: HostRuntime) {
     }
 }
 
+// The operands of an SFENCE.VMA or an HFENCE.VVMA, and the page and the ASID that it names: rs1 has an
+// address, rs2 an ASID of 16 bits, and x0 names all, but not another register that has 0 (4.2.1, 8.3.1).
+static FIRST_FENCES: [(u32, u32, Option<u64>, Option<u64>); 8] = [
+    (0, 0, None, None),
+    (5, 0, Some(1), None),
+    (6, 0, Some(0x8_0000), None),
+    (8, 0, Some(0x8_0000), None),
+    (10, 0, Some(0xF_FFFF_FFFF_FFFF), None),
+    (0, 7, None, Some(0x8003)),
+    (6, 7, Some(0x8_0000), Some(0x8003)),
+    (9, 9, Some(0), Some(0)),
+];
+
+// Addresses 1000, 80000000, 80000FFC, which is in the same page, and the last one, and ASID 8003 below a
+// seventeenth bit.
+fn first_fence_registers() -> Regs {
+    let mut regs = Regs::starting_at(START);
+    regs.x[5] = 0x1000;
+    regs.x[6] = 0x8000_0000;
+    regs.x[8] = 0x8000_0FFC;
+    regs.x[10] = 0xFFFF_FFFF_FFFF_FFFF;
+    regs.x[7] = 0x1_8003;
+    regs
+}
+
+fn names_first(rs1: u32, rs2: u32, fence: Fence) -> bool {
+    let regs = first_fence_registers();
+    let flat = Op::SfenceVma {
+        rs1: x(rs1),
+        rs2: x(rs2),
+    };
+    let nested = Op::HfenceVvma {
+        rs1: x(rs1),
+        rs2: x(rs2),
+    };
+    request(flat, &regs) == fence
+        && request(nested, &regs) == fence
+        && effect_of(&flat, &regs) == Effect::Privileged(Privileged::SfenceVma(fence))
+        && effect_of(&nested, &regs) == Effect::Privileged(Privileged::HfenceVvma(fence))
+}
+
+#[test]
+fn fences_of_the_first_stage(rt: HostRuntime) {
+    for &(rs1, rs2, page, vmid) in &FIRST_FENCES {
+        assert!(rt;
+            names_first(rs1, rs2, Fence { vmid, page }),
+            "x{rs1}, x{rs2}"
+        );
+    }
+}
+
 // Registers with an address and a value to store.
 fn access_registers() -> Regs {
     let mut regs = Regs::starting_at(START);

@@ -4,7 +4,7 @@
 use crate::performing::{
     DONE, Ends, ILLEGAL, START, VIRTUAL, after, before, ends_as, timed, trapping,
 };
-use arch_defs::{Csrs, Fence, Mode, Reg, Width};
+use arch_defs::{Csrs, Fence, GuestMode, GuestRoot, Mode, Reg, Tag, Width};
 use op_defs::{DataAccess, Privileged, Purpose};
 use privileged_ops::Performed;
 
@@ -62,7 +62,10 @@ fn effect_of(instruction: Trapped) -> (Privileged, Performed) {
     match instruction {
         Trapped::Sret => (Privileged::Sret, DONE),
         Trapped::Wfi => (Privileged::Wfi, WAITS),
-        Trapped::SfenceVma => (Privileged::SfenceVma, DONE),
+        Trapped::SfenceVma => (
+            Privileged::SfenceVma(NAMED),
+            Performed::FirstFenced(None, NAMED),
+        ),
     }
 }
 
@@ -104,10 +107,28 @@ fn is_fence_of_hs(effect: &Privileged, in_hs: Performed) -> bool {
     ends_as(with_hu(false), effect, &ends) && ends_as(with_hu(true), effect, &ends)
 }
 
-// The fence of the guest's table says what it names.
+// Whether HFENCE.VVMA is for accesses with V = 1 under the present hgatp (8.3.1).
+fn is_nested_fence(fence: Fence) -> bool {
+    let hgatp = GuestRoot::Table {
+        mode: GuestMode::Sv39x4,
+        vmid: 3,
+        ppn: 0x8_0000,
+    };
+    let mut csrs = Csrs::at_reset();
+    csrs.hgatp = hgatp;
+    let effect = Privileged::HfenceVvma(fence);
+    let (end, _) = after(csrs, Mode::HS, &effect);
+    let named = Some(Tag::Nested(GuestRoot::Bare));
+    end == Performed::FirstFenced(Some(Tag::Nested(hgatp)), fence)
+        && is_fence_of_hs(&effect, Performed::FirstFenced(named, fence))
+}
+
+// The fences say what they name.
 #[test]
 fn hypervisor_fences(rt: HostRuntime) {
-    assert!(rt; is_fence_of_hs(&Privileged::HfenceVvma, DONE));
+    for fence in [NAMED, OF_ALL] {
+        assert!(rt; is_nested_fence(fence), "{fence:?}");
+    }
     for fence in [NAMED, OF_ALL] {
         let effect = Privileged::HfenceGvma(fence);
         assert!(rt;
@@ -156,8 +177,9 @@ fn passes(mode: Mode, effect: &Privileged) -> bool {
 #[test]
 fn only_the_pc_goes_on(rt: HostRuntime) {
     assert!(rt; passes(Mode::HS, &Privileged::Wfi));
-    assert!(rt; passes(Mode::HS, &Privileged::SfenceVma));
+    assert!(rt; passes(Mode::HS, &Privileged::SfenceVma(OF_ALL)));
+    assert!(rt; passes(Mode::HS, &Privileged::HfenceVvma(OF_ALL)));
     assert!(rt; passes(Mode::HS, &Privileged::HfenceGvma(OF_ALL)));
     assert!(rt; passes(Mode::VS, &Privileged::Wfi));
-    assert!(rt; passes(Mode::VS, &Privileged::SfenceVma));
+    assert!(rt; passes(Mode::VS, &Privileged::SfenceVma(OF_ALL)));
 }

@@ -2,10 +2,14 @@
 #![tactic(auto)]
 
 #[cfg(test)]
+mod calls;
+#[cfg(test)]
 mod frame_plans;
 #[cfg(test)]
 mod guest_memory;
 #[cfg(test)]
 mod pools;
+#[cfg(test)]
+mod sequences;
 #[cfg(test)]
 mod spaces;

@@ -421,7 +421,8 @@ struct Other {
 
 enum Going {
     Waits,
-    Done,
+    /// The first stage, of all pages and ASIDs.
+    FirstFenced,
     /// Page 1 and VMID 3.
     Fenced,
     /// The word at 3 into x5, sign extended.
@@ -440,7 +441,7 @@ static OTHERS: [Other; 4] = [
         name: "SFENCE.VMA",
         instruction: Instruction::SfenceVma,
         word: 0x1200_0073,
-        in_hs: Going::Done,
+        in_hs: Going::FirstFenced,
         pc_by: 4,
     },
     Other {
@@ -462,7 +463,13 @@ static OTHERS: [Other; 4] = [
 fn emulated_in_hs(going: &Going) -> Emulated {
     match going {
         Going::Waits => Emulated::Waits,
-        Going::Done => Emulated::Done,
+        Going::FirstFenced => Emulated::FirstFenced(
+            None,
+            Fence {
+                vmid: None,
+                page: None,
+            },
+        ),
         Going::Fenced => Emulated::Fenced(Fence {
             vmid: Some(3),
             page: Some(1),

@@ -6,9 +6,9 @@
 ghost use Rattle.std.specs.Prelude.{IfOk};
 ghost use Rattle.guest_specs.specs.Inputs.{AreInputs};
 
-use crate::guest_accesses::End::{Done, Fault};
-use crate::guest_accesses::{Made, Row, SPVP, ended, expected, op_of, state_after, state_before};
-use crate::states::{At, HSTATUS};
+use crate::forms::End::{Done, Fault};
+use crate::forms::{Made, Row, ended, expected, op_of, state_after, state_before};
+use crate::states::{At, HSTATUS, SPVP};
 use crate::translations::{End, csrs_for};
 use arch_defs::{Access, Mode, Trap, Width};
 use console_dev::Console;

@@ -2,64 +2,18 @@
 // Architecture 20211203, 4.3.1, 4.3.2, 8.2.1, 8.2.8, 8.3.1, 8.5 and 8.6); entries by hand from the format of
 // 4.4.1: the physical page number from bit 10 on, D A G U X W R V in bits 7 to 0.
 
-ghost use Rattle.std.specs.Prelude.{◌<◌, length};
-ghost use Rattle.arch_defs.specs.Frames.{LieIn, in_blocks};
-
-use self::End::{Done, Fault, Implicit, Refused};
-use crate::states::{At, HGATP, HSTATUS, SATP, SSTATUS, START, VSATP, VSSTATUS, state_with};
-use arch_defs::{Mode, Part, Reg, Trap, Virtual, Width};
+use crate::forms::End::{Done, Fault, Implicit, Refused};
+use crate::forms::{
+    HLV_B, HLV_BU, HLV_D, HLV_H, HLV_HU, HLV_W, HLV_WU, HLVX_HU, HLVX_WU, Made, Row, ended,
+    expected, op_of, state_after, state_before,
+};
+use crate::states::{At, HGATP, HSTATUS, HU, MXR, SATP, SPVP, SSTATUS, SUM, VSATP, VSSTATUS};
+use arch_defs::{Mode, Width};
 use console_dev::Console;
-use hlv_hsv::{Accessed, Op, access};
-use phys_mem::{Mem, NoMemory, PhysMem, Ram};
-use rv64_asm::fits;
-use sample_memory::{has_words, memory, part, with_words};
+use phys_mem::{NoMemory, PhysMem};
+use sample_memory::{has_words, with_words};
 use std::alloc::Global;
 use std::test::Fail;
-
-/// An instruction with its address in x11: into x10, into x0, or a value from x12.
-#[derive(Clone, Copy)]
-pub enum Made {
-    Hlv(Width),
-    HlvUnsigned(Width),
-    HlvToZero(Width),
-    Hlvx(Width),
-    Hsv(Width, u64),
-}
-
-const HLV_B: Made = Made::Hlv(Width::Byte);
-
-const HLV_BU: Made = Made::HlvUnsigned(Width::Byte);
-
-const HLV_H: Made = Made::Hlv(Width::Half);
-
-const HLV_HU: Made = Made::HlvUnsigned(Width::Half);
-
-const HLV_W: Made = Made::Hlv(Width::Word);
-
-const HLV_WU: Made = Made::HlvUnsigned(Width::Word);
-
-const HLV_D: Made = Made::Hlv(Width::Double);
-
-const HLVX_HU: Made = Made::Hlvx(Width::Half);
-
-const HLVX_WU: Made = Made::Hlvx(Width::Word);
-
-/// How it ends.
-#[derive(Clone, Copy)]
-pub enum End {
-    /// It is made, with this in x10, which is 7 before, and pc goes on.
-    Done(u64),
-    /// A trap of this cause with this tval2. It changes nothing.
-    Fault(u64, u64),
-    /// The same of an implicit read.
-    Implicit(u64, u64),
-    /// A trap of this cause with this word of the instruction, which the mode does not allow.
-    Refused(u64, u64),
-}
-
-/// An access to an address, and its end.
-#[derive(Clone, Copy)]
-pub struct Row(pub Made, pub u64, pub End);
 
 // Accesses in this order in memory of `TABLES`, in a mode, with these CSRs; and doublewords afterwards.
 struct Case {
@@ -115,15 +69,6 @@ static TABLES: [(u64, u64); 29] = [
 const GUEST_ROOT: (At, u64) = (At::Csr(HGATP), 0x8000_1000_0000_0004);
 
 const ROOT: (At, u64) = (At::Csr(VSATP), 0x8000_0000_0000_000C);
-
-/// hstatus.SPVP.
-pub const SPVP: u64 = 0x100;
-
-const HU: u64 = 0x200;
-
-const SUM: u64 = 0x4_0000;
-
-const MXR: u64 = 0x8_0000;
 
 // The doublewords of frame A at 0, 8 and 10.
 const FIRST: u64 = 0x8899_AABB_CCDD_EEFF;
@@ -546,92 +491,6 @@ static CASES: [Case; 31] = [
     },
 ];
 
-fn trap(cause: u64, tval: u64, tval2: u64, is_implicit: bool, gva: bool) -> Accessed {
-    Accessed::Raise(Trap {
-        cause,
-        interrupt: false,
-        tval,
-        tval2,
-        gva,
-        implicit: is_implicit,
-    })
-}
-
-/// What the access to an address answers.
-pub fn expected(va: u64, end: End) -> Accessed {
-    match end {
-        Done(_) => Accessed::Done,
-        Fault(cause, tval2) => trap(cause, va, tval2, false, true),
-        Implicit(cause, tval2) => trap(cause, va, tval2, true, true),
-        Refused(cause, word) => trap(cause, word, 0, false, false),
-    }
-}
-
-/// The op of the instruction.
-pub fn op_of(made: Made) -> Op {
-    let (rd, rs1) = (Reg::new(10), Reg::new(11));
-    match made {
-        Made::Hlv(width) => load(width, true, rd),
-        Made::HlvUnsigned(width) => load(width, false, rd),
-        Made::HlvToZero(width) => load(width, true, Reg::new(0)),
-        Made::Hlvx(width) => Op::GuestFetch { width, rd, rs1 },
-        Made::Hsv(width, _) => Op::GuestStore {
-            width,
-            rs1,
-            rs2: Reg::new(12),
-        },
-    }
-}
-
-fn load(width: Width, signed: bool, rd: Reg) -> Op {
-    Op::GuestLoad {
-        width,
-        signed,
-        rd,
-        rs1: Reg::new(11),
-    }
-}
-
-/// The state before a row. What is reserved stays.
-pub fn state_before(mode: Mode, given: &[(At, u64)], row: &Row) -> Virtual {
-    let mut state = state_with(mode, given);
-    state.regs.x[10] = 7;
-    state.regs.x[11] = row.1;
-    if let Made::Hsv(_, value) = row.0 {
-        state.regs.x[12] = value;
-    }
-    state.reservation = Some((0xA000, 8));
-    state
-}
-
-/// The state after it.
-pub fn state_after(mut state: Virtual, end: End) -> Virtual {
-    if let Done(value) = end {
-        state.regs.x[10] = value;
-        state.regs.pc = START + 4;
-    }
-    state
-}
-
-/// How an access ends, of a guest that has the device page or not; None where it is no HLV, HLVX or HSV.
-pub fn ended(
-    memory: &mut PhysMem,
-    state: &mut Virtual,
-    op: Op,
-    device: bool,
-    console: &mut Console,
-) -> Option<Accessed> {
-    if !fits(&op) {
-        return None;
-    }
-    match op {
-        Op::GuestLoad { .. } | Op::GuestFetch { .. } | Op::GuestStore { .. } => {
-            Some(access(memory, state, op, device, console))
-        }
-        _ => None,
-    }
-}
-
 fn row_is_right(
     memory: &mut PhysMem,
     mode: Mode,
@@ -661,162 +520,5 @@ fn accesses(rt: HostRuntime) -> Result<(), Fail> {
     for case in &CASES {
         assert!(rt; is_right(rt.alloc(), case)?, "{}", case.name);
     }
-    Ok(())
-}
-
-// The tables of a nested guest in RAM: hgatp's root at 80004000, tables at 80008000 and 80009000, whose slot
-// 1 lets 8000A000 be executed alone. 65 is there.
-fn has_tables(ram: &mut Ram) -> bool
-    requires { LieIn (in_blocks ram.old.part.now.blocks) (length ram.old.mem.now) }
-    ensures { LieIn (in_blocks ram.new.part.now.blocks) (length ram.new.mem.now) }
-{
-    ram.set(0x8000_4000, 8, 0x2000_2001)
-        && ram.set(0x8000_8000, 8, 0x2000_2401)
-        && ram.set(0x8000_9000, 8, 0x2000_045B)
-        && ram.set(0x8000_9008, 8, 0x2000_2859)
-        && ram.set(0x8000_A000, 1, 65)
-}
-
-// An access of VS to that page, in a mode and with these values of CSRs, and its end.
-struct InRam {
-    name: &'static str,
-    mode: Mode,
-    given: &'static [(At, u64)],
-    made: Made,
-    end: End,
-}
-
-const RAM_ROOT: (At, u64) = (At::Csr(HGATP), 0x8000_1000_0008_0004);
-
-// HLV.BU x10, (x11) is 0110000 00001 01011 100 01010 1110011.
-static IN_RAM: [InRam; 8] = [
-    InRam {
-        name: "HLV.BU",
-        mode: Mode::HS,
-        given: &[RAM_ROOT, (At::Csr(HSTATUS), SPVP)],
-        made: HLV_BU,
-        end: Fault(21, 0x400),
-    },
-    InRam {
-        name: "HLVX.HU",
-        mode: Mode::HS,
-        given: &[RAM_ROOT, (At::Csr(HSTATUS), SPVP)],
-        made: HLVX_HU,
-        end: Done(65),
-    },
-    InRam {
-        name: "HLV.BU with vsstatus.MXR",
-        mode: Mode::HS,
-        given: &[RAM_ROOT, (At::Csr(HSTATUS), SPVP), (At::Csr(VSSTATUS), MXR)],
-        made: HLV_BU,
-        end: Fault(21, 0x400),
-    },
-    InRam {
-        name: "HLVX.HU with vsstatus.MXR",
-        mode: Mode::HS,
-        given: &[RAM_ROOT, (At::Csr(HSTATUS), SPVP), (At::Csr(VSSTATUS), MXR)],
-        made: HLVX_HU,
-        end: Done(65),
-    },
-    InRam {
-        name: "HLV.BU with sstatus.MXR",
-        mode: Mode::HS,
-        given: &[RAM_ROOT, (At::Csr(HSTATUS), SPVP), (At::Csr(SSTATUS), MXR)],
-        made: HLV_BU,
-        end: Done(65),
-    },
-    InRam {
-        name: "HLVX.HU with sstatus.MXR",
-        mode: Mode::HS,
-        given: &[RAM_ROOT, (At::Csr(HSTATUS), SPVP), (At::Csr(SSTATUS), MXR)],
-        made: HLVX_HU,
-        end: Done(65),
-    },
-    InRam {
-        name: "HLV.BU in U",
-        mode: Mode::U,
-        given: &[RAM_ROOT, (At::Csr(HSTATUS), SPVP), (At::Csr(SSTATUS), MXR)],
-        made: HLV_BU,
-        end: Refused(2, 0x6015_C573),
-    },
-    InRam {
-        name: "HLV.BU in U with HU",
-        mode: Mode::U,
-        given: &[
-            RAM_ROOT,
-            (At::Csr(HSTATUS), SPVP + HU),
-            (At::Csr(SSTATUS), MXR),
-        ],
-        made: HLV_BU,
-        end: Done(65),
-    },
-];
-
-fn ended_in_ram(
-    ram: &mut Ram,
-    state: &mut Virtual,
-    op: Op,
-    console: &mut Console,
-) -> Option<Accessed>
-    requires { LieIn (in_blocks ram.old.part.now.blocks) (length ram.old.mem.now) }
-    ensures { LieIn (in_blocks ram.new.part.now.blocks) (length ram.new.mem.now) }
-{
-    if !fits(&op) {
-        return None;
-    }
-    match op {
-        Op::GuestLoad { .. } | Op::GuestFetch { .. } | Op::GuestStore { .. } => {
-            Some(access(ram, state, op, false, console))
-        }
-        _ => None,
-    }
-}
-
-fn in_ram_is_right(ram: &mut Ram, case: &InRam, console: &mut Console) -> bool
-    requires { LieIn (in_blocks ram.old.part.now.blocks) (length ram.old.mem.now) }
-    ensures { LieIn (in_blocks ram.new.part.now.blocks) (length ram.new.mem.now) }
-{
-    let row = Row(case.made, 0x1000, case.end);
-    let before = state_before(case.mode, case.given, &row);
-    let mut state = before;
-    let end = ended_in_ram(ram, &mut state, op_of(case.made), console);
-    end == Some(expected(0x1000, case.end)) && state == state_after(before, case.end)
-}
-
-// The name of the first access that does not end as it should.
-fn first_wrong_in_ram(ram: &mut Ram, console: &mut Console) -> Option<&'static str>
-    requires { LieIn (in_blocks ram.old.part.now.blocks) (length ram.old.mem.now) }
-{
-    if !has_tables(ram) {
-        return Some("the tables");
-    }
-    for i in 0..IN_RAM.len() {
-        if !in_ram_is_right(ram, &IN_RAM[i], console) {
-            return Some(IN_RAM[i].name);
-        }
-    }
-    None
-}
-
-fn first_wrong_in_part(
-    memory: &mut PhysMem,
-    part: &Part,
-    console: &mut Console,
-) -> Option<&'static str> {
-    let size = memory.size();
-    if !part.lies_in(size) {
-        return Some("the part");
-    }
-    first_wrong_in_ram(&mut Ram::new(memory, part), console)
-}
-
-// RAM is block 1 of machine memory and then block 0.
-#[test]
-fn execute_only(rt: HostRuntime) -> Result<(), Fail> {
-    let mut memory = memory(rt.alloc(), 1029)?;
-    let part = part(&[1, 0], 1024, 1028, 0, 0);
-    let mut console = Console::new(rt.alloc(), 0, Vec::new(rt.alloc()))?;
-    let wrong = first_wrong_in_part(&mut memory, &part, &mut console);
-    assert!(rt; wrong.is_none(), "{wrong:?}");
     Ok(())
 }

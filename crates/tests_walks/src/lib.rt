@@ -10,9 +10,19 @@ mod decided_instructions;
 #[cfg(test)]
 mod device_pages;
 #[cfg(test)]
+mod entries;
+#[cfg(test)]
+mod execute_only_pages;
+#[cfg(test)]
+mod forms;
+#[cfg(test)]
 mod frame_sets;
 #[cfg(test)]
 mod guest_accesses;
+#[cfg(test)]
+mod implicit_reads;
+#[cfg(test)]
+mod mode_pairs;
 #[cfg(test)]
 mod permissions;
 #[cfg(test)]

@@ -25,6 +25,15 @@ pub const HSTATUS: u16 = 0x600;
 
 pub const HGATP: u16 = 0x680;
 
+/// hstatus.SPVP.
+pub const SPVP: u64 = 0x100;
+
+pub const HU: u64 = 0x200;
+
+pub const SUM: u64 = 0x4_0000;
+
+pub const MXR: u64 = 0x8_0000;
+
 /// Where a value stands: in an x register, in pc, or in a CSR of this number.
 #[derive(Clone, Copy)]
 pub enum At {

@@ -2,16 +2,10 @@
 // (Privileged Architecture 20211203, 4.3.2, 8.2.8, 8.5 and 8.6); entries by hand from the format of 4.4.1:
 // the physical page number from bit 10 on, D A G U X W R V in bits 7 to 0.
 
-ghost use Rattle.std.specs.Prelude.{length};
-ghost use Rattle.arch_defs.specs.Frames.{LieIn, in_blocks};
-
-use arch_defs::{
-    Access, Csrs, GuestMode, GuestRoot, Mode, Part, Regs, SupervisorMode, SupervisorRoot, Trap,
-};
-use phys_mem::{Mem, PhysMem, Ram};
-use sample_memory::{memory, part, with_words};
+use arch_defs::{Access, Csrs, GuestMode, GuestRoot, Mode, SupervisorMode, SupervisorRoot, Trap};
+use phys_mem::PhysMem;
+use sample_memory::with_words;
 use std::test::Fail;
-use trap_delegation::enter_hs;
 use two_stage_walk::translate;
 
 /// The registers of a guest whose hgatp names this page, and whose vsatp names that one, if any.
@@ -34,8 +28,8 @@ pub fn csrs_for(guest_page: Option<u64>, page: Option<u64>) -> Csrs {
     csrs
 }
 
-// The registers of a guest whose roots are those for these modes.
-fn csrs_of(guest_mode: GuestMode, mode: Option<SupervisorMode>) -> Csrs {
+/// The registers of a guest whose roots are those for these modes.
+pub fn csrs_of(guest_mode: GuestMode, mode: Option<SupervisorMode>) -> Csrs {
     let mut csrs = Csrs::at_reset();
     csrs.hgatp = GuestRoot::Table {
         mode: guest_mode,
@@ -58,8 +52,8 @@ fn csrs_of(guest_mode: GuestMode, mode: Option<SupervisorMode>) -> Csrs {
     csrs
 }
 
-// A trap of an access as VS or VU.
-fn trap(cause: u64, tval: u64, tval2: u64, implicit: bool) -> Trap {
+/// A trap of an access as VS or VU.
+pub fn trap(cause: u64, tval: u64, tval2: u64, implicit: bool) -> Trap {
     Trap {
         cause,
         interrupt: false,
@@ -70,14 +64,14 @@ fn trap(cause: u64, tval: u64, tval2: u64, implicit: bool) -> Trap {
     }
 }
 
-// Memory of sixteen frames from 0 on. The root of hgatp's table is frames 4 to 7; its entry 0 names the table
-// of level 1 in frame 8, whose entry 0 names that of level 0 in frame 9. vsatp's tables are at the guest
-// pages 8, 9 and 10, which lie in the frames C, D and E.
-const GUEST_ROOT: Option<u64> = Some(4);
+/// Memory of sixteen frames from 0 on. The root of hgatp's table is frames 4 to 7; its entry 0 names the
+/// table of level 1 in frame 8, whose entry 0 names that of level 0 in frame 9. vsatp's tables are at the
+/// guest pages 8, 9 and 10, which lie in the frames C, D and E.
+pub const GUEST_ROOT: Option<u64> = Some(4);
 
 const ROOT: Option<u64> = Some(8);
 
-static TABLES: [(u64, u64); 36] = [
+pub static TABLES: [(u64, u64); 36] = [
     // A root of four levels in the frames 0 to 3, whose entry 0 names that of three levels. Entries 1, 4 and
     // 2,047 are leaves of 512 GiB, and entries 2, 3 and 5 leaves with a bit in one of the three lower parts
     // of their page's number.
@@ -133,15 +127,21 @@ pub enum End {
     Fault(u64, u64),
 }
 
-// The trap's tval is the address, and it is no implicit read's.
-fn expected(va: u64, end: End) -> Result<u64, Trap> {
+/// The trap's tval is the address, and it is no implicit read's.
+pub fn expected(va: u64, end: End) -> Result<u64, Trap> {
     match end {
         End::Place(place) => Ok(place),
         End::Fault(cause, tval2) => Err(trap(cause, va, tval2, false)),
     }
 }
 
-fn answer(memory: &PhysMem, csrs: &Csrs, mode: Mode, va: u64, access: Access) -> Result<u64, Trap> {
+pub fn answer(
+    memory: &PhysMem,
+    csrs: &Csrs,
+    mode: Mode,
+    va: u64,
+    access: Access,
+) -> Result<u64, Trap> {
     translate(memory, csrs, mode, va, access, false)
 }
 
@@ -433,212 +433,6 @@ fn stages(rt: HostRuntime) -> Result<(), Fail> {
     Ok(())
 }
 
-// The modes of both stages in four pairs.
-const PAIRS: [(SupervisorMode, GuestMode); 4] = [
-    (SupervisorMode::Sv39, GuestMode::Sv39x4),
-    (SupervisorMode::Sv39, GuestMode::Sv48x4),
-    (SupervisorMode::Sv48, GuestMode::Sv39x4),
-    (SupervisorMode::Sv48, GuestMode::Sv48x4),
-];
-
-// An access as VS, and its end under each pair of modes.
-struct Combined {
-    va: u64,
-    access: Access,
-    ends: &'static [End],
-}
-
-static COMBINED: [Combined; 16] = [
-    Combined {
-        va: 0x1010,
-        access: Access::Load,
-        ends: &[
-            End::Place(0xA010),
-            End::Place(0xA010),
-            End::Place(0xA010),
-            End::Place(0xA010),
-        ],
-    },
-    Combined {
-        va: 0x2010,
-        access: Access::Fetch,
-        ends: &[
-            End::Place(0xA010),
-            End::Place(0xA010),
-            End::Place(0xA010),
-            End::Place(0xA010),
-        ],
-    },
-    Combined {
-        va: 0x4010,
-        access: Access::Fetch,
-        ends: &[
-            End::Fault(12, 0),
-            End::Fault(12, 0),
-            End::Fault(12, 0),
-            End::Fault(12, 0),
-        ],
-    },
-    // A leaf of the first stage that gives 2^41, and one that gives 2^50.
-    Combined {
-        va: 0x5018,
-        access: Access::Load,
-        ends: &[
-            End::Fault(21, 0x80_0000_0006),
-            End::Place(0x18),
-            End::Fault(21, 0x80_0000_0006),
-            End::Place(0x18),
-        ],
-    },
-    Combined {
-        va: 0x5018,
-        access: Access::Store,
-        ends: &[
-            End::Fault(23, 0x80_0000_0006),
-            End::Place(0x18),
-            End::Fault(23, 0x80_0000_0006),
-            End::Place(0x18),
-        ],
-    },
-    Combined {
-        va: 0x6018,
-        access: Access::Load,
-        ends: &[
-            End::Fault(21, 0x1_0000_0000_0006),
-            End::Fault(21, 0x1_0000_0000_0006),
-            End::Fault(21, 0x1_0000_0000_0006),
-            End::Fault(21, 0x1_0000_0000_0006),
-        ],
-    },
-    // Both ends of the addresses that Sv39 does not have.
-    Combined {
-        va: 0x40_0000_1010,
-        access: Access::Load,
-        ends: &[
-            End::Fault(13, 0),
-            End::Fault(13, 0),
-            End::Place(0xA010),
-            End::Place(0xA010),
-        ],
-    },
-    Combined {
-        va: 0xFFFF_FFC0_0000_1010,
-        access: Access::Load,
-        ends: &[
-            End::Place(0xA010),
-            End::Place(0xA010),
-            End::Fault(13, 0),
-            End::Fault(13, 0),
-        ],
-    },
-    Combined {
-        va: 0x80_0000_1010,
-        access: Access::Store,
-        ends: &[
-            End::Fault(15, 0),
-            End::Fault(15, 0),
-            End::Place(0xA010),
-            End::Place(0xA010),
-        ],
-    },
-    // Both ends of those that Sv48 does not have.
-    Combined {
-        va: 0x7F80_0000_1010,
-        access: Access::Load,
-        ends: &[
-            End::Fault(13, 0),
-            End::Fault(13, 0),
-            End::Place(0xA010),
-            End::Place(0xA010),
-        ],
-    },
-    Combined {
-        va: 0x8000_0000_1010,
-        access: Access::Load,
-        ends: &[
-            End::Fault(13, 0),
-            End::Fault(13, 0),
-            End::Fault(13, 0),
-            End::Fault(13, 0),
-        ],
-    },
-    Combined {
-        va: 0xFFFF_7F80_0000_1010,
-        access: Access::Store,
-        ends: &[
-            End::Fault(15, 0),
-            End::Fault(15, 0),
-            End::Fault(15, 0),
-            End::Fault(15, 0),
-        ],
-    },
-    Combined {
-        va: 0xFFFF_8000_0000_1010,
-        access: Access::Load,
-        ends: &[
-            End::Fault(13, 0),
-            End::Fault(13, 0),
-            End::Place(0xA010),
-            End::Place(0xA010),
-        ],
-    },
-    // A leaf of the first stage at level 3, also with an address of its last half, and one with a low part.
-    Combined {
-        va: 0x100_0000_3010,
-        access: Access::Load,
-        ends: &[
-            End::Fault(13, 0),
-            End::Fault(13, 0),
-            End::Place(0xA010),
-            End::Place(0xA010),
-        ],
-    },
-    Combined {
-        va: 0x140_0000_3010,
-        access: Access::Load,
-        ends: &[
-            End::Fault(13, 0),
-            End::Fault(13, 0),
-            End::Fault(21, 0x10_0000_0C04),
-            End::Fault(21, 0x10_0000_0C04),
-        ],
-    },
-    Combined {
-        va: 0x180_0000_3010,
-        access: Access::Fetch,
-        ends: &[
-            End::Fault(12, 0),
-            End::Fault(12, 0),
-            End::Fault(12, 0),
-            End::Fault(12, 0),
-        ],
-    },
-];
-
-// The place among the pairs of the first one under which an access ends otherwise, if there is one.
-fn first_wrong_pair(memory: &PhysMem, case: &Combined) -> Option<usize> {
-    for i in 0..4 {
-        let (mode, guest_mode) = PAIRS[i];
-        let csrs = csrs_of(guest_mode, Some(mode));
-        let found = answer(memory, &csrs, Mode::VS, case.va, case.access);
-        match case.ends.get(i) {
-            Some(&end) if found == expected(case.va, end) => {}
-            _ => return Some(i),
-        }
-    }
-    None
-}
-
-#[test]
-fn modes_of_both_stages(rt: HostRuntime) -> Result<(), Fail> {
-    let memory = with_words(rt.alloc(), &TABLES)?;
-    for case in &COMBINED {
-        let wrong = first_wrong_pair(&memory, case);
-        assert!(rt; wrong.is_none(), "pair {wrong:?} of {:X}", case.va);
-    }
-    Ok(())
-}
-
 // Where no stage translates: with V = 0, and with V = 1 where hgatp is Bare.
 struct Bare {
     mode: Mode,
@@ -756,148 +550,5 @@ fn mxr_of_each_stage(rt: HostRuntime) -> Result<(), Fail> {
             case.hs
         );
     }
-    Ok(())
-}
-
-// vsatp's root at a guest page, the codes of the faults of a fetch, a load and a store, and tval2, the
-// entry's guest physical address divided by 4, of a guest page fault.
-struct RootElsewhere {
-    name: &'static str,
-    page: u64,
-    fetch: u64,
-    load: u64,
-    store: u64,
-    tval2: u64,
-}
-
-static ROOTS_ELSEWHERE: [RootElsewhere; 5] = [
-    RootElsewhere {
-        name: "no page",
-        page: 2,
-        fetch: 20,
-        load: 21,
-        store: 23,
-        tval2: 0x802,
-    },
-    RootElsewhere {
-        name: "past memory",
-        page: 4,
-        fetch: 1,
-        load: 5,
-        store: 7,
-        tval2: 0,
-    },
-    RootElsewhere {
-        name: "without U",
-        page: 5,
-        fetch: 20,
-        load: 21,
-        store: 23,
-        tval2: 0x1402,
-    },
-    RootElsewhere {
-        name: "only to be executed",
-        page: 6,
-        fetch: 20,
-        load: 21,
-        store: 23,
-        tval2: 0x1802,
-    },
-    RootElsewhere {
-        name: "with D clear",
-        page: 7,
-        fetch: 12,
-        load: 13,
-        store: 15,
-        tval2: 0,
-    },
-];
-
-// The fault is the access's, and its tval the virtual address. MXR has no part in it (own).
-fn implicit_read_is_right(memory: &PhysMem, case: &RootElsewhere) -> bool {
-    let mut csrs = csrs_for(GUEST_ROOT, Some(case.page));
-    csrs.hs.status.mxr = true;
-    for (access, cause) in [
-        (Access::Fetch, case.fetch),
-        (Access::Load, case.load),
-        (Access::ExecLoad, case.load),
-        (Access::Store, case.store),
-    ] {
-        let fault = trap(cause, 0x4000_5678, case.tval2, case.tval2 != 0);
-        if answer(memory, &csrs, Mode::VU, 0x4000_5678, access) != Err(fault) {
-            return false;
-        }
-    }
-    true
-}
-
-#[test]
-fn implicit_reads(rt: HostRuntime) -> Result<(), Fail> {
-    let memory = with_words(rt.alloc(), &TABLES)?;
-    for case in &ROOTS_ELSEWHERE {
-        assert!(rt; implicit_read_is_right(&memory, case), "{}", case.name);
-    }
-    Ok(())
-}
-
-// The tables of a nested guest in RAM: hgatp's root at 80004000, a table at 80008000, one at 80009000, and in
-// its slot 0 a code page at 80001000.
-fn has_tables(ram: &mut Ram) -> bool
-    requires { LieIn (in_blocks ram.old.part.now.blocks) (length ram.old.mem.now) }
-    ensures { LieIn (in_blocks ram.new.part.now.blocks) (length ram.new.mem.now) }
-{
-    ram.set(0x8000_4000, 8, 0x2000_2001)
-        && ram.set(0x8000_8000, 8, 0x2000_2401)
-        && ram.set(0x8000_9000, 8, 0x2000_045B)
-}
-
-// A fetch of VS at 0, with vsatp's root at this page.
-fn fetched(ram: &Ram, page: Option<u64>) -> Result<u64, Trap>
-    requires { LieIn (in_blocks ram.now.part.now.blocks) (length ram.now.mem.now) }
-{
-    translate(
-        ram,
-        &csrs_for(Some(0x8_0004), page),
-        Mode::VS,
-        0,
-        Access::Fetch,
-        false,
-    )
-}
-
-// Whether a fault of an implicit read at a guest page has htval and htinst so, after its trap from VS into
-// HS.
-fn is_implicit_fault(ram: &Ram, page: u64, htval: u64, htinst: u64) -> bool
-    requires { LieIn (in_blocks ram.now.part.now.blocks) (length ram.now.mem.now) }
-{
-    let fault = trap(20, 0, htval, true);
-    let mut csrs = csrs_for(Some(0x8_0004), Some(page));
-    let mut regs = Regs::starting_at(0);
-    enter_hs(&mut csrs, &mut regs, Mode::VS, &fault);
-    fetched(ram, Some(page)) == Err(fault) && csrs.htval == htval && csrs.htinst == htinst
-}
-
-// A read at guest page 40 and, once there is no page 0, one at page 0: htinst tells the first alone.
-fn ram_is_right(ram: &mut Ram) -> bool
-    requires { LieIn (in_blocks ram.old.part.now.blocks) (length ram.old.mem.now) }
-{
-    has_tables(ram)
-        && fetched(ram, None) == Ok(0x8000_1000)
-        && is_implicit_fault(ram, 0x40, 0x1_0000, 0x3000)
-        && ram.set(0x8000_9000, 8, 0)
-        && is_implicit_fault(ram, 0, 0, 0)
-}
-
-fn part_is_right(memory: &mut PhysMem, part: &Part) -> bool {
-    let size = memory.size();
-    part.lies_in(size) && ram_is_right(&mut Ram::new(memory, part))
-}
-
-// RAM is block 1 of machine memory and then block 0.
-#[test]
-fn translate_implicit(rt: HostRuntime) -> Result<(), Fail> {
-    let mut memory = memory(rt.alloc(), 1029)?;
-    let part = part(&[1, 0], 1024, 1028, 0, 0);
-    assert!(rt; part_is_right(&mut memory, &part));
     Ok(())
 }

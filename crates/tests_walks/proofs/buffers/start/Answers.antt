@@ -1,4 +1,6 @@
+use Rattle.arch_defs.specs.declared.first.Tag.TheVariants.{Nested}
+use Rattle.arch_defs.specs.declared.roots.GuestRoot.TheVariants.{Bare}
 use Rattle.tests_walks.proofs.buffers.start.Goals as goal
 
 pub returns : goal.returns
-returns c = c.new.ensures c.in_ok-with_words.field-0
+returns c = c.new-2.ensures c.in_ok-first.first (Nested Bare) c.in_ok-memory.memory

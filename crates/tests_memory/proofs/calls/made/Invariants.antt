@@ -1,6 +1,6 @@
 use Rattle.std.specs.Prelude.{◌≡◌, length}
 use Rattle.shadow_pool.specs.Slots.{TidyPool}
-use Rattle.tests_memory.proofs.pools.made.Given as goal
+use Rattle.tests_memory.proofs.calls.made.Given as goal
 
 abbrev pub invariant-loop-i : goal.invariant-loop-i
 invariant-loop-i l = record {
