@@ -1,0 +1,4 @@
+pub mod Beginnings
+pub mod Fronts
+pub mod RoundTrips
+pub mod Streams

@@ -1,0 +1,19 @@
+-- The messages of a stream of bytes.
+use Rattle.std.specs.Prelude.{ℕ, zero, suc, List, [], ◌∷◌, drop, length, Option, Some, None}
+use Rattle.gdb_packets.specs.Frames.{message_in}
+use Rattle.gdb_packets.specs.declared.messages.Message.{Message}
+use Rattle.gdb_packets.specs.declared.messages.Received.{Received}
+
+-- a message, if there is one, before those behind it
+abbrev pub with_later : Option Received → (ℕ → List Message) → List Message
+with_later None later = []
+with_later (Some received) later = received.message ∷ later received.length
+
+-- at most so many of the first messages
+unfoldable pub first_messages : ℕ → List ℕ → List Message
+first_messages zero bytes = []
+first_messages (suc n) bytes = with_later (message_in bytes) (λ k. first_messages n (drop k bytes))
+
+-- all messages, each of which is of one byte at least. A packet that is cut is none
+unfoldable pub messages_in : List ℕ → List Message
+messages_in bytes = first_messages (length bytes) bytes

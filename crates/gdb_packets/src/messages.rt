@@ -1,0 +1,161 @@
+// What a stream of bytes begins with.
+
+ghost use Rattle.std.specs.Prelude.{◌≡◌, ◌+◌, ◌^◌, ◌<◌, ◌≤◌, drop, length, IfOk, option_map};
+ghost use Rattle.gdb_packets.specs.Frames.{body_length, checksum, is_sum, message_in, packet_at, packet_in, single};
+ghost use Rattle.gdb_packets.specs.Digits.{pair_value};
+
+use crate::digits::pair_value;
+use crate::escapes::{checksum, unescaped};
+use no_memory::NoMemory;
+use std::alloc::Global;
+use std::marker::Model;
+
+// The byte behind the data of a packet.
+const CLOSING: u8 = b'#';
+
+/// The data of a packet, its escapes taken off.
+#[derive(Drop)]
+pub struct Payload {
+    bytes: Vec<u8>,
+}
+
+impl Model for Payload {
+    ghost use Rattle.std.specs.Prelude.{ℕ, List};
+
+    ghost Value = { List ℕ };
+
+    ghost view = { λ p. p.bytes.items };
+}
+
+impl Payload {
+    // These bytes.
+    fn of(bytes: Vec<u8>) -> Payload
+        ensures { result ≡ bytes.items }
+    {
+        Payload { bytes }
+    }
+
+    /// The bytes, lent.
+    pub fn as_slice(&self) -> &[u8]
+        ensures { result.now ≡ self.now }
+    {
+        self.bytes.as_slice()
+    }
+}
+
+/// What gdb or a stub says: a packet, or one whose sum is wrong, or that ends in an escape; that a packet
+/// has come, or is to be sent again; that the run is to be interrupted; or a byte that is none of these.
+#[derive(Drop)]
+pub enum Message {
+    Packet(Payload),
+    BadSum,
+    BadEscape,
+    Ack,
+    Nack,
+    Interrupt,
+    Stray,
+}
+
+/// A message, and of how many bytes it was.
+#[derive(Drop)]
+pub struct Received {
+    pub message: Message,
+    pub length: usize,
+}
+
+// The message of a byte that opens no packet.
+fn single(byte: u8) -> Message
+    ensures { result ≡ single byte }
+{
+    match byte {
+        b'+' => Message::Ack,
+        b'-' => Message::Nack,
+        3 => Message::Interrupt,
+        _ => Message::Stray,
+    }
+}
+
+// How many bytes stand before the closing of a packet.
+#[tactic(auto, using(crate::proofs::Beginnings::body_within))]
+fn body_length(rest: &[u8]) -> usize
+    ensures value { result ≡ body_length rest.now }
+    ensures within { result ≤ length rest.now }
+{
+    let mut place = 0;
+    while place < rest.len() {
+        if rest[place] == CLOSING {
+            return place;
+        }
+        place += 1;
+    }
+    place
+}
+
+// Whether two digits give this sum.
+fn is_sum(high: u8, low: u8, sum: u8) -> bool
+    ensures { result ≡ is_sum (pair_value high low) sum }
+{
+    match pair_value(high, low) {
+        Some(given) => given == sum,
+        None => false,
+    }
+}
+
+// The packet whose data are so many of these bytes.
+fn packet_at(alloc: Global, n: usize, rest: &[u8]) -> Result<Message, NoMemory>
+    requires { n + 2 < length rest.now }
+    ensures { IfOk result (λ message. message ≡ packet_at n rest.now) }
+{
+    let body = &rest[..n];
+    if !is_sum(rest[n + 1], rest[n + 2], checksum(body)) {
+        return Ok(Message::BadSum);
+    }
+    match unescaped(alloc, body)? {
+        Some(bytes) => Ok(Message::Packet(Payload::of(bytes))),
+        None => Ok(Message::BadEscape),
+    }
+}
+
+// The packet that these bytes begin behind its opening.
+#[tactic(auto, unfolding(crate::specs::Frames::packet_in))]
+fn packet_in(alloc: Global, rest: &[u8]) -> Result<Option<Received>, NoMemory>
+    requires { length rest.now < 2 ^ 62 }
+    ensures { IfOk result (λ received. received ≡ packet_in rest.now) }
+{
+    let n = body_length(rest);
+    if rest.len() <= n + 2 {
+        return Ok(None);
+    }
+    let message = packet_at(alloc, n, rest)?;
+    Ok(Some(Received {
+        message,
+        length: n + 4,
+    }))
+}
+
+// All bytes but the first.
+fn behind_first(bytes: &[u8]) -> &[u8]
+    requires { 1 ≤ length bytes.now }
+    ensures { result.now ≡ drop 1 bytes.now }
+{
+    &bytes[1..]
+}
+
+/// The message that bytes begin with; nothing where there is none, or where it is cut. It may answer out of
+/// memory.
+#[tactic(auto, using(crate::proofs::Beginnings::messages))]
+pub fn read_message(alloc: Global, bytes: &[u8]) -> Result<Option<Received>, NoMemory>
+    requires { length bytes.now < 2 ^ 62 }
+    ensures { IfOk result (λ received. received ≡ message_in bytes.now) }
+{
+    if bytes.is_empty() {
+        return Ok(None);
+    }
+    if bytes[0] == b'$' {
+        return packet_in(alloc, behind_first(bytes));
+    }
+    Ok(Some(Received {
+        message: single(bytes[0]),
+        length: 1,
+    }))
+}

@@ -1,0 +1,5 @@
+pub mod Answers
+pub mod Looking
+pub mod Registers
+pub mod Sessions
+pub mod Talks

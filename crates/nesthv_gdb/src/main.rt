@@ -1,0 +1,26 @@
+// Makes the words, the files and the streams that the debugger takes, and ends with its answer.
+#![tactic(auto)]
+
+mod descriptions;
+
+use descriptions::DESCRIPTION;
+use gdb_top::debug;
+use outside::{FileStore, ProcessArguments, StdSink, words_of};
+use std::process::ExitCode;
+
+fn main(rt: HostRuntime) -> ExitCode {
+    let words = words_of(&ProcessArguments::new(&rt), rt.alloc());
+    let mut store = FileStore::new(&rt);
+    let mut input = rt.stdin();
+    let mut out = StdSink::new(rt.stdout());
+    let mut err = StdSink::new(rt.stderr());
+    ExitCode::from(debug(
+        rt.alloc(),
+        words,
+        DESCRIPTION,
+        &mut store,
+        &mut input,
+        &mut out,
+        &mut err,
+    ))
+}

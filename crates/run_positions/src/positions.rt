@@ -1,0 +1,293 @@
+// A run, at one of its positions.
+
+ghost use Rattle.std.specs.Prelude.{◌≡◌, ◌+◌, ◌-◌, ◌^◌, ◌<◌, ◌≤◌, length, ℕ, IfOk, IfSome, OnErr, OnOk};
+ghost use Rattle.run_positions.specs.Looks.{offset_of};
+ghost use Rattle.run_positions.specs.Positions.{begin_of, shown_of, IsShown, IsWithinAt, KeepsRun};
+ghost use Rattle.run_positions.specs.Stops.{last_stop, next_stop, IsFoundFrom};
+
+use crate::kept::Kept;
+use crate::runners::Runner;
+use crate::stops::{Stops, goes_on};
+use no_memory::NoMemory;
+use std::alloc::Global;
+
+/// The latest position.
+pub const LAST: u64 = 1 << 52;
+
+// How many steps of a machine, at most, let it be kept.
+const KEPT_STEPS: u64 = 1 << 60;
+
+// How many steps are between the first two states that are kept. Each further distance is greater by as many.
+const GAP: u64 = 16_384;
+
+/// A run of a machine at a position, which is after how many steps it is shown, with states that are kept.
+#[derive(Drop)]
+pub struct Positions<R> {
+    runner: R,
+    place: u64,
+    first: Vec<u8>,
+    kept: Vec<Kept>,
+    next: u64,
+    gap: u64,
+}
+
+impl<R: Runner + Drop> Positions<R> {
+    /// The run of a machine, at its begin.
+    #[tactic(auto, using(crate::proofs::Moving::begun))]
+    pub fn new(alloc: Global, runner: R) -> Result<Positions<R>, NoMemory>
+        requires { (R.machine runner).platform.steps ≤ 2 ^ 60 }
+        ensures held { IfOk result (IsShown R.Runner) }
+        ensures origin { IfOk result (λ p. begin_of R.Runner p ≡ R.machine runner) }
+        ensures place { IfOk result (λ p. p.place ≡ 0) }
+    {
+        let first = runner.keep(alloc)?;
+        Ok(Positions {
+            runner,
+            place: 0,
+            first,
+            kept: Vec::new(alloc),
+            next: GAP,
+            gap: GAP,
+        })
+    }
+
+    /// After how many steps the machine is shown.
+    pub fn place(&self) -> u64
+        ensures { result ≡ self.now.place }
+    {
+        self.place
+    }
+
+    /// What runs the machine, lent to be read.
+    pub fn runner(&self) -> &R
+        ensures { result.now ≡ self.now.runner }
+    {
+        &self.runner
+    }
+
+    /// The offset into RAM of an address, by the walk of the present mode, if it has one.
+    #[tactic(auto, using(crate::proofs::Moving::left_alone))]
+    pub fn offset(&mut self, va: u64) -> Option<u64>
+        requires held { IsShown R.Runner self.old }
+        ensures offset { result ≡ offset_of (shown_of R.Runner self.old) va }
+        ensures keeps { KeepsRun R.Runner self.old self.new }
+        ensures machine { shown_of R.Runner self.new ≡ shown_of R.Runner self.old }
+        ensures place { self.new.place ≡ self.old.place }
+    {
+        self.runner.offset(va)
+    }
+
+    // Makes steps.
+    #[tactic(auto, using(crate::proofs::Moving::moved))]
+    fn run_on(&mut self, k: u64)
+        requires held { IsShown R.Runner self.old }
+        requires few { self.old.place + k ≤ 2 ^ 52 }
+        ensures keeps { KeepsRun R.Runner self.old self.new }
+        ensures place { self.new.place ≡ self.old.place + k }
+    {
+        self.runner.run(k);
+        self.place += k;
+    }
+
+    // Keeps the state of this position, where there is memory for it, and says when the next is to be kept.
+    #[tactic(auto, using(crate::proofs::Moving::movings))]
+    fn keep(&mut self, alloc: Global)
+        requires held { IsShown R.Runner self.old }
+        ensures keeps { KeepsRun R.Runner self.old self.new }
+        ensures place { self.new.place ≡ self.old.place }
+    {
+        self.gap = self.gap.saturating_add(GAP);
+        self.next = self.place.saturating_add(self.gap);
+        if self.runner.steps() <= KEPT_STEPS {
+            if let Ok(form) = self.runner.keep(alloc) {
+                let place = self.place;
+                let _ = self.kept.push(Kept { place, form });
+            }
+        }
+    }
+
+    // Makes some of the steps to a later position: as many as stand before the next state that is to be kept.
+    fn advance(&mut self, alloc: Global, n: u64)
+        requires held { IsShown R.Runner self.old }
+        requires later { self.old.place < n }
+        requires few { n ≤ 2 ^ 52 }
+        ensures keeps { KeepsRun R.Runner self.old self.new }
+        ensures later { self.old.place < self.new.place }
+        ensures within { self.new.place ≤ n }
+    {
+        let to = if self.place < self.next && self.next < n && goes_on(self.runner.status()) {
+            self.next
+        } else {
+            n
+        };
+        self.run_on(to - self.place);
+        if self.place == self.next {
+            self.keep(alloc);
+        }
+    }
+
+    // Makes all steps to a later position.
+    #[tactic(auto, using(crate::proofs::Moving::keepings))]
+    fn go_on(&mut self, alloc: Global, n: u64)
+        requires held { IsShown R.Runner self.old }
+        requires later { self.old.place ≤ n }
+        requires few { n ≤ 2 ^ 52 }
+        ensures keeps { KeepsRun R.Runner self.old self.new }
+        ensures place { self.new.place ≡ n }
+    {
+        while self.place < n {
+            self.advance(alloc, n);
+        }
+    }
+
+    // Which state that is kept is the latest one that is not behind a position.
+    fn nearest(&self, n: u64) -> Option<usize>
+        ensures inside { IfSome result (λ i. i < length self.now.kept.items) }
+        ensures within { IfSome result (λ i. IsWithinAt self.now.kept.items i n) }
+    {
+        let mut found = None;
+        let mut place = 0;
+        for i in 0..self.kept.len() {
+            let state = &self.kept[i];
+            if place < state.place && state.place <= n {
+                place = state.place;
+                found = Some(i);
+            }
+        }
+        found
+    }
+
+    // Brings back the begin.
+    #[tactic(auto, using(crate::proofs::Moving::movings))]
+    fn bring_begin(&mut self, alloc: Global) -> Result<(), NoMemory>
+        requires held { IsShown R.Runner self.old }
+        ensures keeps { KeepsRun R.Runner self.old self.new }
+        ensures place { OnOk result (self.new.place ≡ 0) }
+        ensures stays { OnErr result (self.new.place ≡ self.old.place) }
+    {
+        self.runner.bring_back(alloc, self.first.as_slice())?;
+        self.place = 0;
+        Ok(())
+    }
+
+    // Brings back a state that is kept.
+    #[tactic(auto, using(crate::proofs::Moving::movings))]
+    fn bring_kept(&mut self, alloc: Global, i: usize, n: u64) -> Result<(), NoMemory>
+        requires held { IsShown R.Runner self.old }
+        requires kept { i < length self.old.kept.items }
+        requires within { IsWithinAt self.old.kept.items i n }
+        ensures keeps { KeepsRun R.Runner self.old self.new }
+        ensures place { OnOk result (self.new.place ≤ n) }
+        ensures stays { OnErr result (self.new.place ≡ self.old.place) }
+    {
+        let state = &self.kept[i];
+        self.runner.bring_back(alloc, state.form.as_slice())?;
+        self.place = state.place;
+        Ok(())
+    }
+
+    // Brings back the latest state that is kept and not behind a position, or that of the begin. Where there
+    // is no memory for it, the position stays.
+    #[tactic(auto, using(crate::proofs::Moving::movings))]
+    fn bring_back(&mut self, alloc: Global, n: u64) -> Result<(), NoMemory>
+        requires held { IsShown R.Runner self.old }
+        ensures keeps { KeepsRun R.Runner self.old self.new }
+        ensures place { OnOk result (self.new.place ≤ n) }
+        ensures stays { OnErr result (self.new.place ≡ self.old.place) }
+    {
+        match self.nearest(n) {
+            Some(i) => self.bring_kept(alloc, i, n),
+            None => self.bring_begin(alloc),
+        }
+    }
+
+    /// Shows the machine after `n` steps. Where there is no memory for it, the position stays.
+    #[tactic(auto, using(crate::proofs::Moving::keepings))]
+    pub fn go_to(&mut self, alloc: Global, n: u64) -> Result<(), NoMemory>
+        requires held { IsShown R.Runner self.old }
+        requires few { n ≤ 2 ^ 52 }
+        ensures keeps { KeepsRun R.Runner self.old self.new }
+        ensures place { OnOk result (self.new.place ≡ n) }
+        ensures stays { OnErr result (self.new.place ≡ self.old.place) }
+    {
+        if n < self.place {
+            self.bring_back(alloc, n)?;
+        }
+        self.go_on(alloc, n);
+        Ok(())
+    }
+
+    // Goes on to a position, and answers the last one before it, from this one on, at which a stop holds.
+    #[tactic(auto, using(crate::proofs::Stopping::scannings))]
+    fn scan(&mut self, high: u64, stops: &Stops) -> Option<u64>
+        requires held { IsShown R.Runner self.old }
+        requires later { self.old.place ≤ high }
+        requires few { high ≤ 2 ^ 52 }
+        ensures keeps { KeepsRun R.Runner self.old self.new }
+        ensures found { IsFoundFrom (begin_of R.Runner self.old) stops.now self.old.place high result }
+        ensures early { IfSome result (λ place. place < high) }
+    {
+        let mut found = None;
+        while self.place < high {
+            found = self.noted(stops, found);
+            self.run_on(1);
+        }
+        found
+    }
+
+    // What was found before, or this position, if a stop holds at it.
+    #[tactic(auto, using(crate::proofs::Stopping::notings))]
+    fn noted(&self, stops: &Stops, found: Option<u64>) -> Option<u64>
+        requires held { IsShown R.Runner self.now }
+        requires early { IfSome found (λ place. place < self.now.place) }
+        ensures found { (low : ℕ)
+            → IsFoundFrom (begin_of R.Runner self.now) stops.now low self.now.place found
+            → IsFoundFrom (begin_of R.Runner self.now) stops.now low (self.now.place + 1) result }
+        ensures early { IfSome result (λ place. place < self.now.place + 1) }
+    {
+        if stops.hold(&self.runner) {
+            Some(self.place)
+        } else {
+            found
+        }
+    }
+
+    /// Goes back to the last earlier position at which a stop holds, or to the begin. Where there is no
+    /// memory for it, the position is any.
+    #[tactic(auto, using(crate::proofs::Stopping::goings_back))]
+    pub fn back_to_stop(&mut self, alloc: Global, stops: &Stops) -> Result<(), NoMemory>
+        requires held { IsShown R.Runner self.old }
+        ensures keeps { KeepsRun R.Runner self.old self.new }
+        ensures place { OnOk result
+            (self.new.place ≡ last_stop (begin_of R.Runner self.old) stops.now self.old.place) }
+    {
+        let mut high = self.place;
+        while high > 0 {
+            self.bring_back(alloc, high - 1)?;
+            let low = self.place;
+            match self.scan(high, stops) {
+                Some(place) => return self.go_to(alloc, place),
+                None => high = low,
+            }
+        }
+        self.go_to(alloc, 0)
+    }
+
+    /// Goes on to the first later position, up to `n`, at which a stop holds or the machine does not go on,
+    /// or to `n`. It stays where it is not before `n`.
+    #[tactic(auto, using(crate::proofs::Stopping::goings_on))]
+    pub fn on_to_stop(&mut self, alloc: Global, stops: &Stops, n: u64)
+        requires held { IsShown R.Runner self.old }
+        requires few { n ≤ 2 ^ 52 }
+        ensures keeps { KeepsRun R.Runner self.old self.new }
+        ensures place { self.new.place
+            ≡ next_stop (begin_of R.Runner self.old) stops.now self.old.place (n - self.old.place) }
+    {
+        while self.place < n {
+            self.go_on(alloc, self.place + 1);
+            if stops.end(&self.runner) {
+                return;
+            }
+        }
+    }
+}
