@@ -103,8 +103,8 @@ abbrev pub RootsLieFrom : ℕ → List Layout → Type 0
 RootsLieFrom frame parts =
     (i : ℕ) (d : Layout) → i < length parts → frame ≤ (get_or parts i d).first_root
 
--- so many spare blocks from a first one on lie between the blocks of all parts and their roots: in no part, and
--- in memory of so many frames
+-- so many spare blocks from a first one on lie between the blocks of all parts and their roots: in no part,
+-- and in memory of so many frames
 pub record LeavesSpare (first spare : ℕ) (parts : List Layout) (frames : ℕ) : Type 0 where
   pub behind : BlocksLieBelow first parts
   pub before : RootsLieFrom (512 * (first + spare)) parts

@@ -10,8 +10,8 @@ use crate::faults::PlanFault;
 use arch_defs::{BLOCK_FRAMES, MOST_BLOCKS, MOST_FRAMES, Need, Part, TABLES_PER_ENTRY};
 use std::alloc::Global;
 
-/// The parts of guests, in their order, how many blocks they have, which is also the first spare block, and the
-/// frames of machine memory that all lie in.
+/// The parts of guests, in their order, how many blocks they have, which is also the first spare block, and
+/// the frames of machine memory that all lie in.
 #[derive(Drop)]
 pub struct Split {
     pub parts: Vec<Part>,
@@ -35,8 +35,8 @@ struct Totals {
     tables: u64,
 }
 
-/// Shares out machine memory: each guest gets a part of the size that it needs, all blocks come first,
-/// then so many spare blocks that are in no part, then all roots, then all other tables. It answers `TooMuch`,
+/// Shares out machine memory: each guest gets a part of the size that it needs, all blocks come first, then
+/// so many spare blocks that are in no part, then all roots, then all other tables. It answers `TooMuch`,
 /// with the sum, exactly where the needs and the spare blocks sum to more than 131,072 frames, and else may
 /// answer `NoMemory`.
 pub fn plan(alloc: Global, needs: &[Need], spare: u64) -> Result<Split, PlanFault>

@@ -34,8 +34,8 @@ abbrev pub guest_table : Bool → List (ConfigKey × Kind)
 guest_table true = resumed_table
 guest_table false = fresh_table
 
--- the keys of the same kinds that a guest may have after these, by whether it is resumed: the file of a resumed
--- one tells whether it has the device page (own)
+-- the keys of the same kinds that a guest may have after these, by whether it is resumed: the file of a
+-- resumed one tells whether it has the device page (own)
 abbrev pub optional_table : Bool → Format → List (ConfigKey × Kind)
 optional_table resumed One = []
 optional_table true Two = (key.Weight, integer_of 1 1000) ∷ []

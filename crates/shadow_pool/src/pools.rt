@@ -168,8 +168,8 @@ impl Pool {
         entries_at(self.slots.as_slice(), i as usize)[j as usize]
     }
 
-    /// Takes over a part that differs from the kept one in the numbers of its blocks alone, of which it has as
-    /// many, and folds each leaf of all spaces anew for it. The lists stay.
+    /// Takes over a part that differs from the kept one in the numbers of its blocks alone, of which it has
+    /// as many, and folds each leaf of all spaces anew for it. The lists stay.
     pub fn moved(&mut self, mem: &mut PhysMem, part: &Part)
         requires tidy { TidyPool self.old mem.old }
         requires part { IsMovedPart self.old.part part.now }

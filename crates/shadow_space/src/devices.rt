@@ -3,11 +3,8 @@
 ghost use Rattle.std.specs.Prelude.{◌≡◌, Some};
 ghost use Rattle.arch_defs.specs.CachedEntries.{device_by, is_device, leaf_of};
 
-use arch_defs::{Access, Entry, LeafPte};
+use arch_defs::{Access, DEVICE_FRAME, Entry, LeafPte};
 use stage_walk::permits_second;
-
-// The frame of the device page.
-const DEVICE_FRAME: u64 = 0x1_0000;
 
 /// Whether an entry is of the device page.
 pub fn is_device(entry: &Entry) -> bool

@@ -146,8 +146,8 @@ impl Space {
         self.table.drop_named(mem, &tables, None);
     }
 
-    /// Takes over a part that differs from the kept one in the numbers of its blocks alone, of which it has as
-    /// many, and folds each leaf anew for it. The list stays.
+    /// Takes over a part that differs from the kept one in the numbers of its blocks alone, of which it has
+    /// as many, and folds each leaf anew for it. The list stays.
     pub fn moved(&mut self, mem: &mut PhysMem, part: &Part)
         requires tidy { Tidy self.old mem.old }
         requires part { IsMovedPart self.old.part part.now }
