@@ -196,7 +196,7 @@ done
 "$program" save first.toml 0 >saved
 mkfifo pipe
 resumed cut.saved
-for length in 1 8 600 608 609 4096 100000 2000000 2097760; do
+for length in 1 8 608 616 624 625 4096 100000 2000000 2097760; do
     { "$program" save first.toml 0 2>/dev/null || true; } | head -c "$length" >cut.saved
     cmp -s -n "$length" cut.saved saved || { wrong=$((wrong + 1)); echo "a save cut at $length: other bytes"; }
     refused "a save cut at $length" 2 'nesthv: configuration fault 14 guest 0' check resumed.toml

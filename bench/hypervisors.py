@@ -10,7 +10,8 @@ An image is a hypervisor and one or two nested guests. The hypervisor goes throu
 in its first-stage and second-stage tables of three and four levels (loops, roots outside RAM, wrong bits, superpages
 of every level), puts random words at mapped places, writes registers, delegates, fences in every form, sets timers,
 waits, makes HLV, HLVX and HSV, and enters VS, VU and U. Half of the guests have the device page, which their tables
-and registers name. Its trap handler puts on the console what trapped, from where,
+and registers name. Half of them move pages of satp and vsatp between accesses, with a fence that names the page, with
+another one, and with none, so that accesses go by what is cached of the first stage. Its trap handler puts on the console what trapped, from where,
 and a hash of the registers, and goes on with the next deed.
 """
 # Usage: bench/hypervisors.py [--first SEED] [--count N] [--steps N] [--jobs N] [--program PATH] [--keep FOLDER]
@@ -39,11 +40,13 @@ DEVICE = 0x10000000
 # Where things begin in RAM: the trap handler, the deeds, their constants, second-stage tables, first-stage tables,
 # nested code, data. MIDDLES are tables of level 1, LASTS of level 0. The second root of each stage may have four
 # levels; its table of level 2 is HIGH, and at the first stage the guest's page 23. OWN is satp's root of four levels.
+# From PAGES on satp maps pages of the data, by the tables OWN_MIDDLE and OWN_LAST.
 HANDLER = 0x200
 DEEDS = 0x400
 CONSTANTS, ROOTS, MIDDLES, LASTS = 0x8000, 0x10000, 0x18000, 0x1C000
 FIRSTS, CODE, DATA, END = 0x20000, 0x28000, 0x30000, 0x38000
 HIGH, OWN = 0x1A000, 0x1B000
+OWN_MIDDLE, OWN_LAST, PAGES = 0x1E000, 0x1F000, 0x40000000
 SV39, SV48 = 8, 9  # MODE of satp and vsatp; of hgatp Sv39x4 and Sv48x4
 
 SSTATUS, SIE, STVEC, SCOUNTEREN, SSCRATCH, SEPC, SCAUSE, STVAL, SIP, SATP = (
@@ -120,9 +123,12 @@ class Maker:
 
     def __init__(self, seed):
         self.random = random.Random(seed)
-        # What is of the device page is drawn apart, so that an image without it is the same as ever.
+        # What is of the device page is drawn apart, so it changes nothing else of an image.
         self.device_random = random.Random(f"device {seed}")
         self.has_device = self.device_random.random() < 0.5
+        # And so is what moves pages of the first stage.
+        self.first_random = random.Random(f"first stage {seed}")
+        self.moves_pages = self.first_random.random() < 0.5
         self.blocks = self.random.choice([1, 1, 1, 2])
         self.spaces = self.random.choice([1, 1, 2, 3, 8])
         self.entries = self.random.choice([16, 16, 17, 24, 64, 256])
@@ -237,6 +243,22 @@ class Maker:
         self.double(FIRSTS + 0x6000 + 16, ram << 10 | 0xCF)
         self.double(FIRSTS + 0x6000, (ram + (FIRSTS + 0x4000 >> 12)) << 10 | 1)
         self.double(OWN, pointer(FIRSTS + 0x6000))
+
+    def own_pages(self):
+        """Pages of the data, each with bytes of its own at its start, by tables that satp has beside RAM."""
+        pointer = lambda offset: (RAM + offset >> 12) << 10 | 1
+        for page in range(8):
+            for at in range(0, 32, 8):
+                self.double(DATA + 0x1000 * page + at, 0x41 + page + at)
+        self.double(FIRSTS + 0x6008, pointer(OWN_MIDDLE))
+        self.double(OWN_MIDDLE, pointer(OWN_LAST))
+        self.double(OWN_MIDDLE + 8, RAM >> 12 << 10 | 0xC7)
+        for page in range(40):
+            self.double(OWN_LAST + 8 * page, self.data_leaf(0xC7))
+
+    def data_leaf(self, bits):
+        """A leaf to a page of the data."""
+        return (RAM + DATA + 0x1000 * self.first_random.randrange(8) >> 12) << 10 | bits
 
     # nested guests
 
@@ -419,9 +441,58 @@ class Maker:
             self.constant(8, self.pointer())
             self.words.append(self.nested_word())
 
+    # what the first stage caches
+
+    def own_deed(self):
+        """In HS: pages of satp are moved, fenced, loaded from and stored to. A load puts a byte."""
+        r = self.first_random
+        satp = r.choice([SV39 << 60 | RAM + FIRSTS + 0x6000 >> 12] * 3 + [SV48 << 60 | RAM + OWN >> 12])
+        self.constant(5, satp | r.choice([0, 1, 1, 2]) << 44)
+        self.words.append(write_csr(SATP, 5))
+        pages = [r.randrange(1, 40) for _ in range(r.choice([1, 2, 2]))]
+        for _ in range(r.randrange(3, 9)):
+            self.own_access(r, r.choice(pages) if r.random() < 0.9 else r.randrange(40))
+        if r.random() < 0.3:
+            self.words.append(write_csr(SATP, 0))
+
+    def own_access(self, r, page):
+        pick = r.random()
+        if pick < 0.45:
+            self.constant(6, PAGES + 0x1000 * page + 8 * r.randrange(4) + (0x200000 + DATA if r.random() < 0.05 else 0))
+            self.words += [load(4, 10, 6, 0), addi(17, 0, 1), ECALL]
+        elif pick < 0.55:
+            self.constant(6, PAGES + 0x1000 * page + 8 * r.randrange(4))
+            self.words.append(store(0, 6, 6, 0) if r.random() < 0.7 else amo(1, 3, 10, 6, 6))
+        elif pick < 0.78:
+            self.constant(5, self.data_leaf(r.choice([0xC7, 0xC7, 0xC7, 0x43, 0xCF, 0x49, 0xD7, 0x47])))
+            self.constant(6, RAM + OWN_LAST + 8 * page)
+            self.words.append(store(3, 5, 6, 0))
+        else:
+            self.constant(5, PAGES + 0x1000 * r.choice([page, page, page, r.randrange(40), 512]))
+            self.constant(6, r.choice([0, 1, 1, 2, 0x10001]))
+            self.words.append(fence(r.choice([SFENCE_VMA] * 6 + [HFENCE_VVMA, HFENCE_GVMA]), r.choice([0, 5, 5]),
+                                    r.choice([0, 0, 6])))
+
+    def nested_deed(self):
+        """A page of vsatp is moved, and fenced or not, before a nested guest is entered."""
+        r = self.first_random
+        for _ in range(r.choice([1, 1, 2])):
+            last = FIRSTS + 0x1000 * r.choice([4, 5])
+            self.constant(5, r.randrange(8, 16) << 10 | r.choice([0xDF, 0xCF, 0xCF, 0x4B, 0xC7]))
+            self.constant(6, RAM + last + 8 * r.randrange(8, 16))
+            self.words.append(store(3, 5, 6, 0))
+        if r.random() < 0.5:
+            self.constant(5, r.choice([0x1000 * r.randrange(8, 16), 0x1000 * r.randrange(8, 16), 0]))
+            self.constant(6, r.choice([0, 1, 0xFFFF]))
+            self.words.append(fence(r.choice([HFENCE_VVMA] * 5 + [SFENCE_VMA, HFENCE_GVMA]), r.choice([0, 5, 5]),
+                                    r.choice([0, 0, 6])))
+        self.enter()
+
     def make(self):
         self.tables()
         self.nested()
+        if self.moves_pages:
+            self.own_pages()
         self.handler()
         self.put(0, [0x00000297, addi(5, 5, HANDLER), write_csr(STVEC, 5), jal(0, DEEDS - 12)])
         r = self.random
@@ -435,7 +506,11 @@ class Maker:
             # Where the handler goes on: behind the deed.
             at = len(self.words)
             self.words += [0, 0, 0]
-            self.deed()
+            pick = self.first_random.random() if self.moves_pages else 1
+            if pick < 0.35:
+                self.own_deed() if pick < 0.15 else self.nested_deed()
+            else:
+                self.deed()
             self.words[at:at + 3] = [0x297, addi(5, 5, 4 * (len(self.words) - at)), write_csr(SSCRATCH, 5)]
         self.words += [addi(17, 0, 8), ECALL]
         self.put(DEEDS, self.words)

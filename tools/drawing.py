@@ -138,6 +138,11 @@ class Drawing:
             box = self.nested.box("", part["start"], part["size"], part["rights"], colour)
             places = self.middle.places(present, part["to"], part["to"] + part["size"])
             self.lead(self.nested, box, self.middle, places, colour)
+        stale = {other["page"] for other in self.own["stale"]}
+        for entry in [each for each in self.own["cached"] if each["page"] in stale]:
+            to = self.middle.places(present, entry["frame"], entry["frame"] + 1)
+            places = self.nested.places("", entry["page"] << 12, (entry["page"] << 12) + 1)
+            self.bands += [Band(self.nested, y, self.middle, to) for y in places if to]
 
     def lead(self, left, box, right, places, colour):
         if places:
@@ -149,7 +154,8 @@ class Drawing:
             column.x, x = x, x + column.width + SPACE
         width, height = x - SPACE + 10, max(column.y for column in columns) + 2 * ROW
         texts = [f'<text class="title" x="14" y="18">step {step}</text>']
-        texts += [f'<text x="14" y="{height - 10}">{LEGEND}</text>'] if self.stale else []
+        has_stale = self.stale or self.own["stale"]
+        texts += [f'<text x="14" y="{height - 10}">{LEGEND}</text>'] if has_stale else []
         size = f'width="{width}" height="{height}"'
         return "\n".join([f'<svg xmlns="http://www.w3.org/2000/svg" {size}><style>{STYLE}</style>',
                           f'<rect {size} fill="#fff"/>', *texts, *(band.part() for band in self.bands),

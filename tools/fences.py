@@ -1,7 +1,13 @@
 """Whether a guest's report rests on a cached translation that it should have fenced. The standard permits a
 machine to drop cached translations at any time. So where a run from which they were dropped ends in another
 report, both are runs that the standard permits, and the guest's fences do not decide between them.
+
+Where a guest enters V = 1, those for V = 1 are dropped: of the second stage, and of the first under vsatp.
+Those of satp are dropped behind each trap that HS takes from itself or from U, and, since a kernel may have
+few traps, at some steps evenly: at each where the run is short.
 """
+import itertools
+
 import entries
 import reports
 import states
@@ -10,13 +16,18 @@ import views
 import walks
 
 
-class Drop:
-    """The run that goes on behind a step without the cached translations."""
+PROBES = 64  # steps, evenly, at which translations of satp are dropped
 
-    def __init__(self, runs, step):
-        self.runs, self.step, saved = runs, step, runs.at(step)
-        self.data = saved.changed(spaces=[(key, []) for key, _ in saved.spaces])
-        self.is_empty = not any(entries for _, entries in saved.spaces)
+
+class Drop:
+    """The run that goes on behind a step without cached translations: those for V = 1, or those of satp."""
+
+    def __init__(self, runs, step, is_of_satp=False):
+        self.runs, self.step, self.is_of_satp, saved = runs, step, is_of_satp, runs.at(step)
+        kept = [entry for entry in saved.first if bool(entry.v) == is_of_satp]
+        spaces = saved.spaces if is_of_satp else [(key, []) for key, _ in saved.spaces]
+        self.data = saved.changed(spaces=spaces, first=kept)
+        self.is_empty = spaces_are_empty(saved, is_of_satp) and len(kept) == len(saved.first)
 
     def line(self):
         return states.Line(self.runs, self.step, self.data)
@@ -38,20 +49,36 @@ class Drop:
                               [self.runs.at(step), line.at(step)])
 
 
-def used_pages(saved):
-    """The guest physical pages that the next step uses: those of its first-stage entries, of pc and of the
-    data of a load or store."""
-    if not stays.is_nested(saved):
-        return set()
-    view, addresses = walks.View(saved), [saved.numbers["pc"]]
+def spaces_are_empty(saved, is_of_satp):
+    return is_of_satp or not any(entries for _, entries in saved.spaces)
+
+
+def used_addresses(saved):
+    """The virtual addresses of the next step, each with the kind of access: pc, and the data of a load or
+    store."""
     word, _, _ = walks.fetched(saved)
     data = None if word is None else data_address(saved, word)
-    pages = set()
-    for address in addresses + ([] if data is None else [data]):
+    is_load = word is not None and (word & 0x7F == 0x03 or word & 0xF800007F == 0x1000002F)
+    kind = walks.LOAD if is_load else walks.STORE
+    return [(saved.numbers["pc"], walks.FETCH)] + ([] if data is None else [(data, kind)])
+
+
+def used_pages(saved):
+    """What the next step uses of each stage: the guest physical pages of its first-stage entries, of pc and
+    of data, and the virtual pages that it has cached translations of the first stage for, each with whose it
+    is: hgatp, or the key of the accesses."""
+    view, pages = walks.View(saved), set()
+    for address, kind in used_addresses(saved):
         translation = walks.Translation(view, address)
-        places = [met.place for met in translation.first.met] if translation.first else []
-        places += [translation.between] if translation.between is not None else []
-        pages.update(place >> 12 for place in places)
+        places, between = [], translation.between
+        if translation.is_by_first(kind):
+            pages.add((view.key(), address >> 12))
+            between = translation.cached_between
+        elif translation.first:
+            places = [met.place for met in translation.first.met]
+        if view.is_nested:
+            places += [between] if between is not None else []
+            pages.update((view.hgatp, place >> 12) for place in places)
     return pages
 
 
@@ -65,6 +92,9 @@ def data_address(saved, word):
     return base + entries.signed(low, 12) & 2**64 - 1
 
 
+WHO = ("with them", "without them")
+
+
 class Difference:
     """A step from which on two runs differ, the states before it and those behind it."""
 
@@ -74,20 +104,26 @@ class Difference:
     def stale(self):
         """The stale translations that one of the two runs has, and the other has not: whose they are, the
         key, the page, how they differ in words, and the walk. Where the step uses some of them, only these.
+        The key of one of the first stage has V, hgatp, and satp or vsatp.
         """
-        found = self.all_stale()
-        used = {(saved.numbers["hgatp"], page) for saved in self.before for page in used_pages(saved)}
+        found = self.all_stale() + self.all_first_stale()
+        used = {each for saved in self.before for each in used_pages(saved)}
         return [each for each in found if each[1:3] in used] or found
 
     def all_stale(self):
         found, held = [], [dict(saved.spaces) for saved in self.before]
-        for number, who in enumerate(("with them", "without them")):
+        for number, who in enumerate(WHO):
             for key, page, words, walk in walks.stale_entries(self.before[number]):
                 other = [entry for entry in held[1 - number].get(key, []) if entry[0] == page]
                 own = [entry for entry in held[number][key] if entry[0] == page]
                 if own != other:
                     found.append((who, key, page, words, walk))
         return found
+
+    def all_first_stale(self):
+        return [(who, entry[:3], entry.page, words, walk) for number, who in enumerate(WHO)
+                for entry, words, walk in walks.stale_first_entries(self.before[number])
+                if entry not in self.before[1 - number].first]
 
 
 def last_change(runs, walk, step):
@@ -115,10 +151,18 @@ def value_of(session, drop, plain, report, found):
         change = last_change(session.runs, walk, found.step - 1)
         before = session.runs.at(change[0] - 1) if change else None
         value["stale"].append({
-            "who": who, "key": key, "page": page, "words": words, "entry": change[1] if change else None,
+            "who": who, **table_of(key), "page": page, "words": words, "entry": change[1] if change else None,
             "changed_at": change[0] - 1 if change else None,
             "changed_by": session.line(before) if before else None})
     return value
+
+
+def table_of(key):
+    """Whose a cached translation is: the register of its table, its value, and hgatp beside vsatp."""
+    if isinstance(key, int):
+        return {"register": "hgatp", "key": key, "hgatp": None}
+    v, hgatp, atp = key
+    return {"register": "vsatp" if v else "satp", "key": atp, "hgatp": hgatp if v else None}
 
 
 def lines_of(value):
@@ -131,8 +175,9 @@ def lines_of(value):
     lines.append(f"the states are other ones from this step on: {value['line']}")
     lines += [f"  {name} {one} | {two}".rstrip(" |") for name, one, two in value["differences"]]
     for each in value["stale"]:
-        lines.append(f"  page {each['page'] << 12:x} of hgatp {each['key']:x}, {each['who']}: "
-                     + each["words"])
+        under = "" if each["hgatp"] is None else f" under hgatp {each['hgatp']:x}"
+        table = f"{each['register']} {each['key']:x}{under}"
+        lines.append(f"  page {each['page'] << 12:x} of {table}, {each['who']}: {each['words']}")
         if each["changed_by"]:
             lines.append(f"    the entry at {each['entry']:x} was changed by {each['changed_by']}")
     if not value["stale"]:
@@ -141,9 +186,9 @@ def lines_of(value):
 
 
 class Search:
-    """Drops the cached translations at each entry into V = 1 behind a step, up to another one, at which
-    something is cached, one at a time and at most so many, where `most` is not 0. Counts the drops, and those
-    that change the report. `cut` is the step of the first one that is left out, or none."""
+    """Drops cached translations behind a step, up to another one, wherever there are some to be dropped, one
+    drop at a time and at most so many, where `most` is not 0. Counts the drops, and those that change the
+    report. `cut` is the step of the first one that is left out, or none."""
 
     def __init__(self, session, start, end, most):
         self.session, self.start, self.end, self.most = session, start, end, most
@@ -155,16 +200,30 @@ class Search:
         return f"{done}: {len(self.changing)} change the report"
 
     def drops(self):
-        runs, count = self.session.runs, 0
-        for stay in stays.stays_of(runs, self.start, self.end, lambda low, high: None):
-            drop = Drop(runs, stay.entry)
-            if drop.is_empty:
+        runs, made = self.session.runs, set()
+        places = [self.places()] + ([self.even_places()] if runs.start.has_first() else [])
+        for place in itertools.chain(*places):
+            drop = Drop(runs, *place)
+            if drop.is_empty or place in made:
                 continue
-            if count == self.most > 0:
-                self.cut = stay.entry
+            if len(made) == self.most > 0:
+                self.cut = drop.step
                 return
-            count += 1
+            made.add(place)
             yield drop
+
+    def places(self):
+        """Steps at which those for V = 1, or those of satp, are dropped: entries into V = 1, and traps."""
+        runs = self.session.runs
+        for stay, trap in stays.stays_and_traps(runs, self.start, self.end, lambda low, high: None):
+            yield (stay.entry, False) if stay else (trap, True)
+
+    def even_places(self):
+        """Steps at which those of satp are dropped, evenly, in HS and U."""
+        runs, end = self.session.runs, min(self.end, self.session.end())
+        for step in sorted({self.start + (end - self.start) * part // PROBES for part in range(PROBES)}):
+            if not stays.is_nested(runs.at(step)):
+                yield step, True
 
     def findings(self):
         """Yields what is known of each drop that changes the report, but once where several lead to the same

@@ -28,10 +28,10 @@ def hash_of(path):
         return hashlib.sha256(file.read()).hexdigest()
 
 
-def is_of(path, folder):
-    """Whether the file at this path has the SHA-256 that `nesthv.sha256` in this folder names."""
+def is_of(path, folder, name="nesthv"):
+    """Whether the file at this path has the SHA-256 that the file of this name in this folder says."""
     try:
-        with open(os.path.join(folder, "nesthv.sha256"), encoding="ascii") as file:
+        with open(os.path.join(folder, f"{name}.sha256"), encoding="ascii") as file:
             return hash_of(path) == file.read().split()[0]
     except (OSError, IndexError, UnicodeDecodeError):
         return False

@@ -1,13 +1,14 @@
-"""Files of saved guests, as `nesthv save` writes them: 616 bytes and more of numbers and lists, and RAM behind
-them. docs/saved.md has the table. Numbers have 8 bytes, the lowest first. Files of the first version, which lack
-the number for the device page, are read too.
+"""Files of saved guests, as `nesthv save` writes them: 624 bytes and more of numbers and lists, and RAM behind
+them. docs/saved.md has the table. Numbers have 8 bytes, the lowest first. Files of older versions are read too:
+the second lacks the cached translations of the first stage, and the first the number for the device page as well.
 """
 import copy
 import struct
+from typing import NamedTuple
 
 BLOCK = 2097152
-MOST_BYTES = 68797161  # that the program reads: one more than a good file has
-LETTERS, FIRST_LETTERS = b"NESTHV02", b"NESTHV01"
+MOST_BYTES = 68798705  # that the program reads: one more than a good file has
+LETTERS = (b"NESTHV01", b"NESTHV02", b"NESTHV03")  # of each version
 RAM, DEVICE_FRAME, DEVICE = 0x80000000, 0x10000, 0x10000000
 STATUSES, MODES = ["running", "waiting", "stopped"], ["HS", "U", "VS", "VU"]
 HEAD = ["blocks", "spaces", "entries", "console", "device", "status", "steps", "clock", "timer", "mode", "pc"]
@@ -23,10 +24,10 @@ REGISTERS = {
     "htinst": (ANY, 0), "hgatp": (0xF << 60 | 0x7F << 44 | (1 << 44) - 4, 0)}
 NAMES = [*HEAD, *(f"x{number}" for number in range(1, 32)), *REGISTERS, "reservation width",
          "reservation address"]
-FIRST_NAMES = [name for name in NAMES if name != "device"]
+NAMES_1 = [name for name in NAMES if name != "device"]
 RANGES = {"blocks": (1, 32), "spaces": (1, 8), "entries": (16, 256), "console": (0, 1048576),
           "device": (0, 1), "status": (0, 2), "steps": (0, 2**60), "mode": (0, 3)}
-MOST_INPUTS = 65536
+MOST_INPUTS, MOST_FIRST = 65536, 32
 
 
 class Wrong(Exception):
@@ -59,16 +60,28 @@ class Reader:
         return number
 
 
+class First(NamedTuple):
+    """A cached translation of the first stage: for whom it is, by V, hgatp (0 where V is 0) and satp or
+    vsatp; the page; and what the leaf has."""
+
+    v: int
+    hgatp: int
+    atp: int
+    page: int
+    frame: int
+    flags: int
+
+
 class Saved:
-    """A saved guest: its numbers by name, its console, its unread inputs, its spaces, and where its RAM
-    begins."""
+    """A saved guest: its numbers by name, its console, its unread inputs, its spaces, its cached translations
+    of the first stage, and where its RAM begins."""
 
     def __init__(self, data):
         reader = Reader(data)
-        letters = reader.take(8, "its letters")
-        wants(letters in (LETTERS, FIRST_LETTERS),
-              f"it does not begin with `{LETTERS.decode()}`, so `nesthv save` has not written it")
-        names = names_of(letters)
+        self.letters = reader.take(8, "its letters")
+        wants(self.letters in LETTERS, f"it does not begin with `{LETTERS[-1].decode()}`, or as an older "
+              "version does, so `nesthv save` has not written it")
+        names = names_of(self.letters)
         self.numbers = {"device": 0, **dict(zip(names, reader.numbers(len(names), "the numbers")))}
         test_numbers(self.numbers, names)
         self.console = reader.take(reader.count(self.numbers["console"], "console bytes"), "console bytes")
@@ -82,28 +95,45 @@ class Saved:
             found = struct.iter_unpack("<3Q", reader.take(24 * count, "entries"))
             self.spaces.append((key, list(found)))
         test_spaces(self.numbers, self.spaces)
+        self.first = []
+        if self.has_first():
+            count = reader.count(MOST_FIRST, "translations of the first stage")
+            found = struct.iter_unpack("<6Q", reader.take(48 * count, "translations of the first stage"))
+            self.first = [First(*numbers) for numbers in found]
+        test_first(self.first)
         self.front, self.ram = reader.at, data[reader.at:]
         has, ram = len(data) - self.front, self.numbers["blocks"] * BLOCK
         wants(has == ram, f"{has:,} bytes stand behind offset {self.front:,}, and RAM has {ram:,}: it is "
               + ("cut" if has < ram else "too long"))
 
+    def has_first(self):
+        """Whether the file tells the cached translations of the first stage: whether the program has any."""
+        return self.letters >= LETTERS[2]
+
     def form(self):
-        """The bytes of a file that has all this."""
+        """The bytes of a file that has all this, which a program of its version reads; that of the first
+        version is one of the second."""
         number = self.numbers
-        made = [LETTERS, struct.pack(f"<{len(NAMES)}Q", *(number[name] for name in NAMES)),
+        made = [max(self.letters, LETTERS[1]),
+                struct.pack(f"<{len(NAMES)}Q", *(number[name] for name in NAMES)),
                 struct.pack("<Q", len(self.console)), self.console, struct.pack("<Q", len(self.inputs))]
         made += [struct.pack("<QB", *pair) for pair in self.inputs]
         made.append(struct.pack("<Q", len(self.spaces)))
         for key, entries in self.spaces:
             made.append(struct.pack("<QQ", key, len(entries)))
             made += [struct.pack("<3Q", *entry) for entry in entries]
+        if self.has_first():
+            made.append(struct.pack("<Q", len(self.first)))
+            made += [struct.pack("<6Q", *entry) for entry in self.first]
         return b"".join([*made, self.ram])
 
-    def changed(self, spaces=None, **numbers):
-        """The bytes of a file that has other numbers, by name, and other spaces, but else the same."""
+    def changed(self, spaces=None, first=None, **numbers):
+        """The bytes of a file that has other numbers, by name, and other spaces and translations of the first
+        stage, but else the same."""
         other = copy.copy(self)
         other.numbers = {**self.numbers, **numbers}
         other.spaces = self.spaces if spaces is None else spaces
+        other.first = self.first if first is None else first
         return other.form()
 
     def mode(self):
@@ -124,7 +154,7 @@ class Saved:
 
 def names_of(letters):
     """The names of the numbers behind these letters."""
-    return FIRST_NAMES if letters == FIRST_LETTERS else NAMES
+    return NAMES_1 if letters == LETTERS[0] else NAMES
 
 
 def offset_of(name, names):
@@ -191,6 +221,24 @@ def test_entries(numbers, number, bits, entries):
               f"{what}the flags are {flags:#x}: w needs r, r or x is set, and the level is 0 to "
               + ("3" if bits == 38 else "2"))
         pages.add(page)
+
+
+def test_first(first):
+    keys, bits = set(), REGISTERS["hgatp"][0]
+    for index, entry in enumerate(first):
+        what = f"translation {index} of the first stage: "
+        is_storable = not entry.hgatp or entry.hgatp >> 60 in (8, 9) and not entry.hgatp & ~bits
+        wants(entry.v < 2 and (is_storable if entry.v else not entry.hgatp),
+              f"{what}V is {entry.v} and hgatp {entry.hgatp:#x}: V is 0 or 1, and hgatp is 0 where V is 0, else a "
+              "value that it can hold")
+        wants(entry.atp >> 60 in (8, 9), f"{what}satp or vsatp is {entry.atp:#x}: its MODE is to be 8 or 9")
+        wants(entry.page < 2**52 and entry[:4] not in keys, f"{what}the page {entry.page:#x} is to be below "
+              "2^52, and no other one's for the same accesses")
+        wants(entry.frame < 2**44, f"{what}the frame {entry.frame:#x} is to be below 2^44")
+        most = 3 if entry.atp >> 60 == 9 else 2
+        wants(entry.flags < 64 and entry.flags >> 3 & 3 <= most and entry.flags & 7 in (1, 3, 4, 5, 7),
+              f"{what}the flags are {entry.flags:#x}: w needs r, r or x is set, and the level is 0 to {most}")
+        keys.add(entry[:4])
 
 
 def wrong(data):

@@ -21,17 +21,25 @@ class Stay:
         self.entry, self.left = entry, left
 
 
-def stays_of(runs, start, end, tell):
-    """The stays in V = 1 that begin behind a step, up to another one, in order. Between two traps into HS
-    there is one at most."""
+def stays_and_traps(runs, start, end, tell):
+    """The stays in V = 1 that begin behind a step, up to another one, and the steps behind traps into HS with
+    V = 0, in order: each stay with no step, and each step with no stay. Between two traps into HS there is one
+    stay at most."""
     finder, step = states.Traps(runs, ("stvec",), tell), start
     while step < end:
         trap = finder.next(step, end)
         high = trap.step - 1 if trap else end
         if not is_nested(runs.at(step)) and is_nested(runs.at(high)):
             entry = states.first_step(lambda each: is_nested(runs.at(each)), step, high)
-            yield Stay(entry, high if trap else None)
+            yield Stay(entry, high if trap else None), None
+        elif trap and not is_nested(runs.at(high)):
+            yield None, trap.step
         step = trap.step if trap else end
+
+
+def stays_of(runs, start, end, tell):
+    """These stays alone."""
+    return (stay for stay, _ in stays_and_traps(runs, start, end, tell) if stay)
 
 
 def changes(before, after):

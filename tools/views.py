@@ -36,6 +36,7 @@ def state_of(saved, guest, symbols, disassembler):
     """All of a state but its RAM."""
     number = saved.numbers
     stale = walks.stale_entries(saved)
+    first = {"entries": len(saved.first), "stale": len(walks.stale_first_entries(saved))}
     return {
         "guest": guest.name, "step": number["steps"], "status": saves.STATUSES[number["status"]],
         "mode": saved.mode(), "V": int(saved.mode() in ("VS", "VU")), "pc": number["pc"],
@@ -51,7 +52,8 @@ def state_of(saved, guest, symbols, disassembler):
         "unread_inputs": len(saved.inputs),
         "next_input": list(saved.inputs[0]) if saved.inputs else None,
         "spaces": [{"key": key, "entries": len(entries), "stale": sum(each[0] == key for each in stale)}
-                   for key, entries in saved.spaces]}
+                   for key, entries in saved.spaces],
+        "first_stage": first if saved.has_first() else None}
 
 
 def lines_of_registers(values):
@@ -76,6 +78,9 @@ def lines_of_state(state):
                      f"{state['reservation']['address']:x}")
     lines += [f"space {each['key']:016x}: {each['entries']} entries, {each['stale']} stale"
               for each in state["spaces"]]
+    if state["first_stage"]:
+        first = state["first_stage"]
+        lines.append(f"first stage: {first['entries']} entries, {first['stale']} stale")
     lines.append(f"device page at {saves.DEVICE:x}" if state["device"] else "no device page")
     console = state["console"].encode("latin-1")
     return [*lines, f"console {len(console)} bytes: {shown_text(console)}"]
@@ -117,16 +122,28 @@ def second_of(second):
     return {"address": second.address, "walk": walk_of(second.walk), "cached": cached}
 
 
+def first_cached_of(translation):
+    """The cached translation of the first stage, and the second stage of what it gives, where the walk gives
+    another address."""
+    if not translation.cached:
+        return None
+    (frame, flags), second = translation.cached, translation.cached_second
+    return {"frame": frame << 12, "rights": walks.first_rights_of(flags), "level": flags >> 3 & 3,
+            "stale": translation.stale,
+            "second": second_of(second) if second is not None and second is not translation.second else None}
+
+
 def translation_of(translation, saved):
     """An address as a mode sees it."""
     view = translation.view
-    answers = {kind: {"address": answer.address, "cached": answer.is_cached, "wrong": answer.wrong,
+    answers = {kind: {"address": answer.address, "cached": answer.is_cached,
+                      "first_cached": answer.by_first, "wrong": answer.wrong,
                       "fault": fault_words(answer, kind) if answer.wrong else "",
                       "device": device_of(answer, kind)}
                for kind, answer in translation.answers.items()}
     return {"address": translation.address, "mode": view.mode, "step": saved.numbers["steps"],
             "first": {"table": registers.translation_of("vsatp" if view.is_nested else "satp", view.atp),
-                      "walk": walk_of(translation.first)},
+                      "walk": walk_of(translation.first), "cached": first_cached_of(translation)},
             "second": {"table": registers.translation_of("hgatp", saved.numbers["hgatp"]),
                        **(second_of(translation.second) if translation.second else {})}
             if view.is_nested else None, "answers": answers}
@@ -164,9 +181,13 @@ def lines_of_second(second, indent, what):
     yield from lines_of_walk(second["walk"], indent + 2)
     cached = second["cached"]
     if cached:
-        yield f"{' ' * indent}  cached   {second['address'] >> 12 << 12:x} -> {cached['frame']:x} " \
-            f"{cached['rights']} level {cached['level']}" + shown_page(cached["frame"]) \
-            + (f"  stale: {cached['stale']}" if cached["stale"] else "")
+        yield f"{' ' * indent}  cached   {second['address'] >> 12 << 12:x} -> {line_of_cached(cached)}"
+
+
+def line_of_cached(cached):
+    """Where a cached translation leads, and how it is stale."""
+    return f"{cached['frame']:x} {cached['rights']} level {cached['level']}" + shown_page(cached["frame"]) \
+        + (f"  stale: {cached['stale']}" if cached["stale"] else "")
 
 
 def lines_of_translation(found):
@@ -174,19 +195,33 @@ def lines_of_translation(found):
              f"first stage: {found['first']['table']}"]
     if found["first"]["walk"]:
         lines += lines_of_walk(found["first"]["walk"], 2)
+    cached = found["first"]["cached"]
+    if cached:
+        lines.append(f"  cached   {found['address'] >> 12 << 12:x} -> {line_of_cached(cached)}")
     second = found["second"]
     if second:
         lines.append(f"second stage: {second['table']}")
+        if cached and cached["second"]:
+            what = f"guest physical {cached['second']['address']:x}, as cached"
+            lines += lines_of_second(cached["second"], 2, what)
         if "address" in second:
             lines += lines_of_second(second, 2, f"guest physical {second['address']:x}")
     for kind, answer in found["answers"].items():
         if answer["wrong"]:
             lines.append(f"{kind}: {answer['fault']}: {answer['wrong']}")
         else:
-            lines.append(f"{kind}: {answer['address']:x}"
-                         + (", by the cached translation" if answer["cached"] else "")
-                         + line_of_device(answer["device"]))
+            place = f"{answer['address']:x}{by_what(answer)}"
+            lines.append(f"{kind}: {place}{line_of_device(answer['device'])}")
     return lines
+
+
+def by_what(answer):
+    """By which cached translations an access goes, behind its address."""
+    if answer["first_cached"] and answer["cached"]:
+        return ", by the cached translations of both stages"
+    if answer["first_cached"]:
+        return ", by the cached translation of the first stage"
+    return ", by the cached translation" if answer["cached"] else ""
 
 
 def line_of_device(device):
@@ -206,6 +241,7 @@ def maps_of(saved):
     keys = [key for key, _ in saved.spaces]
     keys += [number["hgatp"]] if number["hgatp"] and number["hgatp"] not in keys else []
     made = [map_of("HS and U", "satp", number["satp"], walks.map_of(saved, number["satp"]))]
+    made[0].update(first_of(saved, (0, 0, number["satp"])))
     for key in keys:
         each = map_of("guest physical", "hgatp", key, walks.map_of(saved, key, True))
         each["is_present"] = key == number["hgatp"]
@@ -213,7 +249,28 @@ def maps_of(saved):
         each["stale"] = [{"page": page, "words": words} for held, page, words, _ in stale if held == key]
         made.append(each)
     made.append(map_of("VS and VU", "vsatp", number["vsatp"], walks.nested_map(saved)))
-    return {"step": number["steps"], "maps": made}
+    made[-1].update(first_of(saved, (1, number["hgatp"], number["vsatp"])))
+    present = ((0, 0, number["satp"]), (1, number["hgatp"], number["vsatp"]))
+    others = dict.fromkeys(entry[:3] for entry in saved.first if entry[:3] not in present)
+    return {"step": number["steps"], "maps": made, "others": [other_of(saved, key) for key in others]}
+
+
+def first_of(saved, key):
+    """The cached translations of the first stage for these accesses, and which of them are stale."""
+    cached = [{"page": page, "frame": frame << 12, "rights": walks.first_rights_of(flags),
+               "level": flags >> 3 & 3}
+              for page, (frame, flags) in walks.first_cached_of(saved, key).items()]
+    stale = [{"page": entry.page, "words": words} for entry, words, _ in walks.stale_first_entries(saved)
+             if entry[:3] == key]
+    return {"cached": cached, "stale": stale}
+
+
+def other_of(saved, key):
+    """Those of the first stage for accesses under other values of the registers than the state has."""
+    v, hgatp, atp = key
+    register = "vsatp" if v else "satp"
+    return {"register": register, "value": atp, "table": registers.translation_of(register, atp),
+            "hgatp": hgatp if v else None, **first_of(saved, key)}
 
 
 def cached_entries(saved, key):
@@ -238,11 +295,19 @@ def lines_of_maps(found):
                          + (shown_page(part["to"]) if part["is_device"] else wrong))
         if each["cut"]:
             lines.append("  and more: it has too many tables or ranges to be shown")
-        for entry in each.get("cached", []):
-            lines.append(f"  cached {entry['page'] << 12:x} -> {entry['frame']:x} {entry['rights']} level "
-                         f"{entry['level']}" + shown_page(entry["frame"]))
-        lines += [f"  stale {entry['page'] << 12:x}: {entry['words']}" for entry in each.get("stale", [])]
+        lines += lines_of_cached(each)
+    for each in found["others"]:
+        under = "" if each["hgatp"] is None else f", hgatp {each['hgatp']:x}"
+        lines.append(f"first stage by {each['register']}: {each['table']}{under}, not present")
+        lines += lines_of_cached(each)
     return lines
+
+
+def lines_of_cached(each):
+    """The cached translations of a table, and how they are stale."""
+    lines = [f"  cached {entry['page'] << 12:x} -> {entry['frame']:x} {entry['rights']} level "
+             f"{entry['level']}" + shown_page(entry["frame"]) for entry in each.get("cached", [])]
+    return lines + [f"  stale {entry['page'] << 12:x}: {entry['words']}" for entry in each.get("stale", [])]
 
 
 def words_that_differ(one, other, ignored=()):
@@ -295,11 +360,16 @@ def differences(one, other, ignored=()):
 
 
 def cache_changes(before, after):
-    """Which cached translations a step filled and dropped, each with the address of its page."""
+    """Which cached translations a step filled and dropped, each with the address of its page: those of the
+    second stage, and behind the register of their table those of the first."""
     held = [{(key, *entry) for key, entries in saved.spaces for entry in entries} for saved in (before, after)]
-    filled, dropped = sorted(held[1] - held[0]), sorted(held[0] - held[1])
-    return [(what, f"{page << 12:x}", f"{frame << 12:x}") for what, found in
-            (("filled", filled), ("dropped", dropped)) for _, page, frame, _ in found]
+    first = [set(saved.first) for saved in (before, after)]
+    second = [(what, page, frame) for what, found in
+              (("filled", held[1] - held[0]), ("dropped", held[0] - held[1]))
+              for _, page, frame, _ in sorted(found)]
+    second += [(f"{what} {'vsatp' if entry.v else 'satp'}", entry.page, entry.frame) for what, found in
+               (("filled", first[1] - first[0]), ("dropped", first[0] - first[1])) for entry in sorted(found)]
+    return [(what, f"{page << 12:x}", f"{frame << 12:x}") for what, page, frame in second]
 
 
 def trap_of(before, after):

@@ -1,5 +1,5 @@
 """Walks of page tables in the RAM of a saved guest, as the guest's next access would make them: both stages,
-each entry with why it cannot be used, and the cached translation beside it.
+each entry with why it cannot be used, and the cached translations beside it, one for each stage.
 """
 import struct
 
@@ -10,6 +10,7 @@ KINDS = (FETCH, LOAD, STORE)
 V, R, W, X, U, G, A, D = (1 << bit for bit in range(8))
 LETTERS = "VRWXUGAD"
 MXR, SUM = 1 << 19, 1 << 18
+FIRST_U = 32  # in the flags of a cached translation of the first stage
 MOST_TABLES, MOST_RANGES = 4096, 16384  # of a map
 # What the device page serves: by the kind of access and the offset, how many bytes, and what it does.
 SERVED = {(LOAD, 0): (1, "reads an input"), (STORE, 0): (1, "puts a byte"),
@@ -23,8 +24,13 @@ def letters_of(entry):
 
 
 def rights_of(flags):
-    """The rights of a cached translation."""
+    """The rights of a cached translation of the second stage."""
     return "".join(letter if flags >> bit & 1 else "-" for bit, letter in enumerate("rwx"))
+
+
+def first_rights_of(flags):
+    """The rights of one of the first stage, with u."""
+    return rights_of(flags) + ("u" if flags & FIRST_U else "-")
 
 
 def frame_of(entry):
@@ -114,11 +120,13 @@ class Walk:
 
 
 class Answer:
-    """What one kind of access comes to: the address, and whether a cached translation gave it; or why it
-    traps, and by which fault. `device` is the offset on the device page of an access that leads there."""
+    """What one kind of access comes to: the address, and whether a cached translation of the second stage
+    gave it; or why it traps, and by which fault. `device` is the offset on the device page of an access that
+    leads there, and `by_first` says whether a cached translation of the first stage had a part in it."""
 
     def __init__(self, address=None, is_cached=False, wrong="", fault="", place=None, device=None):
         self.address, self.is_cached, self.wrong, self.fault = address, is_cached, wrong, fault
+        self.by_first = False
         self.place = place  # the guest physical address of a guest-page fault
         self.device = device
 
@@ -180,21 +188,46 @@ def stale_of(cached, walk):
     return "" if now == flags else f"cached of level {flags >> 3}, table has level {now >> 3}"
 
 
-class View:
-    """What a mode sees of a saved guest's memory. In VS and VU, the cached translations are those of the
-    space of hgatp; HLV, HLVX and HSV use none."""
+def first_flags(walk):
+    """The flags that a translation of the first stage would have that is cached of this walk."""
+    leaf = walk.leaf
+    rights = bool(leaf & R) | bool(leaf & W and leaf & D) << 1 | bool(leaf & X) << 2
+    return rights | walk.level << 3 | (FIRST_U if leaf & U else 0)
 
-    def __init__(self, saved, mode=None, uses_cached=True):
+
+def first_stale_of(cached, walk):
+    """How a cached translation of the first stage differs from what the table says now, or nothing."""
+    frame, flags = cached
+    has = f"cached {frame << 12:x} {first_rights_of(flags)}"
+    if walk.wrong:
+        return f"{has}, table says {walk.wrong}"
+    place, now = walk.address >> 12, first_flags(walk)
+    if place != frame or (now ^ flags) & ~24:
+        return f"{has}, table says {place << 12:x} {first_rights_of(now)}"
+    return "" if now == flags else f"cached of level {flags >> 3 & 3}, table has level {walk.level}"
+
+
+class View:
+    """What a mode sees of a saved guest's memory. In VS and VU, the cached translations of the second stage
+    are those of the space of hgatp; HLV, HLVX and HSV use none of either stage. `tables` are other values of
+    hgatp and of satp or vsatp than the state has."""
+
+    def __init__(self, saved, mode=None, uses_cached=True, tables=None):
         number = saved.numbers
         self.saved, self.mode = saved, mode or saved.mode()
         self.is_nested = self.mode in ("VS", "VU")
         self.status = number["vsstatus" if self.is_nested else "sstatus"]
-        self.atp = number["vsatp" if self.is_nested else "satp"]
-        self.first = Shape(self.atp)
-        self.second = Shape(number["hgatp"] if self.is_nested else 0, True)
+        hgatp, self.atp = tables or (number["hgatp"], number["vsatp" if self.is_nested else "satp"])
+        self.hgatp = hgatp if self.is_nested else 0
+        self.first, self.second = Shape(self.atp), Shape(self.hgatp, True)
         self.hs_mxr = bool(number["sstatus"] & MXR)
         self.mxr = bool((self.status | number["sstatus"]) & MXR)
-        self.cached = cached_of(saved, number["hgatp"]) if self.is_nested and uses_cached else {}
+        self.cached = cached_of(saved, self.hgatp) if self.is_nested and uses_cached else {}
+        self.first_cached = first_cached_of(saved, self.key()) if uses_cached else {}
+
+    def key(self):
+        """For whom its accesses are: V, hgatp, and satp or vsatp."""
+        return int(self.is_nested), self.hgatp, self.atp
 
     def is_in_ram(self, address):
         return 0 <= address - saves.RAM < len(self.saved.ram)
@@ -238,6 +271,15 @@ class View:
             return ""
         return "U set" if kind == FETCH else "" if self.status & SUM else "U set, SUM clear"
 
+    def first_permits(self, flags, kind):
+        """Whether a cached translation of the first stage with these flags is used for a kind of access."""
+        wrong = self.user_wrong(U if flags & FIRST_U else 0, kind)
+        return not wrong and permits(flags, kind, self.mxr)
+
+    def first_walk(self, address):
+        """The walk of the first stage as RAM is."""
+        return Walk(self.first, address, self.read_nested if self.is_nested else self.read)
+
 
 def cached_of(saved, key):
     """The cached translations of a space by page, each a frame and flags."""
@@ -245,22 +287,45 @@ def cached_of(saved, key):
                  for held, entries in saved.spaces if held == key), {})
 
 
+def first_cached_of(saved, key):
+    """The cached translations of the first stage for these accesses by page, each a frame and flags."""
+    return {entry.page: (entry.frame, entry.flags) for entry in saved.first if entry[:3] == key}
+
+
 class Translation:
-    """An address as a mode sees it: the walk of the first stage, none where that is Bare, the second stage of
-    what it gives, none where it gives nothing or V is 0, and the answers by the kind of access."""
+    """An address as a mode sees it: the walk of the first stage, none where that is Bare, and the cached
+    translation beside it; the second stage of what each gives, none where it gives nothing or V is 0; and the
+    answers by the kind of access."""
 
     def __init__(self, view, address):
-        self.view, self.address, self.first, self.second = view, address, None, None
-        between = address
+        self.view, self.address, self.first = view, address, None
+        self.between, self.cached, self.cached_between, self.stale = address, None, None, ""
         if view.first.levels:
-            self.first = Walk(view.first, address, view.read_nested if view.is_nested else view.read)
-            between = None if self.first.wrong else self.first.address
-        if between is not None and view.is_nested:
-            self.second = Second(view, between, True)
-        self.between = between
+            self.first = view.first_walk(address)
+            self.between = None if self.first.wrong else self.first.address
+            self.cached = view.first_cached.get(address >> 12)
+        if self.cached:
+            self.cached_between = self.cached[0] << 12 | address & 4095
+            self.stale = first_stale_of(self.cached, self.first)
+        self.second = self.second_of(self.between)
+        same = self.cached_between == self.between
+        self.cached_second = self.second if same else self.second_of(self.cached_between)
         self.answers = {kind: self.answer(kind) for kind in KINDS}
 
+    def second_of(self, between):
+        """The second stage of a guest physical address, if there is one, and one stage more."""
+        return Second(self.view, between, True) if self.view.is_nested and between is not None else None
+
+    def is_by_first(self, kind):
+        """Whether the cached translation of the first stage is used for a kind of access."""
+        return bool(self.cached and self.view.first_permits(self.cached[1], kind))
+
     def answer(self, kind):
+        if self.is_by_first(kind):
+            second = self.cached_second
+            found = second.answer(kind) if second else self.view.answer(self.cached_between, kind)
+            found.by_first = True
+            return found
         if self.first:
             wrong = self.first.wrong or self.view.user_wrong(self.first.leaf, kind) \
                 or right_wrong(self.first.leaf, kind, self.view.mxr)
@@ -295,12 +360,29 @@ def stale_entries(saved):
     differs in words, and the walk of the table."""
     found = []
     for key, entries in saved.spaces:
-        shape, view = Shape(key, True), View(saved, "HS")
+        shape, view = Shape(key, True), View(saved, "HS", False)
         for page, frame, flags in entries:
             walk = Walk(shape, page << 12, view.read)
             words = stale_of((frame, flags), walk)
             if words:
                 found.append((key, page, words, walk))
+    return found
+
+
+def view_of_first(saved, entry):
+    """What the accesses see that a cached translation of the first stage is for."""
+    return View(saved, "VS" if entry.v else "HS", tables=(entry.hgatp, entry.atp))
+
+
+def stale_first_entries(saved):
+    """Each cached translation of the first stage that differs from its table, as the next walk would find it:
+    the translation, how it differs in words, and the walk."""
+    found = []
+    for entry in saved.first:
+        walk = view_of_first(saved, entry).first_walk(entry.page << 12)
+        words = first_stale_of((entry.frame, entry.flags), walk)
+        if words:
+            found.append((entry, words, walk))
     return found
 
 

@@ -1,5 +1,6 @@
 # A kernel under Sv39. Its memory is a leaf of 1 GiB. Each round of five steps reads a byte by the entry of one page,
-# and stores another entry there, to the other of two frames.
+# and stores another entry there, to the other of two frames. There is no SFENCE.VMA, so the standard leaves open by
+# which of the two a load goes, and nothing is made of the byte.
     .globl  _start
 _start:
     auipc   s0, 0

@@ -624,6 +624,29 @@ class ProgramTest(LookTest):
             self.assertEqual(self.lines(self.example(name), "fences")[0],
                              f"0 of {drops} drops change the report, up to the end")
 
+    def test_first_stage_fences(self):
+        """A kernel stores to an entry that it has used, and loads by it again, without a fence and with one."""
+        words = [0x00000417, 0x40043283, 0x18029073, 0x000014B7, 0x000063B7, 0x008383B3, 0x0004C503, 0x00100893, 0x73,
+                 0x40843303, 0x0063B423, 0x12048073, 0x0004C503, 0x00100893, 0x73, 0x00800893, 0x73]
+        tables = {0x400: 8 << 60 | 0x80004, 0x408: 0x20002C43, 0x4000: 0x20001401, 0x4010: 0x200000CF,
+                  0x5000: 0x20001801, 0x6008: 0x20002843, 0xA000: 0x41, 0xB000: 0x42}
+        image = bytearray(0xB008)
+        for place, value in tables.items():
+            struct.pack_into("<Q", image, place, value)
+        path = self.configure(front="format = 2\nturns = [[0, 30]]\n", image='"kernel.bin"')
+        for name, fence in (("fenced", 0x12048073), ("unfenced", 0x13)):
+            words[11] = fence
+            self.put("kernel.bin", struct.pack("<17I", *words) + image[68:])
+            if json.loads(self.look(path, "at", "0", "--json").stdout)["first_stage"] is None:
+                self.skipTest("the program caches nothing of the first stage")
+            lines = self.lines(path, "fences", status=int(name == "unfenced"))
+            if name == "fenced":
+                self.assertTrue(lines[0].startswith("0 of "), lines)
+                continue
+            self.assertIn("  page 1000 of satp 8000000000080004, with them: cached 8000a000 r---, table says "
+                          "8000b000 r---", lines)
+            self.assertTrue(any("the entry at 80006008 was changed by 10 HS" in line for line in lines), lines)
+
     def test_diff(self):
         one = self.example("hypervisor")
         with open(one, "rb") as file:

@@ -8,6 +8,8 @@ from forms import HGATP, form
 from helper import LETTER, PROGRAM, TOOLS, TOP, ToolTest
 
 TURNS = "format = 2\nturns = [[0, 3]]\n"
+FLAT = (0, 0, 0x8000000000080004, 1, 0x80002, 1)
+NESTED = (1, HGATP, 0x9000000000000004, 7, 3, 3 + 8 + 32)
 RESUMED = {"image": None, "blocks": None, "spaces": None, "entries": None, "console": None, "resume": '"s"'}
 
 
@@ -16,11 +18,12 @@ class FileTest(ToolTest):
 
     def test_offsets(self):
         import saves
-        self.assertEqual(len(form()), 2097768)
+        self.assertEqual(len(form()), 2097776)
         self.assertEqual([saves.offset_of(name, saves.NAMES) for name in ("blocks", "pc", "x1", "sstatus", "hgatp")],
                          [8, 88, 96, 344, 568])
         data = form(b"A", [(5, 66)], [(HGATP, [(1, 0x80000, 5)])])
-        self.assertEqual(saves.Saved(data).front, 616 + 1 + 9 + 40)
+        self.assertEqual(saves.Saved(data).front, 624 + 1 + 9 + 40)
+        self.assertEqual(saves.Saved(form(first=[FLAT, NESTED])).front, 624 + 2 * 48)
 
     def test_table(self):
         """The table of docs/saved.md has each number at its offset."""
@@ -43,19 +46,54 @@ class FileTest(ToolTest):
         for data in (form(), form(b"x" * 100), form(inputs=[(5, 1), (5, 2), (2**62 - 1, 3)]),
                      form(mode=3, hgatp=HGATP, held=[(HGATP, [(2**29 - 1, 0x801FF, 7 + 16)])]),
                      form(steps=2**60, clock=2**62 + 2**60, status=2, reservation_width=8,
-                          reservation_address=0x801FFFF8), form(blocks=2, ram=bytes(4194304))):
+                          reservation_address=0x801FFFF8), form(blocks=2, ram=bytes(4194304)),
+                     form(first=[FLAT, NESTED, (1, 0, 9 << 60, 2**52 - 1, 2**44 - 1, 4 + 24 + 32)])):
             self.assertIsNone(saves.wrong(data))
 
-    def test_first_version(self):
-        """A file without the number for the device page is that of a guest that has none."""
+    def test_earlier_versions(self):
+        """A file without the number for the device page, or without first-stage translations, is that of a
+        guest that has none."""
         import saves
         data = form(b"A", steps=7)
-        first = b"NESTHV01" + data[8:40] + data[48:]
-        self.assertIsNone(saves.wrong(first))
-        self.assertEqual(saves.Saved(first).numbers, saves.Saved(data).numbers)
-        self.assertEqual(saves.Saved(first).form(), data)
+        front = saves.Saved(data).front
+        second = b"NESTHV02" + data[8:front - 8] + data[front:]
+        first = b"NESTHV01" + second[8:40] + second[48:]
+        for earlier in (first, second):
+            self.assertIsNone(saves.wrong(earlier))
+            self.assertEqual(saves.Saved(earlier).numbers, saves.Saved(data).numbers)
+            self.assertEqual(saves.Saved(earlier).form(), data)
+            self.assertIsNotNone(saves.wrong(earlier[:8] + data[8:]))
         self.assertIn("at offset 80 pc is 0x80000002", saves.wrong(first[:80] + b"\x02" + first[81:]))
-        self.assertIsNotNone(saves.wrong(b"NESTHV01" + data[8:]))
+
+    def test_first_stage(self):
+        """A file of the third version tells the translations of the first stage, and each form is read and written
+        as it is."""
+        import saves
+        satp, vsatp = 8 << 60 | 0x80007, 9 << 60 | 5 << 44 | 2
+        first = [(0, 0, satp, 1, 0x80008, 3), (1, HGATP, vsatp, 2**52 - 1, 2**44 - 1, 5 + 24 + 32),
+                 (1, 0, satp, 1, 0, 1)]
+        data = form(b"A", [(5, 66)], [(HGATP, [(1, 0x80000, 5)])], first=first)
+        self.assertIsNone(saves.wrong(data))
+        saved = saves.Saved(data)
+        self.assertEqual((saved.form(), saved.first, saved.front), (data, first, 616 + 1 + 9 + 40 + 8 + 3 * 48))
+        self.assertEqual(saved.changed(first=first[1:], x7=3),
+                         form(b"A", [(5, 66)], [(HGATP, [(1, 0x80000, 5)])], first=first[1:], x7=3))
+        self.assertEqual((saved.has_first(), saves.Saved(form()).has_first()), (True, False))
+        self.assertEqual(len(form(first=[])), 2097776)
+        self.assertIsNone(saves.wrong(form(first=[(0, 0, satp, page, 0, 1) for page in range(32)])))
+        many = [(0, 0, satp, page, 0, 1) for page in range(33)]
+        twice = [(0, 0, satp, 1, 0, 1), (0, 0, satp, 1, 5, 3)]
+        for entries, words in ((many, "of the first stage is 33: at most 32"),
+                               ([(2, 0, satp, 1, 0, 1)], "V is 2"),
+                               ([(0, HGATP, satp, 1, 0, 1)], "V is 0 and hgatp 0x8"),
+                               ([(1, HGATP | 1, satp, 1, 0, 1)], "V is 1 and hgatp"),
+                               ([(0, 0, 0, 1, 0, 1)], "satp or vsatp is 0x0: its MODE"),
+                               ([(0, 0, satp, 2**52, 0, 1)], "the page 0x10000000000000 is to be below 2^52"),
+                               (twice, "translation 1 of the first stage: the page"),
+                               ([(0, 0, satp, 1, 2**44, 1)], "the frame 0x100000000000 is to be below 2^44"),
+                               ([(0, 0, satp, 1, 0, 2)], "the flags are 0x2"), ([(0, 0, satp, 1, 0, 25)], "is 0 to 2"),
+                               ([(0, 0, satp, 1, 0, 65)], "the flags are 0x41")):
+            self.assertIn(words, saves.wrong(form(first=entries)) or "")
 
     def test_device_page(self):
         import saves
@@ -64,10 +102,11 @@ class FileTest(ToolTest):
     def test_wrong_files(self):
         import saves
         entry = (1, 0x80000, 5)
+        satp = 8 << 60
         for data, words in (
                 (b"", "it has 0 bytes, and ends within its letters"),
                 (LETTER, "so `nesthv save` has not written it"),
-                (form()[:-1], "2,097,151 bytes stand behind offset 616, and RAM has 2,097,152: it is cut"),
+                (form()[:-1], "2,097,151 bytes stand behind offset 624, and RAM has 2,097,152: it is cut"),
                 (form() + b"\0", "it is too long"),
                 (form()[:608], "ends within spaces, which begin at offset 608"),
                 (form(blocks=33), "at offset 8 blocks is 33: it is to be 1 to 32"),
@@ -89,28 +128,53 @@ class FileTest(ToolTest):
                 (form(device=1, held=[(HGATP, [(1, 0x10001, 3)])]), "0x10001 is not in RAM, nor that of the"),
                 (form(device=2), "at offset 40 device is 2: it is to be 0 to 1"),
                 (form(held=[(HGATP, [(1, 0x80000, 2)])]), "the flags are 0x2"),
-                (form(mode=2, hgatp=HGATP), "the first space is that of hgatp")):
+                (form(mode=2, hgatp=HGATP), "the first space is that of hgatp"),
+                (form()[:616], "ends within first-stage translations, which begin at offset 616"),
+                (form(first=[FLAT] * 33), "at offset 616 the number of first-stage translations is 33"),
+                (form(first=[FLAT, FLAT]), "first-stage translation 1: the page 0x1"),
+                (form(first=[(2, 0, satp, 1, 1, 1)]), "V is 2: it is to be 0 or 1"),
+                (form(first=[(0, HGATP, satp, 1, 1, 1)]), "is to be 0 with V = 0"),
+                (form(first=[(1, HGATP + 1, satp, 1, 1, 1)]), "hgatp is 0x8000100000080005, which it cannot"),
+                (form(first=[(0, 0, 0, 1, 1, 1)]), "the MODE of satp or vsatp, 0x0, is to be 8 or 9"),
+                (form(first=[(0, 0, satp, 2**52, 1, 1)]), "is to be below 2^52"),
+                (form(first=[(0, 0, satp, 1, 2**44, 1)]), "is to be below 2^44"),
+                (form(first=[(0, 0, satp, 1, 1, 2)]), "the flags are 0x2"),
+                (form(first=[(0, 0, satp, 1, 1, 1 + 24)]), "the level is 0 to 2"),
+                (form(first=[(0, 0, satp, 1, 1, 1 + 64)]), "the flags are 0x41")):
             self.assertIn(words, saves.wrong(data) or "")
 
     def test_saved(self):
-        self.put("s", form(b"Hi\n", [(5, 65)], [(HGATP, [(1, 0x80000, 5), (2, 0x80001, 7 + 8)])], x10=7))
+        held = [(HGATP, [(1, 0x80000, 5), (2, 0x80001, 7 + 8)])]
+        self.put("s", form(b"Hi\n", [(5, 65)], held, [FLAT, NESTED], x10=7))
         ran = self.tool("tools/saved", "s")
         self.check_plain(ran, 0)
         for line in ("running in HS, steps 0, clock 0, timer 18446744073709551615",
                      "blocks 1, spaces 1, entries 16, console 100, device 0",
-                     "3 console bytes, 1 unread inputs, 1 of 1 spaces", "RAM from offset 692 to 2097844",
+                     "3 console bytes, 1 unread inputs, 1 of 1 spaces", "RAM from offset 796 to 2097948",
                      "input 65 at 5", "space 8000100000080004: 2 entries, oldest first",
-                     "  page 1 frame 80000 r-x level 0", "  page 2 frame 80001 rwx level 1"):
+                     "  page 1 frame 80000 r-x level 0", "  page 2 frame 80001 rwx level 1",
+                     "2 first-stage translations, oldest first",
+                     "  satp 8000000000080004 page 1 frame 80002 r--- level 0",
+                     "  vsatp 9000000000000004 hgatp 8000100000080004 page 7 frame 3 rw-u level 1"):
             self.assertIn(line, ran.stdout.decode().splitlines())
         self.assertEqual(self.tool("tools/saved", "--console", "s").stdout, b"Hi\n")
         self.assertEqual(self.tool("tools/saved", "--ram", "s").stdout, bytes(2097152))
         with open(os.path.join(self.folder, "s"), "rb") as file:
             self.assertEqual(self.tool("tools/saved", "-", stdin=file).stdout, ran.stdout)
 
+    def test_saved_first_stage(self):
+        self.put("s", form(first=[(0, 0, 8 << 60 | 7, 1, 0x80008, 35), (1, HGATP, 9 << 60 | 2, 5, 6, 20)]))
+        lines = self.tool("tools/saved", "s").stdout.decode().splitlines()
+        self.assertEqual(lines[-3:], [
+            "first stage: 2 entries, oldest first", "  satp 8000000000000007 page 1 frame 80008 rw-u level 0",
+            "  hgatp 8000100000080004 vsatp 9000000000000002 page 5 frame 6 --x- level 2"])
+        self.put("s", form())
+        self.assertNotIn("first stage", self.tool("tools/saved", "s").stdout.decode())
+
     def test_saved_refuses(self):
         ran = self.tool("tools/saved", "a.bin")
         self.check_plain(ran, 2)
-        self.check_said(ran, "a.bin is no saved guest: it does not begin with `NESTHV02`")
+        self.check_said(ran, "a.bin is no saved guest: it does not begin with `NESTHV03`, or as an older version does")
         self.check_plain(self.tool("tools/saved", "none"), 2)
 
 
@@ -174,8 +238,8 @@ class ProgramTest(ToolTest):
     def test_save_and_resume(self):
         ran = self.save(self.configure(front=TURNS), "0")
         self.check_plain(ran, 0)
-        ram = LETTER.ljust(2097152, b"\0")
-        self.assertEqual(ran.stdout, form(b"A", ram=ram, steps=3, clock=3, x17=1, pc=0x8000000C))
+        ram, first = LETTER.ljust(2097152, b"\0"), [] if ran.stdout[:8] == b"NESTHV03" else None
+        self.assertEqual(ran.stdout, form(b"A", ram=ram, first=first, steps=3, clock=3, x17=1, pc=0x8000000C))
         self.put("s", ran.stdout)
         ran = self.tool("tools/run", self.configure(front=TURNS, **RESUMED))
         self.check_plain(ran, 0)
@@ -198,10 +262,14 @@ class ProgramTest(ToolTest):
         """The tool finds a fault exactly where the program does."""
         import saves
         chosen = random.Random(41)
-        whole = form(b"x" * 20, [(5, 1), (7, 2)], [(HGATP, [(1, 0x80000, 5), (2, 0x80001, 7 + 8)])], mode=2,
-                     hgatp=HGATP, reservation_width=4, reservation_address=0x80000000)
+        first = [(0, 0, 8 << 60 | 7, 1, 0x80008, 35), (1, HGATP, 9 << 60 | 2, 5, 6, 20)]
+        has_first = self.save(self.configure(front=TURNS), "0").stdout[:8] == b"NESTHV03"
+        wholes = [form(b"x" * 20, [(5, 1), (7, 2)], [(HGATP, [(1, 0x80000, 5), (2, 0x80001, 7 + 8)])], first=each,
+                       mode=2, hgatp=HGATP, reservation_width=4, reservation_address=0x80000000)
+                  for each in ([None, first] if has_first else [None])]
         path = self.configure(front=TURNS, **RESUMED)
-        for _ in range(300):
+        for number in range(300):
+            whole = wholes[number % len(wholes)]
             data = bytearray(whole)
             data[chosen.randrange(saves.Saved(whole).front)] ^= 1 << chosen.randrange(8)
             data = data[:chosen.choice([len(data)] * 9 + [chosen.randrange(len(data))])]
