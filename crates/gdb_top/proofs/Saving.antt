@@ -2,7 +2,7 @@
 use Rattle.std.proofs.Common.{◌≡◌, ℕ, Bool, true, false, List, [], ◌∷◌, Option, Some, None, option_map}
 use Rattle.std.specs.Prelude.{⊤, codes, if◌then◌else◌}
 use Rattle.std.specs.List.{list_all}
-use Rattle.command_line.specs.Commands.{Command, OnFiles, Save, Work, asked_by, command_of, guest_of, is_plain, save_of}
+use Rattle.command_line.specs.Commands.{Command, OnFiles, Save, Work, asked_by, command_of, guest_of, is_plain}
 use Rattle.command_line.specs.declared.commands.FileRequest.{FileRequest}
 use Rattle.command_line.specs.Seen.{file_command_seen}
 use Rattle.gdb_top.specs.Debugging.{debug_command, saving_words, IsSave}

@@ -1,6 +1,6 @@
 -- What the end of debugging says.
 use Rattle.std.specs.Prelude.{◌≡◌, ℕ, zero, List, Option, None, IsSome, ⊤, codes}
-use Rattle.command_line.specs.Commands.{Command, FileCommand, Save}
+use Rattle.command_line.specs.Commands.{Command}
 use Rattle.outside.specs.declared.sinks.Sink as sinks
 use Rattle.outside.specs.declared.stores.Store as stores
 use Rattle.outside.specs.Faults.{Rose}
