@@ -9,9 +9,9 @@ import saves
 HGATP = 0x8000100000080004
 
 
-def form(console=b"", inputs=(), held=(), ram=bytes(2097152), first=None, **numbers):
-    """The file of a guest that has these numbers, and others as at its start, and holds these spaces; and these
-    cached translations of the first stage, or none in a file of the second version."""
+def form(console=b"", inputs=(), held=(), first=(), ram=bytes(2097152), **numbers):
+    """The file of a guest that has these numbers, and others as at its start, holds these spaces, and has these
+    cached translations of the first stage. With none in their place it is one of the second version."""
     fixed = {name: value for name, (_, value) in saves.REGISTERS.items()}
     start = {"blocks": 1, "spaces": 1, "entries": 16, "console": 100, "timer": 2**64 - 1, "pc": saves.RAM}
     known = {**fixed, **start, **{name.replace("_", " "): value for name, value in numbers.items()}}
