@@ -1,6 +1,6 @@
 // The first-stage translations that are cached for one guest.
 
-ghost use Rattle.std.specs.Prelude.{◌≡◌, ◌-◌, ◌<◌, ◌≤◌, [], ◌∷◌, ◌++◌, find, length, option_map, take, vec_capacity, vec_len, IfOk, IfSome, Some};
+ghost use Rattle.std.specs.Prelude.{◌≡◌, ◌-◌, ◌<◌, ◌≤◌, [], ◌∷◌, ◌++◌, find, length, option_map, take, vec_capacity, vec_len, IfOk, IfSome, None, Some};
 ghost use Rattle.std.specs.List.{All};
 ghost use Rattle.arch_defs.specs.FirstEntries.{HasGuestFrame, dropped_first, first_filled, first_room, is_first_of, names_first, names_first_of_guest, newest_first, unnamed_first, without_first};
 
@@ -63,6 +63,8 @@ fn push_newest(entries: &mut Vec<FirstEntry>, entry: FirstEntry) -> Option<u64>
     ensures items { entries.new.items ≡ newest_first (entries.old.items ++ entry ∷ []) }
     ensures dropped { All (λ e. result ≡ Some e.page)
         (take (length (entries.old.items ++ entry ∷ []) - first_room) (entries.old.items ++ entry ∷ [])) }
+    ensures kept { take (length (entries.old.items ++ entry ∷ []) - first_room) (entries.old.items ++ entry ∷ [])
+        ≡ [] → result ≡ None }
     ensures few { vec_len entries.new ≤ first_room }
     ensures capacity { vec_capacity entries.new ≡ vec_capacity entries.old }
 {
@@ -130,6 +132,7 @@ impl FirstBuffer {
         requires { HasGuestFrame entry }
         ensures filled { self.new ≡ first_filled self.old entry }
         ensures dropped { All (λ e. result ≡ Some e.page) (dropped_first self.old entry) }
+        ensures kept { dropped_first self.old entry ≡ [] → result ≡ None }
     {
         take_out(&mut self.entries, &entry);
         push_newest(&mut self.entries, entry)
