@@ -1,9 +1,10 @@
 // The table of words, by opcode.
 
-ghost use Rattle.std.specs.Prelude.{◌≡◌, Some, None, ◌==◌, if◌then◌else◌};
+ghost use Rattle.std.specs.Prelude.{◌≡◌, Some, None, IfSome, ◌==◌, if◌then◌else◌};
 ghost use Rattle.op_defs.specs.declared.ops.Op.TheVariants.{Jalr};
 ghost use Rattle.op_defs.specs.Fields.{funct3, rd, rs1, i_immediate};
 ghost use Rattle.op_defs.specs.Table.{op_of, test_of, branch_of, load_of, store_of, fence_of};
+ghost use Rattle.rv64_decode.specs.Common.{common_op_of};
 
 use crate::atomics::atomic;
 use crate::fields::{
@@ -14,10 +15,25 @@ use crate::systems::system;
 use op_defs::{Op, Test};
 
 /// The instruction that a word is: exactly that of the instruction table, and none for a word outside it.
-#[tactic(auto, unfolding(op_defs::specs::Table::op_of))]
+#[tactic(auto, unfolding(op_defs::specs::Table::op_of, crate::specs::Common::common_op_of))]
 #[inline(always)]
 pub fn decode(bits: u32) -> Option<Op>
     ensures { result ≡ op_of bits }
+{
+    match bits & 0x7F {
+        0b0001111 => fence(bits),
+        0b0101111 => atomic(bits),
+        0b1110011 => system(bits),
+        _ => decode_common(bits),
+    }
+}
+
+/// The same, but none for a word of MISC-MEM, AMO or SYSTEM.
+#[tactic(auto, unfolding(op_defs::specs::Table::op_of, crate::specs::Common::common_op_of))]
+#[inline(always)]
+pub fn decode_common(bits: u32) -> Option<Op>
+    ensures value { result ≡ common_op_of bits }
+    ensures known { IfSome result (λ op. op_of bits ≡ Some op) }
 {
     match bits & 0x7F {
         0b0110111 => Some(Op::Lui {
@@ -40,9 +56,6 @@ pub fn decode(bits: u32) -> Option<Op>
         0b0110011 => register(bits),
         0b0011011 => word_immediate(bits),
         0b0111011 => word(bits),
-        0b0001111 => fence(bits),
-        0b0101111 => atomic(bits),
-        0b1110011 => system(bits),
         _ => None,
     }
 }

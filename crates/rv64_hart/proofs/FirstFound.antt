@@ -27,9 +27,10 @@ use Rattle.op_defs.specs.declared.ops.Effect.{Effect}
 use Rattle.op_defs.specs.declared.ops.Effect.TheVariants.{Sets, Raises, Data, Calls, Privileged}
 use Rattle.op_defs.specs.declared.ops.Op.{Op}
 use Rattle.op_defs.specs.Meaning.{meaning}
-use Rattle.op_defs.specs.Table.{op_of}
+use Rattle.op_defs.specs.declared.ops.Op.TheVariants.{Ecall}
+use Rattle.op_defs.specs.Table.{op_of, system_of, system_op_of}
 use Rattle.machine_defs.specs.Answers.{answer_of}
-use Rattle.machine_defs.specs.Core.{At, Fails, Located, accessed_data, core, decoded, event_of, fetch_place, found_with, instruction, kind_of, word_at}
+use Rattle.machine_defs.specs.Core.{At, Fails, Located, accessed_data, called_from, core, decoded, event_of, fetch_place, found_with, instruction, kind_of, word_at}
 use Rattle.machine_defs.specs.FirstLeaves.{entries_of, found_at, found_by_effect, found_by_op, found_for, leaf_if, leaf_under, leaves_found, unless_known}
 use Rattle.machine_laws.specs.MissedPlaces.{wanted_by, wanted_of}
 use Rattle.translation_buffer.specs.Places.{passed_by}
@@ -141,6 +142,16 @@ op_ends found s memory word op effect r is e ends =
     subst (λ o. attempt_of (with_first (with_first s found) (found_by_op s.tag (mmu_on s memory) s.virt o)) memory (decoded (mmu_on s memory) s.virt word o) ≡ r) (sym is)
     (subst (λ x. attempt_with found s memory word x ≡ r) e ends)
 
+-- that of a call
+call_of : op_of 0x00000073 ≡ Some Ecall
+unfolding op_of system_of system_op_of
+call_of = refl
+
+pub call_ends : (found : List FirstEntry) (s : HartState) (memory : List ℕ) (word : ℕ) (r : Attempt) → word ≡ 0x00000073
+    → attempt_of (with_first s found) memory (called_from s.virt.mode) ≡ r → attempt_at found s memory word ≡ r
+unfolding meaning all_filled
+call_ends found s memory word r is ends = op_ends found s memory word Ecall Calls r (ap op_of is ∙ call_of) refl ends
+
 pub rare_ends : (s : HartState) (memory : List ℕ) (word : ℕ) (op : Op) (r : Attempt) → op_of word ≡ Some op → attempt_at [] s memory word ≡ r → attempt_of_effect s memory word (meaning op s.virt.regs) ≡ r
 unfolding all_filled
 rare_ends s memory word op r is ends =
@@ -149,6 +160,10 @@ rare_ends s memory word op r is ends =
 pub word_ends : (s : HartState) (memory : List ℕ) (word : ℕ) → attempt_at [] s memory word ≡ attempt_of_word s memory word
 unfolding all_filled
 word_ends s memory word = refl
+
+pub rare_word_ends : (s : HartState) (memory : List ℕ) (word : ℕ) (r : Attempt) → attempt_at [] s memory word ≡ r → attempt_of_word s memory word ≡ r
+unfolding all_filled
+rare_word_ends s memory word r ends = ends
 
 pub data_ends : (s : HartState) (memory : List ℕ) (word : ℕ) (op : Op) (wanted : DataAccess) (r : Attempt) → meaning op s.virt.regs ≡ Data wanted
     → attempt_of (with_first s (found_over memory s wanted.address wanted.width (kind_of wanted.purpose))) memory (accessed_data (mmu_on s memory) s.virt (event_of s.virt.regs.pc word) wanted) ≡ r

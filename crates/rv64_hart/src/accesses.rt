@@ -116,16 +116,15 @@ fn place_anew(
     ensures place { IfSome result (λ place. IsPlaceFor (machine_memory memory.now) width place) }
     ensures serves { Serves buffer.new first.new tag.now virt.now.csrs virt.now.mode memory.now }
 {
-    let reached = reach(virt, first, tag, memory, va, width, access);
-    match reached.place {
-        Ok(place) => {
-            cache(first, buffer, reached.entry.as_ref());
+    let mut entry = None;
+    match reach(
+        virt, first, tag, memory, va, width, access, trap, &mut entry,
+    ) {
+        Some(place) => {
+            cache(first, buffer, entry.as_ref());
             Some(place)
         }
-        Err(raised) => {
-            *trap = raised;
-            None
-        }
+        None => None,
     }
 }
 
@@ -191,7 +190,8 @@ pub fn access_data_anew(
 {
     let access = kind_of(wanted.purpose);
     let (address, width) = (wanted.address, wanted.width);
-    let reached = reach(
+    let mut entry = None;
+    match reach(
         &state.virt,
         &state.first,
         &state.tag,
@@ -199,19 +199,17 @@ pub fn access_data_anew(
         address,
         width,
         access,
-    );
-    match reached.place {
-        Ok(at) => {
+        trap,
+        &mut entry,
+    ) {
+        Some(at) => {
             cache(&mut state.first, buffer, found);
-            cache(&mut state.first, buffer, reached.entry.as_ref());
+            cache(&mut state.first, buffer, entry.as_ref());
             buffer.open(at);
             complete(memory, &mut state.virt, width, wanted.purpose, at);
             Ended::Plain
         }
-        Err(raised) => {
-            *trap = raised;
-            Ended::Raised
-        }
+        None => Ended::Raised,
     }
 }
 

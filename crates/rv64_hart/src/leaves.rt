@@ -15,7 +15,7 @@ ghost use Rattle.rv64_hart.specs.Steps.{found_at_exit};
 use crate::accesses::word_at;
 use crate::walked_accesses::reach;
 use crate::wanted_accesses::wanted_of;
-use arch_defs::{Access, FirstBuffer, FirstEntry, Tag, Virtual, Width};
+use arch_defs::{Access, FirstBuffer, FirstEntry, Tag, Trap, Virtual, Width};
 use data_access::kind_of;
 use phys_mem::PhysMem;
 use translation_buffer::Buffer;
@@ -97,7 +97,8 @@ fn found_by_word(
     match wanted_of(virt, word) {
         Some(wanted) => {
             let access = kind_of(wanted.purpose);
-            reach(
+            let (mut trap, mut entry) = (Trap::of_interrupt(0), None);
+            let _ = reach(
                 virt,
                 first,
                 tag,
@@ -105,8 +106,10 @@ fn found_by_word(
                 wanted.address,
                 wanted.width,
                 access,
-            )
-            .entry
+                &mut trap,
+                &mut entry,
+            );
+            entry
         }
         None => None,
     }
@@ -118,14 +121,17 @@ fn leaves_found(virt: &Virtual, first: &FirstBuffer, tag: &Tag, memory: &PhysMem
     ensures fits { LeavesFit result }
 {
     let pc = virt.regs.pc;
-    let fetched = reach(virt, first, tag, memory, pc, Width::Word, Access::Fetch);
-    match fetched.place {
-        Ok(place) => Leaves {
-            at_pc: fetched.entry,
+    let (width, access) = (Width::Word, Access::Fetch);
+    let (mut trap, mut at_pc) = (Trap::of_interrupt(0), None);
+    match reach(
+        virt, first, tag, memory, pc, width, access, &mut trap, &mut at_pc,
+    ) {
+        Some(place) => Leaves {
+            at_pc,
             of_data: found_by_word(virt, first, tag, memory, word_at(memory, place)),
         },
-        Err(_) => Leaves {
-            at_pc: fetched.entry,
+        None => Leaves {
+            at_pc,
             of_data: None,
         },
     }

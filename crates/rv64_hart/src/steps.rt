@@ -38,7 +38,7 @@ use op_defs::{Effect, Op, Privileged};
 use op_effects::{address_at, effect_of, even, is_branch_taken};
 use phys_mem::PhysMem;
 use privileged_ops::{Performed, perform, refusal_code};
-use rv64_decode::decode;
+use rv64_decode::{decode, decode_common};
 use translation_buffer::Buffer;
 use trap_delegation::{enter_vs, pending, target};
 
@@ -257,7 +257,8 @@ fn instruction_anew(
 {
     let pc = state.virt.regs.pc;
     let (width, access) = (Width::Word, Access::Fetch);
-    let fetched = reach(
+    let mut entry = None;
+    match reach(
         &state.virt,
         &state.first,
         &state.tag,
@@ -265,10 +266,11 @@ fn instruction_anew(
         pc,
         width,
         access,
-    );
-    match fetched.place {
-        Ok(place) => {
-            let found = fetched.entry.as_ref();
+        trap,
+        &mut entry,
+    ) {
+        Some(place) => {
+            let found = entry.as_ref();
             counted_anew(
                 state,
                 memory,
@@ -279,10 +281,7 @@ fn instruction_anew(
                 trap,
             )
         }
-        Err(raised) => {
-            *trap = raised;
-            Ended::Raised
-        }
+        None => Ended::Raised,
     }
 }
 
@@ -372,7 +371,7 @@ fn is_system(word: u32) -> bool
 
 // The instruction of a word: the common ones here, and each other by `rare`.
 #[inline(always)]
-#[tactic(auto, unfolding(arch_defs::specs::FirstEntries::all_filled))]
+#[tactic(auto, using(crate::proofs::FirstFound::rare_word_ends), unfolding(arch_defs::specs::FirstEntries::all_filled))]
 fn decoded(
     state: &mut HartState,
     memory: &mut PhysMem,
@@ -387,9 +386,9 @@ fn decoded(
     ensures serves { ServesHart buffer.new state.new memory.new }
     ensures plain { IfPlain result (KeepsContext state.old.virt state.new.virt) }
 {
-    match decode(word) {
+    match decode_common(word) {
         Some(op) => made(state, memory, buffer, word, &op, trap),
-        None => raise(state.virt.mode, ILLEGAL_INSTRUCTION, word as u64, trap),
+        None => rare(state, memory, buffer, word, None, trap),
     }
 }
 
@@ -540,10 +539,36 @@ fn branch(state: &mut HartState, taken: bool, to: u64, trap: &mut Trap) -> Ended
     }
 }
 
-// The instruction of a word, by what it asks for. Its own access at pc may have found a first-stage
-// translation, which is cached where it is made.
+// The instruction of a word. Its own access at pc may have found a first-stage translation, which is cached
+// where it is made. A call asks for no look at the registers.
 #[inline(never)]
 fn rare(
+    state: &mut HartState,
+    memory: &mut PhysMem,
+    buffer: &mut Buffer,
+    word: u32,
+    found: Option<&FirstEntry>,
+    trap: &mut Trap,
+) -> Ended
+    requires serves { ServesHart buffer.old state.old memory.old }
+    requires fits { IfSome found (λ e. HasGuestFrame e.now) }
+    ensures ends { attempt_at
+        (entries_of (option_map (λ e. e.now) found.entry)) state.old memory.old word
+        ≡ attempt_by result trap.new (event_of state.old.virt.regs.pc word) state.new memory.new }
+    ensures stays { IfRaised result ((state.new ≡ state.old) × (memory.new ≡ memory.old)) }
+    ensures serves { ServesHart buffer.new state.new memory.new }
+    ensures plain { IfPlain result (KeepsContext state.old.virt state.new.virt) }
+{
+    if word == 0x0000_0073 {
+        call(state.virt.mode, trap)
+    } else {
+        asked(state, memory, buffer, word, found, trap)
+    }
+}
+
+// The same by what it asks for.
+#[inline(never)]
+fn asked(
     state: &mut HartState,
     memory: &mut PhysMem,
     buffer: &mut Buffer,

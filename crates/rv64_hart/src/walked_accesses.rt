@@ -1,6 +1,6 @@
 // Where an access is made, and what it finds in the first stage, by no kept translation.
 
-ghost use Rattle.std.specs.Prelude.{◌≡◌, ◌%◌, ◌<◌, ◌^◌, false, IfOk, IfSome};
+ghost use Rattle.std.specs.Prelude.{◌≡◌, ◌%◌, ◌<◌, ◌^◌, None, false, ok_or, IfSome};
 ghost use Rattle.arch_defs.specs.FirstEntries.{HasGuestFrame, first_entry};
 ghost use Rattle.arch_defs.specs.Memory.{Known, machine_memory, mmu};
 ghost use Rattle.arch_defs.specs.Translation.{first_stage};
@@ -23,20 +23,6 @@ use two_stage_walk::{
     first_leaf, first_stage, leaf_address, privilege_of, supervisor_of, translate_found,
 };
 
-/// Where an access is made, or its trap, and the first-stage translation that it finds.
-#[derive(Clone, Copy)]
-pub struct Reached {
-    pub place: Result<u64, Trap>,
-    pub entry: Option<FirstEntry>,
-}
-
-// What the first stage makes of an address, and the translation that it finds.
-#[derive(Clone, Copy)]
-struct FirstStage {
-    found: Found,
-    entry: Option<FirstEntry>,
-}
-
 // The translation of an address's one page under a leaf.
 fn first_entry(tag: &Tag, atp: SupervisorRoot, va: u64, leaf: &LeafPte) -> FirstEntry
     requires { LeafFits most_levels leaf.now }
@@ -56,34 +42,38 @@ fn first_entry(tag: &Tag, atp: SupervisorRoot, va: u64, leaf: &LeafPte) -> First
     }
 }
 
-// The same by a walk.
+// What the first stage makes of an address by a walk. The translation that it finds is put into `entry`.
+#[inline(never)]
 #[tactic(auto, using(crate::proofs::FirstFound::leaf_passes), unfolding(arch_defs::specs::Translation::first_stage, machine_defs::specs::FirstLeaves::entry_walked))]
-fn walked(virt: &Virtual, tag: &Tag, memory: &PhysMem, va: u64, access: Access) -> FirstStage
-    ensures found { result.found ≡ first_stage (second_of_memory virt.now memory.now)
+fn walked(
+    virt: &Virtual,
+    tag: &Tag,
+    memory: &PhysMem,
+    va: u64,
+    access: Access,
+    entry: &mut Option<FirstEntry>,
+) -> Found
+    requires none { entry.old ≡ None }
+    ensures found { result ≡ first_stage (second_of_memory virt.now memory.now)
         (reading_of_memory memory.now) virt.now.csrs virt.now.mode va access }
-    ensures entry { (known : Known) → result.entry ≡ entry_walked tag.now
+    ensures entry { (known : Known) → entry.new ≡ entry_walked tag.now
         (mmu known (second_of_memory virt.now memory.now) (reading_of_memory memory.now))
         virt.now va access }
-    ensures offset { KeepsOffset va result.found }
-    ensures fits { IfSome result.entry HasGuestFrame }
+    ensures offset { KeepsOffset va result }
+    ensures fits { IfSome entry.new HasGuestFrame }
 {
     memory.is_whole();
     match first_leaf(memory, &virt.csrs, virt.mode, va, access) {
         Some(leaf) => {
             let atp = supervisor_of(&virt.csrs, virt.mode).atp;
-            FirstStage {
-                found: Found::Passes(leaf_address(&leaf, va)),
-                entry: Some(first_entry(tag, atp, va, &leaf)),
-            }
+            *entry = Some(first_entry(tag, atp, va, &leaf));
+            Found::Passes(leaf_address(&leaf, va))
         }
-        None => FirstStage {
-            found: first_stage(memory, &virt.csrs, virt.mode, va, access),
-            entry: None,
-        },
+        None => first_stage(memory, &virt.csrs, virt.mode, va, access),
     }
 }
 
-// What the first stage makes of an address by the translations that are cached, and else by a walk.
+// The same by the translations that are cached, and else by a walk.
 #[tactic(auto, unfolding(arch_defs::specs::Translation::first_stage, machine_defs::specs::FirstLeaves::entry_walked))]
 fn first_stage_of(
     virt: &Virtual,
@@ -92,29 +82,29 @@ fn first_stage_of(
     memory: &PhysMem,
     va: u64,
     access: Access,
-) -> FirstStage
-    ensures found { result.found ≡ found_with (known_of first.now tag.now virt.now va access)
+    entry: &mut Option<FirstEntry>,
+) -> Found
+    requires none { entry.old ≡ None }
+    ensures found { result ≡ found_with (known_of first.now tag.now virt.now va access)
         (first_stage (second_of_memory virt.now memory.now) (reading_of_memory memory.now)
         virt.now.csrs virt.now.mode va access) }
-    ensures entry { entries_of result.entry ≡ unless_known (known_of first.now tag.now virt.now va access)
+    ensures entry { entries_of entry.new ≡ unless_known (known_of first.now tag.now virt.now va access)
         (entry_walked tag.now (mmu_on (hart_state virt.now first.now tag.now) memory.now)
         virt.now va access) }
-    ensures offset { KeepsOffset va result.found }
-    ensures fits { IfSome result.entry HasGuestFrame }
+    ensures offset { KeepsOffset va result }
+    ensures fits { IfSome entry.new HasGuestFrame }
 {
     let who = privilege_of(&virt.csrs, virt.mode);
     let atp = supervisor_of(&virt.csrs, virt.mode).atp;
     match passed_by(first, tag, who, atp, va, access) {
-        Some(address) => FirstStage {
-            found: Found::Passes(address),
-            entry: None,
-        },
-        None => walked(virt, tag, memory, va, access),
+        Some(address) => Found::Passes(address),
+        None => walked(virt, tag, memory, va, access, entry),
     }
 }
 
-/// Where an access is made, or its trap to the hart, and the first-stage translation that it finds: by those
-/// that are cached, and else by walks.
+/// Where an access is made, by the first-stage translations that are cached, and else by walks. Where it is
+/// made nowhere, `trap` becomes its trap to the hart. The first-stage translation that it finds is put into
+/// `entry`.
 #[tactic(auto, using(data_access::proofs::Fitting::fits_at))]
 pub fn reach(
     virt: &Virtual,
@@ -124,27 +114,28 @@ pub fn reach(
     va: u64,
     width: Width,
     access: Access,
-) -> Reached
-    ensures place { result.place ≡ answer_of false virt.now.csrs (machine_memory memory.now)
+    trap: &mut Trap,
+    entry: &mut Option<FirstEntry>,
+) -> Option<u64>
+    requires none { entry.old ≡ None }
+    ensures place { ok_or result trap.new ≡ answer_of false virt.now.csrs (machine_memory memory.now)
         (access_over memory.now (hart_state virt.now first.now tag.now) va width access) }
-    ensures entry { entries_of result.entry
+    ensures entry { entries_of entry.new
         ≡ found_over memory.now (hart_state virt.now first.now tag.now) va width access }
-    ensures inside { IfOk result.place (λ place. IsPlaceFor (machine_memory memory.now) width place) }
-    ensures fits { IfSome result.entry HasGuestFrame }
+    ensures inside { IfSome result (λ place. IsPlaceFor (machine_memory memory.now) width place) }
+    ensures fits { IfSome entry.new HasGuestFrame }
 {
     memory.is_whole();
     if !is_aligned(va, width) {
-        let trap = Trap::of_exception(virt.mode, access.faults().misaligned, va);
-        return Reached {
-            place: Err(trap),
-            entry: None,
-        };
+        *trap = Trap::of_exception(virt.mode, access.faults().misaligned, va);
+        return None;
     }
-    let stage = first_stage_of(virt, first, tag, memory, va, access);
-    let found = stage.found;
-    let place = translate_found(memory, &virt.csrs, virt.mode, va, access, false, found);
-    Reached {
-        place,
-        entry: stage.entry,
+    let found = first_stage_of(virt, first, tag, memory, va, access, entry);
+    match translate_found(memory, &virt.csrs, virt.mode, va, access, false, found) {
+        Ok(place) => Some(place),
+        Err(raised) => {
+            *trap = raised;
+            None
+        }
     }
 }

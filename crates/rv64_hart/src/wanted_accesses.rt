@@ -7,7 +7,7 @@ ghost use Rattle.rv64_hart.specs.MachineMemory.{hart_state, wanted_next};
 
 use crate::accesses::word_at;
 use crate::walked_accesses::reach;
-use arch_defs::{Access, FirstBuffer, Tag, Virtual, Width};
+use arch_defs::{Access, FirstBuffer, Tag, Trap, Virtual, Width};
 use data_access::DataAccess;
 use op_defs::Effect;
 use op_effects::effect_of;
@@ -48,8 +48,12 @@ pub fn wanted_at(
     ensures { result ≡ wanted_next (hart_state virt.now first.now tag.now) memory.now }
 {
     let pc = virt.regs.pc;
-    match reach(virt, first, tag, memory, pc, Width::Word, Access::Fetch).place {
-        Ok(place) => wanted_of(virt, word_at(memory, place)),
-        Err(_) => None,
+    let (width, access) = (Width::Word, Access::Fetch);
+    let (mut trap, mut entry) = (Trap::of_interrupt(0), None);
+    match reach(
+        virt, first, tag, memory, pc, width, access, &mut trap, &mut entry,
+    ) {
+        Some(place) => wanted_of(virt, word_at(memory, place)),
+        None => None,
     }
 }

@@ -1,4 +1,5 @@
 use Rattle.std.proofs.Common.{ap, sym, ◌∙◌}
+use Rattle.std.specs.Prelude.{ok_or}
 use Rattle.op_defs.specs.Table.{op_of}
 use Rattle.machine_defs.specs.FirstLeaves.{entries_of, found_by_op}
 use Rattle.rv64_hart.specs.MachineMemory.{found_on, hart_state, mmu_on}
@@ -6,16 +7,16 @@ use Rattle.rv64_hart.proofs.FirstFound.{found_nowhere, leaves_at, leaves_nowhere
 use Rattle.rv64_hart.proofs.Places.{found}
 use Rattle.rv64_hart.proofs.leaves.leaves_found.Goals as goal
 
-pub returns-in-Ok-clause-value : goal.returns-in-Ok-clause-value
+pub returns-in-Some-clause-value : goal.returns-in-Some-clause-value
 unfolding found_on
-returns-in-Ok-clause-value c =
-    leaves_at c.args.tag.now (mmu_on (hart_state c.args.virt.now c.args.first.now c.args.tag.now) c.args.memory.now) c.args.virt.now c.in-Ok.place (entries_of c.reach-fetched.result.entry) (entries_of c.found_by_word.result)
-    (found c.args.virt.now.csrs c.args.memory.now _ c.in-Ok.place (sym c.in-Ok.is ∙ c.reach-fetched.ensures.place)) c.reach-fetched.ensures.entry
+returns-in-Some-clause-value c =
+    leaves_at c.args.tag.now (mmu_on (hart_state c.args.virt.now c.args.first.now c.args.tag.now) c.args.memory.now) c.args.virt.now c.in-Some.place (entries_of c.reach.new.entry) (entries_of c.found_by_word.result)
+    (found c.args.virt.now.csrs c.args.memory.now _ c.in-Some.place (ap (λ r. ok_or r c.reach.new.trap) (sym c.in-Some.is) ∙ c.reach.ensures.place)) c.reach.ensures.entry
     (c.found_by_word.ensures.value
     ∙ ap (λ word. found_by_op c.args.tag.now (mmu_on (hart_state c.args.virt.now c.args.first.now c.args.tag.now) c.args.memory.now) c.args.virt.now (op_of word)) c.word_at.ensures)
 
-pub returns-in-Err-clause-value : goal.returns-in-Err-clause-value
+pub returns-in-None-clause-value : goal.returns-in-None-clause-value
 unfolding found_on
-returns-in-Err-clause-value c =
-    leaves_nowhere c.args.tag.now (mmu_on (hart_state c.args.virt.now c.args.first.now c.args.tag.now) c.args.memory.now) c.args.virt.now (entries_of c.reach-fetched.result.entry)
-    (found_nowhere c.args.tag.now (mmu_on (hart_state c.args.virt.now c.args.first.now c.args.tag.now) c.args.memory.now) c.args.virt.now c.args.virt.now.csrs c.args.memory.now _ _ (sym c.in-Err.is ∙ c.reach-fetched.ensures.place)) c.reach-fetched.ensures.entry
+returns-in-None-clause-value c =
+    leaves_nowhere c.args.tag.now (mmu_on (hart_state c.args.virt.now c.args.first.now c.args.tag.now) c.args.memory.now) c.args.virt.now (entries_of c.reach.new.entry)
+    (found_nowhere c.args.tag.now (mmu_on (hart_state c.args.virt.now c.args.first.now c.args.tag.now) c.args.memory.now) c.args.virt.now c.args.virt.now.csrs c.args.memory.now _ _ (ap (λ r. ok_or r c.reach.new.trap) (sym c.in-None.is) ∙ c.reach.ensures.place)) c.reach.ensures.entry

@@ -1,9 +1,12 @@
-use Rattle.std.proofs.Common.{sym}
+use Rattle.std.proofs.Common.{refl, rules}
 use Rattle.std.specs.Prelude.{option_map}
 use Rattle.machine_defs.specs.FirstLeaves.{entries_of}
-use Rattle.rv64_hart.proofs.FirstFound.{op_ends}
+use Rattle.rv64_hart.specs.Steps.{with_first}
+use Rattle.rv64_hart.proofs.FirstFound.{call_ends}
 use Rattle.rv64_hart.proofs.steps.rare.Goals as goal
 
-pub returns-in-Some-clause-ends : goal.returns-in-Some-clause-ends
-returns-in-Some-clause-ends c =
-    op_ends (entries_of (option_map (λ e. e.now) c.args.found)) c.args.state.now c.args.memory.now c.args.word c.in-Some.op c.effect_of-effect.result _ (sym c.in-Some.ensures) c.effect_of-effect.ensures c.apply.ensures.ends
+pub returns-then-word-eq115-clause-ends : goal.returns-then-word-eq115-clause-ends
+returns-then-word-eq115-clause-ends c =
+    let found = entries_of (option_map (λ e. e.now) c.args.found) in
+    rw c.call.ensures.raised (call_ends found c.args.state.now c.args.memory.now c.args.word _ (search rules)
+    (c.call.ensures.trap (with_first c.args.state.now found) c.args.memory.now refl))

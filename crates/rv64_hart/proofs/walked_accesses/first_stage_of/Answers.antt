@@ -21,7 +21,8 @@ returns-in-Some-clause-found c =
 pub returns-in-Some-clause-entry : goal.returns-in-Some-clause-entry
 unfolding entry_walked
 returns-in-Some-clause-entry c =
-    passes_without c.args.first.now c.args.tag.now (privilege_of c.args.virt.now.csrs c.args.virt.now.mode) c.args.va c.in-Some.address c.args.access (supervisor_of c.args.virt.now.csrs c.args.virt.now.mode).atp
+    ap entries_of c.requires.none
+    ∙ passes_without c.args.first.now c.args.tag.now (privilege_of c.args.virt.now.csrs c.args.virt.now.mode) c.args.va c.in-Some.address c.args.access (supervisor_of c.args.virt.now.csrs c.args.virt.now.mode).atp
     (λ root. option_map (first_entry c.args.tag.now (supervisor_of c.args.virt.now.csrs c.args.virt.now.mode).atp c.args.va)
     (leaf_under (mmu_on (hart_state c.args.virt.now c.args.first.now c.args.tag.now) c.args.memory.now) (privilege_of c.args.virt.now.csrs c.args.virt.now.mode) c.args.va c.args.access root))
     refl (c.in-Some.ensures.value

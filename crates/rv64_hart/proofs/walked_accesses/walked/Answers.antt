@@ -26,4 +26,4 @@ returns-in-Some-clause-entry c = λ known.
 pub returns-in-None-clause-entry : goal.returns-in-None-clause-entry
 unfolding entry_walked
 returns-in-None-clause-entry c = λ known.
-    ap (option_map (first_entry c.args.tag.now (supervisor_of c.args.virt.now.csrs c.args.virt.now.mode).atp c.args.va)) (c.in-None.ensures.value known)
+    c.requires.none ∙ ap (option_map (first_entry c.args.tag.now (supervisor_of c.args.virt.now.csrs c.args.virt.now.mode).atp c.args.va)) (c.in-None.ensures.value known)

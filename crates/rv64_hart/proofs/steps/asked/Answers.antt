@@ -1,0 +1,9 @@
+use Rattle.std.proofs.Common.{sym}
+use Rattle.std.specs.Prelude.{option_map}
+use Rattle.machine_defs.specs.FirstLeaves.{entries_of}
+use Rattle.rv64_hart.proofs.FirstFound.{op_ends}
+use Rattle.rv64_hart.proofs.steps.asked.Goals as goal
+
+pub returns-in-Some-clause-ends : goal.returns-in-Some-clause-ends
+returns-in-Some-clause-ends c =
+    op_ends (entries_of (option_map (λ e. e.now) c.args.found)) c.args.state.now c.args.memory.now c.args.word c.in-Some.op c.effect_of-effect.result _ (sym c.in-Some.ensures) c.effect_of-effect.ensures c.apply.ensures.ends
