@@ -89,7 +89,7 @@ impl FrameSet {
     }
 
     // Holds a frame from now on.
-    #[inline]
+    #[inline(always)]
     #[tactic(auto, using(crate::proofs::Holding::adding))]
     fn hold(&mut self, frame: u64)
         ensures more { Within (has_frame self.old) (has_frame self.new) }
@@ -97,15 +97,19 @@ impl FrameSet {
         ensures recent { self.new.recent ≡ self.old.recent }
     {
         let at = (frame % 64) as usize;
-        if !self.is_marked(frame) {
-            self.marks[at] |= bit_at(frame / 64);
-            self.uppers[(frame % MARKS) as usize] = upper_of(frame);
-        } else if self.uppers[(frame % MARKS) as usize] != upper_of(frame) {
-            self.uppers[(frame % MARKS) as usize] = SEVERAL;
+        let marked = self.marks[at] | bit_at(frame / 64);
+        let upper = upper_of(frame);
+        let mark = (frame % MARKS) as usize;
+        if self.marks[at] != marked {
+            self.marks[at] = marked;
+            self.uppers[mark] = upper;
+        } else if self.uppers[mark] != upper {
+            self.uppers[mark] = SEVERAL;
         }
     }
 
     /// Adds a frame.
+    #[inline(always)]
     #[tactic(auto, using(crate::proofs::Recent::noting))]
     pub fn add(&mut self, frame: u64)
         ensures more { Within (has_frame self.old) (has_frame self.new) }

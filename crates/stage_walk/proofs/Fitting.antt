@@ -1,13 +1,11 @@
--- The numbers in what an entry says.
+-- The numbers in a walk's end.
 use Rattle.std.proofs.Common.{ℕ, ◌≤◌, arith}
+use Rattle.arch_defs.specs.declared.walks.WalkEnd.{WalkEnd}
 use Rattle.arch_defs.specs.declared.walks.WalkEnd.TheVariants.{Leaf, PageFault, FetchEnd}
-use Rattle.arch_defs.specs.declared.walks.Next.{Next}
-use Rattle.arch_defs.specs.declared.walks.Next.TheVariants.{Ends, Below}
-use Rattle.stage_walk.specs.Ends.{NextFits}
+use Rattle.stage_walk.specs.Ends.{EndFits}
 
 -- what fits some levels fits more
-pub next_fits : (fewer more : ℕ) (next : Next) → NextFits fewer next → fewer ≤ more → NextFits more next
-next_fits fewer more (Ends (Leaf leaf)) fits less = record { frame = fits.frame; level = omega (arith, fits.level); aligned = fits.aligned }
-next_fits fewer more (Ends PageFault) fits less = tt
-next_fits fewer more (Ends (FetchEnd place trap)) fits less = fits
-next_fits fewer more (Below frame) fits less = fits
+pub end_fits : (fewer more : ℕ) (end : WalkEnd) → EndFits fewer end → fewer ≤ more → EndFits more end
+end_fits fewer more (Leaf leaf) fits less = record { frame = fits.frame; level = omega (arith, fits.level); aligned = fits.aligned }
+end_fits fewer more PageFault fits less = tt
+end_fits fewer more (FetchEnd place trap) fits less = fits

@@ -1,3 +1,4 @@
+mod Alignment
 pub mod Chains
 pub mod EntryWords
 pub mod Fitting
@@ -5,3 +6,4 @@ pub mod Flag
 pub mod Leaves
 pub mod Levels
 pub mod NotedWalks
+mod Pointers

@@ -3,14 +3,15 @@
 ghost use Rattle.std.specs.Prelude.{◌≡◌, ℕ, ◌^◌, ◌%◌, ◌<◌, Result, ⊤};
 ghost use Rattle.arch_defs.specs.declared.modes.Trap.{Trap};
 ghost use Rattle.arch_defs.specs.Frames.{Frames, Within};
-ghost use Rattle.arch_defs.specs.Walk.{levels, met_in, next_of, path, walk};
+ghost use Rattle.arch_defs.specs.Walk.{levels, met_in, next_of, path, place_of, walk};
 ghost use Rattle.frame_set.specs.Holding.{has_frame, has_recent};
-ghost use Rattle.stage_walk.specs.Ends.{EndFits, NextFits};
+ghost use Rattle.stage_walk.specs.Ends.{EndFits};
+ghost use Rattle.stage_walk.specs.Words.{VisitFits, visit_next};
 ghost use Rattle.stage_walk.specs.Reads.{Each};
 
-use crate::entries::{entry_next, pte_of};
-use crate::places::{is_canonical, levels, place_of};
-use arch_defs::{Access, Next, Shape, Trap, WalkEnd};
+use crate::entries::{Visit, last_end, visit_of};
+use crate::places::{is_canonical, levels, place_of, unread_end};
+use arch_defs::{Access, Shape, Trap, WalkEnd};
 use frame_set::FrameSet;
 
 /// What reads the entries of a table, and notes the frames of all that it reads for each.
@@ -36,9 +37,9 @@ pub trait NotingFetch {
             → reads self.now frames place };
 }
 
-// What the entry for an address in the table of a frame says to the walk.
-#[inline]
-#[tactic(auto, using(arch_defs::proofs::Shapes::few_levels, crate::proofs::Fitting::next_fits))]
+// What the walk finds for an address in the table of a frame.
+#[inline(always)]
+#[tactic(auto, using(arch_defs::proofs::Shapes::few_levels))]
 fn visit_noted<N: NotingFetch>(
     fetch: &N,
     shape: Shape,
@@ -47,27 +48,25 @@ fn visit_noted<N: NotingFetch>(
     level: u8,
     table: u64,
     read: &mut FrameSet,
-) -> Next
+) -> Visit
     requires level { level < levels shape }
     requires table { table < 2 ^ 44 }
     requires backed { N.is_backed fetch.now }
-    ensures next { result ≡ next_of access (met_in (N.reading fetch.now) shape va level table) }
-    ensures fits { NextFits (levels shape) result }
+    ensures next { visit_next access level (place_of shape level table va) result
+        ≡ next_of access (met_in (N.reading fetch.now) shape va level table) }
+    ensures fits { VisitFits level result }
     ensures more { Within (has_frame read.old) (has_frame read.new) }
     ensures recent { Within (has_recent read.old) (has_recent read.new) }
     ensures noted { (frames : Frames) → Within (has_recent read.new) frames
         → N.reads fetch.now frames (met_in (N.reading fetch.now) shape va level table).place }
 {
     let place = place_of(shape, level, table, va);
-    match fetch.pte_noted(place, read) {
-        Ok(word) => entry_next(level, access, &pte_of(word)),
-        Err(trap) => Next::Ends(WalkEnd::FetchEnd { place, trap }),
-    }
+    visit_of(level, place, access, fetch.pte_noted(place, read))
 }
 
 /// The walk of the table whose root is this frame, for an access at an address. The frames of all that it
 /// reads are added to a set.
-#[inline]
+#[inline(always)]
 #[tactic(auto, using(crate::proofs::Levels::steps))]
 pub fn walk_noted<N: NotingFetch>(
     fetch: &N,
@@ -94,8 +93,9 @@ pub fn walk_noted<N: NotingFetch>(
     while level > 0 {
         level -= 1;
         match visit_noted(fetch, shape, va, access, level, table, read) {
-            Next::Ends(end) => return end,
-            Next::Below(frame) => table = frame,
+            Visit::Below(frame) => table = frame,
+            Visit::Last(word) => return last_end(shape, level, access, word),
+            Visit::Unread(trap) => return unread_end(shape, level, table, va, trap),
         }
     }
     WalkEnd::PageFault

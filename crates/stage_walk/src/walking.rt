@@ -1,29 +1,28 @@
 // The walk itself.
 
 ghost use Rattle.std.specs.Prelude.{◌≡◌, ◌^◌, ◌<◌};
-ghost use Rattle.arch_defs.specs.Walk.{levels, met_in, next_of, walk};
-ghost use Rattle.stage_walk.specs.Ends.{EndFits, NextFits};
+ghost use Rattle.arch_defs.specs.Walk.{levels, met_in, next_of, place_of, walk};
+ghost use Rattle.stage_walk.specs.Ends.{EndFits};
+ghost use Rattle.stage_walk.specs.Words.{VisitFits, visit_next};
 
-use crate::entries::{entry_next, pte_of};
+use crate::entries::{Visit, last_end, visit_of};
 use crate::fetching::Fetch;
-use crate::places::{is_canonical, levels, place_of};
-use arch_defs::{Access, Next, Shape, WalkEnd};
+use crate::places::{is_canonical, levels, place_of, unread_end};
+use arch_defs::{Access, Shape, WalkEnd};
 
-// What the entry for an address in the table of a frame says to the walk.
+// What the walk finds for an address in the table of a frame.
 #[inline(always)]
-#[tactic(auto, using(arch_defs::proofs::Shapes::few_levels, crate::proofs::Fitting::next_fits))]
-fn visit<F: Fetch>(fetch: &F, shape: Shape, va: u64, access: Access, level: u8, table: u64) -> Next
+#[tactic(auto, using(arch_defs::proofs::Shapes::few_levels))]
+fn visit<F: Fetch>(fetch: &F, shape: Shape, va: u64, access: Access, level: u8, table: u64) -> Visit
     requires level { level < levels shape }
     requires table { table < 2 ^ 44 }
     requires backed { F.is_backed fetch.now }
-    ensures next { result ≡ next_of access (met_in (F.reading fetch.now) shape va level table) }
-    ensures fits { NextFits (levels shape) result }
+    ensures next { visit_next access level (place_of shape level table va) result
+        ≡ next_of access (met_in (F.reading fetch.now) shape va level table) }
+    ensures fits { VisitFits level result }
 {
     let place = place_of(shape, level, table, va);
-    match fetch.pte_at(place) {
-        Ok(word) => entry_next(level, access, &pte_of(word)),
-        Err(trap) => Next::Ends(WalkEnd::FetchEnd { place, trap }),
-    }
+    visit_of(level, place, access, fetch.pte_at(place))
 }
 
 /// Walks the table whose root is this frame, for an access at an address.
@@ -43,8 +42,11 @@ pub fn walk<F: Fetch>(fetch: &F, root: u64, shape: Shape, va: u64, access: Acces
     while level > 0 {
         level -= 1;
         match visit(fetch, shape, va, access, level, table) {
-            Next::Ends(end) => return end,
-            Next::Below(frame) => table = frame,
+            Visit::Below(frame) => table = frame,
+            Visit::Last(word) => return last_end(shape, level, access, word),
+            Visit::Unread(trap) => {
+                return unread_end(shape, level, table, va, trap);
+            }
         }
     }
     WalkEnd::PageFault

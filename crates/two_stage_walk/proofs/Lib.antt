@@ -1,2 +1,3 @@
 pub mod Frames
 mod LeafAddresses
+pub mod SecondAnswers

@@ -1,14 +1,16 @@
 // The second stage, whose table lies in memory itself.
 
 ghost use Rattle.std.specs.Prelude.{◌≡◌, ◌^◌, ◌%◌, ◌<◌, IfSome};
-ghost use Rattle.arch_defs.specs.SecondStage.{second_end, guest_root_frame, second_root_of, second_walk, has_frame_of, memory_words, second_by_walk, walked};
+ghost use Rattle.arch_defs.specs.SecondStage.{second_end, guest_root_frame, second_root_of, second_walk, has_frame_of, memory_words, second_by_walk};
 ghost use Rattle.arch_defs.specs.Memory.{bare};
 ghost use Rattle.arch_defs.specs.Translation.{unread};
 ghost use Rattle.arch_defs.specs.Walk.{most_levels};
 ghost use Rattle.stage_walk.specs.Ends.{EndFits};
 ghost use Rattle.two_stage_walk.specs.Places.{IsPlaceOf, LeafIn};
+ghost use Rattle.two_stage_walk.specs.SecondAnswers.{place_of};
 
 use crate::devices::is_on_device;
+use crate::second_answers::{SecondAnswer, table_answer};
 use crate::virtual_addresses::{leaf_address, unread};
 use arch_defs::{Access, Csrs, GuestRoot, Mode, SecondWalkEnd, Shape, Trap, WalkEnd};
 use phys_mem::Mem;
@@ -94,27 +96,6 @@ pub fn second_walk<M: Mem>(
     second_end(mem, mxr, address, kind, end)
 }
 
-// The place that the walk of a table gives.
-#[inline(never)]
-fn walked<M: Mem>(
-    mem: &M,
-    mxr: bool,
-    shape: Shape,
-    ppn: u64,
-    address: u64,
-    kind: Access,
-) -> Option<u64>
-    requires backed { M.is_backed mem.now }
-    ensures place { result ≡ walked (M.memory mem.now) mxr shape ppn address kind }
-    ensures inside { IfSome result (λ place. IsPlaceOf (M.memory mem.now) address place) }
-{
-    match second_walk(mem, mxr, shape, ppn, address, kind) {
-        SecondWalkEnd::Leaf(leaf) => Some(leaf_address(&leaf, address)),
-        SecondWalkEnd::Device(_) | SecondWalkEnd::GuestPageFault | SecondWalkEnd::AccessFault =>
-            None,
-    }
-}
-
 /// Bare passes on each address inside memory.
 pub fn bare<M: Mem>(mem: &M, address: u64, kind: Access) -> Option<u64>
     requires backed { M.is_backed mem.now }
@@ -139,8 +120,20 @@ pub fn second_root_of(csrs: &Csrs, mode: Mode) -> GuestRoot
     }
 }
 
+// The place in memory, if the access is made there.
+#[inline(always)]
+fn place_of(answer: SecondAnswer) -> Option<u64>
+    ensures { result ≡ place_of answer }
+{
+    match answer {
+        SecondAnswer::InMemory(place) => Some(place),
+        SecondAnswer::OnDevice | SecondAnswer::GuestPageFault | SecondAnswer::AccessFault => None,
+    }
+}
+
 /// The second stage as the registers and memory are: the place that it gives an access of a kind at a guest
 /// physical address as a mode.
+#[tactic(auto, using(crate::proofs::SecondAnswers::place_alike))]
 pub fn second_place<M: Mem>(
     mem: &M,
     csrs: &Csrs,
@@ -155,7 +148,7 @@ pub fn second_place<M: Mem>(
     match second_root_of(csrs, mode) {
         GuestRoot::Bare => bare(mem, address, kind),
         GuestRoot::Table { mode, ppn, .. } => {
-            walked(mem, csrs.hs.status.mxr, mode.shape(), ppn, address, kind)
+            place_of(table_answer(mem, csrs.hs.status.mxr, mode, ppn, address, kind))
         }
     }
 }

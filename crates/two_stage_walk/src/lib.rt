@@ -4,6 +4,7 @@
 mod devices;
 mod guest_addresses;
 mod noting;
+mod second_answers;
 mod translating;
 mod traps;
 mod virtual_addresses;

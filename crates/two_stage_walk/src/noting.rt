@@ -2,6 +2,7 @@
 
 ghost use Rattle.std.specs.Prelude.{◌≡◌, ◌^◌, ◌%◌, ◌<◌, IfSome};
 ghost use Rattle.arch_defs.specs.Frames.{Frames, Within};
+ghost use Rattle.arch_defs.specs.Roots.{guest_shape};
 ghost use Rattle.arch_defs.specs.SecondStage.{guest_root_frame, memory_words, second_under, second_walk, walked};
 ghost use Rattle.arch_defs.specs.Walk.{path, walk};
 ghost use Rattle.frame_set.specs.Holding.{has_frame, has_recent};
@@ -11,7 +12,7 @@ ghost use Rattle.two_stage_walk.specs.Reads.{SecondReads};
 
 use crate::guest_addresses::{bare, second_end};
 use crate::virtual_addresses::{leaf_address, unread};
-use arch_defs::{Access, GuestRoot, SecondWalkEnd, Shape, Trap};
+use arch_defs::{Access, GuestMode, GuestRoot, SecondWalkEnd, Shape, Trap};
 use frame_set::FrameSet;
 use phys_mem::Mem;
 use stage_walk::{NotingFetch, walk_noted};
@@ -38,10 +39,10 @@ impl<M: Mem> NotingFetch for NotedWords<'_, M> {
     }
 }
 
-// The place that the walk of a table gives.
-#[inline(never)]
+// The place that the walk of a table of a shape gives.
+#[inline(always)]
 #[tactic(auto, unfolding(arch_defs::specs::SecondStage::second_walk))]
-fn walked_noted<M: Mem>(
+fn noted_in<M: Mem>(
     mem: &M,
     mxr: bool,
     shape: Shape,
@@ -67,6 +68,33 @@ fn walked_noted<M: Mem>(
     }
 }
 
+// The place that the walk of a table of a mode gives. With the shape of the table known the places of its
+// entries are computed in fewer instructions.
+#[inline(never)]
+fn walked_noted<M: Mem>(
+    mem: &M,
+    mxr: bool,
+    mode: GuestMode,
+    ppn: u64,
+    address: u64,
+    kind: Access,
+    read: &mut FrameSet,
+) -> Option<u64>
+    requires backed { M.is_backed mem.now }
+    ensures place { result ≡ walked (M.memory mem.now) mxr (guest_shape mode) ppn address kind }
+    ensures inside { IfSome result (λ place. IsPlaceOf (M.memory mem.now) address place) }
+    ensures more { Within (has_frame read.old) (has_frame read.new) }
+    ensures recent { Within (has_recent read.old) (has_recent read.new) }
+    ensures noted { (frames : Frames) → Within (has_recent read.new) frames
+        → Each (LiesIn frames) (path (memory_words (M.memory mem.now)) (guest_root_frame ppn)
+        (guest_shape mode) address kind) }
+{
+    match mode {
+        GuestMode::Sv39x4 => noted_in(mem, mxr, Shape::Sv39x4, ppn, address, kind, read),
+        GuestMode::Sv48x4 => noted_in(mem, mxr, Shape::Sv48x4, ppn, address, kind, read),
+    }
+}
+
 /// The place that the second stage by a table gives an access of a kind at a guest physical address. The
 /// frames of the entries that are read are added to a set.
 #[inline]
@@ -89,7 +117,7 @@ pub fn second_noted<M: Mem>(
     match root {
         GuestRoot::Bare => bare(mem, address, kind),
         GuestRoot::Table { mode, ppn, .. } => {
-            walked_noted(mem, mxr, mode.shape(), ppn, address, kind, read)
+            walked_noted(mem, mxr, mode, ppn, address, kind, read)
         }
     }
 }

@@ -4,12 +4,12 @@ ghost use Rattle.std.specs.Prelude.{◌≡◌, IfOk};
 ghost use Rattle.arch_defs.specs.SecondStage.{second_by_walk};
 ghost use Rattle.machine_defs.specs.Answers.{answer_of, located_by_walk};
 ghost use Rattle.machine_defs.specs.Core.{located_by};
-ghost use Rattle.two_stage_walk.specs.Answers.{IsPlaceBy, LiesBy, placed, placed_missing};
+ghost use Rattle.two_stage_walk.specs.Answers.{IsPlaceBy, LiesBy, placed};
 ghost use Rattle.two_stage_walk.specs.Places.{KeepsOffset};
+ghost use Rattle.two_stage_walk.specs.SecondAnswers.{made_by};
 
-use crate::devices::is_device_now;
-use crate::guest_addresses::second_place;
-use crate::traps::missing_place_trap;
+use crate::second_answers::{SecondAnswer, second_answer};
+use crate::traps::{guest_page_trap, is_implicit, missing_place_trap};
 use crate::virtual_addresses::first_stage;
 use arch_defs::{Access, Csrs, DEVICE_FRAME, FRAME_SIZE, Found, MissingPlace, Mode, Trap};
 use phys_mem::Mem;
@@ -23,25 +23,27 @@ pub enum Place {
     OnDevice(u64),
 }
 
-// Where an access is made that has no place in memory, or its trap.
-#[cold]
-fn placed_missing<M: Mem>(
-    mem: &M,
-    device: bool,
-    csrs: &Csrs,
-    missing: &MissingPlace,
-) -> Result<Place, Trap>
-    requires backed { M.is_backed mem.now }
-    ensures { result ≡ placed_missing device csrs.now (M.memory mem.now) missing.now }
+// Where an access is made of which the second stage makes this, or its trap.
+#[inline(always)]
+fn made_by(device: bool, missing: &MissingPlace, answer: SecondAnswer) -> Result<Place, Trap>
+    ensures { result ≡ made_by device missing.now answer }
 {
-    if is_device_now(mem, device, csrs, missing) {
-        Ok(Place::OnDevice(missing.address % FRAME_SIZE))
-    } else {
-        Err(missing_place_trap(mem, csrs, missing))
+    match answer {
+        SecondAnswer::InMemory(place) => Ok(Place::InMemory(place)),
+        SecondAnswer::OnDevice => {
+            if device && !is_implicit(missing.kind) {
+                Ok(Place::OnDevice(missing.address % FRAME_SIZE))
+            } else {
+                Err(missing.access_fault())
+            }
+        }
+        SecondAnswer::GuestPageFault => Err(guest_page_trap(missing)),
+        SecondAnswer::AccessFault => Err(missing.access_fault()),
     }
 }
 
 // Where an access is made, or its trap, by what the first stage made of its address.
+#[tactic(auto, using(crate::proofs::SecondAnswers::made_alike))]
 fn placed_by<M: Mem>(
     mem: &M,
     device: bool,
@@ -58,19 +60,20 @@ fn placed_by<M: Mem>(
     ensures place { IfOk result (λ place. LiesBy device (M.memory mem.now) va place) }
 {
     match found {
-        Found::Passes(address) => match second_place(mem, csrs, mode, address, access) {
-            Some(place) => Ok(Place::InMemory(place)),
-            None => {
-                let missing = MissingPlace {
-                    address,
-                    kind: access,
-                    access,
-                    va,
-                    mode,
-                };
-                placed_missing(mem, device, csrs, &missing)
-            }
-        },
+        Found::Passes(address) => {
+            let missing = MissingPlace {
+                address,
+                kind: access,
+                access,
+                va,
+                mode,
+            };
+            made_by(
+                device,
+                &missing,
+                second_answer(mem, csrs, mode, address, access),
+            )
+        }
         Found::PageFaults => Err(Trap::of_exception(mode, access.faults().page, va)),
         Found::MissesEntry(place) => {
             let missing = MissingPlace {
@@ -80,7 +83,7 @@ fn placed_by<M: Mem>(
                 va,
                 mode,
             };
-            placed_missing(mem, device, csrs, &missing)
+            Err(missing_place_trap(mem, csrs, &missing))
         }
     }
 }

@@ -1,10 +1,11 @@
 // The trap of an access for which the second stage has no place.
 
 ghost use Rattle.std.specs.Prelude.{◌≡◌};
-ghost use Rattle.arch_defs.specs.SecondStage.{guest_page_trap, is_implicit, missing_place_by, missing_place_trap};
+ghost use Rattle.arch_defs.specs.SecondStage.{guest_page_trap, is_implicit, missing_place_trap};
+ghost use Rattle.two_stage_walk.specs.SecondAnswers.{trap_of};
 
-use crate::guest_addresses::{second_root_of, second_walk};
-use arch_defs::{Access, Csrs, GuestRoot, MissingPlace, SecondWalkEnd, Trap};
+use crate::second_answers::{SecondAnswer, second_answer};
+use arch_defs::{Access, Csrs, MissingPlace, Trap};
 use phys_mem::Mem;
 
 /// Whether an access is the implicit read of a first-stage entry.
@@ -26,13 +27,13 @@ pub fn guest_page_trap(missing: &MissingPlace) -> Trap
     }
 }
 
-// The trap of an access that has no place, by the end of the walk of its address.
-fn missing_place_by(missing: &MissingPlace, end: SecondWalkEnd) -> Trap
-    ensures { result ≡ missing_place_by missing.now end }
+// The trap of an access that has no place, by what the second stage makes of its address.
+fn trap_of(missing: &MissingPlace, answer: SecondAnswer) -> Trap
+    ensures { result ≡ trap_of missing.now answer }
 {
-    match end {
-        SecondWalkEnd::GuestPageFault => guest_page_trap(missing),
-        SecondWalkEnd::Leaf(_) | SecondWalkEnd::Device(_) | SecondWalkEnd::AccessFault => {
+    match answer {
+        SecondAnswer::GuestPageFault => guest_page_trap(missing),
+        SecondAnswer::InMemory(_) | SecondAnswer::OnDevice | SecondAnswer::AccessFault => {
             missing.access_fault()
         }
     }
@@ -41,16 +42,11 @@ fn missing_place_by(missing: &MissingPlace, end: SecondWalkEnd) -> Trap
 /// The trap of an access for which the second stage has no place, as the registers and memory are, of a
 /// machine without the device page.
 #[cold]
+#[tactic(auto, using(crate::proofs::SecondAnswers::trap_alike))]
 pub fn missing_place_trap<M: Mem>(mem: &M, csrs: &Csrs, missing: &MissingPlace) -> Trap
     requires backed { M.is_backed mem.now }
     ensures { result ≡ missing_place_trap csrs.now (M.memory mem.now) missing.now }
 {
-    match second_root_of(csrs, missing.mode) {
-        GuestRoot::Bare => missing.access_fault(),
-        GuestRoot::Table { mode, ppn, .. } => {
-            let mxr = csrs.hs.status.mxr;
-            let end = second_walk(mem, mxr, mode.shape(), ppn, missing.address, missing.kind);
-            missing_place_by(missing, end)
-        }
-    }
+    let answer = second_answer(mem, csrs, missing.mode, missing.address, missing.kind);
+    trap_of(missing, answer)
 }

@@ -28,11 +28,18 @@ loop-level-init g c =
           (goes_start (g.N.NotingFetch.reads c.args.fetch.now) (g.N.NotingFetch.reading c.args.fetch.now) c.args.shape c.args.va c.args.access (has_recent c.args.read.now) c.args.root right);
     }
 
-pub returns-in-Ends-clause-noted : goal.returns-in-Ends-clause-noted
-returns-in-Ends-clause-noted g c =
-    let says : next_of c.args.access (met_in (g.N.NotingFetch.reading c.args.fetch.now) c.args.shape c.args.va (c.loop-level.level - 1) c.loop-level.table) ≡ Ends c.in-Ends.end = search rules in
+pub returns-in-Last-clause-noted : goal.returns-in-Last-clause-noted
+returns-in-Last-clause-noted g c =
+    let says : next_of c.args.access (met_in (g.N.NotingFetch.reading c.args.fetch.now) c.args.shape c.args.va (c.loop-level.level - 1) c.loop-level.table) ≡ Ends c.last_end.result = search rules in
     goes_end (g.N.NotingFetch.reads c.args.fetch.now) (g.N.NotingFetch.reading c.args.fetch.now) c.args.shape c.args.va c.args.access (has_recent c.loop-level.read) (has_recent c.visit_noted.new.read)
-    c.args.root c.loop-level.level (c.loop-level.level - 1) c.loop-level.table c.in-Ends.end (omega (arith, c.loop-level-test.true)) says
+    c.args.root c.loop-level.level (c.loop-level.level - 1) c.loop-level.table c.last_end.result (omega (arith, c.loop-level-test.true)) says
+    c.visit_noted.ensures.recent c.visit_noted.ensures.noted c.loop-level.invariant.noted
+
+pub returns-in-Unread-clause-noted : goal.returns-in-Unread-clause-noted
+returns-in-Unread-clause-noted g c =
+    let says : next_of c.args.access (met_in (g.N.NotingFetch.reading c.args.fetch.now) c.args.shape c.args.va (c.loop-level.level - 1) c.loop-level.table) ≡ Ends c.unread_end.result = search rules in
+    goes_end (g.N.NotingFetch.reads c.args.fetch.now) (g.N.NotingFetch.reading c.args.fetch.now) c.args.shape c.args.va c.args.access (has_recent c.loop-level.read) (has_recent c.visit_noted.new.read)
+    c.args.root c.loop-level.level (c.loop-level.level - 1) c.loop-level.table c.unread_end.result (omega (arith, c.loop-level-test.true)) says
     c.visit_noted.ensures.recent c.visit_noted.ensures.noted c.loop-level.invariant.noted
 
 pub loop-level-preserved : goal.loop-level-preserved

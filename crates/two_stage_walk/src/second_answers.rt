@@ -1,0 +1,121 @@
+// What the second stage makes of an access, by one walk.
+
+ghost use Rattle.std.specs.Prelude.{◌≡◌};
+ghost use Rattle.arch_defs.specs.Roots.{guest_shape};
+ghost use Rattle.arch_defs.specs.SecondStage.{second_root_of, second_walk};
+ghost use Rattle.two_stage_walk.specs.Places.{LeafIn};
+ghost use Rattle.two_stage_walk.specs.SecondAnswers.{AnswerIn, answer_by, answer_under, bare_answer};
+
+use crate::devices::is_on_device;
+use crate::guest_addresses::{second_root_of, second_walk};
+use crate::virtual_addresses::leaf_address;
+use arch_defs::{Access, Csrs, GuestMode, GuestRoot, Mode, SecondWalkEnd, Shape};
+use phys_mem::Mem;
+
+/// What the second stage makes of an access to a guest physical address (Privileged Architecture 20211203,
+/// 8.5.1).
+#[derive(Clone, Copy)]
+pub enum SecondAnswer {
+    /// It is made at this place in memory.
+    InMemory(u64),
+    /// It is made on the device page.
+    OnDevice,
+    /// The table has no leaf for the address, or it does not permit the access.
+    GuestPageFault,
+    /// An entry, or the place of the access, is outside memory.
+    AccessFault,
+}
+
+// By the end of the walk of its address.
+#[inline(always)]
+fn answer_by<M: Mem>(mem: &M, address: u64, end: SecondWalkEnd) -> SecondAnswer
+    requires { LeafIn (M.memory mem.now) address end }
+    ensures answer { result ≡ answer_by address end }
+    ensures inside { AnswerIn (M.memory mem.now) address result }
+{
+    match end {
+        SecondWalkEnd::Leaf(leaf) => SecondAnswer::InMemory(leaf_address(&leaf, address)),
+        SecondWalkEnd::Device(_) => SecondAnswer::OnDevice,
+        SecondWalkEnd::GuestPageFault => SecondAnswer::GuestPageFault,
+        SecondWalkEnd::AccessFault => SecondAnswer::AccessFault,
+    }
+}
+
+// By the walk of a table of a shape.
+#[inline(always)]
+fn answer_in<M: Mem>(
+    mem: &M,
+    mxr: bool,
+    shape: Shape,
+    ppn: u64,
+    address: u64,
+    kind: Access,
+) -> SecondAnswer
+    requires backed { M.is_backed mem.now }
+    ensures answer { result ≡ answer_by address
+        (second_walk (M.memory mem.now) mxr shape ppn address kind) }
+    ensures inside { AnswerIn (M.memory mem.now) address result }
+{
+    answer_by(
+        mem,
+        address,
+        second_walk(mem, mxr, shape, ppn, address, kind),
+    )
+}
+
+/// What the table of a mode makes of it. With the shape of the table known the places of its entries are.
+#[inline(never)]
+pub fn table_answer<M: Mem>(
+    mem: &M,
+    mxr: bool,
+    mode: GuestMode,
+    ppn: u64,
+    address: u64,
+    kind: Access,
+) -> SecondAnswer
+    requires backed { M.is_backed mem.now }
+    ensures answer { result ≡ answer_by address
+        (second_walk (M.memory mem.now) mxr (guest_shape mode) ppn address kind) }
+    ensures inside { AnswerIn (M.memory mem.now) address result }
+{
+    match mode {
+        GuestMode::Sv39x4 => answer_in(mem, mxr, Shape::Sv39x4, ppn, address, kind),
+        GuestMode::Sv48x4 => answer_in(mem, mxr, Shape::Sv48x4, ppn, address, kind),
+    }
+}
+
+// What Bare makes of it.
+fn bare_answer<M: Mem>(mem: &M, address: u64) -> SecondAnswer
+    requires backed { M.is_backed mem.now }
+    ensures answer { result ≡ bare_answer (M.memory mem.now) address }
+    ensures inside { AnswerIn (M.memory mem.now) address result }
+{
+    if mem.get(address, 1).is_some() {
+        SecondAnswer::InMemory(address)
+    } else if is_on_device(address) {
+        SecondAnswer::OnDevice
+    } else {
+        SecondAnswer::AccessFault
+    }
+}
+
+/// What the second stage of a mode makes of it, as the registers and memory are.
+pub fn second_answer<M: Mem>(
+    mem: &M,
+    csrs: &Csrs,
+    mode: Mode,
+    address: u64,
+    kind: Access,
+) -> SecondAnswer
+    requires backed { M.is_backed mem.now }
+    ensures answer { result ≡ answer_under (M.memory mem.now) csrs.now.hs.status.mxr
+        (second_root_of csrs.now mode) address kind }
+    ensures inside { AnswerIn (M.memory mem.now) address result }
+{
+    match second_root_of(csrs, mode) {
+        GuestRoot::Bare => bare_answer(mem, address),
+        GuestRoot::Table { mode, ppn, .. } => {
+            table_answer(mem, csrs.hs.status.mxr, mode, ppn, address, kind)
+        }
+    }
+}
