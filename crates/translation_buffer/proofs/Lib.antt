@@ -1,10 +1,11 @@
-pub mod ClearedSlots
 pub mod DroppedSlots
 pub mod FilledPages
 pub mod Hits
 pub mod KeptPlaces
 pub mod KeptSlots
 pub mod OnePage
+pub mod PageTags
 pub mod PlacesInside
 pub mod SameContexts
+pub mod SlotKinds
 pub mod Stored

@@ -29,7 +29,7 @@ pub serves_only : (buffer : Buffer) (first : List FirstEntry) (owner : Tag) (csr
 serves_only buffer first owner csrs mode memory other changed serves apart only = record {
   context = serves.context;
   who = serves.who;
-  slots = all_same buffer.read memory other (translator first owner buffer.context) buffer.slots (kept (has_frame buffer.read) changed memory other apart only) serves.slots;
+  slots = all_same buffer.read memory other (translator first owner buffer.context) buffer.run buffer.slots (kept (has_frame buffer.read) changed memory other apart only) serves.slots;
 }
 
 -- one frame

@@ -1,6 +1,6 @@
 // The buffer: found, walked and kept, and dropped where a table or a cached first-stage translation changes.
 
-ghost use Rattle.std.specs.Prelude.{◌≡◌, ℕ, ◌+◌, ◌*◌, ◌/◌, ◌%◌, ◌^◌, ◌≤◌, false, find, option_map, IfSome, List, Some, length};
+ghost use Rattle.std.specs.Prelude.{◌≡◌, ℕ, ◌+◌, ◌*◌, ◌/◌, ◌%◌, ◌-◌, ◌^◌, ◌<◌, ◌≤◌, false, find, option_map, IfSome, List, Some, length};
 ghost use Rattle.arch_defs.specs.declared.first.FirstEntry.{FirstEntry};
 ghost use Rattle.arch_defs.specs.declared.first.Tag.{Tag};
 ghost use Rattle.arch_defs.specs.declared.modes.Mode.{Mode};
@@ -13,7 +13,7 @@ ghost use Rattle.frame_set.specs.declared.sets.FrameSet.{FrameSet};
 ghost use Rattle.frame_set.specs.Holding.{has_frame, has_recent};
 ghost use Rattle.two_stage_walk.specs.Places.{IsPlaceOf};
 ghost use Rattle.translation_buffer.specs.Places.{Reads, Translator, context_of, passed_by, translated_place, translator};
-ghost use Rattle.translation_buffer.specs.Serving.{AllStand, Serves, GivesPlaces, bit_of, tag_of, who_bits};
+ghost use Rattle.translation_buffer.specs.Tags.{AllUpTo, bit_of, run_bits, who_bits};
 
 use crate::contexts::Context;
 use crate::slots::{Slot, Slots};
@@ -23,15 +23,22 @@ use phys_mem::{Mem, PhysMem};
 use stage_walk::permits_first;
 use two_stage_walk::{leaf_address, privilege_of, second_noted};
 
+// The last number of a run: a tag has the number and one in its upper 9 bits.
+const LAST_RUN: u64 = 510;
+
 /// The translations that the hart keeps, for the roots and the privilege that it accesses memory by: the
-/// slots, and the frames of all that was read for them.
+/// slots, and the frames of all that was read for them. `who` is what a tag has above the page's number. A
+/// restart empties no slot: it begins a run with a number that no slot has.
 #[derive(Clone, Copy, PartialEq, Eq)]
 pub struct Buffer {
     pub context: Context,
+    pub run: u64,
     pub who: u64,
     pub slots: Slots,
     pub read: FrameSet,
     walks: u64,
+    ghost few: { run ≤ 510 },
+    ghost tags: { AllUpTo run slots },
 }
 
 // A bit as a number.
@@ -44,9 +51,19 @@ fn bit_of(bit: bool) -> u64
 
 // For whom an access is made, above the 52 bits of a page's number.
 fn who_bits(who: Privilege) -> u64
-    ensures { result ≡ who_bits who }
+    ensures value { result ≡ who_bits who }
+    ensures fits { result < 2 ^ 55 }
 {
     0x10_0000_0000_0000 * (bit_of(who.user) + 2 * bit_of(who.sum) + 4 * bit_of(who.mxr))
+}
+
+// The number of a run, above these.
+fn run_bits(run: u64) -> u64
+    requires { run ≤ 510 }
+    ensures value { result ≡ run_bits run }
+    ensures fits { result ≤ 2 ^ 64 - 2 ^ 55 }
+{
+    0x80_0000_0000_0000 * (run + 1)
 }
 
 // The guest physical address of a virtual one under the translation of its page, if that permits the access.
@@ -107,12 +124,36 @@ pub fn passed_by(
     }
 }
 
+// The same as a mode. For whom it is counts under a table alone.
+#[tactic(auto, unfolding(arch_defs::specs::FirstEntries::known_under))]
+fn passed(
+    first: &FirstBuffer,
+    owner: &Tag,
+    csrs: &Csrs,
+    mode: Mode,
+    root: &SupervisorRoot,
+    va: u64,
+    access: Access,
+) -> Option<u64>
+    ensures value { result
+        ≡ passed_by first.now owner.now (privilege_of csrs.now mode) root.now va access }
+    ensures offset { IfSome result (λ address. address % 4096 ≡ va % 4096) }
+{
+    match root {
+        SupervisorRoot::Bare => Some(va),
+        SupervisorRoot::Table { .. } => {
+            known_in(first, owner, privilege_of(csrs, mode), root, va, access)
+        }
+    }
+}
+
 // The place of an access for which no table of the first stage is walked, where the second stage gives one.
 // The frames of all that is read are added to a set.
 fn place_noted(
     memory: &PhysMem,
     context: &Context,
-    who: Privilege,
+    csrs: &Csrs,
+    mode: Mode,
     first: &FirstBuffer,
     owner: &Tag,
     va: u64,
@@ -120,14 +161,16 @@ fn place_noted(
     read: &mut FrameSet,
 ) -> Option<u64>
     ensures place { result
-        ≡ translated_place (translator first.now owner.now context.now) who memory.now va access }
+        ≡ translated_place (translator first.now owner.now context.now) (privilege_of csrs.now mode)
+        memory.now va access }
     ensures inside { IfSome result (λ place. IsPlaceOf (machine_memory memory.now) va place) }
     ensures more { Within (has_frame read.old) (has_frame read.new) }
     ensures noted { (frames : Frames) → Within (has_recent read.new) frames
-        → Reads frames (translator first.now owner.now context.now) who memory.now va access }
+        → Reads frames (translator first.now owner.now context.now) (privilege_of csrs.now mode)
+        memory.now va access }
 {
     memory.is_whole();
-    match passed_by(first, owner, who, context.first, va, access) {
+    match passed(first, owner, csrs, mode, &context.first, va, access) {
         Some(address) => {
             second_noted(memory, context.mxr, context.second, address, access, read)
         }
@@ -135,7 +178,17 @@ fn place_noted(
     }
 }
 
+// The number of a run, and for whom a mode accesses memory as the registers are.
+fn bits_of(run: u64, csrs: &Csrs, mode: Mode) -> u64
+    requires { run ≤ 510 }
+    ensures { result ≡ run_bits run + who_bits (privilege_of csrs.now mode) }
+{
+    run_bits(run) + who_bits(privilege_of(csrs, mode))
+}
+
 impl Buffer {
+    ghost use Rattle.translation_buffer.specs.Serving.{AllStand, Serves};
+
     /// The buffer that keeps nothing, for a mode as the registers are.
     pub fn new(csrs: &Csrs, mode: Mode) -> Buffer
         ensures { (first : List FirstEntry) (owner : Tag) (memory : List ℕ)
@@ -143,7 +196,8 @@ impl Buffer {
     {
         Buffer {
             context: Context::of(csrs, mode),
-            who: who_bits(privilege_of(csrs, mode)),
+            run: 0,
+            who: bits_of(0, csrs, mode),
             slots: Slots::none(),
             read: FrameSet::new(),
             walks: 0,
@@ -157,27 +211,40 @@ impl Buffer {
         self.walks
     }
 
-    // Keeps nothing more.
+    // Empties all slots, and begins with the first run again.
+    #[cold]
     #[inline(never)]
     fn clear(&mut self)
-        ensures context { self.new.context ≡ self.old.context }
-        ensures who { self.new.who ≡ self.old.who }
-        ensures slots { (read : FrameSet) (memory : List ℕ) (under : Translator)
-            → AllStand read memory under self.new.slots }
-        ensures read { (frame : ℕ) → has_frame self.new.read frame ≡ false }
+        ensures { (read : FrameSet) (memory : List ℕ) (under : Translator)
+            → AllStand read memory under self.new.run self.new.slots }
     {
-        self.slots.clear();
+        self.slots = Slots::none();
         self.read.clear();
+        self.run = 0;
     }
 
-    /// Keeps nothing more, and is for a mode as the registers are.
+    // Begins the next run, of which no slot is. Where no number is left, all slots are emptied.
+    #[tactic(auto, using(crate::proofs::KeptSlots::next_stands, crate::proofs::PageTags::up_to_more))]
+    fn next_run(&mut self)
+        ensures { (read : FrameSet) (memory : List ℕ) (under : Translator)
+            → AllStand read memory under self.new.run self.new.slots }
+    {
+        if self.run < LAST_RUN {
+            self.run += 1;
+        } else {
+            self.clear();
+        }
+    }
+
+    /// Begins a run, for a mode as the registers are. Nothing that was kept is found in it.
+    #[inline]
     pub fn restart(&mut self, csrs: &Csrs, mode: Mode)
         ensures { (first : List FirstEntry) (owner : Tag) (memory : List ℕ)
             → Serves self.new first owner csrs.now mode memory }
     {
-        self.clear();
+        self.next_run();
         self.context = Context::of(csrs, mode);
-        self.who = who_bits(privilege_of(csrs, mode));
+        self.who = bits_of(self.run, csrs, mode);
     }
 
     /// Goes on for a mode as the registers are: what was kept stays where the roots and sstatus.MXR are the
@@ -188,7 +255,7 @@ impl Buffer {
             → Serves self.new first owner csrs.now mode memory }
     {
         if self.context.is_context(&Context::of(csrs, mode)) {
-            self.who = who_bits(privilege_of(csrs, mode));
+            self.who = bits_of(self.run, csrs, mode);
         } else {
             self.restart(csrs, mode);
         }
@@ -270,13 +337,12 @@ impl Buffer {
         ensures serves { Serves self.new first.now owner.now csrs.now mode memory.now }
     {
         self.walks = self.walks.saturating_add(1);
-        let who = privilege_of(csrs, mode);
-        let context = self.context;
         self.read.begin();
         match place_noted(
             memory,
-            &context,
-            who,
+            &self.context,
+            csrs,
+            mode,
             first,
             owner,
             va,

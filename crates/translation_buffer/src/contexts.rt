@@ -1,10 +1,11 @@
 // What translations are made under.
 
 ghost use Rattle.std.specs.Prelude.{◌≡◌, IsTrue};
+ghost use Rattle.arch_defs.specs.Translation.{supervisor_of};
 ghost use Rattle.translation_buffer.specs.Places.{context_of};
 
-use arch_defs::{Csrs, GuestRoot, Mode, SupervisorRoot};
-use two_stage_walk::{second_root_of, supervisor_of};
+use arch_defs::{Csrs, GuestRoot, Mode, SupervisorCsrs, SupervisorRoot};
+use two_stage_walk::second_root_of;
 
 /// What translations are made under: the roots of both stages, and sstatus.MXR, which counts in the second
 /// stage too.
@@ -13,6 +14,18 @@ pub struct Context {
     pub first: SupervisorRoot,
     pub second: GuestRoot,
     pub mxr: bool,
+}
+
+// The registers of the level whose table translates for a mode, lent.
+#[inline]
+fn supervisor_of(csrs: &Csrs, mode: Mode) -> &SupervisorCsrs
+    ensures { result.now ≡ supervisor_of csrs.now mode }
+{
+    if mode.is_virtual() {
+        &csrs.vs
+    } else {
+        &csrs.hs
+    }
 }
 
 impl Context {

@@ -1,17 +1,18 @@
 // Kept translations, by the kind of access.
 
-ghost use Rattle.std.specs.Prelude.{◌≡◌, ◌≢◌, ℕ, ◌+◌, ◌*◌, ◌-◌, ◌%◌, ◌<◌, ◌^◌, ◌==◌, ◌||◌, List, length, get_or};
+ghost use Rattle.std.specs.Prelude.{◌≡◌, ◌≢◌, ℕ, ◌+◌, ◌*◌, ◌%◌, ◌<◌, ◌^◌, ◌==◌, ◌||◌, List, length, get_or};
 ghost use Rattle.std.specs.List.{All};
 ghost use Rattle.arch_defs.specs.declared.modes.Access.{Access};
 ghost use Rattle.arch_defs.specs.Bits.{bit};
 ghost use Rattle.frame_set.specs.declared.sets.FrameSet.{FrameSet};
 ghost use Rattle.translation_buffer.specs.Places.{Translator};
 ghost use Rattle.translation_buffer.specs.Serving.{AllLackBit, AllLackPages, AllStand, LacksBit, LacksPages, SlotStands, is_page};
+ghost use Rattle.translation_buffer.specs.Tags.{AllUpTo, AreLeft, IsUpTo};
 
 use arch_defs::Access;
 
 /// A kept translation: the tag of a page, the frame of its places, and the bits of the frames that were read
-/// for it; a frame's bit is that of its number modulo 64. Where none is kept, the tag is one that no page
+/// for it; a frame's bit is that of its number modulo 64. Where none is kept, the tag is 0, which no page
 /// has.
 #[derive(Clone, Copy, PartialEq, Eq)]
 pub struct Slot {
@@ -24,11 +25,11 @@ impl Slot {
     /// No translation.
     #[inline]
     pub fn none() -> Slot
-        ensures tag { result.tag ≡ 2 ^ 64 - 1 }
+        ensures tag { result.tag ≡ 0 }
         ensures bits { result.bits ≡ 0 }
     {
         Slot {
-            tag: u64::MAX,
+            tag: 0,
             frame: 0,
             bits: 0,
         }
@@ -81,24 +82,13 @@ pub struct Slots {
 
 // No translation at each of 16 places.
 #[inline]
-#[tactic(auto, using(crate::proofs::KeptSlots::all_none))]
+#[tactic(auto, using(crate::proofs::KeptSlots::all_none, crate::proofs::SlotKinds::alike_up_to))]
 fn no_slots() -> [Slot; 16]
-    ensures { (read : FrameSet) (memory : List ℕ) (under : Translator) (kind : Access)
-        → All (SlotStands read memory under kind) result }
+    ensures stand { (read : FrameSet) (memory : List ℕ) (under : Translator) (run : ℕ) (kind : Access)
+        → All (SlotStands read memory under run kind) result }
+    ensures tags { (run : ℕ) → All (IsUpTo run) result }
 {
     [Slot::none(); 16]
-}
-
-// Keeps no translation at each of these places.
-#[inline]
-#[tactic(auto, using(crate::proofs::ClearedSlots::clearing))]
-fn clear(slots: &mut [Slot])
-    ensures { (read : FrameSet) (memory : List ℕ) (under : Translator) (kind : Access)
-        → All (SlotStands read memory under kind) slots.new }
-{
-    for at in 0..slots.len() {
-        slots[at].tag = u64::MAX;
-    }
 }
 
 // Drops a translation that has the bit of a frame.
@@ -106,9 +96,7 @@ fn clear(slots: &mut [Slot])
 #[tactic(auto, using(crate::proofs::DroppedSlots::dropping))]
 fn drop_at(slots: &mut [Slot], at: usize, frame: u64)
     requires inside { at < length slots.old }
-    ensures stand { (read : FrameSet) (memory : List ℕ) (under : Translator) (kind : Access)
-        → All (SlotStands read memory under kind) slots.old
-        → All (SlotStands read memory under kind) slots.new }
+    ensures left { AreLeft slots.old slots.new }
     ensures lacks { (other : Slot) → LacksBit frame (get_or slots.new at other) }
     ensures others { (place : ℕ) (other : Slot) → place ≢ at
         → get_or slots.new place other ≡ get_or slots.old place other }
@@ -122,10 +110,9 @@ fn drop_at(slots: &mut [Slot], at: usize, frame: u64)
 // Drops the translations that have the bit of a frame.
 #[inline]
 fn drop_each(slots: &mut [Slot], frame: u64)
-    ensures stand { (read : FrameSet) (memory : List ℕ) (under : Translator) (kind : Access)
-        → All (SlotStands read memory under kind) slots.old
-        → All (SlotStands read memory under kind) slots.new }
+    ensures left { AreLeft slots.old slots.new }
     ensures lack { All (LacksBit frame) slots.new }
+    ensures size { length slots.new ≡ length slots.old }
 {
     for at in 0..slots.len() {
         drop_at(slots, at, frame);
@@ -137,9 +124,7 @@ fn drop_each(slots: &mut [Slot], frame: u64)
 #[tactic(auto, using(crate::proofs::DroppedSlots::dropping))]
 fn drop_of_pages(slots: &mut [Slot], at: usize, page: u64, other: Option<u64>)
     requires inside { at < length slots.old }
-    ensures stand { (read : FrameSet) (memory : List ℕ) (under : Translator) (kind : Access)
-        → All (SlotStands read memory under kind) slots.old
-        → All (SlotStands read memory under kind) slots.new }
+    ensures left { AreLeft slots.old slots.new }
     ensures lacks { (d : Slot) → LacksPages page other (get_or slots.new at d) }
     ensures others { (place : ℕ) (d : Slot) → place ≢ at
         → get_or slots.new place d ≡ get_or slots.old place d }
@@ -153,10 +138,9 @@ fn drop_of_pages(slots: &mut [Slot], at: usize, page: u64, other: Option<u64>)
 // Drops the translations that are of one page, or of another, if there is another.
 #[inline]
 fn drop_each_of_pages(slots: &mut [Slot], page: u64, other: Option<u64>)
-    ensures stand { (read : FrameSet) (memory : List ℕ) (under : Translator) (kind : Access)
-        → All (SlotStands read memory under kind) slots.old
-        → All (SlotStands read memory under kind) slots.new }
+    ensures left { AreLeft slots.old slots.new }
     ensures lack { All (LacksPages page other) slots.new }
+    ensures size { length slots.new ≡ length slots.old }
 {
     for at in 0..slots.len() {
         drop_of_pages(slots, at, page, other);
@@ -168,8 +152,9 @@ impl Slots {
     #[tactic(auto, using(crate::proofs::KeptSlots::no_slot_stands))]
     #[inline]
     pub fn none() -> Slots
-        ensures { (read : FrameSet) (memory : List ℕ) (under : Translator)
-            → AllStand read memory under result }
+        ensures stand { (read : FrameSet) (memory : List ℕ) (under : Translator) (run : ℕ)
+            → AllStand read memory under run result }
+        ensures tags { (run : ℕ) → AllUpTo run result }
     {
         Slots {
             fetches: no_slots(),
@@ -178,23 +163,12 @@ impl Slots {
         }
     }
 
-    /// Keeps no translation.
-    #[tactic(auto, using(crate::proofs::KeptSlots::no_slot_stands))]
-    #[inline]
-    pub fn clear(&mut self)
-        ensures { (read : FrameSet) (memory : List ℕ) (under : Translator)
-            → AllStand read memory under self.new }
-    {
-        clear(&mut self.fetches);
-        clear(&mut self.loads);
-        clear(&mut self.stores);
-    }
-
     /// Drops the translations that have the bit of a frame.
     #[tactic(auto, using(crate::proofs::DroppedSlots::all_kinds))]
     pub fn drop_read(&mut self, frame: u64)
-        ensures stand { (read : FrameSet) (memory : List ℕ) (under : Translator)
-            → AllStand read memory under self.old → AllStand read memory under self.new }
+        ensures stand { (read : FrameSet) (memory : List ℕ) (under : Translator) (run : ℕ)
+            → AllStand read memory under run self.old → AllStand read memory under run self.new }
+        ensures tags { (run : ℕ) → AllUpTo run self.old → AllUpTo run self.new }
         ensures lack { AllLackBit frame self.new }
     {
         drop_each(&mut self.fetches, frame);
@@ -205,8 +179,9 @@ impl Slots {
     /// Drops the translations of one page, and of another, if there is another.
     #[tactic(auto, using(crate::proofs::DroppedSlots::all_kinds_of_pages))]
     pub fn drop_pages(&mut self, page: u64, other: Option<u64>)
-        ensures stand { (read : FrameSet) (memory : List ℕ) (under : Translator)
-            → AllStand read memory under self.old → AllStand read memory under self.new }
+        ensures stand { (read : FrameSet) (memory : List ℕ) (under : Translator) (run : ℕ)
+            → AllStand read memory under run self.old → AllStand read memory under run self.new }
+        ensures tags { (run : ℕ) → AllUpTo run self.old → AllUpTo run self.new }
         ensures lack { AllLackPages page other self.new }
     {
         drop_each_of_pages(&mut self.fetches, page, other);
@@ -217,8 +192,8 @@ impl Slots {
     /// The slot of an address for a kind of access.
     #[inline]
     pub fn slot(&self, va: u64, access: Access) -> Slot
-        ensures { (read : FrameSet) (memory : List ℕ) (under : Translator)
-            → AllStand read memory under self.now → SlotStands read memory under access result }
+        ensures { (read : FrameSet) (memory : List ℕ) (under : Translator) (run : ℕ)
+            → AllStand read memory under run self.now → SlotStands read memory under run access result }
     {
         let at = (va / 4096 % 16) as usize;
         match access {
@@ -231,9 +206,10 @@ impl Slots {
 
     /// Keeps a slot for an address and a kind of access.
     pub fn keep(&mut self, va: u64, access: Access, slot: Slot)
-        ensures { (read : FrameSet) (memory : List ℕ) (under : Translator)
-            → SlotStands read memory under access slot → AllStand read memory under self.old
-            → AllStand read memory under self.new }
+        ensures stand { (read : FrameSet) (memory : List ℕ) (under : Translator) (run : ℕ)
+            → SlotStands read memory under run access slot → AllStand read memory under run self.old
+            → AllStand read memory under run self.new }
+        ensures tags { (run : ℕ) → IsUpTo run slot → AllUpTo run self.old → AllUpTo run self.new }
     {
         let at = (va / 4096 % 16) as usize;
         match access {

@@ -10,6 +10,9 @@ pub returns-clause-serves : goal.returns-clause-serves
 returns-clause-serves c = λ first owner csrs mode memory serves. record {
   context = serves.context;
   who = serves.who;
-  slots = all_without c.args.self.now.read c.remove.new.self c.args.frame memory (translator first owner c.args.self.now.context) c.drop_read.new.self c.remove.ensures.others c.drop_read.ensures.lack
-      (c.drop_read.ensures.stand c.args.self.now.read memory (translator first owner c.args.self.now.context) serves.slots);
+  slots = all_without c.args.self.now.read c.remove.new.self c.args.frame memory (translator first owner c.args.self.now.context) c.args.self.now.run c.drop_read.new.self c.remove.ensures.others c.drop_read.ensures.lack
+      (c.drop_read.ensures.stand c.args.self.now.read memory (translator first owner c.args.self.now.context) c.args.self.now.run serves.slots);
 }
+
+pub invariant_of-self : goal.invariant_of-self
+invariant_of-self c = record { few = c.args.self.now.few; tags = c.drop_read.ensures.tags c.args.self.now.run c.args.self.now.tags }

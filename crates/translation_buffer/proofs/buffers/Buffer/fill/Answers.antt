@@ -8,8 +8,11 @@ pub returns-clause-serves : goal.returns-clause-serves
 returns-clause-serves c = λ owner csrs mode memory serves. record {
   context = serves.context;
   who = serves.who;
-  slots = subst (λ first. AllStand c.args.self.now.read memory (translator first owner c.args.self.now.context) c.drop_pages.new.self) (sym c.fill-dropped.ensures.filled)
-      (all_filled_stand c.args.self.now.read memory c.args.first.now c.args.entry c.fill-dropped.result owner c.args.self.now.context c.drop_pages.new.self
+  slots = subst (λ first. AllStand c.args.self.now.read memory (translator first owner c.args.self.now.context) c.args.self.now.run c.drop_pages.new.self) (sym c.fill-dropped.ensures.filled)
+      (all_filled_stand c.args.self.now.read memory c.args.first.now c.args.entry c.fill-dropped.result owner c.args.self.now.context c.args.self.now.run c.drop_pages.new.self
       c.fill-dropped.ensures.dropped c.drop_pages.ensures.lack
-      (c.drop_pages.ensures.stand c.args.self.now.read memory (translator c.args.first.now owner c.args.self.now.context) serves.slots));
+      (c.drop_pages.ensures.stand c.args.self.now.read memory (translator c.args.first.now owner c.args.self.now.context) c.args.self.now.run serves.slots));
 }
+
+pub invariant_of-self : goal.invariant_of-self
+invariant_of-self c = record { few = c.args.self.now.few; tags = c.drop_pages.ensures.tags c.args.self.now.run c.args.self.now.tags }

@@ -1,6 +1,5 @@
-use Rattle.std.proofs.Common.{◌≡◌, ap, ◌∙◌}
+use Rattle.std.proofs.Common.{◌≡◌, ◌∙◌}
 use Rattle.translation_buffer.specs.Places.{context_of}
-use Rattle.translation_buffer.specs.Serving.{who_bits}
 use Rattle.translation_buffer.proofs.buffers.Buffer.follow.Goals as goal
 
 pub returns-then-is_context : goal.returns-then-is_context
@@ -8,7 +7,7 @@ returns-then-is_context c =
     let same : c.args.self.now.context ≡ context_of c.args.csrs.now c.args.mode = c.is_context.ensures c.if-is_context.true ∙ c.of.ensures in
     λ first owner before mode_before memory serves. record {
       context = same;
-      who = c.who_bits-self.ensures ∙ ap who_bits c.privilege_of.ensures;
+      who = c.bits_of-self.ensures;
       slots = serves.slots;
     }
 

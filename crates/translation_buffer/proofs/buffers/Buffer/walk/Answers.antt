@@ -1,23 +1,26 @@
 use Rattle.std.proofs.Common.{rules, ◌≡◌, ◌%◌, ◌^◌, ◌<◌, Some, length, refl, ◌∙◌}
+use Rattle.arch_defs.specs.declared.walks.Privilege.{Privilege}
+use Rattle.arch_defs.specs.Translation.{privilege_of}
 use Rattle.frame_set.specs.Holding.{has_among}
 use Rattle.translation_buffer.specs.Places.{Translator, translated_place, translator}
-use Rattle.translation_buffer.proofs.KeptSlots.{all_more, kept_tag, recent_among, walk_stands}
+use Rattle.translation_buffer.proofs.KeptSlots.{all_more, kept_tag, kept_up_to, recent_among, walk_stands}
 use Rattle.translation_buffer.proofs.buffers.Buffer.walk.Goals as goal
 
 pub returns-in-Some-clause-serves : goal.returns-in-Some-clause-serves
 returns-in-Some-clause-serves c =
+    let who : Privilege = privilege_of c.args.csrs.now c.args.mode in
     let under : Translator = translator c.args.first.now c.args.owner.now c.args.self.now.context in
     let whole : length c.args.memory.now % 4096 ≡ 0 = search rules in
     let small : c.args.va < 2 ^ 64 = search rules in
-    let is : translated_place under c.privilege_of-who.result c.args.memory.now c.args.va c.args.access ≡ Some c.in-Some.place = search rules in
+    let is : translated_place under who c.args.memory.now c.args.va c.args.access ≡ Some c.in-Some.place = search rules in
     record {
       context = c.requires.serves.context;
       who = c.requires.serves.who;
-      slots = c.keep.ensures c.place_noted.new.read c.args.memory.now under
-          (walk_stands (has_among c.place_noted.new.read c.recent.result) c.args.memory.now under c.privilege_of-who.result c.args.va c.in-Some.place c.args.access _ whole small
+      slots = c.keep.ensures.stand c.place_noted.new.read c.args.memory.now under c.args.self.now.run
+          (walk_stands (has_among c.place_noted.new.read c.recent.result) c.args.memory.now under c.args.self.now.run who c.args.va c.in-Some.place c.args.access _ whole small
           (c.place_noted.ensures.noted (has_among c.place_noted.new.read c.recent.result) (recent_among c.place_noted.new.read c.recent.result c.recent.ensures)) is
-          (kept_tag c.args.self.now c.args.first.now c.args.owner.now c.args.csrs.now c.args.mode c.args.memory.now c.args.va c.privilege_of-who.result c.requires.serves c.privilege_of-who.ensures small) refl)
-          (all_more c.args.self.now.read c.place_noted.new.read c.args.memory.now under c.args.self.now.slots
+          (kept_tag c.args.self.now c.args.first.now c.args.owner.now c.args.csrs.now c.args.mode c.args.memory.now c.args.va c.requires.serves small) refl)
+          (all_more c.args.self.now.read c.place_noted.new.read c.args.memory.now under c.args.self.now.run c.args.self.now.slots
           (λ frame named. c.place_noted.ensures.more frame (c.begin.ensures.same frame ∙ named)) c.requires.serves.slots);
     }
 
@@ -25,6 +28,16 @@ pub returns-in-None-clause-serves : goal.returns-in-None-clause-serves
 returns-in-None-clause-serves c = record {
   context = c.requires.serves.context;
   who = c.requires.serves.who;
-  slots = all_more c.args.self.now.read c.place_noted.new.read c.args.memory.now (translator c.args.first.now c.args.owner.now c.args.self.now.context) c.args.self.now.slots
+  slots = all_more c.args.self.now.read c.place_noted.new.read c.args.memory.now (translator c.args.first.now c.args.owner.now c.args.self.now.context) c.args.self.now.run c.args.self.now.slots
       (λ frame named. c.place_noted.ensures.more frame (c.begin.ensures.same frame ∙ named)) c.requires.serves.slots;
 }
+
+pub invariant_of-self : goal.invariant_of-self
+invariant_of-self c =
+    let small : c.args.va < 2 ^ 64 = search rules in
+    record {
+      few = c.args.self.now.few;
+      tags = c.keep.ensures.tags c.args.self.now.run
+          (kept_up_to c.args.self.now c.args.first.now c.args.owner.now c.args.csrs.now c.args.mode c.args.memory.now c.args.va c.requires.serves small)
+          c.args.self.now.tags;
+    }

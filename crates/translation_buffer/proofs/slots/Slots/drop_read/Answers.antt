@@ -1,9 +1,12 @@
-use Rattle.arch_defs.specs.declared.modes.Access.TheVariants.{Fetch, Load, Store}
-use Rattle.translation_buffer.proofs.KeptSlots.{no_slot_stands}
+use Rattle.translation_buffer.proofs.DroppedSlots.{left_stand, left_up_to}
 use Rattle.translation_buffer.proofs.slots.Slots.drop_read.Goals as goal
 
 pub returns-clause-stand : goal.returns-clause-stand
-returns-clause-stand c = λ read memory under all. no_slot_stands read memory under
+returns-clause-stand c = left_stand c.args.self.now
     (record { fetches = c.drop_each.new.slots; loads = c.drop_each-2.new.slots; stores = c.drop_each-3.new.slots })
-    (c.drop_each.ensures.stand read memory under Fetch (all Fetch)) (c.drop_each-2.ensures.stand read memory under Load (all Load))
-    (c.drop_each-3.ensures.stand read memory under Store (all Store))
+    c.drop_each.ensures.size c.drop_each.ensures.left c.drop_each-2.ensures.size c.drop_each-2.ensures.left c.drop_each-3.ensures.size c.drop_each-3.ensures.left
+
+pub returns-clause-tags : goal.returns-clause-tags
+returns-clause-tags c = left_up_to c.args.self.now
+    (record { fetches = c.drop_each.new.slots; loads = c.drop_each-2.new.slots; stores = c.drop_each-3.new.slots })
+    c.drop_each.ensures.size c.drop_each.ensures.left c.drop_each-2.ensures.size c.drop_each-2.ensures.left c.drop_each-3.ensures.size c.drop_each-3.ensures.left

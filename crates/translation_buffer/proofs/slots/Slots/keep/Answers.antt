@@ -1,16 +1,26 @@
 use Rattle.std.proofs.Common.{◌/◌, ◌%◌, subst}
 use Rattle.translation_buffer.specs.Serving.{SlotStands}
-use Rattle.translation_buffer.proofs.KeptSlots.{fetch_kept, load_kept, store_kept}
+use Rattle.translation_buffer.specs.Tags.{IsUpTo}
+use Rattle.translation_buffer.proofs.SlotKinds.{fetch_kept, load_kept, store_kept}
 use Rattle.translation_buffer.proofs.slots.Slots.keep.Goals as goal
 
-pub returns-in-Fetch : goal.returns-in-Fetch
-returns-in-Fetch c = λ read memory under stands all. fetch_kept read memory under c.args.self.now (c.args.va / 4096 % 16) c.args.slot
-    (subst (λ kind. SlotStands read memory under kind c.args.slot) c.in-Fetch.is stands) all
+pub returns-in-Fetch-clause-stand : goal.returns-in-Fetch-clause-stand
+returns-in-Fetch-clause-stand c = λ read memory under run stands all. fetch_kept (SlotStands read memory under run) c.args.self.now (c.args.va / 4096 % 16) c.args.slot
+    (subst (λ kind. SlotStands read memory under run kind c.args.slot) c.in-Fetch.is stands) all
 
-pub returns-in-Load : goal.returns-in-Load
-returns-in-Load c = λ read memory under stands all. load_kept read memory under c.args.self.now (c.args.va / 4096 % 16) c.args.slot
-    (subst (λ kind. SlotStands read memory under kind c.args.slot) c.in-Load.is stands) all
+pub returns-in-Fetch-clause-tags : goal.returns-in-Fetch-clause-tags
+returns-in-Fetch-clause-tags c = λ run up_to all. fetch_kept (λ kind. IsUpTo run) c.args.self.now (c.args.va / 4096 % 16) c.args.slot up_to all
 
-pub returns-in-Store : goal.returns-in-Store
-returns-in-Store c = λ read memory under stands all. store_kept read memory under c.args.self.now (c.args.va / 4096 % 16) c.args.slot
-    (subst (λ kind. SlotStands read memory under kind c.args.slot) c.in-Store.is stands) all
+pub returns-in-Load-clause-stand : goal.returns-in-Load-clause-stand
+returns-in-Load-clause-stand c = λ read memory under run stands all. load_kept (SlotStands read memory under run) c.args.self.now (c.args.va / 4096 % 16) c.args.slot
+    (subst (λ kind. SlotStands read memory under run kind c.args.slot) c.in-Load.is stands) all
+
+pub returns-in-Load-clause-tags : goal.returns-in-Load-clause-tags
+returns-in-Load-clause-tags c = λ run up_to all. load_kept (λ kind. IsUpTo run) c.args.self.now (c.args.va / 4096 % 16) c.args.slot up_to all
+
+pub returns-in-Store-clause-stand : goal.returns-in-Store-clause-stand
+returns-in-Store-clause-stand c = λ read memory under run stands all. store_kept (SlotStands read memory under run) c.args.self.now (c.args.va / 4096 % 16) c.args.slot
+    (subst (λ kind. SlotStands read memory under run kind c.args.slot) c.in-Store.is stands) all
+
+pub returns-in-Store-clause-tags : goal.returns-in-Store-clause-tags
+returns-in-Store-clause-tags c = λ run up_to all. store_kept (λ kind. IsUpTo run) c.args.self.now (c.args.va / 4096 % 16) c.args.slot up_to all
