@@ -13,7 +13,7 @@ use Rattle.arch_defs.specs.Frames.{Only}
 use Rattle.arch_defs.specs.Spaces.{entered, fenced, fenced_space}
 use Rattle.arch_defs.proofs.FrameSets.{only_both, only_none}
 use Rattle.machine_defs.specs.Fills.{filled_front}
-use Rattle.shadow_space.specs.Shadows.{KeepsSpace, Shadow, Tidy, root_of}
+use Rattle.shadow_space.specs.Shadows.{KeepsSpace, Tidy, root_of}
 use Rattle.shadow_pool.specs.declared.slots.Slot.{Slot}
 use Rattle.shadow_pool.specs.Slots.{AreFolded, ArePooled, KeepsPool, TidyPool, front_root, has_key, most_of, part_of, pool_frames, pool_of, space_of, spaces_in}
 use Rattle.shadow_pool.proofs.Entering.{entered_found, entered_new}
@@ -88,25 +88,25 @@ root_kept (slot ∷ slots) old new zero was after inside read keeps =
 root_kept (slot ∷ slots) old new (suc i) was after inside read keeps = refl
 
 -- an entry of the first table's space is filled
-pub filled_has : (slots : List Slot) (d : Slot) (space : Shadow) (entry : Entry) → ArePooled slots → space.entries ≡ filled (get_or slots 0 d).space.most (get_or slots 0 d).space.entries entry
-    → spaces_in (set slots 0 (record { key = (get_or slots 0 d).key; space = space })) ≡ filled_front (most_of slots) (spaces_in slots) entry
-filled_has slots d space entry are is =
+pub filled_has : (slots : List Slot) (d filled_slot : Slot) (entry : Entry) → ArePooled slots → filled_slot.key ≡ (get_or slots 0 d).key
+    → filled_slot.space.entries ≡ filled (get_or slots 0 d).space.most (get_or slots 0 d).space.entries entry → spaces_in (set slots 0 filled_slot) ≡ filled_front (most_of slots) (spaces_in slots) entry
+filled_has slots d filled_slot entry are key is =
     let some = are.some in
-    filled_spaces slots (get_or slots 0 d) (record { key = (get_or slots 0 d).key; space = space }) entry are (sym (get_or_default slots 0 (get_or slots 0 d) d (omega (arith, some)))) refl is
+    filled_spaces slots (get_or slots 0 d) filled_slot entry are (sym (get_or_default slots 0 (get_or slots 0 d) d (omega (arith, some)))) key is
 
-module _ (slots : List Slot) (old : List ℕ) (d : Slot) (space : Shadow) (tidy : TidyPool (pool_of slots) old) where
+module _ (slots : List Slot) (old : List ℕ) (d filled_slot : Slot) (tidy : TidyPool (pool_of slots) old) (key : filled_slot.key ≡ (get_or slots 0 d).key) where
   abbrev first : Slot
   first = get_or slots 0 d
 
   abbrev after : List Slot
-  after = set slots 0 (record { key = first.key; space = space })
+  after = set slots 0 filled_slot
 
   inside : 0 < length slots
   inside = let some = tidy.slots.some in omega (arith, some)
 
-  module _ (new : List ℕ) (keeps : KeepsSpace first.space old space new) (is_tidy : Tidy space new) where
+  module _ (new : List ℕ) (keeps : KeepsSpace first.space old filled_slot.space new) (is_tidy : Tidy filled_slot.space new) where
     filled_changes : IsChanged slots old after new
-    filled_changes = one_changed slots old new 0 first (record { key = first.key; space = space }) tidy inside (sym (get_or_default slots 0 first d inside)) refl keeps is_tidy
+    filled_changes = one_changed slots old new 0 first filled_slot tidy inside (sym (get_or_default slots 0 first d inside)) key keeps is_tidy
 
     pub filled_keeps : KeepsPool (pool_of slots) old (pool_of after) new
     filled_keeps = filled_changes.keeps

@@ -8,8 +8,8 @@ use Rattle.std.proofs.lemmas.List.Elements.{All-map}
 use Rattle.arch_defs.specs.Frames.{Apart, Only}
 use Rattle.arch_defs.specs.Layouts.{Layout, NamesEachOnce, space_frames}
 use Rattle.arch_defs.proofs.FrameSets.{kept, only_both, only_more, only_none}
-use Rattle.shadow_space.specs.Moves.{IsMovedPart, in_part}
-use Rattle.shadow_space.specs.Shadows.{Shadow, Tidy, own_frames}
+use Rattle.shadow_space.specs.Moves.{IsMovedPart}
+use Rattle.shadow_space.specs.Shadows.{Tidy, own_frames}
 use Rattle.shadow_space.proofs.Tidying.{lasts}
 use Rattle.shadow_pool.specs.declared.slots.Slot.{Slot}
 use Rattle.shadow_pool.specs.Moves.{pool_in_part, slot_in_part}
@@ -60,18 +60,12 @@ module _ (part : Layout) (slots : List Slot) (old : List ℕ) (tidy : TidyPool (
     was_moved : IsMovedPart was.space.part part
     was_moved = subst (λ layout. IsMovedPart layout part) (sym own) moved
 
-    module _ (space : Shadow) (new : List ℕ) (space_is : space ≡ in_part part was.space) (only : Only (own_frames was.space) memory new) (is_tidy : Tidy space new) where
-      abbrev next : Slot
-      next = record was { space = space }
-
+    module _ (next : Slot) (new : List ℕ) (slot_is : next ≡ slot_in_part part was) (only : Only (own_frames was.space) memory new) (is_tidy : Tidy next.space new) where
       abbrev after : List Slot
       after = set between i next
 
-      slot_is : next ≡ slot_in_part part was
-      slot_is = ap (λ s. record was { space = s }) space_is
-
-      slot_frames : own_frames space ≡ own_frames was.space
-      slot_frames = ap own_frames space_is ∙ frames_stay was.space.part part was.space.index was_moved
+      slot_frames : own_frames next.space ≡ own_frames was.space
+      slot_frames = ap (λ slot. own_frames slot.space) slot_is ∙ frames_stay was.space.part part was.space.index was_moved
 
       few : (k : ℕ) → k < length after → k < length slots
       few k h = omega (arith, h, length-set between i next, so.count)

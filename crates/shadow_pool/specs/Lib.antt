@@ -1,3 +1,4 @@
 pub mod Laws
 pub mod Moves
 pub mod Slots
+pub mod Slotted

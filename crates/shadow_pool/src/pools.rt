@@ -9,7 +9,7 @@ ghost use Rattle.machine_defs.specs.Fills.{filled_front};
 ghost use Rattle.shadow_space.specs.Moves.{IsMovedPart};
 ghost use Rattle.shadow_space.specs.Shadows.{AreZeros};
 ghost use Rattle.shadow_pool.specs.Moves.{pool_in_part};
-ghost use Rattle.shadow_pool.specs.Slots.{AreFolded, AreSpare, KeepsPool, TidyPool, front_root, pool_frames, room_of, space_at, spaces_of};
+ghost use Rattle.shadow_pool.specs.Slots.{AreFolded, AreSpare, IsSpare, KeepsPool, TidyPool, front_root, pool_frames, room_of, space_at, spaces_of};
 
 use crate::slots::{Slot, enter, entries_at, fence, fill, is_on_device, key_at, move_to, used};
 use arch_defs::{Access, Entry, Fence, Key, Part};
@@ -83,7 +83,8 @@ impl Pool {
         ensures aligned { result % 4 ≡ 0 }
         ensures small { result < 2 ^ 44 }
     {
-        self.slots[0].space.root()
+        let front = &self.slots[0];
+        front.space.root()
     }
 
     /// Whether the entry of the front space for an address's page permits an access of this kind, and is of
@@ -132,7 +133,8 @@ impl Pool {
     pub fn most(&self) -> u64
         ensures { result ≡ self.now.most }
     {
-        self.slots[0].space.most()
+        let front = &self.slots[0];
+        front.space.most()
     }
 
     /// How many spaces there are.
@@ -193,10 +195,18 @@ fn spare_slots(alloc: Global, part: &Part, spaces: u64, entries: u64) -> Result<
 {
     let mut slots = Vec::with_capacity(alloc, spaces as usize)?;
     for i in 0..spaces {
-        slots.push(Slot {
-            key: None,
-            space: Space::new(part, i, entries),
-        })?;
+        slots.push(spare_slot(alloc, part, i, entries)?)?;
     }
     Ok(slots)
+}
+
+// The table of a part with this number, for a space that there is not yet.
+fn spare_slot(alloc: Global, part: &Part, i: u64, entries: u64) -> Result<Slot, NoMemory>
+    requires own { i < part.now.spaces }
+    requires few { entries ≤ 256 }
+    requires room { entries ≤ part.now.entries }
+    ensures { IfOk result (λ slot. IsSpare part.now entries i slot) }
+{
+    let space = Box::new(alloc, Space::new(part, i, entries))?;
+    Ok(Slot { key: None, space })
 }

@@ -2,25 +2,35 @@
 
 ghost use Rattle.std.specs.Prelude.{◌≡◌, [], ◌∷◌, ◌<◌, ◌≤◌, Some, length, option_map, remove, slice_index_or};
 ghost use Rattle.std.specs.List.{AllPairs, position};
-ghost use Rattle.arch_defs.specs.CachedEntries.{CanFill, device_by_entries};
+ghost use Rattle.arch_defs.specs.CachedEntries.{CanFill, device_by_entries, filled};
 ghost use Rattle.arch_defs.specs.Frames.{Only};
 ghost use Rattle.arch_defs.specs.Spaces.{entered, fenced, fenced_space, front, names_vmid};
 ghost use Rattle.machine_defs.specs.Fills.{filled_front};
 ghost use Rattle.shadow_space.specs.Moves.{IsMovedPart};
-ghost use Rattle.shadow_space.specs.Shadows.{KeepsSpace, Tidy};
+ghost use Rattle.shadow_space.specs.Shadows.{KeepsSpace, Tidy, own_frames};
 ghost use Rattle.shadow_pool.specs.declared.slots.Slot.{Slot};
-ghost use Rattle.shadow_pool.specs.Moves.{pool_in_part};
+ghost use Rattle.shadow_pool.specs.Moves.{pool_in_part, slot_in_part};
 ghost use Rattle.shadow_pool.specs.Slots.{AreFolded, ComesBefore, KeepsPool, TidyPool, front_root, has_key, is_spare, most_of, part_of, pool_frames, pool_of, space_at, space_of, spaces_in};
 
 use arch_defs::{Access, Entry, Fence, Key, Part};
 use phys_mem::PhysMem;
 use shadow_space::Space;
+use std::marker::Model;
 
-/// The table of a space, and the value of hgatp that the space is for, if it is in use.
+/// The table of a space, and the value of hgatp that the space is for, if it is in use. The space is behind a
+/// pointer, so that a table moves among others without the lists of its space.
 #[derive(Drop)]
 pub struct Slot {
     pub key: Option<Key>,
-    pub space: Space,
+    pub space: Box<Space>,
+}
+
+impl Model for Slot {
+    ghost use Rattle.shadow_pool.specs.Slotted.{Slotted};
+
+    ghost Value = { Slotted };
+
+    ghost view = { λ s. record { key = s.key; space = s.space.value } };
 }
 
 /// Enters a value of hgatp: the table of its space comes to the front. Where it has none, the last table
@@ -92,7 +102,8 @@ pub fn key_at(slots: &[Slot], i: usize) -> Key
     requires space { i < length (spaces_in slots.now) }
     ensures { result ≡ (space_at (spaces_in slots.now) i).key }
 {
-    match slots[i].key {
+    let slot = &slots[i];
+    match slot.key {
         Some(key) => key,
         None => unreachable!(),
     }
@@ -105,7 +116,8 @@ pub fn entries_at(slots: &[Slot], i: usize) -> &[Entry]
     requires space { i < length (spaces_in slots.now) }
     ensures { result.now ≡ (space_at (spaces_in slots.now) i).entries }
 {
-    slots[i].space.entries()
+    let slot = &slots[i];
+    slot.space.entries()
 }
 
 /// Whether an access of a kind is on the device page by the front space.
@@ -115,9 +127,10 @@ pub fn is_on_device(slots: &[Slot], mxr: bool, address: u64, kind: Access) -> bo
     requires order { AllPairs ComesBefore slots.now }
     ensures { result ≡ device_by_entries (front (spaces_in slots.now)) mxr address kind }
 {
-    match slots[0].key {
+    let front = &slots[0];
+    match front.key {
         None => false,
-        Some(_) => slots[0].space.is_on_device(mxr, address, kind),
+        Some(_) => front.space.is_on_device(mxr, address, kind),
     }
 }
 
@@ -152,7 +165,19 @@ pub fn fill(slots: &mut [Slot], mem: &mut PhysMem, entry: Entry)
     ensures tidy { TidyPool (pool_of slots.new) mem.new }
     ensures folded { AreFolded slots.new mem.new }
 {
-    slots[0].space.fill(mem, entry);
+    fill_one(&mut slots[0], mem, entry);
+}
+
+// Fills an entry of the space of one table.
+fn fill_one(slot: &mut Slot, mem: &mut PhysMem, entry: Entry)
+    requires tidy { Tidy slot.old.space mem.old }
+    requires entry { CanFill slot.old.space.part.blocks entry }
+    ensures key { slot.new.key ≡ slot.old.key }
+    ensures entries { slot.new.space.entries ≡ filled slot.old.space.most slot.old.space.entries entry }
+    ensures keeps { KeepsSpace slot.old.space mem.old slot.new.space mem.new }
+    ensures tidy { Tidy slot.new.space mem.new }
+{
+    slot.space.fill(mem, entry);
 }
 
 /// Drops the entries that a fence names from all spaces.
@@ -201,8 +226,19 @@ pub fn move_to(slots: &mut [Slot], mem: &mut PhysMem, part: &Part)
 {
     part.names_each_once();
     for i in 0..slots.len() {
-        slots[i].space.moved(mem, part);
+        move_one(&mut slots[i], mem, part);
     }
+}
+
+// Folds the leaves of one table anew, for a part with other blocks.
+fn move_one(slot: &mut Slot, mem: &mut PhysMem, part: &Part)
+    requires tidy { Tidy slot.old.space mem.old }
+    requires part { IsMovedPart slot.old.space.part part.now }
+    ensures slot { slot.new ≡ slot_in_part part.now slot.old }
+    ensures only { Only (own_frames slot.old.space) mem.old mem.new }
+    ensures tidy { Tidy slot.new.space mem.new }
+{
+    slot.space.moved(mem, part);
 }
 
 // Whether a fence names a VMID.

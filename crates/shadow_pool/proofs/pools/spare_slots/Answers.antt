@@ -1,4 +1,4 @@
-use Rattle.std.proofs.Common.{◌+◌, refl, sym, subst}
+use Rattle.std.proofs.Common.{◌+◌, sym, subst}
 use Rattle.shadow_pool.specs.Slots.{AreSpare}
 use Rattle.shadow_pool.proofs.Making.{spare_more}
 use Rattle.shadow_pool.proofs.pools.spare_slots.Goals as goal
@@ -6,6 +6,5 @@ use Rattle.shadow_pool.proofs.pools.spare_slots.Goals as goal
 pub loop-i-preserved : goal.loop-i-preserved
 loop-i-preserved c = record {
   made = subst (AreSpare c.args.part.now c.args.entries (c.loop-i.i + 1)) (sym c.in_ok-push.ensures.items)
-      (spare_more c.args.part.now c.args.entries c.loop-i.i c.loop-i.slots.items _ c.loop-i.invariant.made
-      (record { key = refl; part = c.new.ensures.part; most = c.new.ensures.most; index = c.new.ensures.index; tidy = c.new.ensures.tidy }));
+      (spare_more c.args.part.now c.args.entries c.loop-i.i c.loop-i.slots.items _ c.loop-i.invariant.made c.in_ok-spare_slot.ensures);
 }

@@ -8,7 +8,7 @@ loop-i-init c = record { done = moves_none c.args.part.now c.args.slots.now c.ar
 pub loop-i-preserved : goal.loop-i-preserved
 loop-i-preserved c = record {
   done = moves_next c.args.part.now c.args.slots.now c.args.mem.now c.requires.tidy c.requires.part c.loop-i.i c.loop-i.slots c.loop-i.mem c.loop-i.invariant.done c.loop-i-test.true c.index-slots-i.result
-      c.moved.new.self c.moved.new.mem c.moved.ensures.space c.moved.ensures.only c.moved.ensures.tidy;
+      c.move_one.new.slot c.move_one.new.mem c.move_one.ensures.slot c.move_one.ensures.only c.move_one.ensures.tidy;
 }
 
 pub returns-clause-pool : goal.returns-clause-pool
