@@ -1,7 +1,6 @@
 -- Instructions on registers and SRET are made or trap.
 use Rattle.std.proofs.Common.{◌≡◌, ℕ, Bool, true, false, Option, Some, None, Result, Ok, Err, refl}
 use Rattle.arch_defs.specs.declared.csr_names.CsrEnd.{CsrEnd}
-use Rattle.arch_defs.specs.declared.modes.Trap.{Trap}
 use Rattle.arch_defs.specs.declared.registers.Csrs.{Csrs}
 use Rattle.arch_defs.specs.declared.registers.Virtual.{Virtual}
 use Rattle.arch_defs.specs.CsrAccess.{read_csr, write_csr}
@@ -14,9 +13,10 @@ use Rattle.op_defs.specs.Meaning.{meaning, operand_of, writes}
 use Rattle.machine_defs.specs.Core.{decoded}
 use Rattle.machine_defs.specs.Outcomes.{Outcome, Done, Trapped}
 use Rattle.machine_defs.specs.Privileges.{combined, csr_accessed, csr_changed, csr_shown, decided, privileged, refusal, value_or_zero}
-use Rattle.hcsr_emulation.specs.declared.emulation.Emulated.{Emulated}
-use Rattle.hcsr_emulation.specs.declared.emulation.Emulated.TheVariants as emulated
-use Rattle.hcsr_emulation.specs.Ends.{IsCsrOrSret, is_decided, emulated_outcome}
+use Rattle.privileged_ops.specs.declared.instructions.Performed.{Performed}
+use Rattle.privileged_ops.specs.declared.instructions.Performed.TheVariants as performed
+use Rattle.privileged_ops.specs.PrivilegedEnds.{outcome_of}
+use Rattle.hcsr_emulation.specs.Ends.{IsCsrOrSret, is_decided}
 
 -- an instruction was made, or traps
 abbrev pub EndsAtOnce : Outcome → Type 0
@@ -59,11 +59,11 @@ kind_decided op.Sret kind = refl
 kind_decided other kind = absurd kind
 
 -- so they end in no other way
-pub ends_else : (answer : Emulated) (state : Virtual) → EndsAtOnce (emulated_outcome answer state) → (answer ≡ emulated.Done → ⊥)
-    → ((trap : Trap) → answer ≡ emulated.Raise trap → ⊥) → ⊥
-ends_else emulated.Done state once done raises = done refl
-ends_else (emulated.Raise trap) state once done raises = raises trap refl
-ends_else emulated.Waits state once done raises = once
-ends_else (emulated.Fenced fence) state once done raises = once
-ends_else (emulated.FirstFenced named fence) state once done raises = once
-ends_else (emulated.Accesses wanted) state once done raises = once
+pub ends_else : (answer : Performed) (word : ℕ) (state : Virtual) → EndsAtOnce (outcome_of word answer state) → (answer ≡ performed.Done → ⊥)
+    → ((end : CsrEnd) → answer ≡ performed.Refused end → ⊥) → ⊥
+ends_else performed.Done word state once done refuses = done refl
+ends_else (performed.Refused end) word state once done refuses = refuses end refl
+ends_else performed.Waits word state once done refuses = once
+ends_else (performed.Fenced fence) word state once done refuses = once
+ends_else (performed.FirstFenced named fence) word state once done refuses = once
+ends_else (performed.Accesses wanted) word state once done refuses = once

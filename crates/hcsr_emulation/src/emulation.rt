@@ -2,13 +2,14 @@
 
 ghost use Rattle.std.specs.Prelude.{◌≡◌, true};
 ghost use Rattle.arch_defs.specs.Traps.{exception};
-ghost use Rattle.machine_defs.specs.Privileges.{privileged, refusal_code};
+ghost use Rattle.machine_defs.specs.Privileges.{refusal_code};
+ghost use Rattle.privileged_ops.specs.PrivilegedEnds.{IfNotMade, outcome_of};
 ghost use Rattle.rv64_asm.specs.Fitting.{fits};
 ghost use Rattle.rv64_asm.specs.Words.{encoded};
 ghost use Rattle.hcsr_emulation.specs.Ends.{EndsSo, IfNotEmulated, is_decided, emulated_outcome};
 
 use arch_defs::{CsrEnd, Fence, Tag, Trap, Virtual};
-use op_defs::{DataAccess, Effect, Op, Privileged};
+use op_defs::{DataAccess, Effect, Op};
 use op_effects::effect_of;
 use privileged_ops::{Performed, perform, refusal_code};
 use rv64_asm::encode;
@@ -39,34 +40,35 @@ pub fn emulate(state: &mut Virtual, op: Op) -> Emulated
     ensures ends { EndsSo op state.old (emulated_outcome result state.new) }
     ensures stays { IfNotEmulated result (state.new ≡ state.old) }
 {
-    match effect_of(&op, &state.regs) {
-        Effect::Privileged(effect) => make(state, op, effect),
-        _ => unreachable!(),
-    }
-}
-
-// Makes what the instruction asks for.
-fn make(state: &mut Virtual, op: Op, effect: Privileged) -> Emulated
-    requires fits { fits op ≡ true }
-    ensures ends { privileged state.old (encoded op) effect ≡ emulated_outcome result state.new }
-    ensures stays { IfNotEmulated result (state.new ≡ state.old) }
-{
-    match perform(state, effect) {
+    match perform_op(state, &op) {
         Performed::Done => Emulated::Done,
         Performed::Waits => Emulated::Waits,
         Performed::Fenced(named) => Emulated::Fenced(named),
         Performed::FirstFenced(tag, named) => Emulated::FirstFenced(tag, named),
         Performed::Accesses(wanted) => Emulated::Accesses(wanted),
-        Performed::Refused(end) => Emulated::Raise(refused(state, op, end)),
+        Performed::Refused(end) => Emulated::Raise(refused(state, &op, end)),
     }
 }
 
-// The trap of an instruction that the mode does not allow.
-fn refused(state: &Virtual, op: Op, end: CsrEnd) -> Trap
-    requires fits { fits op ≡ true }
-    ensures { result ≡ exception state.now.mode (refusal_code end) (encoded op) }
+// Makes what the instruction asks for.
+pub(crate) fn perform_op(state: &mut Virtual, op: &Op) -> Performed
+    requires { is_decided op.now ≡ true }
+    ensures ends { EndsSo op.now state.old (outcome_of (encoded op.now) result state.new) }
+    ensures stays { IfNotMade result (state.new ≡ state.old) }
 {
-    Trap::of_exception(state.mode, refusal_code(end), encode(&op) as u64)
+    match effect_of(op, &state.regs) {
+        Effect::Privileged(effect) => perform(state, effect),
+        _ => unreachable!(),
+    }
+}
+
+/// The trap of an instruction that the mode does not allow.
+#[inline(never)]
+pub(crate) fn refused(state: &Virtual, op: &Op, end: CsrEnd) -> Trap
+    requires fits { fits op.now ≡ true }
+    ensures { result ≡ exception state.now.mode (refusal_code end) (encoded op.now) }
+{
+    Trap::of_exception(state.mode, refusal_code(end), encode(op) as u64)
 }
 
 /// Whether the mode decides on an instruction.

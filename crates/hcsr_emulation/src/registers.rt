@@ -5,9 +5,10 @@ ghost use Rattle.std.specs.Prelude.{◌≡◌, true};
 ghost use Rattle.rv64_asm.specs.Fitting.{fits};
 ghost use Rattle.hcsr_emulation.specs.Ends.{EndsSo, IfAccessRaised, IsCsrOrSret, accessed_outcome};
 
-use crate::emulation::{Emulated, emulate};
+use crate::emulation::{perform_op, refused};
 use arch_defs::{Trap, Virtual};
 use op_defs::Op;
+use privileged_ops::Performed;
 
 /// How an instruction ended that makes no access to memory, or whose access is made.
 #[derive(Clone, Copy, PartialEq, Eq)]
@@ -26,9 +27,9 @@ pub fn access(state: &mut Virtual, op: Op) -> Accessed
     ensures ends { EndsSo op state.old (accessed_outcome result state.new) }
     ensures stays { IfAccessRaised result (state.new ≡ state.old) }
 {
-    match emulate(state, op) {
-        Emulated::Done => Accessed::Done,
-        Emulated::Raise(trap) => Accessed::Raise(trap),
+    match perform_op(state, &op) {
+        Performed::Done => Accessed::Done,
+        Performed::Refused(end) => Accessed::Raise(refused(state, &op, end)),
         _ => unreachable!(),
     }
 }

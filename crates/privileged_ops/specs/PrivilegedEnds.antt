@@ -1,10 +1,14 @@
 -- What `perform` answers and leaves, as the end of an instruction.
 use Rattle.std.specs.Prelude.{ℕ, None, ⊤}
+use Rattle.arch_defs.specs.declared.csr_names.Register.{Register}
 use Rattle.arch_defs.specs.declared.registers.Virtual.{Virtual}
+use Rattle.arch_defs.specs.CsrAccess.{shown, written}
+use Rattle.arch_defs.specs.Registers.{sets}
+use Rattle.op_defs.specs.declared.ops.CsrOp.{CsrOp}
 use Rattle.machine_defs.specs.declared.events.Event.TheVariants.{System}
 use Rattle.machine_defs.specs.Outcomes.{Outcome}
 use Rattle.machine_defs.specs.Outcomes as outcome
-use Rattle.machine_defs.specs.Privileges.{refused}
+use Rattle.machine_defs.specs.Privileges.{combined, refused}
 use Rattle.privileged_ops.specs.declared.instructions.Performed.{Performed}
 use Rattle.privileged_ops.specs.declared.instructions.Performed.TheVariants.{Done, Waits, Fenced, FirstFenced, Accesses, Refused}
 
@@ -25,3 +29,10 @@ IfNotMade (Fenced fence) P = ⊤
 IfNotMade (FirstFenced named fence) P = ⊤
 IfNotMade (Accesses access) P = P
 IfNotMade (Refused end) P = P
+
+-- the state after an instruction that reads and writes a register that its mode may write
+abbrev pub with_register : Virtual → CsrOp → Register → ℕ → ℕ → Virtual
+with_register state op register operand rd =
+    let before = shown state.csrs register in
+    let csrs = written state.csrs register (combined op before operand) in
+    sets (record state { csrs = csrs }) rd before

@@ -1,6 +1,0 @@
-use Rattle.hcsr_emulation.proofs.Decided.{asks_it}
-use Rattle.hcsr_emulation.proofs.emulation.emulate.Goals as goal
-
-pub unreachable-requires : goal.unreachable-requires
-unreachable-requires c =
-    asks_it c.args.op c.args.state.now.regs c.effect_of.result c.requires.decided c.effect_of.ensures c.in_default.not-Privileged
