@@ -1,6 +1,6 @@
 -- Which exit a trap of the hart is, and what is known of a step by it.
-use Rattle.std.specs.Prelude.{◌==◌, ◌&&◌, ◌↔◌, nat_lt, ◌-◌}
-use Rattle.std.proofs.Common.{cond, ◌≡◌, ◌^◌, ◌<◌, Bool, true, false, List, Option, Some, None, refl, ap, sym, arith, ◌∙◌}
+use Rattle.std.specs.Prelude.{◌==◌, ◌&&◌, ◌↔◌, nat_lt, option_and_then, ◌-◌}
+use Rattle.std.proofs.Common.{cond, ◌≡◌, ℕ, ◌^◌, ◌<◌, Bool, true, false, List, Option, Some, None, refl, ap, sym, arith, ◌∙◌}
 use Rattle.arch_defs.specs.declared.cached.Entry.{Entry}
 use Rattle.arch_defs.specs.declared.first.FirstEntry.{FirstEntry}
 use Rattle.arch_defs.specs.declared.modes.Trap.{Trap}
@@ -13,17 +13,16 @@ use Rattle.arch_defs.specs.Traps.{is_virtual}
 use Rattle.arch_defs.specs.Walk.{guest_bits}
 use Rattle.arch_defs.specs.WalkedEntries.{entry_by_walk, folds}
 use Rattle.op_defs.specs.declared.ops.Op.{Op}
+use Rattle.op_defs.specs.Table.{op_of}
 use Rattle.guest_specs.specs.declared.statuses.Status.TheVariants.{Running}
 use Rattle.machine_defs.specs.Fills.{missing_entry, missing_entry_at}
 use Rattle.machine_defs.specs.Machine.{Machine, Tried, WaitsForGood, trapped}
 use Rattle.machine_defs.specs.Runs.{left_by}
 use Rattle.machine_defs.specs.Outcomes.{Missed}
 use Rattle.machine_defs.specs.Tries.{device_of, try, unplaced}
-use Rattle.guest_exit.specs.declared.exit_cases.Exit.{Exit}
-use Rattle.guest_exit.specs.declared.exit_cases.Exit.TheVariants.{Instruction, Missing, Call, Own}
 use Rattle.guest_exit.specs.declared.hart_exit.Handled.{Handled}
 use Rattle.guest_exit.specs.declared.hart_exit.Handled.TheVariants as handled
-use Rattle.guest_exit.specs.ExitCases.{IsLeft, data_wanted, decided_at, decided_in, entry_for, entry_for_exit, exit_of, far_exit, having_found, instruction_exit, is_guest_page_code, missing_place_exit, other_exit, try_at}
+use Rattle.guest_exit.specs.ExitCases.{Exit, Instruction, Missing, Call, Own, IsLeft, data_wanted, decided_at, decided_in, entry_for, entry_for_exit, exit_of, far_exit, having_found, if_decided, instruction_exit, is_guest_page_code, missing_place_exit, other_exit, try_at}
 use Rattle.guest_exit.specs.HartExit.{IfInstruction, IsDecidedOp, IsHandled, IsMadeOf, status_after}
 use Rattle.guest_exit.proofs.Decided.{decided_at_is}
 use Rattle.guest_exit.proofs.ForGood.{never_waits, waits_exactly}
@@ -39,6 +38,14 @@ pub instruction_exit_is : (v : Virtual) (trap : Trap) (o : Op) → is_guest_page
 unfolding exit_of
 instruction_exit_is v trap o page code small is =
     let word : nat_lt trap.tval (2 ^ 32) ≡ true = grind (arith, small) in rw (page, code, word, is) refl
+
+pub word_exit_is : (v : Virtual) (trap : Trap) → trap.cause ≡ VIRTUAL_INSTRUCTION → exit_of v trap ≡ instruction_exit trap (decided_at trap.tval)
+unfolding exit_of
+word_exit_is v trap code = rw code refl
+
+pub decided_by_op : (word : ℕ) (given : Option Op) → op_of word ≡ given → decided_in word ≡ option_and_then if_decided given
+unfolding decided_in
+decided_by_op word given is = rw is refl
 
 -- a guest-page fault
 pub page_exit_is : (v : Virtual) (trap : Trap) → is_guest_page_code trap.cause ≡ true → exit_of v trap ≡ missing_place_exit v trap (folds v)

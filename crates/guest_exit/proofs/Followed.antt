@@ -37,9 +37,8 @@ use Rattle.host_tables.specs.Walks.{IsHeld}
 use Rattle.host_tables.proofs.Held.{gives_ram, host_misses}
 use Rattle.world_switch.specs.Hosting.{after_hs_trap, guest_state_after, guest_state_of, hart_state_in, hart_state_of, host_root, hosted_csrs, hosted_mode, is_space_root, loaded_in, space_root}
 use Rattle.world_switch.proofs.Undone.{saved_v, virtual_mode}
-use Rattle.guest_exit.specs.declared.exit_cases.Exit.{Exit}
-use Rattle.guest_exit.specs.declared.exit_cases.Exit.TheVariants as case
-use Rattle.guest_exit.specs.ExitCases.{access_fault_for, data_wanted, entry_for_exit, found_next, having_found, is_guest_page_code, missing_place_exit, try_at}
+use Rattle.guest_exit.specs.ExitCases as case
+use Rattle.guest_exit.specs.ExitCases.{Exit, access_fault_for, data_wanted, entry_for_exit, found_next, having_found, is_guest_page_code, missing_place_exit, try_at}
 use Rattle.guest_exit.proofs.ExitCases.{and_false, left_as, page_exit_is}
 use Rattle.guest_exit.proofs.Missed.{far_is}
 use Rattle.guest_exit.specs.HartSteps.{Follows, FollowsTry, IsAt, event_for, host_takes, root_for}

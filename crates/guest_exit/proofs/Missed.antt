@@ -26,8 +26,7 @@ use Rattle.machine_defs.specs.Tries.{device_of, unplaced}
 use Rattle.machine_laws.proofs.Leaves.{fills_can_be_made}
 use Rattle.shadow_pool.specs.Slots.{KeepsPool, spaces_of}
 use Rattle.guest_exit.specs.declared.guests.Guest.{Guest}
-use Rattle.guest_exit.specs.declared.exit_cases.Exit.TheVariants.{Missing}
-use Rattle.guest_exit.specs.ExitCases.{entry_for, entry_for_exit}
+use Rattle.guest_exit.specs.ExitCases.{Missing, entry_for, entry_for_exit}
 use Rattle.guest_exit.specs.Steps.{IsNotPlain}
 use Rattle.guest_exit.specs.View.{IsPlaced, machine_of, platform_of}
 use Rattle.guest_exit.proofs.Alone.{machine_as}

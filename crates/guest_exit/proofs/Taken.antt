@@ -32,7 +32,7 @@ use Rattle.machine_laws.specs.Renaming.{ReservesWithin, renamed}
 use Rattle.world_switch.specs.Hosting.{after_hs_trap, all_interrupts, guest_state_after, guest_state_of, hart_state_in, hart_state_of, hosted_csrs, hosted_level, hosted_mode, loaded_in}
 use Rattle.world_switch.specs.Laws.{KeepsHidden}
 use Rattle.world_switch.proofs.Undone.{back_nested, back_own, exception_taken, interrupt_taken, nested_trap_taken, virtual_mode}
-use Rattle.guest_exit.specs.declared.exit_cases.Exit.TheVariants as case
+use Rattle.guest_exit.specs.ExitCases as case
 use Rattle.guest_exit.specs.ExitCases.{IsLeft, exit_of, having_found, is_guest_page_code, other_exit}
 use Rattle.guest_exit.specs.HartSteps.{ExitsAt, FollowsTry, IsAt, IsMade, KeepsHart, TimeExits, WaitsExit, step_for}
 use Rattle.rv64_hart.specs.Steps.{HartEnd, end_by, found_by_attempt, next_attempt, trapped_to, with_first, with_virt}

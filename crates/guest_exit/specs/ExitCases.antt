@@ -23,8 +23,17 @@ use Rattle.machine_defs.specs.Tries.{apply_outcome, device_of, found_by_try, mmu
 use Rattle.machine_laws.specs.MissedPlaces.{told_place, wanted_at}
 use Rattle.rv64_asm.specs.Words.{encoded}
 use Rattle.hcsr_emulation.specs.Ends.{is_decided}
-use Rattle.guest_exit.specs.declared.exit_cases.Exit.{Exit}
-use Rattle.guest_exit.specs.declared.exit_cases.Exit.TheVariants.{Instruction, Missing, Call, Own}
+
+-- a step that the hart has left to the host
+pub data Exit : Type 0 where
+  -- an instruction on which the mode decides
+  Instruction : Op → Exit
+  -- an access to which the second stage gives no place: by the front space of a guest that folds, else by RAM
+  Missing : MissingPlace → Exit
+  -- a call of the execution environment
+  Call : Exit
+  -- a trap that the guest takes itself, since it does not delegate it
+  Own : Trap → Exit
 
 -- an instruction, if the mode decides on it
 abbrev pub if_decided : Op → Option Op

@@ -1,5 +1,5 @@
 -- What the host makes of a step that the hart has left to it.
-use Rattle.std.specs.Prelude.{ℕ, ◌≡◌, ◌≢◌, ◌+◌, ◌^◌, ◌≤◌, Bool, true, List, Some, None, ⊤}
+use Rattle.std.specs.Prelude.{ℕ, ◌≡◌, ◌≢◌, ◌↔◌, ◌+◌, ◌^◌, ◌≤◌, Bool, true, List, Some, None, ⊤}
 use Rattle.arch_defs.specs.declared.cached.Entry.{Entry}
 use Rattle.arch_defs.specs.declared.cached.Fence.{Fence}
 use Rattle.arch_defs.specs.declared.first.FirstEntry.{FirstEntry}
@@ -23,14 +23,12 @@ use Rattle.host_tables.specs.Walks.{IsHeld}
 use Rattle.shadow_pool.specs.Slots.{TidyPool}
 use Rattle.rv64_asm.specs.Fitting.{fits}
 use Rattle.hcsr_emulation.specs.Ends.{is_decided}
-use Rattle.guest_exit.specs.declared.exit_cases.Exit.{Exit}
-use Rattle.guest_exit.specs.declared.exit_cases.Exit.TheVariants.{Instruction, Missing, Call, Own}
 use Rattle.guest_exit.specs.declared.guests.Guest.{Guest}
 use Rattle.guest_exit.specs.declared.hart_exit.Handled.{Handled}
 use Rattle.guest_exit.specs.declared.hart_exit.Handled.TheVariants.{Stepped, Retry, Waits, Stopped}
-use Rattle.guest_exit.specs.ExitCases.{entry_for_exit, try_at}
+use Rattle.guest_exit.specs.ExitCases.{Exit, Instruction, Missing, Call, Own, entry_for_exit, try_at}
 use Rattle.guest_exit.specs.HartEntry.{Hands}
-use Rattle.guest_exit.specs.Steps.{CanStep, Fills, MakesStep}
+use Rattle.guest_exit.specs.Steps.{CanStep, Fills, IsNotPlain, MakesStep}
 use Rattle.guest_exit.specs.View.{IsPlaced, KeepsLayout, changed_by, machine_of, platform_of}
 
 -- a guest may go on by one step: the registers that the clock sets are as the clock has them, and memory
@@ -140,3 +138,12 @@ pub record IsMadeOf (left : Exit) (found : List FirstEntry) (result : Handled) (
   pub ready : result ≢ Retry → entry_for_exit before left ≡ None
   pub step : result ≢ Retry → after ≡ left_by before (try_at found before left)
   pub fill : result ≡ Retry → (e : Entry) × (entry_for_exit before left ≡ Some e) × (after ≡ fill before e)
+
+-- of a guest in machine memory so, which the answer tells
+pub record IsMadeFor (left : Exit) (found : List FirstEntry) (result : Handled) (before : Guest)
+    (memory : List ℕ) (after : Guest) (changed : List ℕ) : Type 0 where
+  pub makes : IsMadeOf left found result (machine_of before memory) (machine_of after changed)
+  pub stops : (result ≡ Stopped) ↔ IsStopCall left before.virt
+  pub quiet : IsNotPlain (try_at found (machine_of before memory) left)
+  pub told : IsTold result before after
+  pub within : KeepsOutside before memory after changed

@@ -1,26 +1,31 @@
 // What the host makes of a step that the hart has left to it.
 
-ghost use Rattle.std.specs.Prelude.{◌≡◌, ◌≢◌, ◌↔◌, false};
-ghost use Rattle.arch_defs.specs.Registers.{a7, read};
+ghost use Rattle.std.specs.Prelude.{◌≡◌, ◌≢◌, ◌↔◌, List, false, true, ℕ};
+ghost use Rattle.arch_defs.specs.Traps.{is_virtual};
+ghost use Rattle.arch_defs.specs.WalkedEntries.{folds};
 ghost use Rattle.machine_defs.specs.declared.events.Event.TheVariants.{System};
 ghost use Rattle.machine_defs.specs.Machine.{WaitsForGood, called, stepped_to, trapped};
 ghost use Rattle.machine_defs.specs.Tries.{try};
-ghost use Rattle.guest_exit.specs.ExitCases.{exit_of, found_next, try_at};
-ghost use Rattle.guest_exit.specs.HartExit.{CanGoOn, HasExited, IfInstruction, IsHandled, IsMadeOf, IsStopCall, IsTold, KeepsOutside, KeepsPart};
+ghost use Rattle.rv64_asm.specs.Fitting.{fits};
+ghost use Rattle.guest_exit.specs.ExitCases.{Call, Own, decided_at, decided_in, exit_of, far_exit, found_next, if_decided, instruction_exit, missing_place_exit, other_exit};
+ghost use Rattle.guest_exit.specs.HartExit.{CanGoOn, HasExited, IsHandled, IsMadeFor, IsStopCall, IsTold, KeepsPart};
 ghost use Rattle.guest_exit.specs.HartSteps.{host_takes};
-ghost use Rattle.guest_exit.specs.Steps.{CanStep, IsMiss, IsNotPlain, IsQuiet, Makes};
-ghost use Rattle.guest_exit.specs.View.{KeepsCached, machine_of};
+ghost use Rattle.guest_exit.specs.Steps.{CanStep, IsMiss, IsQuiet, Makes};
+ghost use Rattle.guest_exit.specs.View.{IsPlaced, KeepsCached, machine_of};
 
-use crate::exit_cases::{Exit, exit_of};
+use crate::exit_cases::{PAST_ADDRESSES, access_fault_for, is_guest_page_code, told_place};
 use crate::found_leaves::FoundLeaves;
-use crate::guests::Guest;
+use crate::guests::{Guest, folds};
 use crate::hart_entry::hart_state_for;
 use crate::miss::miss;
 use crate::system::emulate;
 use crate::traps::take;
-use arch_defs::{SupervisorRoot, Trap};
+use arch_defs::{SupervisorRoot, Trap, VIRTUAL_INSTRUCTION};
+use hcsr_emulation::is_decided;
 use machine_defs::Status;
+use op_defs::Op;
 use phys_mem::PhysMem;
+use rv64_decode::decode;
 use rv64_hart::found_at_exit;
 use see_calls::CallEnd;
 use two_stage_walk::supervisor_of;
@@ -53,24 +58,36 @@ pub fn handle(guest: &mut Guest, memory: &mut PhysMem, trap: &Trap) -> Handled
     ensures told { IsTold result guest.old guest.new }
     ensures keeps { KeepsPart guest.old memory.old guest.new memory.new }
 {
-    let found = found_by(guest, memory);
-    let left = exit_of(&guest.virt, trap);
-    make(guest, memory, left, &found)
+    make_next(guest, memory, trap)
 }
 
-// The first-stage translations that the guest's next step finds: none where no table translates its accesses.
-fn found_by(guest: &Guest, memory: &PhysMem) -> FoundLeaves
-    requires can { CanGoOn guest.now memory.now }
-    requires own { host_takes guest.now.virt ≡ false }
-    ensures { result ≡ found_next (machine_of guest.now memory.now) }
+// Makes the step that the hart has left by this trap, or fills what it lacks. Where no table translates the
+// step's accesses it finds no first-stage translation.
+fn make_next(guest: &mut Guest, memory: &mut PhysMem, trap: &Trap) -> Handled
+    requires can { CanGoOn guest.old memory.old }
+    requires own { host_takes guest.old.virt ≡ false }
+    ensures { IsMadeFor (exit_of guest.old.virt trap.now) (found_next (machine_of guest.old memory.old))
+        result guest.old memory.old guest.new memory.new }
 {
     match supervisor_of(&guest.virt.csrs, guest.virt.mode).atp {
-        SupervisorRoot::Bare => FoundLeaves::none(),
-        SupervisorRoot::Table { .. } => found_by_tables(guest, memory),
+        SupervisorRoot::Bare => make(guest, memory, trap, &FoundLeaves::none()),
+        SupervisorRoot::Table { .. } => make_by_tables(guest, memory, trap),
     }
 }
 
-// Those of the hart, loaded for the guest.
+// Where a table translates them, the hart, loaded for the guest, tells what the step finds.
+#[inline(never)]
+fn make_by_tables(guest: &mut Guest, memory: &mut PhysMem, trap: &Trap) -> Handled
+    requires can { CanGoOn guest.old memory.old }
+    requires own { host_takes guest.old.virt ≡ false }
+    ensures { IsMadeFor (exit_of guest.old.virt trap.now) (found_next (machine_of guest.old memory.old))
+        result guest.old memory.old guest.new memory.new }
+{
+    let found = found_by_tables(guest, memory);
+    make(guest, memory, trap, &found)
+}
+
+// The first-stage translations that the guest's next step finds: those of the hart, loaded for the guest.
 fn found_by_tables(guest: &Guest, memory: &PhysMem) -> FoundLeaves
     requires can { CanGoOn guest.now memory.now }
     requires own { host_takes guest.now.virt ≡ false }
@@ -83,28 +100,140 @@ fn found_by_tables(guest: &Guest, memory: &PhysMem) -> FoundLeaves
 
 // Makes such a step, which finds these first-stage translations, or fills what it lacks. What is found is
 // cached, unless the step is not made.
-fn make(guest: &mut Guest, memory: &mut PhysMem, left: Exit, found: &FoundLeaves) -> Handled
-    requires can { CanGoOn guest.old memory.old }
-    requires op { IfInstruction left }
-    ensures makes { IsMadeOf left found.now result
-        (machine_of guest.old memory.old) (machine_of guest.new memory.new) }
-    ensures stops { (result ≡ Handled.Stopped) ↔ IsStopCall left guest.old.virt }
-    ensures quiet { IsNotPlain (try_at found.now (machine_of guest.old memory.old) left) }
-    ensures told { IsTold result guest.old guest.new }
-    ensures within { KeepsOutside guest.old memory.old guest.new memory.new }
+#[inline(never)]
+fn make(guest: &mut Guest, memory: &mut PhysMem, trap: &Trap, found: &FoundLeaves) -> Handled
+    requires { CanGoOn guest.old memory.old }
+    ensures { IsMadeFor (exit_of guest.old.virt trap.now) found.now
+        result guest.old memory.old guest.new memory.new }
 {
-    match left {
-        Exit::Instruction(op) => emulate(guest, memory, op, found),
-        Exit::Missing(access) => miss(guest, memory, &access, found),
-        Exit::Call => {
-            found.fill(&mut guest.first);
-            call(guest)
-        }
-        Exit::Own(trap) => {
-            found.fill(&mut guest.first);
-            raise(guest, &trap)
-        }
+    if is_guest_page_code(trap.cause) {
+        return make_access(guest, memory, trap, found);
     }
+    if trap.cause == VIRTUAL_INSTRUCTION {
+        return make_instruction(guest, memory, trap, found);
+    }
+    make_other(guest, trap, found)
+}
+
+// A guest-page fault.
+fn make_access(guest: &mut Guest, memory: &mut PhysMem, trap: &Trap, found: &FoundLeaves) -> Handled
+    requires { CanGoOn guest.old memory.old }
+    ensures { IsMadeFor (missing_place_exit guest.old.virt trap.now (folds guest.old.virt)) found.now
+        result guest.old memory.old guest.new memory.new }
+{
+    if trap.tval2 < PAST_ADDRESSES {
+        let access = told_place(guest.virt.mode, trap);
+        miss(guest, memory, &access, found)
+    } else {
+        make_far(guest, trap, found)
+    }
+}
+
+// The fault of an access at an address that no table translates and RAM does not have.
+fn make_far(guest: &mut Guest, trap: &Trap, found: &FoundLeaves) -> Handled
+    requires { CanStep guest.old }
+    ensures { (memory : List ℕ) → IsPlaced guest.old memory
+        → IsMadeFor (far_exit guest.old.virt trap.now (folds guest.old.virt)) found.now
+        result guest.old memory guest.new memory }
+{
+    if folds(&guest.virt) {
+        make_own(guest, trap, found)
+    } else {
+        let fault = Trap::of_exception(guest.virt.mode, access_fault_for(trap.cause), trap.tval);
+        make_own(guest, &fault, found)
+    }
+}
+
+// A virtual-instruction exception, whose tval is the word of the instruction.
+#[inline(never)]
+fn make_instruction(
+    guest: &mut Guest,
+    memory: &mut PhysMem,
+    trap: &Trap,
+    found: &FoundLeaves,
+) -> Handled
+    requires { CanGoOn guest.old memory.old }
+    ensures { IsMadeFor (instruction_exit trap.now (decided_at trap.now.tval)) found.now
+        result guest.old memory.old guest.new memory.new }
+{
+    if trap.tval < 0x1_0000_0000 {
+        make_word(guest, memory, trap, trap.tval as u32, found)
+    } else {
+        make_own(guest, trap, found)
+    }
+}
+
+// The instruction of a word.
+fn make_word(
+    guest: &mut Guest,
+    memory: &mut PhysMem,
+    trap: &Trap,
+    word: u32,
+    found: &FoundLeaves,
+) -> Handled
+    requires { CanGoOn guest.old memory.old }
+    ensures { IsMadeFor (instruction_exit trap.now (decided_in word)) found.now
+        result guest.old memory.old guest.new memory.new }
+{
+    match decode(word) {
+        Some(op) => make_op(guest, memory, trap, &op, found),
+        None => make_own(guest, trap, found),
+    }
+}
+
+// An instruction, if the mode decides on it.
+fn make_op(
+    guest: &mut Guest,
+    memory: &mut PhysMem,
+    trap: &Trap,
+    op: &Op,
+    found: &FoundLeaves,
+) -> Handled
+    requires can { CanGoOn guest.old memory.old }
+    requires fits { fits op.now ≡ true }
+    ensures { IsMadeFor (instruction_exit trap.now (if_decided op.now)) found.now
+        result guest.old memory.old guest.new memory.new }
+{
+    if is_decided(op) {
+        emulate(guest, memory, op, found)
+    } else {
+        make_own(guest, trap, found)
+    }
+}
+
+// Another trap: the guest's HS calls the environment, or the guest does not delegate it.
+fn make_other(guest: &mut Guest, trap: &Trap, found: &FoundLeaves) -> Handled
+    requires { CanStep guest.old }
+    ensures { (memory : List ℕ) → IsPlaced guest.old memory
+        → IsMadeFor (other_exit trap.now (is_virtual guest.old.virt.mode)) found.now
+        result guest.old memory guest.new memory }
+{
+    if guest.virt.mode.is_virtual() {
+        make_own(guest, trap, found)
+    } else {
+        make_call(guest, found)
+    }
+}
+
+// A trap that the guest takes itself, since it does not delegate it.
+fn make_own(guest: &mut Guest, trap: &Trap, found: &FoundLeaves) -> Handled
+    requires { CanStep guest.old }
+    ensures { (memory : List ℕ) → IsPlaced guest.old memory
+        → IsMadeFor (Own trap.now) found.now result guest.old memory guest.new memory }
+{
+    found.fill(&mut guest.first);
+    raise(guest, trap)
+}
+
+// A call of the execution environment.
+#[inline(never)]
+fn make_call(guest: &mut Guest, found: &FoundLeaves) -> Handled
+    requires { CanStep guest.old }
+    ensures { (memory : List ℕ) → IsPlaced guest.old memory
+        → IsMadeFor Call found.now result guest.old memory guest.new memory }
+{
+    found.fill(&mut guest.first);
+    call(guest)
 }
 
 /// The guest takes a trap.

@@ -1,21 +1,21 @@
 // Accesses to which the second stage gives no place.
 
-ghost use Rattle.std.specs.Prelude.{◌≡◌, ◌≢◌, IfErr, IfOk, ℕ, List, None, Some, length, true};
+ghost use Rattle.std.specs.Prelude.{◌≡◌, ◌≢◌, ℕ, List, length};
 ghost use Rattle.arch_defs.specs.CachedEntries.{device_by_entries};
 ghost use Rattle.arch_defs.specs.Frames.{LieIn, in_blocks};
 ghost use Rattle.arch_defs.specs.Memory.{ram_memory};
 ghost use Rattle.arch_defs.specs.Ram.{ram_of};
 ghost use Rattle.arch_defs.specs.SecondStage.{missing_place_trap};
 ghost use Rattle.arch_defs.specs.Spaces.{front};
+ghost use Rattle.machine_defs.specs.Machine.{trapped};
 ghost use Rattle.machine_defs.specs.Tries.{device_of};
 ghost use Rattle.shadow_pool.specs.Slots.{spaces_of};
-ghost use Rattle.guest_exit.specs.ExitCases.{entry_for, try_at};
+ghost use Rattle.guest_exit.specs.ExitCases.{Missing, entry_for, having_found, try_at};
 ghost use Rattle.guest_exit.specs.HartExit.{CanGoOn, IsMadeOf, IsTold, KeepsOutside};
-ghost use Rattle.guest_exit.specs.Steps.{IsNotPlain};
-ghost use Rattle.guest_exit.specs.View.{machine_of};
+ghost use Rattle.guest_exit.specs.Steps.{IsNotPlain, Makes};
+ghost use Rattle.guest_exit.specs.View.{KeepsSpaces, machine_of};
 
 use crate::device_accesses::access_device;
-use crate::exit_cases::Exit;
 use crate::found_leaves::FoundLeaves;
 use crate::guests::{Guest, folds};
 use crate::hart_exit::{Handled, raise};
@@ -34,10 +34,10 @@ pub fn miss(
     found: &FoundLeaves,
 ) -> Handled
     requires can { CanGoOn guest.old memory.old }
-    ensures makes { IsMadeOf (Exit.Missing access.now) found.now result
+    ensures makes { IsMadeOf (Missing access.now) found.now result
         (machine_of guest.old memory.old) (machine_of guest.new memory.new) }
     ensures quiet { IsNotPlain
-        (try_at found.now (machine_of guest.old memory.old) (Exit.Missing access.now)) }
+        (try_at found.now (machine_of guest.old memory.old) (Missing access.now)) }
     ensures goes { result ≢ Handled.Waits }
     ensures runs { result ≢ Handled.Stopped }
     ensures within { KeepsOutside guest.old memory.old guest.new memory.new }
@@ -47,15 +47,45 @@ pub fn miss(
         return access_device(guest, memory, access, found);
     }
     match entry_for(guest, memory, access) {
-        Ok(entry) => {
+        Some(entry) => {
             guest.pool.fill(memory, entry);
             Handled::Retry
         }
-        Err(fault) => {
-            found.fill(&mut guest.first);
-            raise(guest, &fault)
-        }
+        None => raise_fault(guest, memory, access, found),
     }
+}
+
+// The fault of the walk of the guest's own table for such an access is taken.
+#[inline(never)]
+fn raise_fault(
+    guest: &mut Guest,
+    memory: &mut PhysMem,
+    access: &MissingPlace,
+    found: &FoundLeaves,
+) -> Handled
+    requires can { CanGoOn guest.old memory.old }
+    ensures step { Makes guest.old guest.new (λ m. trapped (having_found found.now m)
+        (missing_place_trap guest.old.virt.csrs (ram_memory (ram_of guest.old.part.blocks memory.old))
+        access.now)) }
+    ensures told { IsTold result guest.old guest.new }
+    ensures went { result ≡ Handled.Stepped }
+    ensures keeps { KeepsSpaces guest.old guest.new }
+    ensures stays { memory.new ≡ memory.old }
+{
+    let fault = fault_of(guest, memory, access);
+    found.fill(&mut guest.first);
+    raise(guest, &fault)
+}
+
+// That fault.
+fn fault_of(guest: &Guest, memory: &mut PhysMem, access: &MissingPlace) -> Trap
+    requires lies { LieIn (in_blocks guest.now.part.blocks) (length memory.old) }
+    ensures fault { result ≡ missing_place_trap guest.now.virt.csrs
+        (ram_memory (ram_of guest.now.part.blocks memory.old)) access.now }
+    ensures stays { memory.new ≡ memory.old }
+{
+    let ram = Ram::new(memory, &guest.part);
+    missing_place_trap(&ram, &guest.virt.csrs, access)
 }
 
 // Whether an access is on the device page of a guest that has one: by the front space of a guest that folds,
@@ -83,25 +113,16 @@ fn is_cached_on_device(guest: &Guest, access: &MissingPlace) -> bool
     guest.pool.is_on_device(mxr, access.address, access.kind)
 }
 
-// The entry that a guest lacks for an access without a place, or the fault of the walk of its own table.
-fn entry_for(guest: &Guest, memory: &mut PhysMem, access: &MissingPlace) -> Result<Entry, Trap>
+// The entry that a guest lacks for an access without a place, if the walk of its own table has a leaf for it.
+fn entry_for(guest: &Guest, memory: &mut PhysMem, access: &MissingPlace) -> Option<Entry>
     requires lies { LieIn (in_blocks guest.now.part.blocks) (length memory.old) }
-    ensures entry { IfOk result (λ e. entry_for (machine_of guest.now memory.old) access.now ≡ Some e) }
-    ensures none { IfErr result (λ trap. entry_for (machine_of guest.now memory.old) access.now ≡ None) }
-    ensures fault { IfErr result (λ trap. trap ≡ missing_place_trap guest.now.virt.csrs
-        (ram_memory (ram_of guest.now.part.blocks memory.old)) access.now) }
+    ensures entry { result ≡ entry_for (machine_of guest.now memory.old) access.now }
     ensures stays { memory.new ≡ memory.old }
 {
-    let csrs = &guest.virt.csrs;
-    let may_lack = folds(&guest.virt) && !is_cached_on_device(guest, access);
-    let ram = Ram::new(memory, &guest.part);
-    let entry = if may_lack {
-        entry_by_walk(&ram, guest.device, csrs, access.address, access.kind)
-    } else {
-        None
-    };
-    match entry {
-        Some(entry) => Ok(entry),
-        None => Err(missing_place_trap(&ram, csrs, access)),
+    if !folds(&guest.virt) || is_cached_on_device(guest, access) {
+        return None;
     }
+    let ram = Ram::new(memory, &guest.part);
+    let csrs = &guest.virt.csrs;
+    entry_by_walk(&ram, guest.device, csrs, access.address, access.kind)
 }

@@ -34,18 +34,18 @@ use world_switch::tag_of;
 /// SRET, which may enter a guest of the guest; an HLV, HLVX or HSV, which makes its access to the guest's
 /// RAM; a WFI, which waits; or a fence, which drops cached translations. Where the mode does not allow it,
 /// its exception is taken. What it finds of the first stage is cached before that, unless it waits for good.
-pub fn emulate(guest: &mut Guest, memory: &mut PhysMem, op: Op, found: &FoundLeaves) -> Handled
+pub fn emulate(guest: &mut Guest, memory: &mut PhysMem, op: &Op, found: &FoundLeaves) -> Handled
     requires can { CanGoOn guest.old memory.old }
-    requires op { IsDecidedOp op }
+    requires op { IsDecidedOp op.now }
     ensures step { machine_of guest.new memory.new ≡ left_by (machine_of guest.old memory.old)
-        (try_decided found.now (machine_of guest.old memory.old) op) }
-    ensures quiet { IsNotPlain (try_decided found.now (machine_of guest.old memory.old) op) }
+        (try_decided found.now (machine_of guest.old memory.old) op.now) }
+    ensures quiet { IsNotPlain (try_decided found.now (machine_of guest.old memory.old) op.now) }
     ensures went { result ≢ Handled.Retry }
     ensures runs { result ≢ Handled.Stopped }
     ensures within { KeepsOutside guest.old memory.old guest.new memory.new }
     ensures told { IsTold result guest.old guest.new }
 {
-    match op {
+    match *op {
         Op::Csr { .. } | Op::Sret => access_registers(guest, memory, op, found),
         Op::GuestLoad { .. } | Op::GuestFetch { .. } | Op::GuestStore { .. } => {
             access_ram(guest, memory, op, found)
@@ -58,32 +58,37 @@ pub fn emulate(guest: &mut Guest, memory: &mut PhysMem, op: Op, found: &FoundLea
 }
 
 // An instruction on a control and status register, or an SRET.
-fn access_registers(guest: &mut Guest, memory: &mut PhysMem, op: Op, found: &FoundLeaves) -> Handled
+fn access_registers(
+    guest: &mut Guest,
+    memory: &mut PhysMem,
+    op: &Op,
+    found: &FoundLeaves,
+) -> Handled
     requires can { CanGoOn guest.old memory.old }
-    requires kind { IsCsrOrSret op }
-    requires fits { fits op ≡ true }
+    requires kind { IsCsrOrSret op.now }
+    requires fits { fits op.now ≡ true }
     ensures step { machine_of guest.new memory.new ≡ left_by (machine_of guest.old memory.old)
-        (try_decided found.now (machine_of guest.old memory.old) op) }
-    ensures quiet { IsNotPlain (try_decided found.now (machine_of guest.old memory.old) op) }
+        (try_decided found.now (machine_of guest.old memory.old) op.now) }
+    ensures quiet { IsNotPlain (try_decided found.now (machine_of guest.old memory.old) op.now) }
     ensures went { result ≡ Handled.Stepped }
     ensures within { KeepsOutside guest.old memory.old guest.new memory.new }
     ensures told { IsTold result guest.old guest.new }
 {
     let nested = guest.virt.mode.is_virtual();
     found.fill(&mut guest.first);
-    match hcsr_emulation::access(&mut guest.virt, op) {
+    match hcsr_emulation::access(&mut guest.virt, *op) {
         Accessed::Done => finish(guest, memory, nested),
         Accessed::Raise(trap) => raise(guest, &trap),
     }
 }
 
 // A WFI or a fence.
-fn wait_or_fence(guest: &mut Guest, memory: &mut PhysMem, op: Op, found: &FoundLeaves) -> Handled
+fn wait_or_fence(guest: &mut Guest, memory: &mut PhysMem, op: &Op, found: &FoundLeaves) -> Handled
     requires can { CanGoOn guest.old memory.old }
-    requires kind { IsWaitOrFence op }
+    requires kind { IsWaitOrFence op.now }
     ensures step { machine_of guest.new memory.new ≡ left_by (machine_of guest.old memory.old)
-        (try_decided found.now (machine_of guest.old memory.old) op) }
-    ensures quiet { IsNotPlain (try_decided found.now (machine_of guest.old memory.old) op) }
+        (try_decided found.now (machine_of guest.old memory.old) op.now) }
+    ensures quiet { IsNotPlain (try_decided found.now (machine_of guest.old memory.old) op.now) }
     ensures went { result ≢ Handled.Retry }
     ensures runs { result ≢ Handled.Stopped }
     ensures within { KeepsOutside guest.old memory.old guest.new memory.new }
@@ -92,7 +97,7 @@ fn wait_or_fence(guest: &mut Guest, memory: &mut PhysMem, op: Op, found: &FoundL
     let nested = guest.virt.mode.is_virtual();
     let own = tag_of(&guest.virt);
     let pc = guest.virt.regs.pc;
-    match hcsr_emulation::emulate(&mut guest.virt, op) {
+    match hcsr_emulation::emulate(&mut guest.virt, *op) {
         Emulated::Done => {
             found.fill(&mut guest.first);
             finish(guest, memory, nested)
@@ -186,19 +191,19 @@ fn first_fence(guest: &mut Guest, tag: Tag, named: &Fence) -> Handled
 }
 
 // An HLV, HLVX or HSV. Its trap is taken in the mode of the instruction.
-fn access_ram(guest: &mut Guest, memory: &mut PhysMem, op: Op, found: &FoundLeaves) -> Handled
+fn access_ram(guest: &mut Guest, memory: &mut PhysMem, op: &Op, found: &FoundLeaves) -> Handled
     requires can { CanGoOn guest.old memory.old }
-    requires op { IsHlvOp op }
+    requires op { IsHlvOp op.now }
     ensures step { machine_of guest.new memory.new ≡ left_by (machine_of guest.old memory.old)
-        (try_decided found.now (machine_of guest.old memory.old) op) }
-    ensures quiet { IsNotPlain (try_decided found.now (machine_of guest.old memory.old) op) }
+        (try_decided found.now (machine_of guest.old memory.old) op.now) }
+    ensures quiet { IsNotPlain (try_decided found.now (machine_of guest.old memory.old) op.now) }
     ensures went { result ≡ Handled.Stepped }
     ensures within { KeepsOutside guest.old memory.old guest.new memory.new }
     ensures told { IsTold result guest.old guest.new }
 {
     found.fill(&mut guest.first);
     let (device, console) = (guest.device, &mut guest.console);
-    match access_in(memory, &guest.part, &mut guest.virt, op, device, console) {
+    match access_in(memory, &guest.part, &mut guest.virt, *op, device, console) {
         Accessed::Done => {
             guest.tick();
             Handled::Stepped

@@ -44,6 +44,7 @@ pub fn turn_of(
 
 // Makes some of the steps that are left of a guest that goes on, in one entry of the hart where it can make
 // them, or fills a cached translation that the next step lacks. Answers how many steps are left then.
+#[inline(never)]
 fn advance(
     guest: &mut Guest,
     hart: &mut Hart,

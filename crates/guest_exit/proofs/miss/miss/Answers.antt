@@ -1,5 +1,4 @@
 use Rattle.std.proofs.Common.{◌≡◌, ◌∙◌, true, false, refl, ap, sym}
-use Rattle.machine_defs.specs.Machine.{trapped}
 use Rattle.machine_defs.specs.Runs.{left_by}
 use Rattle.machine_defs.specs.Tries.{device_of, unplaced}
 use Rattle.guest_exit.specs.declared.hart_exit.Handled.TheVariants as handled
@@ -10,15 +9,15 @@ use Rattle.guest_exit.proofs.miss.miss.Goals as goal
 
 pub fill-requires-clause-entry : goal.fill-requires-clause-entry
 fill-requires-clause-entry c =
-    can_fill c.args.guest.now c.args.memory.now c.args.access.now c.in-Ok.entry c.requires.can.placed c.in-Ok.ensures.entry
+    can_fill c.args.guest.now c.args.memory.now c.args.access.now c.in-Some.entry c.requires.can.placed (sym c.entry_for.ensures.entry ∙ c.in-Some.is)
 
-pub returns-in-Ok-clause-makes : goal.returns-in-Ok-clause-makes
-returns-in-Ok-clause-makes c = record {
+pub returns-in-Some-clause-makes : goal.returns-in-Some-clause-makes
+returns-in-Some-clause-makes c = record {
   ready = λ went. absurd (went refl);
   step = λ went. absurd (went refl);
   fill = λ retry.
-      fill_made c.args.guest.now (record c.args.guest.now { pool = c.fill.new.self }) c.args.memory.now c.fill.new.mem c.args.access.now c.in-Ok.entry
-      c.requires.can.placed c.in-Ok.ensures.entry
+      fill_made c.args.guest.now (record c.args.guest.now { pool = c.fill.new.self }) c.args.memory.now c.fill.new.mem c.args.access.now c.in-Some.entry
+      c.requires.can.placed (sym c.entry_for.ensures.entry ∙ c.in-Some.is)
       refl refl refl (rw c.entry_for.ensures.stays at c.fill.ensures.keeps) refl c.fill.ensures.spaces;
 }
 
@@ -34,16 +33,16 @@ returns-then-has_on_device-clause-makes c =
       fill = λ retry. let never : handled.Stepped ≡ handled.Retry = sym c.access_device.ensures.went ∙ retry in absurd (cc);
     }
 
-pub returns-in-Err-clause-makes : goal.returns-in-Err-clause-makes
-returns-in-Err-clause-makes c =
+pub returns-in-None-clause-makes : goal.returns-in-None-clause-makes
+returns-in-None-clause-makes c =
     let m = machine_of c.args.guest.now c.args.memory.now in
     let missing = c.args.access.now in
     let off : device_of m missing.address missing.kind ≡ false = sym (c.has_on_device.ensures c.args.memory.now) ∙ c.if-has_on_device.false in
-    rw c.entry_for.ensures.stays (record {
-      ready = λ went. c.in-Err.ensures.none;
-      step = λ went. (rw c.fill-in-Err.ensures at c.raise.ensures.step c.args.memory.now) ∙ ap (λ trap. left_by m (trapped (having_found c.args.found.now m) trap)) c.in-Err.ensures.fault
+    rw (c.raise_fault.ensures.stays, c.entry_for.ensures.stays) (record {
+      ready = λ went. sym c.entry_for.ensures.entry ∙ c.in-None.is;
+      step = λ went. (rw c.entry_for.ensures.stays at c.raise_fault.ensures.step c.args.memory.now)
           ∙ ap (λ b. left_by m (unplaced (having_found c.args.found.now m) missing (data_wanted m) b)) (sym off);
-      fill = λ retry. let never : handled.Stepped ≡ handled.Retry = sym c.raise.ensures.went ∙ retry in absurd (cc);
+      fill = λ retry. let never : handled.Stepped ≡ handled.Retry = sym c.raise_fault.ensures.went ∙ retry in absurd (cc);
     })
 
 -- whatever the answer is
@@ -51,10 +50,10 @@ pub returns-then-has_on_device-clause-quiet : goal.returns-then-has_on_device-cl
 returns-then-has_on_device-clause-quiet c =
     let m = machine_of c.args.guest.now c.args.memory.now in unplaced_is_quiet (having_found c.args.found.now m) c.args.access.now (data_wanted m) (device_of m c.args.access.now.address c.args.access.now.kind)
 
-pub returns-in-Ok-clause-quiet : goal.returns-in-Ok-clause-quiet
-returns-in-Ok-clause-quiet c =
+pub returns-in-Some-clause-quiet : goal.returns-in-Some-clause-quiet
+returns-in-Some-clause-quiet c =
     let m = machine_of c.args.guest.now c.args.memory.now in unplaced_is_quiet (having_found c.args.found.now m) c.args.access.now (data_wanted m) (device_of m c.args.access.now.address c.args.access.now.kind)
 
-pub returns-in-Err-clause-quiet : goal.returns-in-Err-clause-quiet
-returns-in-Err-clause-quiet c =
+pub returns-in-None-clause-quiet : goal.returns-in-None-clause-quiet
+returns-in-None-clause-quiet c =
     let m = machine_of c.args.guest.now c.args.memory.now in unplaced_is_quiet (having_found c.args.found.now m) c.args.access.now (data_wanted m) (device_of m c.args.access.now.address c.args.access.now.kind)

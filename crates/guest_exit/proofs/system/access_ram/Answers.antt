@@ -19,12 +19,12 @@ returns-in-Done-clause-step c =
     let old = record guest { first = all_filled guest.first c.args.found.now } in
     access_made old c.tick.new.self m c.args.memory.now c.access_in.new.memory c.access_in.new.virt c.access_in.new.console
     (record { part = c.tick.ensures.keeps.part; device = c.tick.ensures.keeps.device; pool = c.tick.ensures.keeps.pool; first = c.tick.ensures.keeps.first ∙ c.fill.ensures })
-    c.tick.ensures.platform (decided_end m c.args.op) (shows_time guest c.requires.can.current) (c.in-Done.ensures.ends (mmu_of m))
+    c.tick.ensures.platform (decided_end m c.args.op.now) (shows_time guest c.requires.can.current) (c.in-Done.ensures.ends (mmu_of m))
 
 pub returns-in-Done-clause-quiet : goal.returns-in-Done-clause-quiet
 returns-in-Done-clause-quiet c =
     let m = machine_of c.args.guest.now c.args.memory.now in
-    access_is_quiet (having_found c.args.found.now m) (decided_end m c.args.op) m.device (state_in c.args.guest.now c.args.memory.now)
+    access_is_quiet (having_found c.args.found.now m) (decided_end m c.args.op.now) m.device (state_in c.args.guest.now c.args.memory.now)
     (hlv_state c.access_in.new.virt (ram_memory (ram_of c.args.guest.now.part.blocks c.access_in.new.memory)) c.access_in.new.console) answer.Done (c.in-Done.ensures.ends (mmu_of m))
 
 -- an access stores in the blocks
@@ -39,14 +39,14 @@ returns-in-Raise-clause-step c =
     let cached = having_found c.args.found.now m in
     let stays = c.in-Raise.ensures.stays in
     let traps = access_traps cached (shows_time c.args.guest.now c.requires.can.current) c.in-Raise.trap
-    (hlv_state c.access_in.new.virt (ram_memory (ram_of c.args.guest.now.part.blocks c.access_in.new.memory)) c.access_in.new.console) (decided_end m c.args.op)
+    (hlv_state c.access_in.new.virt (ram_memory (ram_of c.args.guest.now.part.blocks c.access_in.new.memory)) c.access_in.new.console) (decided_end m c.args.op.now)
     (c.in-Raise.ensures.ends (mmu_of m)) in
     rw stays.2 (rw (stays.0, stays.1, c.fill.ensures) at c.raise.ensures.step c.args.memory.now ∙ ap (left_by m) traps)
 
 pub returns-in-Raise-clause-quiet : goal.returns-in-Raise-clause-quiet
 returns-in-Raise-clause-quiet c =
     let m = machine_of c.args.guest.now c.args.memory.now in
-    access_is_quiet (having_found c.args.found.now m) (decided_end m c.args.op) m.device (state_in c.args.guest.now c.args.memory.now)
+    access_is_quiet (having_found c.args.found.now m) (decided_end m c.args.op.now) m.device (state_in c.args.guest.now c.args.memory.now)
     (hlv_state c.access_in.new.virt (ram_memory (ram_of c.args.guest.now.part.blocks c.access_in.new.memory)) c.access_in.new.console) (answer.Raise c.in-Raise.trap)
     (c.in-Raise.ensures.ends (mmu_of m))
 

@@ -8,7 +8,7 @@ use Rattle.guest_exit.proofs.system.access_registers.Goals as goal
 pub finish-requires-clause-storable : goal.finish-requires-clause-storable
 finish-requires-clause-storable c =
     let m = machine_of c.args.guest.now c.args.memory.now in
-    done_storable m c.args.op c.access.new.state (kind_decided c.args.op c.requires.kind) c.requires.can.placed.storable (c.in-Done.ensures.ends (mmu_of m))
+    done_storable m c.args.op.now c.access.new.state (kind_decided c.args.op.now c.requires.kind) c.requires.can.placed.storable (c.in-Done.ensures.ends (mmu_of m))
 
 pub returns-in-Done-clause-step : goal.returns-in-Done-clause-step
 returns-in-Done-clause-step c =

@@ -10,15 +10,15 @@ use Rattle.guest_exit.proofs.Decided.{accesses_never, done_storable, wait_is_op,
 use Rattle.guest_exit.proofs.system.wait_or_fence.Goals as goal
 
 pub emulate-requires-clause-decided : goal.emulate-requires-clause-decided
-emulate-requires-clause-decided c = (wait_is_op c.args.op c.requires.kind).decided
+emulate-requires-clause-decided c = (wait_is_op c.args.op.now c.requires.kind).decided
 
 pub emulate-requires-clause-fits : goal.emulate-requires-clause-fits
-emulate-requires-clause-fits c = (wait_is_op c.args.op c.requires.kind).fits
+emulate-requires-clause-fits c = (wait_is_op c.args.op.now c.requires.kind).fits
 
 pub unreachable-requires : goal.unreachable-requires
 unreachable-requires c =
     let m = machine_of c.args.guest.now c.args.memory.now in
-    accesses_never c.args.op m.platform.virt (encoded c.args.op) (mmu_of m) _ c.requires.kind
+    accesses_never c.args.op.now m.platform.virt (encoded c.args.op.now) (mmu_of m) _ c.requires.kind
     (c.in-Accesses.ensures.ends (mmu_of m))
 
 pub returns-in-Waits-clause-quiet : goal.returns-in-Waits-clause-quiet
@@ -29,7 +29,7 @@ returns-in-Waits-clause-quiet c =
 pub wait-requires-clause-current : goal.wait-requires-clause-current
 wait-requires-clause-current c =
     let m = machine_of c.args.guest.now c.args.memory.now in
-    rw (wait_passes c.args.op m.platform.virt c.emulate.new.state (encoded c.args.op) (mmu_of m) c.requires.kind
+    rw (wait_passes c.args.op.now m.platform.virt c.emulate.new.state (encoded c.args.op.now) (mmu_of m) c.requires.kind
     (c.in-Waits.ensures.ends (mmu_of m)))
     (ap (λ (p : Platform). record p { virt = passed p.virt }) c.requires.can.current)
 
@@ -38,12 +38,12 @@ returns-in-Waits-clause-step c =
     let m = machine_of c.args.guest.now c.args.memory.now in
     let ends = c.in-Waits.ensures.ends (mmu_of m) in
     wait_made c.args.guest.now c.wait.new.guest c.emulate.new.state c.args.found.now c.args.memory.now _
-    (wait_passes c.args.op m.platform.virt c.emulate.new.state (encoded c.args.op) (mmu_of m) c.requires.kind ends) ends c.wait.ensures.step
+    (wait_passes c.args.op.now m.platform.virt c.emulate.new.state (encoded c.args.op.now) (mmu_of m) c.requires.kind ends) ends c.wait.ensures.step
 
 pub finish-requires-clause-storable : goal.finish-requires-clause-storable
 finish-requires-clause-storable c =
     let m = machine_of c.args.guest.now c.args.memory.now in
-    done_storable m c.args.op c.emulate.new.state (wait_is_op c.args.op c.requires.kind).decided c.requires.can.placed.storable (c.in-Done.ensures.ends (mmu_of m))
+    done_storable m c.args.op.now c.emulate.new.state (wait_is_op c.args.op.now c.requires.kind).decided c.requires.can.placed.storable (c.in-Done.ensures.ends (mmu_of m))
 
 pub returns-in-Done-clause-step : goal.returns-in-Done-clause-step
 returns-in-Done-clause-step c =
