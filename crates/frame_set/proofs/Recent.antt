@@ -1,12 +1,26 @@
 -- The frames that were added since `begin`.
-use Rattle.std.proofs.Common.{◌≡◌, ℕ, ◌%◌, ◌^◌, Bool, true, false, ◌&&◌, bit_or, refl}
-use Rattle.std.proofs.lemmas.Bool.{and_from, and_parts}
-use Rattle.std.proofs.lemmas.Nat.Bits.{bit_at-zero}
+use Rattle.std.proofs.Common.{◌≡◌, ℕ, zero, suc, ◌%◌, ◌^◌, ◌<◌, Bool, true, false, ◌&&◌, max, bit_or, refl, ap, ◌∙◌, arith}
+use Rattle.std.specs.Int.{bit_at}
+use Rattle.std.proofs.lemmas.Bool.{and_from, and_parts, eq-eqb, eqb-true}
+use Rattle.std.proofs.lemmas.Nat.Bits.{bit_at-lt, bit_at-zero, bit_at_or, bit_at-pow_same}
 use Rattle.arch_defs.specs.Bits.{bit}
 use Rattle.arch_defs.specs.Frames.{Within}
 use Rattle.frame_set.specs.declared.sets.FrameSet.{FrameSet}
 use Rattle.frame_set.specs.Holding.{has_among, has_frame, has_recent}
-use Rattle.frame_set.proofs.Holding.{bit_kept, bit_set}
+
+-- bits
+most : (n : ℕ) → n < 2 → (max 1 n ≡ 1) × (max n 1 ≡ 1)
+most zero h = (refl, refl)
+most (suc zero) h = (refl, refl)
+most (suc (suc n)) h = absurd (omega (arith, h))
+
+bit_kept : (w mark k : ℕ) → bit k w ≡ true → bit k (bit_or w mark) ≡ true
+bit_kept w mark k is = eq-eqb (bit_at (bit_or w mark) k) 1
+    (bit_at_or w mark k ∙ ap (λ n. max n (bit_at mark k)) (eqb-true (bit_at w k) 1 is) ∙ (most (bit_at mark k) (bit_at-lt mark k)).0)
+
+bit_set : (w mark k : ℕ) → mark ≡ 2 ^ k → bit k (bit_or w mark) ≡ true
+bit_set w mark k is = eq-eqb (bit_at (bit_or w mark) k) 1
+    (bit_at_or w mark k ∙ ap (λ n. max (bit_at w k) n) (ap (λ m. bit_at m k) is ∙ bit_at-pow_same k) ∙ (most (bit_at w k) (bit_at-lt w k)).1)
 
 -- the bits change nothing of what is held
 pub held_more : (old held : FrameSet) (recent : ℕ) → Within (has_frame old) (has_frame held) → Within (has_frame old) (has_frame (record held { recent = recent }))

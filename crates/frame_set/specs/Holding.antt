@@ -1,24 +1,20 @@
 -- The frames that a set holds (own).
-use Rattle.std.specs.Prelude.{ℕ, ◌/◌, ◌%◌, Bool, ◌&&◌, ◌||◌, ◌==◌, List, nat_lt, slice_index, if◌then◌else◌}
+use Rattle.std.specs.Prelude.{ℕ, ◌+◌, ◌-◌, ◌%◌, ◌^◌, Bool, ◌&&◌, ◌||◌, ◌==◌, nat_lt, slice_index, if◌then◌else◌}
 use Rattle.arch_defs.specs.Frames.{Frames}
 use Rattle.arch_defs.specs.Bits.{bit}
 use Rattle.frame_set.specs.declared.sets.FrameSet.{FrameSet}
 
--- the mark of a frame is set: one for its number modulo 4,096, in the word for its number modulo 64
-abbrev pub has_mark : List ℕ → ℕ → Bool
-has_mark marks frame = bit (frame / 64 % 64) (slice_index marks (frame % 64))
+-- the key of a frame: its number and one, and never more than the last number of 64 bits
+abbrev pub key_of : ℕ → ℕ
+key_of frame = if nat_lt frame (2 ^ 64 - 1) then frame + 1 else 2 ^ 64 - 1
 
--- the upper part of a frame's number
-abbrev pub upper_of : ℕ → ℕ
-upper_of frame = if nat_lt (frame / 4096) 255 then frame / 4096 else 255
+-- what stands at a frame's mark is its key, or says that several frames were added there
+abbrev pub is_key : ℕ → ℕ → Bool
+is_key key frame = key == key_of frame || key == 2 ^ 64 - 1
 
--- it is the one at the frame's mark, or several frames share the mark
-abbrev pub is_upper : List ℕ → ℕ → Bool
-is_upper uppers frame =
-    let upper = slice_index uppers (frame % 4096) in upper == upper_of frame || upper == 255
-
+-- the mark of a frame is its number modulo 4,096
 unfoldable pub has_frame : FrameSet → Frames
-has_frame set frame = has_mark set.marks frame && is_upper set.uppers frame
+has_frame set frame = is_key (slice_index set.held (frame % 4096)) frame
 
 -- the frames of the set whose bit is set in a word: the bit of their number modulo 64
 unfoldable pub has_among : FrameSet → ℕ → Frames

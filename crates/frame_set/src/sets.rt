@@ -1,41 +1,46 @@
 // A set of frames of machine memory. It may hold more frames than were added to it.
 
-ghost use Rattle.std.specs.Prelude.{◌≡◌, ◌≢◌, ℕ, ◌/◌, ◌%◌, ◌^◌, true, false, replicate};
+ghost use Rattle.std.specs.Prelude.{◌≡◌, ◌≢◌, ℕ, ◌%◌, ◌^◌, true, false, replicate};
 ghost use Rattle.arch_defs.specs.Frames.{Within};
-ghost use Rattle.frame_set.specs.Holding.{has_frame, has_mark, has_recent, upper_of};
+ghost use Rattle.frame_set.specs.Holding.{has_frame, has_recent, is_key, key_of};
 
-// How many marks there are: a frame's is that of its number modulo this.
+// How many marks there are: a frame's mark is its number modulo this.
 const MARKS: u64 = 4096;
 
-// The upper part of more than one frame that share a mark.
-const SEVERAL: u8 = 255;
+// What stands at a mark where more than one frame was added.
+const SEVERAL: u64 = u64::MAX;
 
-/// A set of frames: a mark for the low 12 bits of each frame's number, and at each mark the upper part of
-/// the frame that set it. To empty it, only the marks are cleared. `recent` has the bits of the frames that
-/// were added since the last `begin`; a frame's bit is that of its number modulo 64.
+/// A set of frames. At each mark stands the key of the frame that was added there, 0 where none was, and the
+/// last number of 64 bits where more than one was. `recent` has the bits of the frames that were added since
+/// the last `begin`; a frame's bit is that of its number modulo 64.
 #[derive(Clone, Copy, PartialEq, Eq)]
 pub struct FrameSet {
-    marks: [u64; 64],
-    uppers: [u8; 4096],
+    held: [u64; 4096],
     recent: u64,
 }
 
-// The upper part of a frame's number.
-fn upper_of(frame: u64) -> u8
-    ensures { result ≡ upper_of frame }
+// The key of a frame: never 0, so that what is all 0 holds nothing.
+#[inline]
+fn key_of(frame: u64) -> u64
+    ensures { result ≡ key_of frame }
 {
-    if frame / MARKS < 255 {
-        (frame / MARKS) as u8
-    } else {
-        SEVERAL
-    }
+    if frame < SEVERAL { frame + 1 } else { SEVERAL }
 }
 
-// No mark.
-fn no_marks() -> [u64; 64]
-    ensures { result ≡ replicate 64 0 }
+// Whether a frame is held where this stands at its mark.
+#[inline]
+fn is_key(key: u64, frame: u64) -> bool
+    ensures { result ≡ is_key key frame }
 {
-    [0; 64]
+    key == key_of(frame) || key == SEVERAL
+}
+
+// No frame at any mark.
+#[inline]
+fn no_keys() -> [u64; 4096]
+    ensures { result ≡ replicate 4096 0 }
+{
+    [0; 4096]
 }
 
 // The word of which this bit alone is set, counted modulo 64.
@@ -52,8 +57,7 @@ impl FrameSet {
         ensures { (frame : ℕ) → has_frame result frame ≡ false }
     {
         FrameSet {
-            marks: no_marks(),
-            uppers: [0; 4096],
+            held: no_keys(),
             recent: 0,
         }
     }
@@ -64,47 +68,47 @@ impl FrameSet {
     pub fn clear(&mut self)
         ensures { (frame : ℕ) → has_frame self.new frame ≡ false }
     {
-        self.marks = no_marks();
-    }
-
-    // Whether the mark of a frame is set.
-    #[inline]
-    fn is_marked(&self, frame: u64) -> bool
-        ensures { result ≡ has_mark self.now.marks frame }
-    {
-        (self.marks[(frame % 64) as usize] >> (frame / 64 % 64)) & 1 == 1
+        self.held = no_keys();
     }
 
     /// Whether it holds a frame.
     #[inline]
-    #[tactic(auto, unfolding(crate::specs::Holding::has_frame))]
+    #[tactic(auto, using(crate::proofs::Holding::asking), unfolding(crate::specs::Holding::has_frame))]
     pub fn holds(&self, frame: u64) -> bool
         ensures { result ≡ has_frame self.now frame }
     {
-        if !self.is_marked(frame) {
-            return false;
-        }
-        let upper = self.uppers[(frame % MARKS) as usize];
-        upper == upper_of(frame) || upper == SEVERAL
+        // Most frames that are asked for have a mark at which 0 stands.
+        let key = self.held[(frame % MARKS) as usize];
+        key != 0 && is_key(key, frame)
+    }
+
+    // Holds a frame whose key does not stand at its mark. A call would keep the loop of a walk from being
+    // unrolled.
+    #[inline(always)]
+    #[tactic(auto, using(crate::proofs::Holding::joining))]
+    fn hold_new(&mut self, frame: u64)
+        ensures more { Within (has_frame self.old) (has_frame self.new) }
+        ensures held { has_frame self.new frame ≡ true }
+        ensures recent { self.new.recent ≡ self.old.recent }
+    {
+        let at = (frame % MARKS) as usize;
+        self.held[at] = if self.held[at] == 0 {
+            key_of(frame)
+        } else {
+            SEVERAL
+        };
     }
 
     // Holds a frame from now on.
     #[inline(always)]
-    #[tactic(auto, using(crate::proofs::Holding::adding))]
+    #[tactic(auto, using(crate::proofs::Holding::held_already))]
     fn hold(&mut self, frame: u64)
         ensures more { Within (has_frame self.old) (has_frame self.new) }
         ensures held { has_frame self.new frame ≡ true }
         ensures recent { self.new.recent ≡ self.old.recent }
     {
-        let at = (frame % 64) as usize;
-        let marked = self.marks[at] | bit_at(frame / 64);
-        let upper = upper_of(frame);
-        let mark = (frame % MARKS) as usize;
-        if self.marks[at] != marked {
-            self.marks[at] = marked;
-            self.uppers[mark] = upper;
-        } else if self.uppers[mark] != upper {
-            self.uppers[mark] = SEVERAL;
+        if self.held[(frame % MARKS) as usize] != key_of(frame) {
+            self.hold_new(frame);
         }
     }
 
@@ -138,14 +142,14 @@ impl FrameSet {
         self.recent
     }
 
-    /// Takes out each frame that has this frame's bit.
+    /// Takes out each frame that has this frame's mark.
     #[inline]
     #[tactic(auto, using(crate::proofs::Removing::removing))]
     pub fn remove(&mut self, frame: u64)
-        ensures removed { (other : ℕ) → other % 64 ≡ frame % 64 → has_frame self.new other ≡ false }
-        ensures others { (other : ℕ) → other % 64 ≢ frame % 64
+        ensures removed { (other : ℕ) → other % 4096 ≡ frame % 4096 → has_frame self.new other ≡ false }
+        ensures others { (other : ℕ) → other % 4096 ≢ frame % 4096
             → has_frame self.new other ≡ has_frame self.old other }
     {
-        self.marks[(frame % 64) as usize] = 0;
+        self.held[(frame % MARKS) as usize] = 0;
     }
 }

@@ -1,5 +1,5 @@
-// Sets of frames on small numbers. The marks of two frames are the same where the frames are alike in their
-// low twelve bits, and their bits where they are alike in the low six.
+// Sets of frames on small numbers, and on the last ones. The marks of two frames are the same where the
+// frames are alike in their low twelve bits, and their bits where they are alike in the low six.
 
 use frame_set::FrameSet;
 
@@ -20,7 +20,7 @@ struct Case {
     steps: &'static [Step],
 }
 
-static CASES: [Case; 4] = [
+static CASES: [Case; 5] = [
     Case {
         name: "added frames are held, and no others",
         steps: &[
@@ -52,11 +52,38 @@ static CASES: [Case; 4] = [
         name: "frames that share a mark are all held",
         steps: &[
             Step::Add(7),
-            Step::Add(4_103),
+            Step::Add(7),
+            Step::Lacks(4_103),
+            Step::AddNew(4_103),
+            Step::Holds(7),
+            Step::Holds(8_199),
+            Step::Add(8_199),
+            Step::Add(7),
             Step::Holds(7),
             Step::Holds(4_103),
             Step::Holds(8_199),
             Step::Lacks(8),
+            Step::Lacks(71),
+            Step::Lacks(6),
+            Step::Clear,
+            Step::Lacks(7),
+            Step::Lacks(4_103),
+            Step::AddNew(4_103),
+            Step::Lacks(7),
+        ],
+    },
+    Case {
+        name: "the last numbers of 64 bits",
+        steps: &[
+            Step::AddNew(0xFFFF_FFFF_FFFF_FFFD),
+            Step::Lacks(4_093),
+            Step::AddNew(0xFFFF_FFFF_FFFF_FFFF),
+            Step::Lacks(0xFFFF_FFFF_FFFF_FFFE),
+            Step::AddNew(0xFFFF_FFFF_FFFF_FFFE),
+            Step::Holds(0xFFFF_FFFF_FFFF_FFFD),
+            Step::Holds(0xFFFF_FFFF_FFFF_FFFF),
+            Step::Lacks(4_092),
+            Step::Lacks(0),
         ],
     },
     Case {
@@ -74,21 +101,28 @@ static CASES: [Case; 4] = [
         ],
     },
     Case {
-        name: "what is taken out is what has the frame's bit",
+        name: "what is taken out is what has the frame's mark",
         steps: &[
             Step::Add(7),
             Step::Add(8),
             Step::Add(71),
-            Step::Add(72),
             Step::Add(4_103),
-            Step::Remove(71),
-            Step::Lacks(7),
+            Step::Add(4_167),
+            Step::Add(8_200),
+            Step::Remove(12_359),
             Step::Lacks(71),
+            Step::Lacks(4_167),
+            Step::Lacks(12_359),
+            Step::Holds(7),
+            Step::Holds(4_103),
+            Step::Holds(8),
+            Step::Holds(8_200),
+            Step::Remove(7),
+            Step::Lacks(7),
             Step::Lacks(4_103),
             Step::Holds(8),
-            Step::Holds(72),
-            Step::Add(71),
-            Step::Holds(71),
+            Step::AddNew(71),
+            Step::Lacks(4_167),
             Step::Lacks(7),
         ],
     },

@@ -110,19 +110,21 @@ pub left_up_to : (old new : Slots)
 left_up_to old new fetches fetches_left loads loads_left stores stores_left run =
     kinds_left (λ kind. IsUpTo run) (λ kind. none_up_to run) old new fetches fetches_left loads loads_left stores stores_left
 
--- slots that lack the bit of a frame stand by a set without the frames of this bit
-apart_by_bit : (bits frame other : ℕ) → bit (frame % 64) bits ≡ false → bit (other % 64) bits ≡ true → other % 64 ≢ frame % 64
-apart_by_bit bits frame other lacks has same = both_ways (bit (frame % 64) bits) lacks (sym (ap (λ n. bit n bits) same) ∙ has)
+-- slots that lack the bit of a frame stand by a set without the frames of its mark, which all have this bit
+apart_by_bit : (bits frame other : ℕ) → bit (frame % 64) bits ≡ false → bit (other % 64) bits ≡ true → other % 4096 ≢ frame % 4096
+apart_by_bit bits frame other lacks has same =
+    let low : other % 64 ≡ frame % 64 = omega (arith, same) in
+    both_ways (bit (frame % 64) bits) lacks (sym (ap (λ n. bit n bits) low) ∙ has)
 
 others_among : (old new : FrameSet) (bits frame : ℕ) → bit (frame % 64) bits ≡ false
-    → ((other : ℕ) → other % 64 ≢ frame % 64 → has_frame new other ≡ has_frame old other) → Within (has_among old bits) (has_among new bits)
+    → ((other : ℕ) → other % 4096 ≢ frame % 4096 → has_frame new other ≡ has_frame old other) → Within (has_among old bits) (has_among new bits)
 unfolding has_among
 others_among old new bits frame lacks others other named =
     let parts = and_parts (has_frame old other) (bit (other % 64) bits) named in
     and_from _ _ (others other (apart_by_bit bits frame other lacks parts.1) ∙ parts.0) parts.1
 
 pub all_without : (old new : FrameSet) (frame : ℕ) (memory : List ℕ) (under : Translator) (run : ℕ) (slots : Slots)
-    → ((other : ℕ) → other % 64 ≢ frame % 64 → has_frame new other ≡ has_frame old other) → AllLackBit frame slots
+    → ((other : ℕ) → other % 4096 ≢ frame % 4096 → has_frame new other ≡ has_frame old other) → AllLackBit frame slots
     → AllStand old memory under run slots → AllStand new memory under run slots
 all_without old new frame memory under run slots others lack all kind k d inside =
     let slot = get_or (slots_of slots kind) k d in
