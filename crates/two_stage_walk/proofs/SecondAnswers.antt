@@ -20,22 +20,22 @@ use Rattle.two_stage_walk.specs.declared.second_answers.SecondAnswer.TheVariants
 use Rattle.two_stage_walk.specs.declared.translating.Place.{Place}
 use Rattle.two_stage_walk.specs.declared.translating.Place.TheVariants as made
 use Rattle.two_stage_walk.specs.Answers.{placed, placed_if}
-use Rattle.two_stage_walk.specs.SecondAnswers.{answer_by, answer_under, is_device_answer, made_by, place_of, trap_of}
+use Rattle.two_stage_walk.specs.SecondAnswers.{answer_at_end, answer_under, is_device_answer, made_by, place_of, trap_of}
 
 -- the place, the device page and the trap
-pub place_alike : (address : ℕ) (end : SecondWalkEnd) → place_of (answer_by address end) ≡ place_under address end
+pub place_alike : (address : ℕ) (end : SecondWalkEnd) → place_of (answer_at_end address end) ≡ place_under address end
 place_alike address (Leaf leaf) = refl
 place_alike address (Device leaf) = refl
 place_alike address GuestPageFault = refl
 place_alike address AccessFault = refl
 
-pub device_alike : (address : ℕ) (end : SecondWalkEnd) → is_device_answer (answer_by address end) ≡ is_device_end end
+pub device_alike : (address : ℕ) (end : SecondWalkEnd) → is_device_answer (answer_at_end address end) ≡ is_device_end end
 device_alike address (Leaf leaf) = refl
 device_alike address (Device leaf) = refl
 device_alike address GuestPageFault = refl
 device_alike address AccessFault = refl
 
-trap_by_end : (missing : MissingPlace) (address : ℕ) (end : SecondWalkEnd) → trap_of missing (answer_by address end) ≡ missing_place_by missing end
+trap_by_end : (missing : MissingPlace) (address : ℕ) (end : SecondWalkEnd) → trap_of missing (answer_at_end address end) ≡ missing_place_by missing end
 trap_by_end missing address (Leaf leaf) = refl
 trap_by_end missing address (Device leaf) = refl
 trap_by_end missing address GuestPageFault = refl
@@ -79,7 +79,7 @@ off_page csrs memory missing true false = refl
 off_page csrs memory missing false implicit = refl
 
 made_by_end : (device : Bool) (csrs : Csrs) (memory : Memory) (missing : MissingPlace) (end : SecondWalkEnd) → missing_place_trap csrs memory missing ≡ missing_place_by missing end
-    → Made device csrs memory missing (is_device_end end) (place_under missing.address end) ≡ made_by device missing (answer_by missing.address end)
+    → Made device csrs memory missing (is_device_end end) (place_under missing.address end) ≡ made_by device missing (answer_at_end missing.address end)
 made_by_end device csrs memory missing (Leaf leaf) trap = refl
 made_by_end device csrs memory missing (Device leaf) trap = on_page csrs memory missing device (is_implicit missing.kind) trap
 made_by_end device csrs memory missing GuestPageFault trap = off_page csrs memory missing device (is_implicit missing.kind) ∙ ap Err trap

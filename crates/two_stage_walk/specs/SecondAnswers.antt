@@ -20,11 +20,11 @@ use Rattle.two_stage_walk.specs.declared.translating.Place.TheVariants as made
 use Rattle.two_stage_walk.specs.Places.{IsPlaceOf}
 
 -- by the end of the walk of its address
-abbrev pub answer_by : ℕ → SecondWalkEnd → SecondAnswer
-answer_by address (end.Leaf leaf) = InMemory (leaf_address leaf address)
-answer_by address (end.Device leaf) = OnDevice
-answer_by address end.GuestPageFault = GuestPageFault
-answer_by address end.AccessFault = AccessFault
+abbrev pub answer_at_end : ℕ → SecondWalkEnd → SecondAnswer
+answer_at_end address (end.Leaf leaf) = InMemory (leaf_address leaf address)
+answer_at_end address (end.Device leaf) = OnDevice
+answer_at_end address end.GuestPageFault = GuestPageFault
+answer_at_end address end.AccessFault = AccessFault
 
 -- by Bare, which passes on each address inside memory
 abbrev pub bare_answer : Memory → ℕ → SecondAnswer
@@ -37,7 +37,7 @@ bare_answer memory address =
 abbrev pub answer_under : Memory → Bool → GuestRoot → ℕ → Access → SecondAnswer
 answer_under memory mxr root.Bare address kind = bare_answer memory address
 answer_under memory mxr (root.Table mode vmid ppn) address kind =
-    answer_by address (second_walk memory mxr (guest_shape mode) ppn address kind)
+    answer_at_end address (second_walk memory mxr (guest_shape mode) ppn address kind)
 
 -- a place in memory is there, at the offset of the address
 abbrev pub AnswerIn : Memory → ℕ → SecondAnswer → Type 0

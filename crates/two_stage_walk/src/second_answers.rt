@@ -4,7 +4,7 @@ ghost use Rattle.std.specs.Prelude.{◌≡◌};
 ghost use Rattle.arch_defs.specs.Roots.{guest_shape};
 ghost use Rattle.arch_defs.specs.SecondStage.{second_root_of, second_walk};
 ghost use Rattle.two_stage_walk.specs.Places.{LeafIn};
-ghost use Rattle.two_stage_walk.specs.SecondAnswers.{AnswerIn, answer_by, answer_under, bare_answer};
+ghost use Rattle.two_stage_walk.specs.SecondAnswers.{AnswerIn, answer_at_end, answer_under, bare_answer};
 
 use crate::devices::is_on_device;
 use crate::guest_addresses::{second_root_of, second_walk};
@@ -28,9 +28,9 @@ pub enum SecondAnswer {
 
 // By the end of the walk of its address.
 #[inline(always)]
-fn answer_by<M: Mem>(mem: &M, address: u64, end: SecondWalkEnd) -> SecondAnswer
+fn answer_at_end<M: Mem>(mem: &M, address: u64, end: SecondWalkEnd) -> SecondAnswer
     requires { LeafIn (M.memory mem.now) address end }
-    ensures answer { result ≡ answer_by address end }
+    ensures answer { result ≡ answer_at_end address end }
     ensures inside { AnswerIn (M.memory mem.now) address result }
 {
     match end {
@@ -52,11 +52,11 @@ fn answer_in<M: Mem>(
     kind: Access,
 ) -> SecondAnswer
     requires backed { M.is_backed mem.now }
-    ensures answer { result ≡ answer_by address
+    ensures answer { result ≡ answer_at_end address
         (second_walk (M.memory mem.now) mxr shape ppn address kind) }
     ensures inside { AnswerIn (M.memory mem.now) address result }
 {
-    answer_by(
+    answer_at_end(
         mem,
         address,
         second_walk(mem, mxr, shape, ppn, address, kind),
@@ -74,7 +74,7 @@ pub fn table_answer<M: Mem>(
     kind: Access,
 ) -> SecondAnswer
     requires backed { M.is_backed mem.now }
-    ensures answer { result ≡ answer_by address
+    ensures answer { result ≡ answer_at_end address
         (second_walk (M.memory mem.now) mxr (guest_shape mode) ppn address kind) }
     ensures inside { AnswerIn (M.memory mem.now) address result }
 {
