@@ -11,7 +11,7 @@ use Rattle.op_defs.specs.declared.ops.Op.TheVariants as op
 use Rattle.op_defs.specs.declared.ops.Privileged.{Privileged}
 use Rattle.op_defs.specs.Meaning.{address_at, branch, even, is_branch_taken, jump, meaning}
 use Rattle.rv64_asm.specs.Laws.{is_system_op}
-use Rattle.hcsr_emulation.specs.Ends.{is_decided}
+use Rattle.hcsr_emulation.specs.Ends.{IsCsrOrSret, is_decided}
 
 -- it asks for what the mode decides on
 abbrev pub AsksMode : Effect → Type 0
@@ -84,3 +84,10 @@ asks_decided (op.Jalr rd rs1 offset) regs p e =
 asks_decided (op.Branch test rs1 rs2 offset) regs p e =
     absurd (branch_never (is_branch_taken test (read regs rs1) (read regs rs2)) (next regs) (add64 regs.pc offset) p e)
 asks_decided other regs p e = absurd (cc)
+
+-- an instruction on a register, or an SRET, is one on which the mode decides
+pub kind_decided : (o : Op) → IsCsrOrSret o → is_decided o ≡ true
+unfolding is_decided
+kind_decided (op.Csr o source rd number) kind = refl
+kind_decided op.Sret kind = refl
+kind_decided other kind = absurd kind

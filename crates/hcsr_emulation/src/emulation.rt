@@ -51,7 +51,7 @@ pub fn emulate(state: &mut Virtual, op: Op) -> Emulated
 }
 
 // Makes what the instruction asks for.
-pub(crate) fn perform_op(state: &mut Virtual, op: &Op) -> Performed
+fn perform_op(state: &mut Virtual, op: &Op) -> Performed
     requires { is_decided op.now ≡ true }
     ensures ends { EndsSo op.now state.old (outcome_of (encoded op.now) result state.new) }
     ensures stays { IfNotMade result (state.new ≡ state.old) }

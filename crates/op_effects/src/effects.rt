@@ -205,7 +205,8 @@ pub fn is_branch_taken(test: Test, a: u64, b: u64) -> bool
     }
 }
 
-fn operand_of(source: &CsrSource, regs: &Regs) -> u64
+/// The operand of an instruction on a control and status register.
+pub fn operand_of(source: &CsrSource, regs: &Regs) -> u64
     ensures { result ≡ operand_of source.now regs.now }
 {
     match *source {
@@ -224,7 +225,9 @@ fn is_none(source: &CsrSource) -> bool
     }
 }
 
-fn writes(op: CsrOp, source: &CsrSource) -> bool
+/// Whether an instruction on a control and status register writes it: not where it sets or clears the bits of
+/// x0, or of an immediate of 0 (Unprivileged ISA 20191213, 9.1).
+pub fn writes(op: CsrOp, source: &CsrSource) -> bool
     ensures { result ≡ writes op source.now }
 {
     match op {

@@ -3,5 +3,5 @@
 
 mod effects;
 
-pub use effects::{address_at, effect_of, even, is_branch_taken};
+pub use effects::{address_at, effect_of, even, is_branch_taken, operand_of, writes};
 pub use op_defs::Effect;

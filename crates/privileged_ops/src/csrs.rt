@@ -1,12 +1,11 @@
 // Instructions on control and status registers (Unprivileged ISA 20191213, 9.1).
 
-ghost use Rattle.std.specs.Prelude.{◌≡◌, ℕ};
+ghost use Rattle.std.specs.Prelude.{◌≡◌, IfErr, ℕ};
 ghost use Rattle.arch_defs.specs.CsrAccess.{read_csr};
 ghost use Rattle.machine_defs.specs.Privileges.{combined, csr_accessed, csr_shown};
-ghost use Rattle.privileged_ops.specs.PrivilegedEnds.{IfNotMade, outcome_of, with_register};
+ghost use Rattle.privileged_ops.specs.PrivilegedEnds.{made_outcome, with_register};
 
-use crate::instructions::Performed;
-use arch_defs::{Reg, Register, Virtual};
+use arch_defs::{CsrEnd, Reg, Register, Virtual};
 use csr_file::{named_to_write, read, shown, write_register};
 use op_defs::CsrOp;
 
@@ -22,33 +21,35 @@ fn combined(op: CsrOp, before: u64, operand: u64) -> u64
 }
 
 // Reads a register into `rd`.
-fn show(state: &mut Virtual, number: u16, rd: Reg) -> Performed
+fn show(state: &mut Virtual, number: u16, rd: Reg) -> Result<(), CsrEnd>
     ensures ends { (word : ℕ) → csr_shown state.old word rd (read_csr state.old.csrs state.old.mode number)
-        ≡ outcome_of word result state.new }
-    ensures stays { IfNotMade result (state.new ≡ state.old) }
+        ≡ made_outcome word result state.new }
+    ensures stays { IfErr result (λ end. state.new ≡ state.old) }
 {
     match read(&state.csrs, state.mode, number) {
         Ok(value) => {
             state.set(rd, value);
-            Performed::Done
+            Ok(())
         }
-        Err(end) => Performed::Refused(end),
+        Err(end) => Err(end),
     }
 }
 
-/// Reads a register into `rd`, and changes it where the instruction `writes`.
+/// Reads a register into `rd`, and changes it where the instruction `writes`. Where the mode may not do that,
+/// the instruction is an illegal one or a virtual one (Privileged Architecture 20211203, 8.6.1), and nothing
+/// changes.
 #[tactic(auto, using(crate::proofs::Changes::accessed, crate::proofs::Changes::refused_access))]
-pub fn access(
+pub fn access_csr(
     state: &mut Virtual,
     op: CsrOp,
     number: u16,
     operand: u64,
     writes: bool,
     rd: Reg,
-) -> Performed
+) -> Result<(), CsrEnd>
     ensures ends { (word : ℕ) → csr_accessed state.old word op number operand writes rd
-        ≡ outcome_of word result state.new }
-    ensures stays { IfNotMade result (state.new ≡ state.old) }
+        ≡ made_outcome word result state.new }
+    ensures stays { IfErr result (λ end. state.new ≡ state.old) }
 {
     if !writes {
         return show(state, number, rd);
@@ -56,9 +57,9 @@ pub fn access(
     match named_to_write(&state.csrs, state.mode, number) {
         Ok(register) => {
             change(state, op, register, operand, rd);
-            Performed::Done
+            Ok(())
         }
-        Err(end) => Performed::Refused(end),
+        Err(end) => Err(end),
     }
 }
 

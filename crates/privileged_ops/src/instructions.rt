@@ -1,13 +1,13 @@
 // How each of these instructions ends.
 
-ghost use Rattle.std.specs.Prelude.{◌≡◌, ℕ, None};
+ghost use Rattle.std.specs.Prelude.{◌≡◌, IfErr, ℕ, None};
 ghost use Rattle.arch_defs.specs.Traps.{arrived, returned};
 ghost use Rattle.op_defs.specs.declared.ops.Privileged.TheVariants as effect;
 ghost use Rattle.machine_defs.specs.Privileges.{performed, privileged, refusal};
-ghost use Rattle.privileged_ops.specs.PrivilegedEnds.{outcome_of, IfNotMade};
+ghost use Rattle.privileged_ops.specs.PrivilegedEnds.{IfNotMade, made_outcome, outcome_of};
 
-use crate::csrs::access;
-use crate::refusals::refusal;
+use crate::csrs::access_csr;
+use crate::refusals::{refusal, supervisor_refusal};
 use arch_defs::{CsrEnd, Fence, Tag, Virtual};
 use op_defs::{DataAccess, Privileged};
 use trap_delegation::sret;
@@ -55,8 +55,14 @@ fn perform_allowed(state: &mut Virtual, effect: Privileged) -> Performed
             operand,
             writes,
             rd,
-        } => access(state, op, number, operand, writes, rd),
-        Privileged::Sret => leave(state),
+        } => match access_csr(state, op, number, operand, writes, rd) {
+            Ok(()) => Performed::Done,
+            Err(end) => Performed::Refused(end),
+        },
+        Privileged::Sret => {
+            leave(state);
+            Performed::Done
+        }
         Privileged::Wfi => {
             state.pass();
             Performed::Waits
@@ -79,12 +85,25 @@ fn perform_allowed(state: &mut Virtual, effect: Privileged) -> Performed
 
 // SRET (Privileged Architecture 20211203, 8.6.4).
 #[tactic(auto, using(crate::proofs::Returns::sret_is_supervisor))]
-fn leave(state: &mut Virtual) -> Performed
+fn leave(state: &mut Virtual)
     requires { refusal effect.Sret state.old.csrs.hstatus state.old.mode ≡ None }
-    ensures state { state.new
-        ≡ arrived state.old (returned state.old.csrs state.old.regs state.old.mode) }
-    ensures done { result ≡ Performed.Done }
+    ensures { state.new ≡ arrived state.old (returned state.old.csrs state.old.regs state.old.mode) }
 {
     state.mode = sret(&mut state.csrs, &mut state.regs, state.mode);
-    Performed::Done
+}
+
+/// Makes an SRET. Where the mode may not do that, the instruction is an illegal one or a virtual one (8.6.1),
+/// and nothing changes.
+#[tactic(auto, unfolding(machine_defs::specs::Privileges::privileged, machine_defs::specs::Privileges::refusal))]
+pub fn perform_sret(state: &mut Virtual) -> Result<(), CsrEnd>
+    ensures ends { (word : ℕ) → privileged state.old word effect.Sret ≡ made_outcome word result state.new }
+    ensures stays { IfErr result (λ end. state.new ≡ state.old) }
+{
+    match supervisor_refusal(state.csrs.hstatus.vtsr, state.mode) {
+        Some(end) => Err(end),
+        None => {
+            leave(state);
+            Ok(())
+        }
+    }
 }

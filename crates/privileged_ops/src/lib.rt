@@ -5,5 +5,6 @@ mod csrs;
 mod instructions;
 mod refusals;
 
-pub use instructions::{Performed, perform};
-pub use refusals::refusal_code;
+pub use csrs::access_csr;
+pub use instructions::{Performed, perform, perform_sret};
+pub use refusals::{refusal_code, refusal_of};

@@ -9,13 +9,13 @@ ghost use Rattle.arch_defs.specs.declared.registers.Csrs.{Csrs};
 ghost use Rattle.arch_defs.specs.FirstEntries.{HasGuestFrame, all_filled, names_first, unnamed_first};
 ghost use Rattle.arch_defs.specs.Interrupts.{due, interrupt_of};
 ghost use Rattle.arch_defs.specs.Traps.{entered_at, exception, is_virtual, target};
-ghost use Rattle.op_defs.specs.Meaning.{branch, jump, meaning};
+ghost use Rattle.op_defs.specs.Meaning.{branch, jump, meaning, operand_of, writes};
 ghost use Rattle.op_defs.specs.Table.{is_system, op_of};
 ghost use Rattle.machine_defs.specs.declared.events.Event.{Event};
 ghost use Rattle.machine_defs.specs.Core.{accessed_data, called_from, core, event_of, kind_of};
 ghost use Rattle.machine_defs.specs.FirstLeaves.{entries_of};
 ghost use Rattle.arch_defs.specs.Registers.{sets, next};
-ghost use Rattle.machine_defs.specs.Privileges.{privileged};
+ghost use Rattle.machine_defs.specs.Privileges.{csr_accessed, privileged};
 ghost use Rattle.translation_buffer.specs.Serving.{Serves};
 ghost use Rattle.rv64_hart.specs.Counts.{OnlyTrace};
 ghost use Rattle.rv64_hart.specs.Endings.{IfLeft, IfPlain, IfRaised, NoneDueIfQuiet, KeepsContext, ServesHart, attempt_at, attempt_by, attempt_of_effect, attempt_of_word, attempt_with, counted_of, told_by, told_of};
@@ -34,10 +34,10 @@ use arch_defs::{
 };
 use data_access::DataAccess;
 use int_ops::{alu, word_alu};
-use op_defs::{Effect, Op, Privileged};
-use op_effects::{address_at, effect_of, even, is_branch_taken};
+use op_defs::{CsrOp, CsrSource, Effect, Op, Privileged};
+use op_effects::{address_at, effect_of, even, is_branch_taken, operand_of, writes};
 use phys_mem::PhysMem;
-use privileged_ops::{Performed, perform, refusal_code};
+use privileged_ops::{Performed, access_csr, perform, refusal_code, refusal_of};
 use rv64_decode::{decode, decode_common};
 use translation_buffer::Buffer;
 use trap_delegation::{enter_vs, pending, target};
@@ -586,12 +586,110 @@ fn asked(
     ensures plain { IfPlain result (KeepsContext state.old.virt state.new.virt) }
 {
     match decode(word) {
-        Some(op) => {
-            let effect = effect_of(&op, &state.virt.regs);
-            apply(state, memory, buffer, word, effect, found, trap)
-        }
+        Some(
+            Op::Csr {
+                op,
+                source,
+                rd,
+                number,
+            },
+        ) => register(
+            state, memory, buffer, word, op, source, rd, number, found, trap,
+        ),
+        Some(op) => decided(state, memory, buffer, word, &op, found, trap),
         None => raise(state.virt.mode, ILLEGAL_INSTRUCTION, word as u64, trap),
     }
+}
+
+// An instruction on a control and status register.
+#[inline(never)]
+fn register(
+    state: &mut HartState,
+    memory: &PhysMem,
+    buffer: &mut Buffer,
+    word: u32,
+    op: CsrOp,
+    source: CsrSource,
+    rd: Reg,
+    number: u16,
+    found: Option<&FirstEntry>,
+    trap: &mut Trap,
+) -> Ended
+    requires serves { ServesHart buffer.old state.old memory.now }
+    requires fits { IfSome found (λ e. HasGuestFrame e.now) }
+    ensures ends { (made : Event) → attempt_of
+        (with_first state.old (entries_of (option_map (λ e. e.now) found.entry))) memory.now
+        (csr_accessed state.old.virt word op number (operand_of source state.old.virt.regs)
+        (writes op source) rd) ≡ attempt_by result trap.new made state.new memory.now }
+    ensures stays { IfRaised result (state.new ≡ state.old) }
+    ensures serves { ServesHart buffer.new state.new memory.now }
+    ensures plain { IfPlain result (KeepsContext state.old.virt state.new.virt) }
+{
+    let operand = operand_of(&source, &state.virt.regs);
+    match access_csr(
+        &mut state.virt,
+        op,
+        number,
+        operand,
+        writes(op, &source),
+        rd,
+    ) {
+        Ok(()) => {
+            settle(state, buffer, found);
+            Ended::System
+        }
+        Err(end) => raise(state.virt.mode, refusal_code(end), word as u64, trap),
+    }
+}
+
+// Another instruction. What it asks for is read off the registers only where the mode allows it.
+#[tactic(auto, using(crate::proofs::Refusals::refused_ends))]
+fn decided(
+    state: &mut HartState,
+    memory: &mut PhysMem,
+    buffer: &mut Buffer,
+    word: u32,
+    op: &Op,
+    found: Option<&FirstEntry>,
+    trap: &mut Trap,
+) -> Ended
+    requires serves { ServesHart buffer.old state.old memory.old }
+    requires fits { IfSome found (λ e. HasGuestFrame e.now) }
+    ensures ends { attempt_with (entries_of (option_map (λ e. e.now) found.entry)) state.old memory.old word
+        (meaning op.now state.old.virt.regs)
+        ≡ attempt_by result trap.new (event_of state.old.virt.regs.pc word) state.new memory.new }
+    ensures stays { IfRaised result ((state.new ≡ state.old) × (memory.new ≡ memory.old)) }
+    ensures serves { ServesHart buffer.new state.new memory.new }
+    ensures plain { IfPlain result (KeepsContext state.old.virt state.new.virt) }
+{
+    match refusal_of(op, &state.virt.csrs.hstatus, state.virt.mode) {
+        Some(end) => raise(state.virt.mode, refusal_code(end), word as u64, trap),
+        None => allowed(state, memory, buffer, word, op, found, trap),
+    }
+}
+
+// One that the mode allows.
+#[inline(never)]
+fn allowed(
+    state: &mut HartState,
+    memory: &mut PhysMem,
+    buffer: &mut Buffer,
+    word: u32,
+    op: &Op,
+    found: Option<&FirstEntry>,
+    trap: &mut Trap,
+) -> Ended
+    requires serves { ServesHart buffer.old state.old memory.old }
+    requires fits { IfSome found (λ e. HasGuestFrame e.now) }
+    ensures ends { attempt_with (entries_of (option_map (λ e. e.now) found.entry)) state.old memory.old word
+        (meaning op.now state.old.virt.regs)
+        ≡ attempt_by result trap.new (event_of state.old.virt.regs.pc word) state.new memory.new }
+    ensures stays { IfRaised result ((state.new ≡ state.old) × (memory.new ≡ memory.old)) }
+    ensures serves { ServesHart buffer.new state.new memory.new }
+    ensures plain { IfPlain result (KeepsContext state.old.virt state.new.virt) }
+{
+    let effect = effect_of(op, &state.virt.regs);
+    apply(state, memory, buffer, word, effect, found, trap)
 }
 
 // Does what an instruction asks for.

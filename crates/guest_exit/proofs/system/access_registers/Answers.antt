@@ -1,7 +1,7 @@
 use Rattle.std.proofs.Common.{sym}
 use Rattle.machine_defs.specs.Tries.{mmu_of}
 use Rattle.guest_exit.specs.View.{machine_of}
-use Rattle.hcsr_emulation.proofs.AtOnce.{kind_decided}
+use Rattle.hcsr_emulation.proofs.Decided.{kind_decided}
 use Rattle.guest_exit.proofs.Decided.{done_storable}
 use Rattle.guest_exit.proofs.system.access_registers.Goals as goal
 
