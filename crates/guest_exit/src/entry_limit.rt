@@ -44,8 +44,21 @@ fn steps_before(moment: Option<u64>, time: u64, most: u64) -> u64
     }
 }
 
-// Whether an interrupt of VS is pending, enabled and not delegated.
+// Whether an interrupt of VS is pending, enabled and not delegated. Mostly none is even pending.
 fn waits_for_hs(csrs: &Csrs) -> bool
+    ensures { result ≡ waits_for_hs csrs.now }
+{
+    let pending = csrs.hvip;
+    if pending.external || pending.software || pending.timer {
+        is_any_left(csrs)
+    } else {
+        false
+    }
+}
+
+// The same, where one is pending.
+#[inline(never)]
+fn is_any_left(csrs: &Csrs) -> bool
     ensures { result ≡ waits_for_hs csrs.now }
 {
     let pending = csrs.hvip;

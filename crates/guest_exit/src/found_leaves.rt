@@ -8,46 +8,51 @@ use arch_defs::FirstBuffer;
 use rv64_hart::Leaves;
 use std::marker::Model;
 
-/// What the hart would have found, in order, which contracts see as a list.
+/// What the hart would have found, in order, which contracts see as a list. Where nothing can be found no
+/// leaves are made.
 #[derive(Drop)]
-pub struct FoundLeaves {
-    leaves: Leaves,
+pub struct FoundLeaves<'a> {
+    leaves: Option<&'a Leaves>,
 }
 
-impl Model for FoundLeaves {
-    ghost use Rattle.std.specs.Prelude.{List};
+impl<'a> Model for FoundLeaves<'a> {
+    ghost use Rattle.std.specs.Prelude.{List, [], IfSome, option_map, unwrap_or};
     ghost use Rattle.arch_defs.specs.declared.first.FirstEntry.{FirstEntry};
     ghost use Rattle.rv64_hart.specs.Leaves.{LeavesFit, leaves_list};
 
     ghost Value = { List FirstEntry };
 
-    ghost view = { λ f. leaves_list f.leaves };
+    ghost view = { λ f. unwrap_or (option_map (λ l. leaves_list l.now) f.leaves) [] };
 
-    ghost invariant = { λ f. LeavesFit f.leaves };
+    ghost invariant = { λ f. IfSome f.leaves (λ l. LeavesFit l.now) };
 }
 
-impl FoundLeaves {
+impl<'a> FoundLeaves<'a> {
     /// None.
-    pub fn none() -> FoundLeaves
+    pub fn none() -> FoundLeaves<'a>
         ensures { result ≡ [] }
     {
-        FoundLeaves {
-            leaves: Leaves::none(),
-        }
+        FoundLeaves { leaves: None }
     }
 
     /// What the hart has told.
-    pub fn of(leaves: Leaves) -> FoundLeaves
-        requires { LeavesFit leaves }
-        ensures { result ≡ leaves_list leaves }
+    pub fn of(leaves: &'a Leaves) -> FoundLeaves<'a>
+        requires { LeavesFit leaves.now }
+        ensures { result ≡ leaves_list leaves.now }
     {
-        FoundLeaves { leaves }
+        FoundLeaves {
+            leaves: Some(leaves),
+        }
     }
 
     /// Caches them.
+    #[tactic(auto, unfolding(arch_defs::specs::FirstEntries::all_filled))]
     pub fn fill(&self, first: &mut FirstBuffer)
         ensures { first.new ≡ all_filled first.old self.now }
     {
-        self.leaves.fill(first);
+        match self.leaves {
+            Some(leaves) => leaves.fill(first),
+            None => {}
+        }
     }
 }

@@ -7,6 +7,7 @@ ghost use Rattle.machine_defs.specs.declared.events.Event.TheVariants.{System};
 ghost use Rattle.machine_defs.specs.Machine.{WaitsForGood, called, stepped_to, trapped};
 ghost use Rattle.machine_defs.specs.Tries.{try};
 ghost use Rattle.rv64_asm.specs.Fitting.{fits};
+ghost use Rattle.rv64_hart.specs.Leaves.{LeavesFit, leaves_list};
 ghost use Rattle.guest_exit.specs.ExitCases.{Call, Own, decided_at, decided_in, exit_of, far_exit, found_next, if_decided, instruction_exit, missing_place_exit, other_exit};
 ghost use Rattle.guest_exit.specs.HartExit.{CanGoOn, HasExited, IsHandled, IsMadeFor, IsStopCall, IsTold, KeepsPart};
 ghost use Rattle.guest_exit.specs.HartSteps.{host_takes};
@@ -26,7 +27,7 @@ use machine_defs::Status;
 use op_defs::Op;
 use phys_mem::PhysMem;
 use rv64_decode::decode;
-use rv64_hart::found_at_exit;
+use rv64_hart::{Leaves, found_at_exit};
 use see_calls::CallEnd;
 use two_stage_walk::supervisor_of;
 use world_switch::tag_of;
@@ -83,19 +84,20 @@ fn make_by_tables(guest: &mut Guest, memory: &mut PhysMem, trap: &Trap) -> Handl
     ensures { IsMadeFor (exit_of guest.old.virt trap.now) (found_next (machine_of guest.old memory.old))
         result guest.old memory.old guest.new memory.new }
 {
-    let found = found_by_tables(guest, memory);
-    make(guest, memory, trap, &found)
+    let leaves = found_by_tables(guest, memory);
+    make(guest, memory, trap, &FoundLeaves::of(&leaves))
 }
 
 // The first-stage translations that the guest's next step finds: those of the hart, loaded for the guest.
-fn found_by_tables(guest: &Guest, memory: &PhysMem) -> FoundLeaves
+fn found_by_tables(guest: &Guest, memory: &PhysMem) -> Leaves
     requires can { CanGoOn guest.now memory.now }
     requires own { host_takes guest.now.virt ≡ false }
-    ensures { result ≡ found_next (machine_of guest.now memory.now) }
+    ensures value { leaves_list result ≡ found_next (machine_of guest.now memory.now) }
+    ensures fits { LeavesFit result }
 {
     let hart = hart_state_for(guest);
     let tag = tag_of(&guest.virt);
-    FoundLeaves::of(found_at_exit(&hart, &guest.first, &tag, memory))
+    found_at_exit(&hart, &guest.first, &tag, memory)
 }
 
 // Makes such a step, which finds these first-stage translations, or fills what it lacks. What is found is
@@ -116,6 +118,7 @@ fn make(guest: &mut Guest, memory: &mut PhysMem, trap: &Trap, found: &FoundLeave
 }
 
 // A guest-page fault.
+#[inline(never)]
 fn make_access(guest: &mut Guest, memory: &mut PhysMem, trap: &Trap, found: &FoundLeaves) -> Handled
     requires { CanGoOn guest.old memory.old }
     ensures { IsMadeFor (missing_place_exit guest.old.virt trap.now (folds guest.old.virt)) found.now
@@ -216,6 +219,7 @@ fn make_other(guest: &mut Guest, trap: &Trap, found: &FoundLeaves) -> Handled
 }
 
 // A trap that the guest takes itself, since it does not delegate it.
+#[inline(never)]
 fn make_own(guest: &mut Guest, trap: &Trap, found: &FoundLeaves) -> Handled
     requires { CanStep guest.old }
     ensures { (memory : List ℕ) → IsPlaced guest.old memory

@@ -12,6 +12,7 @@ use phys_mem::PhysMem;
 use rv64_hart::{Hart, Tally, Why};
 
 /// Makes at most `k` steps of a guest, and answers how many.
+#[inline(never)]
 #[tactic(auto, using(crate::proofs::Turns::turns))]
 pub fn turn_of(
     guest: &mut Guest,
@@ -44,7 +45,6 @@ pub fn turn_of(
 
 // Makes some of the steps that are left of a guest that goes on, in one entry of the hart where it can make
 // them, or fills a cached translation that the next step lacks. Answers how many steps are left then.
-#[inline(never)]
 fn advance(
     guest: &mut Guest,
     hart: &mut Hart,

@@ -99,20 +99,18 @@ impl Hart {
         tally.enter();
         self.buffer
             .restart(&self.state.virt.csrs, self.state.virt.mode);
-        let stop = steps(
+        steps(
             &mut self.state,
             memory,
             &mut self.buffer,
             limit,
             watch,
             tally,
-        );
-        tally.take(stop.taken);
-        stop
+        )
     }
 }
 
-// The steps of a run, whose trace the tally gets.
+// The steps of a run, which the tally gets.
 #[tactic(auto, using(crate::proofs::Runs::steps_none, crate::proofs::Runs::steps_more))]
 fn steps(
     state: &mut HartState,
@@ -123,13 +121,14 @@ fn steps(
     tally: &mut Tally,
 ) -> Stop
     requires serves { ServesHart buffer.old state.old memory.old }
+    requires taken { tally.old.taken + limit ≤ 2 ^ 62 }
     ensures steps { hart_steps watch result.taken
         (progress state.old memory.old tally.old.trace false)
         ≡ Some (progress state.new memory.new tally.new.trace (is_vs_trap result.why)) }
     ensures why { IsWhy limit result.taken state.new memory.new result.why }
     ensures within { result.taken ≤ limit }
     ensures entries { tally.new.entries ≡ tally.old.entries }
-    ensures taken { tally.new.taken ≡ tally.old.taken }
+    ensures taken { tally.new.taken ≡ tally.old.taken + result.taken }
 {
     let mut trap = Trap::of_interrupt(0);
     let mut quiet = false;
@@ -137,12 +136,14 @@ fn steps(
         match step(state, memory, buffer, watch, &mut quiet, tally, &mut trap) {
             StepEnd::Continues => {}
             StepEnd::Ends => {
+                tally.take(taken + 1);
                 return Stop {
                     taken: taken + 1,
                     why: Why::VsTrap,
                 };
             }
             StepEnd::Left => {
+                tally.take(taken);
                 return Stop {
                     taken,
                     why: Why::Exit(trap),
@@ -150,6 +151,7 @@ fn steps(
             }
         }
     }
+    tally.take(limit);
     Stop {
         taken: limit,
         why: Why::Limit,

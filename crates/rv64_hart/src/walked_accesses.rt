@@ -19,9 +19,7 @@ use arch_defs::{
 use data_access::is_aligned;
 use phys_mem::{Mem, PhysMem};
 use translation_buffer::passed_by;
-use two_stage_walk::{
-    first_leaf, first_stage, leaf_address, privilege_of, supervisor_of, translate_found,
-};
+use two_stage_walk::{first_leaf, first_stage, leaf_address, supervisor_of, translate_found};
 
 // The translation of an address's one page under a leaf.
 fn first_entry(tag: &Tag, atp: SupervisorRoot, va: u64, leaf: &LeafPte) -> FirstEntry
@@ -94,9 +92,8 @@ fn first_stage_of(
     ensures offset { KeepsOffset va result }
     ensures fits { IfSome entry.new HasGuestFrame }
 {
-    let who = privilege_of(&virt.csrs, virt.mode);
     let atp = supervisor_of(&virt.csrs, virt.mode).atp;
-    match passed_by(first, tag, who, atp, va, access) {
+    match passed_by(first, tag, &virt.csrs, virt.mode, &atp, va, access) {
         Some(address) => Found::Passes(address),
         None => walked(virt, tag, memory, va, access, entry),
     }

@@ -104,29 +104,11 @@ fn known_in(
 }
 
 /// The guest physical address of an access for which no table of the first stage is walked: by the cached
-/// translation of its page, if that permits the access, or in Bare.
+/// translation of its page, if that permits the access, or in Bare. For whom it is made counts under a table
+/// alone.
 #[inline]
 #[tactic(auto, unfolding(arch_defs::specs::FirstEntries::known_under))]
 pub fn passed_by(
-    first: &FirstBuffer,
-    owner: &Tag,
-    who: Privilege,
-    root: SupervisorRoot,
-    va: u64,
-    access: Access,
-) -> Option<u64>
-    ensures value { result ≡ passed_by first.now owner.now who root va access }
-    ensures offset { IfSome result (λ address. address % 4096 ≡ va % 4096) }
-{
-    match root {
-        SupervisorRoot::Bare => Some(va),
-        SupervisorRoot::Table { .. } => known_in(first, owner, who, &root, va, access),
-    }
-}
-
-// The same as a mode. For whom it is counts under a table alone.
-#[tactic(auto, unfolding(arch_defs::specs::FirstEntries::known_under))]
-fn passed(
     first: &FirstBuffer,
     owner: &Tag,
     csrs: &Csrs,
@@ -170,7 +152,7 @@ fn place_noted(
         memory.now va access }
 {
     memory.is_whole();
-    match passed(first, owner, csrs, mode, &context.first, va, access) {
+    match passed_by(first, owner, csrs, mode, &context.first, va, access) {
         Some(address) => {
             second_noted(memory, context.mxr, context.second, address, access, read)
         }
@@ -243,7 +225,7 @@ impl Buffer {
             → Serves self.new first owner csrs.now mode memory }
     {
         self.next_run();
-        self.context = Context::of(csrs, mode);
+        self.context.set(csrs, mode);
         self.who = bits_of(self.run, csrs, mode);
     }
 

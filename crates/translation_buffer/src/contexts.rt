@@ -40,6 +40,16 @@ impl Context {
         }
     }
 
+    /// Becomes that of a mode, as the registers are.
+    #[inline]
+    pub fn set(&mut self, csrs: &Csrs, mode: Mode)
+        ensures { self.new ≡ context_of csrs.now mode }
+    {
+        self.first = supervisor_of(csrs, mode).atp;
+        self.second = second_root_of(csrs, mode);
+        self.mxr = csrs.hs.status.mxr;
+    }
+
     /// Whether `other` is the same.
     #[inline]
     #[tactic(auto, using(crate::proofs::SameContexts::same_context))]

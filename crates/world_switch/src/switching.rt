@@ -49,6 +49,7 @@ pub fn tag_of(virt: &Virtual) -> Tag
 /// and U with V = 0, and for its VS and VU with V = 1, under the table whose root begins at the frame `root`:
 /// by the mode of folded tables where that is the root of one of the part's spaces, else by the host table's.
 /// The guest's reservation is at its place in machine memory.
+#[inline(always)]
 pub fn load_state(virt: &Virtual, part: &Part, root: u64, hart: &mut Virtual)
     requires held { ReservesWithin (in_ram part.now.blocks) virt.now.reservation }
     ensures has { hart.new ≡ hart_state_in part.now (root_at part.now root) virt.now }
@@ -90,7 +91,7 @@ fn set_others(virt: &Virtual, part: &Part, hart: &mut Virtual)
 {
     copy_registers(&virt.regs, &mut hart.regs);
     hart.mode = hosted_mode(virt.mode);
-    hart.reservation = placed(part, virt.reservation);
+    place(part, virt.reservation, &mut hart.reservation);
 }
 
 // Copies the general registers, and pc: a copy of 256 bytes takes half the instructions of one of 264.
@@ -121,7 +122,7 @@ pub fn save_state(hart: &Virtual, part: &Part, virt: &mut Virtual)
     save_csrs(&hart.csrs, nested, &mut virt.csrs);
     copy_registers(&hart.regs, &mut virt.regs);
     virt.mode = saved_mode(nested, hart.mode);
-    virt.reservation = guest_reservation(part, hart.reservation);
+    bring_back(part, hart.reservation, &mut virt.reservation);
 }
 
 fn save_csrs(hart: &Csrs, nested: bool, csrs: &mut Csrs)
@@ -151,24 +152,37 @@ pub fn fix_up(virt: &mut Virtual)
     virt.csrs.htinst = 0;
 }
 
-// A reservation of the guest that has this part, at its place in machine memory.
-fn placed(part: &Part, reservation: Option<(u64, u8)>) -> Option<(u64, u8)>
+// Sets a reservation of the guest that has this part, at its place in machine memory.
+fn place(part: &Part, reservation: Option<(u64, u8)>, hart: &mut Option<(u64, u8)>)
     requires { ReservesWithin (in_ram part.now.blocks) reservation }
-    ensures { result ≡ reservation_renamed (memory_place part.now.blocks) reservation }
+    ensures { hart.new ≡ reservation_renamed (memory_place part.now.blocks) reservation }
 {
     match reservation {
-        Some((address, bytes)) => Some((part.host_place(address - RAM_BASE), bytes)),
-        None => None,
+        Some((address, bytes)) => {
+            *hart = Some((part.host_place(address - RAM_BASE), bytes));
+        }
+        None => *hart = None,
+    }
+}
+
+// Sets a reservation of the guest that has this part, from the one at a place in machine memory.
+fn bring_back(part: &Part, reservation: Option<(u64, u8)>, guest: &mut Option<(u64, u8)>)
+    ensures { (own : Option (ℕ × ℕ)) → ReservesWithin (in_ram part.now.blocks) own
+        → reservation ≡ reservation_renamed (memory_place part.now.blocks) own → guest.new ≡ own }
+{
+    match reservation {
+        Some((place, bytes)) => *guest = guest_reservation(part, place, bytes),
+        None => *guest = None,
     }
 }
 
 // A reservation at a place in machine memory, at the guest's own address. One at a place that the part does
 // not have becomes none. That cannot occur: the hart reserves only what the guest's host table gives.
-fn guest_reservation(part: &Part, reservation: Option<(u64, u8)>) -> Option<(u64, u8)>
+#[inline(never)]
+fn guest_reservation(part: &Part, place: u64, bytes: u8) -> Option<(u64, u8)>
     ensures { (own : Option (ℕ × ℕ)) → ReservesWithin (in_ram part.now.blocks) own
-        → reservation ≡ reservation_renamed (memory_place part.now.blocks) own → result ≡ own }
+        → Some (place, bytes) ≡ reservation_renamed (memory_place part.now.blocks) own → result ≡ own }
 {
-    let (place, bytes) = reservation?;
     let address = ram_place(part, place)?;
     Some((address, bytes))
 }

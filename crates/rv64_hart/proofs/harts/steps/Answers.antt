@@ -5,9 +5,10 @@ use Rattle.rv64_hart.proofs.harts.steps.Goals as goal
 
 pub returns-in-Ends-clause-steps : goal.returns-in-Ends-clause-steps
 returns-in-Ends-clause-steps c =
-    steps_more c.args.watch c.loop-taken.taken (c.loop-taken.taken + 1) (progress c.args.state.now c.args.memory.now c.args.tally.now.trace false)
+    rw c.take.ensures
+    (steps_more c.args.watch c.loop-taken.taken (c.loop-taken.taken + 1) (progress c.args.state.now c.args.memory.now c.args.tally.now.trace false)
     (progress c.loop-taken.state c.loop-taken.memory c.loop-taken.tally.trace false) (Some (progress c.step.new.state c.step.new.memory c.step.new.tally.trace true))
-    refl c.loop-taken.invariant.steps c.in-Ends.ensures.steps
+    refl c.loop-taken.invariant.steps c.in-Ends.ensures.steps)
 
 pub loop-taken-preserved : goal.loop-taken-preserved
 loop-taken-preserved c = record {

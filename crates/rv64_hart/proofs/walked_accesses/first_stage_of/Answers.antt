@@ -1,7 +1,6 @@
 use Rattle.std.proofs.Common.{ap, refl, ◌∙◌}
 use Rattle.std.specs.Prelude.{option_map}
 use Rattle.arch_defs.specs.declared.registers.SupervisorCsrs.{SupervisorCsrs}
-use Rattle.arch_defs.specs.declared.walks.Privilege.{Privilege}
 use Rattle.arch_defs.specs.FirstEntries.{first_entry}
 use Rattle.arch_defs.specs.Translation.{first_stage, privilege_of, supervisor_of}
 use Rattle.machine_defs.specs.FirstLeaves.{entries_of, entry_walked, known_of, leaf_under}
@@ -15,7 +14,6 @@ unfolding first_stage
 returns-in-Some-clause-found c =
     passes c.args.first.now c.args.tag.now (second_of_memory c.args.virt.now c.args.memory.now) (reading_of_memory c.args.memory.now) (privilege_of c.args.virt.now.csrs c.args.virt.now.mode) c.args.va c.in-Some.address c.args.access
     (supervisor_of c.args.virt.now.csrs c.args.virt.now.mode).atp (c.in-Some.ensures.value
-    ∙ ap (λ (who : Privilege). passed_by c.args.first.now c.args.tag.now who c.supervisor_of-atp.result.atp c.args.va c.args.access) c.privilege_of-who.ensures
     ∙ ap (λ (r : SupervisorCsrs). passed_by c.args.first.now c.args.tag.now (privilege_of c.args.virt.now.csrs c.args.virt.now.mode) r.atp c.args.va c.args.access) c.supervisor_of-atp.ensures)
 
 pub returns-in-Some-clause-entry : goal.returns-in-Some-clause-entry
@@ -26,19 +24,16 @@ returns-in-Some-clause-entry c =
     (λ root. option_map (first_entry c.args.tag.now (supervisor_of c.args.virt.now.csrs c.args.virt.now.mode).atp c.args.va)
     (leaf_under (mmu_on (hart_state c.args.virt.now c.args.first.now c.args.tag.now) c.args.memory.now) (privilege_of c.args.virt.now.csrs c.args.virt.now.mode) c.args.va c.args.access root))
     refl (c.in-Some.ensures.value
-    ∙ ap (λ (who : Privilege). passed_by c.args.first.now c.args.tag.now who c.supervisor_of-atp.result.atp c.args.va c.args.access) c.privilege_of-who.ensures
     ∙ ap (λ (r : SupervisorCsrs). passed_by c.args.first.now c.args.tag.now (privilege_of c.args.virt.now.csrs c.args.virt.now.mode) r.atp c.args.va c.args.access) c.supervisor_of-atp.ensures)
 
 pub returns-in-None-clause-found : goal.returns-in-None-clause-found
 returns-in-None-clause-found c =
     rw (not_known c.args.first.now c.args.tag.now (privilege_of c.args.virt.now.csrs c.args.virt.now.mode) c.args.va c.args.access (supervisor_of c.args.virt.now.csrs c.args.virt.now.mode).atp (c.in-None.ensures.value
-    ∙ ap (λ (who : Privilege). passed_by c.args.first.now c.args.tag.now who c.supervisor_of-atp.result.atp c.args.va c.args.access) c.privilege_of-who.ensures
     ∙ ap (λ (r : SupervisorCsrs). passed_by c.args.first.now c.args.tag.now (privilege_of c.args.virt.now.csrs c.args.virt.now.mode) r.atp c.args.va c.args.access) c.supervisor_of-atp.ensures))
     c.walked.ensures.found
 
 pub returns-in-None-clause-entry : goal.returns-in-None-clause-entry
 returns-in-None-clause-entry c =
     rw (not_known c.args.first.now c.args.tag.now (privilege_of c.args.virt.now.csrs c.args.virt.now.mode) c.args.va c.args.access (supervisor_of c.args.virt.now.csrs c.args.virt.now.mode).atp (c.in-None.ensures.value
-    ∙ ap (λ (who : Privilege). passed_by c.args.first.now c.args.tag.now who c.supervisor_of-atp.result.atp c.args.va c.args.access) c.privilege_of-who.ensures
     ∙ ap (λ (r : SupervisorCsrs). passed_by c.args.first.now c.args.tag.now (privilege_of c.args.virt.now.csrs c.args.virt.now.mode) r.atp c.args.va c.args.access) c.supervisor_of-atp.ensures))
     (ap entries_of (c.walked.ensures.entry (known_of c.args.first.now c.args.tag.now c.args.virt.now)))
