@@ -62,15 +62,6 @@ impl FrameSet {
         }
     }
 
-    /// Has it hold no frame.
-    #[inline]
-    #[tactic(auto, using(crate::proofs::Holding::none_held))]
-    pub fn clear(&mut self)
-        ensures { (frame : ℕ) → has_frame self.new frame ≡ false }
-    {
-        self.held = no_keys();
-    }
-
     /// Whether it holds a frame.
     #[inline]
     #[tactic(auto, using(crate::proofs::Holding::asking), unfolding(crate::specs::Holding::has_frame))]

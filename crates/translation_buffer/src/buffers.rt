@@ -27,8 +27,8 @@ use two_stage_walk::{leaf_address, privilege_of, second_noted};
 const LAST_RUN: u64 = 510;
 
 /// The translations that the hart keeps, for the roots and the privilege that it accesses memory by: the
-/// slots, and the frames of all that was read for them. `who` is what a tag has above the page's number. A
-/// restart empties no slot: it begins a run with a number that no slot has.
+/// slots, and the frames of all that was read for them, now or once. `who` is what a tag has above the page's
+/// number. A restart empties no slot: it begins a run with a number that no slot has.
 #[derive(Clone, Copy, PartialEq, Eq)]
 pub struct Buffer {
     pub context: Context,
@@ -201,7 +201,6 @@ impl Buffer {
             → AllStand read memory under self.new.run self.new.slots }
     {
         self.slots = Slots::none();
-        self.read.clear();
         self.run = 0;
     }
 
