@@ -1,9 +1,9 @@
 // The table of words, by opcode.
 
-ghost use Rattle.std.specs.Prelude.{◌≡◌, Some, None, IfSome, ◌==◌, if◌then◌else◌};
+ghost use Rattle.std.specs.Prelude.{◌≡◌, Some, None, IfSome, ◌==◌, if◌then◌else◌, true};
 ghost use Rattle.op_defs.specs.declared.ops.Op.TheVariants.{Jalr};
 ghost use Rattle.op_defs.specs.Fields.{funct3, rd, rs1, i_immediate};
-ghost use Rattle.op_defs.specs.Table.{op_of, test_of, branch_of, load_of, store_of, fence_of};
+ghost use Rattle.op_defs.specs.Table.{op_of, test_of, branch_of, load_of, store_of, fence_of, is_system};
 ghost use Rattle.rv64_decode.specs.Common.{common_op_of};
 
 use crate::atomics::atomic;
@@ -26,6 +26,16 @@ pub fn decode(bits: u32) -> Option<Op>
         0b1110011 => system(bits),
         _ => decode_common(bits),
     }
+}
+
+/// The same of a word of SYSTEM.
+#[tactic(auto, unfolding(op_defs::specs::Table::op_of, op_defs::specs::Table::is_system))]
+#[inline(always)]
+pub fn decode_system(bits: u32) -> Option<Op>
+    requires { is_system bits ≡ true }
+    ensures { result ≡ op_of bits }
+{
+    system(bits)
 }
 
 /// The same, but none for a word of MISC-MEM, AMO or SYSTEM.

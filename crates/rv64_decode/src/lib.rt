@@ -7,4 +7,4 @@ mod fields;
 mod registers;
 mod systems;
 
-pub use decoding::{decode, decode_common};
+pub use decoding::{decode, decode_common, decode_system};

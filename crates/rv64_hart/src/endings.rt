@@ -1,5 +1,11 @@
 // How an instruction and a step end, in a byte.
 
+ghost use Rattle.std.specs.Prelude.{◌≡◌};
+ghost use Rattle.arch_defs.specs.Interrupts.{interrupt_of};
+ghost use Rattle.arch_defs.specs.Traps.{exception};
+
+use arch_defs::{Mode, Trap};
+
 /// How an instruction ended.
 #[derive(Clone, Copy)]
 pub enum Ended {
@@ -20,4 +26,26 @@ pub enum StepEnd {
     Ends,
     /// It would trap to HS, by a trap that is told apart, and was not made.
     Left,
+}
+
+/// Raises an exception of an instruction.
+#[cold]
+#[inline(never)]
+pub(crate) fn raise(mode: Mode, cause: u64, tval: u64, trap: &mut Trap) -> Ended
+    ensures trap { trap.new ≡ exception mode cause tval }
+    ensures raised { result ≡ Ended.Raised }
+{
+    *trap = Trap::of_exception(mode, cause, tval);
+    Ended::Raised
+}
+
+/// Raises an interrupt.
+#[cold]
+#[inline(never)]
+pub(crate) fn raise_interrupt(code: u64, trap: &mut Trap) -> Ended
+    ensures trap { trap.new ≡ interrupt_of code }
+    ensures raised { result ≡ Ended.Raised }
+{
+    *trap = Trap::of_interrupt(code);
+    Ended::Raised
 }

@@ -7,6 +7,7 @@ mod endings;
 mod harts;
 mod laws;
 mod leaves;
+mod rare_instructions;
 mod steps;
 mod tallies;
 mod walked_accesses;

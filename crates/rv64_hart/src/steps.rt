@@ -1,44 +1,38 @@
 // One step of the hart.
 
-ghost use Rattle.std.specs.Prelude.{◌≡◌, ◌^◌, ◌<◌, ℕ, List, [], Some, IfSome, IsTrue, false, option_map, unwrap_or};
+ghost use Rattle.std.specs.Prelude.{◌≡◌, ◌^◌, ◌<◌, ℕ, List, Some, IfSome, IsTrue, false, option_map};
 ghost use Rattle.arch_defs.specs.declared.first.FirstEntry.{FirstEntry};
 ghost use Rattle.arch_defs.specs.declared.first.Tag.{Tag};
 ghost use Rattle.arch_defs.specs.declared.hart_states.HartState.{HartState};
-ghost use Rattle.arch_defs.specs.declared.modes.Mode.{Mode};
-ghost use Rattle.arch_defs.specs.declared.registers.Csrs.{Csrs};
-ghost use Rattle.arch_defs.specs.FirstEntries.{HasGuestFrame, all_filled, names_first, unnamed_first};
-ghost use Rattle.arch_defs.specs.Interrupts.{due, interrupt_of};
-ghost use Rattle.arch_defs.specs.Traps.{entered_at, exception, is_virtual, target};
-ghost use Rattle.op_defs.specs.Meaning.{branch, jump, meaning, operand_of, writes};
+ghost use Rattle.arch_defs.specs.FirstEntries.{HasGuestFrame, all_filled};
+ghost use Rattle.arch_defs.specs.Interrupts.{due};
+ghost use Rattle.arch_defs.specs.Traps.{entered_at, is_virtual, target};
+ghost use Rattle.op_defs.specs.Meaning.{branch, jump, meaning};
 ghost use Rattle.op_defs.specs.Table.{is_system, op_of};
-ghost use Rattle.machine_defs.specs.declared.events.Event.{Event};
-ghost use Rattle.machine_defs.specs.Core.{accessed_data, called_from, core, event_of, kind_of};
+ghost use Rattle.machine_defs.specs.Core.{core, event_of};
 ghost use Rattle.machine_defs.specs.FirstLeaves.{entries_of};
 ghost use Rattle.arch_defs.specs.Registers.{sets, next};
-ghost use Rattle.machine_defs.specs.Privileges.{csr_accessed, privileged};
 ghost use Rattle.translation_buffer.specs.Serving.{Serves};
 ghost use Rattle.rv64_hart.specs.Counts.{OnlyTrace};
-ghost use Rattle.rv64_hart.specs.Endings.{IfLeft, IfPlain, IfRaised, NoneDueIfQuiet, KeepsContext, ServesHart, attempt_at, attempt_by, attempt_of_effect, attempt_of_word, attempt_with, counted_of, told_by, told_of};
-ghost use Rattle.rv64_hart.specs.MachineMemory.{found_over, hart_state, mmu_on};
-ghost use Rattle.rv64_hart.specs.Steps.{Exits, Raises, attempt_of, found_at_exit, hart_step, next_attempt, one_more_step, progress, progressed, trapped_to, with_first, with_found_on};
+ghost use Rattle.rv64_hart.specs.Endings.{IfLeft, IfPlain, IfRaised, NoneDueIfQuiet, KeepsContext, ServesHart, attempt_at, attempt_by, attempt_of_effect, attempt_of_word, counted_of, told_by, told_of};
+ghost use Rattle.rv64_hart.specs.MachineMemory.{hart_state, mmu_on};
+ghost use Rattle.rv64_hart.specs.Steps.{Exits, attempt_of, found_at_exit, hart_step, next_attempt, one_more_step, progress, progressed, trapped_to, with_first, with_found_on};
 
-use crate::accesses::{access_data, access_data_anew, kept_place, load_data, store_data, word_at};
-use crate::endings::{Ended, StepEnd};
+use crate::accesses::{kept_place, load_data, store_data, word_at};
+use crate::endings::{Ended, StepEnd, raise, raise_interrupt};
 use crate::leaves::{cache, found_at_exit};
+use crate::rare_instructions::{follow, is_system, rare};
 use crate::tallies::Tally;
 use crate::walked_accesses::reach;
 use arch_defs::{
-    Access, ECALL_FROM_HS, ECALL_FROM_USER, ECALL_FROM_VS, Fence, FirstBuffer, FirstEntry,
-    HartState, ILLEGAL_INSTRUCTION, INSTRUCTION_MISALIGNED, Level, Mode, Reg, Tag, Trap, Virtual,
-    Width,
+    Access, FirstBuffer, FirstEntry, HartState, INSTRUCTION_MISALIGNED, Level, Reg, Tag, Trap,
+    Virtual, Width,
 };
-use data_access::DataAccess;
 use int_ops::{alu, word_alu};
-use op_defs::{CsrOp, CsrSource, Effect, Op, Privileged};
-use op_effects::{address_at, effect_of, even, is_branch_taken, operand_of, writes};
+use op_defs::Op;
+use op_effects::{address_at, even, is_branch_taken};
 use phys_mem::PhysMem;
-use privileged_ops::{Performed, access_csr, perform, refusal_code, refusal_of};
-use rv64_decode::{decode, decode_common};
+use rv64_decode::decode_common;
 use translation_buffer::Buffer;
 use trap_delegation::{enter_vs, pending, target};
 
@@ -135,15 +129,6 @@ fn take_into_vs(state: &mut Virtual, trap: &Trap)
     ensures { state.new ≡ entered_at state.old trap.now Level.VS }
 {
     state.mode = enter_vs(&mut state.csrs, &mut state.regs, state.mode, trap);
-}
-
-// Has what is kept go on for the registers and the mode as they are.
-fn follow(state: &Virtual, buffer: &mut Buffer)
-    ensures { (first : List FirstEntry) (tag : Tag) (before : Csrs) (mode_before : Mode) (memory : List ℕ)
-        → Serves buffer.old first tag before mode_before memory
-        → Serves buffer.new first tag state.now.csrs state.now.mode memory }
-{
-    buffer.follow(&state.csrs, state.mode);
 }
 
 // The due interrupt, or one instruction.
@@ -361,14 +346,6 @@ fn counted_anew(
     }
 }
 
-// Whether a word is of opcode SYSTEM.
-#[tactic(auto, unfolding(op_defs::specs::Table::is_system))]
-fn is_system(word: u32) -> bool
-    ensures { result ≡ is_system word }
-{
-    word & 0x7F == 0b1110011
-}
-
 // The instruction of a word: the common ones here, and each other by `rare`.
 #[inline(always)]
 #[tactic(auto, using(crate::proofs::FirstFound::rare_word_ends), unfolding(arch_defs::specs::FirstEntries::all_filled))]
@@ -537,325 +514,4 @@ fn branch(state: &mut HartState, taken: bool, to: u64, trap: &mut Trap) -> Ended
     } else {
         raise(state.virt.mode, INSTRUCTION_MISALIGNED, to, trap)
     }
-}
-
-// The instruction of a word. Its own access at pc may have found a first-stage translation, which is cached
-// where it is made. A call asks for no look at the registers.
-#[inline(never)]
-fn rare(
-    state: &mut HartState,
-    memory: &mut PhysMem,
-    buffer: &mut Buffer,
-    word: u32,
-    found: Option<&FirstEntry>,
-    trap: &mut Trap,
-) -> Ended
-    requires serves { ServesHart buffer.old state.old memory.old }
-    requires fits { IfSome found (λ e. HasGuestFrame e.now) }
-    ensures ends { attempt_at
-        (entries_of (option_map (λ e. e.now) found.entry)) state.old memory.old word
-        ≡ attempt_by result trap.new (event_of state.old.virt.regs.pc word) state.new memory.new }
-    ensures stays { IfRaised result ((state.new ≡ state.old) × (memory.new ≡ memory.old)) }
-    ensures serves { ServesHart buffer.new state.new memory.new }
-    ensures plain { IfPlain result (KeepsContext state.old.virt state.new.virt) }
-{
-    if word == 0x0000_0073 {
-        call(state.virt.mode, trap)
-    } else {
-        asked(state, memory, buffer, word, found, trap)
-    }
-}
-
-// The same by what it asks for.
-#[inline(never)]
-fn asked(
-    state: &mut HartState,
-    memory: &mut PhysMem,
-    buffer: &mut Buffer,
-    word: u32,
-    found: Option<&FirstEntry>,
-    trap: &mut Trap,
-) -> Ended
-    requires serves { ServesHart buffer.old state.old memory.old }
-    requires fits { IfSome found (λ e. HasGuestFrame e.now) }
-    ensures ends { attempt_at
-        (entries_of (option_map (λ e. e.now) found.entry)) state.old memory.old word
-        ≡ attempt_by result trap.new (event_of state.old.virt.regs.pc word) state.new memory.new }
-    ensures stays { IfRaised result ((state.new ≡ state.old) × (memory.new ≡ memory.old)) }
-    ensures serves { ServesHart buffer.new state.new memory.new }
-    ensures plain { IfPlain result (KeepsContext state.old.virt state.new.virt) }
-{
-    match decode(word) {
-        Some(
-            Op::Csr {
-                op,
-                source,
-                rd,
-                number,
-            },
-        ) => register(
-            state, memory, buffer, word, op, source, rd, number, found, trap,
-        ),
-        Some(op) => decided(state, memory, buffer, word, &op, found, trap),
-        None => raise(state.virt.mode, ILLEGAL_INSTRUCTION, word as u64, trap),
-    }
-}
-
-// An instruction on a control and status register.
-#[inline(never)]
-fn register(
-    state: &mut HartState,
-    memory: &PhysMem,
-    buffer: &mut Buffer,
-    word: u32,
-    op: CsrOp,
-    source: CsrSource,
-    rd: Reg,
-    number: u16,
-    found: Option<&FirstEntry>,
-    trap: &mut Trap,
-) -> Ended
-    requires serves { ServesHart buffer.old state.old memory.now }
-    requires fits { IfSome found (λ e. HasGuestFrame e.now) }
-    ensures ends { (made : Event) → attempt_of
-        (with_first state.old (entries_of (option_map (λ e. e.now) found.entry))) memory.now
-        (csr_accessed state.old.virt word op number (operand_of source state.old.virt.regs)
-        (writes op source) rd) ≡ attempt_by result trap.new made state.new memory.now }
-    ensures stays { IfRaised result (state.new ≡ state.old) }
-    ensures serves { ServesHart buffer.new state.new memory.now }
-    ensures plain { IfPlain result (KeepsContext state.old.virt state.new.virt) }
-{
-    let operand = operand_of(&source, &state.virt.regs);
-    match access_csr(
-        &mut state.virt,
-        op,
-        number,
-        operand,
-        writes(op, &source),
-        rd,
-    ) {
-        Ok(()) => {
-            settle(state, buffer, found);
-            Ended::System
-        }
-        Err(end) => raise(state.virt.mode, refusal_code(end), word as u64, trap),
-    }
-}
-
-// Another instruction. What it asks for is read off the registers only where the mode allows it.
-#[tactic(auto, using(crate::proofs::Refusals::refused_ends))]
-fn decided(
-    state: &mut HartState,
-    memory: &mut PhysMem,
-    buffer: &mut Buffer,
-    word: u32,
-    op: &Op,
-    found: Option<&FirstEntry>,
-    trap: &mut Trap,
-) -> Ended
-    requires serves { ServesHart buffer.old state.old memory.old }
-    requires fits { IfSome found (λ e. HasGuestFrame e.now) }
-    ensures ends { attempt_with (entries_of (option_map (λ e. e.now) found.entry)) state.old memory.old word
-        (meaning op.now state.old.virt.regs)
-        ≡ attempt_by result trap.new (event_of state.old.virt.regs.pc word) state.new memory.new }
-    ensures stays { IfRaised result ((state.new ≡ state.old) × (memory.new ≡ memory.old)) }
-    ensures serves { ServesHart buffer.new state.new memory.new }
-    ensures plain { IfPlain result (KeepsContext state.old.virt state.new.virt) }
-{
-    match refusal_of(op, &state.virt.csrs.hstatus, state.virt.mode) {
-        Some(end) => raise(state.virt.mode, refusal_code(end), word as u64, trap),
-        None => allowed(state, memory, buffer, word, op, found, trap),
-    }
-}
-
-// One that the mode allows.
-#[inline(never)]
-fn allowed(
-    state: &mut HartState,
-    memory: &mut PhysMem,
-    buffer: &mut Buffer,
-    word: u32,
-    op: &Op,
-    found: Option<&FirstEntry>,
-    trap: &mut Trap,
-) -> Ended
-    requires serves { ServesHart buffer.old state.old memory.old }
-    requires fits { IfSome found (λ e. HasGuestFrame e.now) }
-    ensures ends { attempt_with (entries_of (option_map (λ e. e.now) found.entry)) state.old memory.old word
-        (meaning op.now state.old.virt.regs)
-        ≡ attempt_by result trap.new (event_of state.old.virt.regs.pc word) state.new memory.new }
-    ensures stays { IfRaised result ((state.new ≡ state.old) × (memory.new ≡ memory.old)) }
-    ensures serves { ServesHart buffer.new state.new memory.new }
-    ensures plain { IfPlain result (KeepsContext state.old.virt state.new.virt) }
-{
-    let effect = effect_of(op, &state.virt.regs);
-    apply(state, memory, buffer, word, effect, found, trap)
-}
-
-// Does what an instruction asks for.
-#[tactic(auto, unfolding(arch_defs::specs::FirstEntries::all_filled))]
-fn apply(
-    state: &mut HartState,
-    memory: &mut PhysMem,
-    buffer: &mut Buffer,
-    word: u32,
-    effect: Effect,
-    found: Option<&FirstEntry>,
-    trap: &mut Trap,
-) -> Ended
-    requires serves { ServesHart buffer.old state.old memory.old }
-    requires fits { IfSome found (λ e. HasGuestFrame e.now) }
-    ensures ends { attempt_with
-        (entries_of (option_map (λ e. e.now) found.entry)) state.old memory.old word effect
-        ≡ attempt_by result trap.new (event_of state.old.virt.regs.pc word) state.new memory.new }
-    ensures stays { IfRaised result ((state.new ≡ state.old) × (memory.new ≡ memory.old)) }
-    ensures serves { ServesHart buffer.new state.new memory.new }
-    ensures plain { IfPlain result (KeepsContext state.old.virt state.new.virt) }
-{
-    match effect {
-        Effect::Sets { rd, value, next } => {
-            cache(&mut state.first, buffer, found);
-            state.virt.regs.advance(rd, value, next);
-            Ended::Plain
-        }
-        Effect::Raises { cause, tval } => raise(state.virt.mode, cause, tval, trap),
-        Effect::Data(wanted) => data(state, memory, buffer, wanted, found, trap),
-        Effect::Calls => call(state.virt.mode, trap),
-        Effect::Privileged(effect) => {
-            privileged(state, memory, buffer, word, effect, found, trap)
-        }
-    }
-}
-
-// An access to data, by kept translations where nothing has been found before.
-#[tactic(auto, unfolding(arch_defs::specs::FirstEntries::all_filled))]
-fn data(
-    state: &mut HartState,
-    memory: &mut PhysMem,
-    buffer: &mut Buffer,
-    wanted: DataAccess,
-    found: Option<&FirstEntry>,
-    trap: &mut Trap,
-) -> Ended
-    requires serves { ServesHart buffer.old state.old memory.old }
-    requires fits { IfSome found (λ e. HasGuestFrame e.now) }
-    ensures ends { (event : Event) → attempt_of (with_first
-        (with_first state.old (entries_of (option_map (λ e. e.now) found.entry)))
-        (found_over memory.old state.old wanted.address wanted.width (kind_of wanted.purpose))) memory.old
-        (accessed_data (mmu_on state.old memory.old) state.old.virt event wanted)
-        ≡ attempt_by result trap.new event state.new memory.new }
-    ensures stays { IfRaised result ((state.new ≡ state.old) × (memory.new ≡ memory.old)) }
-    ensures serves { ServesHart buffer.new state.new memory.new }
-    ensures plain { IfPlain result (KeepsContext state.old.virt state.new.virt) }
-{
-    match found {
-        Some(_) => access_data_anew(state, memory, buffer, wanted, found, trap),
-        None => access_data(state, memory, buffer, wanted, trap),
-    }
-}
-
-// Raises an exception of an instruction.
-#[cold]
-#[inline(never)]
-fn raise(mode: Mode, cause: u64, tval: u64, trap: &mut Trap) -> Ended
-    ensures trap { trap.new ≡ exception mode cause tval }
-    ensures raised { result ≡ Ended.Raised }
-{
-    *trap = Trap::of_exception(mode, cause, tval);
-    Ended::Raised
-}
-
-// Raises an interrupt.
-#[cold]
-#[inline(never)]
-fn raise_interrupt(code: u64, trap: &mut Trap) -> Ended
-    ensures trap { trap.new ≡ interrupt_of code }
-    ensures raised { result ≡ Ended.Raised }
-{
-    *trap = Trap::of_interrupt(code);
-    Ended::Raised
-}
-
-// ECALL, by mode.
-fn call(mode: Mode, trap: &mut Trap) -> Ended
-    ensures trap { (s : HartState) (memory : List ℕ) → s.virt.mode ≡ mode
-        → attempt_of s memory (called_from mode) ≡ Raises trap.new }
-    ensures raised { result ≡ Ended.Raised }
-{
-    let cause = match mode {
-        Mode::HS => ECALL_FROM_HS,
-        Mode::VS => ECALL_FROM_VS,
-        Mode::U | Mode::VU => ECALL_FROM_USER,
-    };
-    raise(mode, cause, 0, trap)
-}
-
-// An instruction that the mode decides on. A fence drops what it names of all that is cached by then.
-#[inline(never)]
-#[tactic(auto, unfolding(arch_defs::specs::FirstEntries::all_filled))]
-fn privileged(
-    state: &mut HartState,
-    memory: &PhysMem,
-    buffer: &mut Buffer,
-    word: u32,
-    effect: Privileged,
-    found: Option<&FirstEntry>,
-    trap: &mut Trap,
-) -> Ended
-    requires serves { ServesHart buffer.old state.old memory.now }
-    requires fits { IfSome found (λ e. HasGuestFrame e.now) }
-    ensures ends { (made : Event) → attempt_of
-        (with_first state.old (entries_of (option_map (λ e. e.now) found.entry))) memory.now
-        (privileged state.old.virt word effect)
-        ≡ attempt_by result trap.new made state.new memory.now }
-    ensures stays { IfRaised result (state.new ≡ state.old) }
-    ensures serves { ServesHart buffer.new state.new memory.now }
-    ensures plain { IfPlain result (KeepsContext state.old.virt state.new.virt) }
-{
-    match perform(&mut state.virt, effect) {
-        Performed::Done => {
-            settle(state, buffer, found);
-            Ended::System
-        }
-        Performed::Waits => {
-            settle(state, buffer, found);
-            Ended::System
-        }
-        Performed::Fenced(_) => {
-            settle(state, buffer, found);
-            Ended::System
-        }
-        Performed::FirstFenced(named, fence) => {
-            settle(state, buffer, found);
-            fence_first(state, buffer, named, &fence);
-            Ended::System
-        }
-        Performed::Accesses(_) => raise(state.virt.mode, ILLEGAL_INSTRUCTION, 0, trap),
-        Performed::Refused(end) => raise(state.virt.mode, refusal_code(end), word as u64, trap),
-    }
-}
-
-// Caches what an instruction's own access at pc has found, and has what is kept go on for the registers and
-// the mode as they are.
-fn settle(state: &mut HartState, buffer: &mut Buffer, found: Option<&FirstEntry>)
-    requires fits { IfSome found (λ e. HasGuestFrame e.now) }
-    ensures state { state.new ≡ with_first state.old (entries_of (option_map (λ e. e.now) found.entry)) }
-    ensures serves { (before : Csrs) (mode_before : Mode) (memory : List ℕ)
-        → Serves buffer.old state.old.first state.old.tag before mode_before memory
-        → ServesHart buffer.new state.new memory }
-{
-    cache(&mut state.first, buffer, found);
-    follow(&state.virt, buffer);
-}
-
-// Drops the first-stage translations that a fence names, made for these accesses, or else for the hart's own,
-// and all that is kept.
-fn fence_first(state: &mut HartState, buffer: &mut Buffer, named: Option<Tag>, fence: &Fence)
-    ensures state { state.new ≡ record state.old {
-      first = unnamed_first (names_first (unwrap_or named state.old.tag) fence.now) state.old.first;
-    } }
-    ensures serves { (memory : List ℕ) → ServesHart buffer.new state.new memory }
-{
-    state.first.drop_named(named.unwrap_or(state.tag), fence);
-    buffer.restart(&state.virt.csrs, state.virt.mode);
 }

@@ -3,7 +3,7 @@ use Rattle.std.specs.Prelude.{option_map}
 use Rattle.machine_defs.specs.FirstLeaves.{entries_of}
 use Rattle.rv64_hart.specs.Steps.{with_first}
 use Rattle.rv64_hart.proofs.FirstFound.{call_ends}
-use Rattle.rv64_hart.proofs.steps.rare.Goals as goal
+use Rattle.rv64_hart.proofs.rare_instructions.rare.Goals as goal
 
 pub returns-then-word-eq115-clause-ends : goal.returns-then-word-eq115-clause-ends
 returns-then-word-eq115-clause-ends c =

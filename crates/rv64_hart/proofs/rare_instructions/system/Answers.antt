@@ -5,7 +5,7 @@ use Rattle.machine_defs.specs.Core.{event_of}
 use Rattle.machine_defs.specs.FirstLeaves.{entries_of}
 use Rattle.rv64_hart.proofs.FirstFound.{op_ends}
 use Rattle.rv64_hart.proofs.Refusals.{register_ends}
-use Rattle.rv64_hart.proofs.steps.asked.Goals as goal
+use Rattle.rv64_hart.proofs.rare_instructions.system.Goals as goal
 
 pub returns-in-Some-clause-ends : goal.returns-in-Some-clause-ends
 returns-in-Some-clause-ends c =

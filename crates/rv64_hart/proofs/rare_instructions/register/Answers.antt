@@ -1,5 +1,5 @@
 use Rattle.std.proofs.Common.{refl, sym}
-use Rattle.rv64_hart.proofs.steps.register.Goals as goal
+use Rattle.rv64_hart.proofs.rare_instructions.register.Goals as goal
 
 pub returns-in-Ok-clause-ends : goal.returns-in-Ok-clause-ends
 returns-in-Ok-clause-ends c made =

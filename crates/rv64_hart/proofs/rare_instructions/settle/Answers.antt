@@ -1,4 +1,4 @@
-use Rattle.rv64_hart.proofs.steps.settle.Goals as goal
+use Rattle.rv64_hart.proofs.rare_instructions.settle.Goals as goal
 
 pub returns-clause-serves : goal.returns-clause-serves
 returns-clause-serves c = λ before mode_before memory serves.

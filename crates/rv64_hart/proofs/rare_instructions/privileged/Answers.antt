@@ -1,4 +1,4 @@
-use Rattle.rv64_hart.proofs.steps.privileged.Goals as goal
+use Rattle.rv64_hart.proofs.rare_instructions.privileged.Goals as goal
 
 pub returns-in-Done-clause-serves : goal.returns-in-Done-clause-serves
 returns-in-Done-clause-serves c = c.settle.ensures.serves c.args.state.now.virt.csrs c.args.state.now.virt.mode c.args.memory.now c.requires.serves

@@ -1,0 +1,380 @@
+// Instructions that are not common ones: those of opcode SYSTEM and on memory in other ways, and all of which
+// the access at pc has found a first-stage translation.
+
+ghost use Rattle.std.specs.Prelude.{◌≡◌, ◌<◌, ℕ, List, Some, IfSome, option_map, true, unwrap_or};
+ghost use Rattle.arch_defs.specs.declared.first.FirstEntry.{FirstEntry};
+ghost use Rattle.arch_defs.specs.declared.first.Tag.{Tag};
+ghost use Rattle.arch_defs.specs.declared.hart_states.HartState.{HartState};
+ghost use Rattle.arch_defs.specs.declared.modes.Mode.{Mode};
+ghost use Rattle.arch_defs.specs.declared.registers.Csrs.{Csrs};
+ghost use Rattle.arch_defs.specs.FirstEntries.{HasGuestFrame, all_filled, names_first, unnamed_first};
+ghost use Rattle.op_defs.specs.Meaning.{meaning, operand_of, writes};
+ghost use Rattle.op_defs.specs.Table.{is_system};
+ghost use Rattle.machine_defs.specs.declared.events.Event.{Event};
+ghost use Rattle.machine_defs.specs.Core.{accessed_data, called_from, event_of, kind_of};
+ghost use Rattle.machine_defs.specs.FirstLeaves.{entries_of};
+ghost use Rattle.arch_defs.specs.Registers.{next};
+ghost use Rattle.machine_defs.specs.Privileges.{csr_accessed, privileged};
+ghost use Rattle.translation_buffer.specs.Serving.{Serves};
+ghost use Rattle.rv64_hart.specs.Endings.{IfPlain, IfRaised, KeepsContext, ServesHart, attempt_at, attempt_by, attempt_with};
+ghost use Rattle.rv64_hart.specs.MachineMemory.{found_over, mmu_on};
+ghost use Rattle.rv64_hart.specs.Steps.{Raises, attempt_of, with_first};
+
+use crate::accesses::{access_data, access_data_anew};
+use crate::endings::{Ended, raise};
+use crate::leaves::cache;
+use arch_defs::{
+    ECALL_FROM_HS, ECALL_FROM_USER, ECALL_FROM_VS, Fence, FirstEntry, HartState,
+    ILLEGAL_INSTRUCTION, Mode, Reg, Tag, Trap, Virtual,
+};
+use data_access::DataAccess;
+use op_defs::{CsrOp, CsrSource, Effect, Op, Privileged};
+use op_effects::{effect_of, operand_of, writes};
+use phys_mem::PhysMem;
+use privileged_ops::{Performed, access_csr, perform, refusal_code, refusal_of};
+use rv64_decode::{decode, decode_system};
+use translation_buffer::Buffer;
+
+/// The instruction of a word. Its own access at pc may have found a first-stage translation, which is cached
+/// where it is made. A call asks for no look at the registers.
+#[inline(never)]
+pub(crate) fn rare(
+    state: &mut HartState,
+    memory: &mut PhysMem,
+    buffer: &mut Buffer,
+    word: u32,
+    found: Option<&FirstEntry>,
+    trap: &mut Trap,
+) -> Ended
+    requires serves { ServesHart buffer.old state.old memory.old }
+    requires fits { IfSome found (λ e. HasGuestFrame e.now) }
+    ensures ends { attempt_at
+        (entries_of (option_map (λ e. e.now) found.entry)) state.old memory.old word
+        ≡ attempt_by result trap.new (event_of state.old.virt.regs.pc word) state.new memory.new }
+    ensures stays { IfRaised result ((state.new ≡ state.old) × (memory.new ≡ memory.old)) }
+    ensures serves { ServesHart buffer.new state.new memory.new }
+    ensures plain { IfPlain result (KeepsContext state.old.virt state.new.virt) }
+{
+    if word == 0x0000_0073 {
+        call(state.virt.mode, trap)
+    } else if is_system(word) {
+        system(state, memory, buffer, word, found, trap)
+    } else {
+        other(state, memory, buffer, word, found, trap)
+    }
+}
+
+// An instruction of opcode SYSTEM.
+#[inline(never)]
+fn system(
+    state: &mut HartState,
+    memory: &mut PhysMem,
+    buffer: &mut Buffer,
+    word: u32,
+    found: Option<&FirstEntry>,
+    trap: &mut Trap,
+) -> Ended
+    requires system { is_system word ≡ true }
+    requires serves { ServesHart buffer.old state.old memory.old }
+    requires fits { IfSome found (λ e. HasGuestFrame e.now) }
+    ensures ends { attempt_at
+        (entries_of (option_map (λ e. e.now) found.entry)) state.old memory.old word
+        ≡ attempt_by result trap.new (event_of state.old.virt.regs.pc word) state.new memory.new }
+    ensures stays { IfRaised result ((state.new ≡ state.old) × (memory.new ≡ memory.old)) }
+    ensures serves { ServesHart buffer.new state.new memory.new }
+    ensures plain { IfPlain result (KeepsContext state.old.virt state.new.virt) }
+{
+    match decode_system(word) {
+        Some(
+            Op::Csr {
+                op,
+                source,
+                rd,
+                number,
+            },
+        ) => register(
+            state, memory, buffer, word, op, source, rd, number, found, trap,
+        ),
+        Some(op) => decided(state, memory, buffer, word, &op, found, trap),
+        None => raise(state.virt.mode, ILLEGAL_INSTRUCTION, word as u64, trap),
+    }
+}
+
+// An instruction of another opcode.
+#[inline(never)]
+fn other(
+    state: &mut HartState,
+    memory: &mut PhysMem,
+    buffer: &mut Buffer,
+    word: u32,
+    found: Option<&FirstEntry>,
+    trap: &mut Trap,
+) -> Ended
+    requires serves { ServesHart buffer.old state.old memory.old }
+    requires fits { IfSome found (λ e. HasGuestFrame e.now) }
+    ensures ends { attempt_at
+        (entries_of (option_map (λ e. e.now) found.entry)) state.old memory.old word
+        ≡ attempt_by result trap.new (event_of state.old.virt.regs.pc word) state.new memory.new }
+    ensures stays { IfRaised result ((state.new ≡ state.old) × (memory.new ≡ memory.old)) }
+    ensures serves { ServesHart buffer.new state.new memory.new }
+    ensures plain { IfPlain result (KeepsContext state.old.virt state.new.virt) }
+{
+    match decode(word) {
+        Some(op) => asked(state, memory, buffer, word, &op, found, trap),
+        None => raise(state.virt.mode, ILLEGAL_INSTRUCTION, word as u64, trap),
+    }
+}
+
+// An instruction on a control and status register.
+#[inline(never)]
+fn register(
+    state: &mut HartState,
+    memory: &PhysMem,
+    buffer: &mut Buffer,
+    word: u32,
+    op: CsrOp,
+    source: CsrSource,
+    rd: Reg,
+    number: u16,
+    found: Option<&FirstEntry>,
+    trap: &mut Trap,
+) -> Ended
+    requires serves { ServesHart buffer.old state.old memory.now }
+    requires fits { IfSome found (λ e. HasGuestFrame e.now) }
+    ensures ends { (made : Event) → attempt_of
+        (with_first state.old (entries_of (option_map (λ e. e.now) found.entry))) memory.now
+        (csr_accessed state.old.virt word op number (operand_of source state.old.virt.regs)
+        (writes op source) rd) ≡ attempt_by result trap.new made state.new memory.now }
+    ensures stays { IfRaised result (state.new ≡ state.old) }
+    ensures serves { ServesHart buffer.new state.new memory.now }
+    ensures plain { IfPlain result (KeepsContext state.old.virt state.new.virt) }
+{
+    let operand = operand_of(&source, &state.virt.regs);
+    match access_csr(
+        &mut state.virt,
+        op,
+        number,
+        operand,
+        writes(op, &source),
+        rd,
+    ) {
+        Ok(()) => {
+            settle(state, buffer, found);
+            Ended::System
+        }
+        Err(end) => raise(state.virt.mode, refusal_code(end), word as u64, trap),
+    }
+}
+
+// Another one of opcode SYSTEM. What it asks for is read off the registers only where the mode allows it.
+#[tactic(auto, using(crate::proofs::Refusals::refused_ends))]
+fn decided(
+    state: &mut HartState,
+    memory: &mut PhysMem,
+    buffer: &mut Buffer,
+    word: u32,
+    op: &Op,
+    found: Option<&FirstEntry>,
+    trap: &mut Trap,
+) -> Ended
+    requires serves { ServesHart buffer.old state.old memory.old }
+    requires fits { IfSome found (λ e. HasGuestFrame e.now) }
+    ensures ends { attempt_with (entries_of (option_map (λ e. e.now) found.entry)) state.old memory.old word
+        (meaning op.now state.old.virt.regs)
+        ≡ attempt_by result trap.new (event_of state.old.virt.regs.pc word) state.new memory.new }
+    ensures stays { IfRaised result ((state.new ≡ state.old) × (memory.new ≡ memory.old)) }
+    ensures serves { ServesHart buffer.new state.new memory.new }
+    ensures plain { IfPlain result (KeepsContext state.old.virt state.new.virt) }
+{
+    match refusal_of(op, &state.virt.csrs.hstatus, state.virt.mode) {
+        Some(end) => raise(state.virt.mode, refusal_code(end), word as u64, trap),
+        None => asked(state, memory, buffer, word, op, found, trap),
+    }
+}
+
+// An instruction by what it asks for.
+#[inline(never)]
+fn asked(
+    state: &mut HartState,
+    memory: &mut PhysMem,
+    buffer: &mut Buffer,
+    word: u32,
+    op: &Op,
+    found: Option<&FirstEntry>,
+    trap: &mut Trap,
+) -> Ended
+    requires serves { ServesHart buffer.old state.old memory.old }
+    requires fits { IfSome found (λ e. HasGuestFrame e.now) }
+    ensures ends { attempt_with (entries_of (option_map (λ e. e.now) found.entry)) state.old memory.old word
+        (meaning op.now state.old.virt.regs)
+        ≡ attempt_by result trap.new (event_of state.old.virt.regs.pc word) state.new memory.new }
+    ensures stays { IfRaised result ((state.new ≡ state.old) × (memory.new ≡ memory.old)) }
+    ensures serves { ServesHart buffer.new state.new memory.new }
+    ensures plain { IfPlain result (KeepsContext state.old.virt state.new.virt) }
+{
+    let effect = effect_of(op, &state.virt.regs);
+    apply(state, memory, buffer, word, effect, found, trap)
+}
+
+// Does what an instruction asks for.
+#[tactic(auto, unfolding(arch_defs::specs::FirstEntries::all_filled))]
+fn apply(
+    state: &mut HartState,
+    memory: &mut PhysMem,
+    buffer: &mut Buffer,
+    word: u32,
+    effect: Effect,
+    found: Option<&FirstEntry>,
+    trap: &mut Trap,
+) -> Ended
+    requires serves { ServesHart buffer.old state.old memory.old }
+    requires fits { IfSome found (λ e. HasGuestFrame e.now) }
+    ensures ends { attempt_with
+        (entries_of (option_map (λ e. e.now) found.entry)) state.old memory.old word effect
+        ≡ attempt_by result trap.new (event_of state.old.virt.regs.pc word) state.new memory.new }
+    ensures stays { IfRaised result ((state.new ≡ state.old) × (memory.new ≡ memory.old)) }
+    ensures serves { ServesHart buffer.new state.new memory.new }
+    ensures plain { IfPlain result (KeepsContext state.old.virt state.new.virt) }
+{
+    match effect {
+        Effect::Sets { rd, value, next } => {
+            cache(&mut state.first, buffer, found);
+            state.virt.regs.advance(rd, value, next);
+            Ended::Plain
+        }
+        Effect::Raises { cause, tval } => raise(state.virt.mode, cause, tval, trap),
+        Effect::Data(wanted) => data(state, memory, buffer, wanted, found, trap),
+        Effect::Calls => call(state.virt.mode, trap),
+        Effect::Privileged(effect) => {
+            privileged(state, memory, buffer, word, effect, found, trap)
+        }
+    }
+}
+
+// An access to data, by kept translations where nothing has been found before.
+#[tactic(auto, unfolding(arch_defs::specs::FirstEntries::all_filled))]
+fn data(
+    state: &mut HartState,
+    memory: &mut PhysMem,
+    buffer: &mut Buffer,
+    wanted: DataAccess,
+    found: Option<&FirstEntry>,
+    trap: &mut Trap,
+) -> Ended
+    requires serves { ServesHart buffer.old state.old memory.old }
+    requires fits { IfSome found (λ e. HasGuestFrame e.now) }
+    ensures ends { (event : Event) → attempt_of (with_first
+        (with_first state.old (entries_of (option_map (λ e. e.now) found.entry)))
+        (found_over memory.old state.old wanted.address wanted.width (kind_of wanted.purpose))) memory.old
+        (accessed_data (mmu_on state.old memory.old) state.old.virt event wanted)
+        ≡ attempt_by result trap.new event state.new memory.new }
+    ensures stays { IfRaised result ((state.new ≡ state.old) × (memory.new ≡ memory.old)) }
+    ensures serves { ServesHart buffer.new state.new memory.new }
+    ensures plain { IfPlain result (KeepsContext state.old.virt state.new.virt) }
+{
+    match found {
+        Some(_) => access_data_anew(state, memory, buffer, wanted, found, trap),
+        None => access_data(state, memory, buffer, wanted, trap),
+    }
+}
+
+// ECALL, by mode.
+fn call(mode: Mode, trap: &mut Trap) -> Ended
+    ensures trap { (s : HartState) (memory : List ℕ) → s.virt.mode ≡ mode
+        → attempt_of s memory (called_from mode) ≡ Raises trap.new }
+    ensures raised { result ≡ Ended.Raised }
+{
+    let cause = match mode {
+        Mode::HS => ECALL_FROM_HS,
+        Mode::VS => ECALL_FROM_VS,
+        Mode::U | Mode::VU => ECALL_FROM_USER,
+    };
+    raise(mode, cause, 0, trap)
+}
+
+// An instruction that the mode decides on. A fence drops what it names of all that is cached by then.
+#[inline(never)]
+#[tactic(auto, unfolding(arch_defs::specs::FirstEntries::all_filled))]
+fn privileged(
+    state: &mut HartState,
+    memory: &PhysMem,
+    buffer: &mut Buffer,
+    word: u32,
+    effect: Privileged,
+    found: Option<&FirstEntry>,
+    trap: &mut Trap,
+) -> Ended
+    requires serves { ServesHart buffer.old state.old memory.now }
+    requires fits { IfSome found (λ e. HasGuestFrame e.now) }
+    ensures ends { (made : Event) → attempt_of
+        (with_first state.old (entries_of (option_map (λ e. e.now) found.entry))) memory.now
+        (privileged state.old.virt word effect)
+        ≡ attempt_by result trap.new made state.new memory.now }
+    ensures stays { IfRaised result (state.new ≡ state.old) }
+    ensures serves { ServesHart buffer.new state.new memory.now }
+    ensures plain { IfPlain result (KeepsContext state.old.virt state.new.virt) }
+{
+    match perform(&mut state.virt, effect) {
+        Performed::Done => {
+            settle(state, buffer, found);
+            Ended::System
+        }
+        Performed::Waits => {
+            settle(state, buffer, found);
+            Ended::System
+        }
+        Performed::Fenced(_) => {
+            settle(state, buffer, found);
+            Ended::System
+        }
+        Performed::FirstFenced(named, fence) => {
+            settle(state, buffer, found);
+            fence_first(state, buffer, named, &fence);
+            Ended::System
+        }
+        Performed::Accesses(_) => raise(state.virt.mode, ILLEGAL_INSTRUCTION, 0, trap),
+        Performed::Refused(end) => raise(state.virt.mode, refusal_code(end), word as u64, trap),
+    }
+}
+
+// Caches what an instruction's own access at pc has found, and has what is kept go on for the registers and
+// the mode as they are.
+fn settle(state: &mut HartState, buffer: &mut Buffer, found: Option<&FirstEntry>)
+    requires fits { IfSome found (λ e. HasGuestFrame e.now) }
+    ensures state { state.new ≡ with_first state.old (entries_of (option_map (λ e. e.now) found.entry)) }
+    ensures serves { (before : Csrs) (mode_before : Mode) (memory : List ℕ)
+        → Serves buffer.old state.old.first state.old.tag before mode_before memory
+        → ServesHart buffer.new state.new memory }
+{
+    cache(&mut state.first, buffer, found);
+    follow(&state.virt, buffer);
+}
+
+// Drops the first-stage translations that a fence names, made for these accesses, or else for the hart's own,
+// and all that is kept.
+fn fence_first(state: &mut HartState, buffer: &mut Buffer, named: Option<Tag>, fence: &Fence)
+    ensures state { state.new ≡ record state.old {
+      first = unnamed_first (names_first (unwrap_or named state.old.tag) fence.now) state.old.first;
+    } }
+    ensures serves { (memory : List ℕ) → ServesHart buffer.new state.new memory }
+{
+    state.first.drop_named(named.unwrap_or(state.tag), fence);
+    buffer.restart(&state.virt.csrs, state.virt.mode);
+}
+
+/// Has what is kept go on for the registers and the mode as they are.
+pub(crate) fn follow(state: &Virtual, buffer: &mut Buffer)
+    ensures { (first : List FirstEntry) (tag : Tag) (before : Csrs) (mode_before : Mode) (memory : List ℕ)
+        → Serves buffer.old first tag before mode_before memory
+        → Serves buffer.new first tag state.now.csrs state.now.mode memory }
+{
+    buffer.follow(&state.csrs, state.mode);
+}
+
+/// Whether a word is of opcode SYSTEM.
+#[tactic(auto, unfolding(op_defs::specs::Table::is_system))]
+pub(crate) fn is_system(word: u32) -> bool
+    ensures { result ≡ is_system word }
+{
+    word & 0x7F == 0b1110011
+}
