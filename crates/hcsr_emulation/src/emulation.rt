@@ -2,16 +2,18 @@
 
 ghost use Rattle.std.specs.Prelude.{◌≡◌, true};
 ghost use Rattle.arch_defs.specs.Traps.{exception};
+ghost use Rattle.op_defs.specs.declared.ops.Op.TheVariants.{HfenceGvma};
 ghost use Rattle.machine_defs.specs.Privileges.{refusal_code};
 ghost use Rattle.privileged_ops.specs.PrivilegedEnds.{IfNotMade, outcome_of};
 ghost use Rattle.rv64_asm.specs.Fitting.{fits};
 ghost use Rattle.rv64_asm.specs.Words.{encoded};
 ghost use Rattle.hcsr_emulation.specs.Ends.{EndsSo, IfNotEmulated, is_decided, emulated_outcome};
 
-use arch_defs::{CsrEnd, Fence, Tag, Trap, Virtual};
+use arch_defs::{CsrEnd, Fence, Reg, Tag, Trap, Virtual};
+use fence_handler::request;
 use op_defs::{DataAccess, Effect, Op};
 use op_effects::effect_of;
-use privileged_ops::{Performed, perform, refusal_code};
+use privileged_ops::{Performed, perform, refusal_code, refusal_of};
 use rv64_asm::encode;
 
 /// How an instruction ended.
@@ -52,6 +54,35 @@ pub fn emulate(state: &mut Virtual, op: Op) -> Emulated
 
 // Makes what the instruction asks for.
 fn perform_op(state: &mut Virtual, op: &Op) -> Performed
+    requires { is_decided op.now ≡ true }
+    ensures ends { EndsSo op.now state.old (outcome_of (encoded op.now) result state.new) }
+    ensures stays { IfNotMade result (state.new ≡ state.old) }
+{
+    match *op {
+        Op::HfenceGvma { rs1, rs2 } => fence_guest(state, rs1, rs2),
+        _ => perform_effect(state, op),
+    }
+}
+
+// An HFENCE.GVMA, which hypervisors make at each change of their tables.
+fn fence_guest(state: &mut Virtual, rs1: Reg, rs2: Reg) -> Performed
+    ensures ends { EndsSo (HfenceGvma rs1 rs2) state.old
+        (outcome_of (encoded (HfenceGvma rs1 rs2)) result state.new) }
+    ensures stays { IfNotMade result (state.new ≡ state.old) }
+{
+    let op = Op::HfenceGvma { rs1, rs2 };
+    match refusal_of(&op, &state.csrs.hstatus, state.mode) {
+        Some(end) => Performed::Refused(end),
+        None => {
+            let named = request(op, &state.regs);
+            state.pass();
+            Performed::Fenced(named)
+        }
+    }
+}
+
+// The same for any instruction, by what it asks for.
+fn perform_effect(state: &mut Virtual, op: &Op) -> Performed
     requires { is_decided op.now ≡ true }
     ensures ends { EndsSo op.now state.old (outcome_of (encoded op.now) result state.new) }
     ensures stays { IfNotMade result (state.new ≡ state.old) }

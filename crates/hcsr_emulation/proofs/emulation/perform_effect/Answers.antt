@@ -1,5 +1,5 @@
 use Rattle.hcsr_emulation.proofs.Decided.{asks_it}
-use Rattle.hcsr_emulation.proofs.emulation.perform_op.Goals as goal
+use Rattle.hcsr_emulation.proofs.emulation.perform_effect.Goals as goal
 
 pub unreachable-requires : goal.unreachable-requires
 unreachable-requires c =
