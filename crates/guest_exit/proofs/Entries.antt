@@ -46,9 +46,10 @@ use Rattle.rv64_hart.specs.Counts.{IsRaisedBy}
 use Rattle.rv64_hart.specs.Steps.{HartEnd, Goes, Exits, Progress, progress, progressed, enters_vs, hart_step, hart_steps, one_more_step, is_vs_trap, IsWhy}
 use Rattle.host_tables.proofs.Held.{held_by_blocks}
 use Rattle.shadow_pool.specs.Slots.{Pooled}
-use Rattle.world_switch.specs.Hosting.{after_hs_trap, guest_state_after, guest_state_of, hart_state_in, hart_state_of, hosted_csrs, loaded_in, saved_csrs, root_at, saved_mode}
+use Rattle.world_switch.specs.Hosting.{HasState, after_hs_trap, guest_state_after, guest_state_of, hart_state_in, hart_state_of, hosted_csrs, loaded_in, saved_csrs, root_at, saved_mode}
 use Rattle.world_switch.specs.Laws.{KeepsHidden}
 use Rattle.world_switch.proofs.Registers.{none_waits}
+use Rattle.world_switch.proofs.Rerooted.{has_state}
 use Rattle.world_switch.proofs.Undone.{load_after_save, save_after_load, saved_v, virtual_mode}
 use Rattle.guest_exit.specs.ExitCases.{IsLeft, exit_of, found_next}
 use Rattle.guest_exit.specs.HartEntry.{EndsInTrap, Hands, IsStopped, Lasts, is_watched, moved}
@@ -490,19 +491,22 @@ ran part pool m memory limit t running lasts at (suc n) h q e =
 pub stopped : (part : Layout) (pool : Pooled) (m : Machine) (memory : List ℕ) (limit t : ℕ) (state : HartState) (changed : List ℕ) (t' taken : ℕ) (why : Why) → m.platform.status ≡ Running
     → Lasts m.platform limit → IsAt part pool m memory → taken ≤ limit
     → hart_steps (is_watched m.platform.virt) taken (progress (loaded_in part (root_for part pool m.platform.virt) m.platform.virt m.first) memory t false) ≡ Some (progress state changed t' (is_vs_trap why))
-    → IsWhy limit taken state changed why → IsStopped part pool m (run m taken) changed limit taken why
+    → IsWhy limit taken state changed why → IsStopped part pool m (run m taken) changed state.virt limit taken why
 stopped part pool m memory limit t state changed t' taken Limit running lasts at within e why = why
 stopped part pool m memory limit t state changed t' taken VsTrap running lasts at within e why =
     (ran part pool m memory limit t running lasts at taken within (progress state changed t' true) e).ends refl
 stopped part pool m memory limit t state changed t' taken (Exit trap) running lasts at within e (fewer, exits) =
+    let root = root_for part pool m.platform.virt in
     let is = ran part pool m memory limit t running lasts at taken within (progress state changed t' false) e in
-    let r = ready part (root_for part pool m.platform.virt) m limit taken is.own state (ram_of part.blocks changed) lasts fewer is.keeps is.stands is.machine in (
+    let r = ready part root m limit taken is.own state (ram_of part.blocks changed) lasts fewer is.keeps is.stands is.machine in (
       fewer,
       subst (λ m. Hands part pool m changed trap) (sym is.machine) (record {
         own = r.own;
         exits = subst (λ root. hart_step (loaded_in part root (moved m.platform (guest_state_of is.own m.platform.virt) taken).virt state.first) changed ≡ Exits trap) (sym (same_root part pool m.platform is.own taken))
             (subst (λ hart. hart_step hart changed ≡ Exits trap) (sym r.stands) exits);
       }),
+      subst (λ (m : Machine). HasState part state.virt m.platform.virt) (sym is.machine)
+          (has_state part root state.virt (moved m.platform (guest_state_of is.own m.platform.virt) taken).virt (ap (λ (hart : HartState). hart.virt) (sym r.stands))),
     )
 
 -- a step that the hart has left to the host

@@ -1,5 +1,5 @@
 -- One entry of the hart: for how many steps, what it makes of the guest, and why it ends.
-use Rattle.std.specs.Prelude.{ℕ, ◌≡◌, ◌+◌, ◌-◌, ◌^◌, ◌<◌, ◌≤◌, nat_le, Bool, false, not, List, [], ◌∷◌, Some}
+use Rattle.std.specs.Prelude.{ℕ, ◌≡◌, ◌+◌, ◌-◌, ◌^◌, ◌<◌, ◌≤◌, nat_le, Bool, false, true, not, List, [], ◌∷◌, Some}
 use Rattle.arch_defs.specs.declared.levels.Level.TheVariants.{HS}
 use Rattle.arch_defs.specs.declared.modes.Trap.{Trap}
 use Rattle.arch_defs.specs.declared.registers.Virtual.{Virtual}
@@ -20,7 +20,7 @@ use Rattle.rv64_hart.specs.declared.harts.Why.TheVariants.{Limit, Exit, VsTrap}
 use Rattle.rv64_hart.specs.Counts.{Counts, IsRaisedBy}
 use Rattle.rv64_hart.specs.Steps.{Exits, Progress, hart_step, hart_steps, progress}
 use Rattle.shadow_pool.specs.Slots.{Pooled}
-use Rattle.world_switch.specs.Hosting.{guest_state_after, loaded_in}
+use Rattle.world_switch.specs.Hosting.{HasState, guest_state_after, loaded_in}
 use Rattle.world_switch.specs.Laws.{waits_for_hs}
 use Rattle.guest_exit.specs.declared.guests.Guest.{Guest}
 use Rattle.guest_exit.specs.HartSteps.{host_takes, root_for}
@@ -52,6 +52,17 @@ pub record CanEnter (guest : Guest) (memory : List ℕ) (limit : ℕ) : Type 0 w
 pub record HasRoomForEntry (limit : ℕ) (account : Counts) : Type 0 where
   pub entries : account.entries < 2 ^ 62
   pub taken : account.taken + limit ≤ 2 ^ 62
+
+-- where a guest is loaded, the hart has its state
+abbrev pub IsLoaded : Bool → Guest → Virtual → Type 0
+IsLoaded loaded guest hart = loaded ≡ true → HasState guest.part hart guest.virt
+
+-- the hart is ready for an entry of so many steps of a guest: its account has room for it, and it has the
+-- guest's state where that is loaded
+pub record IsReady (guest : Guest) (limit : ℕ) (loaded : Bool) (hart : Virtual) (account : Counts)
+    : Type 0 where
+  pub room : HasRoomForEntry limit account
+  pub state : IsLoaded loaded guest hart
 
 -- a platform after so many steps of the hart, which leave it this state
 abbrev pub moved : Platform → Virtual → ℕ → Platform
@@ -92,19 +103,20 @@ pub record EndsInTrap (m : Machine) (n : ℕ) : Type 0 where
   pub some : 0 < n
   pub trap : (interrupt : Bool) × (event_in (try (run m (n - 1))) ≡ event.Trap HS interrupt ∷ [])
 
--- why an entry ended, by the machine before it, and the machine and the memory after it
-abbrev pub IsStopped : Layout → Pooled → Machine → Machine → List ℕ → ℕ → ℕ → Why → Type 0
-IsStopped part pool before after memory limit taken Limit = taken ≡ limit
-IsStopped part pool before after memory limit taken VsTrap = EndsInTrap before taken
-IsStopped part pool before after memory limit taken (Exit trap) =
-    (taken < limit) × Hands part pool after memory trap
+-- why an entry ended, by the machine before it, and the machine, the memory and the hart after it: before a
+-- step that is left to the host the hart has the machine's state
+abbrev pub IsStopped : Layout → Pooled → Machine → Machine → List ℕ → Virtual → ℕ → ℕ → Why → Type 0
+IsStopped part pool before after memory hart limit taken Limit = taken ≡ limit
+IsStopped part pool before after memory hart limit taken VsTrap = EndsInTrap before taken
+IsStopped part pool before after memory hart limit taken (Exit trap) =
+    (taken < limit) × Hands part pool after memory trap × HasState part hart after.platform.virt
 
--- an entry in a part of machine memory ends within its limit, by the machine before it, and the machine and
--- the memory after it
-pub record Stops (part : Layout) (pool : Pooled) (before after : Machine) (memory : List ℕ) (limit : ℕ)
-    (stop : Stop) : Type 0 where
+-- an entry in a part of machine memory ends within its limit, by the machine before it, and the machine, the
+-- memory and the hart after it
+pub record Stops (part : Layout) (pool : Pooled) (before after : Machine) (memory : List ℕ) (hart : Virtual)
+    (limit : ℕ) (stop : Stop) : Type 0 where
   pub within : stop.taken ≤ limit
-  pub why : IsStopped part pool before after memory limit stop.taken stop.why
+  pub why : IsStopped part pool before after memory hart limit stop.taken stop.why
 
 -- the hart has made so many steps for a guest, from what it has for it, with V = 0 none but the last a trap
 -- into VS. What it has then is the guest's: what is saved of it and, after such a trap, what that leaves to

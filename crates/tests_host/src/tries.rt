@@ -74,7 +74,7 @@ fn one(guest: &mut Guest, hart: &mut Hart, memory: &mut PhysMem, most: u64, tall
         return By::HostByInterrupt;
     }
     let limit = limit(guest, most);
-    let stop = enter(guest, hart, memory, limit, tally);
+    let stop = enter(guest, hart, memory, limit, false, tally);
     match stop.why {
         Why::Limit => By::Hart(stop.taken),
         Why::VsTrap => By::HartByTrap(stop.taken),

@@ -1,4 +1,5 @@
 pub mod FirstStage
 pub mod Instructions
 pub mod Registers
+pub mod Rerooted
 pub mod Undone

@@ -1,6 +1,6 @@
 -- How the hart stands for a guest: with V = 0 its VS and VU for the guest's HS and U, with V = 1 for the
 -- guest's VS and VU.
-use Rattle.std.specs.Prelude.{ℕ, ◌+◌, ◌*◌, ◌%◌, Bool, true, false, not, ◌&&◌, ◌==◌, nat_lt, if◌then◌else◌, List}
+use Rattle.std.specs.Prelude.{ℕ, ◌≡◌, ◌+◌, ◌*◌, ◌%◌, Bool, true, false, not, ◌&&◌, ◌==◌, nat_lt, if◌then◌else◌, List}
 use Rattle.arch_defs.specs.declared.first.FirstEntry.{FirstEntry}
 use Rattle.arch_defs.specs.declared.hart_states.HartState.{HartState}
 use Rattle.arch_defs.specs.declared.levels.Level.{Level}
@@ -121,6 +121,10 @@ space_root frame = Table folded_mode 0 frame
 -- its state for that guest under a root: the reservation is at the place in machine memory
 abbrev pub hart_state_in : Layout → GuestRoot → Virtual → Virtual
 hart_state_in part root virt = renamed (memory_place part.blocks) (hart_state_of root virt)
+
+-- it has a guest's state, under whatever root its second stage is
+abbrev pub HasState : Layout → Virtual → Virtual → Type 0
+HasState part hart virt = hart ≡ hart_state_in part hart.csrs.hgatp virt
 
 -- all that it has for that guest: beside its state the guest's first-stage translations, and for whom the
 -- guest's accesses are

@@ -6,7 +6,7 @@ ghost use Rattle.arch_defs.specs.Traps.{is_virtual};
 ghost use Rattle.machine_defs.specs.FirstLeaves.{tag_of};
 ghost use Rattle.machine_laws.specs.HostPlaces.{in_ram, memory_place};
 ghost use Rattle.machine_laws.specs.Renaming.{ReservesWithin, renamed, reservation_renamed};
-ghost use Rattle.world_switch.specs.Hosting.{after_hs_trap, all_interrupts, guest_state_of, hart_state_in, hosted_csrs, hosted_mode, is_space_root, loaded_in, root_at, saved_csrs, saved_mode, supervisor_with, with_buffer};
+ghost use Rattle.world_switch.specs.Hosting.{HasState, after_hs_trap, all_interrupts, guest_state_of, hart_state_in, hosted_csrs, hosted_mode, is_space_root, loaded_in, root_at, saved_csrs, saved_mode, supervisor_with, with_buffer};
 ghost use Rattle.world_switch.specs.Laws.{Saves, SavesBack};
 
 use arch_defs::{
@@ -30,6 +30,27 @@ pub fn load(virt: &Virtual, first: &mut FirstBuffer, part: &Part, root: u64, har
     ensures saves { SavesBack part.now hart.new.virt virt.now }
 {
     load_state(virt, part, root, &mut hart.virt);
+    lend_first(virt, first, hart);
+}
+
+/// Gives the hart, which has this guest's state already, under whatever root, the rest of what `load` gives:
+/// the root, the guest's first-stage translations, and for whom the guest's accesses are.
+#[tactic(auto, using(crate::proofs::Rerooted::rooted))]
+pub fn reload(virt: &Virtual, first: &mut FirstBuffer, part: &Part, root: u64, hart: &mut HartState)
+    requires state { HasState part.now hart.old.virt virt.now }
+    ensures has { hart.new ≡ loaded_in part.now (root_at part.now root) virt.now first.old }
+    ensures swaps { first.new ≡ hart.old.first }
+{
+    hart.virt.csrs.hgatp = root_at(part, root);
+    lend_first(virt, first, hart);
+}
+
+// Gives the hart the guest's first-stage translations, in whose place the guest gets the hart's, and for whom
+// the guest's accesses are.
+fn lend_first(virt: &Virtual, first: &mut FirstBuffer, hart: &mut HartState)
+    ensures has { hart.new ≡ record hart.old { first = first.old; tag = tag_of virt.now } }
+    ensures swaps { first.new ≡ hart.old.first }
+{
     mem::swap(first, &mut hart.first);
     hart.tag = tag_of(virt);
 }

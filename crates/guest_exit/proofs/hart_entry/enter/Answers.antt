@@ -22,13 +22,13 @@ returns-clause-hart c =
     let stop = c.run-stop.result in
     let back = gives_back c.run-stop.new.self.state c.take_steps.new.hart c.take_steps.new.self.first _
     (c.take_steps.ensures.first.0 ∙ ap (λ (s : HartState). s.first) c.state_mut-2.ensures.value)
-    (c.take_steps.ensures.first.1 ∙ ap (λ (s : HartState). with_buffer s c.load.new.first) c.state_mut-2.ensures.value) in
+    (c.take_steps.ensures.first.1 ∙ ap (λ (s : HartState). with_buffer s c.give.new.first) c.state_mut-2.ensures.value) in
     record {
       steps =
           subst (λ state. hart_steps (is_watched guest.virt) stop.taken (progress (loaded_for guest) c.args.memory.now c.args.tally.now.trace false)
           ≡ Some (progress state c.run-stop.new.memory c.run-stop.new.tally.trace (is_vs_trap stop.why))) back
           (steps_from (is_watched guest.virt) guest.part guest.pool guest.virt guest.first c.args.memory.now c.args.tally.now.trace stop.taken _
-          (rw (c.load.ensures.has, c.root_frame_of-root.ensures, c.is_watched-watch.ensures) at c.run-stop.ensures.steps));
+          (rw (c.give.ensures.has, c.root_frame_of-root.ensures, c.is_watched-watch.ensures) at c.run-stop.ensures.steps));
       saves = rw (ap (λ (s : HartState). s.virt) (sym back)) (rw (c.is_vs_trap.ensures, c.state_mut-2.ensures.value) at c.take_steps.ensures.platform);
       first = refl;
     }
@@ -83,13 +83,13 @@ returns-clause-why c =
     let why = c.run-stop.result.why in
     let back = gives_back c.run-stop.new.self.state c.take_steps.new.hart c.take_steps.new.self.first _
     (c.take_steps.ensures.first.0 ∙ ap (λ (s : HartState). s.first) c.state_mut-2.ensures.value)
-    (c.take_steps.ensures.first.1 ∙ ap (λ (s : HartState). with_buffer s c.load.new.first) c.state_mut-2.ensures.value) in
+    (c.take_steps.ensures.first.1 ∙ ap (λ (s : HartState). with_buffer s c.give.new.first) c.state_mut-2.ensures.value) in
     let is = stopped part pool before c.args.memory.now c.args.limit c.args.tally.now.trace (with_buffer c.take_steps.new.hart c.take_steps.new.self.first) c.run-stop.new.memory c.run-stop.new.tally.trace c.run-stop.result.taken why
     can.running can.lasts can.placed c.run-stop.ensures.within (returns-clause-hart c).steps
     (subst (λ state. IsWhy c.args.limit c.run-stop.result.taken state c.run-stop.new.memory why) back c.run-stop.ensures.why) in
     record {
       within = c.run-stop.ensures.within;
-      why = subst (λ m. IsStopped part pool before m c.run-stop.new.memory c.args.limit c.run-stop.result.taken why) (sym (returns-clause-run c).steps) is;
+      why = subst (λ m. IsStopped part pool before m c.run-stop.new.memory c.take_steps.new.hart.virt c.args.limit c.run-stop.result.taken why) (sym (returns-clause-run c).steps) is;
     }
 
 pub take_steps-requires-clause-event : goal.take_steps-requires-clause-event
