@@ -1,17 +1,14 @@
 -- Where no table of the first stage translates a state's accesses, its next step finds no translation.
-use Rattle.std.proofs.Common.{cond, ◌≡◌, ℕ, ◌%◌, ◌==◌, Bool, true, false, List, [], ◌++◌, Option, Some, None, refl, ap, sym, ◌∙◌}
-use Rattle.arch_defs.specs.declared.first.FirstEntry.{FirstEntry}
+use Rattle.std.proofs.Common.{cond, ◌≡◌, ℕ, ◌%◌, ◌==◌, Bool, true, false, [], Option, Some, None, refl, sym}
 use Rattle.arch_defs.specs.declared.first.Tag.{Tag}
 use Rattle.arch_defs.specs.declared.modes.Access.{Access}
 use Rattle.arch_defs.specs.declared.modes.Access.TheVariants.{Fetch}
 use Rattle.arch_defs.specs.declared.registers.Virtual.{Virtual}
-use Rattle.arch_defs.specs.declared.roots.SupervisorRoot.{SupervisorRoot}
 use Rattle.arch_defs.specs.declared.roots.SupervisorRoot.TheVariants as root
 use Rattle.arch_defs.specs.declared.widths.Width.{Width}
 use Rattle.arch_defs.specs.declared.widths.Width.TheVariants.{Word}
-use Rattle.arch_defs.specs.FirstEntries.{first_entry}
 use Rattle.arch_defs.specs.Memory.{Mmu}
-use Rattle.arch_defs.specs.Translation.{privilege_of, supervisor_of}
+use Rattle.arch_defs.specs.Translation.{supervisor_of}
 use Rattle.arch_defs.specs.Widths.{bytes_in}
 use Rattle.op_defs.specs.declared.ops.Effect.{Effect}
 use Rattle.op_defs.specs.declared.ops.Effect.TheVariants.{Sets, Raises, Data, Calls, Privileged}
@@ -19,7 +16,7 @@ use Rattle.op_defs.specs.declared.ops.Op.{Op}
 use Rattle.op_defs.specs.Meaning.{meaning}
 use Rattle.op_defs.specs.Table.{op_of}
 use Rattle.machine_defs.specs.Core.{At, Fails, Located, fetch_place, kind_of, word_at}
-use Rattle.machine_defs.specs.FirstLeaves.{entry_walked, found_at, found_by_effect, found_by_op, found_for, leaf_under, leaves_found, tag_of, unless_known}
+use Rattle.machine_defs.specs.FirstLeaves.{entry_walked, found_at, found_by_effect, found_by_op, found_for, leaves_found, tag_of, unless_known}
 use Rattle.machine_defs.specs.Machine.{Machine}
 use Rattle.machine_defs.specs.Tries.{found_by_try, found_with_code, mmu_under, stages_of}
 use Rattle.arch_defs.specs.Interrupts.{due}

@@ -58,8 +58,8 @@ abbrev pub IsLoaded : Bool → Guest → Virtual → Type 0
 IsLoaded loaded guest hart = loaded ≡ true → HasState guest.part hart guest.virt
 
 -- the hart is ready for an entry of so many steps of a guest: its account has room for it, and it has the
--- guest's state where that is loaded
-pub record IsReady (guest : Guest) (limit : ℕ) (loaded : Bool) (hart : Virtual) (account : Counts)
+-- guest's state where the guest is loaded
+pub record IsHartReady (guest : Guest) (limit : ℕ) (loaded : Bool) (hart : Virtual) (account : Counts)
     : Type 0 where
   pub room : HasRoomForEntry limit account
   pub state : IsLoaded loaded guest hart

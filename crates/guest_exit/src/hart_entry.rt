@@ -6,7 +6,7 @@ ghost use Rattle.rv64_hart.specs.Steps.{is_vs_trap, progress};
 ghost use Rattle.machine_laws.specs.HostPlaces.{in_ram};
 ghost use Rattle.machine_laws.specs.Renaming.{ReservesWithin};
 ghost use Rattle.world_switch.specs.Hosting.{HasState, hart_state_in, loaded_in, root_at, with_buffer};
-ghost use Rattle.guest_exit.specs.HartEntry.{CanEnter, GoesOn, HartMakes, IsAccounted, IsReady, KeepsTables, Stops, is_watched};
+ghost use Rattle.guest_exit.specs.HartEntry.{CanEnter, GoesOn, HartMakes, IsAccounted, IsHartReady, KeepsTables, Stops, is_watched};
 ghost use Rattle.guest_exit.specs.HartSteps.{root_for, root_frame_for};
 ghost use Rattle.guest_exit.specs.Steps.{MakesSteps};
 ghost use Rattle.guest_exit.specs.View.{machine_of};
@@ -30,7 +30,7 @@ pub fn enter(
     tally: &mut Tally,
 ) -> Stop
     requires can { CanEnter guest.old memory.old limit }
-    requires ready { IsReady guest.old limit loaded hart.old.state.virt tally.old }
+    requires ready { IsHartReady guest.old limit loaded hart.old.state.virt tally.old }
 
     ensures run { MakesSteps result.taken (machine_of guest.old memory.old)
         (machine_of guest.new memory.new) }
