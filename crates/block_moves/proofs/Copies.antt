@@ -1,5 +1,5 @@
 -- Bytes with a slice laid over another one of the same size.
-use Rattle.std.proofs.Common.{◌≡◌, ℕ, ◌+◌, ◌-◌, ◌*◌, ◌/◌, ◌<◌, ◌≤◌, List, [], ◌∷◌, ◌++◌, length, get_or, take, drop, sym, ap, subst, ◌∙◌, arith, length-drop}
+use Rattle.std.proofs.Common.{◌≡◌, ℕ, ◌+◌, ◌-◌, ◌*◌, ◌/◌, ◌<◌, ◌≤◌, List, [], ◌∷◌, ◌++◌, length, get_or, take, drop, refl, sym, ap, subst, ◌∙◌, arith, length-drop}
 use Rattle.std.proofs.lemmas.List.{append_assoc, drop_at, get_or-replicate, length-take-le}
 use Rattle.arch_defs.specs.Frames.{Only, in_blocks}
 use Rattle.arch_defs.specs.Memory.{block_size, pasted, zeros}
@@ -8,6 +8,7 @@ use Rattle.arch_defs.proofs.Pastes.{length_pasted, pasted_inside}
 use Rattle.phys_mem.specs.MemoryBytes.{block_of}
 use Rattle.phys_mem.proofs.PiecesLaid.{length_zeros, taken_front}
 use Rattle.shadow_space.specs.Shadows.{AreZeros}
+use Rattle.block_moves.specs.Moves.{block_cleared, block_copied}
 use Rattle.block_moves.proofs.Blocks.{of_one, one_block}
 
 -- a slice of so many bytes is as long, and a piece that is laid over it is what stands there
@@ -21,12 +22,20 @@ module _ (size n : ℕ) (bytes : List ℕ) (fits : n * size + size ≤ length by
       ∙ drop_at (take (n * size) bytes) (piece ++ drop (n * size + length piece) bytes) (n * size) (length-take-le (n * size) bytes (omega (arith, fits))))
       ∙ taken_front piece (drop (n * size + length piece) bytes) size long
 
--- memory with a block laid over another one is as long
-pub still_fits : (from to : ℕ) (old new : List ℕ) → from * block_size + block_size ≤ length old → to * block_size + block_size ≤ length old
-    → new ≡ pasted old (to * block_size) (block_of from old) → from * block_size + block_size ≤ length new
-still_fits from to old new source target is =
-    subst (λ n. from * block_size + block_size ≤ n)
-    (sym (ap length is ∙ length_pasted old (to * block_size) (block_of from old) (subst (λ n. to * block_size + n ≤ length old) (sym (slice_long block_size from old source)) target))) source
+-- what is laid over memory by a copy, and by clearing
+pub copy_pasted : (from to : ℕ) (memory : List ℕ) → block_copied from to memory ≡ pasted memory (to * block_size) (block_of from memory)
+unfolding block_copied
+copy_pasted from to memory = refl
+
+pub zeros_pasted : (block : ℕ) (memory : List ℕ) → block_cleared block memory ≡ pasted memory (block * block_size) (zeros block_size)
+unfolding block_cleared
+zeros_pasted block memory = refl
+
+-- memory with a block copied over another one is as long
+pub copied_size : (from to : ℕ) (old new : List ℕ) → from * block_size + block_size ≤ length old → to * block_size + block_size ≤ length old
+    → new ≡ pasted old (to * block_size) (block_of from old) → length new ≡ length old
+copied_size from to old new source target is =
+    ap length is ∙ length_pasted old (to * block_size) (block_of from old) (subst (λ n. to * block_size + n ≤ length old) (sym (slice_long block_size from old source)) target)
 
 -- a place of a block is in its frames
 in_its_block : (n place : ℕ) → n * 2097152 ≤ place → place < n * 2097152 + 2097152 → n ≡ place / 4096 / 512

@@ -16,9 +16,9 @@ use Rattle.shadow_space.specs.Shadows.{AreZeros}
 use Rattle.shadow_pool.specs.Slots.{Pooled, TidyPool, pool_frames, room_of, table_frames_for}
 use Rattle.shadow_pool.proofs.Apart.{host_apart, pool_within, ram_apart}
 use Rattle.shadow_pool.proofs.Front.{pool_lasts}
-use Rattle.block_moves.specs.Moves.{with_block}
+use Rattle.block_moves.specs.Moves.{block_cleared, block_copied, with_block}
 use Rattle.block_moves.proofs.Blocks.{blocks_apart, none_is, one_within, with_within}
-use Rattle.block_moves.proofs.Copies.{cleared_only, cleared_zeros, only_block, slice_laid, slice_long}
+use Rattle.block_moves.proofs.Copies.{cleared_only, cleared_zeros, copy_pasted, only_block, slice_laid, slice_long, zeros_pasted}
 use Rattle.block_moves.proofs.RamMoving.{block_stays, ram_moves}
 
 module _ (part moved : Layout) (pool : Pooled) (i to from : ℕ) (m0 : List ℕ) (once : NamesEachOnce part) (moved_is : moved ≡ with_block part i to) (from_is : from ≡ slice_index part.blocks i)
@@ -101,7 +101,10 @@ module _ (part moved : Layout) (pool : Pooled) (i to from : ℕ) (m0 : List ℕ)
       by (inr new) = lies f new
 
   -- the block is copied
-  module _ (m1 : List ℕ) (m1_is : m1 ≡ pasted m0 (to * block_size) (block_of from m0)) where
+  module _ (m1 : List ℕ) (copy_is : m1 ≡ block_copied from to m0) where
+    m1_is : m1 ≡ pasted m0 (to * block_size) (block_of from m0)
+    m1_is = copy_is ∙ copy_pasted from to m0
+
     copied : Only there m0 m1
     copied =
         subst (Only there m0) (sym m1_is)
@@ -114,7 +117,10 @@ module _ (part moved : Layout) (pool : Pooled) (i to from : ℕ) (m0 : List ℕ)
     here_fits' = subst (λ n. from * block_size + block_size ≤ n) (sym copied.size) here_fits
 
     -- and the old one cleared
-    module _ (m2 : List ℕ) (m2_is : m2 ≡ pasted m1 (from * block_size) (zeros block_size)) where
+    module _ (m2 : List ℕ) (cleared_is : m2 ≡ block_cleared from m1) where
+      m2_is : m2 ≡ pasted m1 (from * block_size) (zeros block_size)
+      m2_is = cleared_is ∙ zeros_pasted from m1
+
       cleared : Only here m1 m2
       cleared = cleared_only from m1 m2 here_fits' m2_is
 

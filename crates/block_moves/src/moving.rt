@@ -3,14 +3,13 @@
 ghost use Rattle.std.specs.Prelude.{◌≡◌, ◌+◌, ◌*◌, ◌<◌, ◌≤◌, [], ◌∷◌, length, slice_index};
 ghost use Rattle.arch_defs.specs.Frames.{Apart, LieIn, Only, in_blocks, joined};
 ghost use Rattle.arch_defs.specs.Layouts.{NamesEachOnce, named_by};
-ghost use Rattle.arch_defs.specs.Memory.{block_size, pasted, zeros};
+ghost use Rattle.arch_defs.specs.Memory.{block_size};
 ghost use Rattle.arch_defs.specs.Ram.{ram_of};
-ghost use Rattle.phys_mem.specs.MemoryBytes.{block_of};
 ghost use Rattle.host_tables.specs.Walks.{IsHeld};
 ghost use Rattle.shadow_space.specs.Shadows.{AreZeros};
 ghost use Rattle.shadow_pool.specs.Moves.{pool_in_part};
 ghost use Rattle.shadow_pool.specs.Slots.{TidyPool, spaces_of};
-ghost use Rattle.block_moves.specs.Moves.{with_block, without_blocks};
+ghost use Rattle.block_moves.specs.Moves.{block_cleared, block_copied, with_block, without_blocks};
 
 use arch_defs::{MOST_BLOCKS, Part};
 use host_tables::build;
@@ -46,15 +45,33 @@ pub fn move_block(mem: &mut PhysMem, part: &Part, pool: &mut Pool, i: usize, to:
 }
 
 // Fills a block with the bytes of another one, and that with zeros.
-#[tactic(auto, using(crate::proofs::Copies::still_fits))]
 fn carry(mem: &mut PhysMem, from: u64, to: u64)
     requires from { from * block_size + block_size ≤ length mem.old }
     requires to { to * block_size + block_size ≤ length mem.old }
-    ensures { mem.new ≡ pasted (pasted mem.old (to * block_size) (block_of from mem.old))
-        (from * block_size) (zeros block_size) }
+    ensures { mem.new ≡ block_cleared from (block_copied from to mem.old) }
+{
+    copy(mem, from, to);
+    clear(mem, from);
+}
+
+// Fills a block with the bytes of another one.
+#[tactic(auto, using(crate::proofs::Copies::copied_size), unfolding(crate::specs::Moves::block_copied))]
+fn copy(mem: &mut PhysMem, from: u64, to: u64)
+    requires from { from * block_size + block_size ≤ length mem.old }
+    requires to { to * block_size + block_size ≤ length mem.old }
+    ensures copied { mem.new ≡ block_copied from to mem.old }
+    ensures size { length mem.new ≡ length mem.old }
 {
     mem.copy_block(from, to);
-    mem.zero_block(from);
+}
+
+// Fills a block with zeros.
+#[tactic(auto, unfolding(crate::specs::Moves::block_cleared))]
+fn clear(mem: &mut PhysMem, block: u64)
+    requires { block * block_size + block_size ≤ length mem.old }
+    ensures { mem.new ≡ block_cleared block mem.old }
+{
+    mem.zero_block(block);
 }
 
 /// The part with its tables alone, without blocks.

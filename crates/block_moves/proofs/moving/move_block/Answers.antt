@@ -1,6 +1,5 @@
-use Rattle.std.proofs.Common.{◌*◌, ap, refl, slice_index}
-use Rattle.arch_defs.specs.Memory.{block_size, pasted}
-use Rattle.phys_mem.specs.MemoryBytes.{block_of}
+use Rattle.std.proofs.Common.{ap, refl, slice_index}
+use Rattle.block_moves.specs.Moves.{block_copied}
 use Rattle.block_moves.proofs.Blocks.{once_with}
 use Rattle.block_moves.proofs.Stages.{here_fits, here_zeros, is_held, moved_lies', only_these, same_ram, spaces_stay, there_fits}
 use Rattle.block_moves.proofs.moving.move_block.Goals as goal
@@ -19,29 +18,29 @@ carry-requires-clause-to c =
 pub build-requires-clause-inside : goal.build-requires-clause-inside
 build-requires-clause-inside c =
     moved_lies' c.args.part.now c.with_block-moved.result c.args.pool.now c.args.i c.args.to (slice_index c.blocks-2.result.now c.args.i) c.args.mem.now c.names_each_once.ensures c.with_block-moved.ensures (ap (λ blocks. slice_index blocks c.args.i) c.blocks-2.ensures.value) c.requires.held c.requires.own c.requires.tidy c.requires.index c.requires.free c.requires.lies
-    (pasted c.args.mem.now (c.args.to * block_size) (block_of (slice_index c.blocks-2.result.now c.args.i) c.args.mem.now)) refl c.carry.new.mem c.carry.ensures
+    (block_copied (slice_index c.blocks-2.result.now c.args.i) c.args.to c.args.mem.now) refl c.carry.new.mem c.carry.ensures
 
 pub moved-requires-clause-tidy : goal.moved-requires-clause-tidy
 moved-requires-clause-tidy c =
     spaces_stay c.args.part.now c.with_block-moved.result c.args.pool.now c.args.i c.args.to (slice_index c.blocks-2.result.now c.args.i) c.args.mem.now c.names_each_once.ensures c.with_block-moved.ensures (ap (λ blocks. slice_index blocks c.args.i) c.blocks-2.ensures.value) c.requires.held c.requires.own c.requires.tidy c.requires.index c.requires.free c.requires.lies
-    (pasted c.args.mem.now (c.args.to * block_size) (block_of (slice_index c.blocks-2.result.now c.args.i) c.args.mem.now)) refl c.carry.new.mem c.carry.ensures c.build.new.mem c.build.ensures.table c.build.ensures.only
+    (block_copied (slice_index c.blocks-2.result.now c.args.i) c.args.to c.args.mem.now) refl c.carry.new.mem c.carry.ensures c.build.new.mem c.build.ensures.table c.build.ensures.only
 
 pub returns-clause-held : goal.returns-clause-held
 returns-clause-held c =
     is_held c.args.part.now c.with_block-moved.result c.args.pool.now c.args.i c.args.to (slice_index c.blocks-2.result.now c.args.i) c.args.mem.now c.names_each_once.ensures c.with_block-moved.ensures (ap (λ blocks. slice_index blocks c.args.i) c.blocks-2.ensures.value) c.requires.held c.requires.own c.requires.tidy c.requires.index c.requires.free c.requires.lies
-    (pasted c.args.mem.now (c.args.to * block_size) (block_of (slice_index c.blocks-2.result.now c.args.i) c.args.mem.now)) refl c.carry.new.mem c.carry.ensures c.build.new.mem c.build.ensures.table c.build.ensures.only c.moved.new.mem c.moved.ensures.only
+    (block_copied (slice_index c.blocks-2.result.now c.args.i) c.args.to c.args.mem.now) refl c.carry.new.mem c.carry.ensures c.build.new.mem c.build.ensures.table c.build.ensures.only c.moved.new.mem c.moved.ensures.only
 
 pub returns-clause-ram : goal.returns-clause-ram
 returns-clause-ram c =
     same_ram c.args.part.now c.with_block-moved.result c.args.pool.now c.args.i c.args.to (slice_index c.blocks-2.result.now c.args.i) c.args.mem.now c.names_each_once.ensures c.with_block-moved.ensures (ap (λ blocks. slice_index blocks c.args.i) c.blocks-2.ensures.value) c.requires.held c.requires.own c.requires.tidy c.requires.index c.requires.free c.requires.lies
-    (pasted c.args.mem.now (c.args.to * block_size) (block_of (slice_index c.blocks-2.result.now c.args.i) c.args.mem.now)) refl c.carry.new.mem c.carry.ensures c.build.new.mem c.build.ensures.table c.build.ensures.only c.moved.new.mem c.moved.ensures.only
+    (block_copied (slice_index c.blocks-2.result.now c.args.i) c.args.to c.args.mem.now) refl c.carry.new.mem c.carry.ensures c.build.new.mem c.build.ensures.table c.build.ensures.only c.moved.new.mem c.moved.ensures.only
 
 pub returns-clause-zeros : goal.returns-clause-zeros
 returns-clause-zeros c =
     here_zeros c.args.part.now c.with_block-moved.result c.args.pool.now c.args.i c.args.to (slice_index c.blocks-2.result.now c.args.i) c.args.mem.now c.names_each_once.ensures c.with_block-moved.ensures (ap (λ blocks. slice_index blocks c.args.i) c.blocks-2.ensures.value) c.requires.held c.requires.own c.requires.tidy c.requires.index c.requires.free c.requires.lies
-    (pasted c.args.mem.now (c.args.to * block_size) (block_of (slice_index c.blocks-2.result.now c.args.i) c.args.mem.now)) refl c.carry.new.mem c.carry.ensures c.build.new.mem c.build.ensures.table c.build.ensures.only c.moved.new.mem c.moved.ensures.only
+    (block_copied (slice_index c.blocks-2.result.now c.args.i) c.args.to c.args.mem.now) refl c.carry.new.mem c.carry.ensures c.build.new.mem c.build.ensures.table c.build.ensures.only c.moved.new.mem c.moved.ensures.only
 
 pub returns-clause-only : goal.returns-clause-only
 returns-clause-only c =
     only_these c.args.part.now c.with_block-moved.result c.args.pool.now c.args.i c.args.to (slice_index c.blocks-2.result.now c.args.i) c.args.mem.now c.names_each_once.ensures c.with_block-moved.ensures (ap (λ blocks. slice_index blocks c.args.i) c.blocks-2.ensures.value) c.requires.held c.requires.own c.requires.tidy c.requires.index c.requires.free c.requires.lies
-    (pasted c.args.mem.now (c.args.to * block_size) (block_of (slice_index c.blocks-2.result.now c.args.i) c.args.mem.now)) refl c.carry.new.mem c.carry.ensures c.build.new.mem c.build.ensures.table c.build.ensures.only c.moved.new.mem c.moved.ensures.only
+    (block_copied (slice_index c.blocks-2.result.now c.args.i) c.args.to c.args.mem.now) refl c.carry.new.mem c.carry.ensures c.build.new.mem c.build.ensures.table c.build.ensures.only c.moved.new.mem c.moved.ensures.only
