@@ -1,4 +1,5 @@
 pub mod FirstFills
+pub mod FirstSlots
 pub mod FrameSets
 pub mod HgatpValues
 pub mod Images
@@ -11,3 +12,4 @@ pub mod Shapes
 pub mod SlicesOf
 pub mod Slots
 pub mod Spans
+pub mod WalkEnds

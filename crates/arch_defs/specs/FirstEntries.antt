@@ -6,8 +6,6 @@ use Rattle.arch_defs.specs.declared.first.FirstEntry.{FirstEntry}
 use Rattle.arch_defs.specs.declared.first.Tag.{Tag}
 use Rattle.arch_defs.specs.declared.first.Tag.TheVariants.{Flat, Nested}
 use Rattle.arch_defs.specs.declared.modes.Access.{Access}
-use Rattle.arch_defs.specs.declared.modes.Mode.{Mode}
-use Rattle.arch_defs.specs.declared.roots.GuestRoot.{GuestRoot}
 use Rattle.arch_defs.specs.declared.roots.SupervisorRoot.{SupervisorRoot}
 use Rattle.arch_defs.specs.declared.roots.SupervisorRoot.TheVariants as root
 use Rattle.arch_defs.specs.declared.walks.LeafPte.{LeafPte}
@@ -17,12 +15,7 @@ use Rattle.arch_defs.specs.Permits.{permits_first}
 use Rattle.arch_defs.specs.Roots.{asid_of, is_atp, is_root, vmid_of}
 use Rattle.arch_defs.specs.Spaces.{names_vmid}
 use Rattle.arch_defs.specs.TableEntries.{span}
-use Rattle.arch_defs.specs.Traps.{is_virtual}
 use Rattle.arch_defs.specs.Walk.{leaf_address}
-
--- for whom the accesses of a mode are
-abbrev pub tag_for : Mode → GuestRoot → Tag
-tag_for mode hgatp = if is_virtual mode then Nested hgatp else Flat
 
 -- two tags are the same: V, and with V = 1 hgatp as a whole
 abbrev pub is_tag : Tag → Tag → Bool

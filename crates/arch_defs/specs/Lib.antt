@@ -26,6 +26,7 @@ pub mod WalkedEntries
 pub mod CachedEntries
 pub mod Spaces
 pub mod FirstEntries
+pub mod FirstBuffers
 -- The execution environment: clock, console, calls and waits
 pub mod Clocks
 pub mod Inputs

@@ -1,5 +1,5 @@
 -- x registers and pc, and the state in which all registers are zero.
-use Rattle.std.specs.Prelude.{ℕ, None, false, ◌==◌, replicate, slice_index, slice_set, if◌then◌else◌}
+use Rattle.std.specs.Prelude.{ℕ, None, [], false, ◌==◌, replicate, slice_index, slice_set, if◌then◌else◌}
 use Rattle.arch_defs.specs.declared.modes.Mode.{Mode}
 use Rattle.arch_defs.specs.declared.registers.Regs.{Regs}
 use Rattle.arch_defs.specs.declared.registers.SupervisorCsrs.{SupervisorCsrs}
@@ -83,9 +83,10 @@ csrs_at_reset = record {
   time = 0;
 }
 
--- all registers zero but for pc, and no reservation
+-- all registers zero but for pc, no reservation, and no cached translation
 abbrev pub virtual_at : Mode → ℕ → Virtual
-virtual_at mode pc = record { regs = regs_at pc; csrs = csrs_at_reset; mode = mode; reservation = None }
+virtual_at mode pc =
+    record { regs = regs_at pc; csrs = csrs_at_reset; mode = mode; reservation = None; first = [] }
 
 -- a register is set, and pc goes on
 abbrev pub sets : Virtual → ℕ → ℕ → Virtual

@@ -20,6 +20,7 @@ use Rattle.arch_defs.specs.Devices.{is_on_device}
 use Rattle.arch_defs.specs.Memory.{Memory, load, bare, SecondStage}
 use Rattle.arch_defs.specs.Permits.{permits_second}
 use Rattle.arch_defs.specs.Roots.{guest_shape}
+use Rattle.arch_defs.specs.TableEntries.{leaf_with}
 use Rattle.arch_defs.specs.Translation.{unread}
 use Rattle.arch_defs.specs.Traps.{exception, faults_of, is_virtual, missing_place_fault}
 use Rattle.arch_defs.specs.Walk.{EntryReading, walk, leaf_address}
@@ -42,7 +43,8 @@ memory_words memory place =
 -- a leaf that permits the access, is an access fault where it is outside memory (4.3.2), but for the frame of
 -- the device page (own)
 abbrev pub second_end : Memory → Bool → ℕ → Access → WalkEnd → SecondWalkEnd
-second_end memory mxr address kind (Leaf leaf) =
+second_end memory mxr address kind (Leaf frame level r w x u) =
+    let leaf = leaf_with frame level r w x u in
     if not (permits_second mxr kind leaf) then GuestPageFault
     else if has_frame_of memory (leaf_address leaf address) then guest.Leaf leaf
     else if is_on_device (leaf_address leaf address) then guest.Device leaf

@@ -4,6 +4,7 @@ use Rattle.arch_defs.specs.declared.modes.Access.{Access}
 use Rattle.arch_defs.specs.declared.modes.Access.TheVariants.{Fetch, Load, Store, ExecLoad, Implicit}
 use Rattle.arch_defs.specs.declared.walks.Pte.{Pte}
 use Rattle.arch_defs.specs.declared.walks.LeafPte.{LeafPte}
+use Rattle.arch_defs.specs.declared.walks.WalkEnd.{WalkEnd}
 use Rattle.arch_defs.specs.declared.walks.WalkEnd.TheVariants.{Leaf, PageFault}
 use Rattle.arch_defs.specs.declared.walks.Next.{Next}
 use Rattle.arch_defs.specs.declared.walks.Next.TheVariants.{Ends, Below}
@@ -91,10 +92,17 @@ is_marked access e = e.a && (not (needs_dirty access) || e.d)
 abbrev pub leaf_pte : ℕ → Pte → LeafPte
 leaf_pte level e = record { frame = e.frame; level = level; r = e.r; w = e.w && e.d; x = e.x; u = e.u }
 
+-- a walk's end at a leaf, and the leaf of these parts
+abbrev pub end_at_leaf : LeafPte → WalkEnd
+end_at_leaf leaf = Leaf leaf.frame leaf.level leaf.r leaf.w leaf.x leaf.u
+
+abbrev pub leaf_with : ℕ → ℕ → Bool → Bool → Bool → Bool → LeafPte
+leaf_with frame level r w x u = record { frame = frame; level = level; r = r; w = w; x = x; u = u }
+
 -- a leaf ends the walk (4.3.2, steps 6 to 8)
 abbrev pub leaf_next : ℕ → Access → Pte → Next
 leaf_next level access e =
-    if is_aligned level e.frame && is_marked access e then Ends (Leaf (leaf_pte level e))
+    if is_aligned level e.frame && is_marked access e then Ends (end_at_leaf (leaf_pte level e))
     else Ends PageFault
 
 -- A, D and U are reserved in a pointer (4.3.1), and there is no level below the last (4.3.2, step 4)

@@ -19,6 +19,7 @@ use Rattle.arch_defs.specs.declared.walks.WalkEnd.TheVariants.{Leaf, PageFault, 
 use Rattle.arch_defs.specs.Memory.{Reading, SecondStage}
 use Rattle.arch_defs.specs.Permits.{permits_first}
 use Rattle.arch_defs.specs.Roots.{supervisor_shape}
+use Rattle.arch_defs.specs.TableEntries.{leaf_with}
 use Rattle.arch_defs.specs.Walk.{EntryReading, leaf_address, walk}
 
 -- the registers of the level whose table translates: HS's with V = 0, VS's with V = 1 (8.2.18)
@@ -60,7 +61,8 @@ entry_words_through second reading at = entry_word_at reading at (second at Impl
 
 -- what a walk's end is to an access
 abbrev pub found_by : Privilege → Access → ℕ → WalkEnd → Found
-found_by privilege access va (Leaf leaf) =
+found_by privilege access va (Leaf frame level r w x u) =
+    let leaf = leaf_with frame level r w x u in
     if permits_first privilege access leaf then Passes (leaf_address leaf va) else PageFaults
 found_by privilege access va PageFault = PageFaults
 found_by privilege access va (FetchEnd place trap) = MissesEntry place

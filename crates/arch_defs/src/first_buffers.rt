@@ -1,38 +1,91 @@
 // The first-stage translations that are cached for one guest.
 
-ghost use Rattle.std.specs.Prelude.{◌≡◌, ◌-◌, ◌<◌, ◌≤◌, [], ◌∷◌, ◌++◌, find, length, option_map, take, vec_capacity, vec_len, IfOk, IfSome, None, Some};
+ghost use Rattle.std.specs.Prelude.{◌≡◌, ◌≢◌, ◌-◌, ◌<◌, ◌≤◌, [], ◌∷◌, ◌++◌, drop, find, length, option_map, slice_index_or, slice_set, take, IfSome, None, Some};
 ghost use Rattle.std.specs.List.{All};
-ghost use Rattle.arch_defs.specs.FirstEntries.{HasGuestFrame, dropped_first, first_filled, first_room, is_first_of, names_first, names_first_of_guest, newest_first, unnamed_first, without_first};
+ghost use Rattle.arch_defs.specs.FirstBuffers.{IsEmptyFrom, is_named_by, no_entry};
+ghost use Rattle.arch_defs.specs.FirstEntries.{HasGuestFrame, dropped_first, first_filled, first_room, is_first_of, names_first, names_first_of_guest, unnamed_first, without_first};
 
 use crate::cached::Fence;
 use crate::first::{FirstEntry, Tag};
 use crate::roots::SupervisorRoot;
-use no_memory::NoMemory;
-use std::alloc::Global;
 use std::marker::Model;
 
 // How many are cached at most.
 const FIRST_ROOM: usize = 32;
 
+// What stands in a slot without a translation.
+const NO_ENTRY: FirstEntry = FirstEntry {
+    tag: Tag::Flat,
+    atp: SupervisorRoot::Bare,
+    page: 0,
+    frame: 0,
+    r: false,
+    w: false,
+    x: false,
+    u: false,
+    level: 0,
+};
+
 /// At most 32 first-stage translations, oldest first, which contracts see as their list; the frame of each
-/// has at most 44 bits. A use of one changes nothing. Their room is taken once, so a swap of two moves none.
-#[derive(Drop)]
+/// has at most 44 bits. A use of one changes nothing.
+#[derive(Clone, Copy)]
 pub struct FirstBuffer {
-    entries: Vec<FirstEntry>,
+    // Those from `count` on are `NO_ENTRY`.
+    slots: [FirstEntry; FIRST_ROOM],
+    count: usize,
 }
 
 impl Model for FirstBuffer {
-    ghost use Rattle.std.specs.Prelude.{◌≤◌, List, vec_capacity, vec_len};
+    ghost use Rattle.std.specs.Prelude.{◌-◌, ◌≤◌, ◌++◌, List, length, replicate, take};
     ghost use Rattle.std.specs.List.{All};
     ghost use Rattle.arch_defs.specs.declared.first.FirstEntry.{FirstEntry};
+    ghost use Rattle.arch_defs.specs.FirstBuffers.{IsEmptyFrom, no_entry};
     ghost use Rattle.arch_defs.specs.FirstEntries.{HasGuestFrame, first_room};
+    ghost use Rattle.std.proofs.Common.{ap, sym, ◌∙◌};
+    ghost use Rattle.std.proofs.lemmas.List.{length-take-le, take-append-drop};
 
     ghost Value = { List FirstEntry };
 
-    ghost view = { λ b. b.entries.items };
+    ghost view = { λ b. take b.count b.slots };
 
-    ghost invariant = { λ b. (vec_len b.entries ≤ first_room) × (first_room ≤ vec_capacity b.entries)
-        × All HasGuestFrame b.entries.items };
+    ghost invariant = { λ b. (b.count ≤ first_room) × (b.count ≤ length b.slots)
+        × IsEmptyFrom b.count b.slots × All HasGuestFrame (take b.count b.slots) };
+
+    ghost inverse = { λ v. record {
+      slots = v ++ replicate (first_room - length v) no_entry;
+      count = length v;
+    } };
+
+    ghost inverse_ok = { λ b h i. record {
+      slots = (ap (λ n. take b.count b.slots ++ replicate (first_room - n) no_entry)
+          (length-take-le b.count b.slots h.1)
+          ∙ ap (λ empty. take b.count b.slots ++ empty) (sym h.2) ∙ take-append-drop b.count b.slots) i;
+      count = length-take-le b.count b.slots h.1 i;
+    } };
+}
+
+// What names the translations that are to be dropped.
+#[derive(Clone, Copy)]
+enum Naming {
+    // A translation of the same page, for the same accesses.
+    Page(FirstEntry),
+    // A fence of the first stage, made for these accesses.
+    FirstFence(Tag, Fence),
+    // An HFENCE.GVMA.
+    GuestFence(Fence),
+}
+
+impl Naming {
+    // Whether it names this one.
+    fn names(&self, entry: &FirstEntry) -> bool
+        ensures { result ≡ is_named_by self.now entry.now }
+    {
+        match self {
+            Naming::Page(other) => entry.is_of(&other.tag, &other.atp, other.page),
+            Naming::FirstFence(tag, fence) => entry.is_named(*tag, fence),
+            Naming::GuestFence(fence) => entry.is_named_of_guest(fence),
+        }
+    }
 }
 
 // The first that is of a page for these accesses.
@@ -47,64 +100,70 @@ fn found<'a>(
     entries.iter().find(|entry| entry.is_of(tag, atp, page))
 }
 
-// Takes out the one of the same page as another.
-fn take_out(entries: &mut Vec<FirstEntry>, entry: &FirstEntry)
-    ensures items { entries.new.items ≡ without_first entry.now entries.old.items }
-    ensures few { vec_len entries.new ≤ vec_len entries.old }
-    ensures capacity { vec_capacity entries.new ≡ vec_capacity entries.old }
+// Copies one to a place before it, or leaves it where it is.
+#[inline]
+fn move_down(slots: &mut [FirstEntry; FIRST_ROOM], from: usize, to: usize)
+    requires order { to ≤ from }
+    requires room { from < first_room }
+    ensures { slots.new ≡ slice_set slots.old to (slice_index_or slots.old from no_entry) }
 {
-    entries.retain(|other| !other.is_of(&entry.tag, &entry.atp, entry.page));
-}
-
-// Puts one in behind the others. Where there is no room for it, drops the oldest, and tells its page.
-fn push_newest(entries: &mut Vec<FirstEntry>, entry: FirstEntry) -> Option<u64>
-    requires few { vec_len entries.old ≤ first_room }
-    requires room { first_room ≤ vec_capacity entries.old }
-    ensures items { entries.new.items ≡ newest_first (entries.old.items ++ entry ∷ []) }
-    ensures dropped { All (λ e. result ≡ Some e.page)
-        (take (length (entries.old.items ++ entry ∷ []) - first_room) (entries.old.items ++ entry ∷ [])) }
-    ensures kept { take (length (entries.old.items ++ entry ∷ []) - first_room) (entries.old.items ++ entry ∷ [])
-        ≡ [] → result ≡ None }
-    ensures few { vec_len entries.new ≤ first_room }
-    ensures capacity { vec_capacity entries.new ≡ vec_capacity entries.old }
-{
-    if entries.len() < FIRST_ROOM {
-        entries.push_reserved(entry);
-        return None;
+    if to < from {
+        slots[to] = slots[from];
     }
-    let oldest = entries.remove(0);
-    entries.push_reserved(entry);
-    Some(oldest.page)
 }
 
-// Drops those that a fence of the first stage names, made for these accesses.
-#[tactic(auto, unfolding(crate::specs::FirstEntries::unnamed_first))]
-fn drop_each(entries: &mut Vec<FirstEntry>, tag: Tag, fence: &Fence)
-    ensures items { entries.new.items ≡ unnamed_first (names_first tag fence.now) entries.old.items }
-    ensures few { vec_len entries.new ≤ vec_len entries.old }
-    ensures capacity { vec_capacity entries.new ≡ vec_capacity entries.old }
+// Empties the slots from one on, where those from another on are empty.
+fn empty(slots: &mut [FirstEntry; FIRST_ROOM], from: usize, to: usize)
+    requires room { to ≤ first_room }
+    requires rest { IsEmptyFrom to slots.old }
+    ensures size { length slots.new ≡ first_room }
+    ensures front { take from slots.new ≡ take from slots.old }
+    ensures empty { IsEmptyFrom from slots.new }
 {
-    entries.retain(|entry| !entry.is_named(tag, fence));
+    let mut first = to;
+    while from < first {
+        first -= 1;
+        slots[first] = NO_ENTRY;
+    }
 }
 
-// Drops those that an HFENCE.GVMA names.
-#[tactic(auto, unfolding(crate::specs::FirstEntries::unnamed_first))]
-fn drop_each_of_guest(entries: &mut Vec<FirstEntry>, fence: &Fence)
-    ensures items { entries.new.items ≡ unnamed_first (names_first_of_guest fence.now) entries.old.items }
-    ensures few { vec_len entries.new ≤ vec_len entries.old }
-    ensures capacity { vec_capacity entries.new ≡ vec_capacity entries.old }
+// Moves those of the first `count` that are not named to the front, in their order, and tells how many.
+fn keep_unnamed(slots: &mut [FirstEntry; FIRST_ROOM], count: usize, named: &Naming) -> usize
+    requires room { count ≤ first_room }
+    requires rest { IsEmptyFrom count slots.old }
+    ensures kept { take result slots.new ≡ unnamed_first (is_named_by named.now) (take count slots.old) }
+    ensures few { result ≤ count }
+    ensures empty { IsEmptyFrom count slots.new }
 {
-    entries.retain(|entry| !entry.is_named_of_guest(fence));
+    let mut kept = 0;
+    for i in 0..count {
+        if named.names(&slots[i]) {
+            continue;
+        }
+        move_down(slots, i, kept);
+        kept += 1;
+    }
+    kept
 }
 
 impl FirstBuffer {
-    /// No translation; the room for 32.
-    #[tactic(auto, using(crate::proofs::FirstFills::none_fits))]
-    pub fn new(alloc: Global) -> Result<FirstBuffer, NoMemory>
-        ensures { IfOk result (λ b. b ≡ []) }
+    /// No translation.
+    pub fn new() -> FirstBuffer
+        ensures { result ≡ [] }
     {
-        let entries = Vec::with_capacity(alloc, FIRST_ROOM)?;
-        Ok(FirstBuffer { entries })
+        FirstBuffer {
+            slots: [NO_ENTRY; FIRST_ROOM],
+            count: 0,
+        }
+    }
+
+    /// Takes over the translations of another: their number, and then so many.
+    pub fn copy_from(&mut self, other: &FirstBuffer)
+        ensures { self.new ≡ other.now }
+    {
+        empty(&mut self.slots, other.count, self.count);
+        self.slots[..other.count].copy_from_slice(other.as_slice());
+        self.count = other.count;
     }
 
     /// The translations.
@@ -112,7 +171,7 @@ impl FirstBuffer {
         ensures value { result.now ≡ self.now }
         ensures few { length result.now ≤ first_room }
     {
-        self.entries.as_slice()
+        &self.slots[..self.count]
     }
 
     /// The one of a page for these accesses, and for satp or vsatp as a whole, if there is one.
@@ -122,35 +181,71 @@ impl FirstBuffer {
             ≡ find (is_first_of tag.now atp.now page) self.now }
         ensures fits { IfSome result (λ e. HasGuestFrame e.now) }
     {
-        found(self.entries.as_slice(), tag, atp, page)
+        found(&self.slots[..self.count], tag, atp, page)
+    }
+
+    // Drops those that are named.
+    fn drop_each(&mut self, named: &Naming)
+        ensures { self.new ≡ unnamed_first (is_named_by named.now) self.old }
+    {
+        let kept = keep_unnamed(&mut self.slots, self.count, named);
+        empty(&mut self.slots, kept, self.count);
+        self.count = kept;
+    }
+
+    // Puts one in behind the others.
+    fn push(&mut self, entry: FirstEntry)
+        requires fits { HasGuestFrame entry }
+        requires room { length self.old < first_room }
+        ensures { self.new ≡ self.old ++ entry ∷ [] }
+    {
+        self.slots[self.count] = entry;
+        self.count += 1;
+    }
+
+    // Drops the oldest, and tells its page.
+    fn drop_oldest(&mut self) -> u64
+        requires { 0 < length self.old }
+        ensures left { self.new ≡ drop 1 self.old }
+        ensures page { All (λ e. result ≡ e.page) (take 1 self.old) }
+    {
+        let page = self.slots[0].page;
+        self.slots.copy_within(1..self.count, 0);
+        self.count -= 1;
+        self.slots[self.count] = NO_ENTRY;
+        page
     }
 
     /// Puts one in, behind the others: an entry of the same page is taken out, and where there is no room the
     /// oldest is dropped. Tells the page of the one that is dropped for room.
-    #[tactic(auto, using(crate::proofs::FirstFills::filled_fits), unfolding(crate::specs::FirstEntries::first_filled))]
+    #[tactic(auto, unfolding(crate::specs::FirstEntries::first_filled, crate::specs::FirstEntries::unnamed_first))]
     pub fn fill(&mut self, entry: FirstEntry) -> Option<u64>
         requires { HasGuestFrame entry }
         ensures filled { self.new ≡ first_filled self.old entry }
         ensures dropped { All (λ e. result ≡ Some e.page) (dropped_first self.old entry) }
         ensures kept { dropped_first self.old entry ≡ [] → result ≡ None }
     {
-        take_out(&mut self.entries, &entry);
-        push_newest(&mut self.entries, entry)
+        self.drop_each(&Naming::Page(entry));
+        if self.count < FIRST_ROOM {
+            self.push(entry);
+            return None;
+        }
+        let page = self.drop_oldest();
+        self.push(entry);
+        Some(page)
     }
 
     /// Drops those that a fence of the first stage names, made for these accesses.
-    #[tactic(auto, using(crate::proofs::FirstFills::unnamed_fits))]
     pub fn drop_named(&mut self, tag: Tag, fence: &Fence)
         ensures { self.new ≡ unnamed_first (names_first tag fence.now) self.old }
     {
-        drop_each(&mut self.entries, tag, fence);
+        self.drop_each(&Naming::FirstFence(tag, *fence));
     }
 
     /// Drops those that an HFENCE.GVMA names.
-    #[tactic(auto, using(crate::proofs::FirstFills::unnamed_fits))]
     pub fn drop_of_guest(&mut self, fence: &Fence)
         ensures { self.new ≡ unnamed_first (names_first_of_guest fence.now) self.old }
     {
-        drop_each_of_guest(&mut self.entries, fence);
+        self.drop_each(&Naming::GuestFence(*fence));
     }
 }

@@ -10,7 +10,7 @@ use std::marker::Model;
 /// A value that hgatp can hold (Privileged Architecture 20211203, 8.2.10). Contracts see it as the root that
 /// it names.
 #[derive(Clone, Copy, PartialEq, Eq)]
-pub struct Key(u64);
+pub struct Key(pub u64);
 
 impl Model for Key {
     ghost use Rattle.std.specs.Prelude.{◌≡◌};
@@ -33,6 +33,13 @@ impl Key {
         ensures { result ≡ guest_root_of (hgatp_bits root) }
     {
         Key(root.bits())
+    }
+
+    /// The value, as a number.
+    pub fn value(self) -> u64
+        ensures { result ≡ hgatp_bits self }
+    {
+        self.0
     }
 
     /// The root that it names.

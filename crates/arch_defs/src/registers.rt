@@ -4,6 +4,7 @@ ghost use Rattle.std.specs.Prelude.{◌≡◌, ◌<◌};
 ghost use Rattle.arch_defs.specs.Bits.{field};
 ghost use Rattle.arch_defs.specs.Registers.{read, advanced, clear_interrupts, csrs_at_reset, passed, sets, supervisor_at_reset, clear_supervisor_status, clear_hypervisor_status, regs_at, virtual_at};
 
+use crate::first_buffers::FirstBuffer;
 use crate::modes::Mode;
 use crate::roots::{GuestRoot, SupervisorRoot};
 use std::marker::Model;
@@ -247,18 +248,19 @@ impl Csrs {
     }
 }
 
-/// All of a machine that its instructions see beside memory: registers, mode, and the reservation of LR,
-/// a physical address and a width in bytes.
-#[derive(Clone, Copy, PartialEq, Eq)]
+/// All of a machine beside its memory that its instructions see or leave: registers, mode, the reservation of
+/// LR, a physical address and a width in bytes, and the cached first-stage translations.
+#[derive(Clone, Copy)]
 pub struct Virtual {
     pub regs: Regs,
     pub csrs: Csrs,
     pub mode: Mode,
     pub reservation: Option<(u64, u8)>,
+    pub first: FirstBuffer,
 }
 
 impl Virtual {
-    /// All registers zero, but for pc; no reservation.
+    /// All registers zero, but for pc; no reservation, and no cached translation.
     pub fn starting_at(mode: Mode, pc: u64) -> Virtual
         ensures { result ≡ virtual_at mode pc }
     {
@@ -267,6 +269,7 @@ impl Virtual {
             csrs: Csrs::at_reset(),
             mode,
             reservation: None,
+            first: FirstBuffer::new(),
         }
     }
 

@@ -47,10 +47,11 @@ pub struct LeafPte {
 /// How a walk ends.
 #[derive(Clone, Copy, PartialEq, Eq)]
 pub enum WalkEnd {
-    Leaf(LeafPte),
+    /// At a leaf: its frame, its level, and its rights r, w, x and u, as in [`LeafPte`].
+    Leaf(u64, u8, bool, bool, bool, bool),
     PageFault,
     /// The entry at this place could not be read, for this trap.
-    FetchEnd { place: u64, trap: Trap },
+    FetchEnd(u64, Trap),
 }
 
 /// What a table entry says to a walk.

@@ -13,7 +13,7 @@ use Rattle.op_defs.specs.declared.ops.DataAccess.{DataAccess}
 use Rattle.op_defs.specs.declared.ops.Purpose.{Purpose}
 use Rattle.op_defs.specs.declared.ops.Purpose.TheVariants.{Load, LoadCode, Store, Reserve, StoreReserved, Modify}
 use Rattle.machine_defs.specs.declared.events.Event.TheVariants as event
-use Rattle.machine_defs.specs.Machine.{Machine, Tried, stepped_to, trapped}
+use Rattle.machine_defs.specs.Machine.{Machine, Tried, stepped_to, trapped, with_registers}
 
 -- what a load or a store of the page leaves of the registers and of the console
 pub record DeviceCompletion : Type 0 where
@@ -43,7 +43,8 @@ device_completed virt console clock offset width (Modify op operand rd) = None
 abbrev pub served : Machine → MissingPlace → Option DeviceCompletion → Tried
 served m missing None = trapped m (missing_place_fault missing)
 served m missing (Some completion) =
-    stepped_to m (record m.platform { virt = completion.virt; console = completion.console }) event.System
+    stepped_to m (record (with_registers m.platform completion.virt) { console = completion.console })
+    event.System
 
 abbrev pub device_step : Machine → MissingPlace → Width → Purpose → Tried
 device_step m missing width purpose = let p = m.platform in

@@ -39,7 +39,7 @@ missing_entry_with device known virt ram (s ∷ ss) None = missing_entry_under d
 unfoldable pub missing_entry : Machine → Option Entry
 missing_entry m = let virt = m.platform.virt in
     if folds virt
-    then missing_entry_with m.device (known_of m.first (tag_of virt) virt) virt m.ram m.spaces
+    then missing_entry_with m.device (known_of virt.first (tag_of virt) virt) virt m.ram m.spaces
     (due virt.csrs virt.mode)
     else None
 

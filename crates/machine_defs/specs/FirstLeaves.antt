@@ -4,9 +4,12 @@
 use Rattle.std.specs.Prelude.{ℕ, ◌%◌, ◌^◌, ◌==◌, List, [], ◌∷◌, ◌++◌, Option, Some, None, option_map, if◌then◌else◌}
 use Rattle.arch_defs.specs.declared.first.FirstEntry.{FirstEntry}
 use Rattle.arch_defs.specs.declared.first.Tag.{Tag}
+use Rattle.arch_defs.specs.declared.first.Tag.TheVariants.{Flat, Nested}
 use Rattle.arch_defs.specs.declared.modes.Access.{Access}
 use Rattle.arch_defs.specs.declared.modes.Access.TheVariants.{Fetch}
+use Rattle.arch_defs.specs.declared.modes.Mode.{Mode}
 use Rattle.arch_defs.specs.declared.registers.Virtual.{Virtual}
+use Rattle.arch_defs.specs.declared.roots.GuestRoot.{GuestRoot}
 use Rattle.arch_defs.specs.declared.roots.SupervisorRoot.{SupervisorRoot}
 use Rattle.arch_defs.specs.declared.roots.SupervisorRoot.TheVariants as root
 use Rattle.arch_defs.specs.declared.walks.LeafPte.{LeafPte}
@@ -15,11 +18,13 @@ use Rattle.arch_defs.specs.declared.walks.WalkEnd.{WalkEnd}
 use Rattle.arch_defs.specs.declared.walks.WalkEnd.TheVariants.{Leaf, PageFault, FetchEnd}
 use Rattle.arch_defs.specs.declared.widths.Width.{Width}
 use Rattle.arch_defs.specs.declared.widths.Width.TheVariants.{Word}
-use Rattle.arch_defs.specs.FirstEntries.{first_entry, known_under, tag_for}
+use Rattle.arch_defs.specs.FirstEntries.{first_entry, known_under}
 use Rattle.arch_defs.specs.Memory.{Known, Mmu}
 use Rattle.arch_defs.specs.Permits.{permits_first}
 use Rattle.arch_defs.specs.Roots.{supervisor_shape}
+use Rattle.arch_defs.specs.TableEntries.{leaf_with}
 use Rattle.arch_defs.specs.Translation.{entry_words_through, privilege_of, supervisor_of}
+use Rattle.arch_defs.specs.Traps.{is_virtual}
 use Rattle.arch_defs.specs.Walk.{walk}
 use Rattle.arch_defs.specs.Widths.{bytes_in}
 use Rattle.op_defs.specs.declared.ops.Effect.{Effect}
@@ -29,7 +34,10 @@ use Rattle.op_defs.specs.Meaning.{meaning}
 use Rattle.op_defs.specs.Table.{op_of}
 use Rattle.machine_defs.specs.Core.{At, Fails, Located, fetch_place, kind_of, word_at}
 
--- for whom the accesses of a state are
+-- for whom the accesses of a mode are, and those of a state
+abbrev pub tag_for : Mode → GuestRoot → Tag
+tag_for mode hgatp = if is_virtual mode then Nested hgatp else Flat
+
 abbrev pub tag_of : Virtual → Tag
 tag_of virt = tag_for virt.mode virt.csrs.hgatp
 
@@ -40,7 +48,8 @@ known_of first tag virt =
 
 -- the leaf at which a walk ends, if it permits the access; Bare has none
 abbrev pub leaf_if : Privilege → Access → WalkEnd → Option LeafPte
-leaf_if privilege access (Leaf leaf) = if permits_first privilege access leaf then Some leaf else None
+leaf_if privilege access (Leaf frame level r w x u) =
+    let leaf = leaf_with frame level r w x u in if permits_first privilege access leaf then Some leaf else None
 leaf_if privilege access PageFault = None
 leaf_if privilege access (FetchEnd place trap) = None
 

@@ -1,10 +1,18 @@
 -- A machine that caches translations freely: before each step it may walk the tables of hgatp and of satp or
 -- vsatp and cache the translations, and drop what it has cached; each access goes by what is cached or by a
 -- walk; and what a fence names is dropped (Privileged Architecture 20211203, 4.2.1, 4.3.2, 8.2.10, 8.3.1,
--- 8.3.2 and 8.5). It is narrower than the architecture in five points (own): a walk reads all its entries at
--- once, and none above the leaf is cached; equal accesses of one step have equal places; a fault is always
--- that of the walk as RAM is; HLV, HLVX and HSV go by this walk alone; and translations of the first stage
--- are cached of the present mode's own register alone, where its privilege permits the access.
+-- 8.3.2 and 8.5). It is narrower than the architecture in nine points (own):
+-- 1. A walk reads all its entries at once, and none above the leaf is cached.
+-- 2. Equal accesses of one step have equal places.
+-- 3. A fault is always that of the walk as RAM is.
+-- 4. HLV, HLVX and HSV go by this walk alone.
+-- 5. Translations of the first stage are cached of the present mode's own register alone, where its privilege
+--    permits the access.
+-- 6. All that is cached is cached before a step.
+-- 7. A first-stage translation serves under one whole value of satp, or of vsatp and hgatp, and under no other
+--    one with the same ASID or VMID, also where its leaf is global.
+-- 8. A fence of the first stage by ASID drops translations of global leaves too.
+-- 9. HFENCE.GVMA by page drops all first-stage translations of the VMID.
 use Rattle.std.specs.Prelude.{ℕ, zero, suc, ◌≡◌, ◌/◌, ◌⊎◌, ◌&&◌, Bool, true, false, List, [], Option, Some, None, All, Contains, flat_map, map}
 use Rattle.arch_defs.specs.declared.cached.Entry.{Entry}
 use Rattle.arch_defs.specs.declared.cached.Fence.{Fence}
@@ -37,13 +45,13 @@ pub record CachedTranslation : Type 0 where
   pub vmid : ℕ
   pub entry : Entry
 
--- a machine, and the translations of each stage that it has cached: any number, and any number for one page
--- and VMID, or for one page and the same accesses (4.3.2)
+-- a machine, and the translations of the second stage that it has cached: any number, and any number for one
+-- page and VMID. In the buffer's place it has any number of the first stage, and any for one page and the
+-- same accesses (4.3.2)
 pub record FreeMachine : Type 0 where
   pub platform : Platform
   pub ram : List ℕ
   pub cache : List CachedTranslation
-  pub first : List FirstEntry
   pub device : Bool
 
 -- whether hgatp is active: always but in U without hstatus.HU (8.2.10)
@@ -146,13 +154,16 @@ pub record MayTranslate (caching : Caching) (device : Bool) (virt : Virtual) (ra
       → IsByCache caching device virt cache address kind (answer_by stages address kind)
       ⊎ IsByWalk device virt ram address kind (answer_by stages address kind)
 
+-- a platform without its first-stage translations
+abbrev pub without_buffer : Platform → Platform
+without_buffer p = record p { virt = record p.virt { first = [] } }
+
 -- the machine without its cache, and what one try of its next step under stages leaves of it
 abbrev pub uncached : FreeMachine → Machine
 uncached f = record {
   platform = f.platform;
   ram = f.ram;
   spaces = [];
-  first = [];
   space_room = 0;
   entry_room = 0;
   device = f.device;
@@ -175,15 +186,15 @@ pub record FreeStep (caching : Caching) (f g : FreeMachine) : Type 0 where
   pub stages : Stages
   pub first : List FirstEntry
   pub first_allowed :
-      All (λ e. Contains f.first e ⊎ IsFirstWalked f.platform.virt f.ram stages.second e) first
+      All (λ e. Contains f.platform.virt.first e ⊎ IsFirstWalked f.platform.virt f.ram stages.second e) first
   pub translates : MayTranslate caching f.device f.platform.virt f.ram cache first stages
-  pub platform : g.platform ≡ (left_under stages f).platform
+  pub platform : without_buffer g.platform ≡ without_buffer (left_under stages f).platform
   pub ram : g.ram ≡ (left_under stages f).ram
   pub device : g.device ≡ f.device
   pub kept : All (Contains cache) g.cache
   pub fenced : All (λ c. is_named (fence_under stages (uncached f)) c.vmid c.entry ≡ false) g.cache
-  pub first_kept : All (Contains first) g.first
-  pub first_fenced : All (λ e. named_by_try stages (uncached f) e ≡ false) g.first
+  pub first_kept : All (Contains first) g.platform.virt.first
+  pub first_fenced : All (λ e. named_by_try stages (uncached f) e ≡ false) g.platform.virt.first
 
 -- a machine that waits and cannot wake, or that has stopped, makes no step
 abbrev pub FreeMove : Caching → Status → FreeMachine → FreeMachine → Type 0
@@ -207,7 +218,6 @@ free_of m = record {
   platform = m.platform;
   ram = m.ram;
   cache = flat_map cached_in m.spaces;
-  first = m.first;
   device = m.device;
 }
 

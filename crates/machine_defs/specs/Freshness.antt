@@ -82,4 +82,4 @@ pub record IsFirstFresh (m : Machine) (steps : ℕ) (e : FirstEntry) : Type 0 wh
 
 -- so is each that the next step may use
 abbrev pub FirstFresh : Machine → ℕ → Type 0
-FirstFresh m steps = All (IsFirstFresh m steps) (run m steps).first
+FirstFresh m steps = All (IsFirstFresh m steps) (run m steps).platform.virt.first

@@ -22,8 +22,9 @@ use Rattle.guest_specs.specs.declared.guests.GuestSpec.{GuestSpec}
 use Rattle.guest_specs.specs.declared.statuses.Status.{Status}
 use Rattle.guest_specs.specs.declared.statuses.Status.TheVariants as status
 
--- a machine without its RAM and its cached translations: registers, clock with its timer, console with its
--- unread inputs, count of steps, and status. The execution environment is part of it (own)
+-- a machine without its RAM and its spaces: registers with the first-stage translations, clock with its
+-- timer, console with its unread inputs, count of steps, and status. The execution environment is part of it
+-- (own)
 pub record Platform : Type 0 where
   pub virt : Virtual
   pub clock : Times
@@ -32,15 +33,23 @@ pub record Platform : Type 0 where
   pub status : Status
 
 -- a machine: its platform, its RAM, and its spaces, the most recently entered first, with how many there may
--- be and of how many entries; its first-stage translations, oldest first; and whether it has the device page
+-- be and of how many entries; and whether it has the device page
 pub record Machine : Type 0 where
   pub platform : Platform
   pub ram : List ℕ
   pub spaces : List Space
-  pub first : List FirstEntry
   pub space_room : ℕ
   pub entry_room : ℕ
   pub device : Bool
+
+-- a platform with these registers; its first-stage translations stay
+abbrev pub with_registers : Platform → Virtual → Platform
+with_registers p virt = record p { virt = record virt { first = p.virt.first } }
+
+-- a machine with these first-stage translations
+abbrev pub with_first : Machine → List FirstEntry → Machine
+with_first m first =
+    record m { platform = record m.platform { virt = record m.platform.virt { first = first } } }
 
 -- the registers that the clock sets: the pending timer and external interrupt of sip, and time
 abbrev pub with_lines : Csrs → ℕ → Bool → Bool → Csrs
@@ -66,7 +75,6 @@ start guest = record {
   });
   ram = loaded (guest.blocks * block_size) guest.image;
   spaces = [];
-  first = [];
   space_room = guest.spaces;
   entry_room = guest.entries;
   device = guest.device;
@@ -105,13 +113,13 @@ stepped_to m platform event = Ended (record m { platform = ticked platform }) ev
 
 -- a trap is taken, which is a step
 abbrev pub trapped : Machine → Trap → Tried
-trapped m trap = stepped_to m (record m.platform { virt = entered_by_trap m.platform.virt trap })
+trapped m trap = stepped_to m (with_registers m.platform (entered_by_trap m.platform.virt trap))
     (event.Trap (target m.platform.virt.csrs m.platform.virt.mode trap) trap.interrupt)
 
 -- a wait that ends at a moment is a step, after which the clock is there
 abbrev pub waited_until : Machine → Virtual → Option ℕ → Tried
 waited_until m virt (Some moment) =
-    Ended (record m { platform = made_by (record m.platform { virt = virt }) moment }) event.System
+    Ended (record m { platform = made_by (with_registers m.platform virt) moment }) event.System
 waited_until m virt None = WaitsForGood
 
 -- whether an interrupt is pending and enabled, whoever takes it and whether it is taken now or not
@@ -122,5 +130,5 @@ has_enabled_interrupt csrs = list_any (λ code. is_pending csrs code && is_enabl
 -- (own, within 3.3.3)
 abbrev pub waited : Machine → Virtual → Tried
 waited m virt = let p = m.platform in
-    if has_enabled_interrupt p.virt.csrs then stepped_to m (record p { virt = virt }) event.System
+    if has_enabled_interrupt p.virt.csrs then stepped_to m (with_registers p virt) event.System
     else waited_until m virt (wake_moment p.virt.csrs.sie p.clock.timer (next_input p.console.inputs))

@@ -23,7 +23,7 @@ use Rattle.machine_defs.specs.DeviceSteps.{device_step, on_device}
 use Rattle.machine_defs.specs.FirstLeaves.{known_of, leaves_found, tag_of}
 use Rattle.op_defs.specs.declared.ops.DataAccess.{DataAccess}
 use Rattle.machine_defs.specs.HlvAccesses.{Completes, Device, HlvEnd, Traps, hlv_outcome}
-use Rattle.machine_defs.specs.Machine.{Machine, Tried, called, stepped_to, trapped, waited}
+use Rattle.machine_defs.specs.Machine.{Machine, Tried, called, stepped_to, trapped, waited, with_first, with_registers}
 use Rattle.machine_defs.specs.Outcomes.{Outcome, Done, Trapped, Missed, Called, Waits, Fenced, FirstFenced, Accesses}
 
 -- a machine's own second stage: the entries of the front space while it folds, else RAM as it is
@@ -48,7 +48,7 @@ pub record Stages : Type 0 where
 -- a machine's own: what its first-stage translations say is known
 abbrev pub stages_of : Machine → Stages
 stages_of m = let virt = m.platform.virt in
-    record { known = known_of m.first (tag_of virt) virt; second = second_of m; device = device_of m }
+    record { known = known_of virt.first (tag_of virt) virt; second = second_of m; device = device_of m }
 
 -- what its accesses go through under stages, and under its own
 abbrev pub mmu_under : Stages → Machine → Mmu
@@ -70,7 +70,7 @@ spaces_after m after =
 abbrev pub committed : Machine → Virtual → Option Stored → Event → Tried
 committed m virt stored event =
     stepped_to (record m { ram = with_stored ram_base stored m.ram; spaces = spaces_after m virt })
-    (record m.platform { virt = virt }) event
+    (with_registers m.platform virt) event
 
 -- an HLV, HLVX or HSV, as its access ends
 abbrev pub hlv_committed : Machine → DataAccess → HlvEnd → Tried
@@ -87,7 +87,12 @@ unplaced m missing wanted false =
 
 -- a machine without the first-stage translations that are named
 abbrev pub first_fenced : (FirstEntry → Bool) → Machine → Machine
-first_fenced named m = record m { first = unnamed_first named m.first }
+first_fenced named m = with_first m (unnamed_first named m.platform.virt.first)
+
+-- a fence that leaves this state and names these
+abbrev pub fence_step : (FirstEntry → Bool) → Machine → Virtual → Tried
+fence_step named m virt =
+    let left = first_fenced named m in stepped_to left (with_registers left.platform virt) event.System
 
 -- which of them the outcome of an instruction names, where the accesses are for whom a tag says, if it is a
 -- fence
@@ -106,11 +111,9 @@ apply_outcome device m (Missed missing wanted) =
 apply_outcome device m Called = stepped_to m (called m.platform) event.System
 apply_outcome device m (Waits virt) = waited m virt
 apply_outcome device m (Fenced virt fence) =
-    stepped_to (first_fenced (names_first_of_guest fence) (record m { spaces = fenced fence m.spaces }))
-    (record m.platform { virt = virt }) event.System
+    fence_step (names_first_of_guest fence) (record m { spaces = fenced fence m.spaces }) virt
 apply_outcome device m (FirstFenced virt named fence) =
-    stepped_to (first_fenced (names_first (unwrap_or named (tag_of m.platform.virt)) fence) m)
-    (record m.platform { virt = virt }) event.System
+    fence_step (names_first (unwrap_or named (tag_of m.platform.virt)) fence) m virt
 apply_outcome device m (Accesses wanted) =
     hlv_committed m wanted (hlv_outcome m.device (ram_memory m.ram) m.platform.virt wanted)
 
@@ -124,7 +127,8 @@ found_by_outcome stages m =
     leaves_found (tag_of m.platform.virt) (mmu_under stages m) m.platform.virt
 
 abbrev pub with_found : Stages → Machine → Machine
-with_found stages m = record m { first = all_filled m.first (found_by_outcome stages m) }
+with_found stages m =
+    with_first m (all_filled m.platform.virt.first (found_by_outcome stages m))
 
 -- the interrupt of this code, if one is due, or else one instruction, which has cached what it found, however
 -- it ends

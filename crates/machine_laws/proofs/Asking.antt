@@ -13,6 +13,7 @@ use Rattle.arch_defs.specs.declared.roots.SupervisorRoot.TheVariants as root
 use Rattle.arch_defs.specs.declared.registers.Virtual.{Virtual}
 use Rattle.arch_defs.specs.declared.walks.Found.{Found}
 use Rattle.arch_defs.specs.declared.walks.Found.TheVariants.{Passes, PageFaults, MissesEntry}
+use Rattle.arch_defs.specs.declared.walks.LeafPte.{LeafPte}
 use Rattle.arch_defs.specs.declared.walks.Next.{Next}
 use Rattle.arch_defs.specs.declared.walks.Next.TheVariants.{Ends, Below}
 use Rattle.arch_defs.specs.declared.walks.Privilege.{Privilege}
@@ -27,7 +28,7 @@ use Rattle.arch_defs.specs.CsrAccess.{read_csr, write_csr}
 use Rattle.arch_defs.specs.Memory.{Known, Mmu, Reading, SecondStage, mmu}
 use Rattle.arch_defs.specs.Permits.{permits_first}
 use Rattle.arch_defs.specs.Roots.{supervisor_shape}
-use Rattle.arch_defs.specs.TableEntries.{entry_next, is_aligned, is_leaf, is_marked, is_valid, leaf_next, leaf_pte, pointer_next, pte_of}
+use Rattle.arch_defs.specs.TableEntries.{end_at_leaf, entry_next, is_aligned, is_leaf, is_marked, is_valid, leaf_next, leaf_pte, leaf_with, pointer_next, pte_of}
 use Rattle.arch_defs.specs.Traps.{exception, faults_of}
 use Rattle.arch_defs.specs.Translation.{entry_word_at, entry_words_through, first_stage, found_by, found_under, privilege_of, supervisor_of}
 use Rattle.arch_defs.specs.Walk.{EntryReading, Met, end_of, is_canonical, later, leaf_address, levels, met_in, most_levels, next_of, or_else, path, path_from, place_of, read_next, walk}
@@ -78,26 +79,26 @@ stops_more small large asked more address kind same same' wider then (inside, no
 
 -- the ends of two walks
 abbrev pub EndsAlike : SecondStage → SecondStage → List ℕ → WalkEnd → WalkEnd → Type 0
-EndsAlike small large asked (Leaf leaf) other = other ≡ Leaf leaf
+EndsAlike small large asked (Leaf frame level r w x u) other = other ≡ Leaf frame level r w x u
 EndsAlike small large asked PageFault other = other ≡ PageFault
 EndsAlike small large asked (FetchEnd place trap) other = StopsAt small large asked place Implicit (other ≡ FetchEnd place trap)
 
 ends_more : (small large : SecondStage) (asked : List ℕ) (at : ℕ) (end other : WalkEnd)
     → EndsAlike small large asked end other → EndsAlike small large (at ∷ asked) end other
-ends_more small large asked at (Leaf leaf) other alike = alike
+ends_more small large asked at (Leaf frame level r w x u) other alike = alike
 ends_more small large asked at PageFault other alike = alike
 ends_more small large asked at (FetchEnd place trap) other alike =
     stops_more small large asked (at ∷ asked) place Implicit (other ≡ FetchEnd place trap) (other ≡ FetchEnd place trap) (λ h. inr h) (λ e. e) alike
 
 -- an entry that was read is no end of reading
 abbrev pub IsRead : Next → Type 0
-IsRead (Ends (Leaf leaf)) = Unit {0}
+IsRead (Ends (Leaf frame level r w x u)) = Unit {0}
 IsRead (Ends PageFault) = Unit {0}
 IsRead (Ends (FetchEnd place trap)) = ⊥
 IsRead (Below table) = Unit {0}
 
 leaf_is_read : (level : ℕ) (access : Access) (e : Pte) → IsRead (leaf_next level access e)
-leaf_is_read level access e = either IsRead (is_aligned level e.frame && is_marked access e) (Ends (Leaf (leaf_pte level e))) (Ends PageFault) tt tt
+leaf_is_read level access e = either IsRead (is_aligned level e.frame && is_marked access e) (Ends (end_at_leaf (leaf_pte level e))) (Ends PageFault) tt tt
 
 pointer_is_read : (level : ℕ) (e : Pte) → IsRead (pointer_next level e)
 pointer_is_read level e = either IsRead (e.a || e.d || e.u || level == 0) (Ends PageFault) (Below e.frame) tt tt
@@ -117,7 +118,7 @@ next_alike : (small large : SecondStage) (access : Access) (at : ℕ) (from_smal
     → ((table : ℕ) → EndsAlike small large (places_of (from_large table)) (end_of access (from_small table)) (end_of access (from_large table)))
     → (next : Next) → IsRead next
     → EndsAlike small large (at ∷ places_of (later from_large next)) (or_else (end_of access (later from_small next)) next) (or_else (end_of access (later from_large next)) next)
-next_alike small large access at from_small from_large below (Ends (Leaf leaf)) read = refl
+next_alike small large access at from_small from_large below (Ends (Leaf frame level r w x u)) read = refl
 next_alike small large access at from_small from_large below (Ends PageFault) read = refl
 next_alike small large access at from_small from_large below (Ends (FetchEnd place trap)) read = absurd read
 next_alike small large access at from_small from_large below (Below table) read =
@@ -173,8 +174,11 @@ FindsAlike small large asked (MissesEntry place) other = StopsAt small large ask
 
 found_alike : (small large : SecondStage) (asked : List ℕ) (privilege : Privilege) (access : Access) (va : ℕ) (end other : WalkEnd)
     → EndsAlike small large asked end other → FindsAlike small large asked (found_by privilege access va end) (found_by privilege access va other)
-found_alike small large asked privilege access va (Leaf leaf) other alike = rw alike (both (permits_first privilege access leaf))
+found_alike small large asked privilege access va (Leaf frame level r w x u) other alike = rw alike (both (permits_first privilege access leaf))
   where
+    leaf : LeafPte
+    leaf = leaf_with frame level r w x u
+
     both : (permits : Bool) → FindsAlike small large asked (cond permits (Passes (leaf_address leaf va)) PageFaults) (cond permits (Passes (leaf_address leaf va)) PageFaults)
     both true = refl
     both false = refl

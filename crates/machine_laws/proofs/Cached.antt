@@ -21,6 +21,7 @@ use Rattle.arch_defs.specs.Memory.{ram_memory}
 use Rattle.arch_defs.specs.Spaces.{Space}
 use Rattle.arch_defs.specs.Permits.{permits_second}
 use Rattle.arch_defs.specs.SecondStage.{guest_root_frame, has_frame_of, memory_words, second_end, second_walk}
+use Rattle.arch_defs.specs.TableEntries.{end_at_leaf, leaf_with}
 use Rattle.arch_defs.specs.Walk.{leaf_address, walk}
 use Rattle.arch_defs.specs.WalkedEntries.{entry_by_end, entry_by_walk, entry_under, folds}
 use Rattle.op_defs.specs.declared.ops.DataAccess.{DataAccess}
@@ -97,7 +98,7 @@ unfolding missing_entry missing_entry_under
 lacked m e is = by (folds m.platform.virt) refl m.spaces (due m.platform.virt.csrs m.platform.virt.mode) is
   where
     by : (b : Bool) → folds m.platform.virt ≡ b → (spaces : List Space) (code : Option ℕ)
-        → cond b (missing_entry_with m.device (known_of m.first (tag_of m.platform.virt) m.platform.virt) m.platform.virt m.ram spaces code) None ≡ Some e
+        → cond b (missing_entry_with m.device (known_of m.platform.virt.first (tag_of m.platform.virt) m.platform.virt) m.platform.virt m.ram spaces code) None ≡ Some e
         → (folds m.platform.virt ≡ true) × ((u : MissingPlace) × (entry_by_walk m.device m.platform.virt.csrs m.ram u.address u.kind ≡ Some e))
     by true folding (s ∷ ss) None is = let at = stopped m.device m.platform.virt.csrs m.ram s.entries _ e is in (folding, (at.missing, at.walked))
     by true folding (s ∷ ss) (Some code) is = absurd cc
@@ -110,7 +111,7 @@ serves device ram place = has_frame_of (ram_memory ram) place || (device && is_o
 
 -- what an entry of now comes from
 pub record IsGiven (device mxr : Bool) (ram : List ℕ) (shape : Shape) (ppn address : ℕ) (kind : Access) (e : Entry) (leaf : LeafPte) : Type 0 where
-  pub walked : walk (memory_words (ram_memory ram)) (guest_root_frame ppn) shape address kind ≡ Leaf leaf
+  pub walked : walk (memory_words (ram_memory ram)) (guest_root_frame ppn) shape address kind ≡ end_at_leaf leaf
   pub permits : permits_second mxr kind leaf ≡ true
   pub inside : serves device ram (leaf_address leaf address) ≡ true
   pub is : e ≡ entry_under leaf address
@@ -130,7 +131,7 @@ given device mxr ram shape ppn address kind e is = by (walk (memory_words (ram_m
     found leaf has false false is = absurd cc
 
     at : (leaf : LeafPte) (permits : Bool) → permits_second mxr kind leaf ≡ permits
-        → walk (memory_words (ram_memory ram)) (guest_root_frame ppn) shape address kind ≡ Leaf leaf
+        → walk (memory_words (ram_memory ram)) (guest_root_frame ppn) shape address kind ≡ end_at_leaf leaf
         → entry_by_end device address (cond (not permits) GuestPageFault (cond (has_frame_of (ram_memory ram) (leaf_address leaf address)) (guest.Leaf leaf)
         (cond (is_on_device (leaf_address leaf address)) (guest.Device leaf) AccessFault))) ≡ Some e
         → (leaf : LeafPte) × IsGiven device mxr ram shape ppn address kind e leaf
@@ -142,6 +143,6 @@ given device mxr ram shape ppn address kind e is = by (walk (memory_words (ram_m
     by : (end : WalkEnd) → walk (memory_words (ram_memory ram)) (guest_root_frame ppn) shape address kind ≡ end
         → entry_by_end device address (second_end (ram_memory ram) mxr address kind end) ≡ Some e
         → (leaf : LeafPte) × IsGiven device mxr ram shape ppn address kind e leaf
-    by (Leaf leaf) ends is = at leaf (permits_second mxr kind leaf) refl ends is
+    by (Leaf frame level r w x u) ends is = let leaf = leaf_with frame level r w x u in at leaf (permits_second mxr kind leaf) refl ends is
     by PageFault ends is = absurd cc
     by (FetchEnd place trap) ends is = absurd cc

@@ -11,7 +11,7 @@ use Rattle.arch_defs.specs.Spaces.{entered}
 use Rattle.arch_defs.specs.Traps.{entered_at, entered_hs, entered_vs, is_virtual, target}
 use Rattle.machine_laws.specs.Laws.{TriesChangeSpaces, spaces_left}
 use Rattle.arch_defs.specs.Roots.{is_table}
-use Rattle.machine_defs.specs.Machine.{Ended, Machine, Tried, WaitsForGood, called}
+use Rattle.machine_defs.specs.Machine.{Ended, Machine, Tried, WaitsForGood, called, with_first}
 use Rattle.machine_defs.specs.Tries.{Stages, enters, fence_under, spaces_after, try_under}
 use Rattle.machine_laws.proofs.Orderly.{called_same, goes_to}
 use Rattle.machine_laws.proofs.Rooting.{RootEnd, root_end}
@@ -46,11 +46,11 @@ same_mode s after same = ap (λ mode. not (is_virtual s.mode) && (is_virtual mod
 
 -- by how it ends
 ended_spaces : (m : Machine) {t : Tried} {fence : Option Fence} → RootEnd m t fence → SpacesAre m fence t
-ended_spaces m (Takes first trap) = let s = m.platform.virt in
+ended_spaces m (Takes first trap) = let s = (with_first m first).platform.virt in
     stay m (entered_at s trap (target s.csrs s.mode trap)) (trap_enters s trap (target s.csrs s.mode trap) (goes_to s trap))
 ended_spaces m (Makes first completion event keeps) = refl
 ended_spaces m (Serves first rd value console leaves) = stay m (sets m.platform.virt rd value) (same_mode m.platform.virt (sets m.platform.virt rd value) refl)
-ended_spaces m (Calls first) = stay m (called m.platform).virt (same_mode m.platform.virt (called m.platform).virt (called_same m.platform).0)
+ended_spaces m (Calls first) = let p = (with_first m first).platform in stay m (called p).virt (same_mode p.virt (called p).virt (called_same p).0)
 ended_spaces m (Passes first virt moment (mode, root)) = stay m virt (same_mode m.platform.virt virt mode)
 ended_spaces m Halts = tt
 ended_spaces m (Fences first virt fence keeps) = refl

@@ -28,7 +28,7 @@ abbrev pub machine : Machine → List Space → Machine
 machine m spaces = record m { spaces = spaces }
 
 abbrev pub lacks_by : Machine → List Entry → Option Entry
-lacks_by m = missing_entry_under m.device (known_of m.first (tag_of m.platform.virt) m.platform.virt) m.platform.virt m.ram
+lacks_by m = missing_entry_under m.device (known_of m.platform.virt.first (tag_of m.platform.virt) m.platform.virt) m.platform.virt m.ram
 
 -- what it lacks is what its front space's list does, if it folds and no interrupt is due
 pub missing_entry_front : (m : Machine) (s : Space) (ss : List Space) → folds m.platform.virt ≡ true → due m.platform.virt.csrs m.platform.virt.mode ≡ None
@@ -36,7 +36,7 @@ pub missing_entry_front : (m : Machine) (s : Space) (ss : List Space) → folds 
 unfolding missing_entry
 missing_entry_front m s ss folding none = by (folds m.platform.virt) (due m.platform.virt.csrs m.platform.virt.mode) folding none
   where
-    by : (b : Bool) (code : Option ℕ) → b ≡ true → code ≡ None → cond b (missing_entry_with m.device (known_of m.first (tag_of m.platform.virt) m.platform.virt) m.platform.virt m.ram (s ∷ ss) code) None ≡ lacks_by m s.entries
+    by : (b : Bool) (code : Option ℕ) → b ≡ true → code ≡ None → cond b (missing_entry_with m.device (known_of m.platform.virt.first (tag_of m.platform.virt) m.platform.virt) m.platform.virt m.ram (s ∷ ss) code) None ≡ lacks_by m s.entries
     by true None folding none = refl
     by true (Some code) folding none = absurd cc
     by false code folding none = absurd cc
@@ -49,7 +49,7 @@ pub interrupted_misses_nothing : InterruptedMissesNothing
 unfolding missing_entry
 interrupted_misses_nothing m code is = by (folds m.platform.virt) m.spaces (due m.platform.virt.csrs m.platform.virt.mode) is
   where
-    by : (b : Bool) (spaces : List Space) (there : Option ℕ) → there ≡ Some code → cond b (missing_entry_with m.device (known_of m.first (tag_of m.platform.virt) m.platform.virt) m.platform.virt m.ram spaces there) None ≡ None
+    by : (b : Bool) (spaces : List Space) (there : Option ℕ) → there ≡ Some code → cond b (missing_entry_with m.device (known_of m.platform.virt.first (tag_of m.platform.virt) m.platform.virt) m.platform.virt m.ram spaces there) None ≡ None
     by true (s ∷ ss) None is = absurd cc
     by true (s ∷ ss) (Some other) is = refl
     by true [] there is = refl
@@ -84,7 +84,7 @@ suffices_by m spaces room = by spaces (folds m.platform.virt) (due m.platform.vi
         → missing_entry (after_fills most (machine m spaces)) ≡ None
     by (s ∷ ss) true None folding none = rw (fills_front m ss folding none most s)
         (missing_entry_front m (record s { entries = filling (lacks_by m) m.entry_room most s.entries }) ss folding none
-        ∙ list_suffices m.device (known_of m.first (tag_of m.platform.virt) m.platform.virt) m.platform.virt m.ram m.entry_room s.entries room)
+        ∙ list_suffices m.device (known_of m.platform.virt.first (tag_of m.platform.virt) m.platform.virt) m.platform.virt m.ram m.entry_room s.entries room)
     by (s ∷ ss) true (Some code) folding is = nothing_to_fill most (machine m (s ∷ ss)) (rw (folding, is) refl)
     by [] true code folding is = nothing_to_fill most (machine m []) (rw folding refl)
     by spaces false code flat is = nothing_to_fill most (machine m spaces) (rw flat refl)

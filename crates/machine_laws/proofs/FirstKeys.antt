@@ -26,14 +26,15 @@ use Rattle.arch_defs.specs.declared.walks.WalkEnd.{WalkEnd}
 use Rattle.arch_defs.specs.declared.walks.WalkEnd.TheVariants.{Leaf, PageFault, FetchEnd}
 use Rattle.arch_defs.specs.Bits.{field, sign_extend}
 use Rattle.arch_defs.specs.CsrBits.{guest_root_of, hgatp_bits}
-use Rattle.arch_defs.specs.FirstEntries.{all_filled, first_entry, first_filled, first_room, is_first_of, tag_for, unnamed_first, without_first}
+use Rattle.arch_defs.specs.FirstEntries.{all_filled, first_entry, first_filled, first_room, is_first_of, unnamed_first, without_first}
 use Rattle.arch_defs.specs.Memory.{Mmu, SecondStage, mmu, nothing_known, ram_memory, reading_of}
 use Rattle.arch_defs.specs.Permits.{permits_first}
 use Rattle.arch_defs.specs.Roots.{supervisor_shape}
+use Rattle.arch_defs.specs.TableEntries.{end_at_leaf, leaf_with}
 use Rattle.arch_defs.specs.Translation.{entry_words_through, privilege_of, supervisor_of}
 use Rattle.arch_defs.specs.Walk.{EntryReading, end_of, is_canonical, levels, path, path_from, walk}
 use Rattle.arch_defs.proofs.Shapes.{few_levels}
-use Rattle.machine_defs.specs.FirstLeaves.{entry_walked, leaf_if, leaf_under, tag_of}
+use Rattle.machine_defs.specs.FirstLeaves.{entry_walked, leaf_if, leaf_under, tag_for, tag_of}
 use Rattle.machine_defs.specs.FreeMachines.{IsFirstWalked}
 use Rattle.machine_defs.specs.Machine.{Machine, start}
 use Rattle.machine_defs.specs.Runs.{left_after}
@@ -121,7 +122,7 @@ small_frame (suc (suc zero)) frame va low small aligned = omega arith
 small_frame (suc (suc (suc zero))) frame va low small aligned = omega arith
 small_frame (suc (suc (suc (suc level)))) frame va low small aligned = absurd (omega arith)
 
-sound_first : (reading : EntryReading) (mode : SupervisorMode) (page va : ℕ) (access : Access) (leaf : LeafPte) → walk reading page (supervisor_shape mode) va access ≡ Leaf leaf
+sound_first : (reading : EntryReading) (mode : SupervisorMode) (page va : ℕ) (access : Access) (leaf : LeafPte) → walk reading page (supervisor_shape mode) va access ≡ end_at_leaf leaf
     → (va < 2 ^ 64) × IsSound (levels (supervisor_shape mode)) leaf
 unfolding walk path end_of
 sound_first reading mode page va access leaf is = by (is_canonical (supervisor_shape mode) va) refl is
@@ -129,7 +130,7 @@ sound_first reading mode page va access leaf is = by (is_canonical (supervisor_s
     shape : Shape
     shape = supervisor_shape mode
 
-    by : (right : Bool) → is_canonical (supervisor_shape mode) va ≡ right → end_of access (cond right (path_from reading shape va access (levels shape) page) []) ≡ Leaf leaf
+    by : (right : Bool) → is_canonical (supervisor_shape mode) va ≡ right → end_of access (cond right (path_from reading shape va access (levels shape) page) []) ≡ end_at_leaf leaf
         → (va < 2 ^ 64) × IsSound (levels shape) leaf
     by true canonical is = (small_address mode va canonical, sound_path (levels shape) reading shape va access leaf (levels shape) page (omega arith) is)
     by false canonical is = absurd cc
@@ -137,8 +138,11 @@ sound_first reading mode page va access leaf is = by (is_canonical (supervisor_s
 table_given : (tag : Tag) (va : ℕ) (e : FirstEntry) (reading : EntryReading) (mode : SupervisorMode) (asid ppn page : ℕ) (privilege : Privilege) (access : Access) (end : WalkEnd)
     → walk reading page (supervisor_shape mode) va access ≡ end → option_map (first_entry tag (root.Table mode asid ppn) va) (leaf_if privilege access end) ≡ Some e
     → IsOfFirstTable e
-table_given tag va e reading mode asid ppn page privilege access (Leaf leaf) ends is = by (permits_first privilege access leaf) is
+table_given tag va e reading mode asid ppn page privilege access (Leaf frame level r w x u) ends is = by (permits_first privilege access leaf) is
   where
+    leaf : LeafPte
+    leaf = leaf_with frame level r w x u
+
     both : (va < 2 ^ 64) × IsSound (levels (supervisor_shape mode)) leaf
     both = sound_first reading mode page va access leaf ends
 
@@ -177,19 +181,19 @@ walked_of_table virt ram second e found = by (supervisor_of virt.csrs virt.mode)
     by (root.Table mode asid ppn) is = table_given (tag_of virt) found.va e (entry_words_through second (reading_of (ram_memory ram))) mode asid ppn (ppn % 2 ^ 44) privilege found.access _ refl is
 
 -- so a try keeps it, and a run
-try_keeps : (m : Machine) → HasFirst m.first → HasFirst (left_after m).first
+try_keeps : (m : Machine) → HasFirst m.platform.virt.first → HasFirst (left_after m).platform.virt.first
 try_keeps m has = let stages = stages_of m in let found = found_by_try stages m in record {
-  few = tried_keeps_list (λ first. length first ≤ first_room) unnamed_few m stages has.few (all_few m.first found has.few);
-  apart = tried_keeps_list (AllPairs AreApart) unnamed_apart m stages has.apart (all_apart m.first found has.apart);
+  few = tried_keeps_list (λ first. length first ≤ first_room) unnamed_few m stages has.few (all_few m.platform.virt.first found has.few);
+  apart = tried_keeps_list (AllPairs AreApart) unnamed_apart m stages has.apart (all_apart m.platform.virt.first found has.apart);
   tables = tried_keeps_first IsOfFirstTable m stages has.tables (found_if_ends IsOfFirstTable found (try_under stages m)
       (All-weaker (IsFirstWalked m.platform.virt m.ram stages.second) IsOfFirstTable (λ e walk. walked_of_table m.platform.virt m.ram stages.second e walk) found (tried_walked m stages)));
 }
 
-first_kept : IsKept (λ m. HasFirst m.first)
+first_kept : IsKept (λ m. HasFirst m.platform.virt.first)
 first_kept = record { filled = λ m e has lacks. has; tried = try_keeps }
 
 pub first_stays : RunKeepsFirst
-first_stays m n has = kept_by_runs (λ (t : Machine). HasFirst t.first) first_kept m n has
+first_stays m n has = kept_by_runs (λ (t : Machine). HasFirst t.platform.virt.first) first_kept m n has
 
 -- what they are for is what registers have, which can be stored
 tag_storable : (mode : Mode) (hgatp : GuestRoot) → guest_root_of (hgatp_bits hgatp) ≡ hgatp → IsStorableTag (tag_for mode hgatp)
@@ -216,19 +220,19 @@ walked_storable virt ram second e is found = by (leaf_under (mmu nothing_known s
         rw (← same) (record { tag = tag_storable virt.mode virt.csrs.hgatp (ap (λ (c : Csrs). c.hgatp) is.csrs); atp = atp_storable virt.csrs virt.mode is.csrs })
     by None is_entry = absurd cc
 
-try_keeps_storable : (m : Machine) → IsStorable m.platform.virt → AreStorable m.first → AreStorable (left_after m).first
+try_keeps_storable : (m : Machine) → IsStorable m.platform.virt → AreStorable m.platform.virt.first → AreStorable (left_after m).platform.virt.first
 try_keeps_storable m is all = let stages = stages_of m in let found = found_by_try stages m in
     tried_keeps_first IsStorableFirst m stages all (found_if_ends IsStorableFirst found (try_under stages m)
     (All-weaker (IsFirstWalked m.platform.virt m.ram stages.second) IsStorableFirst (λ e walk. walked_storable m.platform.virt m.ram stages.second e is walk) found (tried_walked m stages)))
 
-storable_kept : IsKept (λ m. AreStorable m.first × IsStorable m.platform.virt)
+storable_kept : IsKept (λ m. AreStorable m.platform.virt.first × IsStorable m.platform.virt)
 storable_kept = record {
   filled = λ m e (all, is) lacks. (all, fill_stays_storable m e is);
   tried = λ m (all, is). (try_keeps_storable m is all, try_stays_storable m is);
 }
 
 pub first_stays_storable : RunKeepsFirstStorable
-first_stays_storable m n is all = (kept_by_runs (λ (t : Machine). AreStorable t.first × IsStorable t.platform.virt) storable_kept m n (all, is)).0
+first_stays_storable m n is all = (kept_by_runs (λ (t : Machine). AreStorable t.platform.virt.first × IsStorable t.platform.virt) storable_kept m n (all, is)).0
 
 pub start_has_first : StartHasFirst
 unfolding start

@@ -49,12 +49,12 @@ unfolding next_named
 named_is m s e is = ap (λ s. named_by_status (ready m) s e) is
 
 -- fills leave the first stage as it is
-ready_same : (m : Machine) → (ready m).first ≡ m.first
-ready_same m = ap (λ (t : Machine). t.first) (only_spaces m (most_fills m))
+ready_same : (m : Machine) → (ready m).platform.virt.first ≡ m.platform.virt.first
+ready_same m = ap (λ (t : Machine). t.platform.virt.first) (only_spaces m (most_fills m))
 
 -- so after the next step
-step_fresh : (m : Machine) (steps : ℕ) → All (IsFirstFresh m steps) (run m steps).first → (s : Status) → (run m steps).platform.status ≡ s
-    → All (IsFirstFresh m (suc steps)) (stepped (run m steps) s).first
+step_fresh : (m : Machine) (steps : ℕ) → All (IsFirstFresh m steps) (run m steps).platform.virt.first → (s : Status) → (run m steps).platform.status ≡ s
+    → All (IsFirstFresh m (suc steps)) (stepped (run m steps) s).platform.virt.first
 step_fresh m steps all s going = by s (found_is now s going) (λ e. named_is now s e going)
   where
     now : Machine
@@ -64,19 +64,19 @@ step_fresh m steps all s going = by s (found_is now s going) (λ e. named_is now
     held entries fresh = All-weaker (IsFirstFresh m steps) (IsHeld m steps) (λ e one. inl one) entries fresh
 
     by : (s : Status) → next_found now ≡ found_by_status (ready now) s → ((e : FirstEntry) → next_named now e ≡ named_by_status (ready now) s e)
-        → All (IsFirstFresh m (suc steps)) (stepped now s).first
+        → All (IsFirstFresh m (suc steps)) (stepped now s).platform.virt.first
     by Running found named =
         let last = ready now in
         let stages = stages_of last in
-        let before : All (IsHeld m steps) last.first = subst (All (IsHeld m steps)) (sym (ready_same now)) (held now.first all) in
+        let before : All (IsHeld m steps) last.platform.virt.first = subst (All (IsHeld m steps)) (sym (ready_same now)) (held now.platform.virt.first all) in
         let finds : All (IsHeld m steps) (found_if_ended (found_by_try stages last) (try last)) = All-weaker (Contains (next_found now)) (IsHeld m steps) (λ e one. inr one)
         (found_if_ended (found_by_try stages last) (try last))
         (subst (λ entries. All (Contains (next_found now)) entries) found (All-contains_itself (next_found now))) in
         let kept = tried_keeps_first (IsHeld m steps) last stages before finds in
         let unnamed = tried_unnamed_first last stages in
-        λ i e inside. still_fresh m steps (get_or (left_after last).first i e) (kept i e inside) (named (get_or (left_after last).first i e) ∙ unnamed i e inside)
-    by Waiting found named = λ i e inside. still_fresh m steps (get_or now.first i e) (inl (all i e inside)) (named (get_or now.first i e))
-    by Stopped found named = λ i e inside. still_fresh m steps (get_or now.first i e) (inl (all i e inside)) (named (get_or now.first i e))
+        λ i e inside. still_fresh m steps (get_or (left_after last).platform.virt.first i e) (kept i e inside) (named (get_or (left_after last).platform.virt.first i e) ∙ unnamed i e inside)
+    by Waiting found named = λ i e inside. still_fresh m steps (get_or now.platform.virt.first i e) (inl (all i e inside)) (named (get_or now.platform.virt.first i e))
+    by Stopped found named = λ i e inside. still_fresh m steps (get_or now.platform.virt.first i e) (inl (all i e inside)) (named (get_or now.platform.virt.first i e))
 
 next_run : (m : Machine) (steps : ℕ) → step (run m steps) ≡ run m (suc steps)
 unfolding run
@@ -85,7 +85,7 @@ next_run m steps = let more : steps + 1 ≡ suc steps = omega arith in runs_comp
 pub runs_first_fresh : RunsFirstFresh
 unfolding run step
 runs_first_fresh m zero none = subst (All (IsFirstFresh m 0)) (sym none) (All-nil (IsFirstFresh m 0))
-runs_first_fresh m (suc steps) none = subst (λ (t : Machine). All (IsFirstFresh m (suc steps)) t.first) (next_run m steps)
+runs_first_fresh m (suc steps) none = subst (λ (t : Machine). All (IsFirstFresh m (suc steps)) t.platform.virt.first) (next_run m steps)
     (step_fresh m steps (runs_first_fresh m steps none) (run m steps).platform.status refl)
 
 pub guests_first_fresh : GuestsFirstFresh

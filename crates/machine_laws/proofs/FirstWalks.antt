@@ -148,11 +148,11 @@ all_gone : (entries : List FirstEntry) → All (λ e. ⊥) entries → entries �
 all_gone [] all = refl
 all_gone (e ∷ es) all = absurd (All-head (λ (e : FirstEntry). ⊥) e es all)
 
-pub bare_empties : (f g : FreeMachine) (s : FreeStep while_active f g) → f.first ≡ [] → (supervisor_of f.platform.virt.csrs f.platform.virt.mode).atp ≡ root.Bare → g.first ≡ []
-bare_empties f g s none bare = all_gone g.first (All-weaker (Contains s.first) (λ e. ⊥) (λ e held. held_never e (All-contains Held s.first e s.first_allowed held)) g.first s.first_kept)
+pub bare_empties : (f g : FreeMachine) (s : FreeStep while_active f g) → f.platform.virt.first ≡ [] → (supervisor_of f.platform.virt.csrs f.platform.virt.mode).atp ≡ root.Bare → g.platform.virt.first ≡ []
+bare_empties f g s none bare = all_gone g.platform.virt.first (All-weaker (Contains s.first) (λ e. ⊥) (λ e held. held_never e (All-contains Held s.first e s.first_allowed held)) g.platform.virt.first s.first_kept)
   where
     Held : FirstEntry → Type 0
-    Held e = Contains f.first e ⊎ IsFirstWalked f.platform.virt f.ram s.stages.second e
+    Held e = Contains f.platform.virt.first e ⊎ IsFirstWalked f.platform.virt f.ram s.stages.second e
 
     empty_never : (e : FirstEntry) → Contains [] e → ⊥
     empty_never e held = absurd (omega (arith, held.1))

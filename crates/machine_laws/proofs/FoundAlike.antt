@@ -49,7 +49,7 @@ same_place small large asked (Fails (Misses missing)) other alike none = alike.2
 -- and the walk for it ends alike
 same_end : (small large : SecondStage) (asked : List ℕ) (end other : WalkEnd) → EndsAlike small large asked end other
     → ((place : ℕ) (trap : Trap) → end ≡ FetchEnd place trap → large place Implicit ≡ None) → other ≡ end
-same_end small large asked (Leaf leaf) other alike none = alike
+same_end small large asked (Leaf frame level r w x u) other alike none = alike
 same_end small large asked PageFault other alike none = alike
 same_end small large asked (FetchEnd place trap) other alike none = alike.2 (none place trap refl)
 

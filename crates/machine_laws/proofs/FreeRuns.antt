@@ -31,9 +31,9 @@ use Rattle.op_defs.specs.declared.ops.DataAccess.{DataAccess}
 use Rattle.op_defs.specs.declared.ops.Purpose.{Purpose}
 use Rattle.machine_defs.specs.DeviceSteps.{DeviceCompletion, device_completed, device_step, device_wanted, served}
 use Rattle.machine_defs.specs.Fills.{most_fills, ready}
-use Rattle.machine_defs.specs.FreeMachines.{Answer, CachedTranslation, FreeMachine, FreeMove, FreeStep, IsByCache, IsByWalk, IsFirstWalked, IsWalked, MayTranslate, answer_by, cached_in, free_of, is_active, is_named, uncached, while_active, while_folding}
+use Rattle.machine_defs.specs.FreeMachines.{Answer, CachedTranslation, FreeMachine, FreeMove, FreeStep, IsByCache, IsByWalk, IsFirstWalked, IsWalked, MayTranslate, answer_by, cached_in, free_of, is_active, is_named, uncached, while_active, while_folding, without_buffer}
 use Rattle.machine_defs.specs.HlvAccesses.{HlvEnd, Completes, Device, Traps, hlv_outcome}
-use Rattle.machine_defs.specs.Machine.{Machine, has_enabled_interrupt, start, stepped_to, trapped, waited_until}
+use Rattle.machine_defs.specs.Machine.{Machine, has_enabled_interrupt, start, stepped_to, trapped, waited_until, with_first, with_registers}
 use Rattle.machine_defs.specs.Outcomes.{Outcome, Done, Trapped, Missed, Called, Waits, Fenced, FirstFenced, Accesses}
 use Rattle.machine_defs.specs.Runs.{left_by, run, step}
 use Rattle.machine_defs.specs.Tries.{Stages, apply_outcome, fence_under, fence_with, found_by_try, hlv_committed, named_by_try, named_with_code, outcome_under, tried_with, try_under, unplaced, with_found}
@@ -52,7 +52,6 @@ use Rattle.machine_laws.proofs.Ruling.{folds_by_front, front_device, has_permitt
 use Rattle.machine_laws.proofs.Running.{step_idle}
 use Rattle.machine_laws.proofs.FirstTries.{found_if_ends, tried_keeps_first, tried_unnamed_first}
 use Rattle.machine_laws.proofs.FirstWalks.{may_know, tried_walked}
-use Rattle.machine_laws.proofs.TryEnds.{having}
 
 -- the translations in spaces, and the entries with their keys
 abbrev translation : GuestRoot → Entry → CachedTranslation
@@ -84,66 +83,66 @@ each_of_cached Q (s ∷ ss) all = let both = split_all Q (cached_in s) (flat_map
 each_cached : (spaces : List Space) → EachEntry (λ key e. Contains (flat_map cached_in spaces) (translation key e)) spaces
 each_cached spaces = each_of_cached (Contains (flat_map cached_in spaces)) spaces (All-contains_itself (flat_map cached_in spaces))
 
--- a try leaves the same platform and RAM whatever the translations are, and leaves whether there is a device page
+-- a try leaves the same platform and RAM whatever the spaces are, and leaves whether there is a device page
 abbrev SameBeside : Bool → Machine → Machine → Type 0
 SameBeside device a b = (a.platform ≡ b.platform) × (a.ram ≡ b.ram) × (a.device ≡ device)
 
 abbrev stripped : Machine → Machine
 stripped m = uncached (free_of m)
 
-waited_beside : (m : Machine) (first other : List FirstEntry) (virt : Virtual) (moment : Option ℕ)
-    → SameBeside m.device (left_by m (waited_until (having m first) virt moment)) (left_by (stripped m) (waited_until (having (stripped m) other) virt moment))
-waited_beside m first other virt (Some moment) = (refl, refl, refl)
-waited_beside m first other virt None = (refl, refl, refl)
+waited_beside : (m : Machine) (first : List FirstEntry) (virt : Virtual) (moment : Option ℕ)
+    → SameBeside m.device (left_by m (waited_until (with_first m first) virt moment)) (left_by (stripped m) (waited_until (with_first (stripped m) first) virt moment))
+waited_beside m first virt (Some moment) = (refl, refl, refl)
+waited_beside m first virt None = (refl, refl, refl)
 
-waits_beside : (m : Machine) (first other : List FirstEntry) (virt : Virtual) (b : Bool) (moment : Option ℕ)
-    → SameBeside m.device (left_by m (cond b (stepped_to (having m first) (record m.platform { virt = virt }) event.System) (waited_until (having m first) virt moment)))
-    (left_by (stripped m) (cond b (stepped_to (having (stripped m) other) (record m.platform { virt = virt }) event.System) (waited_until (having (stripped m) other) virt moment)))
-waits_beside m first other virt true moment = (refl, refl, refl)
-waits_beside m first other virt false moment = waited_beside m first other virt moment
+waits_beside : (m : Machine) (first : List FirstEntry) (virt : Virtual) (b : Bool) (moment : Option ℕ)
+    → SameBeside m.device (left_by m (cond b (stepped_to (with_first m first) (with_registers (with_first m first).platform virt) event.System) (waited_until (with_first m first) virt moment)))
+    (left_by (stripped m) (cond b (stepped_to (with_first (stripped m) first) (with_registers (with_first m first).platform virt) event.System) (waited_until (with_first (stripped m) first) virt moment)))
+waits_beside m first virt true moment = (refl, refl, refl)
+waits_beside m first virt false moment = waited_beside m first virt moment
 
-served_beside : (m : Machine) (first other : List FirstEntry) (missing : MissingPlace) (completion : Option DeviceCompletion)
-    → SameBeside m.device (left_by m (served (having m first) missing completion)) (left_by (stripped m) (served (having (stripped m) other) missing completion))
-served_beside m first other missing (Some completion) = (refl, refl, refl)
-served_beside m first other missing None = (refl, refl, refl)
+served_beside : (m : Machine) (first : List FirstEntry) (missing : MissingPlace) (completion : Option DeviceCompletion)
+    → SameBeside m.device (left_by m (served (with_first m first) missing completion)) (left_by (stripped m) (served (with_first (stripped m) first) missing completion))
+served_beside m first missing (Some completion) = (refl, refl, refl)
+served_beside m first missing None = (refl, refl, refl)
 
-device_beside : (m : Machine) (first other : List FirstEntry) (missing : MissingPlace) (width : Width) (purpose : Purpose)
-    → SameBeside m.device (left_by m (device_step (having m first) missing width purpose)) (left_by (stripped m) (device_step (having (stripped m) other) missing width purpose))
-device_beside m first other missing width purpose = let p = m.platform in
-    served_beside m first other missing (device_completed p.virt p.console p.clock.time (missing.address % 4096) width purpose)
+device_beside : (m : Machine) (first : List FirstEntry) (missing : MissingPlace) (width : Width) (purpose : Purpose)
+    → SameBeside m.device (left_by m (device_step (with_first m first) missing width purpose)) (left_by (stripped m) (device_step (with_first (stripped m) first) missing width purpose))
+device_beside m first missing width purpose = let p = (with_first m first).platform in
+    served_beside m first missing (device_completed p.virt p.console p.clock.time (missing.address % 4096) width purpose)
 
-wanted_beside : (m : Machine) (first other : List FirstEntry) (missing : MissingPlace) (wanted : Option DataAccess)
-    → SameBeside m.device (left_by m (device_wanted (having m first) missing wanted)) (left_by (stripped m) (device_wanted (having (stripped m) other) missing wanted))
-wanted_beside m first other missing (Some wanted) = device_beside m first other missing wanted.width wanted.purpose
-wanted_beside m first other missing None = (refl, refl, refl)
+wanted_beside : (m : Machine) (first : List FirstEntry) (missing : MissingPlace) (wanted : Option DataAccess)
+    → SameBeside m.device (left_by m (device_wanted (with_first m first) missing wanted)) (left_by (stripped m) (device_wanted (with_first (stripped m) first) missing wanted))
+wanted_beside m first missing (Some wanted) = device_beside m first missing wanted.width wanted.purpose
+wanted_beside m first missing None = (refl, refl, refl)
 
-unplaced_beside : (m : Machine) (first other : List FirstEntry) (missing : MissingPlace) (wanted : Option DataAccess) (on : Bool)
-    → SameBeside m.device (left_by m (unplaced (having m first) missing wanted on)) (left_by (stripped m) (unplaced (having (stripped m) other) missing wanted on))
-unplaced_beside m first other missing wanted false = (refl, refl, refl)
-unplaced_beside m first other missing wanted true = by (is_implicit missing.kind)
+unplaced_beside : (m : Machine) (first : List FirstEntry) (missing : MissingPlace) (wanted : Option DataAccess) (on : Bool)
+    → SameBeside m.device (left_by m (unplaced (with_first m first) missing wanted on)) (left_by (stripped m) (unplaced (with_first (stripped m) first) missing wanted on))
+unplaced_beside m first missing wanted false = (refl, refl, refl)
+unplaced_beside m first missing wanted true = by (is_implicit missing.kind)
   where
-    by : (implicit : Bool) → SameBeside m.device (left_by m (cond implicit (trapped (having m first) (missing_place_fault missing)) (device_wanted (having m first) missing wanted)))
-        (left_by (stripped m) (cond implicit (trapped (having (stripped m) other) (missing_place_fault missing)) (device_wanted (having (stripped m) other) missing wanted)))
+    by : (implicit : Bool) → SameBeside m.device (left_by m (cond implicit (trapped (with_first m first) (missing_place_fault missing)) (device_wanted (with_first m first) missing wanted)))
+        (left_by (stripped m) (cond implicit (trapped (with_first (stripped m) first) (missing_place_fault missing)) (device_wanted (with_first (stripped m) first) missing wanted)))
     by true = (refl, refl, refl)
-    by false = wanted_beside m first other missing wanted
+    by false = wanted_beside m first missing wanted
 
-hlv_beside : (m : Machine) (first other : List FirstEntry) (wanted : DataAccess) (end : HlvEnd)
-    → SameBeside m.device (left_by m (hlv_committed (having m first) wanted end)) (left_by (stripped m) (hlv_committed (having (stripped m) other) wanted end))
-hlv_beside m first other wanted (Completes completion) = (refl, refl, refl)
-hlv_beside m first other wanted (Device missing) = device_beside m first other missing wanted.width wanted.purpose
-hlv_beside m first other wanted (Traps trap) = (refl, refl, refl)
+hlv_beside : (m : Machine) (first : List FirstEntry) (wanted : DataAccess) (end : HlvEnd)
+    → SameBeside m.device (left_by m (hlv_committed (with_first m first) wanted end)) (left_by (stripped m) (hlv_committed (with_first (stripped m) first) wanted end))
+hlv_beside m first wanted (Completes completion) = (refl, refl, refl)
+hlv_beside m first wanted (Device missing) = device_beside m first missing wanted.width wanted.purpose
+hlv_beside m first wanted (Traps trap) = (refl, refl, refl)
 
-concluded_beside : (m : Machine) (first other : List FirstEntry) (device : OnDevice) (o : Outcome)
-    → SameBeside m.device (left_by m (apply_outcome device (having m first) o)) (left_by (stripped m) (apply_outcome device (having (stripped m) other) o))
-concluded_beside m first other device (Done virt stored event) = (refl, refl, refl)
-concluded_beside m first other device (Trapped trap) = (refl, refl, refl)
-concluded_beside m first other device (Missed missing wanted) = unplaced_beside m first other missing wanted (device missing.address missing.kind)
-concluded_beside m first other device Called = (refl, refl, refl)
-concluded_beside m first other device (Waits virt) = waits_beside m first other virt (has_enabled_interrupt m.platform.virt.csrs)
+concluded_beside : (m : Machine) (first : List FirstEntry) (device : OnDevice) (o : Outcome)
+    → SameBeside m.device (left_by m (apply_outcome device (with_first m first) o)) (left_by (stripped m) (apply_outcome device (with_first (stripped m) first) o))
+concluded_beside m first device (Done virt stored event) = (refl, refl, refl)
+concluded_beside m first device (Trapped trap) = (refl, refl, refl)
+concluded_beside m first device (Missed missing wanted) = unplaced_beside m first missing wanted (device missing.address missing.kind)
+concluded_beside m first device Called = (refl, refl, refl)
+concluded_beside m first device (Waits virt) = waits_beside m first virt (has_enabled_interrupt m.platform.virt.csrs)
     (wake_moment m.platform.virt.csrs.sie m.platform.clock.timer (next_input m.platform.console.inputs))
-concluded_beside m first other device (Fenced virt fence) = (refl, refl, refl)
-concluded_beside m first other device (FirstFenced virt named fence) = (refl, refl, refl)
-concluded_beside m first other device (Accesses wanted) = hlv_beside m first other wanted (hlv_outcome m.device (ram_memory m.ram) m.platform.virt wanted)
+concluded_beside m first device (Fenced virt fence) = (refl, refl, refl)
+concluded_beside m first device (FirstFenced virt named fence) = (refl, refl, refl)
+concluded_beside m first device (Accesses wanted) = hlv_beside m first wanted (hlv_outcome m.device (ram_memory m.ram) (with_first m first).platform.virt wanted)
 
 tried_beside : (m : Machine) (stages : Stages) → SameBeside m.device (left_by m (try_under stages m)) (left_by (stripped m) (try_under stages (stripped m)))
 unfolding try_under
@@ -151,7 +150,7 @@ tried_beside m stages = by (due m.platform.virt.csrs m.platform.virt.mode)
   where
     by : (code : Option ℕ) → SameBeside m.device (left_by m (tried_with stages m code)) (left_by (stripped m) (tried_with stages (stripped m) code))
     by (Some code) = (refl, refl, refl)
-    by None = concluded_beside m (with_found stages m).first (with_found stages (stripped m)).first stages.device (outcome_under stages m)
+    by None = concluded_beside m (with_found stages m).platform.virt.first stages.device (outcome_under stages m)
 
 -- and is the same fence
 fence_beside : (m : Machine) (stages : Stages) → fence_under stages m ≡ fence_under stages (stripped m)
@@ -229,9 +228,9 @@ by_own m address kind is own = let virt = m.platform.virt in let mxr = virt.csrs
       on_device = ruled_device m address kind true own ∙ front_device m address kind there.0 ∙ ap (λ o. m.device && device_by mxr kind o) there.1.1;
     }
 
-ruled_by_cache : (m : Machine) → IsOrderly m → (first : List FirstEntry) → All (Contains first) m.first
+ruled_by_cache : (m : Machine) → IsOrderly m → (first : List FirstEntry) → All (Contains first) m.platform.virt.first
     → MayTranslate while_folding m.device m.platform.virt m.ram (flat_map cached_in m.spaces) first (ruled m)
-ruled_by_cache m is first all = record { known = may_know m.platform.virt m.first first all; answers = λ address kind. by address kind (has_own m address kind) refl }
+ruled_by_cache m is first all = record { known = may_know m.platform.virt m.platform.virt.first first all; answers = λ address kind. by address kind (has_own m address kind) refl }
   where
     by : (address : ℕ) (kind : Access) (own : Bool) → has_own m address kind ≡ own
         → IsByCache while_folding m.device m.platform.virt (flat_map cached_in m.spaces) address kind (answer_by (ruled m) address kind)
@@ -252,25 +251,25 @@ try_fences m stages = let after = (left_by m (try_under stages m)).spaces in
 
 -- of the first stage, those before a try and those that it finds
 abbrev first_held : Machine → Stages → List FirstEntry
-first_held m stages = m.first ++ found_by_try stages m
+first_held m stages = m.platform.virt.first ++ found_by_try stages m
 
-first_before : (m : Machine) (stages : Stages) → All (Contains (first_held m stages)) m.first × All (Contains (first_held m stages)) (found_by_try stages m)
-first_before m stages = split_first (Contains (first_held m stages)) m.first (found_by_try stages m) (All-contains_itself (first_held m stages))
+first_before : (m : Machine) (stages : Stages) → All (Contains (first_held m stages)) m.platform.virt.first × All (Contains (first_held m stages)) (found_by_try stages m)
+first_before m stages = split_first (Contains (first_held m stages)) m.platform.virt.first (found_by_try stages m) (All-contains_itself (first_held m stages))
 
 first_allowed : (m : Machine) (stages : Stages)
-    → All (λ e. Contains (free_of m).first e ⊎ IsFirstWalked m.platform.virt m.ram stages.second e) (first_held m stages)
-first_allowed m stages = let Held : FirstEntry → Type 0 = λ e. Contains m.first e ⊎ IsFirstWalked m.platform.virt m.ram stages.second e in
-    All-append Held m.first (found_by_try stages m)
-    (All-weaker (Contains m.first) Held (λ e held. inl held) m.first (All-contains_itself m.first))
+    → All (λ e. Contains (free_of m).platform.virt.first e ⊎ IsFirstWalked m.platform.virt m.ram stages.second e) (first_held m stages)
+first_allowed m stages = let Held : FirstEntry → Type 0 = λ e. Contains m.platform.virt.first e ⊎ IsFirstWalked m.platform.virt m.ram stages.second e in
+    All-append Held m.platform.virt.first (found_by_try stages m)
+    (All-weaker (Contains m.platform.virt.first) Held (λ e held. inl held) m.platform.virt.first (All-contains_itself m.platform.virt.first))
     (All-weaker (IsFirstWalked m.platform.virt m.ram stages.second) Held (λ e walk. inr walk) (found_by_try stages m) (tried_walked m stages))
 
-first_kept : (m : Machine) (stages : Stages) → All (Contains (first_held m stages)) (left_by m (try_under stages m)).first
+first_kept : (m : Machine) (stages : Stages) → All (Contains (first_held m stages)) (left_by m (try_under stages m)).platform.virt.first
 first_kept m stages = tried_keeps_first (Contains (first_held m stages)) m stages (first_before m stages).0
     (found_if_ends (Contains (first_held m stages)) (found_by_try stages m) (try_under stages m) (first_before m stages).1)
 
-first_unnamed : (m : Machine) (stages : Stages) → All (λ e. named_by_try stages (stripped m) e ≡ false) (left_by m (try_under stages m)).first
+first_unnamed : (m : Machine) (stages : Stages) → All (λ e. named_by_try stages (stripped m) e ≡ false) (left_by m (try_under stages m)).platform.virt.first
 first_unnamed m stages = All-weaker (λ e. named_by_try stages m e ≡ false) (λ e. named_by_try stages (stripped m) e ≡ false)
-    (λ e unnamed. sym (named_beside m stages e) ∙ unnamed) (left_by m (try_under stages m)).first (tried_unnamed_first m stages)
+    (λ e unnamed. sym (named_beside m stages e) ∙ unnamed) (left_by m (try_under stages m)).platform.virt.first (tried_unnamed_first m stages)
 
 -- a step from a machine at its last try, whose cached translations the free machine had or has walked
 step_freely : (m : Machine) (spaces : List Space) (next : Machine) → IsOrderly (record m { spaces = spaces }) → All (IsHeld m) (flat_map cached_in spaces)
@@ -283,14 +282,14 @@ step_freely m spaces next is held ends = let last = record m { spaces = spaces }
   first = first_held last stages;
   first_allowed = first_allowed last stages;
   translates = ruled_by_cache last is (first_held last stages) (first_before last stages).0;
-  platform = ap (λ (t : Machine). t.platform) ends ∙ (tried_beside last stages).0;
+  platform = ap without_buffer (ap (λ (t : Machine). t.platform) ends ∙ (tried_beside last stages).0);
   ram = ap (λ (t : Machine). t.ram) ends ∙ (tried_beside last stages).1;
   device = ap (λ (t : Machine). t.device) ends ∙ (tried_beside last stages).2;
   kept = subst (λ (t : Machine). All (Contains (flat_map cached_in spaces)) (flat_map cached_in t.spaces)) (sym ends) (try_keeps last stages);
   fenced = subst (λ (t : Machine). All (λ c. is_named (fence_under stages (stripped last)) c.vmid c.entry ≡ false) (flat_map cached_in t.spaces))
       (sym ends) (try_fences last stages);
-  first_kept = subst (λ (t : Machine). All (Contains (first_held last stages)) t.first) (sym ends) (first_kept last stages);
-  first_fenced = subst (λ (t : Machine). All (λ e. named_by_try stages (stripped last) e ≡ false) t.first) (sym ends) (first_unnamed last stages);
+  first_kept = subst (λ (t : Machine). All (Contains (first_held last stages)) t.platform.virt.first) (sym ends) (first_kept last stages);
+  first_fenced = subst (λ (t : Machine). All (λ e. named_by_try stages (stripped last) e ≡ false) t.platform.virt.first) (sym ends) (first_unnamed last stages);
 }
 
 running_freely : (m : Machine) → IsOrderly m → m.platform.status ≡ Running → FreeStep while_folding (free_of m) (free_of (step m))

@@ -20,7 +20,7 @@ use Rattle.arch_defs.specs.TableEntries.{span}
 use Rattle.arch_defs.specs.Traps.{is_virtual}
 use Rattle.arch_defs.specs.Roots.{is_table}
 use Rattle.arch_defs.specs.WalkedEntries.{entry_by_table, entry_by_walk, folds}
-use Rattle.machine_defs.specs.FreeMachines.{Answer, CachedTranslation, FreeMachine, FreeStep, IsByCache, IsByWalk, IsWalked, answer_by, is_named, left_under, uncached, while_active}
+use Rattle.machine_defs.specs.FreeMachines.{Answer, CachedTranslation, FreeMachine, FreeStep, IsByCache, IsByWalk, IsWalked, answer_by, is_named, left_under, uncached, while_active, without_buffer}
 use Rattle.machine_defs.specs.Tries.{Stages, fence_under}
 use Rattle.machine_laws.specs.Caching.{FencedByWalks, IsStepUnder, NothingIsKnown, UncachedByWalks, by_walks, names_address}
 use Rattle.machine_laws.proofs.FirstWalks.{nothing_by_none}
@@ -112,7 +112,7 @@ flat_steps f g s flat = stages_are s.stages f.device virt f.ram (λ address kind
 -- a step under stages
 pub steps_by : (f g : FreeMachine) (s : FreeStep while_active f g) (now : Stages) → s.stages ≡ now → IsStepUnder now f g
 steps_by f g s now same = record {
-  platform = s.platform ∙ ap (λ stages. (left_under stages f).platform) same;
+  platform = s.platform ∙ ap (λ stages. without_buffer (left_under stages f).platform) same;
   ram = s.ram ∙ ap (λ stages. (left_under stages f).ram) same;
 }
 

@@ -8,6 +8,7 @@ use Rattle.arch_defs.specs.declared.modes.Access.{Access}
 use Rattle.arch_defs.specs.declared.roots.GuestRoot.{GuestRoot}
 use Rattle.arch_defs.specs.declared.roots.GuestRoot.TheVariants as root
 use Rattle.arch_defs.specs.declared.registers.Virtual.{Virtual}
+use Rattle.arch_defs.specs.declared.walks.LeafPte.{LeafPte}
 use Rattle.arch_defs.specs.declared.walks.WalkEnd.{WalkEnd}
 use Rattle.arch_defs.specs.declared.walks.WalkEnd.TheVariants.{Leaf, PageFault, FetchEnd}
 use Rattle.arch_defs.specs.Devices.{is_on_device}
@@ -15,6 +16,7 @@ use Rattle.arch_defs.specs.Memory.{Memory, SecondStage, bare, nothing_known, rea
 use Rattle.arch_defs.specs.Permits.{permits_second}
 use Rattle.arch_defs.specs.Roots.{guest_shape}
 use Rattle.arch_defs.specs.SecondStage.{guest_root_frame, has_frame_of, memory_words, place_under, second_end, second_root_of, second_under, second_walk}
+use Rattle.arch_defs.specs.TableEntries.{leaf_with}
 use Rattle.arch_defs.specs.Walk.{leaf_address, walk}
 use Rattle.arch_defs.specs.Widths.{bytes_in}
 use Rattle.op_defs.specs.declared.ops.DataAccess.{DataAccess}
@@ -37,9 +39,12 @@ in_frame base place size has = let parts = and_parts (nat_le base (place / 4096 
 -- the walk of a table gives places of memory alone, and so does Bare
 end_held : (memory : Memory) (mxr : Bool) (address : ℕ) (kind : Access) (place : ℕ) (end : WalkEnd)
     → place_under address (second_end memory mxr address kind end) ≡ Some place → (places_from memory.base (length memory.bytes) place ≡ true) × (place % 4096 ≡ address % 4096)
-end_held memory mxr address kind place (Leaf leaf) is =
+end_held memory mxr address kind place (Leaf frame level r w x u) is =
     by (permits_second mxr kind leaf) (has_frame_of memory (leaf_address leaf address)) (is_on_device (leaf_address leaf address)) refl is
   where
+    leaf : LeafPte
+    leaf = leaf_with frame level r w x u
+
     by : (permitted has on : Bool) → has_frame_of memory (leaf_address leaf address) ≡ has
         → place_under address (cond (not permitted) GuestPageFault (cond has (guest.Leaf leaf) (cond on (guest.Device leaf) AccessFault))) ≡ Some place
         → (places_from memory.base (length memory.bytes) place ≡ true) × (place % 4096 ≡ address % 4096)

@@ -30,7 +30,7 @@ use Rattle.arch_defs.specs.WalkedEntries.{entry_by_table, entry_by_walk, entry_u
 use Rattle.arch_defs.proofs.Pastes.{length_pasted}
 use Rattle.machine_defs.specs.Fills.{missing_entry}
 use Rattle.machine_defs.specs.FirstLeaves.{tag_of}
-use Rattle.machine_defs.specs.Machine.{Machine, Platform, Tried, start}
+use Rattle.machine_defs.specs.Machine.{Machine, Platform, Tried, start, with_first}
 use Rattle.machine_laws.specs.EachEntry.{EachEntry, FrontHas}
 use Rattle.machine_laws.specs.Renaming.{CompletionWithin, GivesWithin, Places, ReservesWithin, StoresWithin}
 use Rattle.machine_laws.specs.Reservations.{CachesInRam, FillKeepsInRam, GivesRamAlone, HasPlace, IsInRam, KeepsInRam, ReservesInRam, RunKeepsInRam, StartIsInRam, TryKeepsInRam, places_from, ram_places}
@@ -145,11 +145,11 @@ HeldEnd m t fence = TryEnd (CompletionWithin (ram_places m)) (λ state. Reserves
 
 held_end : (m : Machine) → CachesInRam m → ReservesInRam m → HeldEnd m (try m) (fence_under (stages_of m) m)
 held_end m caches kept = try_end (CompletionWithin (ram_places m)) (λ state. ReservesWithin (ram_places m) state.reservation) (λ wanted. Unit {0})
-    m (stages_of m) (λ wanted any. hlv_held m.device (ram_memory m.ram) m.platform.virt kept wanted)
-    (stays_held (ram_places m) (mmu_of m) m.platform.virt (cached_keeps_page m.first (tag_of m.platform.virt) m.platform.virt) (gives_ram m caches) kept)
+    m (stages_of m) (λ first wanted any. hlv_held m.device (ram_memory m.ram) (with_first m first).platform.virt kept wanted)
+    (stays_held (ram_places m) (mmu_of m) m.platform.virt (cached_keeps_page m.platform.virt.first (tag_of m.platform.virt) m.platform.virt) (gives_ram m caches) kept)
 
 ended_in : (m : Machine) → length m.ram % 4096 ≡ 0 → ReservesInRam m → {t : Tried} {fence : Option Fence} → HeldEnd m t fence → InRam (length m.ram) (left_by m t)
-ended_in m whole kept (Takes first trap) = let s = m.platform.virt in (entered_keeps (ram_places m) s kept trap (target s.csrs s.mode trap), refl)
+ended_in m whole kept (Takes first trap) = let s = (with_first m first).platform.virt in (entered_keeps (ram_places m) s kept trap (target s.csrs s.mode trap), refl)
 ended_in m whole kept (Makes first completion event (stores, reserves)) = (reserves, size_kept m completion.stored whole stores)
 ended_in m whole kept (Calls first) = (either (λ (p : Platform). ReservesWithin (ram_places m) p.virt.reservation) (read m.platform.virt.regs a7 == 8) _ _ kept kept, refl)
 ended_in m whole kept (Serves first rd value console has) = (kept, refl)

@@ -15,12 +15,13 @@ use Rattle.arch_defs.specs.declared.walks.Next.{Next}
 use Rattle.arch_defs.specs.declared.walks.Next.TheVariants.{Ends, Below}
 use Rattle.arch_defs.specs.declared.walks.Shape.{Shape}
 use Rattle.arch_defs.specs.declared.walks.Pte.{Pte}
-use Rattle.arch_defs.specs.declared.walks.WalkEnd.TheVariants.{Leaf, PageFault}
+use Rattle.arch_defs.specs.declared.walks.WalkEnd.TheVariants.{PageFault}
+use Rattle.arch_defs.proofs.WalkEnds.{same_leaf}
 use Rattle.arch_defs.specs.Devices.{device_frame, is_on_device}
 use Rattle.arch_defs.specs.Memory.{block_size, ram_base, ram_memory}
 use Rattle.arch_defs.specs.Roots.{guest_shape}
 use Rattle.arch_defs.specs.SecondStage.{guest_root_frame, has_frame_of, memory_words}
-use Rattle.arch_defs.specs.TableEntries.{entry_next, is_aligned, is_leaf, is_marked, is_valid, leaf_pte, pte_of}
+use Rattle.arch_defs.specs.TableEntries.{end_at_leaf, entry_next, is_aligned, is_leaf, is_marked, is_valid, leaf_pte, pte_of}
 use Rattle.arch_defs.specs.Walk.{guest_bits, EntryReading, end_of, is_canonical, later, leaf_address, levels, most_level, most_levels, or_else, path, path_from, place_of, read_next, walk}
 use Rattle.arch_defs.specs.CachedEntries.{CanFill, IsReachable, guest_page_bits}
 use Rattle.arch_defs.specs.WalkedEntries.{entry_by_table, entry_by_walk, entry_under}
@@ -38,9 +39,9 @@ pub record IsSound (count : ℕ) (leaf : LeafPte) : Type 0 where
   pub aligned : is_aligned leaf.level leaf.frame ≡ true
 
 ends_at : (valid is_one fit ends : Bool) (one leaf : LeafPte) (table : ℕ)
-    → cond valid (cond is_one (cond fit (Ends (Leaf one)) (Ends PageFault)) (cond ends (Ends PageFault) (Below table))) (Ends PageFault) ≡ Ends (Leaf leaf)
+    → cond valid (cond is_one (cond fit (Ends (end_at_leaf one)) (Ends PageFault)) (cond ends (Ends PageFault) (Below table))) (Ends PageFault) ≡ Ends (end_at_leaf leaf)
     → (valid ≡ true) × (is_one ≡ true) × (fit ≡ true) × (one ≡ leaf)
-ends_at true true true ends one leaf table is = let same : one ≡ leaf = cc in (refl, refl, refl, same)
+ends_at true true true ends one leaf table is = let same = same_leaf one leaf is in (refl, refl, refl, same)
 ends_at true true false ends one leaf table is = absurd cc
 ends_at true false fit true one leaf table is = absurd cc
 ends_at true false fit false one leaf table is = absurd cc
@@ -56,7 +57,7 @@ small_frame : (word : ℕ) → (pte_of word).frame < 2 ^ 44
 unfolding pte_of
 small_frame word = omega arith
 
-sound_entry : (count level : ℕ) (kind : Access) (e : Pte) (leaf : LeafPte) → level < count → e.frame < 2 ^ 44 → entry_next level kind e ≡ Ends (Leaf leaf) → IsSound count leaf
+sound_entry : (count level : ℕ) (kind : Access) (e : Pte) (leaf : LeafPte) → level < count → e.frame < 2 ^ 44 → entry_next level kind e ≡ Ends (end_at_leaf leaf) → IsSound count leaf
 unfolding entry_next
 sound_entry count level kind e leaf low small is =
     let at = ends_at (is_valid e) (is_leaf e) (is_aligned level e.frame && is_marked kind e) (e.a || e.d || e.u || level == 0) (leaf_pte level e) leaf e.frame is in
@@ -69,19 +70,19 @@ sound_entry count level kind e leaf low small is =
     })
 
 pub sound_path : (count : ℕ) (reading : EntryReading) (shape : Shape) (va : ℕ) (kind : Access) (leaf : LeafPte) (level table : ℕ) → level ≤ count
-    → end_of kind (path_from reading shape va kind level table) ≡ Leaf leaf → IsSound count leaf
+    → end_of kind (path_from reading shape va kind level table) ≡ end_at_leaf leaf → IsSound count leaf
 unfolding path_from end_of
 sound_path count reading shape va kind leaf zero table low is = absurd cc
 sound_path count reading shape va kind leaf (suc level) table low is =
     by (place_of shape level table va) (reading (place_of shape level table va)) (λ t. sound_path count reading shape va kind leaf level t (omega arith)) is
   where
-    next : (next : Next) → (next ≡ Ends (Leaf leaf) → IsSound count leaf) → ((t : ℕ) → end_of kind (path_from reading shape va kind level t) ≡ Leaf leaf → IsSound count leaf)
-        → or_else (end_of kind (later (path_from reading shape va kind level) next)) next ≡ Leaf leaf → IsSound count leaf
+    next : (next : Next) → (next ≡ Ends (end_at_leaf leaf) → IsSound count leaf) → ((t : ℕ) → end_of kind (path_from reading shape va kind level t) ≡ end_at_leaf leaf → IsSound count leaf)
+        → or_else (end_of kind (later (path_from reading shape va kind level) next)) next ≡ end_at_leaf leaf → IsSound count leaf
     next (Ends end) here deeper is = here (ap Ends is)
     next (Below t) here deeper is = deeper t is
 
-    by : (at : ℕ) (read : Result ℕ Trap) → ((t : ℕ) → end_of kind (path_from reading shape va kind level t) ≡ Leaf leaf → IsSound count leaf)
-        → or_else (end_of kind (later (path_from reading shape va kind level) (read_next level at kind read))) (read_next level at kind read) ≡ Leaf leaf → IsSound count leaf
+    by : (at : ℕ) (read : Result ℕ Trap) → ((t : ℕ) → end_of kind (path_from reading shape va kind level t) ≡ end_at_leaf leaf → IsSound count leaf)
+        → or_else (end_of kind (later (path_from reading shape va kind level) (read_next level at kind read))) (read_next level at kind read) ≡ end_at_leaf leaf → IsSound count leaf
     by at (Ok word) deeper is = next (entry_next level kind (pte_of word)) (sound_entry count level kind (pte_of word) leaf (omega arith) (small_frame word)) deeper is
     by at (Err trap) deeper is = absurd cc
 
@@ -90,12 +91,12 @@ small_page : (mode : GuestMode) (va : ℕ) → is_canonical (guest_shape mode) v
 small_page Sv39x4 va is = let small = ltb-true va (2 ^ 41) is in omega (arith, small)
 small_page Sv48x4 va is = let small = ltb-true va (2 ^ guest_bits) is in omega (arith, small)
 
-sound_walk : (reading : EntryReading) (mode : GuestMode) (ppn va : ℕ) (kind : Access) (leaf : LeafPte) → walk reading ppn (guest_shape mode) va kind ≡ Leaf leaf
+sound_walk : (reading : EntryReading) (mode : GuestMode) (ppn va : ℕ) (kind : Access) (leaf : LeafPte) → walk reading ppn (guest_shape mode) va kind ≡ end_at_leaf leaf
     → (va / 4096 < 2 ^ page_bits mode) × IsSound (levels (guest_shape mode)) leaf
 unfolding walk path end_of
 sound_walk reading mode ppn va kind leaf is = by (is_canonical (guest_shape mode) va) refl is
   where
-    by : (right : Bool) → is_canonical (guest_shape mode) va ≡ right → end_of kind (cond right (path_from reading (guest_shape mode) va kind (levels (guest_shape mode)) ppn) []) ≡ Leaf leaf
+    by : (right : Bool) → is_canonical (guest_shape mode) va ≡ right → end_of kind (cond right (path_from reading (guest_shape mode) va kind (levels (guest_shape mode)) ppn) []) ≡ end_at_leaf leaf
         → (va / 4096 < 2 ^ page_bits mode) × IsSound (levels (guest_shape mode)) leaf
     by true right is = (small_page mode va right, sound_path (levels (guest_shape mode)) reading (guest_shape mode) va kind leaf (levels (guest_shape mode)) ppn (omega arith) is)
     by false right is = absurd cc

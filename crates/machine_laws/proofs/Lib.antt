@@ -21,6 +21,7 @@ pub mod HostPlaces
 pub mod InRam
 pub mod KeptByRuns
 pub mod KeyedEntries
+pub mod KeptFirst
 pub mod Keys
 pub mod Leaves
 pub mod MissedPlaces

@@ -11,6 +11,7 @@ use Rattle.arch_defs.specs.declared.roots.SupervisorRoot.{SupervisorRoot}
 use Rattle.arch_defs.specs.declared.roots.SupervisorRoot.TheVariants as root
 use Rattle.arch_defs.specs.declared.walks.Found.{Found}
 use Rattle.arch_defs.specs.declared.walks.Found.TheVariants.{Passes, PageFaults, MissesEntry}
+use Rattle.arch_defs.specs.declared.walks.LeafPte.{LeafPte}
 use Rattle.arch_defs.specs.declared.walks.MissingPlace.{MissingPlace}
 use Rattle.arch_defs.specs.declared.walks.Next.{Next}
 use Rattle.arch_defs.specs.declared.walks.Next.TheVariants.{Ends, Below}
@@ -24,7 +25,7 @@ use Rattle.arch_defs.specs.Memory.{Mmu, Reading, SecondStage}
 use Rattle.arch_defs.specs.Permits.{permits_first}
 use Rattle.arch_defs.specs.Roots.{supervisor_shape}
 use Rattle.arch_defs.specs.SecondStage.{guest_page_trap, is_implicit}
-use Rattle.arch_defs.specs.TableEntries.{entry_next, pte_of}
+use Rattle.arch_defs.specs.TableEntries.{entry_next, leaf_with, pte_of}
 use Rattle.arch_defs.specs.Translation.{entry_words_through, first_stage, found_by, found_under, privilege_of, supervisor_of}
 use Rattle.arch_defs.specs.Traps.{exception, faults_of}
 use Rattle.arch_defs.specs.Walk.{EntryReading, end_of, index, is_canonical, later, leaf_address, levels, met_in, next_of, or_else, path, path_from, place_of, read_next, walk}
@@ -135,7 +136,7 @@ missed_is_wanted through s missing wanted is =
 
 -- an entry that a walk cannot read is at a multiple of 8
 abbrev EndsWhole : WalkEnd → Type 0
-EndsWhole (Leaf leaf) = Unit {0}
+EndsWhole (Leaf frame level r w x u) = Unit {0}
 EndsWhole PageFault = Unit {0}
 EndsWhole (FetchEnd place trap) = place % 8 ≡ 0
 
@@ -144,7 +145,7 @@ NextWhole (Ends end) = EndsWhole end
 NextWhole (Below table) = Unit {0}
 
 read_whole : (next : Next) → IsRead next → NextWhole next
-read_whole (Ends (Leaf leaf)) read = tt
+read_whole (Ends (Leaf frame level r w x u)) read = tt
 read_whole (Ends PageFault) read = tt
 read_whole (Ends (FetchEnd place trap)) read = absurd read
 read_whole (Below table) read = tt
@@ -181,8 +182,11 @@ FoundWhole PageFaults = Unit {0}
 FoundWhole (MissesEntry place) = place % 8 ≡ 0
 
 by_whole : (privilege : Privilege) (access : Access) (va : ℕ) (end : WalkEnd) → EndsWhole end → FoundWhole (found_by privilege access va end)
-by_whole privilege access va (Leaf leaf) whole = by (permits_first privilege access leaf)
+by_whole privilege access va (Leaf frame level r w x u) whole = by (permits_first privilege access leaf)
   where
+    leaf : LeafPte
+    leaf = leaf_with frame level r w x u
+
     by : (b : Bool) → FoundWhole (cond b (Passes (leaf_address leaf va)) PageFaults)
     by true = tt
     by false = tt

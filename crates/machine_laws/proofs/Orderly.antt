@@ -16,7 +16,7 @@ use Rattle.arch_defs.specs.Registers.{read, a7, sets}
 use Rattle.arch_defs.specs.Roots.{is_table}
 use Rattle.arch_defs.specs.WalkedEntries.{folds}
 use Rattle.machine_defs.specs.Fills.{after_fills, filled_front}
-use Rattle.machine_defs.specs.Machine.{Machine, Platform, Tried, called, start}
+use Rattle.machine_defs.specs.Machine.{Machine, Platform, Tried, called, start, with_first}
 use Rattle.machine_defs.specs.Runs.{left_by, run}
 use Rattle.machine_defs.specs.Tries.{spaces_after, stages_of}
 use Rattle.machine_laws.specs.Keeping.{FillKeepsOrderly, IsOrderly, RunKeepsOrderly, StartIsOrderly, TryKeepsOrderly}
@@ -84,11 +84,11 @@ with_front : (m after : Machine) → IsOrderly m → after.entry_room ≡ m.entr
 with_front m after is entries spaces front = record { entries = rw entries is.entries; spaces = rw spaces is.spaces; front = front }
 
 ended_orderly : (m : Machine) → IsOrderly m → {t : Tried} {fence : Option Fence} → RootEnd m t fence → IsOrderly (left_by m t)
-ended_orderly m is (Takes first trap) = let s = m.platform.virt in
+ended_orderly m is (Takes first trap) = let s = (with_first m first).platform.virt in
     with_front m _ is refl refl (trap_front s m.spaces is.front trap (target s.csrs s.mode trap) (goes_to s trap))
 ended_orderly m is (Makes first completion event keeps) = with_front m _ is refl refl (made_front m is.spaces is.front completion.state keeps)
-ended_orderly m is (Calls first) = let same = called_same m.platform in
-    with_front m _ is refl refl (stays_front m.platform.virt (called m.platform).virt m.spaces same.0 same.1 is.front)
+ended_orderly m is (Calls first) = let p = (with_first m first).platform in let same = called_same p in
+    with_front m _ is refl refl (stays_front p.virt (called p).virt m.spaces same.0 same.1 is.front)
 ended_orderly m is (Serves first rd value console has) = with_front m _ is refl refl (stays_front m.platform.virt (sets m.platform.virt rd value) m.spaces refl refl is.front)
 ended_orderly m is (Passes first virt moment (mode, root)) = with_front m _ is refl refl (stays_front m.platform.virt virt m.spaces mode root is.front)
 ended_orderly m is Halts = with_front m _ is refl refl is.front

@@ -23,6 +23,7 @@ use Rattle.arch_defs.specs.FirstEntries.{first_leaf, is_first_of, known_by, know
 use Rattle.arch_defs.specs.Memory.{Known, Reading, SecondStage, mmu, nothing_known}
 use Rattle.arch_defs.specs.Roots.{supervisor_shape}
 use Rattle.arch_defs.specs.Permits.{permits_first}
+use Rattle.arch_defs.specs.TableEntries.{leaf_with}
 use Rattle.arch_defs.specs.Translation.{entry_word_at, entry_words_through, first_stage, found_by, found_under, privilege_of, supervisor_of}
 use Rattle.arch_defs.specs.Traps.{exception, faults_of}
 use Rattle.arch_defs.specs.Walk.{leaf_address, walk}
@@ -92,7 +93,7 @@ leaf_keeps frame level va = added frame (va % 2 ^ (12 + 9 * level)) va
     (let turned : 12 + 9 * level ≡ 9 * level + 12 = omega arith in rw turned (mod-mod-pow va (9 * level) 12))
 
 by_keeps : (privilege : Privilege) (access : Access) (va : ℕ) (end : WalkEnd) → KeepsOffset va (found_by privilege access va end)
-by_keeps privilege access va (Leaf leaf) = elim (permits_first privilege access leaf) as (λ b. KeepsOffset va (cond b (Passes (leaf_address leaf va)) PageFaults))
+by_keeps privilege access va (Leaf frame level r w x u) = let leaf = leaf_with frame level r w x u in elim (permits_first privilege access leaf) as (λ b. KeepsOffset va (cond b (Passes (leaf_address leaf va)) PageFaults))
     [ true ↦ leaf_keeps leaf.frame leaf.level va | false ↦ tt ]
 by_keeps privilege access va PageFault = tt
 by_keeps privilege access va (FetchEnd place trap) = tt

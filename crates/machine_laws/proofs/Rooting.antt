@@ -31,7 +31,7 @@ use Rattle.machine_defs.specs.declared.events.Event.{Event}
 use Rattle.machine_defs.specs.Outcomes.{Outcome}
 use Rattle.machine_defs.specs.Core.{Completion, accessed_data, called_from, completed, core, data_place, decoded, done, event_of, executed, fetch_place, instruction, word_at}
 use Rattle.machine_defs.specs.HlvAccesses.{hlv_outcome}
-use Rattle.machine_defs.specs.Machine.{Machine, Tried}
+use Rattle.machine_defs.specs.Machine.{Machine, Tried, with_first}
 use Rattle.machine_defs.specs.Privileges.{combined, csr_accessed, csr_changed, csr_shown, decided, performed, privileged, refusal, value_or_zero}
 use Rattle.machine_defs.specs.Tries.{Stages, fence_under, mmu_under, try_under}
 use Rattle.machine_laws.specs.InstructionEnds.{HlvHas, OutcomeHas}
@@ -219,4 +219,4 @@ RootEnd m t fence = TryEnd (LeavesRoot m.platform.virt) (KeepsModeAndRoot m.plat
 
 pub root_end : (m : Machine) (stages : Stages) → RootEnd m (try_under stages m) (fence_under stages m)
 root_end m stages = let s = m.platform.virt in
-    try_end (LeavesRoot s) (KeepsModeAndRoot s) (λ wanted. Unit {0}) m stages (λ wanted any. hlv_root s m.device (ram_memory m.ram) wanted) (core_root s (mmu_under stages m))
+    try_end (LeavesRoot s) (KeepsModeAndRoot s) (λ wanted. Unit {0}) m stages (λ first wanted any. hlv_root (with_first m first).platform.virt m.device (ram_memory m.ram) wanted) (core_root s (mmu_under stages m))

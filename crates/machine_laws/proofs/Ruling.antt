@@ -23,7 +23,7 @@ use Rattle.arch_defs.specs.WalkedEntries.{entry_by_walk, folds}
 use Rattle.op_defs.specs.declared.ops.DataAccess.{DataAccess}
 use Rattle.machine_defs.specs.Fills.{missing_entry, missing_entry_at, missing_entry_under, most_fills, ready}
 use Rattle.machine_defs.specs.FirstLeaves.{known_of, tag_of}
-use Rattle.machine_defs.specs.Machine.{Machine}
+use Rattle.machine_defs.specs.Machine.{Machine, with_first}
 use Rattle.machine_defs.specs.Outcomes.{Outcome, Done, Trapped, Missed, Called, Waits, Fenced, FirstFenced, Accesses}
 use Rattle.machine_defs.specs.Runs.{left_by}
 use Rattle.machine_defs.specs.Tries.{Stages, apply_outcome, device_of, outcome_under, second_of, stages_of, tried_with, try, try_under, unplaced, with_found}
@@ -43,7 +43,7 @@ abbrev staged : Known → SecondStage → OnDevice → Stages
 staged known second device = record { known = known; second = second; device = device }
 
 abbrev knows : Machine → Known
-knows m = known_of m.first (tag_of m.platform.virt) m.platform.virt
+knows m = known_of m.platform.virt.first (tag_of m.platform.virt) m.platform.virt
 
 -- where an instruction stops, a rule has no place either, and has the access on the device page alike
 record Agree (device rule_device : OnDevice) (rule : SecondStage) (u : MissingPlace) : Type 0 where
@@ -91,7 +91,7 @@ try_ruled m known own rule device rule_device within agree = by (due m.platform.
         applied_ruled (with_found (staged known own device) m) device rule_device (outcome_under (staged known own device) m) (λ u wanted is. (alike (agree refl) u wanted is).served)
         ∙ ap (apply_outcome rule_device (with_found (staged known own device) m))
         (sym (else_alike own rule within known (reading_of (ram_memory m.ram)) virt (λ u wanted is. (alike (agree refl) u wanted is).none)))
-        ∙ ap (λ found. apply_outcome rule_device (record m { first = all_filled m.first found }) (outcome_under (staged known rule rule_device) m))
+        ∙ ap (λ found. apply_outcome rule_device (with_first m (all_filled m.platform.virt.first found)) (outcome_under (staged known rule rule_device) m))
         (sym (found_alike own rule within (tag_of virt) known (reading_of (ram_memory m.ram)) virt (λ u wanted is. (alike (agree refl) u wanted is).none)))
 
 -- a machine's own second stage

@@ -3,7 +3,8 @@ use Rattle.std.specs.List.{All, Contains}
 use Rattle.std.proofs.Common.{◌≡◌, ◌∙◌, ◌⊎◌, inl, inr, true, false, List, [], ◌∷◌, Option, Some, None, refl, sym, subst, ap, arith}
 use Rattle.std.proofs.lemmas.List.Elements.{All-contains, All-head, All-nil, All-weaker}
 use Rattle.arch_defs.specs.declared.cached.Fence.{Fence}
-use Rattle.machine_defs.specs.FreeMachines.{CachedTranslation, FreeMachine, FreeMove, FreeStep, IsWalked, free_of, is_named, left_under, uncached, while_active, while_folding}
+use Rattle.machine_defs.specs.Machine.{Platform}
+use Rattle.machine_defs.specs.FreeMachines.{CachedTranslation, FreeMachine, FreeMove, FreeStep, IsWalked, free_of, is_named, left_under, uncached, while_active, while_folding, without_buffer}
 use Rattle.machine_laws.specs.Caching.{by_walks}
 use Rattle.machine_laws.specs.Keeping.{IsOrderly}
 use Rattle.machine_laws.proofs.FreeRuns.{runs_are_architectural}
@@ -51,7 +52,11 @@ may_use_stale = (free_of (run (stale_machine nop) 3), runs_are_architectural (st
 -- so is one that drops each translation at once
 abbrev dropped : FreeMachine → FreeMachine
 dropped f = let left = left_under (by_walks f nothing_known) f in
-    record { platform = left.platform; ram = left.ram; cache = []; first = []; device = f.device }
+    record { platform = without_buffer left.platform; ram = left.ram; cache = []; device = f.device }
+
+-- a platform without first-stage translations is what is left where they are left out
+no_buffer : (p q : Platform) → without_buffer p ≡ without_buffer q → p.virt.first ≡ [] → p ≡ without_buffer q
+no_buffer p q same none = ap (λ first. record p { virt = record p.virt { first = first } }) none ∙ same
 
 drops : (f : FreeMachine) → FreeStep while_folding f (dropped f)
 drops f = record {
@@ -93,8 +98,8 @@ after_fence g s = let f = free_of (stale_machine fence_bytes) in
     let by = steps_by f g s (by_walks f nothing_known) same in
     let fence : fence_under s.stages (uncached f) ≡ all_named = ap (λ stages. fence_under stages (uncached f)) same in
     let none = emptied (fence_under s.stages (uncached f)) fence g.cache s.fenced in
-    let empty : g.first ≡ [] = bare_empties f g s refl refl in
-    λ i. record { platform = by.platform i; ram = by.ram i; cache = none i; first = empty i; device = s.device i }
+    let platform = no_buffer g.platform (left_under (by_walks f nothing_known) f).platform by.platform (bare_empties f g s refl refl) in
+    λ i. record { platform = platform i; ram = by.ram i; cache = none i; device = s.device i }
 
 -- so after the SRET only walks of now are cached: no register that they depend on has changed, nor RAM
 abbrev fenced_end : FreeMachine
@@ -108,7 +113,7 @@ WalkedBy f = IsWalked while_active f.device f.platform.virt f.ram
 
 abbrev IsEntered : FreeMachine → Type 0
 IsEntered g =
-    (g.platform ≡ entered_end.platform) × (g.ram ≡ entered_end.ram) × (g.device ≡ entered_end.device) × (g.first ≡ []) × All (WalkedBy entered_end) g.cache
+    (g.platform ≡ entered_end.platform) × (g.ram ≡ entered_end.ram) × (g.device ≡ entered_end.device) × All (WalkedBy entered_end) g.cache
 
 same_walk : (c : CachedTranslation) → WalkedBy fenced_end c → WalkedBy entered_end c
 unfolding run step try_under after_fills missing_entry missing_entry_under core due due_for_hs due_for_vs first_stage op_of system_of system_op_of fence_op_of immediate_arithmetic_of immediate_op_of alu meaning privileged refusal fenced entered returned second_by guest_root_of csrs_before stale_machine stale_root stale_entry entry_by_walk second_walk walk path path_from end_of target entered_hs is_system permits_second device_by_entries known_under
@@ -119,7 +124,8 @@ unfolding run step try_under after_fills missing_entry missing_entry_under core 
 after_sret g s =
     let known : s.stages.known ≡ nothing_known = bare_knows fenced_end.platform.virt s.first s.stages.known s.translates.known refl in
     let by = steps_by fenced_end g s (by_walks fenced_end nothing_known) (flat_steps fenced_end g s refl ∙ ap (by_walks fenced_end) known) in
-    (by.platform, by.ram, s.device, bare_empties fenced_end g s refl refl, All-weaker (Contains s.cache) (WalkedBy entered_end) walked g.cache s.kept)
+    let left = left_under (by_walks fenced_end nothing_known) fenced_end in
+    (no_buffer g.platform left.platform by.platform (bare_empties fenced_end g s refl refl), by.ram, s.device, All-weaker (Contains s.cache) (WalkedBy entered_end) walked g.cache s.kept)
   where
     from : (c : CachedTranslation) → Contains [] c ⊎ WalkedBy fenced_end c → WalkedBy entered_end c
     from c (inl held) = absurd (omega (arith, held.1))
@@ -131,14 +137,17 @@ after_sret g s =
 -- and the third step is by the walk of now, which has no translation
 after_fault : (g h : FreeMachine) → IsEntered g → FreeMove while_active g.platform.status g h → HasFaulted h.platform
 unfolding run step try_under after_fills missing_entry missing_entry_under core due due_for_hs due_for_vs first_stage op_of system_of system_op_of fence_op_of immediate_arithmetic_of immediate_op_of alu meaning privileged refusal fenced entered returned second_by guest_root_of csrs_before stale_machine stale_root stale_entry entry_by_walk second_walk walk path path_from end_of target entered_hs is_system permits_second device_by_entries known_under
-after_fault g h (platform, ram, device, first, walked) move =
-    subst (λ p. HasFaulted p) (sym (steps_by last h step (by_walks last nothing_known) (walked_steps last h step walked ∙ ap (by_walks last) known)).platform) (record { mode = refl; cause = refl })
+after_fault g h (platform, ram, device, walked) move =
+    of_registers h.platform (subst (λ p. HasFaulted p) (sym (steps_by last h step (by_walks last nothing_known) (walked_steps last h step walked ∙ ap (by_walks last) known)).platform) (record { mode = refl; cause = refl }))
   where
+    of_registers : (p : Platform) → HasFaulted (without_buffer p) → HasFaulted p
+    of_registers p has = record { mode = has.mode; cause = has.cause }
+
     last : FreeMachine
-    last = record { platform = entered_end.platform; ram = entered_end.ram; cache = g.cache; first = []; device = entered_end.device }
+    last = record { platform = entered_end.platform; ram = entered_end.ram; cache = g.cache; device = entered_end.device }
 
     same : g ≡ last
-    same = λ i. record { platform = platform i; ram = ram i; cache = g.cache; first = first i; device = device i }
+    same = λ i. record { platform = platform i; ram = ram i; cache = g.cache; device = device i }
 
     step : FreeStep while_active last h
     step = subst (λ f. FreeMove while_active f.platform.status f h) same move

@@ -5,6 +5,7 @@ use Rattle.std.proofs.lemmas.Bool.{eqb-true}
 use Rattle.arch_defs.specs.declared.cached.Entry.{Entry}
 use Rattle.arch_defs.specs.declared.cached.Fence.{Fence}
 use Rattle.arch_defs.specs.declared.csr_names.CsrEnd.{CsrEnd}
+use Rattle.arch_defs.specs.declared.first.FirstEntry.{FirstEntry}
 use Rattle.arch_defs.specs.declared.modes.Access.{Access}
 use Rattle.arch_defs.specs.declared.modes.Mode.{Mode}
 use Rattle.arch_defs.specs.declared.modes.Mode.TheVariants.{HS, U, VS, VU}
@@ -43,7 +44,7 @@ use Rattle.machine_defs.specs.declared.events.Event.{Event}
 use Rattle.machine_defs.specs.Core.{Completion, Fails, Faults, accessed, accessed_data, called_from, completed, core, data_place, decoded, done, event_of, executed, fetch_place, found_with, instruction, is_reserved, kind_of, located, located_at, located_by, stored_if, word_at}
 use Rattle.machine_defs.specs.FirstLeaves.{tag_of}
 use Rattle.machine_defs.specs.HlvAccesses.{hlv_outcome}
-use Rattle.machine_defs.specs.Machine.{Machine, Platform, Tried, called, made_by, start}
+use Rattle.machine_defs.specs.Machine.{Machine, Platform, Tried, called, made_by, start, with_first, with_registers}
 use Rattle.arch_defs.specs.Registers.{sets, next}
 use Rattle.machine_defs.specs.Outcomes.{Outcome}
 use Rattle.machine_defs.specs.Privileges.{combined, csr_accessed, csr_changed, csr_shown, decided, performed, privileged, refusal, value_or_zero}
@@ -86,7 +87,7 @@ by_ram memory address place kind is = by (nat_le memory.base address && nat_lt a
     by false is = absurd cc
 
 own_keeps : (m : Machine) → KeepsPage (mmu_of m).known
-own_keeps m = cached_keeps_page m.first (tag_of m.platform.virt) m.platform.virt
+own_keeps m = cached_keeps_page m.platform.virt.first (tag_of m.platform.virt) m.platform.virt
 
 own_offsets : (m : Machine) → KeepsOffsets (second_of m)
 own_offsets m = either KeepsOffsets (folds m.platform.virt) (second_by (front m.spaces) m.platform.virt.csrs.hs.status.mxr) (bare (ram_memory m.ram))
@@ -314,19 +315,28 @@ hlv_fine device memory s is wanted none = hlv_each LeavesStorable device memory 
 made_storable : (p : Platform) (moment : ℕ) → IsStorable p.virt → IsStorable (made_by p moment).virt
 made_storable p moment is = with_pending_lines_storable (record p { clock = record p.clock { time = moment }; steps = p.steps + 1 }) is
 
+first_storable : (first : List FirstEntry) (s : Virtual) → IsStorable s → IsStorable (record s { first = first })
+first_storable first s is = record { x0 = is.x0; pc = is.pc; csrs = is.csrs; reservation = is.reservation }
+
+left_storable : (m : Machine) (first : List FirstEntry) (virt : Virtual) (moment : ℕ) → IsStorable virt → IsStorable (made_by (with_registers (with_first m first).platform virt) moment).virt
+left_storable m first virt moment is = made_storable (with_registers (with_first m first).platform virt) moment (first_storable first virt is)
+
 ended_storable : (m : Machine) → IsStorable m.platform.virt → {t : Tried} {fence : Option Fence} → TryEnd LeavesStorable IsStorable m t fence → IsStorable (left_by m t).platform.virt
-ended_storable m is (Takes first trap) = made_storable (record m.platform { virt = _ }) (m.platform.clock.time + 1) (entered_storable m.platform.virt trap is)
-ended_storable m is (Makes first completion event has) = made_storable (record m.platform { virt = completion.state }) (m.platform.clock.time + 1) has
+ended_storable m is (Takes first trap) =
+    left_storable m first _ (m.platform.clock.time + 1) (entered_storable (with_first m first).platform.virt trap (first_storable first m.platform.virt is))
+ended_storable m is (Makes first completion event has) = left_storable m first completion.state (m.platform.clock.time + 1) has
 ended_storable m is (Serves first rd value console leaves) =
-    made_storable (record m.platform { virt = sets m.platform.virt rd value; console = console }) (m.platform.clock.time + 1) (sets_storable m.platform.virt rd value is)
-ended_storable m is (Called first) = made_storable (called m.platform) _ (called_storable m.platform is)
-ended_storable m is (Waited first virt moment has) = made_storable (record m.platform { virt = virt }) moment has
+    made_storable (record (with_registers (with_first m first).platform (sets m.platform.virt rd value)) { console = console }) (m.platform.clock.time + 1)
+    (first_storable first (sets m.platform.virt rd value) (sets_storable m.platform.virt rd value is))
+ended_storable m is (Called first) = made_storable (called (with_first m first).platform) _ (called_storable (with_first m first).platform (first_storable first m.platform.virt is))
+ended_storable m is (Waited first virt moment has) = left_storable m first virt moment has
 ended_storable m is Halts = is
-ended_storable m is (Fences first virt fence has) = made_storable (record m.platform { virt = virt }) (m.platform.clock.time + 1) has
+ended_storable m is (Fences first virt fence has) = left_storable m first virt (m.platform.clock.time + 1) has
 
 pub try_stays_storable : TryKeepsStorable
 try_stays_storable m is = ended_storable m is (try_end LeavesStorable IsStorable (λ wanted. ReservesNothing wanted.purpose) m (stages_of m)
-    (hlv_fine m.device (ram_memory m.ram) m.platform.virt is) (core_fine (mmu_of m) (own_keeps m) (own_offsets m) m.platform.virt is))
+    (λ first. hlv_fine m.device (ram_memory m.ram) (with_first m first).platform.virt (first_storable first m.platform.virt is))
+    (core_fine (mmu_of m) (own_keeps m) (own_offsets m) m.platform.virt is))
 
 -- so do a fill, which leaves the registers, and a run
 pub fill_stays_storable : FillStaysStorable

@@ -9,7 +9,7 @@ use Rattle.arch_defs.specs.Consoles.{ConsoleState, has_room}
 use Rattle.arch_defs.specs.Inputs.{unread_after}
 use Rattle.arch_defs.specs.Registers.{a7, read}
 use Rattle.guest_specs.specs.Inputs.{AreInputs}
-use Rattle.machine_defs.specs.Machine.{Machine, Platform, Tried, called, start}
+use Rattle.machine_defs.specs.Machine.{Machine, Platform, Tried, called, start, with_first}
 use Rattle.machine_defs.specs.Runs.{left_by}
 use Rattle.machine_defs.specs.Tries.{stages_of}
 use Rattle.machine_laws.specs.UnreadInputs.{RunKeepsInputs, StartHasInputs}
@@ -55,7 +55,7 @@ ended_good : (m : Machine) → HasInputs m.platform → {t : Tried} {fence : Opt
 ended_good m are (Takes first trap) = are
 ended_good m are (Makes first completion event keeps) = are
 ended_good m are (Serves first rd value console leaves) = served_good m.platform console are leaves
-ended_good m are (Calls first) = called_good m.platform are
+ended_good m are (Calls first) = called_good (with_first m first).platform are
 ended_good m are (Passes first virt moment keeps) = are
 ended_good m are Halts = are
 ended_good m are (Fences first virt fence keeps) = are

@@ -23,13 +23,14 @@ use Rattle.arch_defs.specs.declared.walks.Shape.{Shape}
 use Rattle.arch_defs.specs.declared.walks.Pte.{Pte}
 use Rattle.arch_defs.specs.declared.walks.WalkEnd.{WalkEnd}
 use Rattle.arch_defs.specs.declared.walks.WalkEnd.TheVariants.{Leaf, PageFault, FetchEnd}
+use Rattle.arch_defs.proofs.WalkEnds.{same_leaf}
 use Rattle.arch_defs.specs.Devices.{is_on_device}
 use Rattle.arch_defs.specs.Memory.{Memory, ram_memory}
 use Rattle.arch_defs.specs.Permits.{has_right, permits_second}
 use Rattle.arch_defs.specs.Roots.{guest_shape, is_table}
 use Rattle.arch_defs.specs.SecondStage.{device_under, guest_root_frame, has_frame_of, is_device_end, memory_words, place_under, second_end, second_under, second_walk}
 use Rattle.arch_defs.specs.Traps.{is_virtual}
-use Rattle.arch_defs.specs.TableEntries.{entry_next, is_aligned, is_leaf, is_marked, is_valid, leaf_pte, needs_dirty, pointer_next, pte_of}
+use Rattle.arch_defs.specs.TableEntries.{end_at_leaf, entry_next, is_aligned, is_leaf, is_marked, is_valid, leaf_pte, leaf_with, needs_dirty, pointer_next, pte_of}
 use Rattle.arch_defs.specs.Walk.{EntryReading, end_of, index, index_bits, is_canonical, later, leaf_address, levels, met_in, next_of, or_else, path, path_from, place_of, read_next, walk}
 use Rattle.arch_defs.specs.CachedEntries.{device_by, is_device, leaf_of, place_by}
 use Rattle.arch_defs.specs.WalkedEntries.{entry_by_end, entry_by_table, entry_by_walk, entry_under}
@@ -43,16 +44,16 @@ Suits other leaf = needs_dirty other ≡ true → leaf.w ≡ true
 
 -- a leaf for one kind of access is the leaf for another that it suits
 leaf_by : (valid is_one fit fit' : Bool) (one leaf : LeafPte) (else' : Next) → (fit ≡ true → one ≡ leaf → fit' ≡ true)
-    → cond valid (cond is_one (cond fit (Ends (Leaf one)) (Ends PageFault)) else') (Ends PageFault) ≡ Ends (Leaf leaf)
-    → cond valid (cond is_one (cond fit' (Ends (Leaf one)) (Ends PageFault)) else') (Ends PageFault) ≡ Ends (Leaf leaf)
-leaf_by true true true fit' one leaf else' then e = let same : one ≡ leaf = cc in rw (then refl same) e
+    → cond valid (cond is_one (cond fit (Ends (end_at_leaf one)) (Ends PageFault)) else') (Ends PageFault) ≡ Ends (end_at_leaf leaf)
+    → cond valid (cond is_one (cond fit' (Ends (end_at_leaf one)) (Ends PageFault)) else') (Ends PageFault) ≡ Ends (end_at_leaf leaf)
+leaf_by true true true fit' one leaf else' then e = let same = same_leaf one leaf e in rw (then refl same) e
 leaf_by true true false fit' one leaf else' then e = absurd cc
 leaf_by true false fit fit' one leaf else' then e = e
 leaf_by false is_one fit fit' one leaf else' then e = absurd cc
 
 below_by : (valid is_one fit fit' : Bool) (one : LeafPte) (else' : Next) (table : ℕ)
-    → cond valid (cond is_one (cond fit (Ends (Leaf one)) (Ends PageFault)) else') (Ends PageFault) ≡ Below table
-    → cond valid (cond is_one (cond fit' (Ends (Leaf one)) (Ends PageFault)) else') (Ends PageFault) ≡ Below table
+    → cond valid (cond is_one (cond fit (Ends (end_at_leaf one)) (Ends PageFault)) else') (Ends PageFault) ≡ Below table
+    → cond valid (cond is_one (cond fit' (Ends (end_at_leaf one)) (Ends PageFault)) else') (Ends PageFault) ≡ Below table
 below_by true true true fit' one else' table e = absurd cc
 below_by true true false fit' one else' table e = absurd cc
 below_by true false fit fit' one else' table e = e
@@ -68,7 +69,7 @@ marked_by : (level : ℕ) (other : Access) (e : Pte) (leaf : LeafPte) → Suits 
 marked_by level other e leaf suits is needs = let written : (e.w && e.d) ≡ true = ap (λ (l : LeafPte). l.w) is ∙ suits needs in (and_parts e.w e.d written).1
 
 leaf_suits : (level : ℕ) (kind other : Access) (e : Pte) (leaf : LeafPte) → Suits other leaf
-    → entry_next level kind e ≡ Ends (Leaf leaf) → entry_next level other e ≡ Ends (Leaf leaf)
+    → entry_next level kind e ≡ Ends (end_at_leaf leaf) → entry_next level other e ≡ Ends (end_at_leaf leaf)
 unfolding entry_next
 leaf_suits level kind other e leaf suits is = leaf_by (is_valid e) (is_leaf e) (is_aligned level e.frame && is_marked kind e) (is_aligned level e.frame && is_marked other e)
     (leaf_pte level e) leaf (pointer_next level e)
@@ -81,34 +82,34 @@ below_suits level kind other e table is = below_by (is_valid e) (is_leaf e) (is_
 
 -- and so of the walks
 paths_suit : (reading : EntryReading) (shape : Shape) (va : ℕ) (kind other : Access) (leaf : LeafPte) → Suits other leaf → (level table : ℕ)
-    → end_of kind (path_from reading shape va kind level table) ≡ Leaf leaf → end_of other (path_from reading shape va other level table) ≡ Leaf leaf
+    → end_of kind (path_from reading shape va kind level table) ≡ end_at_leaf leaf → end_of other (path_from reading shape va other level table) ≡ end_at_leaf leaf
 unfolding path_from end_of
 paths_suit reading shape va kind other leaf suits zero table e = absurd cc
 paths_suit reading shape va kind other leaf suits (suc level) table e =
     by (place_of shape level table va) (reading (place_of shape level table va)) (λ t. paths_suit reading shape va kind other leaf suits level t) e
   where
-    next : (next next' : Next) → (next ≡ Ends (Leaf leaf) → next' ≡ Ends (Leaf leaf)) → ((t : ℕ) → next ≡ Below t → next' ≡ Below t)
-        → ((t : ℕ) → end_of kind (path_from reading shape va kind level t) ≡ Leaf leaf → end_of other (path_from reading shape va other level t) ≡ Leaf leaf)
-        → or_else (end_of kind (later (path_from reading shape va kind level) next)) next ≡ Leaf leaf
-        → or_else (end_of other (later (path_from reading shape va other level) next')) next' ≡ Leaf leaf
+    next : (next next' : Next) → (next ≡ Ends (end_at_leaf leaf) → next' ≡ Ends (end_at_leaf leaf)) → ((t : ℕ) → next ≡ Below t → next' ≡ Below t)
+        → ((t : ℕ) → end_of kind (path_from reading shape va kind level t) ≡ end_at_leaf leaf → end_of other (path_from reading shape va other level t) ≡ end_at_leaf leaf)
+        → or_else (end_of kind (later (path_from reading shape va kind level) next)) next ≡ end_at_leaf leaf
+        → or_else (end_of other (later (path_from reading shape va other level) next')) next' ≡ end_at_leaf leaf
     next (Ends end) next' ends below deeper is = rw (ends (ap Ends is)) refl
     next (Below t) next' ends below deeper is = rw (below t refl) (deeper t is)
 
     by : (at : ℕ) (read : Result ℕ Trap)
-        → ((t : ℕ) → end_of kind (path_from reading shape va kind level t) ≡ Leaf leaf → end_of other (path_from reading shape va other level t) ≡ Leaf leaf)
-        → or_else (end_of kind (later (path_from reading shape va kind level) (read_next level at kind read))) (read_next level at kind read) ≡ Leaf leaf
-        → or_else (end_of other (later (path_from reading shape va other level) (read_next level at other read))) (read_next level at other read) ≡ Leaf leaf
+        → ((t : ℕ) → end_of kind (path_from reading shape va kind level t) ≡ end_at_leaf leaf → end_of other (path_from reading shape va other level t) ≡ end_at_leaf leaf)
+        → or_else (end_of kind (later (path_from reading shape va kind level) (read_next level at kind read))) (read_next level at kind read) ≡ end_at_leaf leaf
+        → or_else (end_of other (later (path_from reading shape va other level) (read_next level at other read))) (read_next level at other read) ≡ end_at_leaf leaf
     by at (Ok word) deeper is = next (entry_next level kind (pte_of word)) (entry_next level other (pte_of word))
         (leaf_suits level kind other (pte_of word) leaf suits) (below_suits level kind other (pte_of word)) deeper is
     by at (Err trap) deeper is = absurd cc
 
 walks_suit : (reading : EntryReading) (page : ℕ) (shape : Shape) (va : ℕ) (kind other : Access) (leaf : LeafPte) → Suits other leaf
-    → walk reading page shape va kind ≡ Leaf leaf → walk reading page shape va other ≡ Leaf leaf
+    → walk reading page shape va kind ≡ end_at_leaf leaf → walk reading page shape va other ≡ end_at_leaf leaf
 unfolding walk path end_of
 walks_suit reading page shape va kind other leaf suits e = by (is_canonical shape va) e
   where
-    by : (right : Bool) → end_of kind (cond right (path_from reading shape va kind (levels shape) page) []) ≡ Leaf leaf
-        → end_of other (cond right (path_from reading shape va other (levels shape) page) []) ≡ Leaf leaf
+    by : (right : Bool) → end_of kind (cond right (path_from reading shape va kind (levels shape) page) []) ≡ end_at_leaf leaf
+        → end_of other (cond right (path_from reading shape va other (levels shape) page) []) ≡ end_at_leaf leaf
     by true is = paths_suit reading shape va kind other leaf suits (levels shape) page is
     by false is = absurd cc
 
@@ -162,7 +163,7 @@ guest_same memory mxr shape ppn a b kind same = rw (walks_same (memory_words mem
     (by (walk (memory_words memory) (guest_root_frame ppn) shape b kind))
   where
     by : (end : WalkEnd) → second_end memory mxr a kind end ≡ second_end memory mxr b kind end
-    by (Leaf leaf) = rw (frame_same leaf a b same) refl
+    by (Leaf frame level r w x u) = let leaf = leaf_with frame level r w x u in rw (frame_same leaf a b same) refl
     by PageFault = refl
     by (FetchEnd place trap) = refl
 
@@ -276,7 +277,7 @@ now_one device csrs ram address kind other e e' found found' = by csrs.hgatp fou
         let loads' : Suits Load g'.0 = λ needs. absurd cc in
         let to_load = walks_suit (memory_words (ram_memory ram)) (guest_root_frame ppn) (guest_shape mode) address kind Load g.0 loads g.1.walked in
         let to_load' = walks_suit (memory_words (ram_memory ram)) (guest_root_frame ppn) (guest_shape mode) address other Load g'.0 loads' g'.1.walked in
-        let same : g.0 ≡ g'.0 = cc in
+        let same = same_leaf g.0 g'.0 (ap Ends (sym to_load ∙ to_load')) in
         g.1.is ∙ ap (λ (leaf : LeafPte). entry_under leaf address) same ∙ sym g'.1.is
 
 -- and it gives the place that the walk gives
@@ -341,7 +342,7 @@ place_walked device mxr ram shape ppn address kind = by (walk (memory_words (ram
 
     by : (end : WalkEnd) → place_by mxr address kind (entry_by_end device address (second_end (ram_memory ram) mxr address kind end))
         ≡ place_under address (second_end (ram_memory ram) mxr address kind end)
-    by (Leaf leaf) = at leaf (permits_second mxr kind leaf) refl
+    by (Leaf frame level r w x u) = let leaf = leaf_with frame level r w x u in at leaf (permits_second mxr kind leaf) refl
     by PageFault = refl
     by (FetchEnd place trap) = refl
 
@@ -386,7 +387,7 @@ device_walked mxr ram shape ppn address kind = by (walk (memory_words (ram_memor
 
     by : (end : WalkEnd) → device_by mxr kind (entry_by_end true address (second_end (ram_memory ram) mxr address kind end))
         ≡ is_device_end (second_end (ram_memory ram) mxr address kind end)
-    by (Leaf leaf) = at leaf (permits_second mxr kind leaf) refl
+    by (Leaf frame level r w x u) = let leaf = leaf_with frame level r w x u in at leaf (permits_second mxr kind leaf) refl
     by PageFault = refl
     by (FetchEnd place trap) = refl
 

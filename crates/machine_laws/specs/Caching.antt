@@ -8,7 +8,7 @@ use Rattle.arch_defs.specs.Roots.{vmid_of}
 use Rattle.arch_defs.specs.Spaces.{names_vmid}
 use Rattle.guest_specs.specs.declared.guests.GuestSpec.{GuestSpec}
 use Rattle.machine_defs.specs.Fills.{needed}
-use Rattle.machine_defs.specs.FreeMachines.{FreeMachine, FreeRun, FreeStep, IsArchitectural, answer_by, left_under, uncached, while_active, while_folding}
+use Rattle.machine_defs.specs.FreeMachines.{FreeMachine, FreeRun, FreeStep, IsArchitectural, answer_by, left_under, uncached, while_active, without_buffer, while_folding}
 use Rattle.machine_defs.specs.Freshness.{CachesFresh, FirstFresh, UsesFresh}
 use Rattle.machine_defs.specs.Machine.{Machine, start}
 use Rattle.machine_defs.specs.Tries.{Stages, fence_under}
@@ -29,9 +29,9 @@ abbrev pub FoldingRunsAreActive : Type 0
 FoldingRunsAreActive =
     (f h : FreeMachine) (steps : ℕ) → FreeRun while_folding steps f h → FreeRun while_active steps f h
 
--- a step of a free machine leaves what one try under these stages does
+-- a step of a free machine leaves what one try under these stages does, but for what is cached
 pub record IsStepUnder (stages : Stages) (f g : FreeMachine) : Type 0 where
-  pub platform : g.platform ≡ (left_under stages f).platform
+  pub platform : without_buffer g.platform ≡ without_buffer (left_under stages f).platform
   pub ram : g.ram ≡ (left_under stages f).ram
 
 -- the stages of which each answer is by the walk of hgatp's table as RAM is, where this is known of virtual
@@ -86,7 +86,7 @@ GuestsUseFresh = (guest : GuestSpec) (steps : ℕ) → needed ≤ guest.entries 
 
 -- in every run that begins without first-stage translations, all that the next step may use are fresh
 abbrev pub RunsFirstFresh : Type 0
-RunsFirstFresh = (m : Machine) (steps : ℕ) → m.first ≡ [] → FirstFresh m steps
+RunsFirstFresh = (m : Machine) (steps : ℕ) → m.platform.virt.first ≡ [] → FirstFresh m steps
 
 -- and so in each guest's run
 abbrev pub GuestsFirstFresh : Type 0

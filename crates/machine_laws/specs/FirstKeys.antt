@@ -55,12 +55,14 @@ AreStorable first = All IsStorableFirst first
 
 -- a guest's machine has none at its start, so both hold of it
 abbrev pub StartHasFirst : Type 0
-StartHasFirst = (guest : GuestSpec) → HasFirst (start guest).first × AreStorable (start guest).first
+StartHasFirst = (guest : GuestSpec) → let first = (start guest).platform.virt.first in
+    HasFirst first × AreStorable first
 
 -- each stays so in a run: what they are for, where registers hold what they can store
 abbrev pub RunKeepsFirst : Type 0
-RunKeepsFirst = (m : Machine) (n : ℕ) → HasFirst m.first → HasFirst (run m n).first
+RunKeepsFirst = (m : Machine) (n : ℕ) → HasFirst m.platform.virt.first
+    → HasFirst (run m n).platform.virt.first
 
 abbrev pub RunKeepsFirstStorable : Type 0
-RunKeepsFirstStorable = (m : Machine) (n : ℕ) → IsStorable m.platform.virt → AreStorable m.first
-    → AreStorable (run m n).first
+RunKeepsFirstStorable = (m : Machine) (n : ℕ) → IsStorable m.platform.virt
+    → AreStorable m.platform.virt.first → AreStorable (run m n).platform.virt.first

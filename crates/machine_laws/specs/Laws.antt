@@ -174,7 +174,7 @@ has_own m address kind = let virt = m.platform.virt in
 -- the stages as a rule without fills: by an entry that permits the access, else by that walk
 abbrev pub ruled : Machine → Stages
 ruled m = let virt = m.platform.virt in record {
-  known = known_of m.first (tag_of virt) virt;
+  known = known_of virt.first (tag_of virt) virt;
   second = λ address kind. if has_own m address kind then second_of m address kind
       else second_by_walk virt.csrs virt.mode (ram_memory m.ram) address kind;
   device = λ address kind. if has_own m address kind then device_of m address kind

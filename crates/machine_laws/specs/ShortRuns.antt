@@ -62,7 +62,6 @@ stale_machine first = record {
   };
   ram = code_after first;
   spaces = record { key = stale_root; entries = stale_entry ∷ [] } ∷ [];
-  first = [];
   space_room = 1;
   entry_room = needed;
   device = false;
@@ -125,6 +124,7 @@ first_machine first = record {
   platform = record {
     virt = record (virtual_at HS (5 * 4096)) {
       csrs = record csrs_at_reset { hs = record csrs_at_reset.hs { atp = stale_atp } };
+      first = stale_first ∷ [];
     };
     clock = times_at_start;
     console = record { bytes = []; room = 0; inputs = [] };
@@ -133,7 +133,6 @@ first_machine first = record {
   };
   ram = first ++ (0x93 ∷ 0 ∷ 0x10 ∷ 0 ∷ []);
   spaces = [];
-  first = stale_first ∷ [];
   space_room = 1;
   entry_room = needed;
   device = false;
