@@ -5,6 +5,7 @@ ghost use Rattle.arch_defs.specs.Memory.{reading_of, with_stored};
 ghost use Rattle.arch_defs.specs.Traps.{exception, faults_of};
 ghost use Rattle.arch_defs.specs.Widths.{bytes_in};
 ghost use Rattle.machine_defs.specs.Core.{storing};
+ghost use Rattle.phys_mem.specs.MemoryBytes.{IsWhole};
 ghost use Rattle.data_access.specs.Places.{FitsIn, IsPlaceFor, place_or_page, place_or_trap};
 
 use arch_defs::{Access, Csrs, Mode, Trap, Width};
@@ -26,6 +27,14 @@ fn misaligned(mode: Mode, va: u64, access: Access) -> Trap
     Trap::of_exception(mode, access.faults().misaligned, va)
 }
 
+// Memory is of whole frames, as a read of any place shows.
+fn shows_whole<M: Mem>(mem: &M)
+    requires backed { M.is_backed mem.now }
+    ensures { IsWhole (M.memory mem.now) }
+{
+    let _ = mem.get(0, 1);
+}
+
 /// Where in memory an access to a virtual address is made as a mode, by both stages as the registers and
 /// memory are, or its trap, with all that its entry writes. An address that is no multiple of the width
 /// traps before it is translated (own).
@@ -45,7 +54,7 @@ pub fn place_for<M: Mem>(
     if !is_aligned(va, width) {
         return Err(misaligned(mode, va, access));
     }
-    mem.is_whole();
+    shows_whole(mem);
     translate(mem, csrs, mode, va, access, false)
 }
 
@@ -65,7 +74,7 @@ pub fn place_or_page<M: Mem>(
     ensures place { IfOk result (λ place. FitsIn (M.memory mem.now) width place) }
 {
     if is_aligned(va, width) {
-        mem.is_whole();
+        shows_whole(mem);
         locate(mem, csrs, mode, va, access, device)
     } else {
         Err(misaligned(mode, va, access))

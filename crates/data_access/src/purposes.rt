@@ -9,7 +9,7 @@ ghost use Rattle.data_access.specs.Places.{IsPlaceFor};
 
 use crate::places::{read_at, write_at};
 use arch_defs::{Access, Reg, Virtual, Width, extend};
-use int_ops::amo;
+use int_ops::sized_amo;
 use op_defs::Purpose;
 use phys_mem::Mem;
 
@@ -63,7 +63,7 @@ pub fn complete<M: Mem>(
         }
         Purpose::Modify { op, operand, rd } => {
             let held = read_at(mem, place, width);
-            write_at(mem, place, width, amo(op, width, held, operand));
+            write_at(mem, place, width, sized_amo(op, width, held, operand));
             state.set(rd, extend(width, true, held));
         }
     }

@@ -7,13 +7,14 @@ use Rattle.arch_defs.specs.declared.modes.Access.{Access}
 use Rattle.arch_defs.specs.declared.modes.Access.TheVariants.{Fetch, Load, Store, ExecLoad, Implicit}
 use Rattle.arch_defs.specs.declared.walks.LeafPte.{LeafPte}
 use Rattle.arch_defs.specs.declared.second_walks.SecondWalkEnd.TheVariants.{GuestPageFault}
-use Rattle.arch_defs.specs.declared.walks.WalkEnd.TheVariants.{Leaf, PageFault}
+use Rattle.arch_defs.specs.declared.walks.WalkEnd.TheVariants.{PageFault}
 use Rattle.arch_defs.specs.Frames.{Apart, LieIn, Only, Same, Within, in_blocks, within}
 use Rattle.arch_defs.specs.Layouts.{Layout, NamesEachOnce, host_frames, in_tables, named_by, root_frames, table_frames}
 use Rattle.arch_defs.specs.Memory.{block_size, machine_memory, ram_base}
 use Rattle.arch_defs.specs.Permits.{permits_second}
 use Rattle.arch_defs.specs.Ram.{SlicesLieIn, host_place}
 use Rattle.arch_defs.specs.SecondStage.{memory_words, place_under, second_end, second_walk}
+use Rattle.arch_defs.specs.TableEntries.{end_at_leaf}
 use Rattle.arch_defs.proofs.FrameSets.{apart_sym, joined_within, kept, left_within, right_within, same_fewer, within_apart}
 use Rattle.arch_defs.proofs.RamBlocks.{blocks_lie_in}
 use Rattle.arch_defs.proofs.Rooms.{first_lies}
@@ -65,7 +66,7 @@ in_memory block r size lies small = omega (arith, lies, small)
 -- the walk's end in RAM and outside it
 in_ram_end : (memory : List ℕ) (mxr : Bool) (blocks : List ℕ) (address : ℕ) (access : Access) → SlicesLieIn block_size blocks (length memory)
     → 2147483648 ≤ address → address < 2147483648 + length blocks * 2097152
-    → place_under address (second_end (machine_memory memory) mxr address access (Leaf (full (slice_index blocks ((address - ram_base) / block_size) * 512))))
+    → place_under address (second_end (machine_memory memory) mxr address access (end_at_leaf (full (slice_index blocks ((address - ram_base) / block_size) * 512))))
     ≡ Some (host_place blocks (address - ram_base))
 in_ram_end memory mxr blocks address access lie from to =
     let block = slice_index blocks ((address - ram_base) / block_size) in
@@ -95,7 +96,7 @@ blocks_small blocks size lie small i = by (cases_lt i (length blocks))
 -- by where the address is
 end_by : (memory : List ℕ) (mxr : Bool) (blocks : List ℕ) (address : ℕ) (access : Access) → SlicesLieIn block_size blocks (length memory) → (b : Bool)
     → (nat_le ram_base address && nat_lt address (ram_base + length blocks * block_size)) ≡ b
-    → place_under address (second_end (machine_memory memory) mxr address access (cond b (Leaf (full (slice_index blocks ((address - ram_base) / block_size) * 512))) PageFault))
+    → place_under address (second_end (machine_memory memory) mxr address access (cond b (end_at_leaf (full (slice_index blocks ((address - ram_base) / block_size) * 512))) PageFault))
     ≡ cond b (Some (host_place blocks (address - ram_base))) None
 end_by memory mxr blocks address access lie true is =
     in_ram_end memory mxr blocks address access lie (grind (arith, is)) (grind (arith, is))
@@ -113,7 +114,7 @@ gives_ram part once memory mxr vmid address access held =
 
 -- so where there is no place the walk has no leaf
 no_leaf : (memory : List ℕ) (mxr : Bool) (blocks : List ℕ) (address : ℕ) (access : Access) → (b : Bool) → cond b (Some (host_place blocks (address - ram_base))) None ≡ None
-    → second_end (machine_memory memory) mxr address access (cond b (Leaf (full (slice_index blocks ((address - ram_base) / block_size) * 512))) PageFault) ≡ GuestPageFault
+    → second_end (machine_memory memory) mxr address access (cond b (end_at_leaf (full (slice_index blocks ((address - ram_base) / block_size) * 512))) PageFault) ≡ GuestPageFault
 no_leaf memory mxr blocks address access true none = absurd (cc)
 no_leaf memory mxr blocks address access false none = refl
 

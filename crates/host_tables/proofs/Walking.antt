@@ -62,7 +62,7 @@ whole : (block : ℕ) → block * 512 % 512 ≡ 0
 whole block = omega arith
 
 leaf_says : (block : ℕ) (access : Access) → block < 2 ^ 32
-    → entry_next 1 access (pte_of (block_leaf block)) ≡ Ends (Leaf (record { frame = block * 512; level = 1; r = true; w = true; x = true; u = true }))
+    → entry_next 1 access (pte_of (block_leaf block)) ≡ Ends (Leaf (block * 512) 1 true true true true)
 leaf_says block access small =
     leaf_gives_rights 1 (block * 512) true true true access (omega (arith, small)) (rw (whole block) refl) refl (λ h. refl)
     ∙ rw (and_right (needs_dirty access) false refl) refl
@@ -96,10 +96,10 @@ there part memory reading va access table reads small ram =
 mapped : (part : Layout) (memory : List ℕ) (reading : EntryReading) (va : ℕ) (access : Access) → IsHostTable part memory → ReadsIn (host_frames part) memory reading
     → ((i : ℕ) → slice_index part.blocks i < 2 ^ 32) → va / 2 ^ 21 % 2 ^ 9 < length part.blocks
     → walk_from reading Sv39x4 va access 2 part.first_table
-    ≡ Leaf (record { frame = slice_index part.blocks (va / 2 ^ 21 % 2 ^ 9) * 512; level = 1; r = true; w = true; x = true; u = true })
+    ≡ Leaf (slice_index part.blocks (va / 2 ^ 21 % 2 ^ 9) * 512) 1 true true true true
 mapped part memory reading va access table reads small inside =
     from_ends reading Sv39x4 va access 2 1 part.first_table
-    (Leaf (record { frame = slice_index part.blocks (va / 2 ^ 21 % 2 ^ 9) * 512; level = 1; r = true; w = true; x = true; u = true })) refl
+    (Leaf (slice_index part.blocks (va / 2 ^ 21 % 2 ^ 9) * 512) 1 true true true true) refl
     (leaf_next_of part memory reading va access table reads
     ∙ rw (lt-ltb (va / 2 ^ 21 % 2 ^ 9) (length part.blocks) inside) (leaf_says (slice_index part.blocks (va / 2 ^ 21 % 2 ^ 9)) access (small (va / 2 ^ 21 % 2 ^ 9))))
 
@@ -112,7 +112,7 @@ unmapped part memory reading va access table reads outside =
 
 -- the law, by where the address is
 in_ram : (blocks : List ℕ) (va : ℕ) → 2147483648 ≤ va → va < 2147483648 + length blocks * 2097152
-    → host_walk blocks va ≡ Leaf (record { frame = slice_index blocks ((va - 2147483648) / 2097152) * 512; level = 1; r = true; w = true; x = true; u = true })
+    → host_walk blocks va ≡ Leaf (slice_index blocks ((va - 2147483648) / 2097152) * 512) 1 true true true true
 in_ram blocks va from to =
     rw (and_from (nat_le ram_base va) (nat_lt va (ram_base + length blocks * block_size)) (le-leb ram_base va from) (lt-ltb va (ram_base + length blocks * block_size) to)) refl
 
@@ -148,7 +148,7 @@ by_place part memory reading va access few small_table small table reads low (in
     let inside = block_below (va - 2147483648) (length part.blocks) (count_room va (length part.blocks) from to) in
     there part memory reading va access table reads small_table (index_of_ram va from gib)
     ∙ (mapped part memory reading va access table reads small (subst (λ n. n < length part.blocks) (sym index) inside)
-    ∙ (ap (λ n. Leaf (record { frame = slice_index part.blocks n * 512; level = 1; r = true; w = true; x = true; u = true })) index ∙ sym (in_ram part.blocks va from to)))
+    ∙ (ap (λ n. Leaf (slice_index part.blocks n * 512) 1 true true true true) index ∙ sym (in_ram part.blocks va from to)))
 by_place part memory reading va access few small_table small table reads low (inr from) (inr past) (inl gib) =
     let index = index_of_block va from gib in
     let outside = block_above (va - 2147483648) (length part.blocks) (count_past va (length part.blocks) past) in

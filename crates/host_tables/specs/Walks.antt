@@ -19,15 +19,7 @@ use Rattle.table_words.specs.Entries.{ReadsIn}
 abbrev pub host_walk : List ℕ → ℕ → WalkEnd
 host_walk blocks address =
     if nat_le ram_base address && nat_lt address (ram_base + length blocks * block_size)
-    then Leaf (record {
-      frame =
-          slice_index blocks ((address - ram_base) / block_size) * 512;
-      level = 1;
-      r = true;
-      w = true;
-      x = true;
-      u = true;
-    })
+    then Leaf (slice_index blocks ((address - ram_base) / block_size) * 512) 1 true true true true
     else PageFault
 
 -- the walk of such a table is that, for each address and each kind of access, whatever reads memory

@@ -8,7 +8,7 @@ use op_defs::AluOp;
 /// What an operation on 64 bits makes of its two operands (Unprivileged ISA 20191213, 2.4, 5.2 and 7).
 #[tactic(auto, unfolding(op_defs::specs::Arithmetic::alu))]
 #[inline(always)]
-pub fn alu(op: AluOp, a: u64, b: u64) -> u64
+pub fn double_alu(op: AluOp, a: u64, b: u64) -> u64
     ensures { result ≡ alu op a b }
 {
     match op {

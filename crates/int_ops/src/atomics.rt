@@ -8,7 +8,7 @@ use op_defs::AmoOp;
 
 /// What an atomic memory operation makes of the old value in memory and its operand, of which it sees
 /// the low bytes of its width, sign extended (Unprivileged ISA 20191213, 8.4). Its low bytes are stored.
-pub fn amo(op: AmoOp, width: Width, held: u64, b: u64) -> u64
+pub fn sized_amo(op: AmoOp, width: Width, held: u64, b: u64) -> u64
     ensures { result ≡ amo op width held b }
 {
     combined(op, extend(width, true, held), extend(width, true, b))

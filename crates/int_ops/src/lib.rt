@@ -3,8 +3,10 @@
 
 mod arithmetic;
 mod atomics;
+mod instructions;
 mod words;
 
-pub use arithmetic::alu;
-pub use atomics::amo;
+pub use arithmetic::double_alu;
+pub use atomics::sized_amo;
+pub use instructions::{alu, amo};
 pub use words::word_alu;

@@ -6,7 +6,7 @@ ghost use Rattle.op_defs.specs.Meaning.{accesses, accesses_by_hlv, address_at, b
 
 use arch_defs::{BREAKPOINT, INSTRUCTION_MISALIGNED, Reg, Regs, Width};
 use fence_handler::request;
-use int_ops::{alu, word_alu};
+use int_ops::alu;
 use op_defs::{CsrOp, CsrSource, DataAccess, Effect, Op, Privileged, Purpose, Test};
 
 /// What an instruction asks for, read off the registers.
@@ -56,23 +56,20 @@ pub fn effect_of(op: &Op, regs: &Regs) -> Effect
             },
         ),
         Op::AluImmediate {
-            op,
             rd,
             rs1,
             immediate,
-        } => set(rd, alu(op, regs.read(rs1), immediate), next),
-        Op::Alu { op, rd, rs1, rs2 } => set(rd, alu(op, regs.read(rs1), regs.read(rs2)), next),
-        Op::WordImmediate {
-            op,
+            ..
+        }
+        | Op::WordImmediate {
             rd,
             rs1,
             immediate,
-        } => set(rd, word_alu(op, regs.read(rs1), immediate), next),
-        Op::Word { op, rd, rs1, rs2 } => set(
-            rd,
-            word_alu(op, regs.read(rs1), regs.read(rs2)),
-            next,
-        ),
+            ..
+        } => set(rd, alu(*op, regs.read(rs1), immediate), next),
+        Op::Alu { rd, rs1, rs2, .. } | Op::Word { rd, rs1, rs2, .. } => {
+            set(rd, alu(*op, regs.read(rs1), regs.read(rs2)), next)
+        }
         Op::Fence | Op::FenceI => set(Reg::new(0), 0, next),
         Op::LoadReserved { width, rd, rs1 } => {
             accesses(regs.read(rs1), width, Purpose::Reserve { rd })

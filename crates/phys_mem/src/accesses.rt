@@ -15,12 +15,14 @@ pub trait Mem {
     // What a write leaves as it was, beside the base and the other bytes.
     ghost keeps: { Self → Self → Type 0 };
 
-    /// The number of so many bytes at a place, or none exactly where they are not all in memory.
+    /// The number of so many bytes at a place, or none exactly where they are not all in memory, which is of
+    /// whole frames.
     fn get(&self, at: u64, width: u8) -> Option<u64>
         requires width { IsWidth width }
         requires aligned { at % width ≡ 0 }
         requires backed { is_backed self.now }
-        ensures { result ≡ number_at (memory self.now) at width };
+        ensures number { result ≡ number_at (memory self.now) at width }
+        ensures whole { IsWhole (memory self.now) };
 
     /// Writes the low bytes of a value to a place, and tells whether they are all in memory. Where they
     /// are not, nothing changes.
@@ -33,9 +35,4 @@ pub trait Mem {
         ensures base { (memory self.new).base ≡ (memory self.old).base }
         ensures backed { is_backed self.new }
         ensures keeps { keeps self.old self.new };
-
-    /// It is of whole frames.
-    fn is_whole(&self)
-        requires backed { is_backed self.now }
-        ensures { IsWhole (memory self.now) };
 }

@@ -56,6 +56,14 @@ impl PhysMem {
         self.bytes().len() as u64
     }
 
+    /// It is of whole frames.
+    #[inline(always)]
+    pub fn is_whole(&self)
+        ensures { IsWhole (machine_memory self.now) }
+    {
+        let _ = self.size();
+    }
+
     /// The number of `width` bytes at a place that is a multiple of it, little endian.
     #[inline]
     #[tactic(auto, using(crate::proofs::Places::fits))]
@@ -248,9 +256,5 @@ impl Mem for PhysMem {
         } else {
             false
         }
-    }
-
-    fn is_whole(&self) {
-        let _ = self.size();
     }
 }

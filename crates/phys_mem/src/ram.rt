@@ -55,7 +55,7 @@ impl Mem for Ram<'_> {
     ghost keeps = { λ old new. (new.mem.ghost_name ≡ old.mem.ghost_name) × (new.part.now ≡ old.part.now)
         × Only (in_blocks old.part.now.blocks) old.mem.now new.mem.now };
 
-    #[tactic(auto, using(crate::proofs::Views::aligned_offset))]
+    #[tactic(auto, using(crate::proofs::Views::aligned_offset, crate::proofs::Views::ram_whole))]
     fn get(&self, at: u64, width: u8) -> Option<u64> {
         match self.offset(at) {
             Some(offset) => Some(read(self.mem, self.part, offset, width)),
@@ -73,9 +73,6 @@ impl Mem for Ram<'_> {
             None => false,
         }
     }
-
-    #[tactic(auto, using(crate::proofs::Views::ram_whole))]
-    fn is_whole(&self) {}
 }
 
 // The number at an offset into RAM.

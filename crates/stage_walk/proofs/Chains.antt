@@ -6,10 +6,10 @@ use Rattle.arch_defs.specs.declared.modes.Trap.{Trap}
 use Rattle.arch_defs.specs.declared.walks.Shape.{Shape}
 use Rattle.arch_defs.specs.declared.walks.Shape.TheVariants.{Sv39, Sv48, Sv39x4, Sv48x4}
 use Rattle.arch_defs.specs.declared.walks.Pte.{Pte}
-use Rattle.arch_defs.specs.declared.walks.WalkEnd.TheVariants.{Leaf, PageFault}
+use Rattle.arch_defs.specs.declared.walks.WalkEnd.TheVariants.{PageFault}
 use Rattle.arch_defs.specs.declared.walks.Next.{Next}
 use Rattle.arch_defs.specs.declared.walks.Next.TheVariants.{Ends, Below}
-use Rattle.arch_defs.specs.TableEntries.{pte_of, is_valid, is_leaf, is_aligned, is_marked, leaf_pte, pointer_next, entry_next}
+use Rattle.arch_defs.specs.TableEntries.{end_at_leaf, entry_next, is_aligned, is_leaf, is_marked, is_valid, leaf_pte, pointer_next, pte_of}
 use Rattle.arch_defs.specs.Walk.{EntryReading, levels, is_canonical, place_of, index, index_bits, Met, met_in, read_next, next_of, later, path_from, path, end_of, walk}
 use Rattle.stage_walk.specs.ByLevels.{walk_from}
 use Rattle.stage_walk.specs.Laws.{SameOn, PathsAlike, WalksAlike, GoesToNext, IsLinked, PathIsLinked, LinkedIsPath, EndsByLevels, LiesInTable, AllAligned, PlacesAligned}
@@ -62,7 +62,7 @@ last_ends place access (Ok word) below =
     e = pte_of word
 
     by : (valid leaf fine : Bool)
-        → (if valid then (if leaf then (if fine then Ends (Leaf (leaf_pte 0 e)) else Ends PageFault) else pointer_next 0 e) else Ends PageFault) ≢ Below below
+        → (if valid then (if leaf then (if fine then Ends (end_at_leaf (leaf_pte 0 e)) else Ends PageFault) else pointer_next 0 e) else Ends PageFault) ≢ Below below
     by true true true = λ says. cc
     by true true false = λ says. cc
     by true false fine = pointer_ends e below

@@ -120,7 +120,7 @@ pointer_leads_below level frame access small =
 abbrev given : ℕ → ℕ → Bool → Bool → Bool → Access → WalkEnd
 given level frame r w x access =
     if needs_dirty access && not w then PageFault
-    else Leaf (record { frame = frame; level = level; r = r; w = w; x = x; u = true })
+    else Leaf frame level r w x true
 
 leaf_gives : (level frame : ℕ) (r w x : Bool) (access : Access) → is_aligned level frame ≡ true → (r || x) ≡ true → (w ≡ true → r ≡ true)
     → entry_next level access (leaf_to frame r w x) ≡ Ends (given level frame r w x access)

@@ -5,11 +5,12 @@ use Rattle.arch_defs.specs.declared.modes.Trap.{Trap}
 use Rattle.arch_defs.specs.declared.walks.Shape.{Shape}
 use Rattle.arch_defs.specs.declared.walks.Pte.{Pte}
 use Rattle.arch_defs.specs.declared.walks.LeafPte.{LeafPte}
-use Rattle.arch_defs.specs.declared.walks.WalkEnd.TheVariants.{Leaf, PageFault}
+use Rattle.arch_defs.specs.declared.walks.WalkEnd.TheVariants.{PageFault}
 use Rattle.arch_defs.specs.declared.walks.Next.{Next}
 use Rattle.arch_defs.specs.declared.walks.Next.TheVariants.{Ends, Below}
+use Rattle.arch_defs.proofs.WalkEnds.{same_leaf}
 use Rattle.arch_defs.specs.Bits.{field}
-use Rattle.arch_defs.specs.TableEntries.{pte_of, is_valid, is_leaf, is_aligned, is_marked, span, leaf_pte, pointer_next, entry_next}
+use Rattle.arch_defs.specs.TableEntries.{end_at_leaf, entry_next, is_aligned, is_leaf, is_marked, is_valid, leaf_pte, pointer_next, pte_of, span}
 use Rattle.arch_defs.specs.Walk.{EntryReading, levels, most_levels, is_canonical, place_of, Met, met_in, read_next, next_of, later, path_from, path, or_else, end_of, walk}
 use Rattle.arch_defs.proofs.Shapes.{few_levels}
 use Rattle.stage_walk.specs.Laws.{HasValid, AllValid, EntriesValid, IsTranslated, IsLeafOf, LastIsLeaf, LeafAddress}
@@ -87,15 +88,15 @@ translated (suc (suc (suc zero))) frame va small aligned = record {
 translated (suc (suc (suc (suc level)))) frame va small aligned = absurd (omega arith)
 
 -- a pointer is no leaf
-pointer_leafless : (level : ℕ) (e : Pte) (leaf : LeafPte) → pointer_next level e ≢ Ends (Leaf leaf)
+pointer_leafless : (level : ℕ) (e : Pte) (leaf : LeafPte) → pointer_next level e ≢ Ends (end_at_leaf leaf)
 pointer_leafless level e leaf = by (e.a || e.d || e.u || level == 0)
   where
-    by : (wrong : Bool) → (if wrong then Ends PageFault else Below e.frame) ≢ Ends (Leaf leaf)
+    by : (wrong : Bool) → (if wrong then Ends PageFault else Below e.frame) ≢ Ends (end_at_leaf leaf)
     by true = λ says. cc
     by false = λ says. cc
 
 -- a leaf comes from the entry that says so
-leaf_read : (level place va : ℕ) (access : Access) (read : Result ℕ Trap) (leaf : LeafPte) → level < most_levels → read_next level place access read ≡ Ends (Leaf leaf)
+leaf_read : (level place va : ℕ) (access : Access) (read : Result ℕ Trap) (leaf : LeafPte) → level < most_levels → read_next level place access read ≡ Ends (end_at_leaf leaf)
     → IsLeafOf leaf va (record { level = level; place = place; read = read })
 unfolding entry_next
 leaf_read level place va access (Err trap) leaf small says = absurd cc
@@ -115,9 +116,9 @@ leaf_read level place va access (Ok word) leaf small says =
         (word, refl, refl, translated level e.frame va small aligned)
 
     by : (valid leafy aligned marked : Bool) → is_aligned level e.frame ≡ aligned
-        → (if valid then (if leafy then (if aligned && marked then Ends (Leaf (leaf_pte level e)) else Ends PageFault) else pointer_next level e) else Ends PageFault) ≡ Ends (Leaf leaf)
+        → (if valid then (if leafy then (if aligned && marked then Ends (end_at_leaf (leaf_pte level e)) else Ends PageFault) else pointer_next level e) else Ends PageFault) ≡ Ends (end_at_leaf leaf)
         → IsLeafOf leaf va m
-    by true true true true is says = let same : leaf_pte level e ≡ leaf = cc in from same (grind (arith, is))
+    by true true true true is says = let same = same_leaf (leaf_pte level e) leaf says in from same (grind (arith, is))
     by true true true false is says = absurd cc
     by true true false marked is says = absurd cc
     by true false aligned marked is says = absurd (pointer_leafless level e leaf says)
@@ -128,7 +129,7 @@ last_later leaf va m [] last = absurd last
 last_later leaf va m (n ∷ ms) last = last
 
 leaf_from : (reading : EntryReading) (shape : Shape) (va : ℕ) (access : Access) (leaf : LeafPte) (level table : ℕ) → level ≤ most_levels
-    → end_of access (path_from reading shape va access level table) ≡ Leaf leaf → LastIsLeaf leaf va (path_from reading shape va access level table)
+    → end_of access (path_from reading shape va access level table) ≡ end_at_leaf leaf → LastIsLeaf leaf va (path_from reading shape va access level table)
 unfolding path_from end_of
 leaf_from reading shape va access leaf zero table few ends = absurd cc
 leaf_from reading shape va access leaf (suc level) table few ends =
@@ -140,8 +141,8 @@ leaf_from reading shape va access leaf (suc level) table few ends =
     from : ℕ → List Met
     from = path_from reading shape va access level
 
-    by : ((below : ℕ) → end_of access (from below) ≡ Leaf leaf → LastIsLeaf leaf va (from below)) → (next : Next)
-        → (next ≡ Ends (Leaf leaf) → IsLeafOf leaf va m) → or_else (end_of access (later from next)) next ≡ Leaf leaf
+    by : ((below : ℕ) → end_of access (from below) ≡ end_at_leaf leaf → LastIsLeaf leaf va (from below)) → (next : Next)
+        → (next ≡ Ends (end_at_leaf leaf) → IsLeafOf leaf va m) → or_else (end_of access (later from next)) next ≡ end_at_leaf leaf
         → LastIsLeaf leaf va (m ∷ later from next)
     by below_too (Ends end) here ends = here (ap Ends ends)
     by below_too (Below below) here ends = last_later leaf va m (from below) (below_too below ends)
@@ -150,7 +151,7 @@ pub leaf_address_law : LeafAddress
 unfolding walk path end_of
 leaf_address_law reading root shape va access leaf ends = by (is_canonical shape va) ends
   where
-    by : (right : Bool) → end_of access (if right then path_from reading shape va access (levels shape) root else []) ≡ Leaf leaf
+    by : (right : Bool) → end_of access (if right then path_from reading shape va access (levels shape) root else []) ≡ end_at_leaf leaf
         → LastIsLeaf leaf va (if right then path_from reading shape va access (levels shape) root else [])
     by true ends = leaf_from reading shape va access leaf (levels shape) root (few_levels shape) ends
     by false ends = absurd cc

@@ -6,7 +6,7 @@ use Rattle.arch_defs.specs.declared.walks.WalkEnd.{WalkEnd}
 use Rattle.arch_defs.specs.declared.walks.WalkEnd.TheVariants.{Leaf, PageFault, FetchEnd}
 use Rattle.arch_defs.specs.declared.walks.Next.{Next}
 use Rattle.arch_defs.specs.declared.walks.Next.TheVariants.{Ends, Below}
-use Rattle.arch_defs.specs.TableEntries.{span}
+use Rattle.arch_defs.specs.TableEntries.{leaf_with, span}
 
 -- an entry has 44 bits for the physical page number, and 10 reserved bits (Privileged Architecture 20211203,
 -- 4.4.1)
@@ -22,7 +22,7 @@ pub record LeafFits (levels : ℕ) (leaf : LeafPte) : Type 0 where
 
 -- and the place of an entry that could not be read is a multiple of its size
 abbrev pub EndFits : ℕ → WalkEnd → Type 0
-EndFits levels (Leaf leaf) = LeafFits levels leaf
+EndFits levels (Leaf frame level r w x u) = LeafFits levels (leaf_with frame level r w x u)
 EndFits levels PageFault = Unit {0}
 EndFits levels (FetchEnd place trap) = place % 8 ≡ 0
 

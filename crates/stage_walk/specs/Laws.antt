@@ -9,7 +9,7 @@ use Rattle.arch_defs.specs.declared.walks.WalkEnd.TheVariants.{Leaf, PageFault}
 use Rattle.arch_defs.specs.declared.walks.Next.{Next}
 use Rattle.arch_defs.specs.declared.walks.Next.TheVariants.{Ends, Below}
 use Rattle.arch_defs.specs.Bits.{field}
-use Rattle.arch_defs.specs.TableEntries.{pte_of, pte_word, pointer_to, leaf_to, is_valid, is_aligned, needs_dirty, entry_next}
+use Rattle.arch_defs.specs.TableEntries.{end_at_leaf, entry_next, is_aligned, is_valid, leaf_to, needs_dirty, pointer_to, pte_of, pte_word}
 use Rattle.arch_defs.specs.Walk.{EntryReading, levels, table_size, is_canonical, place_of, Met, met_in, next_of, path, walk, leaf_address}
 use Rattle.stage_walk.specs.ByLevels.{walk_from}
 use Rattle.stage_walk.specs.Ends.{PteFits}
@@ -39,7 +39,7 @@ LeavesGiveRights = (level frame : ℕ) (r w x : Bool) (access : Access)
     → frame < 2 ^ 44 → is_aligned level frame ≡ true → (r || x) ≡ true → (w ≡ true → r ≡ true)
     → entry_next level access (pte_of (pte_word (leaf_to frame r w x)))
     ≡ Ends (if needs_dirty access && not w then PageFault
-    else Leaf (record { frame = frame; level = level; r = r; w = w; x = x; u = true }))
+    else Leaf frame level r w x true)
 
 -- another reading gives at the place of each entry met what was read there
 abbrev pub SameOn : EntryReading → List Met → Type 0
@@ -137,4 +137,4 @@ LastIsLeaf leaf va (m ∷ (n ∷ ms)) = LastIsLeaf leaf va (n ∷ ms)
 abbrev pub LeafAddress : Type 0
 LeafAddress = (reading : EntryReading) (root : ℕ) (shape : Shape) (va : ℕ) (access : Access)
     (leaf : LeafPte)
-    → walk reading root shape va access ≡ Leaf leaf → LastIsLeaf leaf va (path reading root shape va access)
+    → walk reading root shape va access ≡ end_at_leaf leaf → LastIsLeaf leaf va (path reading root shape va access)

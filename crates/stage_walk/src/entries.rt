@@ -199,7 +199,8 @@ fn leaf_end(level: u8, access: Access, word: u64) -> WalkEnd
     if !is_aligned(level, frame_of(word)) || !is_marked(access, word) {
         return WalkEnd::PageFault;
     }
-    WalkEnd::Leaf(leaf_of(level, word))
+    let leaf = leaf_of(level, word);
+    WalkEnd::Leaf(leaf.frame, leaf.level, leaf.r, leaf.w, leaf.x, leaf.u)
 }
 
 // How the walk ends at an entry that leads to no table below.

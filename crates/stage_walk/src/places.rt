@@ -60,10 +60,7 @@ pub fn unread_end(shape: Shape, level: u8, table: u64, va: u64, trap: Trap) -> W
     ensures value { result ≡ FetchEnd (place_of shape level table va) trap }
     ensures fits { EndFits (levels shape) result }
 {
-    WalkEnd::FetchEnd {
-        place: place_of(shape, level, table, va),
-        trap,
-    }
+    WalkEnd::FetchEnd(place_of(shape, level, table, va), trap)
 }
 
 /// Whether the upper bits of an address are as the shape wants them: Sv39 repeats bit 38, and Sv48 bit 47;

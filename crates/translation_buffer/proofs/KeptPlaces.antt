@@ -78,7 +78,7 @@ word_kept frames memory other at same aligned inside = rw (no_base at, same.size
 -- the second stage
 end_kept : (memory other : List ℕ) (mxr : Bool) (address : ℕ) (kind : Access) (end : WalkEnd) → length other ≡ length memory
     → second_end (machine_memory other) mxr address kind end ≡ second_end (machine_memory memory) mxr address kind end
-end_kept memory other mxr address kind (Leaf leaf) size = rw size refl
+end_kept memory other mxr address kind (Leaf frame level r w x u) size = rw size refl
 end_kept memory other mxr address kind PageFault size = refl
 end_kept memory other mxr address kind (FetchEnd place trap) size = refl
 

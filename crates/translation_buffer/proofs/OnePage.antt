@@ -20,6 +20,7 @@ use Rattle.arch_defs.specs.Memory.{bare, machine_memory}
 use Rattle.arch_defs.specs.Permits.{permits_second}
 use Rattle.arch_defs.specs.Roots.{guest_shape}
 use Rattle.arch_defs.specs.SecondStage.{guest_root_frame, has_frame_of, memory_words, place_under, second_end, second_under, second_walk, walked}
+use Rattle.arch_defs.specs.TableEntries.{leaf_with}
 use Rattle.arch_defs.specs.Walk.{EntryReading, end_of, index, index_bits, is_canonical, later, leaf_address, levels, met_in, next_of, path, path_from, walk}
 use Rattle.arch_defs.proofs.Shapes.{canonical_same}
 
@@ -85,9 +86,12 @@ bare_near near va address same is = omega (arith, same, is)
 -- the second stage
 end_near : (memory : List ℕ) (mxr : Bool) (kind : Access) (near address place : ℕ) (end : WalkEnd) → near / 4096 ≡ address / 4096
     → place_under address (second_end (machine_memory memory) mxr address kind end) ≡ Some place → place_under near (second_end (machine_memory memory) mxr near kind end) ≡ Some (4096 * (place / 4096) + near % 4096)
-end_near memory mxr kind near address place (Leaf leaf) same is =
+end_near memory mxr kind near address place (Leaf frame level r w x u) same is =
     rw (frame_same leaf near address same) (by (not (permits_second mxr kind leaf)) (has_frame_of (machine_memory memory) (leaf_address leaf address)) (is_on_device (leaf_address leaf address)) is)
   where
+    leaf : LeafPte
+    leaf = leaf_with frame level r w x u
+
     by : (denied inside device : Bool) → place_under address (cond denied GuestPageFault (cond inside (walk_end.Leaf leaf) (cond device (walk_end.Device leaf) AccessFault))) ≡ Some place
         → place_under near (cond denied GuestPageFault (cond inside (walk_end.Leaf leaf) (cond device (walk_end.Device leaf) AccessFault))) ≡ Some (4096 * (place / 4096) + near % 4096)
     by true inside device is = absurd cc

@@ -12,6 +12,7 @@ use Rattle.arch_defs.specs.declared.roots.SupervisorRoot.{SupervisorRoot}
 use Rattle.arch_defs.specs.declared.roots.SupervisorRoot.TheVariants as root
 use Rattle.arch_defs.specs.declared.second_walks.SecondWalkEnd.TheVariants.{GuestPageFault, AccessFault}
 use Rattle.arch_defs.specs.declared.second_walks.SecondWalkEnd.TheVariants as walk_end
+use Rattle.arch_defs.specs.declared.walks.LeafPte.{LeafPte}
 use Rattle.arch_defs.specs.declared.walks.Privilege.{Privilege}
 use Rattle.arch_defs.specs.declared.walks.WalkEnd.{WalkEnd}
 use Rattle.arch_defs.specs.declared.walks.WalkEnd.TheVariants.{Leaf, PageFault, FetchEnd}
@@ -22,7 +23,7 @@ use Rattle.arch_defs.specs.Permits.{permits_first, permits_second}
 use Rattle.arch_defs.specs.Roots.{guest_shape}
 use Rattle.arch_defs.specs.SecondStage.{guest_root_frame, has_frame_of, memory_words, place_under, second_end, second_under, second_walk, walked}
 use Rattle.arch_defs.specs.Walk.{leaf_address, most_levels, walk}
-use Rattle.arch_defs.specs.TableEntries.{span}
+use Rattle.arch_defs.specs.TableEntries.{leaf_with, span}
 use Rattle.stage_walk.specs.Ends.{LeafFits}
 use Rattle.two_stage_walk.specs.Places.{IsPlaceOf}
 use Rattle.translation_buffer.specs.declared.contexts.Context.{Context}
@@ -36,8 +37,11 @@ frame_inside place size fits = omega (arith, fits)
 
 end_inside : (memory : List ℕ) (mxr : Bool) (address place : ℕ) (kind : Access) (end : WalkEnd)
     → place_under address (second_end (machine_memory memory) mxr address kind end) ≡ Some place → place < 0 + length memory
-end_inside memory mxr address place kind (Leaf leaf) is = by (not (permits_second mxr kind leaf)) (has_frame_of (machine_memory memory) (leaf_address leaf address)) (is_on_device (leaf_address leaf address)) refl is
+end_inside memory mxr address place kind (Leaf frame level r w x u) is = by (not (permits_second mxr kind leaf)) (has_frame_of (machine_memory memory) (leaf_address leaf address)) (is_on_device (leaf_address leaf address)) refl is
   where
+    leaf : LeafPte
+    leaf = leaf_with frame level r w x u
+
     by : (denied inside device : Bool) → has_frame_of (machine_memory memory) (leaf_address leaf address) ≡ inside
         → place_under address (cond denied GuestPageFault (cond inside (walk_end.Leaf leaf) (cond device (walk_end.Device leaf) AccessFault))) ≡ Some place → place < 0 + length memory
     by true inside device has is = absurd cc

@@ -2,3 +2,4 @@ pub mod Laws
 pub mod Places
 pub mod Serving
 pub mod Tags
+pub mod WalkCounts

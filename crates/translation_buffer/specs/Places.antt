@@ -3,6 +3,7 @@
 use Rattle.std.specs.Prelude.{ℕ, ◌≡◌, List, Option, Some, None}
 use Rattle.arch_defs.specs.declared.first.FirstEntry.{FirstEntry}
 use Rattle.arch_defs.specs.declared.first.Tag.{Tag}
+use Rattle.arch_defs.specs.declared.hart_states.HartState.{HartState}
 use Rattle.arch_defs.specs.declared.modes.Access.{Access}
 use Rattle.arch_defs.specs.declared.modes.Mode.{Mode}
 use Rattle.arch_defs.specs.declared.registers.Csrs.{Csrs}
@@ -13,7 +14,7 @@ use Rattle.arch_defs.specs.FirstEntries.{known_under}
 use Rattle.arch_defs.specs.Frames.{Frames}
 use Rattle.arch_defs.specs.Memory.{SecondStage, machine_memory}
 use Rattle.arch_defs.specs.SecondStage.{second_root_of, second_under}
-use Rattle.arch_defs.specs.Translation.{supervisor_of}
+use Rattle.arch_defs.specs.Translation.{privilege_of, supervisor_of}
 use Rattle.two_stage_walk.specs.Reads.{SecondReads}
 use Rattle.translation_buffer.specs.declared.contexts.Context.{Context}
 
@@ -59,6 +60,12 @@ placed_at second access (Some address) = second address access
 abbrev pub translated_place : Translator → Privilege → List ℕ → ℕ → Access → Option ℕ
 translated_place under who memory va access =
     placed_at (second_in under.context memory) access (passed under who va access)
+
+-- that of an access that the hart makes
+abbrev pub place_on_hart : HartState → List ℕ → ℕ → Access → Option ℕ
+place_on_hart s memory va access =
+    let under = translator s.virt.first s.tag (context_of s.virt.csrs s.virt.mode) in
+    translated_place under (privilege_of s.virt.csrs s.virt.mode) memory va access
 
 -- all entries that the second stage reads for it lie in these frames
 abbrev pub Reads : Frames → Translator → Privilege → List ℕ → ℕ → Access → Type 0

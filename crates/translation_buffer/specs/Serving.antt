@@ -3,6 +3,7 @@ use Rattle.std.specs.Prelude.{ℕ, ◌≡◌, ◌+◌, ◌*◌, ◌/◌, ◌%◌
 use Rattle.std.specs.List.{All}
 use Rattle.arch_defs.specs.declared.first.FirstEntry.{FirstEntry}
 use Rattle.arch_defs.specs.declared.first.Tag.{Tag}
+use Rattle.arch_defs.specs.declared.hart_states.HartState.{HartState}
 use Rattle.arch_defs.specs.declared.modes.Access.{Access}
 use Rattle.arch_defs.specs.declared.modes.Mode.{Mode}
 use Rattle.arch_defs.specs.declared.registers.Csrs.{Csrs}
@@ -61,3 +62,7 @@ pub record Serves (buffer : Buffer) (first : List FirstEntry) (owner : Tag) (csr
   pub context : buffer.context ≡ context_of csrs mode
   pub who : buffer.who ≡ run_bits buffer.run + who_bits (privilege_of csrs mode)
   pub slots : AllStand buffer.read memory (translator first owner buffer.context) buffer.run buffer.slots
+
+-- it serves the accesses of the hart as it is
+abbrev pub ServesHart : Buffer → HartState → List ℕ → Type 0
+ServesHart buffer s memory = Serves buffer s.virt.first s.tag s.virt.csrs s.virt.mode memory

@@ -1,6 +1,6 @@
 // The buffer: found, walked and kept, and dropped where a table or a cached first-stage translation changes.
 
-ghost use Rattle.std.specs.Prelude.{◌≡◌, ℕ, ◌+◌, ◌*◌, ◌/◌, ◌%◌, ◌-◌, ◌^◌, ◌<◌, ◌≤◌, false, find, option_map, IfSome, List, Some, length};
+ghost use Rattle.std.specs.Prelude.{◌≡◌, ℕ, ◌+◌, ◌*◌, ◌/◌, ◌%◌, ◌-◌, ◌^◌, ◌<◌, ◌≤◌, ◌⊎◌, false, find, option_map, IfSome, List, Some, length};
 ghost use Rattle.arch_defs.specs.declared.first.FirstEntry.{FirstEntry};
 ghost use Rattle.arch_defs.specs.declared.first.Tag.{Tag};
 ghost use Rattle.arch_defs.specs.declared.modes.Mode.{Mode};
@@ -12,12 +12,15 @@ ghost use Rattle.arch_defs.specs.Translation.{privilege_of};
 ghost use Rattle.frame_set.specs.declared.sets.FrameSet.{FrameSet};
 ghost use Rattle.frame_set.specs.Holding.{has_frame, has_recent};
 ghost use Rattle.two_stage_walk.specs.Places.{IsPlaceOf};
-ghost use Rattle.translation_buffer.specs.Places.{Reads, Translator, context_of, passed_by, translated_place, translator};
+ghost use Rattle.translation_buffer.specs.Places.{Reads, Translator, context_of, passed_by, place_on_hart, translated_place, translator};
 ghost use Rattle.translation_buffer.specs.Tags.{AllUpTo, bit_of, run_bits, who_bits};
+ghost use Rattle.translation_buffer.specs.WalkCounts.{one_more_walk};
 
 use crate::contexts::Context;
 use crate::slots::{Slot, Slots};
-use arch_defs::{Access, Csrs, FirstBuffer, FirstEntry, Mode, Privilege, SupervisorRoot, Tag};
+use arch_defs::{
+    Access, Csrs, FirstBuffer, FirstEntry, HartState, Mode, Privilege, SupervisorRoot, Tag,
+};
 use frame_set::FrameSet;
 use phys_mem::{Mem, PhysMem};
 use stage_walk::permits_first;
@@ -108,23 +111,17 @@ fn known_in(
 /// alone.
 #[inline]
 #[tactic(auto, unfolding(arch_defs::specs::FirstEntries::known_under))]
-pub fn passed_by(
-    first: &FirstBuffer,
-    owner: &Tag,
-    csrs: &Csrs,
-    mode: Mode,
-    root: &SupervisorRoot,
-    va: u64,
-    access: Access,
-) -> Option<u64>
-    ensures value { result
-        ≡ passed_by first.now owner.now (privilege_of csrs.now mode) root.now va access }
+pub fn passed_by(state: &HartState, root: &SupervisorRoot, va: u64, access: Access) -> Option<u64>
+    ensures value { result ≡ passed_by state.now.virt.first state.now.tag
+        (privilege_of state.now.virt.csrs state.now.virt.mode) root.now va access }
     ensures offset { IfSome result (λ address. address % 4096 ≡ va % 4096) }
 {
     match root {
         SupervisorRoot::Bare => Some(va),
         SupervisorRoot::Table { .. } => {
-            known_in(first, owner, privilege_of(csrs, mode), root, va, access)
+            let virt = &state.virt;
+            let who = privilege_of(&virt.csrs, virt.mode);
+            known_in(&virt.first, &state.tag, who, root, va, access)
         }
     }
 }
@@ -134,30 +131,34 @@ pub fn passed_by(
 fn place_noted(
     memory: &PhysMem,
     context: &Context,
-    csrs: &Csrs,
-    mode: Mode,
-    first: &FirstBuffer,
-    owner: &Tag,
+    state: &HartState,
     va: u64,
     access: Access,
     read: &mut FrameSet,
 ) -> Option<u64>
     ensures place { result
-        ≡ translated_place (translator first.now owner.now context.now) (privilege_of csrs.now mode)
-        memory.now va access }
+        ≡ translated_place (translator state.now.virt.first state.now.tag context.now)
+        (privilege_of state.now.virt.csrs state.now.virt.mode) memory.now va access }
     ensures inside { IfSome result (λ place. IsPlaceOf (machine_memory memory.now) va place) }
     ensures more { Within (has_frame read.old) (has_frame read.new) }
     ensures noted { (frames : Frames) → Within (has_recent read.new) frames
-        → Reads frames (translator first.now owner.now context.now) (privilege_of csrs.now mode)
-        memory.now va access }
+        → Reads frames (translator state.now.virt.first state.now.tag context.now)
+        (privilege_of state.now.virt.csrs state.now.virt.mode) memory.now va access }
 {
     memory.is_whole();
-    match passed_by(first, owner, csrs, mode, &context.first, va, access) {
+    match passed_by(state, &context.first, va, access) {
         Some(address) => {
             second_noted(memory, context.mxr, context.second, address, access, read)
         }
         None => None,
     }
+}
+
+// The count of walks after one more.
+fn one_more_walk(walks: u64) -> u64
+    ensures { result ≡ one_more_walk walks }
+{
+    walks.saturating_add(1)
 }
 
 // The number of a run, and for whom a mode accesses memory as the registers are.
@@ -169,12 +170,13 @@ fn bits_of(run: u64, csrs: &Csrs, mode: Mode) -> u64
 }
 
 impl Buffer {
-    ghost use Rattle.translation_buffer.specs.Serving.{AllStand, Serves};
+    ghost use Rattle.translation_buffer.specs.Serving.{AllStand, Serves, ServesHart};
 
     /// The buffer that keeps nothing, for a mode as the registers are.
     pub fn new(csrs: &Csrs, mode: Mode) -> Buffer
-        ensures { (first : List FirstEntry) (owner : Tag) (memory : List ℕ)
+        ensures serves { (first : List FirstEntry) (owner : Tag) (memory : List ℕ)
             → Serves result first owner csrs.now mode memory }
+        ensures walks { result.walks ≡ 0 }
     {
         Buffer {
             context: Context::of(csrs, mode),
@@ -197,8 +199,9 @@ impl Buffer {
     #[cold]
     #[inline(never)]
     fn clear(&mut self)
-        ensures { (read : FrameSet) (memory : List ℕ) (under : Translator)
+        ensures stand { (read : FrameSet) (memory : List ℕ) (under : Translator)
             → AllStand read memory under self.new.run self.new.slots }
+        ensures walks { self.new.walks ≡ self.old.walks }
     {
         self.slots = Slots::none();
         self.run = 0;
@@ -207,8 +210,9 @@ impl Buffer {
     // Begins the next run, of which no slot is. Where no number is left, all slots are emptied.
     #[tactic(auto, using(crate::proofs::KeptSlots::next_stands, crate::proofs::PageTags::up_to_more))]
     fn next_run(&mut self)
-        ensures { (read : FrameSet) (memory : List ℕ) (under : Translator)
+        ensures stand { (read : FrameSet) (memory : List ℕ) (under : Translator)
             → AllStand read memory under self.new.run self.new.slots }
+        ensures walks { self.new.walks ≡ self.old.walks }
     {
         if self.run < LAST_RUN {
             self.run += 1;
@@ -220,8 +224,9 @@ impl Buffer {
     /// Begins a run, for a mode as the registers are. Nothing that was kept is found in it.
     #[inline]
     pub fn restart(&mut self, csrs: &Csrs, mode: Mode)
-        ensures { (first : List FirstEntry) (owner : Tag) (memory : List ℕ)
+        ensures serves { (first : List FirstEntry) (owner : Tag) (memory : List ℕ)
             → Serves self.new first owner csrs.now mode memory }
+        ensures walks { self.new.walks ≡ self.old.walks }
     {
         self.next_run();
         self.context.set(csrs, mode);
@@ -231,9 +236,10 @@ impl Buffer {
     /// Goes on for a mode as the registers are: what was kept stays where the roots and sstatus.MXR are the
     /// same.
     pub fn follow(&mut self, csrs: &Csrs, mode: Mode)
-        ensures { (first : List FirstEntry) (owner : Tag) (before : Csrs) (mode_before : Mode)
+        ensures serves { (first : List FirstEntry) (owner : Tag) (before : Csrs) (mode_before : Mode)
             (memory : List ℕ) → Serves self.old first owner before mode_before memory
             → Serves self.new first owner csrs.now mode memory }
+        ensures walks { self.new.walks ≡ self.old.walks }
     {
         if self.context.is_context(&Context::of(csrs, mode)) {
             self.who = bits_of(self.run, csrs, mode);
@@ -249,6 +255,7 @@ impl Buffer {
         ensures serves { (first : List FirstEntry) (owner : Tag) (csrs : Csrs) (mode : Mode)
             (memory : List ℕ) → Serves self.old first owner csrs mode memory
             → Serves self.new first owner csrs mode memory }
+        ensures walks { self.new.walks ≡ self.old.walks }
     {
         self.slots.drop_read(frame);
         self.read.remove(frame);
@@ -262,6 +269,7 @@ impl Buffer {
         ensures serves { (first : List FirstEntry) (owner : Tag) (csrs : Csrs) (mode : Mode)
             (memory : List ℕ) → Serves self.old first owner csrs mode memory
             → Serves self.new first owner csrs mode memory }
+        ensures walks { self.new.walks ≡ self.old.walks }
     {
         if self.read.holds(place / 4096) {
             self.drop_read(place / 4096);
@@ -277,6 +285,7 @@ impl Buffer {
         ensures serves { (owner : Tag) (csrs : Csrs) (mode : Mode) (memory : List ℕ)
             → Serves self.old first.old owner csrs mode memory
             → Serves self.new first.new owner csrs mode memory }
+        ensures walks { self.new.walks ≡ self.old.walks }
     {
         let dropped = first.fill(entry);
         self.slots.drop_pages(entry.page, dropped);
@@ -300,36 +309,16 @@ impl Buffer {
 
     // The place of an access by the second stage, which is kept.
     #[inline(never)]
-    fn walk(
-        &mut self,
-        memory: &PhysMem,
-        csrs: &Csrs,
-        mode: Mode,
-        first: &FirstBuffer,
-        owner: &Tag,
-        va: u64,
-        access: Access,
-    ) -> Option<u64>
-        requires serves { Serves self.old first.now owner.now csrs.now mode memory.now }
-        ensures place { result
-            ≡ translated_place (translator first.now owner.now (context_of csrs.now mode))
-            (privilege_of csrs.now mode) memory.now va access }
+    fn walk(&mut self, memory: &PhysMem, state: &HartState, va: u64, access: Access) -> Option<u64>
+        requires serves { ServesHart self.old state.now memory.now }
+        ensures place { result ≡ place_on_hart state.now memory.now va access }
         ensures inside { IfSome result (λ place. IsPlaceOf (machine_memory memory.now) va place) }
-        ensures serves { Serves self.new first.now owner.now csrs.now mode memory.now }
+        ensures serves { ServesHart self.new state.now memory.now }
+        ensures walks { self.new.walks ≡ one_more_walk self.old.walks }
     {
-        self.walks = self.walks.saturating_add(1);
+        self.walks = one_more_walk(self.walks);
         self.read.begin();
-        match place_noted(
-            memory,
-            &self.context,
-            csrs,
-            mode,
-            first,
-            owner,
-            va,
-            access,
-            &mut self.read,
-        ) {
+        match place_noted(memory, &self.context, state, va, access, &mut self.read) {
             Some(place) => {
                 let _ = memory.size();
                 let slot = Slot {
@@ -350,24 +339,21 @@ impl Buffer {
     pub fn place(
         &mut self,
         memory: &PhysMem,
-        csrs: &Csrs,
-        mode: Mode,
-        first: &FirstBuffer,
-        owner: &Tag,
+        state: &HartState,
         va: u64,
         access: Access,
     ) -> Option<u64>
-        requires serves { Serves self.old first.now owner.now csrs.now mode memory.now }
-        ensures place { result
-            ≡ translated_place (translator first.now owner.now (context_of csrs.now mode))
-            (privilege_of csrs.now mode) memory.now va access }
+        requires serves { ServesHart self.old state.now memory.now }
+        ensures place { result ≡ place_on_hart state.now memory.now va access }
         ensures inside { IfSome result (λ place. IsPlaceOf (machine_memory memory.now) va place) }
-        ensures serves { Serves self.new first.now owner.now csrs.now mode memory.now }
+        ensures serves { ServesHart self.new state.now memory.now }
+        ensures walks { (self.new.walks ≡ self.old.walks)
+            ⊎ (self.new.walks ≡ one_more_walk self.old.walks) }
     {
         memory.is_whole();
         match self.find(va, access) {
             Some(place) => Some(place),
-            None => self.walk(memory, csrs, mode, first, owner, va, access),
+            None => self.walk(memory, state, va, access),
         }
     }
 }

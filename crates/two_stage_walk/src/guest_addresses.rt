@@ -12,7 +12,7 @@ ghost use Rattle.two_stage_walk.specs.SecondAnswers.{place_of};
 use crate::devices::is_on_device;
 use crate::second_answers::{SecondAnswer, table_answer};
 use crate::virtual_addresses::{leaf_address, unread};
-use arch_defs::{Access, Csrs, GuestRoot, Mode, SecondWalkEnd, Shape, Trap, WalkEnd};
+use arch_defs::{Access, Csrs, GuestRoot, LeafPte, Mode, SecondWalkEnd, Shape, Trap, WalkEnd};
 use phys_mem::Mem;
 use stage_walk::{Fetch, permits_second, walk};
 
@@ -41,7 +41,6 @@ fn has_frame_of<M: Mem>(mem: &M, place: u64) -> bool
     requires backed { M.is_backed mem.now }
     ensures { result ≡ has_frame_of (M.memory mem.now) place }
 {
-    mem.is_whole();
     mem.get(place, 1).is_some()
 }
 
@@ -59,7 +58,15 @@ pub fn second_end<M: Mem>(
     ensures leaf { LeafIn (M.memory mem.now) address result }
 {
     match end {
-        WalkEnd::Leaf(leaf) => {
+        WalkEnd::Leaf(frame, level, r, w, x, u) => {
+            let leaf = LeafPte {
+                frame,
+                level,
+                r,
+                w,
+                x,
+                u,
+            };
             if !permits_second(mxr, kind, &leaf) {
                 SecondWalkEnd::GuestPageFault
             } else if has_frame_of(mem, leaf_address(&leaf, address)) {
@@ -71,7 +78,7 @@ pub fn second_end<M: Mem>(
             }
         }
         WalkEnd::PageFault => SecondWalkEnd::GuestPageFault,
-        WalkEnd::FetchEnd { .. } => SecondWalkEnd::AccessFault,
+        WalkEnd::FetchEnd(..) => SecondWalkEnd::AccessFault,
     }
 }
 

@@ -49,7 +49,6 @@ pub fn word_at<M: Mem>(mem: &M, place: u64) -> u64
     requires aligned { place % 8 ≡ 0 }
     ensures { result ≡ reading_of (M.memory mem.now) place 8 }
 {
-    mem.is_whole();
     match mem.get(place, 8) {
         Some(word) => word,
         None => unreachable!(),
@@ -110,7 +109,15 @@ pub fn found_by(privilege: Privilege, access: Access, va: u64, end: WalkEnd) -> 
     ensures offset { KeepsOffset va result }
 {
     match end {
-        WalkEnd::Leaf(leaf) => {
+        WalkEnd::Leaf(frame, level, r, w, x, u) => {
+            let leaf = LeafPte {
+                frame,
+                level,
+                r,
+                w,
+                x,
+                u,
+            };
             if permits_first(privilege, access, &leaf) {
                 Found::Passes(leaf_address(&leaf, va))
             } else {
@@ -118,7 +125,7 @@ pub fn found_by(privilege: Privilege, access: Access, va: u64, end: WalkEnd) -> 
             }
         }
         WalkEnd::PageFault => Found::PageFaults,
-        WalkEnd::FetchEnd { place, .. } => Found::MissesEntry(place),
+        WalkEnd::FetchEnd(place, _) => Found::MissesEntry(place),
     }
 }
 
@@ -169,14 +176,22 @@ fn leaf_if(privilege: Privilege, access: Access, end: WalkEnd) -> Option<LeafPte
     ensures fits { IfSome result (λ leaf. LeafFits most_levels leaf) }
 {
     match end {
-        WalkEnd::Leaf(leaf) => {
+        WalkEnd::Leaf(frame, level, r, w, x, u) => {
+            let leaf = LeafPte {
+                frame,
+                level,
+                r,
+                w,
+                x,
+                u,
+            };
             if permits_first(privilege, access, &leaf) {
                 Some(leaf)
             } else {
                 None
             }
         }
-        WalkEnd::PageFault | WalkEnd::FetchEnd { .. } => None,
+        WalkEnd::PageFault | WalkEnd::FetchEnd(..) => None,
     }
 }
 

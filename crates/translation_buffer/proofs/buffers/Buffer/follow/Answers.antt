@@ -2,8 +2,8 @@ use Rattle.std.proofs.Common.{◌≡◌, ◌∙◌}
 use Rattle.translation_buffer.specs.Places.{context_of}
 use Rattle.translation_buffer.proofs.buffers.Buffer.follow.Goals as goal
 
-pub returns-then-is_context : goal.returns-then-is_context
-returns-then-is_context c =
+pub returns-then-is_context-clause-serves : goal.returns-then-is_context-clause-serves
+returns-then-is_context-clause-serves c =
     let same : c.args.self.now.context ≡ context_of c.args.csrs.now c.args.mode = c.is_context.ensures c.if-is_context.true ∙ c.of.ensures in
     λ first owner before mode_before memory serves. record {
       context = same;
@@ -11,5 +11,5 @@ returns-then-is_context c =
       slots = serves.slots;
     }
 
-pub returns-else-is_context : goal.returns-else-is_context
-returns-else-is_context c = λ first owner before mode_before memory serves. c.restart.ensures first owner memory
+pub returns-else-is_context-clause-serves : goal.returns-else-is_context-clause-serves
+returns-else-is_context-clause-serves c = λ first owner before mode_before memory serves. c.restart.ensures.serves first owner memory

@@ -8,8 +8,8 @@ use Rattle.translation_buffer.proofs.buffers.Buffer.walk.Goals as goal
 
 pub returns-in-Some-clause-serves : goal.returns-in-Some-clause-serves
 returns-in-Some-clause-serves c =
-    let who : Privilege = privilege_of c.args.csrs.now c.args.mode in
-    let under : Translator = translator c.args.first.now c.args.owner.now c.args.self.now.context in
+    let who : Privilege = privilege_of c.args.state.now.virt.csrs c.args.state.now.virt.mode in
+    let under : Translator = translator c.args.state.now.virt.first c.args.state.now.tag c.args.self.now.context in
     let whole : length c.args.memory.now % 4096 ≡ 0 = search rules in
     let small : c.args.va < 2 ^ 64 = search rules in
     let is : translated_place under who c.args.memory.now c.args.va c.args.access ≡ Some c.in-Some.place = search rules in
@@ -19,7 +19,7 @@ returns-in-Some-clause-serves c =
       slots = c.keep.ensures.stand c.place_noted.new.read c.args.memory.now under c.args.self.now.run
           (walk_stands (has_among c.place_noted.new.read c.recent.result) c.args.memory.now under c.args.self.now.run who c.args.va c.in-Some.place c.args.access _ whole small
           (c.place_noted.ensures.noted (has_among c.place_noted.new.read c.recent.result) (recent_among c.place_noted.new.read c.recent.result c.recent.ensures)) is
-          (kept_tag c.args.self.now c.args.first.now c.args.owner.now c.args.csrs.now c.args.mode c.args.memory.now c.args.va c.requires.serves small) refl)
+          (kept_tag c.args.self.now c.args.state.now.virt.first c.args.state.now.tag c.args.state.now.virt.csrs c.args.state.now.virt.mode c.args.memory.now c.args.va c.requires.serves small) refl)
           (all_more c.args.self.now.read c.place_noted.new.read c.args.memory.now under c.args.self.now.run c.args.self.now.slots
           (λ frame named. c.place_noted.ensures.more frame (c.begin.ensures.same frame ∙ named)) c.requires.serves.slots);
     }
@@ -28,7 +28,7 @@ pub returns-in-None-clause-serves : goal.returns-in-None-clause-serves
 returns-in-None-clause-serves c = record {
   context = c.requires.serves.context;
   who = c.requires.serves.who;
-  slots = all_more c.args.self.now.read c.place_noted.new.read c.args.memory.now (translator c.args.first.now c.args.owner.now c.args.self.now.context) c.args.self.now.run c.args.self.now.slots
+  slots = all_more c.args.self.now.read c.place_noted.new.read c.args.memory.now (translator c.args.state.now.virt.first c.args.state.now.tag c.args.self.now.context) c.args.self.now.run c.args.self.now.slots
       (λ frame named. c.place_noted.ensures.more frame (c.begin.ensures.same frame ∙ named)) c.requires.serves.slots;
 }
 
@@ -38,6 +38,6 @@ invariant_of-self c =
     record {
       few = c.args.self.now.few;
       tags = c.keep.ensures.tags c.args.self.now.run
-          (kept_up_to c.args.self.now c.args.first.now c.args.owner.now c.args.csrs.now c.args.mode c.args.memory.now c.args.va c.requires.serves small)
+          (kept_up_to c.args.self.now c.args.state.now.virt.first c.args.state.now.tag c.args.state.now.virt.csrs c.args.state.now.virt.mode c.args.memory.now c.args.va c.requires.serves small)
           c.args.self.now.tags;
     }
