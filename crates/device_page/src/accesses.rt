@@ -11,7 +11,7 @@ use console_dev::Console;
 /// one that the page does not serve.
 pub fn access(
     offset: u64,
-    width: u64,
+    width: u8,
     store: Option<u64>,
     console: &mut Console,
     clock: u64,
@@ -26,7 +26,7 @@ pub fn access(
 }
 
 // Whether an access is of the byte at 0.
-fn is_byte(offset: u64, width: u64) -> bool
+fn is_byte(offset: u64, width: u8) -> bool
     ensures { result ≡ (offset == 0 && width == 1) }
 {
     offset == 0 && width == 1
@@ -34,7 +34,7 @@ fn is_byte(offset: u64, width: u64) -> bool
 
 // A store.
 #[tactic(auto, unfolding(arch_defs::specs::Devices::device_stored))]
-fn stored(offset: u64, width: u64, value: u64, console: &mut Console) -> Option<u64>
+fn stored(offset: u64, width: u8, value: u64, console: &mut Console) -> Option<u64>
     ensures { IsPageAccess (device_stored offset width value console.old) console.old result console.new }
 {
     if is_byte(offset, width) {
@@ -47,7 +47,7 @@ fn stored(offset: u64, width: u64, value: u64, console: &mut Console) -> Option<
 
 // A load.
 #[tactic(auto, unfolding(arch_defs::specs::Devices::device_loaded))]
-fn loaded(offset: u64, width: u64, console: &mut Console, clock: u64) -> Option<u64>
+fn loaded(offset: u64, width: u8, console: &mut Console, clock: u64) -> Option<u64>
     ensures { IsPageAccess (device_loaded offset width console.old clock) console.old result console.new }
 {
     if is_byte(offset, width) {

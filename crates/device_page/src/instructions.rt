@@ -47,7 +47,7 @@ fn load(
     ensures { IsServed (device_completed state.old console.old clock offset width (Load signed rd))
         state.old console.old result state.new console.new }
 {
-    match access(offset, width.bytes() as u64, None, console, clock) {
+    match access(offset, width.bytes(), None, console, clock) {
         Some(value) => {
             state.set(rd, extend(width, signed, value));
             true
@@ -68,7 +68,7 @@ fn store(
     ensures { IsServed (device_completed state.old console.old clock offset width (Store value))
         state.old console.old result state.new console.new }
 {
-    match access(offset, width.bytes() as u64, Some(value), console, clock) {
+    match access(offset, width.bytes(), Some(value), console, clock) {
         Some(_) => {
             state.pass();
             true

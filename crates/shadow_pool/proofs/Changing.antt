@@ -1,5 +1,5 @@
 -- What entering, a fill and a fence leave of a pool's tables.
-use Rattle.std.proofs.Common.{◌≡◌, ℕ, zero, suc, ◌+◌, ◌-◌, ◌*◌, ◌<◌, ◌≤◌, List, [], ◌∷◌, ◌++◌, Some, None, length, get_or, map, set, take, drop, refl, sym, ap, subst, ◌∙◌, arith, length-set, append-nil}
+use Rattle.std.proofs.Common.{◌≡◌, ℕ, zero, suc, ◌+◌, ◌-◌, ◌*◌, ◌<◌, ◌≤◌, true, false, List, [], ◌∷◌, ◌++◌, Some, None, length, get_or, map, set, take, drop, refl, sym, ap, subst, ◌∙◌, arith, length-set, append-nil}
 use Rattle.std.specs.List.{filter_map, position, remove}
 use Rattle.std.specs.Option.{option_map}
 use Rattle.std.proofs.lemmas.List.{drop_all, get_or_default, take_all}
@@ -12,10 +12,9 @@ use Rattle.arch_defs.specs.CachedEntries.{filled}
 use Rattle.arch_defs.specs.Frames.{Only}
 use Rattle.arch_defs.specs.Spaces.{entered, fenced, fenced_space}
 use Rattle.arch_defs.proofs.FrameSets.{only_both, only_none}
-use Rattle.machine_defs.specs.Fills.{filled_front}
 use Rattle.shadow_space.specs.Shadows.{KeepsSpace, Tidy, root_of}
 use Rattle.shadow_pool.specs.declared.slots.Slot.{Slot}
-use Rattle.shadow_pool.specs.Slots.{AreFolded, ArePooled, KeepsPool, TidyPool, front_root, has_key, most_of, part_of, pool_frames, pool_of, space_of, spaces_in}
+use Rattle.shadow_pool.specs.Slots.{AreFolded, ArePooled, KeepsPool, TidyPool, filled_for, front_root, has_key, most_of, part_of, pool_frames, pool_of, space_of, spaces_in}
 use Rattle.shadow_pool.proofs.Entering.{entered_found, entered_new}
 use Rattle.shadow_pool.proofs.Filling.{fenced_spaces, filled_spaces, held_spaces, no_position}
 use Rattle.shadow_pool.proofs.Fronting.{IsChanged, last_moved, moved_count, moved_slots, new_slots, slots_changed}
@@ -87,35 +86,27 @@ root_kept (slot ∷ slots) old new zero was after inside read keeps =
     ap (λ part. part.first_root + 4 * (1 + after.space.index)) keeps.part ∙ ap (λ index. was.space.part.first_root + 4 * (1 + index)) keeps.index ∙ ap (λ slot. root_of slot.space) read
 root_kept (slot ∷ slots) old new (suc i) was after inside read keeps = refl
 
--- an entry of the first table's space is filled
-pub filled_has : (slots : List Slot) (d filled_slot : Slot) (entry : Entry) → ArePooled slots → filled_slot.key ≡ (get_or slots 0 d).key
-    → filled_slot.space.entries ≡ filled (get_or slots 0 d).space.most (get_or slots 0 d).space.entries entry → spaces_in (set slots 0 filled_slot) ≡ filled_front (most_of slots) (spaces_in slots) entry
-filled_has slots d filled_slot entry are key is =
-    let some = are.some in
-    filled_spaces slots (get_or slots 0 d) filled_slot entry are (sym (get_or_default slots 0 (get_or slots 0 d) d (omega (arith, some)))) key is
+-- an entry of the space for a value of hgatp is filled
+module _ (slots : List Slot) (old new : List ℕ) (key : GuestRoot) (i : ℕ) (was after : Slot) (entry : Entry) (tidy : TidyPool (pool_of slots) old)
+    (at : position (has_key key) slots ≡ Some i) (read : was ≡ get_or slots i was) (same_key : after.key ≡ (get_or slots i was).key)
+    (made : after.space.entries ≡ filled (get_or slots i was).space.most (get_or slots i was).space.entries entry)
+    (kept : KeepsSpace (get_or slots i was).space old after.space new) (is_tidy : Tidy after.space new) where
+  there : (i < length slots) × (has_key key (get_or slots i was) ≡ true) × ((k : ℕ) → k < i → has_key key (get_or slots k was) ≡ false)
+  there = position-Some (has_key key) slots i was at
 
-module _ (slots : List Slot) (old : List ℕ) (d filled_slot : Slot) (tidy : TidyPool (pool_of slots) old) (key : filled_slot.key ≡ (get_or slots 0 d).key) where
-  abbrev first : Slot
-  first = get_or slots 0 d
+  pub filled_has : spaces_in (set slots i after) ≡ filled_for key (most_of slots) (spaces_in slots) entry
+  filled_has =
+      let own = tidy.slots.each i was there.0 in
+      filled_spaces key (most_of slots) slots i was after entry there.0 there.1 there.2 same_key
+      (made ∙ ap (λ most. filled most (get_or slots i was).space.entries entry) own.most)
 
-  abbrev after : List Slot
-  after = set slots 0 filled_slot
+  pub filled_changes : IsChanged slots old (set slots i after) new
+  filled_changes =
+      one_changed slots old new i was after tidy there.0 read (same_key ∙ ap (λ slot. slot.key) (sym read))
+      (subst (λ slot. KeepsSpace slot.space old after.space new) (sym read) kept) is_tidy
 
-  inside : 0 < length slots
-  inside = let some = tidy.slots.some in omega (arith, some)
-
-  module _ (new : List ℕ) (keeps : KeepsSpace first.space old filled_slot.space new) (is_tidy : Tidy filled_slot.space new) where
-    filled_changes : IsChanged slots old after new
-    filled_changes = one_changed slots old new 0 first filled_slot tidy inside (sym (get_or_default slots 0 first d inside)) key keeps is_tidy
-
-    pub filled_keeps : KeepsPool (pool_of slots) old (pool_of after) new
-    filled_keeps = filled_changes.keeps
-
-    pub filled_tidy : TidyPool (pool_of after) new
-    filled_tidy = filled_changes.tidy
-
-    pub filled_folded : AreFolded after new
-    filled_folded = all_folded after new filled_tidy.tables
+  pub filled_root : front_root (set slots i after) ≡ front_root slots
+  filled_root = root_kept slots old new i was after there.0 read (subst (λ slot. KeepsSpace slot.space old after.space new) (sym read) kept)
 
 -- so many tables have been fenced
 pub record IsFencing (fence : Fence) (slots : List Slot) (old : List ℕ) (i : ℕ) (after : List Slot) (new : List ℕ) : Type 0 where

@@ -1,4 +1,4 @@
--- The spaces of tables, the first of which is filled, and after a fence.
+-- The spaces of tables, one of which is filled, and after a fence.
 use Rattle.std.proofs.Common.{◌≡◌, ℕ, zero, suc, ◌<◌, ◌≤◌, ◌⊎◌, inl, inr, true, false, Bool, List, [], ◌∷◌, Option, Some, None, length, get_or, map, set, refl, sym, ap, ◌∙◌, arith}
 use Rattle.std.specs.List.{All, cons_option, filter_map, position, position_or_len}
 use Rattle.std.specs.Option.{option_map}
@@ -7,10 +7,14 @@ use Rattle.arch_defs.specs.declared.cached.Entry.{Entry}
 use Rattle.arch_defs.specs.declared.cached.Fence.{Fence}
 use Rattle.arch_defs.specs.declared.roots.GuestRoot.{GuestRoot}
 use Rattle.arch_defs.specs.CachedEntries.{filled}
-use Rattle.arch_defs.specs.Spaces.{Space, fenced, fenced_space}
+use Rattle.arch_defs.specs.Roots.{is_root}
+use Rattle.arch_defs.specs.Spaces.{Space, entered, fenced, fenced_space}
+use Rattle.arch_defs.proofs.SameRoots.{root_is}
 use Rattle.machine_defs.specs.Fills.{filled_front}
+use Rattle.machine_laws.specs.FrontSpaces.{FrontIs}
+use Rattle.machine_laws.proofs.FrontSpaces.{in_front}
 use Rattle.shadow_pool.specs.declared.slots.Slot.{Slot}
-use Rattle.shadow_pool.specs.Slots.{ArePooled, most_of, space_if, space_of, spaces_in}
+use Rattle.shadow_pool.specs.Slots.{ArePooled, IsHeld, filled_for, has_key, key_is, space_if, space_of, spaces_in}
 use Rattle.shadow_pool.proofs.Entering.{all_spare}
 use Rattle.shadow_pool.proofs.Keys.{not_none}
 use Rattle.shadow_pool.proofs.Ordering.{pairs_first}
@@ -41,19 +45,54 @@ module _ {X : Type 0} (p : X → Bool) where
 pub spare_rest : (slot : Slot) (slots : List Slot) → ArePooled (slot ∷ slots) → slot.key ≡ None → spaces_in slots ≡ []
 spare_rest slot slots are none = all_spare slots (λ k d h. (pairs_first ComesBefore slot slots are.order k d h).spare none)
 
--- the first table is filled
-front_filled : (o : Option GuestRoot) (most : ℕ) (es : List Entry) (entry : Entry) (rest : List Space) → (o ≡ None → rest ≡ [])
-    → cons_option (space_if o (filled most es entry)) rest ≡ filled_front most (cons_option (space_if o es) rest) entry
-front_filled None most es entry rest spare = let none = spare refl in none ∙ ap (λ xs. filled_front most xs entry) (sym none)
-front_filled (Some key) most es entry rest spare = refl
+-- the first table for a value of hgatp is filled
+filled_here : (key : GuestRoot) (most : ℕ) (o : Option GuestRoot) (es : List Entry) (entry : Entry) (rest : List Space) → key_is key o ≡ true
+    → cons_option (space_if o (filled most es entry)) rest ≡ filled_for key most (cons_option (space_if o es) rest) entry
+filled_here key most None es entry rest is = absurd cc
+filled_here key most (Some other) es entry rest is = let same : is_root other key ≡ true = is in rw same refl
 
-pub filled_spaces : (slots : List Slot) (was after : Slot) (entry : Entry) → ArePooled slots → was ≡ get_or slots 0 was → after.key ≡ was.key
-    → after.space.entries ≡ filled was.space.most was.space.entries entry → spaces_in (set slots 0 after) ≡ filled_front (most_of slots) (spaces_in slots) entry
-filled_spaces [] was after entry are read key is = let some = are.some in absurd (omega (arith, some))
-filled_spaces (slot ∷ slots) was after entry are read key is =
-    ap (λ o. cons_option (space_if o after.space.entries) (spaces_in slots)) (key ∙ ap (λ slot. slot.key) read)
-    ∙ ap (λ es. cons_option (space_if slot.key es) (spaces_in slots)) (is ∙ ap (λ slot. filled slot.space.most slot.space.entries entry) read)
-    ∙ front_filled slot.key slot.space.most slot.space.entries entry (spaces_in slots) (spare_rest slot slots are)
+filled_later : (key : GuestRoot) (most : ℕ) (o : Option GuestRoot) (es : List Entry) (entry : Entry) (rest : List Space) → key_is key o ≡ false
+    → cons_option (space_if o es) (filled_for key most rest entry) ≡ filled_for key most (cons_option (space_if o es) rest) entry
+filled_later key most None es entry rest is = refl
+filled_later key most (Some other) es entry rest is = let differ : is_root other key ≡ false = is in rw differ refl
+
+pub filled_spaces : (key : GuestRoot) (most : ℕ) (slots : List Slot) (i : ℕ) (d after : Slot) (entry : Entry) → i < length slots
+    → has_key key (get_or slots i d) ≡ true → ((k : ℕ) → k < i → has_key key (get_or slots k d) ≡ false) → after.key ≡ (get_or slots i d).key
+    → after.space.entries ≡ filled most (get_or slots i d).space.entries entry → spaces_in (set slots i after) ≡ filled_for key most (spaces_in slots) entry
+filled_spaces key most [] i d after entry inside is before same made = absurd (omega (arith, inside))
+filled_spaces key most (slot ∷ slots) zero d after entry inside is before same made =
+    ap (λ o. cons_option (space_if o after.space.entries) (spaces_in slots)) same
+    ∙ ap (λ es. cons_option (space_if slot.key es) (spaces_in slots)) made
+    ∙ filled_here key most slot.key slot.space.entries entry (spaces_in slots) is
+filled_spaces key most (slot ∷ slots) (suc i) d after entry inside is before same made =
+    ap (cons_option (space_of slot))
+    (filled_spaces key most slots i d after entry (omega (arith, inside)) is (λ k less. before (suc k) (omega (arith, less))) same made)
+    ∙ filled_later key most slot.key slot.space.entries entry (spaces_in slots) (before 0 (omega arith))
+
+-- where no table is for it, no space is
+pub none_held : (key : GuestRoot) (slots : List Slot) → ((k : ℕ) (d : Slot) → k < length slots → has_key key (get_or slots k d) ≡ false)
+    → IsHeld key (spaces_in slots) → ⊥
+none_held key [] none held = held
+none_held key (slot ∷ slots) none held =
+    by slot.key (none 0 slot (omega arith)) (none_held key slots (λ k d inside. none (suc k) d (omega (arith, inside)))) held
+  where
+    by : (o : Option GuestRoot) → key_is key o ≡ false → (IsHeld key (spaces_in slots) → ⊥) → IsHeld key (cons_option (space_if o slot.space.entries) (spaces_in slots)) → ⊥
+    by None differ later held = later held
+    by (Some other) differ later (inl is) = let same : is_root other key ≡ true = is in let not_same : is_root other key ≡ false = differ in absurd cc
+    by (Some other) differ later (inr held) = later held
+
+-- filled into the front space, where that is the one
+pub filled_in_front : (key : GuestRoot) (most : ℕ) (spaces : List Space) (entry : Entry) → FrontIs key spaces → filled_for key most spaces entry ≡ filled_front most spaces entry
+filled_in_front key most [] entry front = refl
+filled_in_front key most (s ∷ ss) entry front = let same : is_root s.key key ≡ true = ap (λ k. is_root k key) front ∙ root_is key in rw same refl
+
+pub front_held : (key : GuestRoot) (spaces : List Space) → FrontIs key spaces → IsHeld key spaces
+front_held key [] front = front
+front_held key (s ∷ ss) front = inl (ap (λ k. is_root k key) front ∙ root_is key)
+
+-- so the space that was entered is one
+pub entered_held : (most : ℕ) (key : GuestRoot) (spaces after : List Space) → 1 ≤ most → after ≡ entered most key spaces → IsHeld key after
+entered_held most key spaces after some is = rw is (front_held key (entered most key spaces) (in_front most key spaces some))
 
 -- all tables after a fence
 pub held_spaces : (slots : List Slot) → spaces_in slots ≡ filter_map (λ o. o) (map space_of slots)

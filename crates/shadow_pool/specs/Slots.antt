@@ -1,15 +1,16 @@
 -- A pool: tables for spaces, some of which are for a value of hgatp.
-use Rattle.std.specs.Prelude.{ℕ, ◌≡◌, ◌≢◌, ◌+◌, ◌*◌, ◌<◌, ◌≤◌, Bool, true, false, List, [], ◌∷◌, Option, Some, None, length}
+use Rattle.std.specs.Prelude.{ℕ, ◌≡◌, ◌≢◌, ◌+◌, ◌*◌, ◌<◌, ◌≤◌, ◌⊎◌, Bool, true, false, List, [], ◌∷◌, Option, Some, None, length, if◌then◌else◌}
 use Rattle.std.specs.Option.{is_none}
 use Rattle.std.specs.List.{All, AllPairs, filter_map, slice_index_or}
 use Rattle.arch_defs.specs.declared.cached.Entry.{Entry}
 use Rattle.arch_defs.specs.declared.roots.GuestRoot.{GuestRoot}
 use Rattle.arch_defs.specs.declared.roots.GuestRoot.TheVariants as guest_root
+use Rattle.arch_defs.specs.CachedEntries.{filled}
 use Rattle.arch_defs.specs.Frames.{Frames, LieIn, Only, joined, within}
 use Rattle.arch_defs.specs.Layouts.{Layout, NamesEachOnce, no_part, space_frames}
 use Rattle.guest_specs.specs.Needs.{tables_for}
 use Rattle.arch_defs.specs.Roots.{is_root}
-use Rattle.arch_defs.specs.Spaces.{Space}
+use Rattle.arch_defs.specs.Spaces.{Space, is_for}
 use Rattle.shadow_space.specs.Folding.{Folded}
 use Rattle.shadow_space.specs.Shadows.{AreZeros, Tidy, root_of}
 use Rattle.shadow_pool.specs.declared.slots.Slot.{Slot}
@@ -37,6 +38,17 @@ spaces_in slots = filter_map (λ slot. space_of slot) slots
 -- whether a table is in no use
 abbrev pub is_spare : Slot → Bool
 is_spare slot = is_none slot.key
+
+-- a space is for a value of hgatp
+abbrev pub IsHeld : GuestRoot → List Space → Type 0
+IsHeld key [] = ⊥
+IsHeld key (s ∷ ss) = (is_for key s ≡ true) ⊎ IsHeld key ss
+
+-- an entry is filled into the space for a value of hgatp, with room for so many
+abbrev pub filled_for : GuestRoot → ℕ → List Space → Entry → List Space
+filled_for key most [] e = []
+filled_for key most (s ∷ ss) e =
+    if is_for key s then record s { entries = filled most s.entries e } ∷ ss else s ∷ filled_for key most ss e
 
 -- the space of a number, the front one's being 0
 abbrev pub no_space : Space

@@ -5,11 +5,10 @@ ghost use Rattle.arch_defs.specs.declared.cached.Entry.{Entry};
 ghost use Rattle.arch_defs.specs.CachedEntries.{CanFill, device_by_entries};
 ghost use Rattle.arch_defs.specs.Frames.{LieIn, Only};
 ghost use Rattle.arch_defs.specs.Spaces.{entered, fenced, front};
-ghost use Rattle.machine_defs.specs.Fills.{filled_front};
 ghost use Rattle.shadow_space.specs.Moves.{IsMovedPart};
 ghost use Rattle.shadow_space.specs.Shadows.{AreZeros};
 ghost use Rattle.shadow_pool.specs.Moves.{pool_in_part};
-ghost use Rattle.shadow_pool.specs.Slots.{AreFolded, AreSpare, IsSpare, KeepsPool, TidyPool, front_root, pool_frames, room_of, space_at, spaces_of};
+ghost use Rattle.shadow_pool.specs.Slots.{AreFolded, AreSpare, IsHeld, IsSpare, KeepsPool, TidyPool, filled_for, front_root, pool_frames, room_of, space_at, spaces_of};
 
 use crate::slots::{Slot, enter, entries_at, fence, fill, is_on_device, key_at, move_to, used};
 use arch_defs::{Access, Entry, Fence, Key, Part};
@@ -66,6 +65,7 @@ impl Pool {
     pub fn enter(&mut self, mem: &mut PhysMem, key: Key) -> u64
         requires tidy { TidyPool self.old mem.old }
         ensures spaces { spaces_of self.new ≡ entered (room_of self.old) key (spaces_of self.old) }
+        ensures held { IsHeld key (spaces_of self.new) }
         ensures root { result ≡ front_root self.new.slots }
         ensures aligned { result % 4 ≡ 0 }
         ensures small { result < 2 ^ 44 }
@@ -95,18 +95,19 @@ impl Pool {
         is_on_device(self.slots.as_slice(), mxr, address, kind)
     }
 
-    /// Fills an entry of the front space, if there is one: an entry of the same page is dropped, and else,
-    /// where there are as many as there may be, the oldest one.
-    pub fn fill(&mut self, mem: &mut PhysMem, entry: Entry)
+    /// Fills an entry of the space for a value of hgatp, which has one: an entry of the same page is dropped,
+    /// and else, where there are as many as there may be, the oldest one.
+    pub fn fill(&mut self, mem: &mut PhysMem, key: Key, entry: Entry)
         requires tidy { TidyPool self.old mem.old }
+        requires held { IsHeld key (spaces_of self.old) }
         requires entry { CanFill self.old.part.blocks entry }
-        ensures spaces { spaces_of self.new ≡ filled_front self.old.most (spaces_of self.old) entry }
+        ensures spaces { spaces_of self.new ≡ filled_for key self.old.most (spaces_of self.old) entry }
         ensures root { front_root self.new.slots ≡ front_root self.old.slots }
         ensures keeps { KeepsPool self.old mem.old self.new mem.new }
         ensures tidy { TidyPool self.new mem.new }
         ensures folded { AreFolded self.new.slots mem.new }
     {
-        fill(self.slots.as_mut_slice(), mem, entry);
+        fill(self.slots.as_mut_slice(), mem, key, entry);
     }
 
     /// Makes a fence: in each space whose VMID it names, or in every one where it names none, the entries are

@@ -5,12 +5,11 @@ ghost use Rattle.std.specs.List.{AllPairs, position};
 ghost use Rattle.arch_defs.specs.CachedEntries.{CanFill, device_by_entries, filled};
 ghost use Rattle.arch_defs.specs.Frames.{Only};
 ghost use Rattle.arch_defs.specs.Spaces.{entered, fenced, fenced_space, front, names_vmid};
-ghost use Rattle.machine_defs.specs.Fills.{filled_front};
 ghost use Rattle.shadow_space.specs.Moves.{IsMovedPart};
 ghost use Rattle.shadow_space.specs.Shadows.{KeepsSpace, Tidy, own_frames};
 ghost use Rattle.shadow_pool.specs.declared.slots.Slot.{Slot};
 ghost use Rattle.shadow_pool.specs.Moves.{pool_in_part, slot_in_part};
-ghost use Rattle.shadow_pool.specs.Slots.{AreFolded, ComesBefore, KeepsPool, TidyPool, front_root, has_key, is_spare, most_of, part_of, pool_frames, pool_of, space_at, space_of, spaces_in};
+ghost use Rattle.shadow_pool.specs.Slots.{AreFolded, ComesBefore, IsHeld, KeepsPool, TidyPool, filled_for, front_root, has_key, is_spare, most_of, part_of, pool_frames, pool_of, space_at, space_of, spaces_in};
 
 use arch_defs::{Access, Entry, Fence, Key, Part};
 use phys_mem::PhysMem;
@@ -38,6 +37,7 @@ impl Model for Slot {
 pub fn enter(slots: &mut [Slot], mem: &mut PhysMem, key: Key)
     requires { TidyPool (pool_of slots.old) mem.old }
     ensures spaces { spaces_in slots.new ≡ entered (length slots.old) key (spaces_in slots.old) }
+    ensures held { IsHeld key (spaces_in slots.new) }
     ensures keeps { KeepsPool (pool_of slots.old) mem.old (pool_of slots.new) mem.new }
     ensures tidy { TidyPool (pool_of slots.new) mem.new }
     ensures folded { AreFolded slots.new mem.new }
@@ -154,18 +154,21 @@ fn renew(slot: &mut Slot, mem: &mut PhysMem, key: Key)
     slot.key = Some(key);
 }
 
-/// Fills an entry of the front space, if there is one.
-#[tactic(auto, using(crate::proofs::Changing::filled_has, crate::proofs::Changing::filled_keeps, crate::proofs::Changing::filled_tidy, crate::proofs::Changing::filled_folded))]
-pub fn fill(slots: &mut [Slot], mem: &mut PhysMem, entry: Entry)
+/// Fills an entry of the space for a value of hgatp, which has one.
+pub fn fill(slots: &mut [Slot], mem: &mut PhysMem, key: Key, entry: Entry)
     requires tidy { TidyPool (pool_of slots.old) mem.old }
+    requires held { IsHeld key (spaces_in slots.old) }
     requires entry { CanFill (part_of slots.old).blocks entry }
-    ensures spaces { spaces_in slots.new ≡ filled_front (most_of slots.old) (spaces_in slots.old) entry }
+    ensures spaces { spaces_in slots.new ≡ filled_for key (most_of slots.old) (spaces_in slots.old) entry }
     ensures root { front_root slots.new ≡ front_root slots.old }
     ensures keeps { KeepsPool (pool_of slots.old) mem.old (pool_of slots.new) mem.new }
     ensures tidy { TidyPool (pool_of slots.new) mem.new }
     ensures folded { AreFolded slots.new mem.new }
 {
-    fill_one(&mut slots[0], mem, entry);
+    match place_of(slots, key) {
+        Some(i) => fill_one(&mut slots[i], mem, entry),
+        None => unreachable!(),
+    }
 }
 
 // Fills an entry of the space of one table.

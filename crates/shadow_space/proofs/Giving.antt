@@ -8,13 +8,13 @@ use Rattle.arch_defs.specs.declared.second_walks.SecondWalkEnd.TheVariants as gu
 use Rattle.arch_defs.specs.declared.modes.Access.{Access}
 use Rattle.arch_defs.specs.declared.modes.Access.TheVariants.{Fetch, Load, Store, ExecLoad, Implicit}
 use Rattle.arch_defs.specs.declared.walks.LeafPte.{LeafPte}
-use Rattle.arch_defs.specs.declared.walks.WalkEnd.TheVariants.{Leaf, PageFault}
+use Rattle.arch_defs.specs.declared.walks.WalkEnd.TheVariants.{PageFault}
 use Rattle.arch_defs.specs.Frames.{LieIn, in_blocks}
 use Rattle.arch_defs.specs.Memory.{block_size, machine_memory, ram_base}
 use Rattle.arch_defs.specs.Permits.{permits_second}
 use Rattle.arch_defs.specs.Ram.{host_place}
 use Rattle.arch_defs.specs.SecondStage.{memory_words, place_under, second_end, second_walk}
-use Rattle.arch_defs.specs.TableEntries.{needs_dirty}
+use Rattle.arch_defs.specs.TableEntries.{end_at_leaf, needs_dirty}
 use Rattle.arch_defs.specs.Walk.{leaf_address}
 use Rattle.arch_defs.proofs.RamBlocks.{host_place_along, place_named}
 use Rattle.arch_defs.specs.CachedEntries.{CanFill, entry_at, is_device, leaf_of, place_by, second_by}
@@ -73,10 +73,10 @@ never_written : (mxr : Bool) (e : Entry) → e.w ≡ false → permits_second mx
 unfolding permits_second
 never_written mxr e clean = clean
 
-dirty_end : (clean : Bool) (leaf : LeafPte) → clean ≡ false → (if clean then PageFault else Leaf leaf) ≡ Leaf leaf
+dirty_end : (clean : Bool) (leaf : LeafPte) → clean ≡ false → (if clean then PageFault else end_at_leaf leaf) ≡ end_at_leaf leaf
 dirty_end clean leaf is = rw is refl
 
-clean_end : (clean : Bool) (leaf : LeafPte) → clean ≡ true → (if clean then PageFault else Leaf leaf) ≡ PageFault
+clean_end : (clean : Bool) (leaf : LeafPte) → clean ≡ true → (if clean then PageFault else end_at_leaf leaf) ≡ PageFault
 clean_end clean leaf is = rw is refl
 
 -- its frame is in memory
@@ -107,13 +107,13 @@ end_on : (blocks : List ℕ) (access : Access) (e : Entry) → is_device e ≡ t
 end_on blocks access e on = rw on refl
 
 end_off : (blocks : List ℕ) (access : Access) (e : Entry) → is_device e ≡ false
-    → leaf_end blocks access (Some e) ≡ (if needs_dirty access && not e.w then PageFault else Leaf (host_leaf blocks e))
+    → leaf_end blocks access (Some e) ≡ (if needs_dirty access && not e.w then PageFault else end_at_leaf (host_leaf blocks e))
 end_off blocks access e off = rw off refl
 
 module _ (blocks memory : List ℕ) (mxr : Bool) (address : ℕ) (lie : LieIn (in_blocks blocks) (length memory)) (e : Entry) (can : CanFill blocks e) (off : is_device e ≡ false) where
   -- the end under the leaf, by permission
   by_permission : (access : Access) (p : Bool) → permits_second mxr access (leaf_of e) ≡ p
-      → second_end (machine_memory memory) mxr address access (Leaf (host_leaf blocks e)) ≡ (if p then guest.Leaf (host_leaf blocks e) else GuestPageFault)
+      → second_end (machine_memory memory) mxr address access (end_at_leaf (host_leaf blocks e)) ≡ (if p then guest.Leaf (host_leaf blocks e) else GuestPageFault)
   by_permission access true is =
       let permits : permits_second mxr access (host_leaf blocks e) ≡ true = permits_same mxr access blocks e ∙ is in
       let fits = in_memory (frame_of_ram blocks e.frame) (address % 2 ^ 12) (length memory) (frame_lies blocks (length memory) e lie can off) (omega arith) in
@@ -121,7 +121,7 @@ module _ (blocks memory : List ℕ) (mxr : Bool) (address : ℕ) (lie : LieIn (i
   by_permission access false is =
       let refuses : permits_second mxr access (host_leaf blocks e) ≡ false = permits_same mxr access blocks e ∙ is in rw refuses refl
 
-  by_access : (access : Access) → second_end (machine_memory memory) mxr address access (if needs_dirty access && not e.w then PageFault else Leaf (host_leaf blocks e))
+  by_access : (access : Access) → second_end (machine_memory memory) mxr address access (if needs_dirty access && not e.w then PageFault else end_at_leaf (host_leaf blocks e))
       ≡ (if permits_second mxr access (leaf_of e) then guest.Leaf (host_leaf blocks e) else GuestPageFault)
   by_access Fetch = by_permission Fetch (permits_second mxr Fetch (leaf_of e)) refl
   by_access Load = by_permission Load (permits_second mxr Load (leaf_of e)) refl
@@ -129,7 +129,7 @@ module _ (blocks memory : List ℕ) (mxr : Bool) (address : ℕ) (lie : LieIn (i
   by_access Implicit = by_permission Implicit (permits_second mxr Implicit (leaf_of e)) refl
   by_access Store = by (cases_Bool e.w)
     where
-      by : (e.w ≡ true) ⊎ (e.w ≡ false) → second_end (machine_memory memory) mxr address Store (if not e.w then PageFault else Leaf (host_leaf blocks e)) ≡ (if permits_second mxr Store (leaf_of e) then guest.Leaf (host_leaf blocks e) else GuestPageFault)
+      by : (e.w ≡ true) ⊎ (e.w ≡ false) → second_end (machine_memory memory) mxr address Store (if not e.w then PageFault else end_at_leaf (host_leaf blocks e)) ≡ (if permits_second mxr Store (leaf_of e) then guest.Leaf (host_leaf blocks e) else GuestPageFault)
       by (inl dirty) = ap (second_end (machine_memory memory) mxr address Store) (dirty_end (not e.w) (host_leaf blocks e) (ap not dirty)) ∙ by_permission Store (permits_second mxr Store (leaf_of e)) refl
       by (inr clean) = ap (second_end (machine_memory memory) mxr address Store) (clean_end (not e.w) (host_leaf blocks e) (ap not clean)) ∙ sym (rw (never_written mxr e clean) refl)
 

@@ -27,14 +27,7 @@ leaf_end blocks access None = PageFault
 leaf_end blocks access (Some e) =
     if is_device e then PageFault
     else if needs_dirty access && not e.w then PageFault
-    else Leaf (record {
-      frame = frame_of_ram blocks e.frame;
-      level = 0;
-      r = e.r;
-      w = e.w;
-      x = e.x;
-      u = true;
-    })
+    else Leaf (frame_of_ram blocks e.frame) 0 e.r e.w e.x true
 
 -- the last of these entries is one of the last level, and reads so
 abbrev pub LastIs : Pte → List Met → Type 0

@@ -2,11 +2,12 @@
 
 ghost use Rattle.std.specs.Prelude.{◌≡◌, ◌+◌, ◌^◌, ◌<◌, ◌≤◌, IsTrue};
 ghost use Rattle.std.specs.Option.{ForSome};
+ghost use Rattle.arch_defs.specs.Bits.{bit};
 ghost use Rattle.arch_defs.specs.Clocks.{is_due, next_event, times_at_start};
+ghost use Rattle.arch_defs.specs.CsrBits.{supervisor_interrupts};
 ghost use Rattle.arch_defs.specs.Waits.{wake_moment};
 
-use crate::waits::wake_moment;
-use arch_defs::Interrupts;
+use crate::waits::{enabled_by, wake_moment};
 use std::marker::Model;
 
 /// The clock of a machine and its timer. The time rises by one with each step, and a wait for an interrupt
@@ -107,18 +108,21 @@ impl Clock {
         self.time += steps;
     }
 
-    /// Waits for an interrupt that `sie` enables: of the timer, or of the first unread input, whose moment is
-    /// `input`. The time becomes the wake moment. Where there is none, the wait is for good.
-    pub fn wait(&mut self, sie: Interrupts, input: Option<u64>) -> WaitEnd
-        requires timer { IsTrue sie.timer → self.old.time < self.old.timer }
-        requires input { IsTrue sie.external → ForSome input (λ moment. self.old.time < moment) }
-        ensures woke { result ≡ WaitEnd.Woke → wake_moment sie self.old.timer input ≡ Some self.new.time }
-        ensures for_good { result ≡ WaitEnd.ForGood → wake_moment sie self.old.timer input ≡ None }
+    /// Waits for an interrupt that `sie` enables, as HS reads it: of the timer by its bit 5, or by its bit 9 of
+    /// the first unread input, whose moment is `input`. The time becomes the wake moment. Where there is none,
+    /// the wait is for good.
+    pub fn wait(&mut self, sie: u64, input: Option<u64>) -> WaitEnd
+        requires timer { IsTrue (bit 5 sie) → self.old.time < self.old.timer }
+        requires input { IsTrue (bit 9 sie) → ForSome input (λ moment. self.old.time < moment) }
+        ensures woke { result ≡ WaitEnd.Woke → wake_moment (supervisor_interrupts sie) self.old.timer input
+            ≡ Some self.new.time }
+        ensures for_good { result ≡ WaitEnd.ForGood
+            → wake_moment (supervisor_interrupts sie) self.old.timer input ≡ None }
         ensures later { result ≡ WaitEnd.Woke → self.old.time < self.new.time }
         ensures stays { result ≡ WaitEnd.ForGood → self.new ≡ self.old }
         ensures timer { self.new.timer ≡ self.old.timer }
     {
-        match wake_moment(sie, self.timer, input) {
+        match wake_moment(enabled_by(sie), self.timer, input) {
             Some(moment) => {
                 self.time = moment;
                 WaitEnd::Woke
