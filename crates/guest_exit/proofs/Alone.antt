@@ -14,7 +14,7 @@ use Rattle.arch_defs.specs.Waits.{wake_moment}
 use Rattle.arch_defs.proofs.FrameSets.{left_within, only_more, only_none}
 use Rattle.machine_defs.specs.declared.events.Event.TheVariants.{System}
 use Rattle.machine_defs.specs.Fills.{missing_entry}
-use Rattle.machine_defs.specs.Machine.{Machine, Platform, has_enabled_interrupt, stepped_to, ticked, waited, waited_until}
+use Rattle.machine_defs.specs.Machine.{Machine, Platform, has_enabled_interrupt, stepped_to, ticked, waited, waited_until, with_registers}
 use Rattle.arch_defs.specs.Registers.{passed}
 use Rattle.machine_defs.specs.Outcomes.{Outcome, Fenced, Waits}
 use Rattle.machine_defs.specs.Runs.{left_by}
@@ -26,25 +26,21 @@ use Rattle.guest_exit.specs.declared.hart_exit.Handled.TheVariants as handled
 use Rattle.guest_exit.specs.ExitCases.{having_found}
 use Rattle.guest_exit.specs.HartExit.{HoldsTables, IsFinished, IsHandled, KeepsOutside, KeepsPart, with_pc, with_state}
 use Rattle.guest_exit.specs.Steps.{IsMiss, IsNotPlain, Makes}
-use Rattle.guest_exit.specs.View.{IsPlaced, KeepsCached, KeepsLayout, KeepsSpaces, changed_by, machine_of, platform_of}
+use Rattle.guest_exit.specs.View.{IsPlaced, KeepsLayout, KeepsSpaces, changed_by, machine_of, platform_of}
 use Rattle.guest_exit.proofs.Placed.{placed_by_fill, placed_by_step}
 use Rattle.guest_exit.proofs.Pools.{ram_by_pool, tidy_by_blocks}
 
 -- the machine of a guest, by what has changed
-pub machine_as : (old new : Guest) (memory changed ram : List ℕ) (p : Platform) (spaces : List Space) (first : List FirstEntry) → new.part ≡ old.part → new.device ≡ old.device → platform_of new ≡ p
-    → ram_of old.part.blocks changed ≡ ram → spaces_of new.pool ≡ spaces → new.first ≡ first → room_of new.pool ≡ room_of old.pool → new.pool.most ≡ old.pool.most
-    → machine_of new changed ≡ record (machine_of old memory) { platform = p; ram = ram; spaces = spaces; first = first }
-machine_as old new memory changed ram p spaces first part device e rams are cached room most =
-    rw (part, device, rams, are, cached, room, most) (ap (λ p. record (machine_of old memory) { platform = p; ram = ram; spaces = spaces; first = first }) e)
+pub machine_as : (old new : Guest) (memory changed ram : List ℕ) (p : Platform) (spaces : List Space) → new.part ≡ old.part → new.device ≡ old.device → platform_of new ≡ p
+    → ram_of old.part.blocks changed ≡ ram → spaces_of new.pool ≡ spaces → room_of new.pool ≡ room_of old.pool → new.pool.most ≡ old.pool.most
+    → machine_of new changed ≡ record (machine_of old memory) { platform = p; ram = ram; spaces = spaces }
+machine_as old new memory changed ram p spaces part device e rams are room most =
+    rw (part, device, rams, are, room, most) (ap (λ p. record (machine_of old memory) { platform = p; ram = ram; spaces = spaces }) e)
 
-pub machine_is : (old new : Guest) (p : Platform) (memory : List ℕ) → KeepsCached old new → platform_of new ≡ p
+pub machine_is : (old new : Guest) (p : Platform) (memory : List ℕ) → KeepsSpaces old new → platform_of new ≡ p
     → machine_of new memory ≡ record (machine_of old memory) { platform = p }
 machine_is old new p memory fixed e =
-    rw (fixed.part, fixed.device, fixed.pool, fixed.first) (ap (λ p. record (machine_of old memory) { platform = p }) e)
-
--- what leaves all cached translations leaves the spaces
-pub spaces_kept : (old new : Guest) → KeepsCached old new → KeepsSpaces old new
-spaces_kept old new keeps = record { part = keeps.part; device = keeps.device; pool = keeps.pool }
+    rw (fixed.part, fixed.device, fixed.pool) (ap (λ p. record (machine_of old memory) { platform = p }) e)
 
 -- what leaves the spaces leaves all that no step changes
 pub stays_by : (old new : Guest) → KeepsSpaces old new → KeepsLayout old new
@@ -72,23 +68,23 @@ pub holds_with : (guest : Guest) (virt : Virtual) (memory : List ℕ) → HoldsT
 holds_with guest virt memory at = record { once = at.once; held = at.held; own = at.own; tidy = at.tidy }
 
 -- an instruction that leaves this state, where it enters no space, and where it enters one
-pub made_stays : (old new : Guest) (memory : List ℕ) (virt : Virtual) → enters old.virt virt ≡ false → KeepsCached old new → platform_of new ≡ ticked (record (platform_of old) { virt = virt })
+pub made_stays : (old new : Guest) (memory : List ℕ) (virt : Virtual) → enters old.virt virt ≡ false → KeepsSpaces old new → platform_of new ≡ ticked (with_registers (platform_of old) virt)
     → machine_of new memory ≡ left_by (machine_of old memory) (committed (machine_of old memory) virt None System)
 made_stays old new memory virt off keeps e = rw off (machine_is old new _ memory keeps e)
 
-pub made_enters : (old new : Guest) (memory changed : List ℕ) (virt : Virtual) → enters old.virt virt ≡ true → HoldsTables old memory → new.part ≡ old.part → new.device ≡ old.device → new.first ≡ old.first → KeepsPool old.pool memory new.pool changed
-    → platform_of new ≡ ticked (record (platform_of old) { virt = virt }) → spaces_of new.pool ≡ entered (room_of old.pool) virt.csrs.hgatp (spaces_of old.pool)
+pub made_enters : (old new : Guest) (memory changed : List ℕ) (virt : Virtual) → enters old.virt virt ≡ true → HoldsTables old memory → new.part ≡ old.part → new.device ≡ old.device → KeepsPool old.pool memory new.pool changed
+    → platform_of new ≡ ticked (with_registers (platform_of old) virt) → spaces_of new.pool ≡ entered (room_of old.pool) virt.csrs.hgatp (spaces_of old.pool)
     → machine_of new changed ≡ left_by (machine_of old memory) (committed (machine_of old memory) virt None System)
-made_enters old new memory changed virt on at part device first keeps e are =
-    rw on (machine_as old new memory changed _ _ _ _ part device e (ram_by_pool old.part old.pool memory changed at.once at.own at.tidy at.held keeps.only) are first keeps.room keeps.most)
+made_enters old new memory changed virt on at part device keeps e are =
+    rw on (machine_as old new memory changed _ _ _ part device e (ram_by_pool old.part old.pool memory changed at.once at.own at.tidy at.held keeps.only) are keeps.room keeps.most)
 
 -- a fence
 pub fence_made : (old new : Guest) (memory changed : List ℕ) (virt : Virtual) (fence : Fence) → HoldsTables old memory → new.part ≡ old.part → new.device ≡ old.device
-    → new.first ≡ unnamed_first (names_first_of_guest fence) old.first → KeepsPool old.pool memory new.pool changed
-    → platform_of new ≡ ticked (record (platform_of old) { virt = virt }) → spaces_of new.pool ≡ fenced fence (spaces_of old.pool)
+    → KeepsPool old.pool memory new.pool changed
+    → platform_of new ≡ ticked (record (platform_of old) { virt = record virt { first = unnamed_first (names_first_of_guest fence) old.virt.first } }) → spaces_of new.pool ≡ fenced fence (spaces_of old.pool)
     → machine_of new changed ≡ left_by (machine_of old memory) (apply_outcome (device_of (machine_of old memory)) (machine_of old memory) (Fenced virt fence))
-fence_made old new memory changed virt fence at part device first keeps e are =
-    machine_as old new memory changed _ _ _ _ part device e (ram_by_pool old.part old.pool memory changed at.once at.own at.tidy at.held keeps.only) are first keeps.room keeps.most
+fence_made old new memory changed virt fence at part device keeps e are =
+    machine_as old new memory changed _ _ _ part device e (ram_by_pool old.part old.pool memory changed at.once at.own at.tidy at.held keeps.only) are keeps.room keeps.most
 
 -- an instruction that has left the guest its state enters a space where it sets V and the state folds
 pub sets_v : (nested folding : Bool) → (not nested && folding) ≡ true → nested ≡ false
@@ -99,10 +95,16 @@ pub folds_then : (nested folding : Bool) → (not nested && folding) ≡ true �
 folds_then false folding e = e
 folds_then true folding e = cc
 
-pub finish_stays : (guest new : Guest) (memory : List ℕ) (nested : Bool) → (not nested && folds guest.virt) ≡ false → KeepsCached guest new
+-- with the first-stage translations that it has
+pub caches_same : (guest : Guest) (first : List FirstEntry) → first ≡ guest.virt.first
+    → ticked (platform_of guest) ≡ ticked (record (platform_of guest) { virt = record guest.virt { first = first } })
+caches_same guest first same = ap (λ first. ticked (record (platform_of guest) { virt = record guest.virt { first = first } })) (sym same)
+
+pub finish_stays : (guest new : Guest) (memory : List ℕ) (nested : Bool) → (not nested && folds guest.virt) ≡ false → KeepsSpaces guest new
     → platform_of new ≡ ticked (platform_of guest) → IsFinished nested guest memory new memory
-finish_stays guest new memory nested off keeps e = λ before own.
-    made_stays (with_state guest before) new memory guest.virt (rw own off) (record { part = keeps.part; device = keeps.device; pool = keeps.pool; first = keeps.first }) e
+finish_stays guest new memory nested off keeps e = λ before own same.
+    made_stays (with_state guest before) new memory guest.virt (rw own off) (record { part = keeps.part; device = keeps.device; pool = keeps.pool })
+    (e ∙ caches_same guest before.first same)
 
 -- a WFI, after which the guest had this state
 pub wait_made : (old new : Guest) (virt : Virtual) (found : List FirstEntry) (memory : List ℕ) (end : Outcome) → virt ≡ passed old.virt → end ≡ Waits virt
@@ -142,7 +144,7 @@ until_is_quiet m virt (Some moment) = record { trace = refl; plain = refl }
 until_is_quiet m virt None = record { trace = refl; plain = refl }
 
 waited_by : (m : Machine) (virt : Virtual) (pending : Bool) (moment : Option ℕ)
-    → IsNotPlain (cond pending (stepped_to m (record m.platform { virt = virt }) System) (waited_until m virt moment))
+    → IsNotPlain (cond pending (stepped_to m (with_registers m.platform virt) System) (waited_until m virt moment))
 waited_by m virt true moment = record { trace = refl; plain = refl }
 waited_by m virt false moment = until_is_quiet m virt moment
 

@@ -1,8 +1,9 @@
 -- An instruction on which the mode decides: its word, its op and its effect.
 use Rattle.std.specs.Prelude.{nat_lt, option_and_then, if◌then◌else◌}
-use Rattle.std.proofs.Common.{◌≡◌, ℕ, ◌^◌, ◌<◌, Bool, true, false, Option, Some, None, refl, subst, ap}
+use Rattle.std.proofs.Common.{◌≡◌, List, ℕ, ◌^◌, ◌<◌, Bool, true, false, Option, Some, None, refl, subst, ap}
 use Rattle.std.proofs.lemmas.Option.{same_Some}
 use Rattle.arch_defs.specs.declared.csr_names.CsrEnd.{CsrEnd}
+use Rattle.arch_defs.specs.declared.first.FirstEntry.{FirstEntry}
 use Rattle.arch_defs.specs.declared.registers.Regs.{Regs}
 use Rattle.arch_defs.specs.declared.registers.Virtual.{Virtual}
 use Rattle.arch_defs.specs.Memory.{Mmu}
@@ -26,6 +27,8 @@ use Rattle.machine_defs.specs.Outcomes.{Outcome, Accesses, Done, Waits}
 use Rattle.machine_defs.specs.Privileges as privileges
 use Rattle.machine_defs.specs.Privileges.{performed, privileged, refusal}
 use Rattle.machine_laws.specs.StorableStates.{IsStorable}
+use Rattle.machine_defs.specs.Tries.{mmu_of}
+use Rattle.machine_laws.proofs.KeptFirst.{KeepsFirst, decoded_first}
 use Rattle.machine_laws.proofs.OpWidths.{HasWidth}
 use Rattle.machine_laws.proofs.StorableRuns.{IsFine, op_fine}
 use Rattle.rv64_asm.specs.Fitting.{fits}
@@ -179,3 +182,11 @@ decided_else (op.GuestLoad width signed rd rs1) e on_csr on_sret on_wfi on_sfenc
 decided_else (op.GuestFetch width rd rs1) e on_csr on_sret on_wfi on_sfence on_vvma on_gvma on_load on_fetch on_store = on_fetch width rd rs1 refl
 decided_else (op.GuestStore width rs1 rs2) e on_csr on_sret on_wfi on_sfence on_vvma on_gvma on_load on_fetch on_store = on_store width rs1 rs2 refl
 decided_else other e on_csr on_sret on_wfi on_sfence on_vvma on_gvma on_load on_fetch on_store = cc
+
+-- what such an instruction leaves has the translations that there were
+pub kept_first : (m : Machine) (op : Op) (end : Outcome) → decided_end m op ≡ end → KeepsFirst m.platform.virt end
+kept_first m op end is = subst (KeepsFirst m.platform.virt) is (decoded_first m.platform.virt (mmu_of m) (encoded op) (Some op))
+
+-- and holds what registers can store, whatever is cached
+pub caching_storable : (first : List FirstEntry) (s : Virtual) → IsStorable s → IsStorable (record s { first = first })
+caching_storable first s is = record { x0 = is.x0; pc = is.pc; csrs = is.csrs; reservation = is.reservation }

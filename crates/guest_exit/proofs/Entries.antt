@@ -4,7 +4,6 @@ use Rattle.std.proofs.Common.{cond, ◌≡◌, ℕ, zero, suc, ◌+◌, ◌-◌,
 use Rattle.std.proofs.lemmas.List.{append-nil}
 use Rattle.std.proofs.lemmas.List.Sums.{sum_by-append}
 use Rattle.std.proofs.lemmas.Option.{none-some, same_Some}
-use Rattle.arch_defs.specs.declared.first.FirstEntry.{FirstEntry}
 use Rattle.arch_defs.specs.declared.hart_states.HartState.{HartState}
 use Rattle.arch_defs.specs.declared.levels.Level.TheVariants as level
 use Rattle.arch_defs.specs.declared.modes.Trap.{Trap}
@@ -13,7 +12,7 @@ use Rattle.arch_defs.specs.declared.roots.GuestRoot.{GuestRoot}
 use Rattle.arch_defs.specs.declared.registers.Virtual.{Virtual}
 use Rattle.arch_defs.specs.Frames.{Only, in_blocks}
 use Rattle.arch_defs.specs.Interrupts.{due, interrupt_of}
-use Rattle.arch_defs.specs.Layouts.{Layout}
+use Rattle.arch_defs.specs.Layouts.{Layout, NamesEachOnce}
 use Rattle.arch_defs.specs.Ram.{ram_of}
 use Rattle.arch_defs.specs.Memory.{block_size}
 use Rattle.machine_laws.specs.Keeping.{IsOrderly}
@@ -46,13 +45,12 @@ use Rattle.rv64_hart.specs.Counts.{IsRaisedBy}
 use Rattle.rv64_hart.specs.Steps.{HartEnd, Goes, Exits, Progress, progress, progressed, enters_vs, hart_step, hart_steps, one_more_step, is_vs_trap, IsWhy}
 use Rattle.host_tables.proofs.Held.{held_by_blocks}
 use Rattle.shadow_pool.specs.Slots.{Pooled}
-use Rattle.world_switch.specs.Hosting.{HasState, after_hs_trap, guest_state_after, guest_state_of, hart_state_in, hart_state_of, hosted_csrs, loaded_in, saved_csrs, root_at, saved_mode}
+use Rattle.world_switch.specs.Hosting.{after_hs_trap, guest_state_after, guest_state_of, hart_state_in, hart_state_of, hosted_csrs, loaded_in, saved_csrs, root_at, saved_mode, saved_in}
 use Rattle.world_switch.specs.Laws.{KeepsHidden}
 use Rattle.world_switch.proofs.Registers.{none_waits}
-use Rattle.world_switch.proofs.Rerooted.{has_state}
-use Rattle.world_switch.proofs.Undone.{load_after_save, save_after_load, saved_v, virtual_mode}
+use Rattle.world_switch.proofs.Undone.{load_after_save, save_after_load, saved_v, virtual_mode, saves_own}
 use Rattle.guest_exit.specs.ExitCases.{IsLeft, exit_of, found_next}
-use Rattle.guest_exit.specs.HartEntry.{EndsInTrap, Hands, IsStopped, Lasts, is_watched, moved}
+use Rattle.guest_exit.specs.HartEntry.{EndsInTrap, Hands, IsStopped, Lasts, is_watched, moved, taken_back}
 use Rattle.guest_exit.specs.HartSteps.{Follows, IsAt, IsOf, KeepsHart, event_for, host_takes, root_for, root_frame_for}
 use Rattle.guest_exit.proofs.Followed.{followed}
 use Rattle.guest_exit.proofs.Interrupts.{own_after}
@@ -97,13 +95,13 @@ mod_mod : (n : ℕ) → n % 2 ^ 64 % 2 ^ 64 ≡ n % 2 ^ 64
 mod_mod n = omega arith
 
 -- the machine after one step of the hart, by whether that was a trap into VS
-abbrev after_step : Machine → Bool → Virtual → List FirstEntry → List ℕ → Machine
-after_step m trapped hart first ram =
-    record m { platform = ticked (record m.platform { virt = guest_state_after trapped hart m.platform.virt }); ram = ram; first = first }
+abbrev after_step : Machine → Bool → Virtual → List ℕ → Machine
+after_step m trapped hart ram =
+    record m { platform = ticked (record m.platform { virt = guest_state_after trapped hart m.platform.virt }); ram = ram }
 
 -- and after so many, which leave it this state
-abbrev pub placed : Machine → Virtual → List FirstEntry → List ℕ → ℕ → Machine
-placed m virt first ram n = record m { platform = moved m.platform virt n; ram = ram; first = first }
+abbrev pub placed : Machine → Virtual → List ℕ → ℕ → Machine
+placed m virt ram n = record m { platform = moved m.platform virt n; ram = ram }
 
 -- a trap into HS
 abbrev IsHsTrap : List Event → Type 0
@@ -113,7 +111,7 @@ IsHsTrap events = (interrupt : Bool) × (events ≡ event.Trap level.HS interrup
 record MadeBy (part : Layout) (root : GuestRoot) (m : Machine) (memory : List ℕ) (t : ℕ) (q : Progress) : Type 0 where
   own : Virtual
   stands : IsOf part m.platform.virt own q.state
-  step : left_by m (try m) ≡ after_step m q.trapped own q.state.first (ram_of part.blocks q.memory)
+  step : left_by m (try m) ≡ after_step m q.trapped own (ram_of part.blocks q.memory)
   ready : missing_entry m ≡ None
   keeps : KeepsHart root m.platform.virt own
   held : ReservesWithin (in_ram part.blocks) own.reservation
@@ -150,7 +148,7 @@ made part root m memory virtual (Goes state changed e) t q is by some =
     record {
       own = by.own;
       stands = rw (← state_is) by.stands;
-      step = rw (by.step, ← memory_is, ← trapped_is, ← state_is, when_watched virtual (enters_vs e) by.own m.platform.virt is) refl;
+      step = rw (by.step, ← memory_is, ← trapped_is, when_watched virtual (enters_vs e) by.own m.platform.virt is) refl;
       ready = by.ready;
       keeps = by.keeps;
       held = by.held;
@@ -164,7 +162,7 @@ made part root m memory virtual (Exits trap) t q is by some = absurd (none-some 
 pub record Ran (part : Layout) (pool : Pooled) (m : Machine) (memory : List ℕ) (t n : ℕ) (q : Progress) : Type 0 where
   pub own : Virtual
   pub stands : IsOf part m.platform.virt own q.state
-  pub machine : run m n ≡ placed m (guest_state_after q.trapped own m.platform.virt) q.state.first (ram_of part.blocks q.memory) n
+  pub machine : run m n ≡ placed m (guest_state_after q.trapped own m.platform.virt) (ram_of part.blocks q.memory) n
   pub need : NeedNoFill n m
   pub keeps : KeepsHart (root_for part pool m.platform.virt) m.platform.virt own
   pub held : ReservesWithin (in_ram part.blocks) own.reservation
@@ -188,7 +186,7 @@ told p limit n lasts h =
 -- before a step of an entry the hart stands for the machine, and the step is not the host's
 record IsReady (part : Layout) (root : GuestRoot) (p : Platform) (hart : HartState) : Type 0 where
   own : host_takes p.virt ≡ false
-  stands : loaded_in part root p.virt hart.first ≡ hart
+  stands : loaded_in part root p.virt ≡ hart
 
 -- loading again what was saved, with the registers that the clock sets
 with_lines_again : (root : GuestRoot) (virtual : Bool) (csrs hart : Csrs) (timer external : Bool) (clock : ℕ) → KeepsHidden root virtual csrs hart
@@ -208,11 +206,11 @@ stands_again root v hart timer external clock keeps e f =
     rw (again_by root (is_virtual v.mode) _ v.csrs hart.csrs timer external clock (saved_v (is_virtual v.mode) hart.mode) keeps.csrs e f)
     (load_after_save root v hart keeps.csrs.rest keeps.mode)
 
-own_at : (root : GuestRoot) (m : Machine) (limit n : ℕ) (hart : Virtual) (first : List FirstEntry) (ram : List ℕ) → Lasts m.platform limit → n < limit → KeepsHart root m.platform.virt hart
-    → run m n ≡ placed m (guest_state_of hart m.platform.virt) first ram n → host_takes (moved m.platform (guest_state_of hart m.platform.virt) n).virt ≡ false
+own_at : (root : GuestRoot) (m : Machine) (limit n : ℕ) (hart : Virtual) (ram : List ℕ) → Lasts m.platform limit → n < limit → KeepsHart root m.platform.virt hart
+    → run m n ≡ placed m (guest_state_of hart m.platform.virt) ram n → host_takes (moved m.platform (guest_state_of hart m.platform.virt) n).virt ≡ false
 unfolding run
-own_at root m limit zero hart first ram lasts h keeps e = subst (λ m. host_takes m.platform.virt ≡ false) e lasts.own
-own_at root m limit (suc n) hart first ram lasts h keeps e =
+own_at root m limit zero hart ram lasts h keeps e = subst (λ m. host_takes m.platform.virt ≡ false) e lasts.own
+own_at root m limit (suc n) hart ram lasts h keeps e =
     let some = more_than_one n limit h in
     let v = m.platform.virt in
     let t = told m.platform limit (suc n) lasts h in
@@ -230,18 +228,18 @@ same_root part pool p hart n = rw (saved_v (is_virtual p.virt.mode) hart.mode, h
 same_tag : (p : Platform) (hart : Virtual) (n : ℕ) → tag_of (moved p (guest_state_of hart p.virt) n).virt ≡ tag_of p.virt
 same_tag p hart n = rw (saved_v (is_virtual p.virt.mode) hart.mode, hgatp_kept (is_virtual p.virt.mode) hart.csrs p.virt.csrs) refl
 
-loaded_as : (part : Layout) (root : GuestRoot) (virt : Virtual) (hart : HartState) → hart_state_in part root virt ≡ hart.virt → tag_of virt ≡ hart.tag → loaded_in part root virt hart.first ≡ hart
+loaded_as : (part : Layout) (root : GuestRoot) (virt : Virtual) (hart : HartState) → hart_state_in part root virt ≡ hart.virt → tag_of virt ≡ hart.tag → loaded_in part root virt ≡ hart
 loaded_as part root virt hart state tag = rw (state, tag) refl
 
 ready : (part : Layout) (root : GuestRoot) (m : Machine) (limit n : ℕ) (own : Virtual) (state : HartState) (ram : List ℕ) → Lasts m.platform limit → n < limit → KeepsHart root m.platform.virt own
-    → IsOf part m.platform.virt own state → run m n ≡ placed m (guest_state_of own m.platform.virt) state.first ram n
+    → IsOf part m.platform.virt own state → run m n ≡ placed m (guest_state_of own m.platform.virt) ram n
     → IsReady part root (moved m.platform (guest_state_of own m.platform.virt) n) state
 ready part root m limit n own state ram lasts h keeps is e =
     let t = told m.platform limit n lasts h in
     let again = stands_again root m.platform.virt own (nat_le m.platform.clock.timer (m.platform.clock.time + n)) (has_input m.platform.console.inputs (m.platform.clock.time + n)) (m.platform.clock.time + n) keeps
     t.timer t.external in
     record {
-      own = own_at root m limit n own state.first ram lasts h keeps e;
+      own = own_at root m limit n own ram lasts h keeps e;
       stands = loaded_as part root (moved m.platform (guest_state_of own m.platform.virt) n).virt state
           (ap (renamed (memory_place part.blocks)) again ∙ sym is.state) (same_tag m.platform own n ∙ sym is.tag);
     }
@@ -250,17 +248,17 @@ ready part root m limit n own state ram lasts h keeps is e =
 one_more_of : (a n : ℕ) → a + n + 1 ≡ a + (n + 1)
 one_more_of a n = omega arith
 
-abbrev at_clock : Machine → Virtual → List FirstEntry → List ℕ → ℕ → ℕ → Machine
-at_clock m virt first memory time steps =
-    record m { platform = with_pending_lines (record m.platform { virt = virt; clock = record m.platform.clock { time = time }; steps = steps }); ram = memory; first = first }
+abbrev at_clock : Machine → Virtual → List ℕ → ℕ → ℕ → Machine
+at_clock m virt memory time steps =
+    record m { platform = with_pending_lines (record m.platform { virt = virt; clock = record m.platform.clock { time = time }; steps = steps }); ram = memory }
 
-further_by : (m : Machine) (virt : Virtual) (first : List FirstEntry) (memory : List ℕ) (a b c d : ℕ) → a ≡ b → c ≡ d → at_clock m virt first memory a c ≡ at_clock m virt first memory b d
-further_by m virt first memory a b c d e f = rw (e, f) refl
+further_by : (m : Machine) (virt : Virtual) (memory : List ℕ) (a b c d : ℕ) → a ≡ b → c ≡ d → at_clock m virt memory a c ≡ at_clock m virt memory b d
+further_by m virt memory a b c d e f = rw (e, f) refl
 
 -- what is taken back, by the guest's V, with the registers that the clock sets
 abbrev back_by : Bool → Bool → Virtual → Csrs → Virtual
 back_by virtual trapped hart before =
-    let own : Virtual = record { regs = hart.regs; csrs = saved_csrs virtual hart.csrs before; mode = saved_mode virtual hart.mode; reservation = hart.reservation } in
+    let own : Virtual = record { regs = hart.regs; csrs = saved_csrs virtual hart.csrs before; mode = saved_mode virtual hart.mode; reservation = hart.reservation; first = hart.first } in
     cond (trapped && not virtual) (after_hs_trap own) own
 
 abbrev with_lines_virt : Virtual → ℕ → Bool → Bool → Virtual
@@ -282,16 +280,16 @@ back_again : (virtual other trapped : Bool) (hart : Csrs) (after : Virtual) (bef
 back_again virtual other trapped hart after before clock timer external clock' timer' external' is =
     rw is (same_back virtual trapped hart after before clock timer external clock' timer' external')
 
-further : (m : Machine) (hart after : Virtual) (first cached : List FirstEntry) (memory changed : List ℕ) (n : ℕ) (trapped : Bool)
-    → after_step (placed m (guest_state_of hart m.platform.virt) first memory n) trapped after cached changed
-    ≡ placed m (guest_state_after trapped after m.platform.virt) cached changed (n + 1)
-further m hart after first cached memory changed n trapped =
+further : (m : Machine) (hart after : Virtual) (memory changed : List ℕ) (n : ℕ) (trapped : Bool)
+    → after_step (placed m (guest_state_of hart m.platform.virt) memory n) trapped after changed
+    ≡ placed m (guest_state_after trapped after m.platform.virt) changed (n + 1)
+further m hart after memory changed n trapped =
     let p = m.platform in
     let virtual = is_virtual p.virt.mode in
     let time = p.clock.time + n + 1 in
     let again = back_again virtual _ trapped hart.csrs after p.virt.csrs _ _ _ time (nat_le p.clock.timer time) (has_input p.console.inputs time) (saved_v virtual hart.mode) in
-    ap (λ virt. record m { platform = record p { virt = virt; clock = record p.clock { time = time }; steps = p.steps + n + 1 }; ram = changed; first = cached }) again
-    ∙ further_by m (guest_state_after trapped after p.virt) cached changed _ _ _ _ (one_more_of p.clock.time n) (one_more_of p.steps n)
+    ap (λ virt. record m { platform = record p { virt = virt; clock = record p.clock { time = time }; steps = p.steps + n + 1 }; ram = changed }) again
+    ∙ further_by m (guest_state_after trapped after p.virt) changed _ _ _ _ (one_more_of p.clock.time n) (one_more_of p.steps n)
 
 -- what the hart keeps from step to step it keeps from the start on
 keeps_in : (root : GuestRoot) (virtual : Bool) (before hart after : Csrs) (clock : ℕ) (timer external : Bool)
@@ -355,10 +353,10 @@ need_further : (m : Machine) (n : ℕ) → NeedNoFill n m → Goes' (run m n) �
 need_further m n need now = λ i within. need_by m n i need now within (nat_lt i n) refl
 
 -- before a step of an entry the machine is in its part
-at_next : (part : Layout) (pool : Pooled) (m : Machine) (first : List FirstEntry) (memory changed : List ℕ) (n : ℕ) (own : Virtual) → IsAt part pool m memory → Only (in_blocks part.blocks) memory changed
-    → ReservesWithin (in_ram part.blocks) own.reservation → run m n ≡ placed m (guest_state_of own m.platform.virt) first (ram_of part.blocks changed) n
-    → IsAt part pool (placed m (guest_state_of own m.platform.virt) first (ram_of part.blocks changed) n) changed
-at_next part pool m first memory changed n own at only reserved there =
+at_next : (part : Layout) (pool : Pooled) (m : Machine) (memory changed : List ℕ) (n : ℕ) (own : Virtual) → IsAt part pool m memory → Only (in_blocks part.blocks) memory changed
+    → ReservesWithin (in_ram part.blocks) own.reservation → run m n ≡ placed m (guest_state_of own m.platform.virt) (ram_of part.blocks changed) n
+    → IsAt part pool (placed m (guest_state_of own m.platform.virt) (ram_of part.blocks changed) n) changed
+at_next part pool m memory changed n own at only reserved there =
     let held = held_by_blocks part memory changed at.once at.held only in
     let before : length m.ram ≡ length part.blocks * block_size = rw at.ram (size_of part memory at.held) in
     record {
@@ -394,12 +392,12 @@ ran_one part pool m memory limit t n p q running lasts at h ran fresh some =
     let v = m.platform.virt in
     let root = root_for part pool v in
     let ram = ram_of part.blocks p.memory in
-    let there : run m n ≡ placed m (guest_state_of ran.own v) p.state.first ram n = rw fresh at ran.machine in
-    let now = placed m (guest_state_of ran.own v) p.state.first ram n in
+    let there : run m n ≡ placed m (guest_state_of ran.own v) ram n = rw fresh at ran.machine in
+    let now = placed m (guest_state_of ran.own v) ram n in
     let is = ready part root m limit n ran.own p.state ram lasts h ran.keeps ran.stands there in
-    let placed_at : IsAt part pool now p.memory = at_next part pool m p.state.first memory p.memory n ran.own at ran.only ran.held there in
-    let by_now : Follows part root now p.memory (hart_step (loaded_in part root now.platform.virt now.first) p.memory) =
-    subst (λ root. Follows part root now p.memory (hart_step (loaded_in part root now.platform.virt now.first) p.memory)) (same_root part pool m.platform ran.own n)
+    let placed_at : IsAt part pool now p.memory = at_next part pool m memory p.memory n ran.own at ran.only ran.held there in
+    let by_now : Follows part root now p.memory (hart_step (loaded_in part root now.platform.virt) p.memory) =
+    subst (λ root. Follows part root now p.memory (hart_step (loaded_in part root now.platform.virt) p.memory)) (same_root part pool m.platform ran.own n)
     (followed part pool now p.memory is.own placed_at) in
     let follows : Follows part root now p.memory (hart_step p.state p.memory) =
     subst (λ hart. Follows part root now p.memory (hart_step hart p.memory)) is.stands by_now in
@@ -408,7 +406,7 @@ ran_one part pool m memory limit t n p q running lasts at h ran fresh some =
     record {
       own = by.own;
       stands = record { state = by.stands.state; tag = by.stands.tag ∙ same_tag m.platform ran.own n };
-      machine = rw (run_further m now n there running by.ready, by.step) (further m ran.own by.own p.state.first q.state.first ram (ram_of part.blocks q.memory) n q.trapped);
+      machine = rw (run_further m now n there running by.ready, by.step) (further m ran.own by.own ram (ram_of part.blocks q.memory) n q.trapped);
       need = need_further m n ran.need (rw there (running, by.ready));
       keeps = keeps_on root m.platform n ran.own by.own (told m.platform limit n lasts h) ran.keeps by.keeps;
       held = by.held;
@@ -447,18 +445,18 @@ none_more_of : (a : ℕ) → a + 0 ≡ a
 none_more_of a = omega arith
 
 ran_none : (part : Layout) (pool : Pooled) (m : Machine) (memory : List ℕ) (limit t : ℕ) → Lasts m.platform limit → IsAt part pool m memory
-    → Ran part pool m memory t zero (progress (loaded_in part (root_for part pool m.platform.virt) m.platform.virt m.first) memory t false)
+    → Ran part pool m memory t zero (progress (loaded_in part (root_for part pool m.platform.virt) m.platform.virt) memory t false)
 unfolding run events
 ran_none part pool m memory limit t lasts at =
     let v = m.platform.virt in
     let back : guest_state_of (hart_state_of (root_for part pool v) v) v ≡ v = save_after_load (root_for part pool v) v in
-    let there : at_clock m v m.first m.ram m.platform.clock.time m.platform.steps ≡ m = ap (λ p. record m { platform = p }) lasts.current in
-    let none = further_by m v m.first m.ram _ _ _ _ (none_more_of m.platform.clock.time) (none_more_of m.platform.steps) in
-    let same : placed m v m.first m.ram 0 ≡ m = rw none there in
+    let there : at_clock m v m.ram m.platform.clock.time m.platform.steps ≡ m = ap (λ p. record m { platform = p }) lasts.current in
+    let none = further_by m v m.ram _ _ _ _ (none_more_of m.platform.clock.time) (none_more_of m.platform.steps) in
+    let same : placed m v m.ram 0 ≡ m = rw none there in
     record {
       own = hart_state_of (root_for part pool v) v;
       stands = record { state = refl; tag = refl };
-      machine = rw (← at.ram) (sym (subst (λ virt. placed m virt m.first m.ram 0 ≡ m) (sym back) same));
+      machine = rw (← at.ram) (sym (subst (λ virt. placed m virt m.ram 0 ≡ m) (sym back) same));
       need = λ i never. never_below i never;
       keeps = record { csrs = none_written (root_for part pool v) (is_virtual v.mode) v.csrs; mode = virtual_mode v.mode };
       held = at.reserved;
@@ -468,30 +466,37 @@ ran_none part pool m memory limit t lasts at =
     }
 
 -- from the state that is loaded
-pub steps_from : (watch : Bool) (part : Layout) (pool : Pooled) (v : Virtual) (first : List FirstEntry) (memory : List ℕ) (t taken : ℕ) (q : Progress)
-    → hart_steps watch taken (progress (loaded_in part (root_at part (root_frame_for part pool v)) v first) memory t false) ≡ Some q
-    → hart_steps watch taken (progress (loaded_in part (root_for part pool v) v first) memory t false) ≡ Some q
+pub steps_from : (watch : Bool) (part : Layout) (pool : Pooled) (v : Virtual) (memory : List ℕ) (t taken : ℕ) (q : Progress)
+    → hart_steps watch taken (progress (loaded_in part (root_at part (root_frame_for part pool v)) v) memory t false) ≡ Some q
+    → hart_steps watch taken (progress (loaded_in part (root_for part pool v) v) memory t false) ≡ Some q
 unfolding root_for
-steps_from watch part pool v first memory t taken q e = e
+steps_from watch part pool v memory t taken q e = e
 
 -- so many steps of an entry
 pub ran : (part : Layout) (pool : Pooled) (m : Machine) (memory : List ℕ) (limit t : ℕ) → m.platform.status ≡ Running → Lasts m.platform limit → IsAt part pool m memory → (n : ℕ) → n ≤ limit
-    → (q : Progress) → hart_steps (is_watched m.platform.virt) n (progress (loaded_in part (root_for part pool m.platform.virt) m.platform.virt m.first) memory t false) ≡ Some q → Ran part pool m memory t n q
+    → (q : Progress) → hart_steps (is_watched m.platform.virt) n (progress (loaded_in part (root_for part pool m.platform.virt) m.platform.virt) memory t false) ≡ Some q → Ran part pool m memory t n q
 unfolding hart_steps
 ran part pool m memory limit t running lasts at zero h q e =
-    let is : progress (loaded_in part (root_for part pool m.platform.virt) m.platform.virt m.first) memory t false ≡ q = same_Some _ q e in subst (Ran part pool m memory t zero) is (ran_none part pool m memory limit t lasts at)
+    let is : progress (loaded_in part (root_for part pool m.platform.virt) m.platform.virt) memory t false ≡ q = same_Some _ q e in subst (Ran part pool m memory t zero) is (ran_none part pool m memory limit t lasts at)
 ran part pool m memory limit t running lasts at (suc n) h q e =
     let within = below_limit n limit h in
     let before = within_limit n limit h in
     subst (λ k. Ran part pool m memory t k q) (one_more_suc n)
-    (ran_next part pool m memory limit t n (hart_steps (is_watched m.platform.virt) n (progress (loaded_in part (root_for part pool m.platform.virt) m.platform.virt m.first) memory t false)) q running lasts at within
+    (ran_next part pool m memory limit t n (hart_steps (is_watched m.platform.virt) n (progress (loaded_in part (root_for part pool m.platform.virt) m.platform.virt) memory t false)) q running lasts at within
     (λ p some. ran part pool m memory limit t running lasts at n before p some) e)
+
+-- what is taken back of a hart with the guest's reservation at its place in memory
+pub taken_is : (part : Layout) (hart own before : Virtual) (trapped : Bool) → NamesEachOnce part → ReservesWithin (in_ram part.blocks) own.reservation
+    → hart ≡ renamed (memory_place part.blocks) own → taken_back part hart trapped before ≡ guest_state_after trapped own before
+taken_is part hart own before trapped once held is =
+    ap (λ saved. cond (trapped && not (is_virtual before.mode)) (after_hs_trap saved) saved)
+    (ap (λ h. saved_in part h before) is ∙ saves_own part own before once held)
 
 -- why an entry ended
 pub stopped : (part : Layout) (pool : Pooled) (m : Machine) (memory : List ℕ) (limit t : ℕ) (state : HartState) (changed : List ℕ) (t' taken : ℕ) (why : Why) → m.platform.status ≡ Running
     → Lasts m.platform limit → IsAt part pool m memory → taken ≤ limit
-    → hart_steps (is_watched m.platform.virt) taken (progress (loaded_in part (root_for part pool m.platform.virt) m.platform.virt m.first) memory t false) ≡ Some (progress state changed t' (is_vs_trap why))
-    → IsWhy limit taken state changed why → IsStopped part pool m (run m taken) changed state.virt limit taken why
+    → hart_steps (is_watched m.platform.virt) taken (progress (loaded_in part (root_for part pool m.platform.virt) m.platform.virt) memory t false) ≡ Some (progress state changed t' (is_vs_trap why))
+    → IsWhy limit taken state changed why → IsStopped part pool m (run m taken) changed limit taken why
 stopped part pool m memory limit t state changed t' taken Limit running lasts at within e why = why
 stopped part pool m memory limit t state changed t' taken VsTrap running lasts at within e why =
     (ran part pool m memory limit t running lasts at taken within (progress state changed t' true) e).ends refl
@@ -502,11 +507,9 @@ stopped part pool m memory limit t state changed t' taken (Exit trap) running la
       fewer,
       subst (λ m. Hands part pool m changed trap) (sym is.machine) (record {
         own = r.own;
-        exits = subst (λ root. hart_step (loaded_in part root (moved m.platform (guest_state_of is.own m.platform.virt) taken).virt state.first) changed ≡ Exits trap) (sym (same_root part pool m.platform is.own taken))
+        exits = subst (λ root. hart_step (loaded_in part root (moved m.platform (guest_state_of is.own m.platform.virt) taken).virt) changed ≡ Exits trap) (sym (same_root part pool m.platform is.own taken))
             (subst (λ hart. hart_step hart changed ≡ Exits trap) (sym r.stands) exits);
       }),
-      subst (λ (m : Machine). HasState part state.virt m.platform.virt) (sym is.machine)
-          (has_state part root state.virt (moved m.platform (guest_state_of is.own m.platform.virt) taken).virt (ap (λ (hart : HartState). hart.virt) (sym r.stands))),
     )
 
 -- a step that the hart has left to the host

@@ -1,5 +1,5 @@
 -- One step of the hart that stands for a guest is a try of the guest's lone machine.
-use Rattle.std.specs.Prelude.{◌&&◌, ◌^◌, nat_lt, not, ◌%◌}
+use Rattle.std.specs.Prelude.{◌&&◌, ◌^◌, nat_lt, not, unwrap_or, ◌%◌}
 use Rattle.std.proofs.Common.{cond, ◌≡◌, ℕ, ◌∙◌, Bool, List, Option, Some, None, true, false, refl, ap, sym, subst, length, arith, ◌+◌, ◌<◌}
 use Rattle.arch_defs.specs.declared.second_walks.SecondWalkEnd.TheVariants.{GuestPageFault}
 use Rattle.arch_defs.specs.declared.modes.Access.{Access}
@@ -21,12 +21,12 @@ use Rattle.arch_defs.specs.Traps.{exception, is_delegated, is_virtual, faults_of
 use Rattle.arch_defs.proofs.RamBlocks.{blocks_lie_in, ram_length}
 use Rattle.arch_defs.proofs.Rooms.{first_lies}
 use Rattle.machine_laws.specs.HostPlaces.{in_ram, memory_place}
-use Rattle.machine_defs.specs.Machine.{Machine, Tried, stepped_to, trapped}
+use Rattle.machine_defs.specs.Machine.{Machine, Tried, stepped_to, trapped, with_registers}
 use Rattle.machine_defs.specs.FirstLeaves.{leaves_found, tag_of}
 use Rattle.machine_defs.specs.Tries.{apply_outcome, committed, device_of, enters, found_by_outcome, found_by_try, found_with_code, mmu_of, second_of, stages_of, tried_with, try_under, unplaced}
 use Rattle.machine_defs.specs.Outcomes.{Outcome, Done, Trapped, Missed, Called, Waits, Fenced, FirstFenced, Accesses}
 use Rattle.arch_defs.specs.declared.first.FirstEntry.{FirstEntry}
-use Rattle.arch_defs.specs.FirstEntries.{all_filled}
+use Rattle.arch_defs.specs.FirstEntries.{all_filled, names_first, unnamed_first}
 use Rattle.arch_defs.proofs.FrameSets.{only_none}
 use Rattle.machine_laws.specs.Renaming.{IsRenamed, KeepsPage, LeavesWithin, Places, outcome_renamed, renamed}
 use Rattle.machine_laws.proofs.HostPlaces.{only_ram_changes, ram_is_renamed, ram_is_stored}
@@ -41,7 +41,7 @@ use Rattle.guest_exit.specs.ExitCases as case
 use Rattle.guest_exit.specs.ExitCases.{Exit, access_fault_for, data_wanted, entry_for_exit, found_next, having_found, is_guest_page_code, missing_place_exit, try_at}
 use Rattle.guest_exit.proofs.ExitCases.{and_false, left_as, page_exit_is}
 use Rattle.guest_exit.proofs.Missed.{far_is}
-use Rattle.guest_exit.specs.HartSteps.{Follows, FollowsTry, IsAt, event_for, host_takes, root_for}
+use Rattle.guest_exit.specs.HartSteps.{Follows, FollowsTry, IsAt, event_for, host_takes, root_for, KeepsHart}
 use Rattle.rv64_hart.specs.MachineMemory.{found_on, mmu_on, reading_of_memory, second_of_memory, wanted_next}
 use Rattle.rv64_hart.specs.Steps.{attempt_of, end_by, enters_vs, found_at_exit, found_by_attempt as hart_finds, hart_step, next_attempt, with_first}
 use Rattle.guest_exit.proofs.Agreement.{core_stands, wanted_alike}
@@ -153,7 +153,7 @@ hosts Implicit = record { kept = kept_21; fault = refl; own = refl }
 
 guest_page_left : (part : Layout) (root : GuestRoot) (m : Machine) (memory : List ℕ) (found : List FirstEntry) (missing : MissingPlace) (tried : Tried) (lacks : Option Entry) (left : Exit)
     → missing_place_exit m.platform.virt (guest_page_trap missing) (folds m.platform.virt) ≡ left → tried ≡ try_at found m left → lacks ≡ entry_for_exit m left
-    → FollowsTry part root m found tried lacks memory (taken part root m (all_filled m.first found) memory (guest_page_trap missing))
+    → FollowsTry part root m found tried lacks memory (taken part root m (all_filled m.platform.virt.first found) memory (guest_page_trap missing))
 guest_page_left part root m memory found missing tried lacks left is step missing_entry =
     let v = m.platform.virt in
     let trap = guest_page_trap missing in
@@ -206,7 +206,7 @@ pub record StopsThere (m : Machine) (missing : MissingPlace) (wanted : Option Da
 small_follows : (part : Layout) (root : GuestRoot) (m : Machine) (memory : List ℕ) (found : List FirstEntry) (missing : MissingPlace) (wanted : Option DataAccess) → StopsThere m missing wanted
     → nat_lt (missing.address / 4) (2 ^ (guest_bits - 2)) ≡ true
     → FollowsTry part root m found (apply_outcome (device_of m) (having_found found m) (Missed (own_of m missing) wanted)) (missing_entry_by m (Missed (own_of m missing) wanted)) memory
-    (taken part root m (all_filled m.first found) memory (guest_page_trap missing))
+    (taken part root m (all_filled m.platform.virt.first found) memory (guest_page_trap missing))
 small_follows part root m memory found missing wanted stop small =
     guest_page_left part root m memory found missing _ _ (case.Missing (own_of m missing)) (rw small (ap case.Missing stop.told))
     (ap (λ wanted. unplaced (having_found found m) (own_of m missing) wanted (device_of m missing.address missing.kind)) stop.wants) refl
@@ -214,7 +214,7 @@ small_follows part root m memory found missing wanted stop small =
 far_folding : (part : Layout) (pool : Pooled) (root : GuestRoot) (m : Machine) (memory : List ℕ) (found : List FirstEntry) (missing : MissingPlace) (wanted : Option DataAccess) → IsAt part pool m memory
     → StopsThere m missing wanted → folds m.platform.virt ≡ true → nat_lt (missing.address / 4) (2 ^ (guest_bits - 2)) ≡ false
     → FollowsTry part root m found (apply_outcome (device_of m) (having_found found m) (Missed (own_of m missing) wanted)) (missing_entry_by m (Missed (own_of m missing) wanted)) memory
-    (taken part root m (all_filled m.first found) memory (guest_page_trap missing))
+    (taken part root m (all_filled m.platform.virt.first found) memory (guest_page_trap missing))
 far_folding part pool root m memory found missing wanted at stop folding far =
     let v = m.platform.virt in
     let own = own_of m missing in
@@ -229,7 +229,7 @@ far_folding part pool root m memory found missing wanted at stop folding far =
 far_flat : (part : Layout) (root : GuestRoot) (m : Machine) (memory : List ℕ) (found : List FirstEntry) (missing : MissingPlace) (wanted : Option DataAccess)
     → folds m.platform.virt ≡ false → nat_lt (missing.address / 4) (2 ^ (guest_bits - 2)) ≡ false
     → FollowsTry part root m found (apply_outcome (device_of m) (having_found found m) (Missed (own_of m missing) wanted)) (missing_entry_by m (Missed (own_of m missing) wanted)) memory
-    (taken part root m (all_filled m.first found) memory (guest_page_trap missing))
+    (taken part root m (all_filled m.platform.virt.first found) memory (guest_page_trap missing))
 far_flat part root m memory found missing wanted flat far =
     let v = m.platform.virt in
     let own = own_of m missing in
@@ -244,12 +244,12 @@ far_flat part root m memory found missing wanted flat far =
 stop_follows : (part : Layout) (pool : Pooled) (root : GuestRoot) (m : Machine) (memory : List ℕ) (found : List FirstEntry) (missing : MissingPlace) (wanted : Option DataAccess) → IsAt part pool m memory
     → StopsThere m missing wanted
     → FollowsTry part root m found (apply_outcome (device_of m) (having_found found m) (Missed (own_of m missing) wanted)) (missing_entry_by m (Missed (own_of m missing) wanted)) memory
-    (taken part root m (all_filled m.first found) memory (guest_page_trap missing))
+    (taken part root m (all_filled m.platform.virt.first found) memory (guest_page_trap missing))
 stop_follows part pool root m memory found missing wanted at stop = by (nat_lt (missing.address / 4) (2 ^ (guest_bits - 2))) refl (folds m.platform.virt) refl
   where
     by : (small : Bool) → nat_lt (missing.address / 4) (2 ^ (guest_bits - 2)) ≡ small → (folding : Bool) → folds m.platform.virt ≡ folding
         → FollowsTry part root m found (apply_outcome (device_of m) (having_found found m) (Missed (own_of m missing) wanted)) (missing_entry_by m (Missed (own_of m missing) wanted)) memory
-        (taken part root m (all_filled m.first found) memory (guest_page_trap missing))
+        (taken part root m (all_filled m.platform.virt.first found) memory (guest_page_trap missing))
     by true small folding folds_is = small_follows part root m memory found missing wanted stop small
     by false far true folding = far_folding part pool root m memory found missing wanted at stop folding far
     by false far false flat = far_flat part root m memory found missing wanted flat far
@@ -389,10 +389,22 @@ never_set false after table e = rw e refl
 
 -- so it enters no space
 made_same : (m : Machine) (virt : Virtual) (stored : Option Stored) (event : Event) → enters m.platform.virt virt ≡ false
-    → committed m virt stored event ≡ stepped_to (record m { ram = with_stored ram_base stored m.ram }) (record m.platform { virt = virt }) event
+    → committed m virt stored event ≡ stepped_to (record m { ram = with_stored ram_base stored m.ram }) (with_registers m.platform virt) event
 made_same m virt stored event e =
     ap (λ b. stepped_to (record m { ram = with_stored ram_base stored m.ram; spaces = cond b (entered m.space_room virt.csrs.hgatp m.spaces) m.spaces })
-    (record m.platform { virt = virt }) event) e
+    (with_registers m.platform virt) event) e
+
+-- what is taken back has the hart's first-stage translations
+back_first : (trapped : Bool) (hart before : Virtual) (first : List FirstEntry)
+    → record (guest_state_after trapped hart before) { first = first } ≡ guest_state_after trapped (record hart { first = first }) before
+back_first trapped hart before first =
+    elim (trapped && not (is_virtual before.mode))
+    as (λ b. record (cond b (after_hs_trap (guest_state_of hart before)) (guest_state_of hart before)) { first = first }
+    ≡ cond b (after_hs_trap (guest_state_of (record hart { first = first }) before)) (guest_state_of (record hart { first = first }) before))
+    [ true ↦ refl | false ↦ refl ]
+
+keeps_also : (root : GuestRoot) (v hart : Virtual) (first : List FirstEntry) → KeepsHart root v hart → KeepsHart root v (record hart { first = first })
+keeps_also root v hart first keeps = record { csrs = keeps.csrs; mode = keeps.mode }
 
 -- where an instruction stops at an access, the second stage has no place for it
 absent_at : (m : Machine) (missing : MissingPlace) (wanted : Option DataAccess) → core (mmu_of m) m.platform.virt ≡ Missed missing wanted
@@ -402,7 +414,7 @@ absent_at m missing wanted is =
 
 -- what its first-stage translations say keeps the offset in a page
 keeps_page : (m : Machine) → KeepsPage (stages_of m).known
-keeps_page m = cached_keeps_page m.first (tag_of m.platform.virt) m.platform.virt
+keeps_page m = cached_keeps_page m.platform.virt.first (tag_of m.platform.virt) m.platform.virt
 
 -- the hart's stop is the machine's
 stops_there : (m : Machine) (root : GuestRoot) (missing : MissingPlace) (wanted : Option DataAccess) → core (mmu_of m) (hart_state_of root m.platform.virt) ≡ Missed missing wanted
@@ -419,18 +431,21 @@ outcome_follows : (part : Layout) (pool : Pooled) (m : Machine) (memory : List �
     → lone ≡ core (mmu_of m) m.platform.virt → hart ≡ core (mmu_of m) (hart_state_of (root_for part pool m.platform.virt) m.platform.virt)
     → Stands (root_for part pool m.platform.virt) m.platform.virt lone hart → LeavesWithin (in_ram part.blocks) hart
     → FollowsTry part (root_for part pool m.platform.virt) m found (apply_outcome (device_of m) (having_found found m) lone) (missing_entry_by m lone) memory
-    (end_by (loaded_in part (root_for part pool m.platform.virt) m.platform.virt (all_filled m.first found)) memory
-    (attempt_of (loaded_in part (root_for part pool m.platform.virt) m.platform.virt (all_filled m.first found)) memory (outcome_renamed (memory_place part.blocks) hart)))
+    (end_by (with_first (loaded_in part (root_for part pool m.platform.virt) m.platform.virt) found) memory
+    (attempt_of (with_first (loaded_in part (root_for part pool m.platform.virt) m.platform.virt) found) memory (outcome_renamed (memory_place part.blocks) hart)))
 outcome_follows part pool m memory found lone (Done hart stored event) at lone_is hart_is (e, keeps) (stores, reserves) =
     let v = m.platform.virt in
     let lie = lie_of part memory at.held in
+    let cached = all_filled v.first found in
     record {
-      own = hart;
+      own = record hart { first = cached };
       stands = record { state = refl; tag = refl };
       step = rw (e, ram_is_stored part.blocks memory stored lie at.once.distinct stores, ← at.ram)
-          (made_same (having_found found m) (guest_state_after (enters_vs event) hart v) stored (event_for (is_virtual v.mode) event) (never_set (is_virtual v.mode) _ _ (back_v (enters_vs event) hart v)));
+          (made_same (having_found found m) (guest_state_after (enters_vs event) hart v) stored (event_for (is_virtual v.mode) event) (never_set (is_virtual v.mode) _ _ (back_v (enters_vs event) hart v))
+          ∙ ap (λ virt. stepped_to (record m { ram = with_stored ram_base stored m.ram }) (record m.platform { virt = virt }) (event_for (is_virtual v.mode) event))
+          (back_first (enters_vs event) hart v cached));
       ready = rw e (none_of (folds v));
-      keeps = keeps;
+      keeps = keeps_also (root_for part pool v) v hart cached keeps;
       held = reserves;
       only = only_ram_changes part.blocks memory stored lie stores;
     }
@@ -442,15 +457,16 @@ outcome_follows part pool m memory found lone (Missed missing wanted) at lone_is
 outcome_follows part pool m memory found lone Called at lone_is hart_is e leaves = absurd e
 outcome_follows part pool m memory found lone (Waits hart) at lone_is hart_is e leaves = absurd e
 outcome_follows part pool m memory found lone (Fenced hart fence) at lone_is hart_is e leaves = absurd e
-outcome_follows part pool m memory found lone (FirstFenced hart named fence) at lone_is hart_is (e, keeps) reserves = record {
-  own = hart;
-  stands = record { state = refl; tag = refl };
-  step = rw (e, ← at.ram) refl;
-  ready = rw e (none_of (folds m.platform.virt));
-  keeps = keeps;
-  held = reserves;
-  only = only_none (in_blocks part.blocks) memory;
-}
+outcome_follows part pool m memory found lone (FirstFenced hart named fence) at lone_is hart_is (e, keeps) reserves = let v = m.platform.virt in
+    let left = unnamed_first (names_first (unwrap_or named (tag_of v)) fence) (all_filled v.first found) in record {
+      own = record hart { first = left };
+      stands = record { state = refl; tag = refl };
+      step = rw (e, ← at.ram) refl;
+      ready = rw e (none_of (folds v));
+      keeps = keeps_also (root_for part pool v) v hart left keeps;
+      held = reserves;
+      only = only_none (in_blocks part.blocks) memory;
+    }
 outcome_follows part pool m memory found lone (Accesses access) at lone_is hart_is e leaves = absurd e
 
 -- the hart's second stage is the machine's, with places renamed
@@ -509,27 +525,27 @@ view part pool m memory at =
 
 -- one instruction on the hart, loaded for a guest, is one of a hart with the machine's own memory, with places renamed
 core_on_hart : (part : Layout) (pool : Pooled) (m : Machine) (memory : List ℕ) → IsAt part pool m memory
-    → core (mmu_on (loaded_in part (root_for part pool m.platform.virt) m.platform.virt m.first) memory) (hart_state_in part (root_for part pool m.platform.virt) m.platform.virt)
+    → core (mmu_on (loaded_in part (root_for part pool m.platform.virt) m.platform.virt) memory) (hart_state_in part (root_for part pool m.platform.virt) m.platform.virt)
     ≡ outcome_renamed (memory_place part.blocks) (core (mmu_of m) (hart_state_of (root_for part pool m.platform.virt) m.platform.virt))
 core_on_hart part pool m memory at =
     let root = root_for part pool m.platform.virt in
     let v = hart_state_of root m.platform.virt in
-    let s = loaded_in part root m.platform.virt m.first in
+    let s = loaded_in part root m.platform.virt in
     let reading = reading_of (ram_memory m.ram) in
-    ap (λ known. core (mmu known (second_of_memory s.virt memory) (reading_of_memory memory)) s.virt) (knows_alike root m.platform.virt m.first (tag_of m.platform.virt))
+    ap (λ known. core (mmu known (second_of_memory s.virt memory) (reading_of_memory memory)) s.virt) (knows_alike root m.platform.virt m.platform.virt.first (tag_of m.platform.virt))
     ∙ renamed_core (memory_place part.blocks) (in_ram part.blocks) (stages_of m).known (second_of m) reading _ _ v (keeps_page m) (view part pool m memory at) at.reserved
 
 -- and finds the first-stage translations that the machine finds
 found_on_hart : (part : Layout) (pool : Pooled) (m : Machine) (memory : List ℕ) → IsAt part pool m memory
-    → found_on (loaded_in part (root_for part pool m.platform.virt) m.platform.virt m.first) memory ≡ found_by_outcome (stages_of m) m
+    → found_on (loaded_in part (root_for part pool m.platform.virt) m.platform.virt) memory ≡ found_by_outcome (stages_of m) m
 unfolding found_on
 found_on_hart part pool m memory at =
     let root = root_for part pool m.platform.virt in
     let v = hart_state_of root m.platform.virt in
-    let s = loaded_in part root m.platform.virt m.first in
+    let s = loaded_in part root m.platform.virt in
     let tag = tag_of m.platform.virt in
     let reading = reading_of (ram_memory m.ram) in
-    ap (λ known. leaves_found tag (mmu known (second_of_memory s.virt memory) (reading_of_memory memory)) s.virt) (knows_alike root m.platform.virt m.first tag)
+    ap (λ known. leaves_found tag (mmu known (second_of_memory s.virt memory) (reading_of_memory memory)) s.virt) (knows_alike root m.platform.virt m.platform.virt.first tag)
     ∙ renamed_leaves (memory_place part.blocks) (in_ram part.blocks) tag (stages_of m).known (second_of m) reading _ _ v (keeps_page m) (view part pool m memory at)
     ∙ finds_alike root m.platform.virt tag (mmu_of m)
 
@@ -537,9 +553,9 @@ found_on_hart part pool m memory at =
 try_follows : (part : Layout) (pool : Pooled) (m : Machine) (memory : List ℕ) (lone hart : Option ℕ) → due m.platform.virt.csrs m.platform.virt.mode ≡ lone
     → IsDue lone (is_virtual m.platform.virt.mode) m.platform.virt.csrs.hideleg hart → IsAt part pool m memory
     → FollowsTry part (root_for part pool m.platform.virt) m (found_with_code (stages_of m) m lone) (tried_with (stages_of m) m lone) (missing_entry m) memory
-    (end_by (with_first (loaded_in part (root_for part pool m.platform.virt) m.platform.virt m.first)
-    (hart_finds (loaded_in part (root_for part pool m.platform.virt) m.platform.virt m.first) memory hart)) memory
-    (next_attempt (loaded_in part (root_for part pool m.platform.virt) m.platform.virt m.first) memory hart))
+    (end_by (with_first (loaded_in part (root_for part pool m.platform.virt) m.platform.virt)
+    (hart_finds (loaded_in part (root_for part pool m.platform.virt) m.platform.virt) memory hart)) memory
+    (next_attempt (loaded_in part (root_for part pool m.platform.virt) m.platform.virt) memory hart))
 try_follows part pool m memory None hart none e at =
     let root = root_for part pool m.platform.virt in
     let v = hart_state_of root m.platform.virt in
@@ -551,7 +567,7 @@ try_follows part pool m memory (Some code) hart some is at =
 
 -- one step of the hart is one try
 pub followed : (part : Layout) (pool : Pooled) (m : Machine) (memory : List ℕ) → host_takes m.platform.virt ≡ false → IsAt part pool m memory
-    → Follows part (root_for part pool m.platform.virt) m memory (hart_step (loaded_in part (root_for part pool m.platform.virt) m.platform.virt m.first) memory)
+    → Follows part (root_for part pool m.platform.virt) m memory (hart_step (loaded_in part (root_for part pool m.platform.virt) m.platform.virt) memory)
 unfolding try_under found_by_try hart_step found_at_exit
 followed part pool m memory free at =
     let v = m.platform.virt in try_follows part pool m memory _ _ refl (due_alike (root_for part pool v) v.csrs v.mode free) at
@@ -559,17 +575,17 @@ followed part pool m memory free at =
 -- what the hart, loaded for the guest, would find at an exit is what the machine's next step finds
 found_by_due : (part : Layout) (pool : Pooled) (m : Machine) (memory : List ℕ) (lone hart : Option ℕ) → IsDue lone (is_virtual m.platform.virt.mode) m.platform.virt.csrs.hideleg hart
     → IsAt part pool m memory
-    → hart_finds (loaded_in part (root_for part pool m.platform.virt) m.platform.virt m.first) memory hart ≡ found_with_code (stages_of m) m lone
+    → hart_finds (loaded_in part (root_for part pool m.platform.virt) m.platform.virt) memory hart ≡ found_with_code (stages_of m) m lone
 found_by_due part pool m memory None hart e at = rw e (found_on_hart part pool m memory at)
 found_by_due part pool m memory (Some code) hart is at = by (is_virtual m.platform.virt.mode) is
   where
     by : (virtual : Bool) → IsDue (Some code) virtual m.platform.virt.csrs.hideleg hart
-        → hart_finds (loaded_in part (root_for part pool m.platform.virt) m.platform.virt m.first) memory hart ≡ []
+        → hart_finds (loaded_in part (root_for part pool m.platform.virt) m.platform.virt) memory hart ≡ []
     by false (e, good) = rw e refl
     by true (e, good) = rw e refl
 
 pub found_is : (part : Layout) (pool : Pooled) (m : Machine) (memory : List ℕ) → host_takes m.platform.virt ≡ false → IsAt part pool m memory
-    → found_at_exit (loaded_in part (root_for part pool m.platform.virt) m.platform.virt m.first) memory ≡ found_next m
+    → found_at_exit (loaded_in part (root_for part pool m.platform.virt) m.platform.virt) memory ≡ found_next m
 unfolding found_by_try found_at_exit
 found_is part pool m memory free at =
     let v = m.platform.virt in found_by_due part pool m memory _ _ (due_alike (root_for part pool v) v.csrs v.mode free) at
@@ -581,16 +597,16 @@ renamed_wanted h virt reading other (At place) host same held (e, in_set, fits) 
 renamed_wanted h virt reading other (Fails failure) host same held e = rw e refl
 
 pub wanted_is : (part : Layout) (pool : Pooled) (m : Machine) (memory : List ℕ) → IsAt part pool m memory
-    → wanted_next (loaded_in part (root_for part pool m.platform.virt) m.platform.virt m.first) memory ≡ data_wanted m
+    → wanted_next (loaded_in part (root_for part pool m.platform.virt) m.platform.virt) memory ≡ data_wanted m
 wanted_is part pool m memory at =
     let root = root_for part pool m.platform.virt in
     let v = hart_state_of root m.platform.virt in
-    let s = loaded_in part root m.platform.virt m.first in
+    let s = loaded_in part root m.platform.virt in
     let seen = view part pool m memory at in
     let place = fetch_place (mmu_of m) v in
     let alike = accessed_alike seen (stages_of m).known (keeps_page m) v.csrs v.mode v.regs.pc Word Fetch in
     ap (λ known. wanted_at (reading_of_memory memory) s.virt (fetch_place (mmu known (second_of_memory s.virt memory) (reading_of_memory memory)) s.virt))
-    (knows_alike root m.platform.virt m.first (tag_of m.platform.virt))
+    (knows_alike root m.platform.virt m.platform.virt.first (tag_of m.platform.virt))
     ∙ renamed_wanted (memory_place part.blocks) v (reading_of (ram_memory m.ram)) (reading_of_memory memory) place _ (read_there place _ alike) (in_ram part.blocks) alike
     ∙ wanted_alike root (mmu_of m) m.platform.virt
   where

@@ -7,10 +7,10 @@ use Rattle.arch_defs.specs.declared.first.FirstEntry.{FirstEntry}
 use Rattle.arch_defs.specs.Registers.{a7, read}
 use Rattle.machine_defs.specs.declared.events.Event.TheVariants.{System}
 use Rattle.guest_specs.specs.declared.statuses.Status.TheVariants.{Running, Waiting}
-use Rattle.machine_defs.specs.Machine.{Machine, Platform, Tried, Ended, WaitsForGood, stepped_to, stopped_if, trapped}
+use Rattle.machine_defs.specs.Machine.{Machine, Platform, Tried, Ended, WaitsForGood, stepped_to, stopped_if, trapped, with_first}
 use Rattle.machine_defs.specs.Runs.{left_after, left_by}
 use Rattle.machine_defs.specs.Tries.{try}
-use Rattle.machine_laws.proofs.TryEnds.{Calls, Fences, Halts, Makes, Passes, Serves, Takes, having}
+use Rattle.machine_laws.proofs.TryEnds.{Calls, Fences, Halts, Makes, Passes, Serves, Takes}
 use Rattle.guest_exit.specs.declared.hart_exit.Handled.{Handled}
 use Rattle.guest_exit.specs.declared.hart_exit.Handled.TheVariants as handled
 use Rattle.guest_exit.specs.HartExit.{status_after}
@@ -25,7 +25,7 @@ runs : (m : Machine) → m.platform.status ≡ Running → m.platform.status ≢
 runs m running = λ e. let never : Running ≡ Waiting = sym running ∙ e in absurd (cc)
 
 stops_if : (m : Machine) (first : List FirstEntry) → m.platform.status ≡ Running → (stops : Bool) (p : Platform) → p.status ≡ m.platform.status
-    → LeavesOther (stepped_to (having m first) (stopped_if stops p) System)
+    → LeavesOther (stepped_to (with_first m first) (stopped_if stops p) System)
 stops_if m first running true p same = λ e. absurd (cc)
 stops_if m first running false p same = rw same (runs m running)
 

@@ -1,6 +1,6 @@
 -- An access to which the second stage gives no place: one to the device page, a fill, or the fault of the walk of the guest's own table.
 use Rattle.std.specs.Prelude.{◌&&◌, nat_lt}
-use Rattle.std.proofs.Common.{cond, ◌≡◌, ℕ, ◌^◌, Bool, true, false, List, Option, Some, None, refl, ap, sym, ◌∙◌, arith}
+use Rattle.std.proofs.Common.{cond, ◌≡◌, ℕ, ◌^◌, ◌<◌, Bool, true, false, List, [], ◌∷◌, length, Option, Some, None, refl, ap, sym, ◌∙◌, arith}
 use Rattle.arch_defs.specs.declared.cached.Entry.{Entry}
 use Rattle.arch_defs.specs.declared.second_walks.SecondWalkEnd.TheVariants.{GuestPageFault}
 use Rattle.arch_defs.specs.declared.modes.Access.{Access}
@@ -14,21 +14,24 @@ use Rattle.arch_defs.specs.CachedEntries.{CanFill}
 use Rattle.arch_defs.specs.Memory.{Memory, ram_memory}
 use Rattle.arch_defs.specs.Ram.{ram_of}
 use Rattle.arch_defs.specs.Roots.{guest_shape, is_table}
+use Rattle.arch_defs.specs.Spaces.{Space, front as spaces_front}
 use Rattle.arch_defs.specs.SecondStage.{guest_page_trap, is_implicit, missing_place_by, missing_place_trap, missing_place_under, second_walk}
 use Rattle.arch_defs.specs.Traps.{is_virtual, missing_place_fault}
 use Rattle.arch_defs.specs.Walk.{guest_bits, end_of, path, walk}
 use Rattle.arch_defs.specs.WalkedEntries.{entry_by_end, entry_by_table, entry_by_walk, folds}
 use Rattle.op_defs.specs.declared.ops.DataAccess.{DataAccess}
 use Rattle.machine_defs.specs.DeviceSteps.{DeviceCompletion, device_wanted, served}
-use Rattle.machine_defs.specs.Fills.{fill, filled_front}
+use Rattle.machine_defs.specs.Fills.{fill, filled_front, missing_entry_at}
 use Rattle.machine_defs.specs.Machine.{Machine, trapped}
 use Rattle.machine_defs.specs.Tries.{device_of, unplaced}
 use Rattle.machine_laws.proofs.Leaves.{fills_can_be_made}
-use Rattle.shadow_pool.specs.Slots.{KeepsPool, spaces_of}
+use Rattle.machine_laws.specs.FrontSpaces.{FrontIs}
+use Rattle.shadow_pool.specs.Slots.{KeepsPool, space_at, spaces_of}
 use Rattle.guest_exit.specs.declared.guests.Guest.{Guest}
 use Rattle.guest_exit.specs.ExitCases.{Missing, entry_for, entry_for_exit}
 use Rattle.guest_exit.specs.Steps.{IsNotPlain}
 use Rattle.guest_exit.specs.View.{IsPlaced, machine_of, platform_of}
+use Rattle.machine_defs.specs.Outcomes.{Missed}
 use Rattle.guest_exit.proofs.Alone.{machine_as}
 use Rattle.guest_exit.proofs.ExitCases.{filled_by}
 use Rattle.guest_exit.proofs.Pools.{ram_by_pool, size_of}
@@ -74,13 +77,32 @@ can_fill old memory missing e at some =
     rw at.own (fills_can_be_made old.device old.virt.csrs (ram_of old.part.blocks memory) old.part.blocks missing.address missing.kind e (size_of old.part memory at.held)
     (filled_by (machine_of old memory) missing e some).walked)
 
+-- it is for the front space
+pub record HasFront (old : Guest) : Type 0 where
+  pub some : 0 < length (spaces_of old.pool)
+  pub first : FrontIs (space_at (spaces_of old.pool) 0).key (spaces_of old.pool)
+
+pub folding_front : (old : Guest) (memory : List ℕ) (missing : MissingPlace) (e : Entry) → IsPlaced old memory
+    → entry_for (machine_of old memory) missing ≡ Some e → HasFront old
+folding_front old memory missing e at some = by (folds old.virt) refl some
+  where
+    front : (spaces : List Space) → FrontIs old.virt.csrs.hgatp spaces → (0 < length spaces) × FrontIs (space_at spaces 0).key spaces
+    front [] is = absurd is
+    front (s ∷ others) is = (omega arith, refl)
+
+    by : (folding : Bool) → folds old.virt ≡ folding
+        → cond folding (missing_entry_at old.device old.virt.csrs (ram_of old.part.blocks memory) (spaces_front (spaces_of old.pool)) (Missed missing None)) None ≡ Some e
+        → HasFront old
+    by true folding some = let both = front (spaces_of old.pool) (at.orderly.front folding) in record { some = both.0; first = both.1 }
+    by false folding some = absurd cc
+
 -- it is filled into the front space
 pub fill_made : (old new : Guest) (memory changed : List ℕ) (missing : MissingPlace) (e : Entry) → IsPlaced old memory
-    → entry_for (machine_of old memory) missing ≡ Some e → new.part ≡ old.part → new.device ≡ old.device → new.first ≡ old.first → KeepsPool old.pool memory new.pool changed
+    → entry_for (machine_of old memory) missing ≡ Some e → new.part ≡ old.part → new.device ≡ old.device → KeepsPool old.pool memory new.pool changed
     → platform_of new ≡ platform_of old → spaces_of new.pool ≡ filled_front old.pool.most (spaces_of old.pool) e
     → (e : Entry) × (entry_for_exit (machine_of old memory) (Missing missing) ≡ Some e) × (machine_of new changed ≡ fill (machine_of old memory) e)
-fill_made old new memory changed missing e at some part device first keeps same are =
-    (e, some, machine_as old new memory changed _ _ _ _ part device same (ram_by_pool old.part old.pool memory changed at.once at.own at.tidy at.held keeps.only) are first keeps.room keeps.most)
+fill_made old new memory changed missing e at some part device keeps same are =
+    (e, some, machine_as old new memory changed _ _ _ part device same (ram_by_pool old.part old.pool memory changed at.once at.own at.tidy at.held keeps.only) are keeps.room keeps.most)
 
 -- an access that is made on the device page lacks nothing
 pub none_on_device : (m : Machine) (missing : MissingPlace) → device_of m missing.address missing.kind ≡ true → entry_for m missing ≡ None

@@ -5,7 +5,7 @@ use Rattle.arch_defs.specs.declared.registers.Virtual.{Virtual}
 use Rattle.arch_defs.specs.Memory.{ram_memory}
 use Rattle.op_defs.specs.declared.ops.DataAccess.{DataAccess}
 use Rattle.machine_defs.specs.Core.{Completion}
-use Rattle.machine_defs.specs.Machine.{Machine, Tried}
+use Rattle.machine_defs.specs.Machine.{Machine, Tried, with_first}
 use Rattle.machine_defs.specs.Outcomes.{Outcome, Done, Trapped, Missed, Called, Waits, Fenced, FirstFenced, Accesses}
 use Rattle.machine_defs.specs.Tries.{fence_under, outcome_under, stages_of, try}
 use Rattle.machine_laws.specs.InstructionEnds.{OutcomeHas}
@@ -27,5 +27,5 @@ any_outcome (Accesses wanted) = tt
 
 pub some_end : (m : Machine) → SomeEnd m (try m) (fence_under (stages_of m) m)
 some_end m = try_end _ _ (λ (wanted : DataAccess). Unit {0}) m (stages_of m)
-    (λ wanted any. hlv_each (λ (completion : Completion). Unit {0}) m.device (ram_memory m.ram) m.platform.virt wanted (λ place. tt))
+    (λ first wanted any. hlv_each (λ (completion : Completion). Unit {0}) m.device (ram_memory m.ram) (with_first m first).platform.virt wanted (λ place. tt))
     (any_outcome (outcome_under (stages_of m) m))

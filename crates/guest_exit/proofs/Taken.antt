@@ -20,7 +20,7 @@ use Rattle.arch_defs.specs.Traps.{entered_at, entered_vs, exception, is_delegate
 use Rattle.arch_defs.proofs.FrameSets.{only_none}
 use Rattle.machine_defs.specs.declared.events.Event.TheVariants as event
 use Rattle.machine_laws.specs.HostPlaces.{in_ram, memory_place}
-use Rattle.machine_defs.specs.Machine.{Machine, Tried, stepped_to, trapped}
+use Rattle.machine_defs.specs.Machine.{Machine, Platform, Tried, stepped_to, trapped, with_registers}
 use Rattle.machine_defs.specs.Tries.{apply_outcome, device_of, mmu_of}
 use Rattle.op_defs.specs.declared.ops.CsrOp.{CsrOp}
 use Rattle.op_defs.specs.declared.ops.Privileged.{Privileged}
@@ -66,8 +66,8 @@ to_host csrs mode trap on e = rw (on, e) refl
 -- what the hart makes of a trap in a part of machine memory
 abbrev pub taken : Layout → GuestRoot → Machine → List FirstEntry → List ℕ → Trap → HartEnd
 taken part root m first memory trap =
-    let v = m.platform.virt in
-    trapped_to (loaded_in part root v first) memory trap (target (hosted_csrs root (is_virtual v.mode) v.csrs) (hosted_mode v.mode) trap)
+    let v : Virtual = record m.platform.virt { first = first } in
+    trapped_to (loaded_in part root v) memory trap (target (hosted_csrs root (is_virtual v.mode) v.csrs) (hosted_mode v.mode) trap)
 
 -- a trap into VS changes nothing that the hart does not have for the guest
 entry_keeps : (root : GuestRoot) (virtual : Bool) (csrs : Csrs) (regs : Regs) (mode : Mode) (trap : Trap)
@@ -93,59 +93,65 @@ entered_held part s trap held = held
 -- an entry into VS that stands for the machine's trap
 entry_made : (part : Layout) {pool : Pooled} (root : GuestRoot) (m : Machine) (first : List FirstEntry) (memory : List ℕ) (trap : Trap) (tried : Tried) (lacks : Option Entry) (interrupt : Bool)
     → IsAt part pool m memory → lacks ≡ None
-    → tried ≡ step_for m (entered_at (hart_state_of root m.platform.virt) trap level.VS) first true m.ram (event.Trap (hosted_level (is_virtual m.platform.virt.mode)) interrupt)
-    → IsMade part root m tried lacks memory (with_virt (loaded_in part root m.platform.virt first) (entered_at (hart_state_in part root m.platform.virt) trap level.VS)) memory
+    → tried ≡ step_for m (entered_at (hart_state_of root (record m.platform.virt { first = first })) trap level.VS) true m.ram (event.Trap (hosted_level (is_virtual m.platform.virt.mode)) interrupt)
+    → IsMade part root m tried lacks memory (with_virt (loaded_in part root (record m.platform.virt { first = first })) (entered_at (hart_state_in part root (record m.platform.virt { first = first })) trap level.VS)) memory
     (event.Trap level.VS interrupt)
 entry_made part root m first memory trap tried lacks interrupt at ready step =
-    let v = m.platform.virt in
+    let v : Virtual = record m.platform.virt { first = first } in
     record {
       own = entered_at (hart_state_of root v) trap level.VS;
       stands = record { state = entered_renamed (memory_place part.blocks) (hart_state_of root v) trap; tag = refl };
       step = rw (← at.ram) step;
       ready = ready;
-      keeps = entered_keeps root v trap;
+      keeps = let keeps = entered_keeps root v trap in record { csrs = keeps.csrs; mode = keeps.mode };
       held = entered_held part (hart_state_of root v) trap at.reserved;
       only = only_none (in_blocks part.blocks) memory;
     }
 
+-- an entry hands first-stage translations through
+pub entered_first : (p : Platform) (trap : Trap) (into : Level) → with_registers p (entered_at p.virt trap into) ≡ record p { virt = entered_at p.virt trap into }
+entered_first p trap level.HS = refl
+entered_first p trap level.VS = refl
+
 -- a trap of the machine by its level, and so with V = 0 into HS, and with V = 1 into VS
 trapped_at : (m : Machine) (trap : Trap) (into : Level) → target m.platform.virt.csrs m.platform.virt.mode trap ≡ into
     → trapped m trap ≡ stepped_to m (record m.platform { virt = entered_at m.platform.virt trap into }) (event.Trap into trap.interrupt)
-trapped_at m trap into e = ap (λ l. stepped_to m (record m.platform { virt = entered_at m.platform.virt trap l }) (event.Trap l trap.interrupt)) e
+trapped_at m trap into e = ap (λ l. stepped_to m (with_registers m.platform (entered_at m.platform.virt trap l)) (event.Trap l trap.interrupt)) e
+    ∙ ap (λ p. stepped_to m p (event.Trap into trap.interrupt)) (entered_first m.platform trap into)
 
 entry_is : (m : Machine) (trap : Trap) (own : Virtual) (virtual : Bool) → is_virtual m.platform.virt.mode ≡ virtual
     → target m.platform.virt.csrs m.platform.virt.mode trap ≡ hosted_level virtual
     → guest_state_after true own m.platform.virt ≡ entered_at m.platform.virt trap (hosted_level virtual)
-    → trapped m trap ≡ step_for m own m.first true m.ram (event.Trap (hosted_level (is_virtual m.platform.virt.mode)) trap.interrupt)
+    → trapped m trap ≡ step_for m own true m.ram (event.Trap (hosted_level (is_virtual m.platform.virt.mode)) trap.interrupt)
 entry_is m trap own virtual is goes same =
     trapped_at m trap (hosted_level virtual) goes
     ∙ ap (λ virt. stepped_to m (record m.platform { virt = virt }) (event.Trap (hosted_level virtual) trap.interrupt)) (sym same)
-    ∙ ap (λ v. step_for m own m.first true m.ram (event.Trap (hosted_level v) trap.interrupt)) (sym is)
+    ∙ ap (λ v. step_for m own true m.ram (event.Trap (hosted_level v) trap.interrupt)) (sym is)
 
 hs_entry : (m : Machine) (trap : Trap) (own : Virtual) → is_virtual m.platform.virt.mode ≡ false → after_hs_trap (guest_state_of own m.platform.virt) ≡ entered_at m.platform.virt trap level.HS
-    → trapped m trap ≡ step_for m own m.first true m.ram (event.Trap (hosted_level (is_virtual m.platform.virt.mode)) trap.interrupt)
+    → trapped m trap ≡ step_for m own true m.ram (event.Trap (hosted_level (is_virtual m.platform.virt.mode)) trap.interrupt)
 hs_entry m trap own is same = entry_is m trap own false is (to_hs m.platform.virt.csrs m.platform.virt.mode trap is) (back_own own m.platform.virt is ∙ same)
 
 vs_entry : (m : Machine) (trap : Trap) (own : Virtual) → is_virtual m.platform.virt.mode ≡ true → is_delegated m.platform.virt.csrs trap.interrupt trap.cause ≡ true
     → guest_state_of own m.platform.virt ≡ entered_at m.platform.virt trap level.VS
-    → trapped m trap ≡ step_for m own m.first true m.ram (event.Trap (hosted_level (is_virtual m.platform.virt.mode)) trap.interrupt)
+    → trapped m trap ≡ step_for m own true m.ram (event.Trap (hosted_level (is_virtual m.platform.virt.mode)) trap.interrupt)
 vs_entry m trap own on given same = entry_is m trap own true on (to_vs m.platform.virt.csrs m.platform.virt.mode trap on given) (back_nested own m.platform.virt on ∙ same)
 
 -- an interrupt that both take, by the guest's V
 own_interrupt : (part : Layout) {pool : Pooled} (root : GuestRoot) (m : Machine) (memory : List ℕ) (found : List FirstEntry) (lacks : Option Entry) (code : ℕ) → is_virtual m.platform.virt.mode ≡ false → vs_bit all_interrupts (code + 1) ≡ true
-    → IsAt part pool m memory → lacks ≡ None → FollowsTry part root m found (trapped m (interrupt_of code)) lacks memory (taken part root m m.first memory (interrupt_of (code + 1)))
+    → IsAt part pool m memory → lacks ≡ None → FollowsTry part root m found (trapped m (interrupt_of code)) lacks memory (taken part root m m.platform.virt.first memory (interrupt_of (code + 1)))
 own_interrupt part root m memory found lacks code own e at ready =
     let v = m.platform.virt in
     rw (to_vs (hosted_csrs root (is_virtual v.mode) v.csrs) (hosted_mode v.mode) (interrupt_of (code + 1)) (virtual_mode v.mode) (rw own e))
-    (entry_made part root m m.first memory (interrupt_of (code + 1)) _ lacks true at ready
+    (entry_made part root m m.platform.virt.first memory (interrupt_of (code + 1)) _ lacks true at ready
     (hs_entry m (interrupt_of code) (entered_at (hart_state_of root v) (interrupt_of (code + 1)) level.VS) own (interrupt_taken root v code own)))
 
 nested_interrupt : (part : Layout) {pool : Pooled} (root : GuestRoot) (m : Machine) (memory : List ℕ) (found : List FirstEntry) (lacks : Option Entry) (code : ℕ) → is_virtual m.platform.virt.mode ≡ true → vs_bit m.platform.virt.csrs.hideleg code ≡ true
-    → IsAt part pool m memory → lacks ≡ None → FollowsTry part root m found (trapped m (interrupt_of code)) lacks memory (taken part root m m.first memory (interrupt_of code))
+    → IsAt part pool m memory → lacks ≡ None → FollowsTry part root m found (trapped m (interrupt_of code)) lacks memory (taken part root m m.platform.virt.first memory (interrupt_of code))
 nested_interrupt part root m memory found lacks code on e at ready =
     let v = m.platform.virt in
     rw (to_vs (hosted_csrs root (is_virtual v.mode) v.csrs) (hosted_mode v.mode) (interrupt_of code) (virtual_mode v.mode) (rw on e))
-    (entry_made part root m m.first memory (interrupt_of code) _ lacks true at ready
+    (entry_made part root m m.platform.virt.first memory (interrupt_of code) _ lacks true at ready
     (vs_entry m (interrupt_of code) (entered_at (hart_state_of root v) (interrupt_of code) level.VS) on e (nested_trap_taken root v (interrupt_of code) on)))
 
 none_filled : (first : List FirstEntry) → all_filled first [] ≡ first
@@ -154,10 +160,10 @@ none_filled first = refl
 
 pub interrupt_follows : (part : Layout) {pool : Pooled} (root : GuestRoot) (m : Machine) (memory : List ℕ) (found : List FirstEntry) (lacks : Option Entry) (code : ℕ) (hart : Option ℕ) (virtual : Bool) → is_virtual m.platform.virt.mode ≡ virtual
     → IsDue (Some code) virtual m.platform.virt.csrs.hideleg hart → IsAt part pool m memory → lacks ≡ None
-    → FollowsTry part root m found (trapped m (interrupt_of code)) lacks memory (end_by (with_first (loaded_in part root m.platform.virt m.first) (found_by_attempt (loaded_in part root m.platform.virt m.first) memory hart)) memory
-    (next_attempt (loaded_in part root m.platform.virt m.first) memory hart))
-interrupt_follows part root m memory found lacks code hart false own (e, good) at ready = rw (e, none_filled m.first) (own_interrupt part root m memory found lacks code own good at ready)
-interrupt_follows part root m memory found lacks code hart true on (e, good) at ready = rw (e, none_filled m.first) (nested_interrupt part root m memory found lacks code on good at ready)
+    → FollowsTry part root m found (trapped m (interrupt_of code)) lacks memory (end_by (with_first (loaded_in part root m.platform.virt) (found_by_attempt (loaded_in part root m.platform.virt) memory hart)) memory
+    (next_attempt (loaded_in part root m.platform.virt) memory hart))
+interrupt_follows part root m memory found lacks code hart false own (e, good) at ready = rw (e, none_filled m.platform.virt.first) (own_interrupt part root m memory found lacks code own good at ready)
+interrupt_follows part root m memory found lacks code hart true on (e, good) at ready = rw (e, none_filled m.platform.virt.first) (nested_interrupt part root m memory found lacks code on good at ready)
 
 -- the hart delegates a guest's own exception with V = 0, and with V = 1 where the guest does
 given_own : (root : GuestRoot) (csrs : Csrs) (cause : ℕ) → IsOwn cause → is_delegated (hosted_csrs root false csrs) false cause ≡ true
@@ -175,12 +181,12 @@ raised m found lacks trap ready on other fault =
 -- an exception that the guest takes, by its V and by whether it delegates it
 own_exception : (part : Layout) {pool : Pooled} (root : GuestRoot) (m : Machine) (memory : List ℕ) (found : List FirstEntry) (lacks : Option Entry) (cause tval : ℕ) → is_virtual m.platform.virt.mode ≡ false → IsOwn cause → IsAt part pool m memory → lacks ≡ None
     → FollowsTry part root m found (trapped (having_found found m) (exception m.platform.virt.mode cause tval)) lacks memory
-    (taken part root m (all_filled m.first found) memory (exception (hosted_mode m.platform.virt.mode) cause tval))
+    (taken part root m (all_filled m.platform.virt.first found) memory (exception (hosted_mode m.platform.virt.mode) cause tval))
 own_exception part root m memory found lacks cause tval own good at ready =
-    let v = m.platform.virt in
+    let v = (having_found found m).platform.virt in
     let trap = exception (hosted_mode v.mode) cause tval in
     rw (to_vs (hosted_csrs root (is_virtual v.mode) v.csrs) (hosted_mode v.mode) trap (virtual_mode v.mode) (rw own (given_own root v.csrs cause good)))
-    (entry_made part root m (all_filled m.first found) memory trap _ lacks false at ready
+    (entry_made part root m (all_filled m.platform.virt.first found) memory trap _ lacks false at ready
     (hs_entry (having_found found m) (exception v.mode cause tval) (entered_at (hart_state_of root v) trap level.VS) own (exception_taken root v cause tval own)))
 
 pub hosted_here : (mode : Mode) → is_virtual mode ≡ true → hosted_mode mode ≡ mode
@@ -192,14 +198,14 @@ hosted_here VU on = refl
 nested_exception : (part : Layout) {pool : Pooled} (root : GuestRoot) (m : Machine) (memory : List ℕ) (found : List FirstEntry) (lacks : Option Entry) (cause tval : ℕ) → is_virtual m.platform.virt.mode ≡ true → IsOwn cause
     → IsAt part pool m memory → lacks ≡ None → (given : Bool) → is_delegated m.platform.virt.csrs false cause ≡ given
     → FollowsTry part root m found (trapped (having_found found m) (exception m.platform.virt.mode cause tval)) lacks memory
-    (taken part root m (all_filled m.first found) memory (exception (hosted_mode m.platform.virt.mode) cause tval))
+    (taken part root m (all_filled m.platform.virt.first found) memory (exception (hosted_mode m.platform.virt.mode) cause tval))
 nested_exception part root m memory found lacks cause tval on good at ready true given =
-    let v = m.platform.virt in
+    let v = (having_found found m).platform.virt in
     let trap = exception (hosted_mode v.mode) cause tval in
     let here : trap ≡ exception v.mode cause tval = ap (λ mode. exception mode cause tval) (hosted_here v.mode on) in
     rw (to_vs (hosted_csrs root (is_virtual v.mode) v.csrs) (hosted_mode v.mode) trap (virtual_mode v.mode) (rw on (given_alike root v.csrs cause good ∙ given)))
-    (entry_made part root m (all_filled m.first found) memory trap _ lacks false at ready
-    (subst (λ t. trapped (having_found found m) t ≡ step_for m (entered_at (hart_state_of root v) trap level.VS) (all_filled m.first found) true m.ram (event.Trap (hosted_level (is_virtual v.mode)) false)) here
+    (entry_made part root m (all_filled m.platform.virt.first found) memory trap _ lacks false at ready
+    (subst (λ t. trapped (having_found found m) t ≡ step_for m (entered_at (hart_state_of root v) trap level.VS) true m.ram (event.Trap (hosted_level (is_virtual v.mode)) false)) here
     (vs_entry (having_found found m) trap (entered_at (hart_state_of root v) trap level.VS) on given (nested_trap_taken root v trap on))))
 nested_exception part root m memory found lacks cause tval on good at ready false given =
     let v = m.platform.virt in
@@ -210,13 +216,13 @@ nested_exception part root m memory found lacks cause tval on good at ready fals
 
 exception_by : (part : Layout) {pool : Pooled} (root : GuestRoot) (m : Machine) (memory : List ℕ) (found : List FirstEntry) (lacks : Option Entry) (cause tval : ℕ) → IsOwn cause → IsAt part pool m memory → lacks ≡ None → (virtual : Bool) → is_virtual m.platform.virt.mode ≡ virtual
     → FollowsTry part root m found (trapped (having_found found m) (exception m.platform.virt.mode cause tval)) lacks memory
-    (taken part root m (all_filled m.first found) memory (exception (hosted_mode m.platform.virt.mode) cause tval))
+    (taken part root m (all_filled m.platform.virt.first found) memory (exception (hosted_mode m.platform.virt.mode) cause tval))
 exception_by part root m memory found lacks cause tval good at ready false own = own_exception part root m memory found lacks cause tval own good at ready
 exception_by part root m memory found lacks cause tval good at ready true on = nested_exception part root m memory found lacks cause tval on good at ready (is_delegated m.platform.virt.csrs false cause) refl
 
 pub exception_follows : (part : Layout) {pool : Pooled} (root : GuestRoot) (m : Machine) (memory : List ℕ) (found : List FirstEntry) (lacks : Option Entry) (cause tval : ℕ) → IsOwn cause → IsAt part pool m memory → lacks ≡ None
     → FollowsTry part root m found (trapped (having_found found m) (exception m.platform.virt.mode cause tval)) lacks memory
-    (taken part root m (all_filled m.first found) memory (exception (hosted_mode m.platform.virt.mode) cause tval))
+    (taken part root m (all_filled m.platform.virt.first found) memory (exception (hosted_mode m.platform.virt.mode) cause tval))
 exception_follows part root m memory found lacks cause tval good at ready = exception_by part root m memory found lacks cause tval good at ready (is_virtual m.platform.virt.mode) refl
 
 -- an access fault is the guest's own
@@ -239,7 +245,7 @@ kept_22 root true csrs = never_22 csrs.hedeleg
 -- a trap of an instruction on the hart
 pub trap_follows : (part : Layout) {pool : Pooled} (root : GuestRoot) (m : Machine) (memory : List ℕ) (found : List FirstEntry) (lacks : Option Entry) (lone : Outcome) (trap : Trap)
     → IsAt part pool m memory → lacks ≡ None → Traps m.platform.virt lone trap
-    → FollowsTry part root m found (apply_outcome (device_of m) (having_found found m) lone) lacks memory (taken part root m (all_filled m.first found) memory trap)
+    → FollowsTry part root m found (apply_outcome (device_of m) (having_found found m) lone) lacks memory (taken part root m (all_filled m.platform.virt.first found) memory trap)
 trap_follows part root m memory found lacks lone trap at ready (Own cause tval is e good) = rw (is, e) (exception_follows part root m memory found lacks cause tval good at ready)
 trap_follows part root m memory found lacks lone trap at ready (Call own is e) =
     let v = m.platform.virt in
@@ -259,9 +265,9 @@ trap_follows part root m memory found lacks lone trap at ready (Left tval is sma
     (ap (apply_outcome (device_of m) (having_found found m)) (f ∙ ends_as (mmu_of m) v tval p i small)) ready)
 
 -- the hart leaves a WFI and a read of time to the host
-exits_at : (part : Layout) (root : GuestRoot) (v : Virtual) (first : List FirstEntry) (memory : List ℕ) (word : ℕ) (effect : Privileged)
-    → privileged (hart_state_in part root v) word effect ≡ Trapped (exception (hosted_mode v.mode) VIRTUAL_INSTRUCTION word) → ExitsAt part root v first memory word effect
-exits_at part root v first memory word effect is =
+exits_at : (part : Layout) (root : GuestRoot) (v : Virtual) (memory : List ℕ) (word : ℕ) (effect : Privileged)
+    → privileged (hart_state_in part root v) word effect ≡ Trapped (exception (hosted_mode v.mode) VIRTUAL_INSTRUCTION word) → ExitsAt part root v memory word effect
+exits_at part root v memory word effect is =
     rw (
       is,
       to_host (hosted_csrs root (is_virtual v.mode) v.csrs) (hosted_mode v.mode) (exception (hosted_mode v.mode) VIRTUAL_INSTRUCTION word) (virtual_mode v.mode)
@@ -277,7 +283,7 @@ wait_is_left part root v word VS = refl
 wait_is_left part root v word VU = refl
 
 pub waits_exit : WaitsExit
-waits_exit = λ part root v first memory word. exits_at part root v first memory word Wfi (wait_is_left part root v word v.mode)
+waits_exit = λ part root v memory word. exits_at part root v memory word Wfi (wait_is_left part root v word v.mode)
 
 time_is_left_to_host : (part : Layout) (root : GuestRoot) (v : Virtual) (word : ℕ) (op : CsrOp) (operand rd : ℕ)
     → privileged (hart_state_in part root v) word (Csr op 0xC01 operand false rd) ≡ Trapped (exception (hosted_mode v.mode) VIRTUAL_INSTRUCTION word)
@@ -285,4 +291,4 @@ unfolding privileged refusal
 time_is_left_to_host part root v word op operand rd = rw (time_is_left root v.csrs v.mode) refl
 
 pub time_exits : TimeExits
-time_exits = λ part root v first memory word op operand rd. exits_at part root v first memory word (Csr op 0xC01 operand false rd) (time_is_left_to_host part root v word op operand rd)
+time_exits = λ part root v memory word op operand rd. exits_at part root v memory word (Csr op 0xC01 operand false rd) (time_is_left_to_host part root v word op operand rd)

@@ -17,7 +17,7 @@ use Rattle.op_defs.specs.Table.{op_of}
 use Rattle.machine_defs.specs.declared.events.Event.TheVariants.{System}
 use Rattle.machine_defs.specs.Core.{decoded, fetch_place}
 use Rattle.machine_defs.specs.Fills.{missing_entry_at}
-use Rattle.machine_defs.specs.Machine.{Machine, Tried, called, stepped_to, trapped}
+use Rattle.machine_defs.specs.Machine.{Machine, Tried, called, stepped_to, trapped, with_first}
 use Rattle.machine_defs.specs.Outcomes.{Missed, Outcome}
 use Rattle.machine_defs.specs.Tries.{apply_outcome, device_of, found_by_try, mmu_of, stages_of, unplaced}
 use Rattle.machine_laws.specs.MissedPlaces.{told_place, wanted_at}
@@ -94,7 +94,7 @@ abbrev pub found_next : Machine → List FirstEntry
 found_next m = found_by_try (stages_of m) m
 
 abbrev pub having_found : List FirstEntry → Machine → Machine
-having_found found m = record m { first = all_filled m.first found }
+having_found found m = with_first m (all_filled m.platform.virt.first found)
 
 -- how the instruction of this op ends, with the op's own word, in the guest's own mode
 abbrev pub decided_end : Machine → Op → Outcome
@@ -115,7 +115,7 @@ abbrev pub try_at : List FirstEntry → Machine → Exit → Tried
 try_at found m (Instruction op) = try_decided found m op
 try_at found m (Missing missing) =
     unplaced (having_found found m) missing (data_wanted m) (device_of m missing.address missing.kind)
-try_at found m Call = stepped_to (having_found found m) (called m.platform) System
+try_at found m Call = let left = having_found found m in stepped_to left (called left.platform) System
 try_at found m (Own trap) = trapped (having_found found m) trap
 
 -- the cached translation that a machine lacks whose access has no place: where it folds, what the walk of the

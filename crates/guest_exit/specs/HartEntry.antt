@@ -1,5 +1,5 @@
 -- One entry of the hart: for how many steps, what it makes of the guest, and why it ends.
-use Rattle.std.specs.Prelude.{ℕ, ◌≡◌, ◌+◌, ◌-◌, ◌^◌, ◌<◌, ◌≤◌, nat_le, Bool, false, true, not, List, [], ◌∷◌, Some}
+use Rattle.std.specs.Prelude.{ℕ, ◌≡◌, ◌+◌, ◌-◌, ◌^◌, ◌<◌, ◌≤◌, nat_le, Bool, false, not, ◌&&◌, if◌then◌else◌, List, [], ◌∷◌, Some}
 use Rattle.arch_defs.specs.declared.levels.Level.TheVariants.{HS}
 use Rattle.arch_defs.specs.declared.modes.Trap.{Trap}
 use Rattle.arch_defs.specs.declared.registers.Virtual.{Virtual}
@@ -9,18 +9,16 @@ use Rattle.arch_defs.specs.Layouts.{Layout}
 use Rattle.arch_defs.specs.Traps.{is_virtual}
 use Rattle.machine_defs.specs.declared.events.Event.TheVariants as event
 use Rattle.guest_specs.specs.declared.statuses.Status.TheVariants.{Running}
-use Rattle.machine_laws.specs.HostPlaces.{in_ram, memory_place}
 use Rattle.machine_defs.specs.Machine.{Machine, Platform, with_pending_lines}
 use Rattle.machine_defs.specs.Runs.{event_in, run}
 use Rattle.machine_defs.specs.Tries.{try}
-use Rattle.machine_laws.specs.Renaming.{ReservesWithin, renamed}
 use Rattle.rv64_hart.specs.declared.harts.Stop.{Stop}
 use Rattle.rv64_hart.specs.declared.harts.Why.{Why}
 use Rattle.rv64_hart.specs.declared.harts.Why.TheVariants.{Limit, Exit, VsTrap}
 use Rattle.rv64_hart.specs.Counts.{Counts, IsRaisedBy}
 use Rattle.rv64_hart.specs.Steps.{Exits, Progress, hart_step, hart_steps, progress}
 use Rattle.shadow_pool.specs.Slots.{Pooled}
-use Rattle.world_switch.specs.Hosting.{HasState, guest_state_after, loaded_in}
+use Rattle.world_switch.specs.Hosting.{after_hs_trap, loaded_in, saved_in}
 use Rattle.world_switch.specs.Laws.{waits_for_hs}
 use Rattle.guest_exit.specs.declared.guests.Guest.{Guest}
 use Rattle.guest_exit.specs.HartSteps.{host_takes, root_for}
@@ -53,17 +51,6 @@ pub record HasRoomForEntry (limit : ℕ) (account : Counts) : Type 0 where
   pub entries : account.entries < 2 ^ 62
   pub taken : account.taken + limit ≤ 2 ^ 62
 
--- where a guest is loaded, the hart has its state
-abbrev pub IsLoaded : Bool → Guest → Virtual → Type 0
-IsLoaded loaded guest hart = loaded ≡ true → HasState guest.part hart guest.virt
-
--- the hart is ready for an entry of so many steps of a guest: its account has room for it, and it has the
--- guest's state where the guest is loaded
-pub record IsHartReady (guest : Guest) (limit : ℕ) (loaded : Bool) (hart : Virtual) (account : Counts)
-    : Type 0 where
-  pub room : HasRoomForEntry limit account
-  pub state : IsLoaded loaded guest hart
-
 -- a platform after so many steps of the hart, which leave it this state
 abbrev pub moved : Platform → Virtual → ℕ → Platform
 moved p virt n =
@@ -71,25 +58,19 @@ moved p virt n =
     with_pending_lines (record p { virt = virt; clock = clock; steps = p.steps + n })
 
 -- what the guest that has this part has after the hart has run, by whether its last step was a trap into VS:
--- what the same hart gives it with its reservation, if it has one, at the guest's own address
-abbrev pub TakesBack : Layout → Virtual → Bool → Virtual → Virtual → Type 0
-TakesBack part hart trapped before after =
-    (own : Virtual) → ReservesWithin (in_ram part.blocks) own.reservation
-    → hart ≡ renamed (memory_place part.blocks) own → after ≡ guest_state_after trapped own before
-
--- the platform after so many steps of the hart in a part of machine memory, by the hart's state after them
-abbrev pub GivesSteps : Layout → Platform → Virtual → Bool → ℕ → Platform → Type 0
-GivesSteps part before hart trapped taken after =
-    (own : Virtual) → ReservesWithin (in_ram part.blocks) own.reservation
-    → hart ≡ renamed (memory_place part.blocks) own
-    → after ≡ moved before (guest_state_after trapped own before.virt) taken
+-- what is saved of the hart, and after such a trap with V = 0, which stands for one into HS, what that sets
+-- beside
+abbrev pub taken_back : Layout → Virtual → Bool → Virtual → Virtual
+taken_back part hart trapped before =
+    if trapped && not (is_virtual before.mode) then after_hs_trap (saved_in part hart before)
+    else saved_in part hart before
 
 -- the hart, in a part of machine memory, leaves the machine's next step to the host
 pub record Hands (part : Layout) (pool : Pooled) (m : Machine) (memory : List ℕ) (trap : Trap)
     : Type 0 where
   pub own : host_takes m.platform.virt ≡ false
   pub exits :
-      hart_step (loaded_in part (root_for part pool m.platform.virt) m.platform.virt m.first) memory
+      hart_step (loaded_in part (root_for part pool m.platform.virt) m.platform.virt) memory
       ≡ Exits trap
 
 -- the hart stops after a trap into VS that stands for one into the guest's HS with V = 0, which the host has
@@ -103,31 +84,29 @@ pub record EndsInTrap (m : Machine) (n : ℕ) : Type 0 where
   pub some : 0 < n
   pub trap : (interrupt : Bool) × (event_in (try (run m (n - 1))) ≡ event.Trap HS interrupt ∷ [])
 
--- why an entry ended, by the machine before it, and the machine, the memory and the hart after it: before a
--- step that is left to the host the hart has the machine's state
-abbrev pub IsStopped : Layout → Pooled → Machine → Machine → List ℕ → Virtual → ℕ → ℕ → Why → Type 0
-IsStopped part pool before after memory hart limit taken Limit = taken ≡ limit
-IsStopped part pool before after memory hart limit taken VsTrap = EndsInTrap before taken
-IsStopped part pool before after memory hart limit taken (Exit trap) =
-    (taken < limit) × Hands part pool after memory trap × HasState part hart after.platform.virt
+-- why an entry ended, by the machine before it, and the machine and the memory after it
+abbrev pub IsStopped : Layout → Pooled → Machine → Machine → List ℕ → ℕ → ℕ → Why → Type 0
+IsStopped part pool before after memory limit taken Limit = taken ≡ limit
+IsStopped part pool before after memory limit taken VsTrap = EndsInTrap before taken
+IsStopped part pool before after memory limit taken (Exit trap) =
+    (taken < limit) × Hands part pool after memory trap
 
--- an entry in a part of machine memory ends within its limit, by the machine before it, and the machine, the
--- memory and the hart after it
-pub record Stops (part : Layout) (pool : Pooled) (before after : Machine) (memory : List ℕ) (hart : Virtual)
-    (limit : ℕ) (stop : Stop) : Type 0 where
+-- an entry in a part of machine memory ends within its limit, by the machine before it, and the machine and
+-- the memory after it
+pub record Stops (part : Layout) (pool : Pooled) (before after : Machine) (memory : List ℕ) (limit : ℕ)
+    (stop : Stop) : Type 0 where
   pub within : stop.taken ≤ limit
-  pub why : IsStopped part pool before after memory hart limit stop.taken stop.why
+  pub why : IsStopped part pool before after memory limit stop.taken stop.why
 
 -- the hart has made so many steps for a guest, from what it has for it, with V = 0 none but the last a trap
 -- into VS. What it has then is the guest's: what is saved of it and, after such a trap, what that leaves to
--- the host; and its first-stage translations
+-- the host
 pub record HartMakes (n : ℕ) (before after : Guest) (memory : List ℕ) (trace : ℕ) (made : Progress)
     : Type 0 where
   pub steps : hart_steps (is_watched before.virt) n (progress (loaded_for before) memory trace false)
       ≡ Some made
-  pub saves :
-      GivesSteps before.part (platform_of before) made.state.virt made.trapped n (platform_of after)
-  pub first : after.first ≡ made.state.first
+  pub saves : platform_of after
+      ≡ moved (platform_of before) (taken_back before.part made.state.virt made.trapped before.virt) n
 
 -- the hart's account of one entry: so many steps, of so much pc and word
 pub record IsAccounted (steps sum : ℕ) (before after : Counts) : Type 0 where

@@ -98,17 +98,18 @@ abbrev pub with_pc : Guest → ℕ → Guest
 with_pc guest pc = with_state guest (record guest.virt { regs = record guest.virt.regs { pc = pc } })
 
 -- an instruction, after which the guest has its state, is made for good: its machine before it had another
--- state, with this V
+-- state, with this V and the same first-stage translations
 abbrev pub IsFinished : Bool → Guest → List ℕ → Guest → List ℕ → Type 0
 IsFinished nested guest memory after changed =
-    (before : Virtual) → is_virtual before.mode ≡ nested
+    (before : Virtual) → is_virtual before.mode ≡ nested → before.first ≡ guest.virt.first
     → machine_of after changed ≡ left_by (machine_of (with_state guest before) memory)
     (committed (machine_of (with_state guest before) memory) guest.virt None System)
 
 -- so is a fence that names these cached translations
 abbrev pub IsFenced : Fence → Guest → List ℕ → Guest → List ℕ → Type 0
 IsFenced named guest memory after changed =
-    (before : Virtual) → let m = machine_of (with_state guest before) memory in
+    (before : Virtual) → before.first ≡ guest.virt.first
+    → let m = machine_of (with_state guest before) memory in
     machine_of after changed ≡ left_by m (apply_outcome (device_of m) m (Fenced guest.virt named))
 
 -- an instruction on which the mode decides, and whose fields fit

@@ -70,11 +70,11 @@ pub record KeepsHart (root : GuestRoot) (before hart : Virtual) : Type 0 where
   pub csrs : KeepsHidden root (is_virtual before.mode) before.csrs hart.csrs
   pub mode : is_virtual hart.mode ≡ true
 
--- the step of the machine that a step of the hart is, with the first-stage translations that it leaves
-abbrev pub step_for : Machine → Virtual → List FirstEntry → Bool → List ℕ → Event → Tried
-step_for m hart first trapped memory event =
+-- the step of the machine that a step of the hart is
+abbrev pub step_for : Machine → Virtual → Bool → List ℕ → Event → Tried
+step_for m hart trapped memory event =
     let platform = record m.platform { virt = guest_state_after trapped hart m.platform.virt } in
-    stepped_to (record m { ram = memory; first = first }) platform event
+    stepped_to (record m { ram = memory }) platform event
 
 -- what the hart has stands for a guest: its state is this one, with its reservation's place in memory, and
 -- the accesses are for whom the guest's are
@@ -83,13 +83,13 @@ pub record IsOf (part : Layout) (virt own : Virtual) (hart : HartState) : Type 0
   pub tag : hart.tag ≡ tag_of virt
 
 -- a step that the hart has made in a part of machine memory is the machine's, which lacks nothing: what the
--- hart has stands for the machine after it, whose first-stage translations are the hart's
+-- hart has stands for the machine after it
 pub record IsMade (part : Layout) (root : GuestRoot) (m : Machine) (tried : Tried) (lacks : Option Entry)
     (memory : List ℕ) (hart : HartState) (changed : List ℕ) (event : Event) : Type 0 where
   pub own : Virtual
   pub stands : IsOf part m.platform.virt own hart
   pub step : tried
-      ≡ step_for m own hart.first (enters_vs event) (ram_of part.blocks changed)
+      ≡ step_for m own (enters_vs event) (ram_of part.blocks changed)
       (event_for (is_virtual m.platform.virt.mode) event)
   pub ready : lacks ≡ None
   pub keeps : KeepsHart root m.platform.virt own
@@ -134,23 +134,22 @@ StepsFollow =
     (part : Layout) (pool : Pooled) (m : Machine) (memory : List ℕ)
     → host_takes m.platform.virt ≡ false → IsAt part pool m memory
     → Follows part (root_for part pool m.platform.virt) m memory
-    (hart_step (loaded_in part (root_for part pool m.platform.virt) m.platform.virt m.first) memory)
+    (hart_step (loaded_in part (root_for part pool m.platform.virt) m.platform.virt) memory)
 
 -- the hart, loaded for a guest, exits at an instruction that the mode decides on, with its word
-abbrev pub ExitsAt : Layout → GuestRoot → Virtual → List FirstEntry → List ℕ → ℕ → Privileged → Type 0
-ExitsAt part root virt first memory word effect =
-    let hart = loaded_in part root virt first in
+abbrev pub ExitsAt : Layout → GuestRoot → Virtual → List ℕ → ℕ → Privileged → Type 0
+ExitsAt part root virt memory word effect =
+    let hart = loaded_in part root virt in
     end_by hart memory (attempt_of hart memory (privileged hart.virt word effect))
     ≡ Exits (exception hart.virt.mode VIRTUAL_INSTRUCTION word)
 
 -- so it does at a WFI, and at a read of time, whatever the guest's mode and registers are
 abbrev pub WaitsExit : Type 0
 WaitsExit =
-    (part : Layout) (root : GuestRoot) (virt : Virtual) (first : List FirstEntry) (memory : List ℕ)
-    (word : ℕ) → ExitsAt part root virt first memory word Wfi
+    (part : Layout) (root : GuestRoot) (virt : Virtual) (memory : List ℕ) (word : ℕ)
+    → ExitsAt part root virt memory word Wfi
 
 abbrev pub TimeExits : Type 0
 TimeExits =
-    (part : Layout) (root : GuestRoot) (virt : Virtual) (first : List FirstEntry) (memory : List ℕ)
-    (word : ℕ) (op : CsrOp) (operand rd : ℕ)
-    → ExitsAt part root virt first memory word (Csr op 0xC01 operand false rd)
+    (part : Layout) (root : GuestRoot) (virt : Virtual) (memory : List ℕ) (word : ℕ)
+    (op : CsrOp) (operand rd : ℕ) → ExitsAt part root virt memory word (Csr op 0xC01 operand false rd)

@@ -19,13 +19,12 @@ platform_of guest = record {
   status = guest.status;
 }
 
--- the lone machine, whose spaces are those of the pool, and whose first-stage translations those of the guest
+-- the lone machine, whose spaces are those of the pool
 abbrev pub machine_of : Guest → List ℕ → Machine
 machine_of guest memory = record {
   platform = platform_of guest;
   ram = ram_of guest.part.blocks memory;
   spaces = spaces_of guest.pool;
-  first = guest.first;
   space_room = room_of guest.pool;
   entry_room = guest.pool.most;
   device = guest.device;
@@ -33,8 +32,7 @@ machine_of guest memory = record {
 
 -- what the hart has for it
 abbrev pub loaded_for : Guest → HartState
-loaded_for guest =
-    loaded_in guest.part (root_for guest.part guest.pool guest.virt) guest.virt guest.first
+loaded_for guest = loaded_in guest.part (root_for guest.part guest.pool guest.virt) guest.virt
 
 -- the frames of machine memory that its steps may change: those of its blocks and of its spaces' tables
 abbrev pub changed_by : Guest → Frames
@@ -53,13 +51,6 @@ pub record KeepsSpaces (before after : Guest) : Type 0 where
   pub part : after.part ≡ before.part
   pub device : after.device ≡ before.device
   pub pool : after.pool ≡ before.pool
-
--- or one that leaves all cached translations alone
-pub record KeepsCached (before after : Guest) : Type 0 where
-  pub part : after.part ≡ before.part
-  pub device : after.device ≡ before.device
-  pub pool : after.pool ≡ before.pool
-  pub first : after.first ≡ before.first
 
 -- machine memory holds the guest's part, with its host table and the tables of its spaces, and the guest's
 -- registers hold what they can store

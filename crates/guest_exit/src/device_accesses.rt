@@ -6,7 +6,7 @@ ghost use Rattle.machine_defs.specs.DeviceSteps.{device_step, on_device};
 ghost use Rattle.guest_exit.specs.ExitCases.{data_wanted, having_found};
 ghost use Rattle.guest_exit.specs.HartExit.{CanGoOn, IsTold};
 ghost use Rattle.guest_exit.specs.Steps.{CanStep, Makes};
-ghost use Rattle.guest_exit.specs.View.{KeepsCached, KeepsSpaces, machine_of};
+ghost use Rattle.guest_exit.specs.View.{KeepsSpaces, machine_of};
 
 use crate::found_leaves::FoundLeaves;
 use crate::guests::Guest;
@@ -16,7 +16,6 @@ use arch_defs::{Access, MissingPlace};
 use op_defs::DataAccess;
 use phys_mem::PhysMem;
 use rv64_hart::wanted_at;
-use world_switch::tag_of;
 
 /// Makes the access of the guest's next instruction to the device page, which finds these first-stage
 /// translations. The read of an entry there, and an access that the page does not serve, are access faults.
@@ -34,7 +33,7 @@ pub(crate) fn access_device(
     ensures keeps { KeepsSpaces guest.old guest.new }
 {
     let wanted = wanted(guest, memory);
-    found.fill(&mut guest.first);
+    found.fill(&mut guest.virt.first);
     if is_implicit(missing.kind) {
         return raise(guest, &missing.access_fault());
     }
@@ -57,8 +56,7 @@ fn wanted(guest: &Guest, memory: &PhysMem) -> Option<DataAccess>
     ensures { result ≡ data_wanted (machine_of guest.now memory.now) }
 {
     let hart = hart_state_for(guest);
-    let tag = tag_of(&guest.virt);
-    wanted_at(&hart, &guest.first, &tag, memory)
+    wanted_at(&hart, memory)
 }
 
 // An access to data on the page.
@@ -68,7 +66,7 @@ fn serve(guest: &mut Guest, missing: &MissingPlace, wanted: &DataAccess) -> Hand
         (λ m. device_step m missing.now wanted.now.width wanted.now.purpose) }
     ensures told { IsTold result guest.old guest.new }
     ensures went { result ≡ Handled.Stepped }
-    ensures keeps { KeepsCached guest.old guest.new }
+    ensures keeps { KeepsSpaces guest.old guest.new }
 {
     let clock = guest.clock.now();
     let offset = missing.address % 4096;

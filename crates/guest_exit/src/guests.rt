@@ -6,11 +6,10 @@ ghost use Rattle.arch_defs.specs.Clocks.{next_event};
 ghost use Rattle.arch_defs.specs.Traps.{is_virtual};
 ghost use Rattle.arch_defs.specs.WalkedEntries.{folds};
 ghost use Rattle.machine_defs.specs.Machine.{made_by, ticked, with_pending_lines};
-ghost use Rattle.world_switch.specs.Hosting.{with_buffer};
-ghost use Rattle.guest_exit.specs.HartEntry.{GivesSteps, TakesBack};
-ghost use Rattle.guest_exit.specs.View.{KeepsCached, KeepsSpaces, platform_of};
+ghost use Rattle.guest_exit.specs.HartEntry.{moved, taken_back};
+ghost use Rattle.guest_exit.specs.View.{KeepsSpaces, platform_of};
 
-use arch_defs::{FirstBuffer, HartState, Part, Virtual};
+use arch_defs::{HartState, Part, Virtual};
 use console_dev::Console;
 use machine_defs::Status;
 use shadow_pool::Pool;
@@ -18,18 +17,16 @@ use virtual_timer::Clock;
 use world_switch::{fix_up, save};
 
 /// What the host keeps of a guest beside the bytes of machine memory, which has its RAM and its tables.
-/// Contracts see it with the RAM as the lone machine. While the hart runs for a guest, it has the guest's
-/// first-stage translations.
+/// Contracts see it with the RAM as the lone machine.
 #[derive(Drop)]
 pub struct Guest {
     pub part: Part,
     pub virt: Virtual,
     pub pool: Pool,
-    pub first: FirstBuffer,
     pub clock: Clock,
     pub console: Console,
-    pub steps: u64,
     pub status: Status,
+    pub steps: u64,
     pub device: bool,
 }
 
@@ -40,7 +37,7 @@ impl Guest {
         ensures platform { platform_of self.new ≡ with_pending_lines (platform_of self.old) }
         ensures stays { (self.new.status ≡ self.old.status) × (self.new.steps ≡ self.old.steps)
             × (self.new.clock ≡ self.old.clock) }
-        ensures keeps { KeepsCached self.old self.new }
+        ensures keeps { KeepsSpaces self.old self.new }
     {
         let time = self.clock.now();
         self.virt.csrs.sip.timer = self.clock.due();
@@ -56,7 +53,7 @@ impl Guest {
         ensures made { self.new.steps ≡ self.old.steps + 1 }
         ensures clock { self.new.clock.time ≡ self.old.clock.time + 1 }
         ensures status { self.new.status ≡ self.old.status }
-        ensures keeps { KeepsCached self.old self.new }
+        ensures keeps { KeepsSpaces self.old self.new }
     {
         self.clock.step();
         self.count();
@@ -69,30 +66,27 @@ impl Guest {
         ensures made { self.new.steps ≡ self.old.steps + 1 }
         ensures clock { self.new.clock ≡ self.old.clock }
         ensures status { self.new.status ≡ self.old.status }
-        ensures keeps { KeepsCached self.old self.new }
+        ensures keeps { KeepsSpaces self.old self.new }
     {
         self.steps += 1;
         self.set_pending_lines();
     }
 
-    /// The hart has made so many steps for the guest, the last of which was a trap into VS or was not, and
-    /// gives back the guest's first-stage translations.
-    pub(crate) fn take_steps(&mut self, hart: &mut HartState, trapped: bool, taken: u64)
+    /// The hart has made so many steps for the guest, the last of which was a trap into VS or was not.
+    pub(crate) fn take_steps(&mut self, hart: &HartState, trapped: bool, taken: u64)
         requires event { ForSome (next_event self.old.clock)
             (λ moment. self.old.clock.time + taken ≤ moment) }
         requires clock { self.old.clock.time + taken ≤ 2 ^ 63 }
         requires steps { self.old.steps + taken ≤ 2 ^ 61 }
-        ensures platform { GivesSteps self.old.part (platform_of self.old) hart.old.virt trapped taken
-            (platform_of self.new) }
-        ensures first { (self.new.first ≡ hart.old.first)
-            × (hart.new ≡ with_buffer hart.old self.old.first) }
+        ensures platform { platform_of self.new ≡ moved (platform_of self.old)
+            (taken_back self.old.part hart.now.virt trapped self.old.virt) taken }
         ensures current { with_pending_lines (platform_of self.new) ≡ platform_of self.new }
         ensures made { self.new.steps ≡ self.old.steps + taken }
         ensures clock { self.new.clock.time ≡ self.old.clock.time + taken }
         ensures status { self.new.status ≡ self.old.status }
         ensures keeps { KeepsSpaces self.old self.new }
     {
-        take_back(hart, &self.part, trapped, &mut self.virt, &mut self.first);
+        take_back(hart, &self.part, trapped, &mut self.virt);
         self.clock.advance(taken);
         self.steps += taken;
         self.set_pending_lines();
@@ -101,18 +95,11 @@ impl Guest {
 
 // Gives the guest that has this part what the hart has for it, after a run whose last step was a trap into VS
 // or was not. Such a trap from V = 0 is one into HS, which sets more than the hart has for the guest.
-fn take_back(
-    hart: &mut HartState,
-    part: &Part,
-    trapped: bool,
-    virt: &mut Virtual,
-    first: &mut FirstBuffer,
-)
-    ensures state { TakesBack part.now hart.old.virt trapped virt.old virt.new }
-    ensures first { (first.new ≡ hart.old.first) × (hart.new ≡ with_buffer hart.old first.old) }
+fn take_back(hart: &HartState, part: &Part, trapped: bool, virt: &mut Virtual)
+    ensures { virt.new ≡ taken_back part.now hart.now.virt trapped virt.old }
 {
     let into_hs = trapped && !virt.mode.is_virtual();
-    save(hart, part, virt, first);
+    save(hart, part, virt);
     if into_hs {
         fix_up(virt);
     }

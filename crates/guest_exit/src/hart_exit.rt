@@ -12,7 +12,7 @@ ghost use Rattle.guest_exit.specs.ExitCases.{Call, Own, decided_at, decided_in, 
 ghost use Rattle.guest_exit.specs.HartExit.{CanGoOn, HasExited, IsHandled, IsMadeFor, IsStopCall, IsTold, KeepsPart};
 ghost use Rattle.guest_exit.specs.HartSteps.{host_takes};
 ghost use Rattle.guest_exit.specs.Steps.{CanStep, IsMiss, IsQuiet, Makes};
-ghost use Rattle.guest_exit.specs.View.{IsPlaced, KeepsCached, machine_of};
+ghost use Rattle.guest_exit.specs.View.{IsPlaced, KeepsSpaces, machine_of};
 
 use crate::exit_cases::{PAST_ADDRESSES, access_fault_for, is_guest_page_code, told_place};
 use crate::found_leaves::FoundLeaves;
@@ -30,7 +30,6 @@ use rv64_decode::decode;
 use rv64_hart::{Leaves, found_at_exit};
 use see_calls::CallEnd;
 use two_stage_walk::supervisor_of;
-use world_switch::tag_of;
 
 /// What became of a step that the hart left to the host.
 #[derive(Clone, Copy, PartialEq, Eq)]
@@ -48,18 +47,18 @@ pub enum Handled {
 /// Makes the step before which the hart has stopped for this trap, or fills the cached translation that it
 /// lacks, after which the hart may go on. Where the step waits for good, the status says so, and nothing else
 /// changes.
-pub fn handle(guest: &mut Guest, memory: &mut PhysMem, trap: &Trap) -> Handled
-    requires exited { HasExited guest.old memory.old trap.now }
+pub fn handle(guest: &mut Guest, memory: &mut PhysMem, trap: Trap) -> Handled
+    requires exited { HasExited guest.old memory.old trap }
     ensures does { IsHandled result (machine_of guest.old memory.old) (machine_of guest.new memory.new) }
     ensures retry { (result ≡ Handled.Retry) ↔ IsMiss (machine_of guest.old memory.old) }
     ensures waits { (result ≡ Handled.Waits) ↔ (try (machine_of guest.old memory.old) ≡ WaitsForGood) }
     ensures stops { (result ≡ Handled.Stopped)
-        ↔ IsStopCall (exit_of guest.old.virt trap.now) guest.old.virt }
+        ↔ IsStopCall (exit_of guest.old.virt trap) guest.old.virt }
     ensures quiet { IsQuiet (machine_of guest.old memory.old) }
     ensures told { IsTold result guest.old guest.new }
     ensures keeps { KeepsPart guest.old memory.old guest.new memory.new }
 {
-    make_next(guest, memory, trap)
+    make_next(guest, memory, &trap)
 }
 
 // Makes the step that the hart has left by this trap, or fills what it lacks. Where no table translates the
@@ -96,8 +95,7 @@ fn found_by_tables(guest: &Guest, memory: &PhysMem) -> Leaves
     ensures fits { LeavesFit result }
 {
     let hart = hart_state_for(guest);
-    let tag = tag_of(&guest.virt);
-    found_at_exit(&hart, &guest.first, &tag, memory)
+    found_at_exit(&hart, memory)
 }
 
 // Makes such a step, which finds these first-stage translations, or fills what it lacks. What is found is
@@ -225,7 +223,7 @@ fn make_own(guest: &mut Guest, trap: &Trap, found: &FoundLeaves) -> Handled
     ensures { (memory : List ℕ) → IsPlaced guest.old memory
         → IsMadeFor (Own trap.now) found.now result guest.old memory guest.new memory }
 {
-    found.fill(&mut guest.first);
+    found.fill(&mut guest.virt.first);
     raise(guest, trap)
 }
 
@@ -236,7 +234,7 @@ fn make_call(guest: &mut Guest, found: &FoundLeaves) -> Handled
     ensures { (memory : List ℕ) → IsPlaced guest.old memory
         → IsMadeFor Call found.now result guest.old memory guest.new memory }
 {
-    found.fill(&mut guest.first);
+    found.fill(&mut guest.virt.first);
     call(guest)
 }
 
@@ -246,7 +244,7 @@ pub(crate) fn raise(guest: &mut Guest, trap: &Trap) -> Handled
     ensures step { Makes guest.old guest.new (λ m. trapped m trap.now) }
     ensures told { IsTold result guest.old guest.new }
     ensures went { result ≡ Handled.Stepped }
-    ensures keeps { KeepsCached guest.old guest.new }
+    ensures keeps { KeepsSpaces guest.old guest.new }
 {
     take(&mut guest.virt, trap);
     guest.tick();
@@ -259,7 +257,7 @@ fn call(guest: &mut Guest) -> Handled
     ensures step { Makes guest.old guest.new (λ m. stepped_to m (called m.platform) System) }
     ensures told { IsTold result guest.old guest.new }
     ensures went { result ≢ Handled.Retry }
-    ensures keeps { KeepsCached guest.old guest.new }
+    ensures keeps { KeepsSpaces guest.old guest.new }
 {
     let end = see_calls::call(&mut guest.virt.regs, &mut guest.clock, &mut guest.console);
     match end {

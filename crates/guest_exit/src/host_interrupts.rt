@@ -7,7 +7,7 @@ ghost use Rattle.arch_defs.specs.Traps.{is_virtual};
 ghost use Rattle.guest_specs.specs.declared.statuses.Status.TheVariants.{Running};
 ghost use Rattle.guest_exit.specs.HartSteps.{host_takes, is_hosts};
 ghost use Rattle.guest_exit.specs.Steps.{CanStep, TakesInterrupt};
-ghost use Rattle.guest_exit.specs.View.{IsPlaced, KeepsCached};
+ghost use Rattle.guest_exit.specs.View.{IsPlaced, KeepsSpaces};
 
 use crate::guests::Guest;
 use crate::traps::take;
@@ -24,7 +24,7 @@ pub fn interrupt(guest: &mut Guest) -> bool
     ensures stays { result ≡ false → guest.new ≡ guest.old }
     ensures placed { (memory : List ℕ) → IsPlaced guest.old memory → IsPlaced guest.new memory }
     ensures status { guest.new.status ≡ Running }
-    ensures keeps { KeepsCached guest.old guest.new }
+    ensures keeps { KeepsSpaces guest.old guest.new }
 {
     // Mostly none is even pending.
     if is_none_pending(&guest.virt.csrs) {

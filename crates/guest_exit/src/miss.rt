@@ -48,7 +48,8 @@ pub fn miss(
     }
     match entry_for(guest, memory, access) {
         Some(entry) => {
-            guest.pool.fill(memory, entry);
+            let key = guest.pool.key(0);
+            guest.pool.fill(memory, key, entry);
             Handled::Retry
         }
         None => raise_fault(guest, memory, access, found),
@@ -73,7 +74,7 @@ fn raise_fault(
     ensures stays { memory.new ≡ memory.old }
 {
     let fault = fault_of(guest, memory, access);
-    found.fill(&mut guest.first);
+    found.fill(&mut guest.virt.first);
     raise(guest, &fault)
 }
 

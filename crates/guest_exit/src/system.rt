@@ -75,8 +75,9 @@ fn access_registers(
     ensures told { IsTold result guest.old guest.new }
 {
     let nested = guest.virt.mode.is_virtual();
-    found.fill(&mut guest.first);
-    match hcsr_emulation::access(&mut guest.virt, *op) {
+    let end = hcsr_emulation::access(&mut guest.virt, *op);
+    found.fill(&mut guest.virt.first);
+    match end {
         Accessed::Done => finish(guest, memory, nested),
         Accessed::Raise(trap) => raise(guest, &trap),
     }
@@ -99,20 +100,20 @@ fn wait_or_fence(guest: &mut Guest, memory: &mut PhysMem, op: &Op, found: &Found
     let pc = guest.virt.regs.pc;
     match hcsr_emulation::emulate(&mut guest.virt, *op) {
         Emulated::Done => {
-            found.fill(&mut guest.first);
+            found.fill(&mut guest.virt.first);
             finish(guest, memory, nested)
         }
         Emulated::Waits => wait(guest, pc, found),
         Emulated::Fenced(named) => {
-            found.fill(&mut guest.first);
+            found.fill(&mut guest.virt.first);
             fence(guest, memory, named)
         }
         Emulated::FirstFenced(tag, named) => {
-            found.fill(&mut guest.first);
+            found.fill(&mut guest.virt.first);
             first_fence(guest, tag.unwrap_or(own), &named)
         }
         Emulated::Raise(trap) => {
-            found.fill(&mut guest.first);
+            found.fill(&mut guest.virt.first);
             raise(guest, &trap)
         }
         Emulated::Accesses(_) => unreachable!(),
@@ -170,7 +171,7 @@ fn fence(guest: &mut Guest, memory: &mut PhysMem, named: Fence) -> Handled
     ensures told { IsTold result guest.old guest.new }
 {
     guest.pool.fence(memory, named);
-    guest.first.drop_of_guest(&named);
+    guest.virt.first.drop_of_guest(&named);
     guest.tick();
     Handled::Stepped
 }
@@ -180,12 +181,13 @@ fn fence(guest: &mut Guest, memory: &mut PhysMem, named: Fence) -> Handled
 fn first_fence(guest: &mut Guest, tag: Tag, named: &Fence) -> Handled
     requires can { CanStep guest.old }
     ensures step { Makes guest.old guest.new
-        (λ m. stepped_to (first_fenced (names_first tag named.now) m) m.platform System) }
+        (λ m. let left = first_fenced (names_first tag named.now) m in
+        stepped_to left left.platform System) }
     ensures told { IsTold result guest.old guest.new }
     ensures went { result ≡ Handled.Stepped }
     ensures keeps { KeepsSpaces guest.old guest.new }
 {
-    guest.first.drop_named(tag, named);
+    guest.virt.first.drop_named(tag, named);
     guest.tick();
     Handled::Stepped
 }
@@ -201,7 +203,7 @@ fn access_ram(guest: &mut Guest, memory: &mut PhysMem, op: &Op, found: &FoundLea
     ensures within { KeepsOutside guest.old memory.old guest.new memory.new }
     ensures told { IsTold result guest.old guest.new }
 {
-    found.fill(&mut guest.first);
+    found.fill(&mut guest.virt.first);
     let (device, console) = (guest.device, &mut guest.console);
     match access_in(memory, &guest.part, &mut guest.virt, *op, device, console) {
         Accessed::Done => {

@@ -1,6 +1,8 @@
 // WFI of a guest (Privileged Architecture 20211203, 3.3.3).
 
 ghost use Rattle.std.specs.Prelude.{◌≡◌, ◌≢◌, ◌&&◌, ◌||◌, false};
+ghost use Rattle.arch_defs.specs.Bits.{bit};
+ghost use Rattle.arch_defs.specs.CsrBits.{sip_bits, supervisor_interrupts};
 ghost use Rattle.machine_defs.specs.Machine.{has_enabled_interrupt, waited, with_pending_lines};
 ghost use Rattle.guest_exit.specs.ExitCases.{having_found};
 ghost use Rattle.guest_exit.specs.HartExit.{IsTold, with_pc};
@@ -28,7 +30,7 @@ pub fn wait(guest: &mut Guest, pc: u64, found: &FoundLeaves) -> Handled
     ensures keeps { KeepsSpaces guest.old guest.new }
 {
     if has_enabled_interrupt(&guest.virt.csrs) {
-        found.fill(&mut guest.first);
+        found.fill(&mut guest.virt.first);
         guest.tick();
         return Handled::Stepped;
     }
@@ -48,9 +50,10 @@ fn wait_for_wake(guest: &mut Guest, pc: u64, found: &FoundLeaves) -> Handled
     ensures keeps { KeepsSpaces guest.old guest.new }
 {
     wake_moment_is_least();
-    match guest.clock.wait(guest.virt.csrs.sie, guest.console.next()) {
+    let sie = sie_number(guest.virt.csrs.sie);
+    match guest.clock.wait(sie, guest.console.next()) {
         WaitEnd::Woke => {
-            found.fill(&mut guest.first);
+            found.fill(&mut guest.virt.first);
             guest.count();
             Handled::Stepped
         }
@@ -60,6 +63,23 @@ fn wait_for_wake(guest: &mut Guest, pc: u64, found: &FoundLeaves) -> Handled
             Handled::Waits
         }
     }
+}
+
+// sie as HS reads it, with the timer's bit 5 and bit 9 for external interrupts.
+#[tactic(auto, using(crate::proofs::Enabled::read_back, crate::proofs::Enabled::timer_back, crate::proofs::Enabled::external_back))]
+fn sie_number(sie: Interrupts) -> u64
+    ensures back { supervisor_interrupts result ≡ sie }
+    ensures timer { bit 5 result ≡ sie.timer }
+    ensures external { bit 9 result ≡ sie.external }
+{
+    sip_bits(sie)
+}
+
+#[tactic(auto, unfolding(arch_defs::specs::CsrBits::sip_bits))]
+fn sip_bits(set: Interrupts) -> u64
+    ensures { result ≡ sip_bits set }
+{
+    set.software as u64 * 0x2 + set.timer as u64 * 0x20 + set.external as u64 * 0x200
 }
 
 // Whether an interrupt is pending and enabled, whichever level takes it, and whether it is taken now or not.

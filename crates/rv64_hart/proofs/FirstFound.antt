@@ -20,6 +20,7 @@ use Rattle.arch_defs.specs.FirstEntries.{all_filled, first_filled, known_under}
 use Rattle.arch_defs.specs.Memory.{Mmu, Reading, SecondStage, machine_memory}
 use Rattle.arch_defs.specs.Permits.{permits_first}
 use Rattle.arch_defs.specs.Roots.{supervisor_shape}
+use Rattle.arch_defs.specs.TableEntries.{leaf_with}
 use Rattle.arch_defs.specs.Translation.{entry_words_through, found_by, found_under}
 use Rattle.arch_defs.specs.Walk.{leaf_address, walk}
 use Rattle.op_defs.specs.declared.ops.DataAccess.{DataAccess}
@@ -36,7 +37,7 @@ use Rattle.machine_laws.specs.MissedPlaces.{wanted_by, wanted_of}
 use Rattle.translation_buffer.specs.Places.{passed_by}
 use Rattle.rv64_hart.specs.Endings.{attempt_at, attempt_of_effect, attempt_of_word, attempt_with}
 use Rattle.rv64_hart.specs.MachineMemory.{found_on, found_over, mmu_on, reading_of_memory}
-use Rattle.rv64_hart.specs.Steps.{Attempt, attempt_of, with_first, with_found_on}
+use Rattle.rv64_hart.specs.Steps.{Attempt, attempt_of, caching, with_first, with_found_on}
 
 -- where no table is walked, the address is passed on, and nothing is found
 pub passes : (first : List FirstEntry) (tag : Tag) (second : SecondStage) (reading : Reading) (who : Privilege) (va address : ℕ) (access : Access) (atp : SupervisorRoot)
@@ -61,8 +62,11 @@ not_known first tag who va access (root.Table mode asid ppn) is = sym is
 
 -- and a leaf that a walk finds passes it on
 leaf_by : (who : Privilege) (va : ℕ) (access : Access) (leaf : LeafPte) (end : WalkEnd) → Some leaf ≡ leaf_if who access end → Passes (leaf_address leaf va) ≡ found_by who access va end
-leaf_by who va access leaf (Leaf own) is = by (permits_first who access own) is
+leaf_by who va access leaf (Leaf frame level r w x u) is = by (permits_first who access own) is
   where
+    own : LeafPte
+    own = leaf_with frame level r w x u
+
     by : (fit : Bool) → Some leaf ≡ cond fit (Some own) None → Passes (leaf_address leaf va) ≡ cond fit (Passes (leaf_address own va)) PageFaults
     by true is = let same : leaf ≡ own = cc in ap (λ (l : LeafPte). Passes (leaf_address l va)) same
     by false is = absurd cc
@@ -132,8 +136,8 @@ pub goes_on_at : (s : HartState) (memory : List ℕ) (place : ℕ) (found : List
     → attempt_of (with_found_on s memory) memory (core (mmu_on s memory) s.virt) ≡ attempt_at found s memory (word_at (reading_of_memory memory) place)
 unfolding core found_on leaves_found
 goes_on_at s memory place found at is =
-    rw (at, is) (ap (λ (first : List FirstEntry). attempt_of (record s { first = first }) memory (instruction (mmu_on s memory) s.virt (word_at (reading_of_memory memory) place)))
-    (filled_both s.first found (found_by_op s.tag (mmu_on s memory) s.virt (op_of (word_at (reading_of_memory memory) place)))))
+    rw (at, is) (ap (λ (first : List FirstEntry). attempt_of (caching s first) memory (instruction (mmu_on s memory) s.virt (word_at (reading_of_memory memory) place)))
+    (filled_both s.virt.first found (found_by_op s.tag (mmu_on s memory) s.virt (op_of (word_at (reading_of_memory memory) place)))))
 
 -- the instruction of a word by what it asks for
 pub op_ends : (found : List FirstEntry) (s : HartState) (memory : List ℕ) (word : ℕ) (op : Op) (effect : Effect) (r : Attempt) → op_of word ≡ Some op → effect ≡ meaning op s.virt.regs

@@ -1,32 +1,32 @@
--- What an access to data leaves: the registers by which memory is accessed, and a buffer that serves on.
-use Rattle.std.proofs.Common.{◌≡◌, ◌/◌, ℕ, List, Bool, true, false, refl}
+-- What instructions leave: the registers by which memory is accessed, the first-stage translations that are
+-- cached, and a buffer that serves on.
+use Rattle.std.proofs.Common.{◌≡◌, ◌/◌, ℕ, List, Bool, true, false, refl, ap, subst, ◌∙◌}
 use Rattle.arch_defs.specs.declared.first.FirstEntry.{FirstEntry}
-use Rattle.arch_defs.specs.declared.first.Tag.{Tag}
+use Rattle.arch_defs.specs.declared.modes.Access.{Access}
+use Rattle.arch_defs.specs.declared.hart_states.HartState.{HartState}
 use Rattle.arch_defs.specs.declared.registers.Virtual.{Virtual}
 use Rattle.arch_defs.specs.declared.widths.Width.{Width}
 use Rattle.arch_defs.specs.Memory.{Reading, machine_memory, reading_of, with_stored}
+use Rattle.op_defs.specs.declared.ops.DataAccess.{DataAccess}
 use Rattle.op_defs.specs.declared.ops.Purpose.{Purpose}
 use Rattle.op_defs.specs.declared.ops.Purpose.TheVariants.{Load, LoadCode, Store, Reserve, StoreReserved, Modify}
-use Rattle.machine_defs.specs.Core.{completed, is_reserved, stored_if}
+use Rattle.machine_defs.specs.declared.events.Event.{Event}
+use Rattle.machine_defs.specs.Core.{At, Completion, accessed_data, completed, is_reserved, kind_of, stored_if}
+use Rattle.machine_laws.proofs.Completions.{completed_same}
 use Rattle.data_access.specs.Places.{IsPlaceFor}
 use Rattle.frame_set.specs.Holding.{has_frame}
 use Rattle.translation_buffer.specs.declared.buffers.Buffer.{Buffer}
-use Rattle.translation_buffer.specs.Serving.{Serves}
+use Rattle.translation_buffer.specs.Serving.{ServesHart}
 use Rattle.translation_buffer.proofs.Stored.{serves_completed}
 use Rattle.rv64_hart.specs.Endings.{NoneDueIfQuiet, KeepsContext}
+use Rattle.rv64_hart.specs.MachineMemory.{access_over, mmu_on, reading_of_memory}
+use Rattle.rv64_hart.specs.Steps.{Makes, attempt_of, caching}
 
 pub keeps_completed : (reading : Reading) (state : Virtual) (width : Width) (purpose : Purpose) (place : ℕ)
     → KeepsContext state (completed reading state width purpose place).state
-keeps_completed reading state width (Load signed rd) place = (refl, refl)
-keeps_completed reading state width (LoadCode rd) place = (refl, refl)
-keeps_completed reading state width (Store value) place = (refl, refl)
-keeps_completed reading state width (Reserve rd) place = (refl, refl)
-keeps_completed reading state width (StoreReserved value rd) place = by (is_reserved state.reservation place width)
-  where
-    by : (reserved : Bool) → KeepsContext state (stored_if reserved state width value rd place).state
-    by true = (refl, refl)
-    by false = (refl, refl)
-keeps_completed reading state width (Modify op operand rd) place = (refl, refl)
+keeps_completed reading state width purpose place =
+    let same = completed_same reading state width purpose place in
+    (ap (λ (v : Virtual). v.csrs) same, ap (λ (v : Virtual). v.mode) same)
 
 pub keeps_after : (reading : Reading) (state new : Virtual) (width : Width) (purpose : Purpose) (place : ℕ)
     → new ≡ (completed reading state width purpose place).state → KeepsContext state new
@@ -38,11 +38,49 @@ quiet_kept true old new (csrs, mode) none = rw (csrs, mode) none
 quiet_kept false old new keeps none = tt
 
 -- at a place in no frame that was read
-pub serves_after : (buffer : Buffer) (first : List FirstEntry) (tag : Tag) (state new : Virtual) (memory other : List ℕ) (width : Width) (purpose : Purpose) (place : ℕ)
-    → Serves buffer first tag state.csrs state.mode memory → has_frame buffer.read (place / 4096) ≡ false → IsPlaceFor (machine_memory memory) width place
-    → new ≡ (completed (reading_of (machine_memory memory)) state width purpose place).state
-    → other ≡ with_stored 0 (completed (reading_of (machine_memory memory)) state width purpose place).stored memory
-    → Serves buffer first tag new.csrs new.mode other
-serves_after buffer first tag state new memory other width purpose place serves free is s b =
-    let (csrs, mode) = keeps_completed (reading_of (machine_memory memory)) state width purpose place in
-    rw (s, b, csrs, mode) (serves_completed buffer first tag state.csrs state.mode memory (reading_of (machine_memory memory)) state width purpose place serves free is.aligned is.to)
+pub serves_after : (buffer : Buffer) (s : HartState) (new : Virtual) (memory other : List ℕ) (width : Width) (purpose : Purpose) (place : ℕ)
+    → ServesHart buffer s memory → has_frame buffer.read (place / 4096) ≡ false → IsPlaceFor (machine_memory memory) width place
+    → new ≡ (completed (reading_of (machine_memory memory)) s.virt width purpose place).state
+    → other ≡ with_stored 0 (completed (reading_of (machine_memory memory)) s.virt width purpose place).stored memory
+    → ServesHart buffer (record s { virt = new }) other
+serves_after buffer s new memory other width purpose place serves free is state stored =
+    let (csrs, mode) = keeps_completed (reading_of (machine_memory memory)) s.virt width purpose place in
+    let first = ap (λ (v : Virtual). v.first) (completed_same (reading_of (machine_memory memory)) s.virt width purpose place) in
+    rw (state, stored, csrs, mode, first)
+    (serves_completed buffer s.virt.first s.tag s.virt.csrs s.virt.mode memory (reading_of (machine_memory memory)) s.virt width purpose place serves free is.aligned is.to)
+
+-- an access to data is completed alike whatever is cached
+abbrev CompletesAlike : List FirstEntry → Completion → Completion → Type 0
+CompletesAlike first one other = (one.state ≡ record other.state { first = first }) × (one.stored ≡ other.stored)
+
+completed_alike : (reading : Reading) (virt : Virtual) (first : List FirstEntry) (width : Width) (purpose : Purpose) (place : ℕ)
+    → CompletesAlike first (completed reading (record virt { first = first }) width purpose place) (completed reading virt width purpose place)
+completed_alike reading virt first width (Load signed rd) place = (refl, refl)
+completed_alike reading virt first width (LoadCode rd) place = (refl, refl)
+completed_alike reading virt first width (Store value) place = (refl, refl)
+completed_alike reading virt first width (Reserve rd) place = (refl, refl)
+completed_alike reading virt first width (StoreReserved value rd) place = by (is_reserved virt.reservation place width)
+  where
+    by : (reserved : Bool) → CompletesAlike first (stored_if reserved (record virt { first = first }) width value rd place) (stored_if reserved virt width value rd place)
+    by true = (refl, refl)
+    by false = (refl, refl)
+completed_alike reading virt first width (Modify op operand rd) place = (refl, refl)
+
+-- so what it finds may be cached before
+ends_at : (s filled : HartState) (memory other : List ℕ) (first : List FirstEntry) (event : Event) (wanted : DataAccess) (place : ℕ) (after : Virtual)
+    → access_over memory s wanted.address wanted.width (kind_of wanted.purpose) ≡ At place → filled ≡ caching s first
+    → after ≡ (completed (reading_of_memory memory) filled.virt wanted.width wanted.purpose place).state
+    → other ≡ with_stored 0 (completed (reading_of_memory memory) filled.virt wanted.width wanted.purpose place).stored memory
+    → attempt_of (caching s first) memory (accessed_data (mmu_on s memory) s.virt event wanted) ≡ Makes (record filled { virt = after }) other event
+ends_at s filled memory other first event wanted place after at is state stored =
+    let (one, two) = completed_alike (reading_of_memory memory) s.virt first wanted.width wanted.purpose place in
+    rw (at, state, stored, is, one, two) refl
+
+pub access_ends : (cached : Access → List FirstEntry) (s filled : HartState) (memory other : List ℕ) (access : Access) (event : Event) (wanted : DataAccess) (place : ℕ) (after : Virtual)
+    → access ≡ kind_of wanted.purpose → access_over memory s wanted.address wanted.width access ≡ At place → filled ≡ caching s (cached access)
+    → after ≡ (completed (reading_of_memory memory) filled.virt wanted.width wanted.purpose place).state
+    → other ≡ with_stored 0 (completed (reading_of_memory memory) filled.virt wanted.width wanted.purpose place).stored memory
+    → attempt_of (caching s (cached (kind_of wanted.purpose))) memory (accessed_data (mmu_on s memory) s.virt event wanted) ≡ Makes (record filled { virt = after }) other event
+access_ends cached s filled memory other access event wanted place after kind at is state stored =
+    ends_at s filled memory other (cached (kind_of wanted.purpose)) event wanted place after (subst (λ a. access_over memory s wanted.address wanted.width a ≡ At place) kind at)
+    (is ∙ ap (λ a. caching s (cached a)) kind) state stored

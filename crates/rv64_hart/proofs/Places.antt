@@ -1,7 +1,5 @@
 -- The place of an access, or its trap to the hart.
 use Rattle.std.proofs.Common.{◌≡◌, ◌%◌, ℕ, false, List, [], Some, None, Ok, Err, refl, sym}
-use Rattle.arch_defs.specs.declared.first.FirstEntry.{FirstEntry}
-use Rattle.arch_defs.specs.declared.first.Tag.{Tag}
 use Rattle.arch_defs.specs.declared.hart_states.HartState.{HartState}
 use Rattle.arch_defs.specs.declared.modes.Trap.{Trap}
 use Rattle.arch_defs.specs.declared.registers.Csrs.{Csrs}
@@ -9,16 +7,15 @@ use Rattle.arch_defs.specs.declared.modes.Access.{Access}
 use Rattle.arch_defs.specs.declared.registers.Virtual.{Virtual}
 use Rattle.arch_defs.specs.declared.widths.Width.{Width}
 use Rattle.arch_defs.specs.Memory.{machine_memory}
-use Rattle.arch_defs.specs.Translation.{privilege_of}
 use Rattle.arch_defs.specs.Widths.{bytes_in}
 use Rattle.op_defs.specs.Table.{op_of}
 use Rattle.machine_defs.specs.Answers.{answer_of}
 use Rattle.machine_defs.specs.Core.{Located, Faults, Misses, At, Fails, word_at}
 use Rattle.machine_laws.specs.MissedPlaces.{wanted_at, wanted_of}
-use Rattle.translation_buffer.specs.Places.{context_of, translated_place, translator}
+use Rattle.translation_buffer.specs.Places.{place_on_hart}
 use Rattle.translation_buffer.proofs.Hits.{hit_is_place, hits_find_nothing}
 use Rattle.rv64_hart.specs.Endings.{IsAnswered}
-use Rattle.rv64_hart.specs.MachineMemory.{access_over, found_over, hart_state, reading_of_memory}
+use Rattle.rv64_hart.specs.MachineMemory.{access_over, found_over, reading_of_memory}
 
 -- a place as both stages answer
 pub found : (csrs : Csrs) (memory : List ℕ) (located : Located) (place : ℕ)
@@ -35,16 +32,13 @@ failed s memory (Fails (Faults own)) trap e = λ first wanted rest. cc
 failed s memory (Fails (Misses missing)) trap e = λ first wanted rest. cc
 
 -- the place of an aligned access by what is kept, and that it finds nothing
-pub at_place_found : (virt : Virtual) (first : List FirstEntry) (tag : Tag) (memory : List ℕ) (va : ℕ) (width : Width) (access : Access) (place : ℕ)
-    → va % bytes_in width ≡ 0
-    → Some place ≡ translated_place (translator first tag (context_of virt.csrs virt.mode)) (privilege_of virt.csrs virt.mode) memory va access
-    → access_over memory (hart_state virt first tag) va width access ≡ At place
-at_place_found virt first tag memory va width access place aligned is = hit_is_place first tag virt memory va place width access aligned (sym is)
+pub at_place_found : (s : HartState) (memory : List ℕ) (va : ℕ) (width : Width) (access : Access) (place : ℕ)
+    → va % bytes_in width ≡ 0 → Some place ≡ place_on_hart s memory va access → access_over memory s va width access ≡ At place
+at_place_found s memory va width access place aligned is = hit_is_place s.virt.first s.tag s.virt memory va place width access aligned (sym is)
 
-pub nothing_found : (virt : Virtual) (first : List FirstEntry) (tag : Tag) (memory : List ℕ) (va : ℕ) (width : Width) (access : Access) (place : ℕ)
-    → Some place ≡ translated_place (translator first tag (context_of virt.csrs virt.mode)) (privilege_of virt.csrs virt.mode) memory va access
-    → found_over memory (hart_state virt first tag) va width access ≡ []
-nothing_found virt first tag memory va width access place is = hits_find_nothing first tag virt memory va place width access (sym is)
+pub nothing_found : (s : HartState) (memory : List ℕ) (va : ℕ) (width : Width) (access : Access) (place : ℕ)
+    → Some place ≡ place_on_hart s memory va access → found_over memory s va width access ≡ []
+nothing_found s memory va width access place is = hits_find_nothing s.virt.first s.tag s.virt memory va place width access (sym is)
 
 -- what the word at the place wants, and nothing where there is none
 pub wanted_found : (virt : Virtual) (memory : List ℕ) (located : Located) (place : ℕ)

@@ -18,14 +18,8 @@ use Rattle.rv64_hart.specs.declared.endings.Ended.{Ended}
 use Rattle.rv64_hart.specs.declared.endings.Ended.TheVariants.{Plain, System, Raised}
 use Rattle.rv64_hart.specs.declared.endings.StepEnd.{StepEnd}
 use Rattle.rv64_hart.specs.declared.endings.StepEnd.TheVariants.{Continues, Ends, Left}
-use Rattle.translation_buffer.specs.declared.buffers.Buffer.{Buffer}
-use Rattle.translation_buffer.specs.Serving.{Serves}
 use Rattle.rv64_hart.specs.MachineMemory.{mmu_on}
-use Rattle.rv64_hart.specs.Steps.{Attempt, Makes, Raises, attempt_of, Progress, enters_vs, with_first}
-
--- a buffer of kept translations serves the accesses of the hart as it is
-abbrev pub ServesHart : Buffer → HartState → List ℕ → Type 0
-ServesHart buffer s memory = Serves buffer s.first s.tag s.virt.csrs s.virt.mode memory
+use Rattle.rv64_hart.specs.Steps.{Attempt, Makes, Raises, attempt_of, caching, Progress, enters_vs, with_first}
 
 -- where an access is made, by the answer; where it is not, the trap that it is to the hart, whatever has been
 -- found by then, and whatever it is for and is to follow there
@@ -33,7 +27,7 @@ abbrev pub IsAnswered : HartState → List ℕ → Located → Trap → Option �
 IsAnswered s memory located trap (Some place) = located ≡ At place
 IsAnswered s memory located trap None =
     (first : List FirstEntry) (wanted : Option DataAccess) (rest : ℕ → Outcome)
-    → attempt_of (record s { first = first }) memory (at_place wanted located rest) ≡ Raises trap
+    → attempt_of (caching s first) memory (at_place wanted located rest) ≡ Raises trap
 
 -- what the instruction of a word asks for, and one that asks for this, where its own access at pc has found
 -- nothing

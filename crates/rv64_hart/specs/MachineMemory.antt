@@ -1,21 +1,16 @@
 -- Machine memory, which begins at 0, as the core sees it on the hart.
 use Rattle.std.specs.Prelude.{ℕ, List, Option}
 use Rattle.arch_defs.specs.declared.first.FirstEntry.{FirstEntry}
-use Rattle.arch_defs.specs.declared.first.Tag.{Tag}
 use Rattle.arch_defs.specs.declared.hart_states.HartState.{HartState}
 use Rattle.arch_defs.specs.declared.modes.Access.{Access}
 use Rattle.arch_defs.specs.declared.registers.Virtual.{Virtual}
 use Rattle.arch_defs.specs.declared.widths.Width.{Width}
-use Rattle.arch_defs.specs.Memory.{Mmu, Reading, SecondStage, machine_memory, mmu, reading_of}
+use Rattle.arch_defs.specs.Memory.{Known, Mmu, Reading, SecondStage, machine_memory, mmu, reading_of}
 use Rattle.arch_defs.specs.SecondStage.{second_by_walk}
 use Rattle.op_defs.specs.declared.ops.DataAccess.{DataAccess}
 use Rattle.machine_defs.specs.Core.{Located, accessed, fetch_place}
 use Rattle.machine_defs.specs.FirstLeaves.{found_for, known_of, leaves_found}
 use Rattle.machine_laws.specs.MissedPlaces.{wanted_at}
-
--- what a hart has for a guest, of its parts
-abbrev pub hart_state : Virtual → List FirstEntry → Tag → HartState
-hart_state virt first tag = record { virt = virt; first = first; tag = tag }
 
 -- what memory gives at a physical address
 abbrev pub reading_of_memory : List ℕ → Reading
@@ -25,10 +20,13 @@ reading_of_memory memory = reading_of (machine_memory memory)
 abbrev pub second_of_memory : Virtual → List ℕ → SecondStage
 second_of_memory virt memory = second_by_walk virt.csrs virt.mode (machine_memory memory)
 
+-- what is known to it by its cached first-stage translations
+abbrev pub known_on : HartState → Known
+known_on s = known_of s.virt.first s.tag s.virt
+
 -- what its accesses go through: its cached first-stage translations, and then walks
 abbrev pub mmu_on : HartState → List ℕ → Mmu
-mmu_on s memory =
-    mmu (known_of s.first s.tag s.virt) (second_of_memory s.virt memory) (reading_of_memory memory)
+mmu_on s memory = mmu (known_on s) (second_of_memory s.virt memory) (reading_of_memory memory)
 
 -- where in memory an instruction makes an access of its own, and the first-stage translation that it finds
 abbrev pub access_over : List ℕ → HartState → ℕ → Width → Access → Located

@@ -22,12 +22,16 @@ use Rattle.rv64_hart.specs.declared.harts.Why.{Why}
 use Rattle.rv64_hart.specs.declared.harts.Why.TheVariants.{Limit, Exit, VsTrap}
 use Rattle.rv64_hart.specs.MachineMemory.{found_on, mmu_on}
 
--- a state with other registers, and one that has cached these first-stage translations
+-- a state that caches these first-stage translations, one with other registers, whose translations stay, and
+-- one that has cached these translations beside its own
+abbrev pub caching : HartState → List FirstEntry → HartState
+caching s first = record s { virt = record s.virt { first = first } }
+
 abbrev pub with_virt : HartState → Virtual → HartState
-with_virt s virt = record s { virt = virt }
+with_virt s virt = record s { virt = record virt { first = s.virt.first } }
 
 abbrev pub with_first : HartState → List FirstEntry → HartState
-with_first s found = record s { first = all_filled s.first found }
+with_first s found = caching s (all_filled s.virt.first found)
 
 abbrev pub with_found_on : HartState → List ℕ → HartState
 with_found_on s memory = with_first s (found_on s memory)
@@ -52,8 +56,8 @@ attempt_of s memory Called = Raises (exception s.virt.mode ECALL_FROM_HS 0)
 attempt_of s memory (Waits virt) = Makes (with_virt s virt) memory event.System
 attempt_of s memory (Fenced virt fence) = Makes (with_virt s virt) memory event.System
 attempt_of s memory (FirstFenced virt named fence) =
-    let left = unnamed_first (names_first (unwrap_or named s.tag) fence) s.first in
-    Makes (record s { virt = virt; first = left }) memory event.System
+    let left = unnamed_first (names_first (unwrap_or named s.tag) fence) s.virt.first in
+    Makes (caching (with_virt s virt) left) memory event.System
 attempt_of s memory (Accesses wanted) = Raises (exception s.virt.mode ILLEGAL_INSTRUCTION 0)
 
 -- the due interrupt, or one instruction over machine memory

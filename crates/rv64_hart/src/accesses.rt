@@ -1,22 +1,22 @@
 // The accesses of an instruction of the hart: where each is made, and those to data.
 
 ghost use Rattle.std.specs.Prelude.{◌≡◌, [], option_map, IfNone, IfSome};
-ghost use Rattle.arch_defs.specs.FirstEntries.{HasGuestFrame, all_filled};
+ghost use Rattle.arch_defs.specs.FirstEntries.{HasGuestFrame};
 ghost use Rattle.arch_defs.specs.Memory.{machine_memory};
 ghost use Rattle.op_defs.specs.declared.ops.Purpose.TheVariants.{Load, Store};
 ghost use Rattle.machine_defs.specs.declared.events.Event.{Event};
 ghost use Rattle.machine_defs.specs.Core.{At, accessed_data, kind_of, word_at};
 ghost use Rattle.machine_defs.specs.FirstLeaves.{entries_of};
 ghost use Rattle.data_access.specs.Places.{IsPlaceFor};
-ghost use Rattle.translation_buffer.specs.Serving.{Serves};
-ghost use Rattle.rv64_hart.specs.Endings.{IfPlain, IfRaised, IsAnswered, KeepsContext, ServesHart, attempt_by};
-ghost use Rattle.rv64_hart.specs.MachineMemory.{access_over, found_over, hart_state, mmu_on, reading_of_memory};
+ghost use Rattle.translation_buffer.specs.Serving.{ServesHart};
+ghost use Rattle.rv64_hart.specs.Endings.{IfPlain, IfRaised, IsAnswered, KeepsContext, attempt_by};
+ghost use Rattle.rv64_hart.specs.MachineMemory.{access_over, found_over, mmu_on, reading_of_memory};
 ghost use Rattle.rv64_hart.specs.Steps.{attempt_of, with_first};
 
 use crate::endings::Ended;
 use crate::leaves::cache;
 use crate::walked_accesses::reach;
-use arch_defs::{Access, FirstBuffer, FirstEntry, HartState, Reg, Tag, Trap, Virtual, Width};
+use arch_defs::{Access, FirstEntry, HartState, Reg, Trap, Width};
 use data_access::{DataAccess, complete, is_aligned, kind_of, load, store};
 use phys_mem::{Mem, PhysMem};
 use translation_buffer::Buffer;
@@ -33,28 +33,26 @@ pub fn word_at(memory: &PhysMem, place: u64) -> u32
 #[inline(always)]
 #[tactic(auto, using(crate::proofs::Places::at_place_found, crate::proofs::Places::nothing_found, data_access::proofs::Fitting::fits_at))]
 pub fn kept_place(
-    virt: &Virtual,
-    first: &FirstBuffer,
-    tag: &Tag,
+    state: &HartState,
     memory: &PhysMem,
     buffer: &mut Buffer,
     va: u64,
     width: Width,
     access: Access,
 ) -> Option<u64>
-    requires serves { Serves buffer.old first.now tag.now virt.now.csrs virt.now.mode memory.now }
-    ensures located { IfSome result (λ place.
-        access_over memory.now (hart_state virt.now first.now tag.now) va width access ≡ At place) }
-    ensures none { IfSome result (λ place.
-        found_over memory.now (hart_state virt.now first.now tag.now) va width access ≡ []) }
+    requires serves { ServesHart buffer.old state.now memory.now }
+    ensures located { IfSome result
+        (λ place. access_over memory.now state.now va width access ≡ At place) }
+    ensures none { IfSome result
+        (λ place. found_over memory.now state.now va width access ≡ []) }
     ensures place { IfSome result (λ place. IsPlaceFor (machine_memory memory.now) width place) }
-    ensures serves { Serves buffer.new first.now tag.now virt.now.csrs virt.now.mode memory.now }
+    ensures serves { ServesHart buffer.new state.now memory.now }
 {
     memory.is_whole();
     if !is_aligned(va, width) {
         return None;
     }
-    match buffer.place(memory, &virt.csrs, virt.mode, first, tag, va, access) {
+    match buffer.place(memory, state, va, access) {
         Some(place) => Some(place),
         None => None,
     }
@@ -65,9 +63,7 @@ pub fn kept_place(
 #[inline(always)]
 #[tactic(auto, using(crate::proofs::FirstFound::nothing_filled))]
 fn access_place(
-    virt: &Virtual,
-    first: &mut FirstBuffer,
-    tag: &Tag,
+    state: &mut HartState,
     memory: &PhysMem,
     buffer: &mut Buffer,
     va: u64,
@@ -75,19 +71,18 @@ fn access_place(
     access: Access,
     trap: &mut Trap,
 ) -> Option<u64>
-    requires serves { Serves buffer.old first.old tag.now virt.now.csrs virt.now.mode memory.now }
-    ensures located { IsAnswered (hart_state virt.now first.old tag.now) memory.now
-        (access_over memory.now (hart_state virt.now first.old tag.now) va width access)
-        trap.new result }
-    ensures found { IfSome result (λ place. first.new ≡ all_filled first.old
-        (found_over memory.now (hart_state virt.now first.old tag.now) va width access)) }
-    ensures stays { IfNone result (first.new ≡ first.old) }
+    requires serves { ServesHart buffer.old state.old memory.now }
+    ensures located { IsAnswered state.old memory.now
+        (access_over memory.now state.old va width access) trap.new result }
+    ensures found { IfSome result (λ place. state.new
+        ≡ with_first state.old (found_over memory.now state.old va width access)) }
+    ensures stays { IfNone result (state.new ≡ state.old) }
     ensures place { IfSome result (λ place. IsPlaceFor (machine_memory memory.now) width place) }
-    ensures serves { Serves buffer.new first.new tag.now virt.now.csrs virt.now.mode memory.now }
+    ensures serves { ServesHart buffer.new state.new memory.now }
 {
-    match kept_place(virt, first, tag, memory, buffer, va, width, access) {
+    match kept_place(state, memory, buffer, va, width, access) {
         Some(place) => Some(place),
-        None => place_anew(virt, first, tag, memory, buffer, va, width, access, trap),
+        None => place_anew(state, memory, buffer, va, width, access, trap),
     }
 }
 
@@ -96,9 +91,7 @@ fn access_place(
 #[inline(never)]
 #[tactic(auto, using(crate::proofs::Places::found, crate::proofs::Places::failed))]
 fn place_anew(
-    virt: &Virtual,
-    first: &mut FirstBuffer,
-    tag: &Tag,
+    state: &mut HartState,
     memory: &PhysMem,
     buffer: &mut Buffer,
     va: u64,
@@ -106,22 +99,19 @@ fn place_anew(
     access: Access,
     trap: &mut Trap,
 ) -> Option<u64>
-    requires serves { Serves buffer.old first.old tag.now virt.now.csrs virt.now.mode memory.now }
-    ensures located { IsAnswered (hart_state virt.now first.old tag.now) memory.now
-        (access_over memory.now (hart_state virt.now first.old tag.now) va width access)
-        trap.new result }
-    ensures found { IfSome result (λ place. first.new ≡ all_filled first.old
-        (found_over memory.now (hart_state virt.now first.old tag.now) va width access)) }
-    ensures stays { IfNone result (first.new ≡ first.old) }
+    requires serves { ServesHart buffer.old state.old memory.now }
+    ensures located { IsAnswered state.old memory.now
+        (access_over memory.now state.old va width access) trap.new result }
+    ensures found { IfSome result (λ place. state.new
+        ≡ with_first state.old (found_over memory.now state.old va width access)) }
+    ensures stays { IfNone result (state.new ≡ state.old) }
     ensures place { IfSome result (λ place. IsPlaceFor (machine_memory memory.now) width place) }
-    ensures serves { Serves buffer.new first.new tag.now virt.now.csrs virt.now.mode memory.now }
+    ensures serves { ServesHart buffer.new state.new memory.now }
 {
     let mut entry = None;
-    match reach(
-        virt, first, tag, memory, va, width, access, trap, &mut entry,
-    ) {
+    match reach(state, memory, va, width, access, trap, &mut entry) {
         Some(place) => {
-            cache(first, buffer, entry.as_ref());
+            cache(&mut state.virt.first, buffer, entry.as_ref());
             Some(place)
         }
         None => None,
@@ -148,9 +138,7 @@ pub fn access_data(
 {
     let access = kind_of(wanted.purpose);
     match access_place(
-        &state.virt,
-        &mut state.first,
-        &state.tag,
+        state,
         memory,
         buffer,
         wanted.address,
@@ -191,20 +179,10 @@ pub fn access_data_anew(
     let access = kind_of(wanted.purpose);
     let (address, width) = (wanted.address, wanted.width);
     let mut entry = None;
-    match reach(
-        &state.virt,
-        &state.first,
-        &state.tag,
-        memory,
-        address,
-        width,
-        access,
-        trap,
-        &mut entry,
-    ) {
+    match reach(state, memory, address, width, access, trap, &mut entry) {
         Some(at) => {
-            cache(&mut state.first, buffer, found);
-            cache(&mut state.first, buffer, entry.as_ref());
+            cache(&mut state.virt.first, buffer, found);
+            cache(&mut state.virt.first, buffer, entry.as_ref());
             buffer.open(at);
             complete(memory, &mut state.virt, width, wanted.purpose, at);
             Ended::Plain
@@ -235,17 +213,7 @@ pub fn load_data(
     ensures serves { ServesHart buffer.new state.new memory.now }
     ensures plain { IfPlain result (KeepsContext state.old.virt state.new.virt) }
 {
-    match access_place(
-        &state.virt,
-        &mut state.first,
-        &state.tag,
-        memory,
-        buffer,
-        address,
-        width,
-        Access::Load,
-        trap,
-    ) {
+    match access_place(state, memory, buffer, address, width, Access::Load, trap) {
         Some(place) => {
             load(memory, &mut state.virt, width, signed, rd, place);
             Ended::Plain
@@ -275,17 +243,7 @@ pub fn store_data(
     ensures serves { ServesHart buffer.new state.new memory.new }
     ensures plain { IfPlain result (KeepsContext state.old.virt state.new.virt) }
 {
-    match access_place(
-        &state.virt,
-        &mut state.first,
-        &state.tag,
-        memory,
-        buffer,
-        address,
-        width,
-        Access::Store,
-        trap,
-    ) {
+    match access_place(state, memory, buffer, address, width, Access::Store, trap) {
         Some(place) => {
             buffer.open(place);
             store(memory, &mut state.virt, width, value, place);

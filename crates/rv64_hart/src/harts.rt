@@ -1,20 +1,17 @@
 // The hart: one step of it, and runs of steps.
 
-ghost use Rattle.std.specs.Prelude.{◌≡◌, ◌+◌, ◌^◌, ◌<◌, ◌≤◌, [], IfOk, Some, false};
+ghost use Rattle.std.specs.Prelude.{◌≡◌, ◌+◌, ◌^◌, ◌<◌, ◌≤◌, Some, false};
 ghost use Rattle.std.specs.Borrow.{sem};
 ghost use Rattle.arch_defs.specs.Registers.{virtual_at};
-ghost use Rattle.rv64_hart.specs.Endings.{ServesHart};
+ghost use Rattle.translation_buffer.specs.Serving.{ServesHart};
 ghost use Rattle.rv64_hart.specs.Loans.{LendsState};
-ghost use Rattle.rv64_hart.specs.MachineMemory.{hart_state};
 ghost use Rattle.rv64_hart.specs.Steps.{hart_steps, progress, is_vs_trap, IsWhy};
 
 use crate::endings::StepEnd;
 use crate::steps::step;
 use crate::tallies::Tally;
-use arch_defs::{FirstBuffer, HartState, Mode, Tag, Trap, Virtual};
-use no_memory::NoMemory;
+use arch_defs::{HartState, Mode, Tag, Trap, Virtual};
 use phys_mem::PhysMem;
-use std::alloc::Global;
 use translation_buffer::Buffer;
 
 /// Why the hart stopped.
@@ -44,17 +41,15 @@ pub struct Hart {
 }
 
 impl Hart {
-    /// A hart in VS, all registers zero, with no first-stage translation cached. It takes the room for these
-    /// once.
-    pub fn new(alloc: Global) -> Result<Hart, NoMemory>
-        ensures { IfOk result (λ h. h.state ≡ hart_state (virtual_at Mode.VS 0) [] Tag.Flat) }
+    /// A hart in VS, all registers zero, with no first-stage translation cached.
+    pub fn new() -> Hart
+        ensures { result.state ≡ record { virt = virtual_at Mode.VS 0; tag = Tag.Flat } }
     {
         let virt = Virtual::starting_at(Mode::VS, 0);
         let buffer = Buffer::new(&virt.csrs, virt.mode);
-        let first = FirstBuffer::new(alloc)?;
         let tag = Tag::Flat;
-        let state = HartState { virt, first, tag };
-        Ok(Hart { state, buffer })
+        let state = HartState { virt, tag };
+        Hart { state, buffer }
     }
 
     /// What the hart has, lent.

@@ -9,13 +9,13 @@ ghost use Rattle.op_defs.specs.Table.{op_of};
 ghost use Rattle.machine_defs.specs.FirstLeaves.{entries_of, found_by_op};
 ghost use Rattle.translation_buffer.specs.Serving.{Serves};
 ghost use Rattle.rv64_hart.specs.Leaves.{LeavesFit, leaves_list};
-ghost use Rattle.rv64_hart.specs.MachineMemory.{found_on, hart_state, mmu_on};
+ghost use Rattle.rv64_hart.specs.MachineMemory.{found_on, mmu_on};
 ghost use Rattle.rv64_hart.specs.Steps.{found_at_exit};
 
 use crate::accesses::word_at;
 use crate::walked_accesses::reach;
 use crate::wanted_accesses::wanted_of;
-use arch_defs::{Access, FirstBuffer, FirstEntry, Tag, Trap, Virtual, Width};
+use arch_defs::{Access, FirstBuffer, FirstEntry, HartState, Trap, Width};
 use data_access::kind_of;
 use phys_mem::PhysMem;
 use translation_buffer::Buffer;
@@ -83,32 +83,17 @@ pub fn cache(first: &mut FirstBuffer, buffer: &mut Buffer, found: Option<&FirstE
 
 // What the access to data finds that the instruction of a word makes.
 #[tactic(auto, using(crate::proofs::FirstFound::wanted_finds, crate::proofs::FirstFound::none_wanted_finds))]
-fn found_by_word(
-    virt: &Virtual,
-    first: &FirstBuffer,
-    tag: &Tag,
-    memory: &PhysMem,
-    word: u32,
-) -> Option<FirstEntry>
-    ensures value { entries_of result ≡ found_by_op tag.now
-        (mmu_on (hart_state virt.now first.now tag.now) memory.now) virt.now (op_of word) }
+fn found_by_word(state: &HartState, memory: &PhysMem, word: u32) -> Option<FirstEntry>
+    ensures value { entries_of result ≡ found_by_op state.now.tag (mmu_on state.now memory.now)
+        state.now.virt (op_of word) }
     ensures fits { IfSome result HasGuestFrame }
 {
-    match wanted_of(virt, word) {
+    match wanted_of(&state.virt, word) {
         Some(wanted) => {
+            let (at, width) = (wanted.address, wanted.width);
             let access = kind_of(wanted.purpose);
             let (mut trap, mut entry) = (Trap::of_interrupt(0), None);
-            let _ = reach(
-                virt,
-                first,
-                tag,
-                memory,
-                wanted.address,
-                wanted.width,
-                access,
-                &mut trap,
-                &mut entry,
-            );
+            let _ = reach(state, memory, at, width, access, &mut trap, &mut entry);
             entry
         }
         None => None,
@@ -116,19 +101,17 @@ fn found_by_word(
 }
 
 // What one instruction finds.
-fn leaves_found(virt: &Virtual, first: &FirstBuffer, tag: &Tag, memory: &PhysMem) -> Leaves
-    ensures value { leaves_list result ≡ found_on (hart_state virt.now first.now tag.now) memory.now }
+fn leaves_found(state: &HartState, memory: &PhysMem) -> Leaves
+    ensures value { leaves_list result ≡ found_on state.now memory.now }
     ensures fits { LeavesFit result }
 {
-    let pc = virt.regs.pc;
+    let pc = state.virt.regs.pc;
     let (width, access) = (Width::Word, Access::Fetch);
     let (mut trap, mut at_pc) = (Trap::of_interrupt(0), None);
-    match reach(
-        virt, first, tag, memory, pc, width, access, &mut trap, &mut at_pc,
-    ) {
+    match reach(state, memory, pc, width, access, &mut trap, &mut at_pc) {
         Some(place) => Leaves {
             at_pc,
-            of_data: found_by_word(virt, first, tag, memory, word_at(memory, place)),
+            of_data: found_by_word(state, memory, word_at(memory, place)),
         },
         None => Leaves {
             at_pc,
@@ -137,17 +120,15 @@ fn leaves_found(virt: &Virtual, first: &FirstBuffer, tag: &Tag, memory: &PhysMem
     }
 }
 
-/// The first-stage translations that the hart's next step finds, with these registers, these translations
-/// cached, and for these accesses: none where an interrupt is due. A step that the hart makes has cached
-/// them; one that it leaves has not.
+/// The first-stage translations that the hart's next step finds in this state: none where an interrupt is
+/// due. A step that the hart makes has cached them; one that it leaves has not.
 #[tactic(auto, unfolding(crate::specs::Steps::found_at_exit))]
-pub fn found_at_exit(virt: &Virtual, first: &FirstBuffer, tag: &Tag, memory: &PhysMem) -> Leaves
-    ensures value { leaves_list result
-        ≡ found_at_exit (hart_state virt.now first.now tag.now) memory.now }
+pub fn found_at_exit(state: &HartState, memory: &PhysMem) -> Leaves
+    ensures value { leaves_list result ≡ found_at_exit state.now memory.now }
     ensures fits { LeavesFit result }
 {
-    match pending(&virt.csrs, virt.mode) {
+    match pending(&state.virt.csrs, state.virt.mode) {
         Some(_) => Leaves::none(),
-        None => leaves_found(virt, first, tag, memory),
+        None => leaves_found(state, memory),
     }
 }

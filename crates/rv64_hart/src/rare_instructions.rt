@@ -15,10 +15,10 @@ ghost use Rattle.machine_defs.specs.Core.{accessed_data, called_from, event_of, 
 ghost use Rattle.machine_defs.specs.FirstLeaves.{entries_of};
 ghost use Rattle.arch_defs.specs.Registers.{next};
 ghost use Rattle.machine_defs.specs.Privileges.{csr_accessed, privileged};
-ghost use Rattle.translation_buffer.specs.Serving.{Serves};
-ghost use Rattle.rv64_hart.specs.Endings.{IfPlain, IfRaised, KeepsContext, ServesHart, attempt_at, attempt_by, attempt_with};
+ghost use Rattle.translation_buffer.specs.Serving.{Serves, ServesHart};
+ghost use Rattle.rv64_hart.specs.Endings.{IfPlain, IfRaised, KeepsContext, attempt_at, attempt_by, attempt_with};
 ghost use Rattle.rv64_hart.specs.MachineMemory.{found_over, mmu_on};
-ghost use Rattle.rv64_hart.specs.Steps.{Raises, attempt_of, with_first};
+ghost use Rattle.rv64_hart.specs.Steps.{Raises, attempt_of, caching, with_first};
 
 use crate::accesses::{access_data, access_data_anew};
 use crate::endings::{Ended, raise};
@@ -238,7 +238,7 @@ fn apply(
 {
     match effect {
         Effect::Sets { rd, value, next } => {
-            cache(&mut state.first, buffer, found);
+            cache(&mut state.virt.first, buffer, found);
             state.virt.regs.advance(rd, value, next);
             Ended::Plain
         }
@@ -343,22 +343,24 @@ fn settle(state: &mut HartState, buffer: &mut Buffer, found: Option<&FirstEntry>
     requires fits { IfSome found (λ e. HasGuestFrame e.now) }
     ensures state { state.new ≡ with_first state.old (entries_of (option_map (λ e. e.now) found.entry)) }
     ensures serves { (before : Csrs) (mode_before : Mode) (memory : List ℕ)
-        → Serves buffer.old state.old.first state.old.tag before mode_before memory
+        → Serves buffer.old state.old.virt.first state.old.tag before mode_before memory
         → ServesHart buffer.new state.new memory }
 {
-    cache(&mut state.first, buffer, found);
+    cache(&mut state.virt.first, buffer, found);
     follow(&state.virt, buffer);
 }
 
 // Drops the first-stage translations that a fence names, made for these accesses, or else for the hart's own,
 // and all that is kept.
 fn fence_first(state: &mut HartState, buffer: &mut Buffer, named: Option<Tag>, fence: &Fence)
-    ensures state { state.new ≡ record state.old {
-      first = unnamed_first (names_first (unwrap_or named state.old.tag) fence.now) state.old.first;
-    } }
+    ensures state { state.new ≡ caching state.old
+        (unnamed_first (names_first (unwrap_or named state.old.tag) fence.now) state.old.virt.first) }
     ensures serves { (memory : List ℕ) → ServesHart buffer.new state.new memory }
 {
-    state.first.drop_named(named.unwrap_or(state.tag), fence);
+    state
+        .virt
+        .first
+        .drop_named(named.unwrap_or(state.tag), fence);
     buffer.restart(&state.virt.csrs, state.virt.mode);
 }
 

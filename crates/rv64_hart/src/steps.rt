@@ -4,7 +4,7 @@ ghost use Rattle.std.specs.Prelude.{◌≡◌, ◌^◌, ◌<◌, ℕ, List, Some
 ghost use Rattle.arch_defs.specs.declared.first.FirstEntry.{FirstEntry};
 ghost use Rattle.arch_defs.specs.declared.first.Tag.{Tag};
 ghost use Rattle.arch_defs.specs.declared.hart_states.HartState.{HartState};
-ghost use Rattle.arch_defs.specs.FirstEntries.{HasGuestFrame, all_filled};
+ghost use Rattle.arch_defs.specs.FirstEntries.{HasGuestFrame};
 ghost use Rattle.arch_defs.specs.Interrupts.{due};
 ghost use Rattle.arch_defs.specs.Traps.{entered_at, is_virtual, target};
 ghost use Rattle.op_defs.specs.Meaning.{branch, jump, meaning};
@@ -12,10 +12,10 @@ ghost use Rattle.op_defs.specs.Table.{is_system, op_of};
 ghost use Rattle.machine_defs.specs.Core.{core, event_of};
 ghost use Rattle.machine_defs.specs.FirstLeaves.{entries_of};
 ghost use Rattle.arch_defs.specs.Registers.{sets, next};
-ghost use Rattle.translation_buffer.specs.Serving.{Serves};
+ghost use Rattle.translation_buffer.specs.Serving.{ServesHart};
 ghost use Rattle.rv64_hart.specs.Counts.{OnlyTrace};
-ghost use Rattle.rv64_hart.specs.Endings.{IfLeft, IfPlain, IfRaised, NoneDueIfQuiet, KeepsContext, ServesHart, attempt_at, attempt_by, attempt_of_effect, attempt_of_word, counted_of, told_by, told_of};
-ghost use Rattle.rv64_hart.specs.MachineMemory.{hart_state, mmu_on};
+ghost use Rattle.rv64_hart.specs.Endings.{IfLeft, IfPlain, IfRaised, NoneDueIfQuiet, KeepsContext, attempt_at, attempt_by, attempt_of_effect, attempt_of_word, counted_of, told_by, told_of};
+ghost use Rattle.rv64_hart.specs.MachineMemory.{mmu_on};
 ghost use Rattle.rv64_hart.specs.Steps.{Exits, attempt_of, found_at_exit, hart_step, next_attempt, one_more_step, progress, progressed, trapped_to, with_first, with_found_on};
 
 use crate::accesses::{kept_place, load_data, store_data, word_at};
@@ -25,10 +25,9 @@ use crate::rare_instructions::{follow, is_system, rare};
 use crate::tallies::Tally;
 use crate::walked_accesses::reach;
 use arch_defs::{
-    Access, FirstBuffer, FirstEntry, HartState, INSTRUCTION_MISALIGNED, Level, Reg, Tag, Trap,
-    Virtual, Width,
+    Access, FirstEntry, HartState, INSTRUCTION_MISALIGNED, Level, Reg, Trap, Virtual, Width,
 };
-use int_ops::{alu, word_alu};
+use int_ops::{double_alu, word_alu};
 use op_defs::Op;
 use op_effects::{address_at, even, is_branch_taken};
 use phys_mem::PhysMem;
@@ -91,7 +90,7 @@ fn trap_to_target(
 {
     match target(&state.virt.csrs, state.virt.mode, trap) {
         Level::VS => {
-            cache_found(&state.virt, &mut state.first, &state.tag, memory, buffer);
+            cache_found(state, memory, buffer);
             take_into_vs(&mut state.virt, trap);
             follow(&state.virt, buffer);
             if watch {
@@ -106,21 +105,14 @@ fn trap_to_target(
 
 // Caches what the next step finds.
 #[tactic(auto, using(crate::proofs::FirstFound::filled_both))]
-fn cache_found(
-    virt: &Virtual,
-    first: &mut FirstBuffer,
-    tag: &Tag,
-    memory: &PhysMem,
-    buffer: &mut Buffer,
-)
-    requires serves { Serves buffer.old first.old tag.now virt.now.csrs virt.now.mode memory.now }
-    ensures found { first.new ≡ all_filled first.old
-        (found_at_exit (hart_state virt.now first.old tag.now) memory.now) }
-    ensures serves { Serves buffer.new first.new tag.now virt.now.csrs virt.now.mode memory.now }
+fn cache_found(state: &mut HartState, memory: &PhysMem, buffer: &mut Buffer)
+    requires serves { ServesHart buffer.old state.old memory.now }
+    ensures found { state.new ≡ with_first state.old (found_at_exit state.old memory.now) }
+    ensures serves { ServesHart buffer.new state.new memory.now }
 {
-    let found = found_at_exit(virt, first, tag, memory);
-    cache(first, buffer, found.at_pc.as_ref());
-    cache(first, buffer, found.of_data.as_ref());
+    let found = found_at_exit(state, memory);
+    cache(&mut state.virt.first, buffer, found.at_pc.as_ref());
+    cache(&mut state.virt.first, buffer, found.of_data.as_ref());
 }
 
 // Takes a trap into VS.
@@ -205,16 +197,7 @@ fn instruction(
     ensures plain { IfPlain result (KeepsContext state.old.virt state.new.virt) }
 {
     let pc = state.virt.regs.pc;
-    match kept_place(
-        &state.virt,
-        &state.first,
-        &state.tag,
-        memory,
-        buffer,
-        pc,
-        Width::Word,
-        Access::Fetch,
-    ) {
+    match kept_place(state, memory, buffer, pc, Width::Word, Access::Fetch) {
         Some(place) => counted(state, memory, buffer, word_at(memory, place), tally, trap),
         None => instruction_anew(state, memory, buffer, tally, trap),
     }
@@ -243,17 +226,7 @@ fn instruction_anew(
     let pc = state.virt.regs.pc;
     let (width, access) = (Width::Word, Access::Fetch);
     let mut entry = None;
-    match reach(
-        &state.virt,
-        &state.first,
-        &state.tag,
-        memory,
-        pc,
-        width,
-        access,
-        trap,
-        &mut entry,
-    ) {
+    match reach(state, memory, pc, width, access, trap, &mut entry) {
         Some(place) => {
             let found = entry.as_ref();
             counted_anew(
@@ -400,11 +373,11 @@ fn made(
             rs1,
             immediate,
         } => {
-            let value = alu(op, state.virt.regs.read(rs1), immediate);
+            let value = double_alu(op, state.virt.regs.read(rs1), immediate);
             sets(&mut state.virt, rd, value)
         }
         Op::Alu { op, rd, rs1, rs2 } => {
-            let value = alu(op, state.virt.regs.read(rs1), state.virt.regs.read(rs2));
+            let value = double_alu(op, state.virt.regs.read(rs1), state.virt.regs.read(rs2));
             sets(&mut state.virt, rd, value)
         }
         Op::WordImmediate {
@@ -481,7 +454,7 @@ fn jump(state: &mut HartState, rd: Reg, to: u64, trap: &mut Trap) -> Ended
         ≡ attempt_by result trap.new (event_of state.old.virt.regs.pc word) state.new memory }
     ensures stays { IfRaised result (state.new ≡ state.old) }
     ensures keeps { KeepsContext state.old.virt state.new.virt }
-    ensures first { state.new.first ≡ state.old.first }
+    ensures first { state.new.virt.first ≡ state.old.virt.first }
     ensures tag { state.new.tag ≡ state.old.tag }
 {
     if to % 4 == 0 {
@@ -502,7 +475,7 @@ fn branch(state: &mut HartState, taken: bool, to: u64, trap: &mut Trap) -> Ended
         ≡ attempt_by result trap.new (event_of state.old.virt.regs.pc word) state.new memory }
     ensures stays { IfRaised result (state.new ≡ state.old) }
     ensures keeps { KeepsContext state.old.virt state.new.virt }
-    ensures first { state.new.first ≡ state.old.first }
+    ensures first { state.new.virt.first ≡ state.old.virt.first }
     ensures tag { state.new.tag ≡ state.old.tag }
 {
     if !taken {

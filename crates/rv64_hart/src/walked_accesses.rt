@@ -7,15 +7,13 @@ ghost use Rattle.arch_defs.specs.Translation.{first_stage};
 ghost use Rattle.arch_defs.specs.Walk.{most_levels};
 ghost use Rattle.machine_defs.specs.Answers.{answer_of};
 ghost use Rattle.machine_defs.specs.Core.{found_with};
-ghost use Rattle.machine_defs.specs.FirstLeaves.{entries_of, entry_walked, known_of, unless_known};
+ghost use Rattle.machine_defs.specs.FirstLeaves.{entries_of, entry_walked, unless_known};
 ghost use Rattle.data_access.specs.Places.{IsPlaceFor};
 ghost use Rattle.stage_walk.specs.Ends.{LeafFits};
 ghost use Rattle.two_stage_walk.specs.Places.{KeepsOffset};
-ghost use Rattle.rv64_hart.specs.MachineMemory.{access_over, found_over, hart_state, mmu_on, reading_of_memory, second_of_memory};
+ghost use Rattle.rv64_hart.specs.MachineMemory.{access_over, found_over, known_on, mmu_on, reading_of_memory, second_of_memory};
 
-use arch_defs::{
-    Access, FirstBuffer, FirstEntry, Found, LeafPte, SupervisorRoot, Tag, Trap, Virtual, Width,
-};
+use arch_defs::{Access, FirstEntry, Found, HartState, LeafPte, SupervisorRoot, Tag, Trap, Width};
 use data_access::is_aligned;
 use phys_mem::{Mem, PhysMem};
 use translation_buffer::passed_by;
@@ -44,27 +42,27 @@ fn first_entry(tag: &Tag, atp: SupervisorRoot, va: u64, leaf: &LeafPte) -> First
 #[inline(never)]
 #[tactic(auto, using(crate::proofs::FirstFound::leaf_passes), unfolding(arch_defs::specs::Translation::first_stage, machine_defs::specs::FirstLeaves::entry_walked))]
 fn walked(
-    virt: &Virtual,
-    tag: &Tag,
+    state: &HartState,
     memory: &PhysMem,
     va: u64,
     access: Access,
     entry: &mut Option<FirstEntry>,
 ) -> Found
     requires none { entry.old ≡ None }
-    ensures found { result ≡ first_stage (second_of_memory virt.now memory.now)
-        (reading_of_memory memory.now) virt.now.csrs virt.now.mode va access }
-    ensures entry { (known : Known) → entry.new ≡ entry_walked tag.now
-        (mmu known (second_of_memory virt.now memory.now) (reading_of_memory memory.now))
-        virt.now va access }
+    ensures found { result ≡ first_stage (second_of_memory state.now.virt memory.now)
+        (reading_of_memory memory.now) state.now.virt.csrs state.now.virt.mode va access }
+    ensures entry { (known : Known) → entry.new ≡ entry_walked state.now.tag
+        (mmu known (second_of_memory state.now.virt memory.now) (reading_of_memory memory.now))
+        state.now.virt va access }
     ensures offset { KeepsOffset va result }
     ensures fits { IfSome entry.new HasGuestFrame }
 {
+    let virt = &state.virt;
     memory.is_whole();
     match first_leaf(memory, &virt.csrs, virt.mode, va, access) {
         Some(leaf) => {
             let atp = supervisor_of(&virt.csrs, virt.mode).atp;
-            *entry = Some(first_entry(tag, atp, va, &leaf));
+            *entry = Some(first_entry(&state.tag, atp, va, &leaf));
             Found::Passes(leaf_address(&leaf, va))
         }
         None => first_stage(memory, &virt.csrs, virt.mode, va, access),
@@ -74,28 +72,25 @@ fn walked(
 // The same by the translations that are cached, and else by a walk.
 #[tactic(auto, unfolding(arch_defs::specs::Translation::first_stage, machine_defs::specs::FirstLeaves::entry_walked))]
 fn first_stage_of(
-    virt: &Virtual,
-    first: &FirstBuffer,
-    tag: &Tag,
+    state: &HartState,
     memory: &PhysMem,
     va: u64,
     access: Access,
     entry: &mut Option<FirstEntry>,
 ) -> Found
     requires none { entry.old ≡ None }
-    ensures found { result ≡ found_with (known_of first.now tag.now virt.now va access)
-        (first_stage (second_of_memory virt.now memory.now) (reading_of_memory memory.now)
-        virt.now.csrs virt.now.mode va access) }
-    ensures entry { entries_of entry.new ≡ unless_known (known_of first.now tag.now virt.now va access)
-        (entry_walked tag.now (mmu_on (hart_state virt.now first.now tag.now) memory.now)
-        virt.now va access) }
+    ensures found { result ≡ found_with (known_on state.now va access)
+        (first_stage (second_of_memory state.now.virt memory.now) (reading_of_memory memory.now)
+        state.now.virt.csrs state.now.virt.mode va access) }
+    ensures entry { entries_of entry.new ≡ unless_known (known_on state.now va access)
+        (entry_walked state.now.tag (mmu_on state.now memory.now) state.now.virt va access) }
     ensures offset { KeepsOffset va result }
     ensures fits { IfSome entry.new HasGuestFrame }
 {
-    let atp = supervisor_of(&virt.csrs, virt.mode).atp;
-    match passed_by(first, tag, &virt.csrs, virt.mode, &atp, va, access) {
+    let atp = supervisor_of(&state.virt.csrs, state.virt.mode).atp;
+    match passed_by(state, &atp, va, access) {
         Some(address) => Found::Passes(address),
-        None => walked(virt, tag, memory, va, access, entry),
+        None => walked(state, memory, va, access, entry),
     }
 }
 
@@ -104,9 +99,7 @@ fn first_stage_of(
 /// `entry`.
 #[tactic(auto, using(data_access::proofs::Fitting::fits_at))]
 pub fn reach(
-    virt: &Virtual,
-    first: &FirstBuffer,
-    tag: &Tag,
+    state: &HartState,
     memory: &PhysMem,
     va: u64,
     width: Width,
@@ -115,19 +108,19 @@ pub fn reach(
     entry: &mut Option<FirstEntry>,
 ) -> Option<u64>
     requires none { entry.old ≡ None }
-    ensures place { ok_or result trap.new ≡ answer_of false virt.now.csrs (machine_memory memory.now)
-        (access_over memory.now (hart_state virt.now first.now tag.now) va width access) }
-    ensures entry { entries_of entry.new
-        ≡ found_over memory.now (hart_state virt.now first.now tag.now) va width access }
+    ensures place { ok_or result trap.new ≡ answer_of false state.now.virt.csrs
+        (machine_memory memory.now) (access_over memory.now state.now va width access) }
+    ensures entry { entries_of entry.new ≡ found_over memory.now state.now va width access }
     ensures inside { IfSome result (λ place. IsPlaceFor (machine_memory memory.now) width place) }
     ensures fits { IfSome entry.new HasGuestFrame }
 {
+    let virt = &state.virt;
     memory.is_whole();
     if !is_aligned(va, width) {
         *trap = Trap::of_exception(virt.mode, access.faults().misaligned, va);
         return None;
     }
-    let found = first_stage_of(virt, first, tag, memory, va, access, entry);
+    let found = first_stage_of(state, memory, va, access, entry);
     match translate_found(memory, &virt.csrs, virt.mode, va, access, false, found) {
         Ok(place) => Some(place),
         Err(raised) => {

@@ -3,11 +3,11 @@
 ghost use Rattle.std.specs.Prelude.{◌≡◌};
 ghost use Rattle.op_defs.specs.Table.{op_of};
 ghost use Rattle.machine_laws.specs.MissedPlaces.{wanted_by, wanted_of};
-ghost use Rattle.rv64_hart.specs.MachineMemory.{hart_state, wanted_next};
+ghost use Rattle.rv64_hart.specs.MachineMemory.{wanted_next};
 
 use crate::accesses::word_at;
 use crate::walked_accesses::reach;
-use arch_defs::{Access, FirstBuffer, Tag, Trap, Virtual, Width};
+use arch_defs::{Access, HartState, Trap, Virtual, Width};
 use data_access::DataAccess;
 use op_defs::Effect;
 use op_effects::effect_of;
@@ -35,25 +35,17 @@ pub fn wanted_of(virt: &Virtual, word: u32) -> Option<DataAccess>
 }
 
 /// The access to data that the word at pc wants, whether or not that has a place, by the hart's own fetch as
-/// memory is, with these registers, these first-stage translations cached, and for these accesses. None where
-/// the fetch has no place, and where the word is no instruction with such an access; that of HLV, HLVX and
-/// HSV is the host's.
+/// memory is, in this state. None where the fetch has no place, and where the word is no instruction with
+/// such an access; that of HLV, HLVX and HSV is the host's.
 #[tactic(auto, using(crate::proofs::Places::wanted_found, crate::proofs::Places::wanted_none))]
-pub fn wanted_at(
-    virt: &Virtual,
-    first: &FirstBuffer,
-    tag: &Tag,
-    memory: &PhysMem,
-) -> Option<DataAccess>
-    ensures { result ≡ wanted_next (hart_state virt.now first.now tag.now) memory.now }
+pub fn wanted_at(state: &HartState, memory: &PhysMem) -> Option<DataAccess>
+    ensures { result ≡ wanted_next state.now memory.now }
 {
-    let pc = virt.regs.pc;
+    let pc = state.virt.regs.pc;
     let (width, access) = (Width::Word, Access::Fetch);
     let (mut trap, mut entry) = (Trap::of_interrupt(0), None);
-    match reach(
-        virt, first, tag, memory, pc, width, access, &mut trap, &mut entry,
-    ) {
-        Some(place) => wanted_of(virt, word_at(memory, place)),
+    match reach(state, memory, pc, width, access, &mut trap, &mut entry) {
+        Some(place) => wanted_of(&state.virt, word_at(memory, place)),
         None => None,
     }
 }

@@ -1,5 +1,4 @@
 pub mod FirstStage
 pub mod Instructions
 pub mod Registers
-pub mod Rerooted
 pub mod Undone

@@ -1,6 +1,8 @@
 -- Loading, saving, translations and traps.
-use Rattle.std.specs.Prelude.{◌||◌, ◌&&◌, ◌/◌, ◌%◌, ◌^◌, min, nat_lt, if◌then◌else◌}
-use Rattle.std.proofs.lemmas.Bool.{eqb-true, eq-eqb}
+use Rattle.std.specs.Prelude.{◌||◌, ◌&&◌, ◌==◌, ◌*◌, ◌/◌, ◌%◌, ◌^◌, ◌≤◌, ◌<◌, List, Option, Some, None, get_or, length, min, nat_le, nat_lt, option_map, if◌then◌else◌}
+use Rattle.std.specs.List.{position, position_or_len}
+use Rattle.std.proofs.lemmas.List.Sums.{position_or_len_is}
+use Rattle.std.proofs.lemmas.Bool.{and_parts, eqb-true, eq-eqb, leb-true, lt-ltb, ltb-true, ne_eqb}
 use Rattle.std.proofs.lemmas.Nat.Bits.{bit_at_and}
 use Rattle.std.proofs.Common.{cond, ◌≡◌, ◌∙◌, ℕ, ◌+◌, ◌-◌, Bool, true, false, refl, ap, sym, arith}
 use Rattle.arch_defs.specs.declared.levels.Level.TheVariants as level
@@ -15,14 +17,15 @@ use Rattle.arch_defs.specs.Bits.{bit}
 use Rattle.arch_defs.specs.CsrBits.{hedeleg_bits}
 use Rattle.arch_defs.specs.Interrupts.{interrupt_of}
 use Rattle.arch_defs.specs.Layouts.{Layout}
-use Rattle.arch_defs.specs.Memory.{Reading, SecondStage}
+use Rattle.arch_defs.specs.Memory.{Reading, SecondStage, block_size, ram_base}
+use Rattle.arch_defs.specs.Ram.{IsDistinct}
 use Rattle.arch_defs.specs.Translation.{first_stage, found_under}
 use Rattle.arch_defs.specs.Traps.{entered_at, entered_hs, entered_vs, exception, is_delegated, is_guest_page_fault, is_virtual, target}
 use Rattle.csr_file.proofs.Statuses.{hedeleg_under}
-use Rattle.machine_laws.specs.HostPlaces.{in_ram}
-use Rattle.machine_laws.specs.Renaming.{ReservesWithin}
-use Rattle.world_switch.specs.Hosting.{after_hs_trap, guest_state_after, guest_state_of, hart_state_in, hart_state_of, hosted_csrs, hosted_level, hosted_mode, saved_csrs, saved_mode}
-use Rattle.world_switch.specs.Laws.{ExceptionsAlike, InterruptsAlike, IsVirtual, LoadAfterSave, NestedTrapsAlike, SaveAfterLoad, SavesBack, TakesAlike, TranslatesAlike, hidden}
+use Rattle.machine_laws.specs.HostPlaces.{in_ram, memory_place}
+use Rattle.machine_laws.specs.Renaming.{ReservesWithin, reservation_renamed}
+use Rattle.world_switch.specs.Hosting.{after_hs_trap, guest_state_after, guest_state_of, hart_state_of, hosted_csrs, hosted_level, hosted_mode, own_address, saved_csrs, saved_mode, saved_reservation}
+use Rattle.world_switch.specs.Laws.{ExceptionsAlike, InterruptsAlike, IsVirtual, LoadAfterSave, NestedTrapsAlike, SaveAfterLoad, SavesBack, SavesOwn, TakesAlike, TranslatesAlike, hidden}
 
 -- modes
 pub virtual_mode : (mode : Mode) → is_virtual (hosted_mode mode) ≡ true
@@ -72,10 +75,40 @@ same_csrs root true csrs = refl
 pub save_after_load : SaveAfterLoad
 save_after_load = λ root v. rw (same_mode v.mode, same_csrs root (is_virtual v.mode) v.csrs) refl
 
+-- a place of a guest's RAM in machine memory is that of one guest physical address
+inside : (blocks : List ℕ) (x : ℕ) → in_ram blocks x ≡ true → (ram_base ≤ x) × (x < ram_base + length blocks * block_size)
+inside blocks x held = let both = and_parts (nat_le ram_base x) (nat_lt x (ram_base + length blocks * block_size)) held in
+    (leb-true ram_base x both.0, ltb-true x (ram_base + length blocks * block_size) both.1)
+
+at_block : (blocks : List ℕ) (k n : ℕ) → IsDistinct blocks → k < length blocks → n ≡ get_or blocks k 0 → position (λ block. block == n) blocks ≡ Some k
+at_block blocks k n distinct there is =
+    let first : position_or_len (λ block. block == n) blocks ≡ k = position_or_len_is (λ block. block == n) blocks k 0 (omega (arith, there))
+    (λ j before. ne_eqb (get_or blocks j 0) n (λ same. absurd (omega (arith, before, distinct j k (omega (arith, before, there)) there (same ∙ is)))))
+    (λ below. eq-eqb (get_or blocks k 0) n (sym is)) in
+    rw (first, lt-ltb k (length blocks) there) refl
+
+pub own_again : (blocks : List ℕ) (x : ℕ) → IsDistinct blocks → in_ram blocks x ≡ true → own_address blocks (memory_place blocks x) ≡ Some x
+own_again blocks x distinct held =
+    let k : ℕ = (x - ram_base) / block_size in
+    let block : ℕ = get_or blocks k 0 in
+    let bounds = inside blocks x held in
+    let there : k < length blocks = omega (arith, bounds) in
+    let number : (block * block_size + (x - ram_base) % block_size) / block_size ≡ block = omega arith in
+    ap (option_map (λ i. ram_base + i * block_size + memory_place blocks x % block_size)) (at_block blocks k (memory_place blocks x / block_size) distinct there number)
+    ∙ ap Some (omega (arith, bounds))
+
+reservation_again : (part : Layout) → IsDistinct part.blocks → (reservation : Option (ℕ × ℕ)) → ReservesWithin (in_ram part.blocks) reservation
+    → saved_reservation part (reservation_renamed (memory_place part.blocks) reservation) ≡ reservation
+reservation_again part distinct None held = refl
+reservation_again part distinct (Some (x, bytes)) held = ap (option_map (λ address. (address, bytes))) (own_again part.blocks x distinct held)
+
 -- so with the reservation at its place in machine memory
-pub saves_back : (part : Layout) (root : GuestRoot) (v hart : Virtual) → ReservesWithin (in_ram part.blocks) v.reservation → hart ≡ hart_state_in part root v
-    → SavesBack part hart v
-saves_back part root v hart held is = λ after saved. saved (hart_state_of root v) held is ∙ save_after_load root v
+pub saves_own : SavesOwn
+saves_own = λ part own before names held.
+    ap (λ reservation. record (guest_state_of own before) { reservation = reservation }) (reservation_again part names.distinct own.reservation held)
+
+pub saves_back : SavesBack
+saves_back = λ part root v names held. saves_own part (hart_state_of root v) v names held ∙ save_after_load root v
 
 -- registers that were saved and loaded
 csrs_again : (root : GuestRoot) (virtual : Bool) (csrs hart : Csrs) → hidden hart ≡ hidden (hosted_csrs root virtual csrs)

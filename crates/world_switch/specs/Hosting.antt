@@ -1,7 +1,7 @@
 -- How the hart stands for a guest: with V = 0 its VS and VU for the guest's HS and U, with V = 1 for the
 -- guest's VS and VU.
-use Rattle.std.specs.Prelude.{ℕ, ◌≡◌, ◌+◌, ◌*◌, ◌%◌, Bool, true, false, not, ◌&&◌, ◌==◌, nat_lt, if◌then◌else◌, List}
-use Rattle.arch_defs.specs.declared.first.FirstEntry.{FirstEntry}
+use Rattle.std.specs.Prelude.{ℕ, ◌+◌, ◌*◌, ◌/◌, ◌%◌, Bool, true, false, not, ◌&&◌, ◌==◌, nat_lt, if◌then◌else◌, List, Option, Some, None, option_map}
+use Rattle.std.specs.List.{position}
 use Rattle.arch_defs.specs.declared.hart_states.HartState.{HartState}
 use Rattle.arch_defs.specs.declared.levels.Level.{Level}
 use Rattle.arch_defs.specs.declared.levels.Level.TheVariants as level
@@ -16,6 +16,7 @@ use Rattle.arch_defs.specs.declared.registers.Interrupts.{Interrupts}
 use Rattle.arch_defs.specs.declared.registers.Virtual.{Virtual}
 use Rattle.arch_defs.specs.CsrBits.{hedeleg_bits}
 use Rattle.arch_defs.specs.Layouts.{Layout}
+use Rattle.arch_defs.specs.Memory.{block_size, ram_base}
 use Rattle.arch_defs.specs.Registers.{clear_hypervisor_status, clear_supervisor_status, csrs_at_reset, supervisor_at_reset}
 use Rattle.arch_defs.specs.Roots.{folded_mode, host_mode}
 use Rattle.arch_defs.specs.Traps.{is_supervisor, is_virtual, mode_of}
@@ -94,6 +95,7 @@ hart_state_of root virt = record {
   csrs = hosted_csrs root (is_virtual virt.mode) virt.csrs;
   mode = hosted_mode virt.mode;
   reservation = virt.reservation;
+  first = virt.first;
 }
 
 -- whether a frame is the first of the root of one of a part's spaces
@@ -122,19 +124,9 @@ space_root frame = Table folded_mode 0 frame
 abbrev pub hart_state_in : Layout → GuestRoot → Virtual → Virtual
 hart_state_in part root virt = renamed (memory_place part.blocks) (hart_state_of root virt)
 
--- it has a guest's state, under whatever root its second stage is
-abbrev pub HasState : Layout → Virtual → Virtual → Type 0
-HasState part hart virt = hart ≡ hart_state_in part hart.csrs.hgatp virt
-
--- all that it has for that guest: beside its state the guest's first-stage translations, and for whom the
--- guest's accesses are
-abbrev pub loaded_in : Layout → GuestRoot → Virtual → List FirstEntry → HartState
-loaded_in part root virt first =
-    record { virt = hart_state_in part root virt; first = first; tag = tag_of virt }
-
--- a hart's with other first-stage translations
-abbrev pub with_buffer : HartState → List FirstEntry → HartState
-with_buffer hart first = record hart { first = first }
+-- all that it has for that guest: beside its state, for whom the guest's accesses are
+abbrev pub loaded_in : Layout → GuestRoot → Virtual → HartState
+loaded_in part root virt = record { virt = hart_state_in part root virt; tag = tag_of virt }
 
 -- what the guest has after the hart has run, by the guest's V; what the hart does not have for it stays
 abbrev pub saved_csrs : Bool → Csrs → Csrs → Csrs
@@ -159,7 +151,27 @@ guest_state_of hart before = record {
   csrs = saved_csrs (is_virtual before.mode) hart.csrs before.csrs;
   mode = saved_mode (is_virtual before.mode) hart.mode;
   reservation = hart.reservation;
+  first = hart.first;
 }
+
+-- the guest physical address that these blocks of machine memory have at a place, if one of them has it
+abbrev pub own_address : List ℕ → ℕ → Option ℕ
+own_address blocks place = option_map (λ i. ram_base + i * block_size + place % block_size)
+    (position (λ block. block == place / block_size) blocks)
+
+-- the guest's reservation, at its own address, by the hart's, which is at a place in machine memory; a place
+-- that the part does not have gives none
+abbrev pub own_reservation : Layout → ℕ → ℕ → Option (ℕ × ℕ)
+own_reservation part place bytes = option_map (λ address. (address, bytes)) (own_address part.blocks place)
+
+abbrev pub saved_reservation : Layout → Option (ℕ × ℕ) → Option (ℕ × ℕ)
+saved_reservation part (Some (place, bytes)) = own_reservation part place bytes
+saved_reservation part None = None
+
+-- what the guest that has this part has after the hart has run
+abbrev pub saved_in : Layout → Virtual → Virtual → Virtual
+saved_in part hart before =
+    record (guest_state_of hart before) { reservation = saved_reservation part hart.reservation }
 
 -- and after the hart has taken a trap into VS that stands for one into the guest's HS with V = 0 (Privileged
 -- Architecture 20211203, 8.2.1, 8.2.8, 8.2.9): GVA, SPV, htval and htinst, which the hart does not have for

@@ -15,7 +15,7 @@ use Rattle.arch_defs.specs.declared.roots.GuestRoot.{GuestRoot}
 use Rattle.arch_defs.specs.declared.registers.Virtual.{Virtual}
 use Rattle.arch_defs.specs.CsrAccess.{read_csr, write_csr}
 use Rattle.arch_defs.specs.Interrupts.{interrupt_of, is_ready_for_hs}
-use Rattle.arch_defs.specs.Layouts.{Layout}
+use Rattle.arch_defs.specs.Layouts.{Layout, NamesEachOnce}
 use Rattle.arch_defs.specs.Memory.{Mmu, Reading, SecondStage}
 use Rattle.arch_defs.specs.Registers.{clear_interrupts, supervisor_at_reset}
 use Rattle.arch_defs.specs.Translation.{first_stage}
@@ -28,7 +28,7 @@ use Rattle.machine_defs.specs.FirstLeaves.{known_of, leaves_found}
 use Rattle.machine_defs.specs.Outcomes.{Done, FirstFenced}
 use Rattle.machine_defs.specs.Privileges.{privileged, refused}
 use Rattle.machine_laws.specs.Renaming.{ReservesWithin, renamed}
-use Rattle.world_switch.specs.Hosting.{guest_state_after, guest_state_of, hart_state_of, hosted_csrs, hosted_level, hosted_mode, saved_csrs}
+use Rattle.world_switch.specs.Hosting.{guest_state_after, guest_state_of, hart_state_of, hosted_csrs, hosted_level, hosted_mode, loaded_in, saved_csrs, saved_in}
 
 -- the hart runs in this mode for that mode of the guest
 abbrev pub Hosts : Mode → Mode → Type 0
@@ -42,7 +42,7 @@ pub record IsVirtual : Type 0 where
   pub vs : Hosts VS VS
   pub vu : Hosts VU VU
 
--- what is saved of a hart that was just loaded is what the guest had
+-- what is saved of a hart that was just loaded is what the guest had, with the guest's own addresses on both
 abbrev pub SaveAfterLoad : Type 0
 SaveAfterLoad = (root : GuestRoot) (v : Virtual) → guest_state_of (hart_state_of root v) v ≡ v
 
@@ -184,13 +184,15 @@ abbrev pub NestedTrapsAlike : Type 0
 NestedTrapsAlike = (root : GuestRoot) (v : Virtual) (trap : Trap) → is_virtual v.mode ≡ true
     → TakesAlike root v trap trap
 
--- what the guest that has this part has after it was saved from the hart: what the same hart gives it with
--- its reservation, if it has one, at the guest's own address
-abbrev pub Saves : Layout → Virtual → Virtual → Virtual → Type 0
-Saves part hart before after =
-    (own : Virtual) → ReservesWithin (in_ram part.blocks) own.reservation
-    → hart ≡ renamed (memory_place part.blocks) own → after ≡ guest_state_of own before
+-- what the guest that has a part has after the hart has run is what the same hart gives it with its
+-- reservation at the guest's own address, if it has one there
+abbrev pub SavesOwn : Type 0
+SavesOwn = (part : Layout) (own before : Virtual)
+    → NamesEachOnce part → ReservesWithin (in_ram part.blocks) own.reservation
+    → saved_in part (renamed (memory_place part.blocks) own) before ≡ guest_state_of own before
 
--- what is saved of a hart for this guest is what the guest had
-abbrev pub SavesBack : Layout → Virtual → Virtual → Type 0
-SavesBack part hart virt = (after : Virtual) → Saves part hart virt after → after ≡ virt
+-- so what is saved of a hart that was just loaded is what the guest had
+abbrev pub SavesBack : Type 0
+SavesBack = (part : Layout) (root : GuestRoot) (v : Virtual)
+    → NamesEachOnce part → ReservesWithin (in_ram part.blocks) v.reservation
+    → saved_in part (loaded_in part root v).virt v ≡ v

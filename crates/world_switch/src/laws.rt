@@ -1,12 +1,14 @@
 // Laws of the definitions.
 
-ghost use Rattle.world_switch.specs.Laws.{ExceptionsAlike, FencesAlike, FindsAlike, IllegalAlike, IllegalToWriteAlike, InterruptsAlike, IsVirtual, KnowsAlike, LoadAfterSave, NestedTrapsAlike, OwnMxr, ReadsAlike, ReturnsAlike, SaveAfterLoad, TimeIsLeft, TranslatesAlike, WaitsAreLeft, WritesAlike};
+ghost use Rattle.world_switch.specs.Laws.{ExceptionsAlike, FencesAlike, FindsAlike, IllegalAlike, IllegalToWriteAlike, InterruptsAlike, IsVirtual, KnowsAlike, LoadAfterSave, NestedTrapsAlike, OwnMxr, ReadsAlike, ReturnsAlike, SaveAfterLoad, SavesBack, SavesOwn, TimeIsLeft, TranslatesAlike, WaitsAreLeft, WritesAlike};
 
 /// The hart runs with V = 1: in VS for HS and VS, and in VU for U and VU. Saving what was loaded gives back
 /// what the guest had, and loading what was saved gives back what the hart had.
 pub fn load_and_save()
     ensures virtual_mode { IsVirtual }
     ensures save_after_load { SaveAfterLoad }
+    ensures saves_own { SavesOwn }
+    ensures saves_back { SavesBack }
     ensures load_after_save { LoadAfterSave }
 {}
 

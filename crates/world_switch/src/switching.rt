@@ -1,58 +1,41 @@
 // What the hart has for a guest, and what the guest has after the hart has run.
 
-ghost use Rattle.std.specs.Prelude.{◌≡◌, ℕ, Option, Some, true, false};
+ghost use Rattle.std.specs.Prelude.{◌≡◌, ◌<◌, ◌≤◌, ◌==◌, length, true, false, IfSome};
+ghost use Rattle.std.specs.List.{position};
 ghost use Rattle.arch_defs.specs.Registers.{clear_hypervisor_status, clear_interrupts};
 ghost use Rattle.arch_defs.specs.Traps.{is_virtual};
 ghost use Rattle.machine_defs.specs.FirstLeaves.{tag_of};
 ghost use Rattle.machine_laws.specs.HostPlaces.{in_ram, memory_place};
 ghost use Rattle.machine_laws.specs.Renaming.{ReservesWithin, renamed, reservation_renamed};
-ghost use Rattle.world_switch.specs.Hosting.{HasState, after_hs_trap, all_interrupts, guest_state_of, hart_state_in, hosted_csrs, hosted_mode, is_space_root, loaded_in, root_at, saved_csrs, saved_mode, supervisor_with, with_buffer};
-ghost use Rattle.world_switch.specs.Laws.{Saves, SavesBack};
+ghost use Rattle.world_switch.specs.Hosting.{after_hs_trap, all_interrupts, hosted_csrs, hosted_mode, is_space_root, loaded_in, own_address, own_reservation, root_at, saved_csrs, saved_in, saved_mode, saved_reservation, supervisor_with};
 
 use arch_defs::{
-    BLOCK_SIZE, Csrs, FOLDED_MODE, FirstBuffer, GuestRoot, HOST_MODE, HartState, HypervisorStatus,
-    Interrupts, Mode, Part, Regs, SupervisorCsrs, SupervisorRoot, SupervisorStatus, Tag, Virtual,
+    BLOCK_SIZE, Csrs, FOLDED_MODE, GuestRoot, HOST_MODE, HartState, HypervisorStatus, Interrupts,
+    Mode, Part, Regs, SupervisorCsrs, SupervisorRoot, SupervisorStatus, Tag, Virtual,
 };
 use csr_file::hedeleg_bits;
 use phys_mem::RAM_BASE;
-use std::mem;
 
 // The exceptions that go to VS (codes 0 to 8, 12, 13 and 15): each that a guest with V = 0 takes, and each
 // that a guest with V = 1 can delegate.
 const OWN_EXCEPTIONS: u64 = 0xB1FF;
 
-/// Gives the hart what it has for the guest that has this part: its state by `load_state`, the guest's
-/// first-stage translations, in whose place the guest gets the hart's, and for whom the guest's accesses are.
-pub fn load(virt: &Virtual, first: &mut FirstBuffer, part: &Part, root: u64, hart: &mut HartState)
+/// Gives the hart what it has for the guest that has this part: its VS and VU stand for the guest's HS and U
+/// with V = 0, and for its VS and VU with V = 1, under the table whose root begins at the frame `root`: by the
+/// mode of folded tables where that is the root of one of the part's spaces, else by the host table's. The
+/// guest's reservation is at its place in machine memory. The hart gets the guest's first-stage translations,
+/// and for whom the guest's accesses are.
+pub fn load(virt: &Virtual, part: &Part, root: u64, hart: &mut HartState)
     requires held { ReservesWithin (in_ram part.now.blocks) virt.now.reservation }
-    ensures has { hart.new ≡ loaded_in part.now (root_at part.now root) virt.now first.old }
-    ensures swaps { first.new ≡ hart.old.first }
-    ensures saves { SavesBack part.now hart.new.virt virt.now }
+    ensures has { hart.new ≡ loaded_in part.now (root_at part.now root) virt.now }
+    ensures saves { saved_in part.now hart.new.virt virt.now ≡ virt.now }
 {
-    load_state(virt, part, root, &mut hart.virt);
-    lend_first(virt, first, hart);
-}
-
-/// Gives the hart, which has this guest's state already, under whatever root, the rest of what `load` gives:
-/// the root, the guest's first-stage translations, and for whom the guest's accesses are.
-#[tactic(auto, using(crate::proofs::Rerooted::rooted))]
-pub fn reload(virt: &Virtual, first: &mut FirstBuffer, part: &Part, root: u64, hart: &mut HartState)
-    requires state { HasState part.now hart.old.virt virt.now }
-    ensures has { hart.new ≡ loaded_in part.now (root_at part.now root) virt.now first.old }
-    ensures swaps { first.new ≡ hart.old.first }
-{
-    hart.virt.csrs.hgatp = root_at(part, root);
-    lend_first(virt, first, hart);
-}
-
-// Gives the hart the guest's first-stage translations, in whose place the guest gets the hart's, and for whom
-// the guest's accesses are.
-fn lend_first(virt: &Virtual, first: &mut FirstBuffer, hart: &mut HartState)
-    ensures has { hart.new ≡ record hart.old { first = first.old; tag = tag_of virt.now } }
-    ensures swaps { first.new ≡ hart.old.first }
-{
-    mem::swap(first, &mut hart.first);
-    hart.tag = tag_of(virt);
+    part.names_each_once();
+    if virt.mode.is_virtual() {
+        to_nested(virt, part, root, hart);
+    } else {
+        to_guest_hs(virt, part, root, hart);
+    }
 }
 
 /// For whom the accesses of a guest are, by V and hgatp.
@@ -66,53 +49,40 @@ pub fn tag_of(virt: &Virtual) -> Tag
     }
 }
 
-/// Sets the state that the hart has for the guest that has this part: its VS and VU stand for the guest's HS
-/// and U with V = 0, and for its VS and VU with V = 1, under the table whose root begins at the frame `root`:
-/// by the mode of folded tables where that is the root of one of the part's spaces, else by the host table's.
-/// The guest's reservation is at its place in machine memory.
-#[inline(always)]
-pub fn load_state(virt: &Virtual, part: &Part, root: u64, hart: &mut Virtual)
-    requires held { ReservesWithin (in_ram part.now.blocks) virt.now.reservation }
-    ensures has { hart.new ≡ hart_state_in part.now (root_at part.now root) virt.now }
-    ensures saves { SavesBack part.now hart.new virt.now }
-{
-    if virt.mode.is_virtual() {
-        to_nested(virt, part, root, hart);
-    } else {
-        to_guest_hs(virt, part, root, hart);
-    }
-}
-
-/// Sets the hart's state for a guest with V = 0: its VS stands for the guest's HS, its VU for the guest's U.
-pub fn to_guest_hs(virt: &Virtual, part: &Part, root: u64, hart: &mut Virtual)
+/// Gives the hart what it has for a guest with V = 0: its VS stands for the guest's HS, its VU for the
+/// guest's U.
+pub fn to_guest_hs(virt: &Virtual, part: &Part, root: u64, hart: &mut HartState)
     requires own { is_virtual virt.now.mode ≡ false }
     requires held { ReservesWithin (in_ram part.now.blocks) virt.now.reservation }
-    ensures { hart.new ≡ hart_state_in part.now (root_at part.now root) virt.now }
+    ensures { hart.new ≡ loaded_in part.now (root_at part.now root) virt.now }
 {
-    set_csrs_of_hs(&virt.csrs, root_at(part, root), &mut hart.csrs);
+    set_csrs_of_hs(&virt.csrs, root_at(part, root), &mut hart.virt.csrs);
     set_others(virt, part, hart);
 }
 
-/// Sets the hart's state for a guest with V = 1: its VS stands for the guest's VS, its VU for the guest's
-/// VU.
-pub fn to_nested(virt: &Virtual, part: &Part, root: u64, hart: &mut Virtual)
+/// Gives the hart what it has for a guest with V = 1: its VS stands for the guest's VS, its VU for the
+/// guest's VU.
+pub fn to_nested(virt: &Virtual, part: &Part, root: u64, hart: &mut HartState)
     requires nested { is_virtual virt.now.mode ≡ true }
     requires held { ReservesWithin (in_ram part.now.blocks) virt.now.reservation }
-    ensures { hart.new ≡ hart_state_in part.now (root_at part.now root) virt.now }
+    ensures { hart.new ≡ loaded_in part.now (root_at part.now root) virt.now }
 {
-    set_csrs_of_vs(&virt.csrs, root_at(part, root), &mut hart.csrs);
+    set_csrs_of_vs(&virt.csrs, root_at(part, root), &mut hart.virt.csrs);
     set_others(virt, part, hart);
 }
 
 // Sets what the hart has for the guest beside its control and status registers.
-fn set_others(virt: &Virtual, part: &Part, hart: &mut Virtual)
+fn set_others(virt: &Virtual, part: &Part, hart: &mut HartState)
     requires held { ReservesWithin (in_ram part.now.blocks) virt.now.reservation }
-    ensures { hart.new ≡ renamed (memory_place part.now.blocks)
-        (record virt.now { csrs = hart.old.csrs; mode = hosted_mode virt.now.mode }) }
+    ensures state { hart.new.virt ≡ renamed (memory_place part.now.blocks)
+        (record virt.now { csrs = hart.old.virt.csrs; mode = hosted_mode virt.now.mode }) }
+    ensures tag { hart.new.tag ≡ tag_of virt.now }
 {
-    copy_registers(&virt.regs, &mut hart.regs);
-    hart.mode = hosted_mode(virt.mode);
-    place(part, virt.reservation, &mut hart.reservation);
+    copy_registers(&virt.regs, &mut hart.virt.regs);
+    hart.virt.mode = hosted_mode(virt.mode);
+    place(part, virt.reservation, &mut hart.virt.reservation);
+    hart.virt.first.copy_from(&virt.first);
+    hart.tag = tag_of(virt);
 }
 
 // Copies the general registers, and pc: a copy of 256 bytes takes half the instructions of one of 264.
@@ -123,27 +93,18 @@ fn copy_registers(from: &Regs, to: &mut Regs)
     to.pc = from.pc;
 }
 
-/// Gives the guest that has this part what the hart has for it: its state, and its first-stage translations,
-/// in whose place the hart gets those that the guest has had meanwhile.
-pub fn save(hart: &mut HartState, part: &Part, virt: &mut Virtual, first: &mut FirstBuffer)
-    ensures saves { Saves part.now hart.old.virt virt.old virt.new }
-    ensures gives { first.new ≡ hart.old.first }
-    ensures swaps { hart.new ≡ with_buffer hart.old first.old }
-{
-    save_state(&hart.virt, part, virt);
-    mem::swap(first, &mut hart.first);
-}
-
-/// Gives the guest that has this part the state that the hart has for it, by the guest's V. The reservation
-/// comes back to the guest's own address. What the hart does not have for the guest stays.
-pub fn save_state(hart: &Virtual, part: &Part, virt: &mut Virtual)
-    ensures { Saves part.now hart.now virt.old virt.new }
+/// Gives the guest that has this part what the hart has for it, by the guest's V. The reservation comes back
+/// to the guest's own address: one at a place that the part does not have becomes none. That cannot occur, for
+/// the hart reserves only what the guest's host table gives. What the hart does not have for the guest stays.
+pub fn save(hart: &HartState, part: &Part, virt: &mut Virtual)
+    ensures { virt.new ≡ saved_in part.now hart.now.virt virt.old }
 {
     let nested = virt.mode.is_virtual();
-    save_csrs(&hart.csrs, nested, &mut virt.csrs);
-    copy_registers(&hart.regs, &mut virt.regs);
-    virt.mode = saved_mode(nested, hart.mode);
-    bring_back(part, hart.reservation, &mut virt.reservation);
+    save_csrs(&hart.virt.csrs, nested, &mut virt.csrs);
+    copy_registers(&hart.virt.regs, &mut virt.regs);
+    virt.mode = saved_mode(nested, hart.virt.mode);
+    virt.reservation = saved_reservation(part, hart.virt.reservation);
+    virt.first.copy_from(&hart.virt.first);
 }
 
 fn save_csrs(hart: &Csrs, nested: bool, csrs: &mut Csrs)
@@ -186,41 +147,40 @@ fn place(part: &Part, reservation: Option<(u64, u8)>, hart: &mut Option<(u64, u8
     }
 }
 
-// Sets a reservation of the guest that has this part, from the one at a place in machine memory.
-fn bring_back(part: &Part, reservation: Option<(u64, u8)>, guest: &mut Option<(u64, u8)>)
-    ensures { (own : Option (ℕ × ℕ)) → ReservesWithin (in_ram part.now.blocks) own
-        → reservation ≡ reservation_renamed (memory_place part.now.blocks) own → guest.new ≡ own }
+// The guest's reservation, by the one at a place in machine memory.
+fn saved_reservation(part: &Part, reservation: Option<(u64, u8)>) -> Option<(u64, u8)>
+    ensures { result ≡ saved_reservation part.now reservation }
 {
     match reservation {
-        Some((place, bytes)) => *guest = guest_reservation(part, place, bytes),
-        None => *guest = None,
+        Some((place, bytes)) => guest_reservation(part, place, bytes),
+        None => None,
     }
 }
 
-// A reservation at a place in machine memory, at the guest's own address. One at a place that the part does
-// not have becomes none. That cannot occur: the hart reserves only what the guest's host table gives.
+// A reservation at a place in machine memory, at the guest's own address, if a block of the part has it.
 #[inline(never)]
 fn guest_reservation(part: &Part, place: u64, bytes: u8) -> Option<(u64, u8)>
-    ensures { (own : Option (ℕ × ℕ)) → ReservesWithin (in_ram part.now.blocks) own
-        → Some (place, bytes) ≡ reservation_renamed (memory_place part.now.blocks) own → result ≡ own }
+    ensures { result ≡ own_reservation part.now place bytes }
 {
-    let address = ram_place(part, place)?;
+    let address = own_address(part.blocks(), place)?;
     Some((address, bytes))
 }
 
-// The guest physical address that the part has at a place in machine memory, or none.
-fn ram_place(part: &Part, place: u64) -> Option<u64>
-    ensures { (x : ℕ) → in_ram part.now.blocks x ≡ true → place ≡ memory_place part.now.blocks x
-        → result ≡ Some x }
+// The guest physical address that these blocks have at a place in machine memory, if one of them has it.
+fn own_address(blocks: &[u32], place: u64) -> Option<u64>
+    requires { length blocks.now ≤ 32 }
+    ensures { result ≡ own_address blocks.now place }
 {
-    part.names_each_once();
-    let blocks = part.blocks();
-    for i in 0..blocks.len() {
-        if blocks[i] as u64 == place / BLOCK_SIZE {
-            return Some(RAM_BASE + i as u64 * BLOCK_SIZE + place % BLOCK_SIZE);
-        }
-    }
-    None
+    let i = index_of(blocks, place / BLOCK_SIZE)?;
+    Some(RAM_BASE + i as u64 * BLOCK_SIZE + place % BLOCK_SIZE)
+}
+
+// The place of the first block with this number.
+fn index_of(blocks: &[u32], number: u64) -> Option<usize>
+    ensures value { result ≡ position (λ block. block == number) blocks.now }
+    ensures inside { IfSome result (λ i. i < length blocks.now) }
+{
+    blocks.iter().position(|block| *block as u64 == number)
 }
 
 // Whether a frame is the first of the root of one of the part's spaces.

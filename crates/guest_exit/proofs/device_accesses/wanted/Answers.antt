@@ -6,5 +6,5 @@ use Rattle.guest_exit.proofs.device_accesses.wanted.Goals as goal
 pub returns : goal.returns
 returns c =
     let guest = c.args.guest.now in
-    (rw (c.hart_state_for-hart.ensures, c.tag_of-tag.ensures) at c.wanted_at.ensures)
+    (rw c.hart_state_for-hart.ensures at c.wanted_at.ensures)
     ∙ wanted_is guest.part guest.pool (machine_of guest c.args.memory.now) c.args.memory.now c.requires.can.placed

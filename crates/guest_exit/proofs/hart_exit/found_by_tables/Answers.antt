@@ -6,5 +6,5 @@ use Rattle.guest_exit.proofs.hart_exit.found_by_tables.Goals as goal
 pub returns-clause-value : goal.returns-clause-value
 returns-clause-value c =
     let guest = c.args.guest.now in
-    (rw (c.hart_state_for-hart.ensures, c.tag_of-tag.ensures) at c.found_at_exit.ensures.value)
+    (rw c.hart_state_for-hart.ensures at c.found_at_exit.ensures.value)
     ∙ found_is guest.part guest.pool (machine_of guest c.args.memory.now) c.args.memory.now c.requires.own c.requires.can.placed

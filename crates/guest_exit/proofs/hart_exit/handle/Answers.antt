@@ -8,7 +8,7 @@ use Rattle.guest_exit.proofs.hart_exit.handle.Goals as goal
 pub returns-clause-does : goal.returns-clause-does
 returns-clause-does c =
     let m = machine_of c.args.guest.now c.args.memory.now in
-    let is = left c.args.guest.now.part c.args.guest.now.pool m c.args.memory.now c.args.trap.now c.requires.exited.can.placed c.requires.exited.hands in
+    let is = left c.args.guest.now.part c.args.guest.now.pool m c.args.memory.now c.args.trap c.requires.exited.can.placed c.requires.exited.hands in
     handled_by m (machine_of c.make_next.new.guest c.make_next.new.memory) _ (found_next m) c.make_next.result is c.make_next.ensures.makes
 
 pub returns-clause-retry : goal.returns-clause-retry
@@ -18,14 +18,14 @@ returns-clause-retry c =
 pub returns-clause-waits : goal.returns-clause-waits
 returns-clause-waits c =
     let m = machine_of c.args.guest.now c.args.memory.now in
-    let is = left c.args.guest.now.part c.args.guest.now.pool m c.args.memory.now c.args.trap.now c.requires.exited.can.placed c.requires.exited.hands in
+    let is = left c.args.guest.now.part c.args.guest.now.pool m c.args.memory.now c.args.trap c.requires.exited.can.placed c.requires.exited.hands in
     handled_waits m (machine_of c.make_next.new.guest c.make_next.new.memory) _ (found_next m) c.make_next.result c.requires.exited.can.step.running is
     c.make_next.ensures.makes c.make_next.ensures.told.status
 
 pub returns-clause-quiet : goal.returns-clause-quiet
 returns-clause-quiet c =
     let m = machine_of c.args.guest.now c.args.memory.now in
-    let is = left c.args.guest.now.part c.args.guest.now.pool m c.args.memory.now c.args.trap.now c.requires.exited.can.placed c.requires.exited.hands in
+    let is = left c.args.guest.now.part c.args.guest.now.pool m c.args.memory.now c.args.trap c.requires.exited.can.placed c.requires.exited.hands in
     rw is.step c.make_next.ensures.quiet
 
 pub returns-clause-keeps : goal.returns-clause-keeps

@@ -1,9 +1,13 @@
-use Rattle.std.proofs.Common.{ℕ, List, refl}
+use Rattle.std.proofs.Common.{ℕ, List, ap, refl, sym, ◌∙◌}
+use Rattle.arch_defs.specs.Interrupts.{interrupt_of}
+use Rattle.arch_defs.specs.Traps.{target}
+use Rattle.machine_defs.specs.Machine.{ticked}
 use Rattle.arch_defs.proofs.FrameSets.{only_none}
-use Rattle.guest_exit.specs.View.{machine_of}
+use Rattle.guest_exit.specs.View.{machine_of, platform_of}
 use Rattle.guest_exit.proofs.Alone.{machine_is, stays_by}
 use Rattle.guest_exit.proofs.Entries.{interrupted}
 use Rattle.guest_exit.proofs.Placed.{placed_by_step}
+use Rattle.guest_exit.proofs.Taken.{entered_first}
 use Rattle.guest_exit.proofs.host_interrupts.interrupt.Goals as goal
 
 -- where none is pending
@@ -16,8 +20,9 @@ returns-then-is_hosts-clause-takes c = λ yes.
     record {
       step = λ memory. record {
         ready = (is memory).0;
-        step = rw (is memory).1 (machine_is c.args.guest.now c.tick.new.self _ memory (record { part = c.tick.ensures.keeps.part; device = c.tick.ensures.keeps.device; pool = c.tick.ensures.keeps.pool; first = c.tick.ensures.keeps.first })
-            (rw (c.take.ensures, c.of_interrupt.ensures) at c.tick.ensures.platform));
+        step = rw (is memory).1 (machine_is c.args.guest.now c.tick.new.self _ memory (record { part = c.tick.ensures.keeps.part; device = c.tick.ensures.keeps.device; pool = c.tick.ensures.keeps.pool })
+            (rw (c.take.ensures, c.of_interrupt.ensures) at c.tick.ensures.platform
+            ∙ ap ticked (sym (entered_first (platform_of c.args.guest.now) (interrupt_of c.in-Some.code) (target c.args.guest.now.virt.csrs c.args.guest.now.virt.mode (interrupt_of c.in-Some.code))))));
       };
       quiet = λ memory. record { trace = rw (is memory).1 refl; plain = rw (is memory).1 refl };
       none = λ memory. rw (is memory).1 refl;

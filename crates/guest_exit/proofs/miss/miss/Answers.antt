@@ -4,8 +4,19 @@ use Rattle.machine_defs.specs.Tries.{device_of, unplaced}
 use Rattle.guest_exit.specs.declared.hart_exit.Handled.TheVariants as handled
 use Rattle.guest_exit.specs.ExitCases.{data_wanted, having_found}
 use Rattle.guest_exit.specs.View.{machine_of}
-use Rattle.guest_exit.proofs.Missed.{can_fill, fill_made, none_on_device, unplaced_is_quiet}
+use Rattle.shadow_pool.specs.Slots.{spaces_of}
+use Rattle.shadow_pool.proofs.Filling.{filled_in_front, front_held}
+use Rattle.guest_exit.proofs.Missed.{can_fill, fill_made, folding_front, none_on_device, unplaced_is_quiet}
 use Rattle.guest_exit.proofs.miss.miss.Goals as goal
+
+pub key-key-requires : goal.key-key-requires
+key-key-requires c =
+    (folding_front c.args.guest.now c.args.memory.now c.args.access.now c.in-Some.entry c.requires.can.placed (sym c.entry_for.ensures.entry ∙ c.in-Some.is)).some
+
+pub fill-requires-clause-held : goal.fill-requires-clause-held
+fill-requires-clause-held c =
+    let front = folding_front c.args.guest.now c.args.memory.now c.args.access.now c.in-Some.entry c.requires.can.placed (sym c.entry_for.ensures.entry ∙ c.in-Some.is) in
+    rw c.key-key.ensures (front_held _ (spaces_of c.args.guest.now.pool) front.first)
 
 pub fill-requires-clause-entry : goal.fill-requires-clause-entry
 fill-requires-clause-entry c =
@@ -18,7 +29,9 @@ returns-in-Some-clause-makes c = record {
   fill = λ retry.
       fill_made c.args.guest.now (record c.args.guest.now { pool = c.fill.new.self }) c.args.memory.now c.fill.new.mem c.args.access.now c.in-Some.entry
       c.requires.can.placed (sym c.entry_for.ensures.entry ∙ c.in-Some.is)
-      refl refl refl (rw c.entry_for.ensures.stays at c.fill.ensures.keeps) refl c.fill.ensures.spaces;
+      refl refl (rw c.entry_for.ensures.stays at c.fill.ensures.keeps) refl
+      (c.fill.ensures.spaces ∙ filled_in_front c.key-key.result c.args.guest.now.pool.most (spaces_of c.args.guest.now.pool) c.in-Some.entry
+      (rw c.key-key.ensures (folding_front c.args.guest.now c.args.memory.now c.args.access.now c.in-Some.entry c.requires.can.placed (sym c.entry_for.ensures.entry ∙ c.in-Some.is)).first));
 }
 
 -- on the device page nothing is lacking

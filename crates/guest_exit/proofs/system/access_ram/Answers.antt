@@ -1,31 +1,41 @@
-use Rattle.std.proofs.Common.{ap, ◌∙◌}
+use Rattle.std.proofs.Common.{ap, subst, ◌∙◌}
 use Rattle.arch_defs.specs.FirstEntries.{all_filled}
 use Rattle.arch_defs.specs.Memory.{ram_memory}
 use Rattle.arch_defs.specs.Ram.{ram_of}
 use Rattle.machine_defs.specs.Runs.{left_by}
 use Rattle.machine_defs.specs.Tries.{mmu_of}
 use Rattle.hcsr_emulation.specs.declared.registers.Accessed.TheVariants as answer
-use Rattle.hlv_hsv.specs.Ends.{hlv_state}
+use Rattle.hlv_hsv.specs.Ends.{EndsBy, hlv_state}
 use Rattle.guest_exit.specs.ExitCases.{decided_end, having_found}
+use Rattle.guest_exit.specs.HartExit.{with_state}
 use Rattle.guest_exit.specs.View.{machine_of}
 use Rattle.guest_exit.proofs.Alone.{blocks_changed}
-use Rattle.guest_exit.proofs.HlvAccesses.{access_is_quiet, access_made, access_traps, shows_time, state_in}
+use Rattle.guest_exit.proofs.HlvAccesses.{access_is_quiet, access_made, access_traps, hlv_alike, shows_time, state_in}
 use Rattle.guest_exit.proofs.system.access_ram.Goals as goal
 
 pub returns-in-Done-clause-step : goal.returns-in-Done-clause-step
 returns-in-Done-clause-step c =
     let guest = c.args.guest.now in
     let m = machine_of guest c.args.memory.now in
-    let old = record guest { first = all_filled guest.first c.args.found.now } in
+    let first = all_filled guest.virt.first c.args.found.now in
+    let old = with_state guest (record guest.virt { first = first }) in
+    let after = hlv_state c.access_in.new.virt (ram_memory (ram_of guest.part.blocks c.access_in.new.memory)) c.access_in.new.console in
+    let ends = subst (λ end. EndsBy guest.device (state_in old c.args.memory.now) end answer.Done after)
+    (hlv_alike (mmu_of m) guest.virt first c.args.op.now c.requires.op.kind) (rw c.fill.ensures at (c.in-Done.ensures.ends (mmu_of m))) in
     access_made old c.tick.new.self m c.args.memory.now c.access_in.new.memory c.access_in.new.virt c.access_in.new.console
-    (record { part = c.tick.ensures.keeps.part; device = c.tick.ensures.keeps.device; pool = c.tick.ensures.keeps.pool; first = c.tick.ensures.keeps.first ∙ c.fill.ensures })
-    c.tick.ensures.platform (decided_end m c.args.op.now) (shows_time guest c.requires.can.current) (c.in-Done.ensures.ends (mmu_of m))
+    (record { part = c.tick.ensures.keeps.part; device = c.tick.ensures.keeps.device; pool = c.tick.ensures.keeps.pool })
+    c.tick.ensures.platform (decided_end m c.args.op.now) (shows_time guest c.requires.can.current) ends
 
 pub returns-in-Done-clause-quiet : goal.returns-in-Done-clause-quiet
 returns-in-Done-clause-quiet c =
-    let m = machine_of c.args.guest.now c.args.memory.now in
-    access_is_quiet (having_found c.args.found.now m) (decided_end m c.args.op.now) m.device (state_in c.args.guest.now c.args.memory.now)
-    (hlv_state c.access_in.new.virt (ram_memory (ram_of c.args.guest.now.part.blocks c.access_in.new.memory)) c.access_in.new.console) answer.Done (c.in-Done.ensures.ends (mmu_of m))
+    let guest = c.args.guest.now in
+    let m = machine_of guest c.args.memory.now in
+    let first = all_filled guest.virt.first c.args.found.now in
+    let old = with_state guest (record guest.virt { first = first }) in
+    let after = hlv_state c.access_in.new.virt (ram_memory (ram_of guest.part.blocks c.access_in.new.memory)) c.access_in.new.console in
+    access_is_quiet (having_found c.args.found.now m) (decided_end m c.args.op.now) m.device (state_in old c.args.memory.now) after answer.Done
+    (subst (λ end. EndsBy guest.device (state_in old c.args.memory.now) end answer.Done after)
+    (hlv_alike (mmu_of m) guest.virt first c.args.op.now c.requires.op.kind) (rw c.fill.ensures at (c.in-Done.ensures.ends (mmu_of m))))
 
 -- an access stores in the blocks
 pub returns-in-Done-clause-within : goal.returns-in-Done-clause-within
@@ -35,20 +45,28 @@ returns-in-Done-clause-within c =
 
 pub returns-in-Raise-clause-step : goal.returns-in-Raise-clause-step
 returns-in-Raise-clause-step c =
-    let m = machine_of c.args.guest.now c.args.memory.now in
+    let guest = c.args.guest.now in
+    let m = machine_of guest c.args.memory.now in
     let cached = having_found c.args.found.now m in
     let stays = c.in-Raise.ensures.stays in
-    let traps = access_traps cached (shows_time c.args.guest.now c.requires.can.current) c.in-Raise.trap
-    (hlv_state c.access_in.new.virt (ram_memory (ram_of c.args.guest.now.part.blocks c.access_in.new.memory)) c.access_in.new.console) (decided_end m c.args.op.now)
-    (c.in-Raise.ensures.ends (mmu_of m)) in
+    let first = all_filled guest.virt.first c.args.found.now in
+    let old = with_state guest (record guest.virt { first = first }) in
+    let after = hlv_state c.access_in.new.virt (ram_memory (ram_of guest.part.blocks c.access_in.new.memory)) c.access_in.new.console in
+    let ends = subst (λ end. EndsBy guest.device (state_in old c.args.memory.now) end (answer.Raise c.in-Raise.trap) after)
+    (hlv_alike (mmu_of m) guest.virt first c.args.op.now c.requires.op.kind) (rw c.fill.ensures at (c.in-Raise.ensures.ends (mmu_of m))) in
+    let traps = access_traps cached (shows_time guest c.requires.can.current) c.in-Raise.trap after (decided_end m c.args.op.now) ends in
     rw stays.2 (rw (stays.0, stays.1, c.fill.ensures) at c.raise.ensures.step c.args.memory.now ∙ ap (left_by m) traps)
 
 pub returns-in-Raise-clause-quiet : goal.returns-in-Raise-clause-quiet
 returns-in-Raise-clause-quiet c =
-    let m = machine_of c.args.guest.now c.args.memory.now in
-    access_is_quiet (having_found c.args.found.now m) (decided_end m c.args.op.now) m.device (state_in c.args.guest.now c.args.memory.now)
-    (hlv_state c.access_in.new.virt (ram_memory (ram_of c.args.guest.now.part.blocks c.access_in.new.memory)) c.access_in.new.console) (answer.Raise c.in-Raise.trap)
-    (c.in-Raise.ensures.ends (mmu_of m))
+    let guest = c.args.guest.now in
+    let m = machine_of guest c.args.memory.now in
+    let first = all_filled guest.virt.first c.args.found.now in
+    let old = with_state guest (record guest.virt { first = first }) in
+    let after = hlv_state c.access_in.new.virt (ram_memory (ram_of guest.part.blocks c.access_in.new.memory)) c.access_in.new.console in
+    access_is_quiet (having_found c.args.found.now m) (decided_end m c.args.op.now) m.device (state_in old c.args.memory.now) after (answer.Raise c.in-Raise.trap)
+    (subst (λ end. EndsBy guest.device (state_in old c.args.memory.now) end (answer.Raise c.in-Raise.trap) after)
+    (hlv_alike (mmu_of m) guest.virt first c.args.op.now c.requires.op.kind) (rw c.fill.ensures at (c.in-Raise.ensures.ends (mmu_of m))))
 
 pub returns-in-Raise-clause-within : goal.returns-in-Raise-clause-within
 returns-in-Raise-clause-within c =

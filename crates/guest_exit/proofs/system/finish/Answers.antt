@@ -8,8 +8,8 @@ enter_space-requires-clause-folds c =
     folds_then c.args.nested (folds c.args.guest.now.virt) (sym c.enters.ensures ∙ c.if-enters.true)
 
 pub returns-then-enters-clause-step : goal.returns-then-enters-clause-step
-returns-then-enters-clause-step c = λ before own.
-    c.enter_space.ensures.step before (own ∙ sets_v c.args.nested (folds c.args.guest.now.virt) (sym c.enters.ensures ∙ c.if-enters.true))
+returns-then-enters-clause-step c = λ before own same.
+    c.enter_space.ensures.step before (own ∙ sets_v c.args.nested (folds c.args.guest.now.virt) (sym c.enters.ensures ∙ c.if-enters.true)) same
 
 pub returns-clause-step : goal.returns-clause-step
 returns-clause-step c =

@@ -1,4 +1,5 @@
-use Rattle.std.proofs.Common.{ap, sym}
+use Rattle.std.proofs.Common.{ap, sym, ◌∙◌}
+use Rattle.arch_defs.specs.FirstEntries.{all_filled}
 use Rattle.machine_defs.specs.Machine.{Platform}
 use Rattle.arch_defs.specs.Registers.{passed}
 use Rattle.machine_defs.specs.Tries.{mmu_of}
@@ -6,7 +7,7 @@ use Rattle.rv64_asm.specs.Words.{encoded}
 use Rattle.guest_exit.specs.ExitCases.{having_found}
 use Rattle.guest_exit.specs.View.{machine_of}
 use Rattle.guest_exit.proofs.Alone.{wait_made, waited_is_quiet}
-use Rattle.guest_exit.proofs.Decided.{accesses_never, done_storable, wait_is_op, wait_passes}
+use Rattle.guest_exit.proofs.Decided.{accesses_never, caching_storable, done_storable, kept_first, wait_is_op, wait_passes}
 use Rattle.guest_exit.proofs.system.wait_or_fence.Goals as goal
 
 pub emulate-requires-clause-decided : goal.emulate-requires-clause-decided
@@ -43,19 +44,26 @@ returns-in-Waits-clause-step c =
 pub finish-requires-clause-storable : goal.finish-requires-clause-storable
 finish-requires-clause-storable c =
     let m = machine_of c.args.guest.now c.args.memory.now in
-    done_storable m c.args.op.now c.emulate.new.state (wait_is_op c.args.op.now c.requires.kind).decided c.requires.can.placed.storable (c.in-Done.ensures.ends (mmu_of m))
+    caching_storable _ c.emulate.new.state
+    (done_storable m c.args.op.now c.emulate.new.state (wait_is_op c.args.op.now c.requires.kind).decided c.requires.can.placed.storable (c.in-Done.ensures.ends (mmu_of m)))
 
 pub returns-in-Done-clause-step : goal.returns-in-Done-clause-step
 returns-in-Done-clause-step c =
     let m = machine_of c.args.guest.now c.args.memory.now in
-    rw (c.in-Done.ensures.ends (mmu_of m)) (rw c.fill.ensures at (c.finish.ensures.step c.args.guest.now.virt (sym c.is_virtual-nested.ensures)))
+    let ends = c.in-Done.ensures.ends (mmu_of m) in
+    let filled = c.fill.ensures ∙ ap (λ first. all_filled first c.args.found.now) (kept_first m c.args.op.now _ ends) in
+    rw ends (c.finish.ensures.step (record c.args.guest.now.virt { first = all_filled c.args.guest.now.virt.first c.args.found.now }) (sym c.is_virtual-nested.ensures) (sym filled))
 
 pub returns-in-Fenced-clause-step : goal.returns-in-Fenced-clause-step
 returns-in-Fenced-clause-step c =
     let m = machine_of c.args.guest.now c.args.memory.now in
-    rw (c.in-Fenced.ensures.ends (mmu_of m)) (rw c.fill-in-Fenced.ensures at (c.fence.ensures.step c.args.guest.now.virt))
+    let ends = c.in-Fenced.ensures.ends (mmu_of m) in
+    let filled = c.fill-in-Fenced.ensures ∙ ap (λ first. all_filled first c.args.found.now) (kept_first m c.args.op.now _ ends) in
+    rw ends (c.fence.ensures.step (record c.args.guest.now.virt { first = all_filled c.args.guest.now.virt.first c.args.found.now }) (sym filled))
 
 pub returns-in-FirstFenced-clause-step : goal.returns-in-FirstFenced-clause-step
 returns-in-FirstFenced-clause-step c =
     let m = machine_of c.args.guest.now c.args.memory.now in
-    rw (c.in-FirstFenced.ensures.ends (mmu_of m)) (rw (c.fill-in-FirstFenced.ensures, c.unwrap_or.ensures, c.tag_of-own.ensures) at (c.first_fence.ensures.step c.args.memory.now))
+    let ends = c.in-FirstFenced.ensures.ends (mmu_of m) in
+    let filled = c.fill-in-FirstFenced.ensures ∙ ap (λ first. all_filled first c.args.found.now) (kept_first m c.args.op.now _ ends) in
+    rw ends (rw (filled, c.unwrap_or.ensures, c.tag_of-own.ensures) at (c.first_fence.ensures.step c.args.memory.now))

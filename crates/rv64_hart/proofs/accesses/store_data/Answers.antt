@@ -4,6 +4,6 @@ use Rattle.rv64_hart.proofs.accesses.store_data.Goals as goal
 
 pub returns-in-Some-clause-serves : goal.returns-in-Some-clause-serves
 returns-in-Some-clause-serves c =
-    serves_after c.open.new.self c.access_place.new.first c.args.state.now.tag c.args.state.now.virt c.store.new.state c.args.memory.now c.store.new.mem c.args.width (Store c.args.value) c.in-Some.place
-    (c.open.ensures.serves c.access_place.new.first c.args.state.now.tag c.args.state.now.virt.csrs c.args.state.now.virt.mode c.args.memory.now c.access_place.ensures.serves)
+    serves_after c.open.new.self c.access_place.new.state c.store.new.state c.args.memory.now c.store.new.mem c.args.width (Store c.args.value) c.in-Some.place
+    (c.open.ensures.serves c.access_place.new.state.virt.first c.access_place.new.state.tag c.access_place.new.state.virt.csrs c.access_place.new.state.virt.mode c.args.memory.now c.access_place.ensures.serves)
     c.open.ensures.apart c.in-Some.ensures.place c.store.ensures.state c.store.ensures.bytes

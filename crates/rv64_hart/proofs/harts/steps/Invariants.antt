@@ -1,6 +1,7 @@
 use Rattle.std.proofs.Common.{◌≡◌, Some, false}
 use Rattle.rv64_hart.specs.Counts.{OnlyTrace}
-use Rattle.rv64_hart.specs.Endings.{NoneDueIfQuiet, ServesHart}
+use Rattle.translation_buffer.specs.Serving.{ServesHart}
+use Rattle.rv64_hart.specs.Endings.{NoneDueIfQuiet}
 use Rattle.rv64_hart.specs.Steps.{hart_steps, progress}
 use Rattle.rv64_hart.proofs.harts.steps.Given as goal
 

@@ -1,13 +1,52 @@
+use Rattle.std.proofs.Common.{◌≡◌, refl, subst, sym}
+use Rattle.translation_buffer.specs.Serving.{Serves}
+use Rattle.machine_laws.proofs.KeptFirst.{KeepsFirst, privileged_first}
 use Rattle.rv64_hart.proofs.rare_instructions.privileged.Goals as goal
 
+pub returns-in-Done-clause-ends : goal.returns-in-Done-clause-ends
+returns-in-Done-clause-ends c made =
+    let keeps : c.perform.new.state.first ≡ c.args.state.now.virt.first =
+    subst (KeepsFirst c.args.state.now.virt) (c.in-Done.ensures.ends c.args.word) (privileged_first c.args.state.now.virt c.args.word c.args.effect) in
+    rw (c.in-Done.ensures.ends c.args.word, c.settle.ensures.state, keeps) refl
+
+pub returns-in-Waits-clause-ends : goal.returns-in-Waits-clause-ends
+returns-in-Waits-clause-ends c made =
+    let keeps : c.perform.new.state.first ≡ c.args.state.now.virt.first =
+    subst (KeepsFirst c.args.state.now.virt) (c.in-Waits.ensures.ends c.args.word) (privileged_first c.args.state.now.virt c.args.word c.args.effect) in
+    rw (c.in-Waits.ensures.ends c.args.word, c.settle-in-Waits.ensures.state, keeps) refl
+
+pub returns-in-Fenced-clause-ends : goal.returns-in-Fenced-clause-ends
+returns-in-Fenced-clause-ends c made =
+    let keeps : c.perform.new.state.first ≡ c.args.state.now.virt.first =
+    subst (KeepsFirst c.args.state.now.virt) (c.in-Fenced.ensures.ends c.args.word) (privileged_first c.args.state.now.virt c.args.word c.args.effect) in
+    rw (c.in-Fenced.ensures.ends c.args.word, c.settle-in-Fenced.ensures.state, keeps) refl
+
+pub returns-in-FirstFenced-clause-ends : goal.returns-in-FirstFenced-clause-ends
+returns-in-FirstFenced-clause-ends c made =
+    let keeps : c.perform.new.state.first ≡ c.args.state.now.virt.first =
+    subst (KeepsFirst c.args.state.now.virt) (c.in-FirstFenced.ensures.ends c.args.word) (privileged_first c.args.state.now.virt c.args.word c.args.effect) in
+    rw (c.in-FirstFenced.ensures.ends c.args.word, c.fence_first.ensures.state, c.settle-in-FirstFenced.ensures.state, keeps) refl
+
 pub returns-in-Done-clause-serves : goal.returns-in-Done-clause-serves
-returns-in-Done-clause-serves c = c.settle.ensures.serves c.args.state.now.virt.csrs c.args.state.now.virt.mode c.args.memory.now c.requires.serves
+returns-in-Done-clause-serves c =
+    let keeps : c.perform.new.state.first ≡ c.args.state.now.virt.first =
+    subst (KeepsFirst c.args.state.now.virt) (c.in-Done.ensures.ends c.args.word) (privileged_first c.args.state.now.virt c.args.word c.args.effect) in
+    c.settle.ensures.serves c.args.state.now.virt.csrs c.args.state.now.virt.mode c.args.memory.now
+    (subst (λ first. Serves c.args.buffer.now first c.args.state.now.tag c.args.state.now.virt.csrs c.args.state.now.virt.mode c.args.memory.now) (sym keeps) c.requires.serves)
 
 pub returns-in-Waits-clause-serves : goal.returns-in-Waits-clause-serves
-returns-in-Waits-clause-serves c = c.settle-in-Waits.ensures.serves c.args.state.now.virt.csrs c.args.state.now.virt.mode c.args.memory.now c.requires.serves
+returns-in-Waits-clause-serves c =
+    let keeps : c.perform.new.state.first ≡ c.args.state.now.virt.first =
+    subst (KeepsFirst c.args.state.now.virt) (c.in-Waits.ensures.ends c.args.word) (privileged_first c.args.state.now.virt c.args.word c.args.effect) in
+    c.settle-in-Waits.ensures.serves c.args.state.now.virt.csrs c.args.state.now.virt.mode c.args.memory.now
+    (subst (λ first. Serves c.args.buffer.now first c.args.state.now.tag c.args.state.now.virt.csrs c.args.state.now.virt.mode c.args.memory.now) (sym keeps) c.requires.serves)
 
 pub returns-in-Fenced-clause-serves : goal.returns-in-Fenced-clause-serves
-returns-in-Fenced-clause-serves c = c.settle-in-Fenced.ensures.serves c.args.state.now.virt.csrs c.args.state.now.virt.mode c.args.memory.now c.requires.serves
+returns-in-Fenced-clause-serves c =
+    let keeps : c.perform.new.state.first ≡ c.args.state.now.virt.first =
+    subst (KeepsFirst c.args.state.now.virt) (c.in-Fenced.ensures.ends c.args.word) (privileged_first c.args.state.now.virt c.args.word c.args.effect) in
+    c.settle-in-Fenced.ensures.serves c.args.state.now.virt.csrs c.args.state.now.virt.mode c.args.memory.now
+    (subst (λ first. Serves c.args.buffer.now first c.args.state.now.tag c.args.state.now.virt.csrs c.args.state.now.virt.mode c.args.memory.now) (sym keeps) c.requires.serves)
 
 pub returns-in-FirstFenced-clause-serves : goal.returns-in-FirstFenced-clause-serves
 returns-in-FirstFenced-clause-serves c = c.fence_first.ensures.serves c.args.memory.now

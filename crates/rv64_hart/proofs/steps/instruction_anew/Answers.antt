@@ -22,5 +22,5 @@ pub returns-in-None-clause-told : goal.returns-in-None-clause-told
 unfolding core
 returns-in-None-clause-told c =
     ap (told_of c.args.tally.now.trace) (failed c.args.state.now c.args.memory.now (fetch_place (mmu_on c.args.state.now c.args.memory.now) c.args.state.now.virt) c.reach.new.trap
-    (ap (λ r. ok_or r c.reach.new.trap) (sym c.in-None.is) ∙ c.reach.ensures.place) (all_filled c.args.state.now.first (found_on c.args.state.now c.args.memory.now)) None
+    (ap (λ r. ok_or r c.reach.new.trap) (sym c.in-None.is) ∙ c.reach.ensures.place) (all_filled c.args.state.now.virt.first (found_on c.args.state.now c.args.memory.now)) None
     (λ place. instruction (mmu_on c.args.state.now c.args.memory.now) c.args.state.now.virt (word_at (reading_of_memory c.args.memory.now) place)))

@@ -14,16 +14,16 @@ pub returns-in-Some-clause-found : goal.returns-in-Some-clause-found
 unfolding first_stage
 returns-in-Some-clause-found c =
     ap Passes c.leaf_address.ensures.value
-    ∙ leaf_passes (mmu nothing_known (second_of_memory c.args.virt.now c.args.memory.now) (reading_of_memory c.args.memory.now)) (privilege_of c.args.virt.now.csrs c.args.virt.now.mode) c.args.va c.args.access c.in-Some.leaf
-    (supervisor_of c.args.virt.now.csrs c.args.virt.now.mode).atp (c.in-Some.ensures.value nothing_known)
+    ∙ leaf_passes (mmu nothing_known (second_of_memory c.args.state.now.virt c.args.memory.now) (reading_of_memory c.args.memory.now)) (privilege_of c.args.state.now.virt.csrs c.args.state.now.virt.mode) c.args.va c.args.access c.in-Some.leaf
+    (supervisor_of c.args.state.now.virt.csrs c.args.state.now.virt.mode).atp (c.in-Some.ensures.value nothing_known)
 
 pub returns-in-Some-clause-entry : goal.returns-in-Some-clause-entry
 unfolding entry_walked
 returns-in-Some-clause-entry c = λ known.
-    ap Some (c.first_entry.ensures.value ∙ ap (λ (registers : SupervisorCsrs). first_entry c.args.tag.now registers.atp c.args.va c.in-Some.leaf) c.supervisor_of-atp.ensures)
-    ∙ ap (option_map (first_entry c.args.tag.now (supervisor_of c.args.virt.now.csrs c.args.virt.now.mode).atp c.args.va)) (c.in-Some.ensures.value known)
+    ap Some (c.first_entry.ensures.value ∙ ap (λ (registers : SupervisorCsrs). first_entry c.args.state.now.tag registers.atp c.args.va c.in-Some.leaf) c.supervisor_of-atp.ensures)
+    ∙ ap (option_map (first_entry c.args.state.now.tag (supervisor_of c.args.state.now.virt.csrs c.args.state.now.virt.mode).atp c.args.va)) (c.in-Some.ensures.value known)
 
 pub returns-in-None-clause-entry : goal.returns-in-None-clause-entry
 unfolding entry_walked
 returns-in-None-clause-entry c = λ known.
-    c.requires.none ∙ ap (option_map (first_entry c.args.tag.now (supervisor_of c.args.virt.now.csrs c.args.virt.now.mode).atp c.args.va)) (c.in-None.ensures.value known)
+    c.requires.none ∙ ap (option_map (first_entry c.args.state.now.tag (supervisor_of c.args.state.now.virt.csrs c.args.state.now.virt.mode).atp c.args.va)) (c.in-None.ensures.value known)
