@@ -92,25 +92,25 @@ after_entries : (entries : List FirstEntry) (rest : List ℕ) → drop (48 * len
 after_entries entries rest = after_items first_entry_form first_entry_in 48 entry_length entries rest
 
 -- those of a machine that can be saved
-can_be_told : (m : Machine) → IsSavable m → All CanBeTold m.first
+can_be_told : (m : Machine) → IsSavable m → All CanBeTold m.platform.virt.first
 can_be_told m savable = λ k d inside. record { table = savable.first.tables k d inside; storable = savable.storable k d inside }
 
-pub first_again : (version : Version) (m : Machine) (rest : List ℕ) → IsSavable m → CanTell version m → first_in version (first_form version m rest) ≡ m.first
+pub first_again : (version : Version) (m : Machine) (rest : List ℕ) → IsSavable m → CanTell version m → first_in version (first_form version m rest) ≡ m.platform.virt.first
 unfolding first_form
 first_again First m rest savable tells = sym tells.1
 first_again Second m rest savable tells = sym tells
 first_again Third m rest savable tells =
-    let few : length m.first ≤ 32 = savable.first.few in
-    let tail = flat_map first_entry_form m.first ++ rest in
-    rw (count_again 32 (length m.first) tail few (omega (arith, few)), after_number (length m.first) tail)
-    (entries_again m.first rest (can_be_told m savable))
+    let few : length m.platform.virt.first ≤ 32 = savable.first.few in
+    let tail = flat_map first_entry_form m.platform.virt.first ++ rest in
+    rw (count_again 32 (length m.platform.virt.first) tail few (omega (arith, few)), after_number (length m.platform.virt.first) tail)
+    (entries_again m.platform.virt.first rest (can_be_told m savable))
 
 pub after_first_again : (version : Version) (m : Machine) (rest : List ℕ) → IsSavable m → after_first version (first_form version m rest) ≡ rest
 unfolding first_form
 after_first_again First m rest savable = refl
 after_first_again Second m rest savable = refl
 after_first_again Third m rest savable =
-    let few : length m.first ≤ 32 = savable.first.few in
-    let tail = flat_map first_entry_form m.first ++ rest in
-    rw (count_again 32 (length m.first) tail few (omega (arith, few)), after_number (length m.first) tail)
-    (after_entries m.first rest)
+    let few : length m.platform.virt.first ≤ 32 = savable.first.few in
+    let tail = flat_map first_entry_form m.platform.virt.first ++ rest in
+    rw (count_again 32 (length m.platform.virt.first) tail few (omega (arith, few)), after_number (length m.platform.virt.first) tail)
+    (after_entries m.platform.virt.first rest)

@@ -184,7 +184,7 @@ savable_decided m read = let p = m.platform in let h = header_of m in let size =
     let state = both (both (both (sizes_decided h size) console) (inputs_decided p.console.inputs)) registers in
     let progress = both (both (both state numbers) steps) clock in
     let cached = both (both (both (both (both progress (reserved_decided p.virt.reservation size)) few) spaces) (keys_decided m.spaces)) front in
-    let tests = both cached (has_first_decided m.first) in (
+    let tests = both cached (has_first_decided m.platform.virt.first) in (
       λ passes. let ((((((((((((sizes, console), inputs), registers), numbers), steps), clock), reservation), few), spaces), keys), front), first) = tests.0 passes in
           savable_from m read registers.0 (pc_fits h numbers) numbers (record {
             sizes = sizes;

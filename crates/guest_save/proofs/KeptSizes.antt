@@ -23,7 +23,7 @@ use Rattle.op_defs.specs.declared.ops.Purpose.{Purpose}
 use Rattle.op_defs.specs.declared.ops.Purpose.TheVariants.{Load, LoadCode, Store, Reserve, StoreReserved, Modify}
 use Rattle.machine_defs.specs.DeviceSteps.{device_step, device_wanted, served, with_loaded, with_put}
 use Rattle.machine_defs.specs.HlvAccesses.{Completes, Device, HlvEnd, Traps, hlv_outcome}
-use Rattle.machine_defs.specs.Machine.{Ended, Machine, Platform, Tried, WaitsForGood, called, has_enabled_interrupt, trapped, waited, waited_until}
+use Rattle.machine_defs.specs.Machine.{Ended, Machine, Platform, Tried, WaitsForGood, called, has_enabled_interrupt, trapped, waited, waited_until, with_first}
 use Rattle.machine_defs.specs.Outcomes.{Outcome, Done, Trapped, Missed, Called, Waits, Fenced, FirstFenced, Accesses}
 use Rattle.machine_defs.specs.Runs.{left_by, run}
 use Rattle.machine_defs.specs.Tries.{apply_outcome, device_of, found_by_outcome, hlv_committed, outcome_under, stages_of, tried_with, try, try_under, unplaced, with_found}
@@ -121,7 +121,7 @@ outcome_rooms device m (FirstFenced virt named fence) = (refl, refl, refl, refl)
 outcome_rooms device m (Accesses wanted) = hlv_rooms m wanted (hlv_outcome m.device (ram_memory m.ram) m.platform.virt wanted)
 
 -- what the machine has cached has no part in it
-found_rooms : (m : Machine) (first : List FirstEntry) (t : Tried) → KeepsRooms (record m { first = first }) t → KeepsRooms m t
+found_rooms : (m : Machine) (first : List FirstEntry) (t : Tried) → KeepsRooms (with_first m first) t → KeepsRooms m t
 found_rooms m first (Ended after event) rooms = rooms
 found_rooms m first WaitsForGood rooms = rooms
 
@@ -131,7 +131,7 @@ tried_rooms m = by (due m.platform.virt.csrs m.platform.virt.mode)
   where
     by : (code : Option ℕ) → KeepsRooms m (tried_with (stages_of m) m code)
     by (Some code) = (refl, refl, refl, refl)
-    by None = found_rooms m (all_filled m.first (found_by_outcome (stages_of m) m)) (tried_with (stages_of m) m None)
+    by None = found_rooms m (all_filled m.platform.virt.first (found_by_outcome (stages_of m) m)) (tried_with (stages_of m) m None)
         (outcome_rooms (device_of m) (with_found (stages_of m) m) (outcome_under (stages_of m) m))
 
 pub rooms_kept : (spaces entries console : ℕ) (device : Bool) → IsKept (HasRooms spaces entries console device)

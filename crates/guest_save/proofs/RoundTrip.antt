@@ -72,7 +72,7 @@ behind xs ys n size = rw (← size) (get_or-append-add xs ys n 0)
 
 -- all that a header says of a machine, and its console
 pub platform_again : (m : Machine) → IsSavable m
-    → platform_in (header_in (size_numbers (header_of m)) m.device (later_numbers (header_of m))) m.platform.console.bytes m.platform.console.inputs ≡ m.platform
+    → platform_in (header_in (size_numbers (header_of m)) m.device (later_numbers (header_of m))) m.platform.console.bytes m.platform.console.inputs m.platform.virt.first ≡ m.platform
 unfolding header_in
 platform_again m savable =
     let virt = m.platform.virt in
@@ -91,9 +91,9 @@ platform_again m savable =
     rw (behind xs state 29 size, behind xs state 30 size) (reservation_again virt.reservation savable.virt.reservation) in
     let status = status_again m.platform.status in
     let mode = mode_again virt.mode in
-    let same : platform_in (header_in (size_numbers (header_of m)) m.device (later_numbers (header_of m))) m.platform.console.bytes m.platform.console.inputs ≡ with_pending_lines m.platform =
+    let same : platform_in (header_in (size_numbers (header_of m)) m.device (later_numbers (header_of m))) m.platform.console.bytes m.platform.console.inputs m.platform.virt.first ≡ with_pending_lines m.platform =
     λ i. record {
-      virt = record { regs = record { x = x i; pc = virt.regs.pc }; csrs = csrs i; mode = mode i; reservation = reservation i };
+      virt = record { regs = record { x = x i; pc = virt.regs.pc }; csrs = csrs i; mode = mode i; reservation = reservation i; first = virt.first };
       clock = m.platform.clock;
       console = m.platform.console;
       steps = m.platform.steps;
@@ -128,7 +128,7 @@ spaces_have_room m savable =
 
 -- each part of a form, from the last one on
 from_spaces_again : (version : Version) (m : Machine) (h : Header) (console : List ℕ) (inputs : List (ℕ × ℕ)) (rest : List ℕ) → IsSavable m → CanTell version m
-    → from_spaces version h console inputs (spaces_form version m rest) ≡ machine_with h console inputs m.spaces m.first rest
+    → from_spaces version h console inputs (spaces_form version m rest) ≡ machine_with h console inputs m.spaces m.platform.virt.first rest
 unfolding from_spaces spaces_form
 from_spaces_again version m h console inputs rest savable tells =
     let few : length m.spaces ≤ 8 = omega (arith, savable.few, savable.sizes.most_spaces) in
@@ -314,11 +314,11 @@ machine_by_again version m rest savable tells =
     λ i. from_console version (header_in (sizes i) (device i) (later i)) (after i)
 
 machine_again : (m : Machine) → IsSavable m
-    → machine_with (header_again m) m.platform.console.bytes m.platform.console.inputs m.spaces m.first m.ram ≡ m
+    → machine_with (header_again m) m.platform.console.bytes m.platform.console.inputs m.spaces m.platform.virt.first m.ram ≡ m
 unfolding header_in
 machine_again m savable =
     let platform = platform_again m savable in
-    λ i. record { platform = platform i; ram = m.ram; spaces = m.spaces; first = m.first; space_room = m.space_room; entry_room = m.entry_room; device = m.device }
+    λ i. record { platform = platform i; ram = m.ram; spaces = m.spaces; space_room = m.space_room; entry_room = m.entry_room; device = m.device }
 
 -- the machine of a form in its version, and in the one that its letters tell
 machine_read : (version : Version) (m : Machine) → IsSavable m → CanTell version m → machine_by version (form_of version m) ≡ m
@@ -355,7 +355,7 @@ first_split : (version : Version) (m : Machine) (rest : List ℕ) → first_form
 unfolding first_form
 first_split First m rest = refl
 first_split Second m rest = refl
-first_split Third m rest = further (number (length m.first)) (flat_map first_entry_form m.first) [] rest
+first_split Third m rest = further (number (length m.platform.virt.first)) (flat_map first_entry_form m.platform.virt.first) [] rest
 
 spaces_split : (version : Version) (m : Machine) (rest : List ℕ) → spaces_form version m rest ≡ spaces_form version m [] ++ rest
 unfolding spaces_form

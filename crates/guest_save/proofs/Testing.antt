@@ -37,7 +37,7 @@ pub record IsSound (m : Machine) : Type 0 where
   pub sizes : HasSizes (header_of m) (length m.ram)
   pub platform : IsSoundPlatform m.platform
   pub spaces : HasSoundSpaces (length m.ram) m
-  pub first : HasFirst m.first
+  pub first : HasFirst m.platform.virt.first
 
 pub savable_from : (m : Machine) → IsRead m → length m.platform.virt.regs.x ≡ 32 → m.platform.virt.regs.pc < 2 ^ 64
     → All Fits (header_numbers Third (header_of m)) → IsSound m → IsSavable m
@@ -168,7 +168,7 @@ all_in_order xs i before rise all = subst (λ (ys : List (ℕ × ℕ)). IsNonDec
 
 -- the four tests of a machine that was read, by its header and the size of its RAM
 pub savable_by : (m : Machine) (h : Header) (size : ℕ) (b : Bool) → IsRead m → header_of m ≡ h → size ≡ length m.ram → length h.state.regs.x ≡ 32 → h.state.regs.pc < 2 ^ 64
-    → All Fits (header_numbers Third h) → HasSizes h size → IsSoundPlatform m.platform → HasFirst m.first → (IsTrue b ↔ HasSoundSpaces size m) → IsTrue b ↔ IsSavable m
+    → All Fits (header_numbers Third h) → HasSizes h size → IsSoundPlatform m.platform → HasFirst m.platform.virt.first → (IsTrue b ↔ HasSoundSpaces size m) → IsTrue b ↔ IsSavable m
 savable_by m h size b read same ram registers pc numbers sizes platform first is =
     let own_registers = ap (λ (x : Header). length x.state.regs.x) same ∙ registers in
     let own_pc : m.platform.virt.regs.pc < 2 ^ 64 = omega (arith, ap (λ (x : Header). x.state.regs.pc) same, pc) in

@@ -20,9 +20,9 @@ pub no_space : Space
 no_space = record { key = Bare; entries = [] }
 
 -- first-stage translations, with nothing behind them
-pub first_whole : (m : Machine) → first_form Third m [] ≡ number (length m.first) ++ flat_map first_entry_form m.first
+pub first_whole : (m : Machine) → first_form Third m [] ≡ number (length m.platform.virt.first) ++ flat_map first_entry_form m.platform.virt.first
 unfolding first_form
-first_whole m = ap (λ (bytes : List ℕ). number (length m.first) ++ bytes) (append-nil (flat_map first_entry_form m.first))
+first_whole m = ap (λ (bytes : List ℕ). number (length m.platform.virt.first) ++ bytes) (append-nil (flat_map first_entry_form m.platform.virt.first))
 
 module _ (ram : List ℕ) where
   next_block : (n : ℕ) → take ((n + 1) * block_size) ram ≡ take (n * block_size) ram ++ take block_size (drop (n * block_size) ram)

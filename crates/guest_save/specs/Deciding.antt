@@ -124,7 +124,7 @@ is_savable m = let p = m.platform in
     && list_all (space_fits (length m.ram) m.entry_room m.device) m.spaces
     && all_pairs has_other_key m.spaces
     && has_front p.virt m.spaces
-    && has_first m.first
+    && has_first m.platform.virt.first
 
 -- bytes are the form of a machine that can be saved, in the version that they tell: of the one that they give
 unfoldable pub is_saved : List ℕ → Bool

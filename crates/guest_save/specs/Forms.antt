@@ -55,7 +55,8 @@ first_entry_form e = numbers (first_numbers e)
 unfoldable pub first_form : Version → Machine → List ℕ → List ℕ
 first_form First m rest = rest
 first_form Second m rest = rest
-first_form Third m rest = number (length m.first) ++ (flat_map first_entry_form m.first ++ rest)
+first_form Third m rest = let first = m.platform.virt.first in
+    number (length first) ++ (flat_map first_entry_form first ++ rest)
 
 unfoldable pub spaces_form : Version → Machine → List ℕ → List ℕ
 spaces_form version m rest =

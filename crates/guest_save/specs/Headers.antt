@@ -64,7 +64,7 @@ header_numbers version h = size_numbers h ++ (device_numbers version h ++ later_
 abbrev pub blocks_of : Machine → ℕ
 blocks_of m = length m.ram / block_size
 
--- the header of a machine
+-- the header of a machine. Its state has no first-stage translations, which stand behind the spaces
 abbrev pub header_of : Machine → Header
 header_of m = record {
   blocks = blocks_of m;
@@ -76,7 +76,7 @@ header_of m = record {
   steps = m.platform.steps;
   time = m.platform.clock.time;
   timer = m.platform.clock.timer;
-  state = m.platform.virt;
+  state = record m.platform.virt { first = [] };
 }
 
 -- a status, a mode and a reservation, whatever the numbers are
@@ -106,5 +106,6 @@ header_in sizes device ns = record {
     csrs = csrs_in (drop 37 ns);
     mode = mode_of (slice_index ns 4);
     reservation = reservation_of (slice_index ns 66) (slice_index ns 67);
+    first = [];
   };
 }

@@ -114,10 +114,10 @@ after_first First bytes = bytes
 after_first Second bytes = bytes
 after_first Third bytes = drop (48 * count_in first_room bytes) (drop 8 bytes)
 
--- the platform of a header, with the bits that the clock and the console set
-abbrev pub platform_in : Header → List ℕ → List (ℕ × ℕ) → Platform
-platform_in h bytes inputs = with_pending_lines (record {
-  virt = h.state;
+-- the platform of a header and of first-stage translations, with the bits that the clock and the console set
+abbrev pub platform_in : Header → List ℕ → List (ℕ × ℕ) → List FirstEntry → Platform
+platform_in h bytes inputs first = with_pending_lines (record {
+  virt = record h.state { first = first };
   clock = record { time = h.time; timer = h.timer };
   console = record { bytes = bytes; room = h.console; inputs = inputs };
   steps = h.steps;
@@ -127,10 +127,9 @@ platform_in h bytes inputs = with_pending_lines (record {
 -- the machine of its parts
 abbrev pub machine_with : Header → List ℕ → List (ℕ × ℕ) → List Space → List FirstEntry → List ℕ → Machine
 machine_with h console inputs spaces first ram = record {
-  platform = platform_in h console inputs;
+  platform = platform_in h console inputs first;
   ram = ram;
   spaces = spaces;
-  first = first;
   space_room = h.spaces;
   entry_room = h.entries;
   device = h.device;

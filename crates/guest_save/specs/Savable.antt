@@ -95,5 +95,5 @@ pub record IsSavable (m : Machine) : Type 0 where
   pub spaces : All (IsSavableSpace (length m.ram) m.entry_room m.device) m.spaces
   pub keys : AllPairs HasOtherKey m.spaces
   pub front : folds m.platform.virt ≡ true → FrontIs m.platform.virt.csrs.hgatp m.spaces
-  pub first : HasFirst m.first
-  pub storable : AreStorable m.first
+  pub first : HasFirst m.platform.virt.first
+  pub storable : AreStorable m.platform.virt.first

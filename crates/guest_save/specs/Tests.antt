@@ -24,7 +24,7 @@ pub record IsRead (m : Machine) : Type 0 where
   pub lines : with_pending_lines m.platform ≡ m.platform
   pub inputs : length m.platform.console.inputs ≤ 65536
   pub keys : All (λ s. guest_root_of (hgatp_bits s.key) ≡ s.key) m.spaces
-  pub storable : AreStorable m.first
+  pub storable : AreStorable m.platform.virt.first
 
 -- what is reserved, if anything is, lies aligned in RAM of this size
 pub record IsReserved (reservation : Option (ℕ × ℕ)) (size : ℕ) : Type 0 where

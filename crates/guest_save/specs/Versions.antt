@@ -32,6 +32,6 @@ header_end Third = 592
 
 -- a version tells all of a machine
 abbrev pub CanTell : Version → Machine → Type 0
-CanTell First m = (m.device ≡ false) × (m.first ≡ [])
-CanTell Second m = m.first ≡ []
+CanTell First m = (m.device ≡ false) × (m.platform.virt.first ≡ [])
+CanTell Second m = m.platform.virt.first ≡ []
 CanTell Third m = ⊤

@@ -5,7 +5,7 @@ ghost use Rattle.arch_defs.specs.Bits.{bit_number};
 ghost use Rattle.guest_save.specs.Headers.{header_in, mode_number, mode_of, progress_numbers, reservation_numbers, reservation_of, size_numbers, status_number, status_of};
 
 use crate::registers::csrs_in;
-use arch_defs::{Mode, Regs, Virtual};
+use arch_defs::{FirstBuffer, Mode, Regs, Virtual};
 use guest_specs::Status;
 
 /// How many sizes a header has, and how many numbers behind them and the device page.
@@ -15,7 +15,7 @@ pub const LATER_NUMBERS: usize = 68;
 
 /// What a form of each machine has beside its letters: how many blocks of RAM there are, and at most how many
 /// spaces, entries in each and console bytes; whether there is the device page; status, steps, clock and
-/// timer; and the state of the hart.
+/// timer; and the state of the hart, without first-stage translations.
 #[derive(Clone, Copy)]
 pub struct Header {
     pub blocks: u64,
@@ -142,6 +142,7 @@ impl Header {
                 csrs: csrs_in(&numbers[37..]),
                 mode: mode_of(numbers[4]),
                 reservation: reservation_of(numbers[66], numbers[67]),
+                first: FirstBuffer::new(),
             },
         }
     }

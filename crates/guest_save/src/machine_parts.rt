@@ -1,6 +1,6 @@
 // A machine by its parts, as bytes give it.
 
-ghost use Rattle.std.specs.Prelude.{◌≡◌, ◌/◌, ◌<◌, ◌≤◌, ◌*◌, drop, length, take, nat_le, IfOk};
+ghost use Rattle.std.specs.Prelude.{◌≡◌, ◌/◌, ◌<◌, ◌≤◌, ◌*◌, [], drop, length, take, nat_le, IfOk};
 ghost use Rattle.std.specs.List.{slice_index_or};
 ghost use Rattle.arch_defs.specs.Inputs.{has_input};
 ghost use Rattle.arch_defs.specs.Memory.{block_size};
@@ -15,7 +15,7 @@ use crate::items::{SavedSpace, after_spaces, inputs_in, spaces_in};
 use crate::numbers::{after, count_in, number_in, numbers_in};
 use crate::snapshots::Snapshot;
 use crate::versions::Version;
-use arch_defs::{BLOCK_SIZE, Entry, FirstEntry, GuestRoot};
+use arch_defs::{BLOCK_SIZE, Entry, FirstBuffer, FirstEntry, GuestRoot};
 use no_memory::NoMemory;
 use std::alloc::Global;
 use std::marker::Model;
@@ -43,13 +43,13 @@ pub struct MachineParts {
 
 impl Model for MachineParts {
     ghost use Rattle.machine_defs.specs.Machine.{Machine};
-    ghost use Rattle.guest_save.specs.View.{HasBlocks, machine_of};
+    ghost use Rattle.guest_save.specs.View.{IsOfHeader, machine_of};
 
     ghost Value = { Machine };
 
     ghost view = { machine_of };
 
-    ghost invariant = { HasBlocks };
+    ghost invariant = { IsOfHeader };
 }
 
 impl Snapshot for MachineParts {
@@ -108,14 +108,15 @@ fn has_input(inputs: &[(u64, u8)], time: u64) -> bool
     }
 }
 
-// The header of a machine with so many blocks and these inputs, with the bits that the clock and the console
-// set.
+// The header of a machine with this number of blocks and these inputs: without first-stage translations, and
+// with the bits that the clock and the console set.
 fn completed(header: Header, inputs: &[(u64, u8)], blocks: u64) -> Header
     ensures { result ≡ record header {
       blocks = blocks;
       state = record header.state {
         csrs = with_lines header.state.csrs header.time (nat_le header.timer header.time)
             (has_input inputs.now header.time);
+        first = [];
       };
     } }
 {
@@ -124,6 +125,7 @@ fn completed(header: Header, inputs: &[(u64, u8)], blocks: u64) -> Header
     header.state.csrs.sip.timer = header.timer <= header.time;
     header.state.csrs.sip.external = has_input(inputs, header.time);
     header.state.csrs.time = header.time;
+    header.state.first = FirstBuffer::new();
     header
 }
 

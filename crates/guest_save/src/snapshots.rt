@@ -14,7 +14,7 @@ use arch_defs::{Entry, FirstEntry, GuestRoot};
 pub trait Snapshot {
     ghost machine: { Self → Machine };
 
-    /// Its sizes, its progress and the state of its hart.
+    /// Its sizes, its progress, and the state of its hart without first-stage translations.
     fn header(&self) -> Header
         ensures { result ≡ header_of (machine self.now) };
 
@@ -50,7 +50,7 @@ pub trait Snapshot {
 
     /// Its first-stage translations, oldest first.
     fn first(&self) -> &[FirstEntry]
-        ensures { result.now ≡ (machine self.now).first };
+        ensures { result.now ≡ (machine self.now).platform.virt.first };
 
     /// A block of its RAM.
     fn block(&self, number: u64) -> &[u8]

@@ -49,7 +49,7 @@ module _ (old : Guest) (memory changed : List ℕ) (i to : ℕ) (part : Layout) 
       (ap room_of pool_is ∙ length-map old.pool.slots (slot_in_part part)) (ap (λ pool. pool.most) pool_is)
     where
       with_these : (ram' : List ℕ) (spaces' : List Space) (room most : ℕ) → ram' ≡ ram_of old.part.blocks memory → spaces' ≡ spaces_of old.pool → room ≡ room_of old.pool → most ≡ old.pool.most
-          → (record { platform = platform_of old; ram = ram'; spaces = spaces'; first = old.first; space_room = room; entry_room = most; device = old.device }) ≡ machine_of old memory
+          → (record { platform = platform_of old; ram = ram'; spaces = spaces'; space_room = room; entry_room = most; device = old.device }) ≡ machine_of old memory
       with_these ram' spaces' room most r s n e = rw (r, s, n, e) refl
 
   same_count : length part.blocks ≡ length old.part.blocks

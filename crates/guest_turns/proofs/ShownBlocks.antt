@@ -2,6 +2,7 @@
 use Rattle.std.proofs.Common.{◌≡◌, ℕ, zero, suc, ◌+◌, ◌*◌, ◌<◌, ◌≤◌, List, [], ◌∷◌, ◌++◌, length, take, drop, slice_index, refl, ap, sym, ◌∙◌, arith, length-drop, length-take-le}
 use Rattle.std.specs.List.{slice_index_or}
 use Rattle.std.proofs.lemmas.List.{drop-drop, drop_at, get_or_default, take_at}
+use Rattle.arch_defs.specs.declared.first.FirstEntry.{FirstEntry}
 use Rattle.arch_defs.specs.Memory.{block_size}
 use Rattle.arch_defs.specs.Ram.{SlicesLieIn, slices}
 use Rattle.arch_defs.specs.Spaces.{Space}
@@ -60,8 +61,8 @@ pub same_space : (spaces : List Space) (i : ℕ) (d e : Space) → i < length sp
 same_space spaces i d e h = get_or_default spaces i d e h
 
 -- what is written before all else
-pub header_shown : (guest : Guest) (memory : List ℕ) (m : Machine) (blocks spaces entries console time timer : ℕ) → IsHosted guest memory → machine_of guest memory ≡ m
-    → blocks ≡ length guest.part.blocks → spaces ≡ room_of guest.pool → entries ≡ guest.pool.most → console ≡ guest.console.room → time ≡ guest.clock.time → timer ≡ guest.clock.timer
+pub header_shown : (guest : Guest) (memory : List ℕ) (m : Machine) (blocks spaces entries console time timer : ℕ) (first : List FirstEntry) → IsHosted guest memory → machine_of guest memory ≡ m
+    → blocks ≡ length guest.part.blocks → spaces ≡ room_of guest.pool → entries ≡ guest.pool.most → console ≡ guest.console.room → time ≡ guest.clock.time → timer ≡ guest.clock.timer → first ≡ []
     → (record {
       blocks = blocks;
       spaces = spaces;
@@ -71,9 +72,9 @@ pub header_shown : (guest : Guest) (memory : List ℕ) (m : Machine) (blocks spa
       steps = guest.steps;
       time = time;
       timer = timer;
-      state = guest.virt;
+      state = record guest.virt { first = first };
       device = guest.device;
     }) ≡ header_of m
-header_shown guest memory m blocks spaces entries console time timer hosted is b s e c t r =
+header_shown guest memory m blocks spaces entries console time timer first hosted is b s e c t r f =
     let b_shown = b ∙ blocks_shown guest memory hosted in
-    rw (← is, b_shown, s, e, c, t, r) refl
+    rw (← is, b_shown, s, e, c, t, r, f) refl

@@ -3,7 +3,6 @@ use Rattle.std.proofs.Common.{true, ◌≡◌, ◌≢◌, ℕ, ◌+◌, ◌*◌,
 use Rattle.std.specs.List.{All}
 use Rattle.std.proofs.lemmas.Bool.{both_ways, cases_eq}
 use Rattle.std.proofs.lemmas.List.{ext_get_or, get_or-map, get_or_append_left, get_or_default, get_or_push, length-map, length_push}
-use Rattle.arch_defs.specs.declared.first.FirstEntry.{FirstEntry}
 use Rattle.arch_defs.specs.Frames.{Apart, Frames, LieIn, Only, Same, Within, in_blocks, most_frames, within}
 use Rattle.arch_defs.specs.Layouts.{Layout, Meets, NamesEachOnce, host_frames, in_tables, named_by, no_part}
 use Rattle.arch_defs.specs.Memory.{block_size, ram_base, zeros}
@@ -225,7 +224,6 @@ made_at_start spec part guest memory at spaces lies zeros = record {
   own_pool = at.pool.part;
   platform = at.platform;
   spaces = at.pool.spaces;
-  first = at.first;
   space_room = at.spaces;
   entry_room = at.entries;
   device = at.device;
@@ -239,7 +237,6 @@ made_kept m part guest old new same made = record {
   own_pool = made.own_pool;
   platform = made.platform;
   spaces = made.spaces;
-  first = made.first;
   space_room = made.space_room;
   entry_room = made.entry_room;
   device = made.device;
@@ -330,15 +327,15 @@ memory_size : (frames size : ℕ) → frames ≤ most_frames → size ≡ frames
 memory_size frames size few is = omega (arith, few, is)
 
 -- a guest that is made is its machine, wherever its RAM is the machine's
-as_parts : (platform : Platform) (ram : List ℕ) (spaces : List Space) (first : List FirstEntry) (space_room entry_room : ℕ) (device : Bool) (m : Machine) → platform ≡ m.platform → ram ≡ m.ram
-    → spaces ≡ m.spaces → first ≡ m.first → space_room ≡ m.space_room → entry_room ≡ m.entry_room → device ≡ m.device
-    → (record { platform = platform; ram = ram; spaces = spaces; first = first; space_room = space_room; entry_room = entry_room; device = device }) ≡ m
-as_parts platform ram spaces first space_room entry_room device m p r e f s n d = rw (p, r, e, f, s, n, d) refl
+as_parts : (platform : Platform) (ram : List ℕ) (spaces : List Space) (space_room entry_room : ℕ) (device : Bool) (m : Machine) → platform ≡ m.platform → ram ≡ m.ram
+    → spaces ≡ m.spaces → space_room ≡ m.space_room → entry_room ≡ m.entry_room → device ≡ m.device
+    → (record { platform = platform; ram = ram; spaces = spaces; space_room = space_room; entry_room = entry_room; device = device }) ≡ m
+as_parts platform ram spaces space_room entry_room device m p r e s n d = rw (p, r, e, s, n, d) refl
 
 machine_made : (m : Machine) (part : Layout) (guest : Guest) (memory : List ℕ) → IsMade m part guest memory → ram_of part.blocks memory ≡ m.ram → machine_of guest memory ≡ m
 machine_made m part guest memory made ram =
-    as_parts (platform_of guest) (ram_of guest.part.blocks memory) (spaces_of guest.pool) guest.first (room_of guest.pool) guest.pool.most guest.device m made.platform
-    (ap (λ part. ram_of part.blocks memory) made.own_part ∙ ram) made.spaces made.first made.space_room made.entry_room made.device
+    as_parts (platform_of guest) (ram_of guest.part.blocks memory) (spaces_of guest.pool) (room_of guest.pool) guest.pool.most guest.device m made.platform
+    (ap (λ part. ram_of part.blocks memory) made.own_part ∙ ram) made.spaces made.space_room made.entry_room made.device
 
 hosted_made : (m : Machine) (part : Layout) (guest : Guest) (memory : List ℕ) → IsSavable m → IsMade m part guest memory → NamesEachOnce part → IsHeld part memory
     → ram_of part.blocks memory ≡ m.ram → IsHosted guest memory

@@ -4,7 +4,7 @@ use Rattle.std.proofs.Common.{◌≡◌, ◌+◌, Option, Bool, true, false, ref
 use Rattle.arch_defs.specs.declared.cached.Fence.{Fence}
 use Rattle.arch_defs.specs.Calls.{environment, state_of}
 use Rattle.arch_defs.specs.Registers.{a7, read}
-use Rattle.machine_defs.specs.Machine.{Machine, Platform, Tried, Ended, WaitsForGood, called, with_pending_lines, stopped_if, with_call}
+use Rattle.machine_defs.specs.Machine.{Machine, Platform, Tried, Ended, WaitsForGood, called, with_pending_lines, stopped_if, with_call, with_first}
 use Rattle.machine_defs.specs.Tries.{try}
 use Rattle.machine_laws.proofs.TryEnds.{Calls, Fences, Halts, Makes, Passes, Serves, Takes}
 use Rattle.guest_exit.proofs.SomeEnds.{SomeEnd, some_end}
@@ -28,7 +28,7 @@ ended_step : (m : Machine) (tried : Tried) (fence : Option Fence) → SomeEnd m 
 ended_step m tried fence (Takes first trap) = record { counted = refl; current = refl }
 ended_step m tried fence (Makes first completion event any) = record { counted = refl; current = refl }
 ended_step m tried fence (Serves first rd value console leaves) = record { counted = refl; current = refl }
-ended_step m tried fence (Calls first) = record { counted = rw (called_steps m.platform) refl; current = refl }
+ended_step m tried fence (Calls first) = record { counted = rw (called_steps (with_first m first).platform) refl; current = refl }
 ended_step m tried fence (Passes first virt moment any) = record { counted = refl; current = refl }
 ended_step m tried fence Halts = tt
 ended_step m tried fence (Fences first virt named any) = record { counted = refl; current = refl }

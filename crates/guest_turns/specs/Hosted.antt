@@ -50,7 +50,6 @@ no_machine = record {
   };
   ram = [];
   spaces = [];
-  first = [];
   space_room = 0;
   entry_room = 0;
   device = false;

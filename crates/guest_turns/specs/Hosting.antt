@@ -88,7 +88,6 @@ pub record IsAtStart (spec : GuestSpec) (part : Layout) (guest : Guest) : Type 0
   pub own_part : guest.part ≡ part
   pub platform : platform_of guest ≡ (start spec).platform
   pub pool : IsNewPool part guest.pool
-  pub first : guest.first ≡ []
   pub spaces : room_of guest.pool ≡ spec.spaces
   pub entries : guest.pool.most ≡ spec.entries
   pub device : guest.device ≡ spec.device
@@ -99,7 +98,6 @@ pub record IsMade (m : Machine) (part : Layout) (guest : Guest) (memory : List �
   pub own_pool : guest.pool.part ≡ part
   pub platform : platform_of guest ≡ m.platform
   pub spaces : spaces_of guest.pool ≡ m.spaces
-  pub first : guest.first ≡ m.first
   pub space_room : room_of guest.pool ≡ m.space_room
   pub entry_room : guest.pool.most ≡ m.entry_room
   pub device : guest.device ≡ m.device

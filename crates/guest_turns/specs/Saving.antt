@@ -18,5 +18,5 @@ pub record MayBeSaved (m : Machine) : Type 0 where
   pub keys : HaveKeys m.spaces
   pub tables : EachEntry IsOfTable m.spaces
   pub device : EachEntry (IsOfDevice m.device) m.spaces
-  pub first : HasFirst m.first
-  pub storable : AreStorable m.first
+  pub first : HasFirst m.platform.virt.first
+  pub storable : AreStorable m.platform.virt.first

@@ -129,12 +129,10 @@ fn guest_at_start(alloc: Global, spec: GuestSpec, part: Part) -> Result<Guest, N
 {
     let console = Console::new(alloc, spec.console, spec.inputs.into_vec())?;
     let pool = Pool::new(alloc, &part, spec.spaces, spec.entries)?;
-    let first = FirstBuffer::new(alloc)?;
     let mut guest = Guest {
         part,
         virt: Virtual::starting_at(Mode::HS, RAM_BASE),
         pool,
-        first,
         clock: Clock::new(),
         console,
         steps: 0,
@@ -164,12 +162,12 @@ fn guest_resumed(
     let console = console_resumed(alloc, saved, header.console)?;
     let mut pool = Pool::new(alloc, &part, header.spaces, header.entries)?;
     remake(&mut pool, memory, saved);
-    let first = first_resumed(alloc, saved)?;
+    let mut virt = header.state;
+    virt.first = first_resumed(saved);
     Ok(Guest {
         part,
-        virt: header.state,
+        virt,
         pool,
-        first,
         clock: Clock::at(header.time, header.timer),
         console,
         steps: header.steps,
@@ -179,16 +177,16 @@ fn guest_resumed(
 }
 
 // The first-stage translations of a saved machine, filled in order.
-fn first_resumed(alloc: Global, saved: &Saved) -> Result<FirstBuffer, NoMemory>
-    ensures { IfOk result (λ first. first ≡ saved.now.machine.first) }
+fn first_resumed(saved: &Saved) -> FirstBuffer
+    ensures { result ≡ saved.now.machine.platform.virt.first }
 {
     saved.can_be_saved();
-    let mut first = FirstBuffer::new(alloc)?;
+    let mut first = FirstBuffer::new();
     let entries = saved.first();
     for i in 0..entries.len() {
         first.fill(entries[i]);
     }
-    Ok(first)
+    first
 }
 
 // The console of a saved machine, with room for so many bytes.

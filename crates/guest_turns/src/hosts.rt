@@ -9,7 +9,7 @@ ghost use Rattle.guest_save.specs.Forms.{form};
 ghost use Rattle.guest_save.specs.Savable.{IsSavable};
 ghost use Rattle.guest_specs.specs.declared.statuses.Status.TheVariants.{Running};
 ghost use Rattle.machine_defs.specs.Lookups.{looked_up};
-ghost use Rattle.machine_defs.specs.Machine.{start};
+ghost use Rattle.machine_defs.specs.Machine.{start, with_pending_lines};
 ghost use Rattle.machine_defs.specs.Runs.{run};
 ghost use Rattle.outside.specs.Faults.{Rose};
 ghost use Rattle.outside.specs.Pieces.{Puts};
@@ -124,7 +124,7 @@ impl Host {
         lay_out(&mut memory, sources.as_slice(), split.parts.as_slice());
         let guests = guests_from(alloc, sources, split.parts.as_slice(), &mut memory)?;
         Ok(Host {
-            hart: Hart::new(alloc)?,
+            hart: Hart::new(),
             memory,
             guests,
             free: FreeBlocks::from(split.blocks, spare),
@@ -145,6 +145,17 @@ impl Host {
         ensures { All (λ m. m.entry_room ≤ 256) self.now.machines }
     {
         let _ = &self.guests;
+    }
+
+    /// What the clock and the inputs set of the registers of a guest that has not retired is as they set it,
+    /// which is the premise of `clear_steps_are_calm`.
+    pub fn lines_are_set(&self, g: u32)
+        requires guest { g < length self.now.machines }
+        requires active { is_set self.now.retired g ≡ false }
+        ensures { with_pending_lines (machine_at self.now.machines g).platform
+            ≡ (machine_at self.now.machines g).platform }
+    {
+        let _guest = &self.guests[g as usize];
     }
 
     /// Whether a guest has retired.

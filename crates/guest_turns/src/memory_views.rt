@@ -8,7 +8,7 @@ ghost use Rattle.guest_save.specs.Savable.{IsSavable};
 ghost use Rattle.guest_turns.specs.Hosting.{IsHosted};
 ghost use Rattle.guest_turns.specs.Saving.{MayBeSaved};
 
-use arch_defs::{Entry, FirstEntry, GuestRoot};
+use arch_defs::{Entry, FirstBuffer, FirstEntry, GuestRoot};
 use guest_exit::Guest;
 use guest_save::{Header, Snapshot, numbers_fit};
 use phys_mem::{BLOCK_SIZE, PhysMem};
@@ -75,6 +75,8 @@ impl Snapshot for MemoryView<'_> {
     #[tactic(auto, using(crate::proofs::ShownBlocks::header_shown))]
     fn header(&self) -> Header {
         let guest = self.guest;
+        let mut state = guest.virt;
+        state.first = FirstBuffer::new();
         Header {
             blocks: guest.part.blocks().len() as u64,
             spaces: guest.pool.room(),
@@ -84,7 +86,7 @@ impl Snapshot for MemoryView<'_> {
             steps: guest.steps,
             time: guest.clock.now(),
             timer: guest.clock.timer(),
-            state: guest.virt,
+            state,
             device: guest.device,
         }
     }
@@ -114,7 +116,7 @@ impl Snapshot for MemoryView<'_> {
     }
 
     fn first(&self) -> &[FirstEntry] {
-        self.guest.first.as_slice()
+        self.guest.virt.first.as_slice()
     }
 
     fn block(&self, number: u64) -> &[u8] {

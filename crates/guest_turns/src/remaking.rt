@@ -38,8 +38,9 @@ fn remake_space(pool: &mut Pool, memory: &mut PhysMem, saved: &Saved, i: u64)
     ensures tidy { TidyPool pool.new memory.new }
 {
     saved.can_be_saved();
-    pool.enter(memory, Key::of(saved.key(i)));
+    let key = Key::of(saved.key(i));
+    pool.enter(memory, key);
     for j in 0..saved.len(i) {
-        pool.fill(memory, saved.entry(i, j));
+        pool.fill(memory, key, saved.entry(i, j));
     }
 }

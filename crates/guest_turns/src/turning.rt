@@ -2,7 +2,6 @@
 
 ghost use Rattle.std.specs.Prelude.{◌≡◌, ◌≢◌, ◌+◌, ◌^◌, ◌<◌, ◌≤◌};
 ghost use Rattle.guest_specs.specs.declared.statuses.Status.TheVariants.{Running};
-ghost use Rattle.guest_exit.specs.HartEntry.{IsLoaded};
 ghost use Rattle.guest_exit.specs.View.{machine_of};
 ghost use Rattle.guest_turns.specs.Account.{Accounted, AccountedTo, HasRoomForTurn};
 ghost use Rattle.guest_turns.specs.Hosting.{Advances, CountsLeft, HasRun, IsHosted, used_by};
@@ -35,25 +34,22 @@ pub fn turn_of(
 {
     let before = guest.steps;
     let mut left = k;
-    let mut loaded = false;
     while left > 0 {
         if guest.status != Status::Running {
             return guest.steps - before;
         }
-        left = advance(guest, hart, memory, left, &mut loaded, tally);
+        left = advance(guest, hart, memory, left, tally);
     }
     guest.steps - before
 }
 
 // Makes some of the steps that are left of a guest that goes on, in one entry of the hart where it can make
-// them, or fills a cached translation that the next step lacks. Answers how many steps are left then. Where
-// the guest is `loaded`, the hart has its state: so it is after a fill, which changes nothing of it.
+// them, or fills a cached translation that the next step lacks. Answers how many steps are left then.
 fn advance(
     guest: &mut Guest,
     hart: &mut Hart,
     memory: &mut PhysMem,
     left: u64,
-    loaded: &mut bool,
     tally: &mut Tally,
 ) -> u64
     requires running { guest.old.status ≡ Running }
@@ -62,27 +58,22 @@ fn advance(
     requires steps { guest.old.steps + left ≤ 2 ^ 61 }
     requires entries { tally.old.entries < 2 ^ 62 }
     requires taken { tally.old.taken + left ≤ 2 ^ 62 }
-    requires loaded { IsLoaded loaded.old guest.old hart.old.state.virt }
 
     ensures advances { Advances guest.old memory.old left guest.new memory.new result }
     ensures hosted { IsHosted guest.new memory.new }
     ensures counts { CountsLeft guest.old left guest.new result }
     ensures account { AccountedTo (machine_of guest.old memory.old) left (machine_of guest.new memory.new)
         result tally.old tally.new }
-    ensures loaded { IsLoaded loaded.new guest.new hart.new.state.virt }
 {
     if interrupt(guest) {
-        *loaded = false;
         return left - 1;
     }
-    let stop = enter(guest, hart, memory, limit(guest, left), *loaded, tally);
-    *loaded = false;
+    let stop = enter(guest, hart, memory, limit(guest, left), tally);
     match stop.why {
         Why::Limit => left - stop.taken,
         Why::VsTrap => left - stop.taken,
         Why::Exit(trap) => {
-            let made = handle(guest, memory, &trap);
-            *loaded = made == Handled::Retry;
+            let made = handle(guest, memory, trap);
             left - stop.taken - used(made)
         }
     }

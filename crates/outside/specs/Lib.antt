@@ -8,3 +8,6 @@ pub mod MapStores
 pub mod ListSinks
 pub mod CleanStores
 pub mod FileStores
+pub mod Connections
+pub mod ListConnections
+pub mod StdConnections

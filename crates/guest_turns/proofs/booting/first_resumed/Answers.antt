@@ -14,14 +14,14 @@ next : (first entries all : List FirstEntry) (i : ℕ) (d : FirstEntry) → entr
 next first entries all i d same has inside before = rw (before, same) (first_next i all d has (subst (λ xs. i < length xs) same inside))
 
 pub fill-requires : goal.fill-requires
-fill-requires c = frame_at c.first-entries.result.now c.args.saved.now.machine.first c.loop-i.i _ c.first-entries.ensures c.can_be_saved.ensures.first c.loop-i-test.true
+fill-requires c = frame_at c.first-entries.result.now c.args.saved.now.machine.platform.virt.first c.loop-i.i _ c.first-entries.ensures c.can_be_saved.ensures.first c.loop-i-test.true
 
 pub loop-i-preserved : goal.loop-i-preserved
 loop-i-preserved c =
     c.fill.ensures.filled
-    ∙ next c.loop-i.first c.first-entries.result.now c.args.saved.now.machine.first c.loop-i.i _ c.first-entries.ensures c.can_be_saved.ensures.first c.loop-i-test.true c.loop-i.invariant
+    ∙ next c.loop-i.first c.first-entries.result.now c.args.saved.now.machine.platform.virt.first c.loop-i.i _ c.first-entries.ensures c.can_be_saved.ensures.first c.loop-i-test.true c.loop-i.invariant
 
 pub returns : goal.returns
 returns c =
-    let all = c.args.saved.now.machine.first in
+    let all = c.args.saved.now.machine.platform.virt.first in
     c.loop-i.invariant ∙ take_all c.loop-i.i all (omega (arith, c.loop-i-test.false, ap length c.first-entries.ensures))

@@ -1,4 +1,4 @@
-use Rattle.std.proofs.Common.{rules, ◌∙◌}
+use Rattle.std.proofs.Common.{rules}
 use Rattle.machine_defs.specs.Machine.{start}
 use Rattle.guest_turns.proofs.booting.guest_at_start.Goals as goal
 
@@ -10,7 +10,6 @@ returns c =
       own_part = keeps.part;
       platform = search rules;
       pool = search rules;
-      first = keeps.first ∙ c.in_ok-first.ensures;
       spaces = search rules;
       entries = search rules;
       device = keeps.device;

@@ -1,6 +1,6 @@
 use Rattle.std.proofs.Common.{◌+◌, ◌^◌, ◌<◌, ◌≤◌, ◌∙◌, ap, sym, arith}
 use Rattle.arch_defs.proofs.FrameSets.{only_none}
-use Rattle.guest_exit.proofs.Alone.{only_of_blocks, spaces_kept, stays_by}
+use Rattle.guest_exit.proofs.Alone.{only_of_blocks, stays_by}
 use Rattle.guest_exit.specs.View.{changed_by, machine_of}
 use Rattle.guest_turns.proofs.CalmSteps.{first_calm, no_calm_trap}
 use Rattle.guest_turns.proofs.Current.{after_step}
@@ -16,7 +16,7 @@ returns-then-interrupt-clause-advances c =
     ((c.interrupt.ensures.takes c.if-interrupt.true).step c.args.memory.now) in
     record {
       goes = part.goes;
-      keeps = stays_by c.args.guest.now c.interrupt.new.guest (spaces_kept c.args.guest.now c.interrupt.new.guest c.interrupt.ensures.keeps);
+      keeps = stays_by c.args.guest.now c.interrupt.new.guest c.interrupt.ensures.keeps;
       only = only_none (changed_by c.args.guest.now) c.args.memory.now;
     }
 
@@ -54,7 +54,7 @@ returns-in-Limit-clause-advances c =
     record {
       goes = part.goes;
       keeps =
-          fixed_both c.args.guest.now c.interrupt.new.guest c.enter-stop.new.guest (stays_by c.args.guest.now c.interrupt.new.guest (spaces_kept c.args.guest.now c.interrupt.new.guest c.interrupt.ensures.keeps))
+          fixed_both c.args.guest.now c.interrupt.new.guest c.enter-stop.new.guest (stays_by c.args.guest.now c.interrupt.new.guest c.interrupt.ensures.keeps)
           (stays_by c.interrupt.new.guest c.enter-stop.new.guest c.enter-stop.ensures.keeps.keeps);
       only =
           rw (c.interrupt.ensures.stays c.if-interrupt.false) at
@@ -94,7 +94,7 @@ returns-in-VsTrap-clause-advances c =
     record {
       goes = part.goes;
       keeps =
-          fixed_both c.args.guest.now c.interrupt.new.guest c.enter-stop.new.guest (stays_by c.args.guest.now c.interrupt.new.guest (spaces_kept c.args.guest.now c.interrupt.new.guest c.interrupt.ensures.keeps))
+          fixed_both c.args.guest.now c.interrupt.new.guest c.enter-stop.new.guest (stays_by c.args.guest.now c.interrupt.new.guest c.interrupt.ensures.keeps)
           (stays_by c.interrupt.new.guest c.enter-stop.new.guest c.enter-stop.ensures.keeps.keeps);
       only =
           rw (c.interrupt.ensures.stays c.if-interrupt.false) at
@@ -131,7 +131,7 @@ returns-in-Exit-clause-advances c =
     c.args.left c.enter-stop.result.taken c.handle-made.result c.requires.hosted (c.interrupt.ensures.stays c.if-interrupt.false) some c.enter-stop.ensures.run.ready
     c.enter-stop.ensures.run.steps c.enter-stop.ensures.goes.status c.handle-made.ensures.does.step c.handle-made.ensures.does.fill in
     let entered =
-    fixed_both c.args.guest.now c.interrupt.new.guest c.enter-stop.new.guest (stays_by c.args.guest.now c.interrupt.new.guest (spaces_kept c.args.guest.now c.interrupt.new.guest c.interrupt.ensures.keeps))
+    fixed_both c.args.guest.now c.interrupt.new.guest c.enter-stop.new.guest (stays_by c.args.guest.now c.interrupt.new.guest c.interrupt.ensures.keeps)
     (stays_by c.interrupt.new.guest c.enter-stop.new.guest c.enter-stop.ensures.keeps.keeps) in
     let only = rw (c.interrupt.ensures.stays c.if-interrupt.false) at
     (only_of_blocks c.interrupt.new.guest c.args.memory.now c.enter-stop.new.memory c.enter-stop.ensures.keeps.only) in

@@ -45,7 +45,6 @@ loop-left-preserved c =
       counted = λ running.
           let was = goes_on c.loop-left.guest.status refl in
           omega (arith, is.counted was, made.counts.others running);
-      loaded = made.loaded;
       account = accounted_then _ _ _ _ _ _ _ _ _ is.account made.account;
     }
   where

@@ -3,7 +3,6 @@ use Rattle.arch_defs.specs.Frames.{Only}
 use Rattle.machine_laws.specs.Budgets.{budget}
 use Rattle.guest_specs.specs.declared.statuses.Status.TheVariants.{Running}
 use Rattle.machine_defs.specs.Runs.{run}
-use Rattle.guest_exit.specs.HartEntry.{IsLoaded}
 use Rattle.guest_exit.specs.View.{KeepsLayout, changed_by, machine_of}
 use Rattle.guest_turns.specs.Hosting.{IsHosted}
 use Rattle.guest_turns.specs.Account.{AccountedTo}
@@ -23,6 +22,5 @@ invariant-loop-left l = record {
   forward : l.before ≤ l.guest.steps;
   made : l.guest.steps + l.left ≤ l.before + l.k;
   counted : l.guest.status ≡ Running → l.guest.steps + l.left ≡ l.before + l.k;
-  loaded : IsLoaded l.loaded l.guest l.hart.state.virt;
   account : AccountedTo (machine_of l.fn.guest l.fn.memory) l.k (machine_of l.guest l.memory) l.left l.fn.tally l.tally;
 }

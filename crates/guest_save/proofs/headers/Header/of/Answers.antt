@@ -26,5 +26,6 @@ returns c =
         csrs = csrs i;
         mode = c.mode_of.ensures i;
         reservation = c.reservation_of.ensures i;
+        first = c.new.ensures i;
       };
     }
