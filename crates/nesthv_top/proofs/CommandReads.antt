@@ -16,7 +16,7 @@ use Rattle.outside.specs.Files.{Files}
 use Rattle.run_config.specs.declared.ends.ReadEnd.{ReadEnd}
 use Rattle.run_config.specs.declared.ends.ReadEnd.TheVariants as read_end
 use Rattle.run_config.specs.declared.faults.ConfigFault.{ConfigFault}
-use Rattle.run_config.specs.declared.faults.ConfigFault.TheVariants as fault
+use Rattle.run_config.specs.Faults as fault
 use Rattle.run_config.specs.Accept.{accept}
 use Rattle.run_config.specs.Configurations.{Configuration, IsWithinLimits}
 use Rattle.run_config.specs.Tests.{first_fault}
@@ -31,11 +31,11 @@ use Rattle.nesthv_top.specs.Endings.{IsFirstRead, SaysOfReads}
 use Rattle.nesthv_top.specs.Ends.{ended_by, IfFailed, Leaves}
 use Rattle.nesthv_top.specs.Loads.{all_read_for, frames_read, sources_with, IsAllRead, IsTested}
 use Rattle.nesthv_top.specs.Plans.{planned}
-use Rattle.nesthv_top.specs.Reads.{accepted_steps, ask, config_steps, fault_by, file_steps, frames_fault, guest_fault, guests_steps, making, reading, report_steps, steps_for, testing, text_fault, AskedSome, BeginsWithConfig}
+use Rattle.nesthv_top.specs.Reads.{accepted_steps, ask, config_steps, fault_by, file_steps, frames_fault, guest_fault, guests_steps, making, reading, report_steps, steps_for, testing, text_fault, BeginsWithConfig}
 use Rattle.nesthv_top.specs.Seen.{plan_seen, IsJob}
-use Rattle.nesthv_top.specs.Steps.{Step, asks_unless, fault_in, made_of, ArePassed, AskedMore, IsNumberAfter, ReadStopsAs, StopAs}
+use Rattle.nesthv_top.specs.Steps.{Step, asks_unless, fault_in, made_of, AreAnswered, ArePassed, AskedMore, IsNumberAfter, ReadStopsAs, StopAs}
 use Rattle.nesthv_top.proofs.GuestReads.{all_bootable, made_names, made_of_files}
-use Rattle.nesthv_top.proofs.StepLists.{asked_none, asked_then, made_all, making_passed, one_passed, one_stopped, passed_then, rose_since, stopped_first, stopped_later, test_passed, test_refused}
+use Rattle.nesthv_top.proofs.StepLists.{answered_none, answered_then, asked_none, asked_then, made_all, making_passed, one_passed, one_stopped, passed_then, rose_since, stop_answers_then, stopped_first, stopped_later, test_passed, test_refused}
 
 -- what reads leave of a store, one after the other
 pub left_none : {X A : Type 0} (S : stores.Ghosts X) (a : A) (store : X) (made : ℕ) → Leaves S 0 (Ok a) store store made made
@@ -43,7 +43,7 @@ left_none S a store made = record {
   files = refl;
   cause = tt;
   count = omega arith;
-  asked = ([], asked_none (S.asked store));
+  answers = answered_none made (S.asked store);
   numbers = (omega arith, omega arith);
 }
 
@@ -59,9 +59,6 @@ numbers_later first most all (ReadFault n) made made' least few within numbers =
     (omega (arith, least, numbers.0), omega (arith, few, within, numbers.1))
 numbers_later first most all (NoMemory n) made made' least few within numbers = omega (arith, least, numbers)
 
-both_asked : (before between after : Option (List Ask)) → AskedSome before between → AskedSome between after → AskedSome before after
-both_asked before between after (xs, one) (ys, two) = (xs ++ ys, asked_then xs ys before between after one two)
-
 -- passed, and then passed or stopped
 pub left_passed : {X A B C : Type 0} (S : stores.Ghosts X) (first most all : ℕ) (a : A) (b : B) (c : C) (old mid new : X) (made made' made'' : ℕ) → first + most ≤ all
     → Leaves S first (Ok a) old mid made made' → Leaves S most (Ok b) mid new made' made'' → Leaves S all (Ok c) old new made made''
@@ -69,7 +66,7 @@ left_passed S first most all a b c old mid new made made' made'' within one two 
   files = two.files ∙ one.files;
   cause = tt;
   count = omega (arith, one.count, two.count);
-  asked = both_asked (S.asked old) (S.asked mid) (S.asked new) one.asked two.asked;
+  answers = answered_then made made' made'' (S.asked old) (S.asked mid) (S.asked new) one.answers two.answers;
   numbers = (omega (arith, one.numbers.0, two.numbers.0), omega (arith, within, one.numbers.1, two.numbers.1));
 }
 
@@ -79,7 +76,7 @@ left_stopped S first most all a end old mid new made made' made'' within one two
   files = two.files ∙ one.files;
   cause = rose_later end (S.faults old) (S.faults mid) (S.faults new) one.count two.cause;
   count = omega (arith, one.count, two.count);
-  asked = both_asked (S.asked old) (S.asked mid) (S.asked new) one.asked two.asked;
+  answers = stop_answers_then end made made' made'' (S.asked old) (S.asked mid) (S.asked new) one.answers two.answers;
   numbers = numbers_later first most all end made made' one.numbers.0 one.numbers.1 within two.numbers;
 }
 
@@ -90,10 +87,14 @@ left_first S most all end old new made made' within one =
     left_stopped {A = ℕ} S 0 most all 0 end old old new made made made' (omega (arith, within)) (left_none S 0 old made) one
 
 -- the first read was that of the configuration
-pub begins_then : {X : Type 0} (S : stores.Ghosts X) (command : FileCommand) (old mid new : X) → BeginsWithConfig (Some (OnFiles command)) (S.asked old) (S.asked mid)
-    → AskedSome (S.asked mid) (S.asked new) → BeginsWithConfig (Some (OnFiles command)) (S.asked old) (S.asked new)
-begins_then S command old mid new (failed, rest, begins) (more, asked) =
+begins_more : {X : Type 0} (S : stores.Ghosts X) (command : FileCommand) (more : List Ask) (old mid new : X) → BeginsWithConfig (Some (OnFiles command)) (S.asked old) (S.asked mid)
+    → AskedMore more (S.asked mid) (S.asked new) → BeginsWithConfig (Some (OnFiles command)) (S.asked old) (S.asked new)
+begins_more S command more old mid new (failed, rest, begins) asked =
     (failed, rest ++ more, asked_then (record { name = config_name command; most = 65537; failed = failed } ∷ rest) more (S.asked old) (S.asked mid) (S.asked new) begins asked)
+
+pub begins_then : {X : Type 0} (S : stores.Ghosts X) (command : FileCommand) (made made' : ℕ) (old mid new : X) → BeginsWithConfig (Some (OnFiles command)) (S.asked old) (S.asked mid)
+    → AreAnswered made (S.asked mid) made' (S.asked new) → BeginsWithConfig (Some (OnFiles command)) (S.asked old) (S.asked new)
+begins_then S command made made' old mid new begins answered = begins_more S command answered.reads old mid new begins answered.asked
 
 pub later_first : {X : Type 0} (S : stores.Ghosts X) (command : FileCommand) (n : ℕ) (old new : X) → 1 ≤ n → BeginsWithConfig (Some (OnFiles command)) (S.asked old) (S.asked new)
     → IsFirstRead S (Some (OnFiles command)) (ended.NoMemory n) old new
@@ -103,10 +104,11 @@ later_first S command (suc n) old new some begins = begins
 pub first_then : {X A : Type 0} (S : stores.Ghosts X) (command : FileCommand) (most made made' : ℕ) (end : LoadEnd) (old mid new : X)
     → BeginsWithConfig (Some (OnFiles command)) (S.asked old) (S.asked mid) → 1 ≤ made → Leaves {X = X} {A = A} S most (Err end) mid new made made'
     → IsFirstRead S (Some (OnFiles command)) (ended_by end) old new
-first_then S command most made made' (Refused found) old mid new begins some left = begins_then S command old mid new begins left.asked
-first_then S command most made made' (ReadFault n) old mid new begins some left = begins_then S command old mid new begins left.asked
+first_then S command most made made' (Refused found) old mid new begins some left = begins_then S command made made' old mid new begins left.answers
+first_then S command most made made' (ReadFault n) old mid new begins some left =
+    begins_more S command (left.answers.passed ++ left.answers.failing ∷ []) old mid new begins left.answers.asked
 first_then S command most made made' (NoMemory n) old mid new begins some left =
-    later_first S command n old new (omega (arith, some, left.numbers)) (begins_then S command old mid new begins left.asked)
+    later_first S command n old new (omega (arith, some, left.numbers)) (begins_then S command made n old mid new begins left.answers)
 
 -- the reading of a configuration: whether its bytes are text
 at_most : (n : ℕ) → nat_le n 65536 ≡ true → n ≤ 65536
@@ -116,17 +118,17 @@ above : (n : ℕ) → nat_le n 65536 ≡ false → 65536 < n
 above n e = grind (arith, e)
 
 text_passes : {A : Type 0} (bytes : List ℕ) (result : Result A ReadEnd) (short utf8 : Bool) → nat_le (length bytes) 65536 ≡ short → is_utf8 bytes ≡ utf8
-    → (65536 < length bytes → result ≡ Err (read_end.Refused fault.TooLong)) → (length bytes ≤ 65536 → is_utf8 bytes ≡ false → result ≡ Err (read_end.Refused fault.NotToml))
+    → (65536 < length bytes → result ≡ Err (read_end.Refused fault.too_long)) → (length bytes ≤ 65536 → is_utf8 bytes ≡ false → result ≡ Err (read_end.Refused fault.not_toml))
     → (text_fault bytes ≡ None) ⊎ ((found : ConfigFault) × (text_fault bytes ≡ Some found) × (result ≡ Err (read_end.Refused found)))
-text_passes bytes result false utf8 e e' long no_text = inr (fault.TooLong, rw e refl, long (above (length bytes) e))
-text_passes bytes result true false e e' long no_text = inr (fault.NotToml, rw (e, e') refl, no_text (at_most (length bytes) e) e')
+text_passes bytes result false utf8 e e' long no_text = inr (fault.too_long, rw e refl, long (above (length bytes) e))
+text_passes bytes result true false e e' long no_text = inr (fault.not_toml, rw (e, e') refl, no_text (at_most (length bytes) e) e')
 text_passes bytes result true true e e' long no_text = inl (rw (e, e') refl)
 
 abbrev TextFault : {A : Type 0} → List ℕ → Result A ReadEnd → Type 0
 TextFault bytes result = (text_fault bytes ≡ None) ⊎ ((found : ConfigFault) × (text_fault bytes ≡ Some found) × (result ≡ Err (read_end.Refused found)))
 
 pub text_tested : {A : Type 0} (bytes : List ℕ) (result : Result A ReadEnd)
-    → (65536 < length bytes → result ≡ Err (read_end.Refused fault.TooLong)) → (length bytes ≤ 65536 → is_utf8 bytes ≡ false → result ≡ Err (read_end.Refused fault.NotToml))
+    → (65536 < length bytes → result ≡ Err (read_end.Refused fault.too_long)) → (length bytes ≤ 65536 → is_utf8 bytes ≡ false → result ≡ Err (read_end.Refused fault.not_toml))
     → TextFault bytes result
 text_tested bytes result long no_text = text_passes bytes result (nat_le (length bytes) 65536) (is_utf8 bytes) refl refl long no_text
 
@@ -292,7 +294,7 @@ left_refused S most a found old new made made' left = record {
   files = left.files;
   cause = tt;
   count = left.count;
-  asked = left.asked;
+  answers = left.answers;
   numbers = tt;
 }
 
@@ -303,6 +305,7 @@ pub stopped_says : {X A : Type 0} (S : stores.Ghosts X) (command : FileCommand) 
 stopped_says S command (Refused found) old new made' ends first left = record {
   first = first;
   reads = λ f told. (ends f told).1;
+  answers = (made', left.answers);
   number = tt;
   fault = λ f told. (ends f told).0;
   stays = left.files;
@@ -311,6 +314,7 @@ stopped_says S command (Refused found) old new made' ends first left = record {
 stopped_says S command (ReadFault n) old new made' ends first left = record {
   first = first;
   reads = λ f told. ends f told;
+  answers = left.answers;
   number = (omega (arith, left.numbers.0), omega (arith, left.numbers.1));
   fault = λ f told. tt;
   stays = left.files;
@@ -319,6 +323,7 @@ stopped_says S command (ReadFault n) old new made' ends first left = record {
 stopped_says S command (NoMemory n) old new made' ends first left = record {
   first = first;
   reads = λ f told. inl (ends f told);
+  answers = left.answers;
   number = tt;
   fault = λ f told. tt;
   stays = left.files;
@@ -333,6 +338,7 @@ passed_says S command a old new made' passed first left = record {
   reads = λ f told.
       let all = passed f told in
       subst (λ asks. AskedMore asks (S.asked old) (S.asked new)) (sym (made_all (file_steps f command) all.fault)) all.asked;
+  answers = (made', left.answers);
   number = tt;
   fault = λ f told. tt;
   stays = left.files;
@@ -341,11 +347,12 @@ passed_says S command a old new made' passed first left = record {
 
 -- memory was wanting after all reads
 pub wanting_says : {X : Type 0} (S : stores.Ghosts X) (command : FileCommand) (made : ℕ) (old new : X) → 1 ≤ made
-    → ((f : Files) → S.files old ≡ Some f → ArePassed (file_steps f command) 0 (S.asked old) made (S.asked new))
+    → ((f : Files) → S.files old ≡ Some f → ArePassed (file_steps f command) 0 (S.asked old) made (S.asked new)) → AreAnswered 0 (S.asked old) made (S.asked new)
     → SaysOfReads S (Some (OnFiles command)) ended.Done old new → SaysOfReads S (Some (OnFiles command)) (ended.NoMemory made) old new
-wanting_says S command made old new some passed says = record {
+wanting_says S command made old new some passed answered says = record {
   first = later_first S command made old new some says.first;
   reads = λ f told. inr (passed f told);
+  answers = answered;
   number = tt;
   fault = λ f told. tt;
   stays = says.stays;
@@ -365,17 +372,31 @@ nothing_read S command store = record {
     number = omega arith;
     left = λ two. absurd (omega (arith, two));
   });
+  answers = answered_none 0 (S.asked store);
   number = tt;
   fault = λ f told. tt;
   stays = refl;
   count = omega arith;
 }
 
+-- words that are no command read nothing
+pub no_command_says : {X : Type 0} (S : stores.Ghosts X) (command : Option Command) (store : X) → command ≡ None → SaysOfReads S command ended.NoCommand store store
+no_command_says S command store none = rw none (record {
+  first = refl;
+  reads = λ f told. asked_none (S.asked store);
+  answers = (0, answered_none 0 (S.asked store));
+  number = tt;
+  fault = λ f told. tt;
+  stays = refl;
+  count = omega arith;
+})
+
 -- a work reads nothing
 pub work_done : {X : Type 0} (S : stores.Ghosts X) (seed size : ℕ) (store : X) → SaysOfReads S (Some (Work seed size)) ended.Done store store
 work_done S seed size store = record {
   first = asked_none (S.asked store);
   reads = λ f told. asked_none (S.asked store);
+  answers = (0, answered_none 0 (S.asked store));
   number = tt;
   fault = λ f told. tt;
   stays = refl;
@@ -386,6 +407,7 @@ pub work_unwritten : {X : Type 0} (S : stores.Ghosts X) (seed size : ℕ) (store
 work_unwritten S seed size store = record {
   first = asked_none (S.asked store);
   reads = λ f told. asked_none (S.asked store);
+  answers = (0, answered_none 0 (S.asked store));
   number = tt;
   fault = λ f told. tt;
   stays = refl;

@@ -10,7 +10,7 @@ use Rattle.guest_turns.specs.Limits.{IsBootable}
 use Rattle.guest_turns.specs.Sources.{IsBootableSource}
 use Rattle.outside.specs.Asks.{Ask}
 use Rattle.outside.specs.Files.{Files}
-use Rattle.run_config.specs.declared.faults.ConfigFault.TheVariants as fault
+use Rattle.run_config.specs.Faults as fault
 use Rattle.run_config.specs.declared.guests.InputSource.{InputSource}
 use Rattle.run_config.specs.declared.guests.InputSource.TheVariants.{Pairs, File}
 use Rattle.run_config.specs.declared.guests.FreshGuest.{FreshGuest}
@@ -37,21 +37,21 @@ pub image_fits : (number : ℕ) (guest : FreshGuest) (image : List ℕ) → leng
 image_fits number guest image fits = rw (le-leb (length image) (guest_ram_size guest) fits) refl
 
 pub image_too_long : (number : ℕ) (guest : FreshGuest) (image : List ℕ) → guest_ram_size guest < length image
-    → image_fault number guest image ≡ Some (fault.ImageLong number (length image))
+    → image_fault number guest image ≡ Some (fault.image_long number (length image))
 image_too_long number guest image long = rw (lt-leb (length image) (guest_ram_size guest) long) refl
 
 -- whether a file of inputs is good
 pub records_good : (number : ℕ) (bytes : List ℕ) → bad_record bytes ≡ None → records_fault number bytes ≡ None
 records_good number bytes none = rw none refl
 
-pub records_bad : (number found : ℕ) (bytes : List ℕ) → bad_record bytes ≡ Some found → records_fault number bytes ≡ Some (fault.InputFile number found)
+pub records_bad : (number found : ℕ) (bytes : List ℕ) → bad_record bytes ≡ Some found → records_fault number bytes ≡ Some (fault.input_file number found)
 records_bad number found bytes bad = rw bad refl
 
 -- whether a file is a saved machine
 pub saved_good : (number : ℕ) (bytes : List ℕ) → is_saved bytes ≡ true → saved_fault number bytes ≡ None
 saved_good number bytes is = rw is refl
 
-pub saved_bad : (number : ℕ) (bytes : List ℕ) → is_saved bytes ≡ false → saved_fault number bytes ≡ Some (fault.Saved number)
+pub saved_bad : (number : ℕ) (bytes : List ℕ) → is_saved bytes ≡ false → saved_fault number bytes ≡ Some (fault.saved number)
 saved_bad number bytes is = rw is refl
 
 -- the steps of the first i guests, of the next one, and of those that follow

@@ -4,7 +4,9 @@ pub mod CommandReads
 pub mod Comparing
 pub mod Framing
 pub mod GuestReads
+pub mod MovedShares
 pub mod MovingTurns
+pub mod OwnSections
 pub mod Reporting
 pub mod RetiredMachines
 pub mod SavedMachines

@@ -14,7 +14,8 @@ use Rattle.guest_turns.proofs.Updating.{length_updated, updated_other, updated_s
 use Rattle.machine_defs.specs.Machine.{Machine}
 use Rattle.machine_defs.specs.Runs.{run}
 use Rattle.rv64_hart.specs.Counts.{Counts}
-use Rattle.nesthv_top.specs.Runnings.{hosted_as, kept_turn, own_turns, HaveBlocks}
+use Rattle.nesthv_top.specs.Moving.{due, kept_turn, own_turns}
+use Rattle.nesthv_top.specs.Runnings.{hosted_as, HaveBlocks}
 use Rattle.nesthv_top.proofs.RetiredMachines.{active_one, active_turn, none_retired, one_retires}
 use Rattle.nesthv_top.proofs.Turning.{IsTurn, TurnsLeft, left_is, left_next}
 
@@ -34,12 +35,12 @@ lone_next turns first t g k d inside is =
 abbrev one_if : Bool → ℕ
 one_if b = cond b 1 0
 
-own_one : (g k : ℕ) (turns : List (ℕ × ℕ)) → own_turns g ((g, k) ∷ turns) ≡ own_turns g turns + 1
+pub own_one : (g k : ℕ) (turns : List (ℕ × ℕ)) → own_turns g ((g, k) ∷ turns) ≡ own_turns g turns + 1
 own_one g k turns =
     let first : one_if (g == g) ≡ 1 = ap one_if (eq-eqb g g refl) in
     omega (arith, sum_by-cons (λ (turn : ℕ × ℕ). one_if (turn.0 == g)) (g, k) turns, first)
 
-own_other : (g h k : ℕ) (turns : List (ℕ × ℕ)) → h ≢ g → own_turns g ((h, k) ∷ turns) ≡ own_turns g turns
+pub own_other : (g h k : ℕ) (turns : List (ℕ × ℕ)) → h ≢ g → own_turns g ((h, k) ∷ turns) ≡ own_turns g turns
 own_other g h k turns other =
     let first : one_if (h == g) ≡ 0 = ap one_if (not_equal (h == g) refl) in
     omega (arith, sum_by-cons (λ (turn : ℕ × ℕ). one_if (turn.0 == g)) (h, k) turns, first)
@@ -47,10 +48,6 @@ own_other g h k turns other =
     not_equal : (b : Bool) → (h == g) ≡ b → (h == g) ≡ false
     not_equal true e = absurd (other (eqb-true h g e))
     not_equal false e = e
-
--- the turns that a guest has left, and one more where it is kept
-abbrev pub due : Option ℕ → ℕ → List (ℕ × ℕ) → ℕ
-due kept g turns = own_turns g turns + kept_turn kept g
 
 due_one : (kept : Option ℕ) (g k : ℕ) (turns : List (ℕ × ℕ)) → due kept g ((g, k) ∷ turns) ≡ due kept g turns + 1
 due_one kept g k turns = omega (arith, own_one g k turns)
@@ -175,6 +172,11 @@ own_now kept left g h turns few size one others = by (cases_Bool (h == g))
         let apart : h ≢ g = λ e. both_ways (h == g) other (rw e (eq-eqb g g refl)) in
         get_or-set_other left g h (get_or left g 0 - 1) 0 apart ∙ others apart
 
+pub left_now : (kept : Option ℕ) (turns : List (ℕ × ℕ)) (first : List Machine) (began : Counts) (moved t g : ℕ) (host : Hosted) (left : List ℕ) (tally : Counts) (moves : ℕ)
+    → g < 16 → Between kept turns first began moved t g host left tally moves → get_or (set left g (get_or left g 0 - 1)) g 0 ≡ due kept g (drop (t + 1) turns)
+left_now kept turns first began moved t g host left tally moves guest between =
+    own_now kept left g g (drop (t + 1) turns) guest between.size between.one (λ other. absurd (other refl))
+
 -- the guest has turns left
 pub goes_on : (kept : Option ℕ) (turns : List (ℕ × ℕ)) (first : List Machine) (began : Counts) (moved t g : ℕ) (host : Hosted) (left : List ℕ) (tally : Counts) (moves : ℕ)
     → g < 16 → Between kept turns first began moved t g host left tally moves → Moving kept turns first began moved (t + 1) host (set left g (get_or left g 0 - 1)) tally moves
@@ -222,7 +224,7 @@ retires kept turns first began moved t g host after left tally moves guest betwe
     by : (h : ℕ) → ((g == h) ≡ true) ⊎ ((g == h) ≡ false) → is_set after.retired h ≡ true → due kept h (drop (t + 1) turns) ≡ 0
     by h (inl same) is_gone =
         let e : g ≡ h = eqb-true g h same in
-        let none : due kept g (drop (t + 1) turns) ≡ 0 = sym (own_now kept left g g (drop (t + 1) turns) guest between.size between.one (λ other. absurd (other refl))) ∙ last in rw e at none
+        let none : due kept g (drop (t + 1) turns) ≡ 0 = sym (left_now kept turns first began moved t g host left tally moves guest between) ∙ last in rw e at none
     by h (inr other) is_gone =
         let apart : h ≢ g = λ e. both_ways (g == h) other (rw e (eq-eqb g g refl)) in
         between.gone h (sym (get_or-set_other host.retired g h true false apart) ∙ ap (λ flags. is_set flags h) (sym is.retired) ∙ is_gone)

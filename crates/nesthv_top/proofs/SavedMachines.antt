@@ -5,7 +5,7 @@ use Rattle.command_line.specs.Commands.{OnFiles}
 use Rattle.command_line.specs.declared.commands.FileRequest.{FileRequest}
 use Rattle.command_line.specs.declared.commands.FileRequest.TheVariants as file_request
 use Rattle.command_line.specs.Seen.{file_command_seen}
-use Rattle.run_config.specs.declared.faults.ConfigFault.TheVariants as fault
+use Rattle.run_config.specs.Faults as fault
 use Rattle.run_config.specs.Tests.{unless}
 use Rattle.std.proofs.lemmas.List.{get_or-map, length-map}
 use Rattle.guest_save.specs.Forms.{form}
@@ -67,14 +67,14 @@ as_many_sources job retired after is =
     ap length is ∙ as_many_hosted retired (with_turns job.config.turns first) ∙ turns_keep_count job.config.turns first ∙ length-map job.sources.items machine_of_source
 
 -- the guest that a command saves is one of the job's
-lacks : (guest count : ℕ) (there : Bool) → nat_le (guest + 1) count ≡ there → unless there (fault.Guest guest) ≡ None → guest < count
+lacks : (guest count : ℕ) (there : Bool) → nat_le (guest + 1) count ≡ there → unless there (fault.no_guest guest) ≡ None → guest < count
 lacks guest count true is none = let within : guest + 1 ≤ count = grind (arith, is) in omega (arith, within)
 lacks guest count false is none = cc
 
 pub guest_there : (request : FileRequest) (config : Bor (List ℕ)) (guest : ℕ) (job : Job) → request ≡ file_request.Save config guest → HasGuest (file_command_seen request) job.config → IsJob job
     → guest < length job.sources.items
 guest_there request config guest job is has job_is =
-    let own : unless (nat_le (guest + 1) (length job.config.guests)) (fault.Guest guest) ≡ None = rw is at has in
+    let own : unless (nat_le (guest + 1) (length job.config.guests)) (fault.no_guest guest) ≡ None = rw is at has in
     let there : guest < length job.config.guests = lacks guest (length job.config.guests) (nat_le (guest + 1) (length job.config.guests)) refl own in
     let as_many : length job.sources.items ≡ length job.config.guests =
     sym (length-map job.sources.items name_of_source) ∙ ap length job_is.names ∙ length-map job.config.guests (λ guest. guest.name) in

@@ -1,6 +1,7 @@
 -- Steps, one list after the other.
 use Rattle.std.proofs.Common.{◌≡◌, ◌∙◌, ℕ, ◌+◌, ◌≤◌, List, [], ◌∷◌, ◌++◌, length, map, Option, Some, None, ◌⊎◌, inl, inr, Result, Ok, Err, false, true, refl, ap, sym, subst, arith, append_assoc, length-append}
 use Rattle.std.proofs.lemmas.List.{append-nil}
+use Rattle.std.proofs.lemmas.List.Elements.{All-append, All-nil}
 use Rattle.outside.specs.Asks.{Ask}
 use Rattle.outside.specs.Faults.{Rose}
 use Rattle.run_config.specs.declared.faults.ConfigFault.{ConfigFault}
@@ -8,7 +9,7 @@ use Rattle.run_config.specs.Tests.{first_fault}
 use Rattle.nesthv_top.specs.declared.ends.LoadEnd.{LoadEnd}
 use Rattle.nesthv_top.specs.declared.ends.LoadEnd.TheVariants.{Refused, ReadFault, NoMemory}
 use Rattle.nesthv_top.specs.Reads.{making, reading, testing}
-use Rattle.nesthv_top.specs.Steps.{Step, asks_by, asks_in, asks_unless, fault_in, made_of, ArePassed, AskedMore, EndAs, IsFailed, IsShort, ReadAs, ReadStopsAs, StopAs, TakesMemory}
+use Rattle.nesthv_top.specs.Steps.{Step, asks_by, asks_in, asks_unless, fault_in, made_of, ArePassed, AreAnswered, AskedMore, EndAs, IsFailed, IsLastFailed, IsShort, ReadAs, ReadStopsAs, StopAnswers, StopAs, TakesMemory}
 
 -- what is asked in two parts
 pub asked_none : (before : Option (List Ask)) → AskedMore [] before before
@@ -18,6 +19,34 @@ asked_none None = refl
 pub asked_then : (xs ys : List Ask) (before between after : Option (List Ask)) → AskedMore xs before between → AskedMore ys between after → AskedMore (xs ++ ys) before after
 asked_then xs ys (Some asks) between after first second = rw (second, first) (ap Some (append_assoc asks xs ys))
 asked_then xs ys None between after first second = rw (second, first) refl
+
+-- the reads of two parts, none of which failed, or the last one of the second
+pub answered_none : (made : ℕ) (before : Option (List Ask)) → AreAnswered made before made before
+answered_none made before = record { reads = []; asked = asked_none before; none = All-nil (λ (read : Ask). read.failed ≡ false); number = omega arith }
+
+pub answered_then : (made made' made'' : ℕ) (before between after : Option (List Ask)) → AreAnswered made before made' between → AreAnswered made' between made'' after → AreAnswered made before made'' after
+answered_then made made' made'' before between after one two = record {
+  reads = one.reads ++ two.reads;
+  asked = asked_then one.reads two.reads before between after one.asked two.asked;
+  none = All-append (λ (read : Ask). read.failed ≡ false) one.reads two.reads one.none two.none;
+  number = omega (arith, one.number, two.number, length-append one.reads two.reads);
+}
+
+last_failed_then : (made made' n : ℕ) (before between after : Option (List Ask)) → AreAnswered made before made' between → IsLastFailed made' n between after → IsLastFailed made n before after
+last_failed_then made made' n before between after one two = record {
+  passed = one.reads ++ two.passed;
+  failing = two.failing;
+  asked = rw (append_assoc one.reads two.passed (two.failing ∷ [])) (asked_then one.reads (two.passed ++ two.failing ∷ []) before between after one.asked two.asked);
+  none = All-append (λ (read : Ask). read.failed ≡ false) one.reads two.passed one.none two.none;
+  failed = two.failed;
+  number = omega (arith, one.number, two.number, length-append one.reads two.passed);
+}
+
+pub stop_answers_then : (end : LoadEnd) (made made' made'' : ℕ) (before between after : Option (List Ask)) → AreAnswered made before made' between → StopAnswers made' between end made'' after
+    → StopAnswers made before end made'' after
+stop_answers_then (Refused found) made made' made'' before between after one two = answered_then made made' made'' before between after one two
+stop_answers_then (ReadFault n) made made' made'' before between after one two = last_failed_then made made' n before between after one two
+stop_answers_then (NoMemory n) made made' made'' before between after one two = answered_then made made' n before between after one two
 
 -- the first fault
 none_then : (one : Option ConfigFault) (rest more : List (Option ConfigFault)) (all : Option ConfigFault) → first_fault (one ∷ rest) ≡ None

@@ -90,7 +90,7 @@ one_of_both : (f : Files) (fault : Option ConfigFault) (accepted : Result Config
 one_of_both f None accepted some fault = cc
 one_of_both f (Some found) accepted some fault = cc
 
-not_both : (f : Files) (command : Option Command) → IsSome (plan_of f command) → IsSome (fault_of f command) → ⊥
+pub not_both : (f : Files) (command : Option Command) → IsSome (plan_of f command) → IsSome (fault_of f command) → ⊥
 unfolding planned
 not_both f (Some (OnFiles command)) some fault = one_of_both f (fault_in (file_steps f command)) (accept (config_of f command)) some fault
 not_both f (Some (Work seed size)) some fault = cc
@@ -100,7 +100,7 @@ has_some : {A : Type 0} (P : A → Type 0) (o : Option A) → IsSomeAnd o P → 
 has_some P (Some a) is = refl
 has_some P None is = absurd is
 
-has_plan : (f : Files) (command : Option Command) (P : Command → Plan → Type 0) → WithPlan f command P → IsSome (plan_of f command)
+pub has_plan : (f : Files) (command : Option Command) (P : Command → Plan → Type 0) → WithPlan f command P → IsSome (plan_of f command)
 has_plan f (Some command) P is = has_some (P command) (plan_of f (Some command)) is
 has_plan f None P is = absurd is
 
@@ -119,7 +119,7 @@ refuses S O f words (ReadFault n) store store' out out' told cause says fault = 
 refuses S O f words WriteFault store store' out out' told cause says fault = absurd (not_both f (command_of words) (has_plan f (command_of words) _ (says.machines f told)) fault)
 refuses S O f words (NoMemory n) store store' out out' told cause says fault = inr (inr refl)
 
-has_fault : (f : Files) (command : Option Command) (ended : Ended) → IfRefusedWith ended (λ found. fault_of f command ≡ Some found) → status_of ended ≡ 2
+pub has_fault : (f : Files) (command : Option Command) (ended : Ended) → IfRefusedWith ended (λ found. fault_of f command ≡ Some found) → status_of ended ≡ 2
     → IsSome (fault_of f command)
 has_fault f command Done is e = absurd (omega (arith, e))
 has_fault f command Differs is e = absurd (omega (arith, e))

@@ -19,7 +19,7 @@ use Rattle.run_config.specs.declared.faults.ConfigFault.{ConfigFault}
 use Rattle.nesthv_top.specs.Plans.{AllRunAsWritten, IsResumable, Plan, fault_of, plan_of, run_of, entries_of, steps_of, events_of}
 use Rattle.nesthv_top.specs.Runnings.{moves_for}
 use Rattle.nesthv_top.specs.Reads.{asks_of, most_reads, steps_for, BeginsWithConfig}
-use Rattle.nesthv_top.specs.Steps.{AskedMore, IsFailed, IsWanting}
+use Rattle.nesthv_top.specs.Steps.{AskedMore, AreAnswered, IsFailed, IsLastFailed, IsWanting}
 use Rattle.nesthv_top.specs.Statuses.{ArePlain}
 use Rattle.nesthv_top.specs.Texts.{found_of, text_of}
 use Rattle.nesthv_top.specs.Written.{IsLinePut}
@@ -102,12 +102,20 @@ IsAsked (ReadFault n) files command before after = IsFailed (steps_for files com
 IsAsked (NoMemory n) files command before after = IsWanting (steps_for files command) n before after
 IsAsked other files command before after = AskedMore (asks_of files command) before after
 
+-- the same whether or not the store tells its files: with a fault of read n, n reads were made, of which the
+-- last one failed and no other; else none failed, and where memory was wanting after n reads, n were made
+abbrev pub AreAnsweredBy : Ended → Option (List Ask) → Option (List Ask) → Type 0
+AreAnsweredBy (ReadFault n) before after = IsLastFailed 0 n before after
+AreAnsweredBy (NoMemory n) before after = AreAnswered 0 before n after
+AreAnsweredBy other before after = (n : ℕ) × AreAnswered 0 before n after
+
 -- what an end says of the store
 pub record SaysOfReads {X : Type 0} (S : stores.Ghosts X) (command : Option Command) (ended : Ended)
     (old new : X) : Type 0 where
   pub first : IsFirstRead S command ended old new
   pub reads : IfKnown (S.files old) command (λ files.
       IsAsked ended files command (S.asked old) (S.asked new))
+  pub answers : AreAnsweredBy ended (S.asked old) (S.asked new)
   pub number : IfReadFault ended (λ n. (1 ≤ n) × (n ≤ most_reads))
   pub fault : IfKnown (S.files old) command (λ files.
       IfRefusedWith ended (λ found. fault_of files command ≡ Some found))

@@ -6,8 +6,7 @@ use Rattle.nesthv_top.specs.declared.ends.Ended.{Ended}
 use Rattle.nesthv_top.specs.declared.ends.Ended.TheVariants as ended
 use Rattle.nesthv_top.specs.declared.ends.LoadEnd.{LoadEnd}
 use Rattle.nesthv_top.specs.declared.ends.LoadEnd.TheVariants.{Refused, ReadFault, NoMemory}
-use Rattle.nesthv_top.specs.Reads.{AskedSome}
-use Rattle.nesthv_top.specs.Steps.{IsNumbered}
+use Rattle.nesthv_top.specs.Steps.{EndAnswers, IsNumbered}
 
 -- the end of the command whose step ended so
 abbrev pub ended_by : LoadEnd → Ended
@@ -31,12 +30,12 @@ IfReadFailed (Ok a) P = ⊤
 IfReadFailed (Err end) P = IfFailed end P
 
 -- what at most so many reads leave of a store, whether or not it tells its files: these stay, its count of
--- faults rises where a read failed and never falls, and its list of reads grows; the reads are numbered after
--- those made before
+-- faults rises where a read failed and never falls, and its list of reads grows, by one that failed where the
+-- end says so; the reads are numbered after those made before
 pub record Leaves {X A : Type 0} (S : stores.Ghosts X) (most : ℕ) (result : Result A LoadEnd) (old new : X)
     (made made' : ℕ) : Type 0 where
   pub files : S.files new ≡ S.files old
   pub cause : IfReadFailed result (Rose (S.faults old) (S.faults new))
   pub count : S.faults old ≤ S.faults new
-  pub asked : AskedSome (S.asked old) (S.asked new)
+  pub answers : EndAnswers made (S.asked old) result made' (S.asked new)
   pub numbers : IsNumbered most made result made'

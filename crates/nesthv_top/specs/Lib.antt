@@ -3,6 +3,8 @@ pub mod Endings
 pub mod Ends
 pub mod Lines
 pub mod Loads
+pub mod Moving
+pub mod OwnSections
 pub mod Plans
 pub mod Reads
 pub mod Runnings

@@ -3,7 +3,6 @@ use Rattle.std.specs.Prelude.{ℕ, ℤ, List, [], ◌++◌, Option, Some, None, 
 use Rattle.std.specs.Fmt.{signed_decimal}
 use Rattle.run_config.specs.declared.faults.ConfigFault.{ConfigFault}
 use Rattle.run_config.specs.declared.keys.ConfigKey.{ConfigKey}
-use Rattle.run_config.specs.Faults.{fault_guest, fault_key, fault_number, fault_value}
 use Rattle.run_config.specs.Keys.{name_of}
 
 abbrev pub usage_line : List ℕ
@@ -25,8 +24,8 @@ value_text (Some value) = codes " value " ++ signed_decimal value
 
 -- the configuration has this fault
 unfoldable pub configuration_line : ConfigFault → List ℕ
-configuration_line found = codes "nesthv: configuration fault " ++ decimal (fault_number found)
-    ++ guest_text (fault_guest found) ++ key_text (fault_key found) ++ value_text (fault_value found)
+configuration_line found = codes "nesthv: configuration fault " ++ decimal found.number
+    ++ guest_text found.guest ++ key_text found.key ++ value_text found.value
     ++ codes "\n"
 
 -- the read of this number failed

@@ -9,7 +9,7 @@ use Rattle.guest_turns.specs.Sources.{needs_of_sources}
 use Rattle.outside.specs.Asks.{Ask}
 use Rattle.outside.specs.Files.{Files}
 use Rattle.run_config.specs.declared.faults.ConfigFault.{ConfigFault}
-use Rattle.run_config.specs.declared.faults.ConfigFault.TheVariants as fault
+use Rattle.run_config.specs.Faults as fault
 use Rattle.run_config.specs.declared.guests.FreshGuest.{FreshGuest}
 use Rattle.run_config.specs.declared.guests.GuestSettings.{GuestSettings}
 use Rattle.run_config.specs.declared.guests.InputSource.{InputSource}
@@ -40,8 +40,8 @@ making found = record { ask = None; takes = true; fault = found }
 -- the fault of bytes that are too long for a configuration, or no text (own)
 abbrev pub text_fault : List ℕ → Option ConfigFault
 text_fault bytes = first_fault (
-    unless (nat_le (length bytes) 65536) fault.TooLong
-    ∷ unless (is_utf8 bytes) fault.NotToml
+    unless (nat_le (length bytes) 65536) fault.too_long
+    ∷ unless (is_utf8 bytes) fault.not_toml
     ∷ [])
 
 -- the fault of a configuration that is refused
@@ -51,7 +51,7 @@ fault_by (Err found) = Some found
 
 -- the fault of a command that saves a guest which a configuration does not have: the guest's number (own)
 abbrev pub guest_fault : FileCommand → Result Configuration ConfigFault → Option ConfigFault
-guest_fault (Save config guest) (Ok c) = unless (nat_le (guest + 1) (length c.guests)) (fault.Guest guest)
+guest_fault (Save config guest) (Ok c) = unless (nat_le (guest + 1) (length c.guests)) (fault.no_guest guest)
 guest_fault command accepted = None
 
 -- the configuration: it is read and tested as text, then as a configuration, and then whether it has the
@@ -67,7 +67,7 @@ config_steps files command =
 -- (own)
 abbrev pub image_fault : ℕ → FreshGuest → List ℕ → Option ConfigFault
 image_fault number guest image =
-    unless (nat_le (length image) (guest_ram_size guest)) (fault.ImageLong number (length image))
+    unless (nat_le (length image) (guest_ram_size guest)) (fault.image_long number (length image))
 
 -- the image of a fresh guest of this number
 abbrev pub image_step : Files → ℕ → FreshGuest → Step
@@ -77,7 +77,7 @@ image_step files number guest =
 -- the fault of a file of inputs with a bad record: the guest's number, and that of the first such record
 -- (own)
 abbrev pub records_fault : ℕ → List ℕ → Option ConfigFault
-records_fault number bytes = option_map (λ bad. fault.InputFile number bad) (bad_record bytes)
+records_fault number bytes = option_map (λ bad. fault.input_file number bad) (bad_record bytes)
 
 -- the file that the inputs of a guest of this number come from, where they come from one
 abbrev pub input_steps : Files → ℕ → InputSource → List Step
@@ -91,7 +91,7 @@ fresh_steps files number guest = image_step files number guest ∷ input_steps f
 
 -- the fault of a file that is no form of a machine that can be saved: the guest's number (own)
 abbrev pub saved_fault : ℕ → List ℕ → Option ConfigFault
-saved_fault number bytes = unless (is_saved bytes) (fault.Saved number)
+saved_fault number bytes = unless (is_saved bytes) (fault.saved number)
 
 -- the file of a resumed guest of this number: it is read, and then tested as a saved machine
 abbrev pub saved_steps : Files → ℕ → List ℕ → List Step
@@ -121,7 +121,7 @@ report_steps (Save config guest) = []
 
 -- the fault of guests and spare blocks that need more frames than machine memory has, which is 131,072 (own)
 abbrev pub frames_fault : ℕ → Option ConfigFault
-frames_fault frames = unless (nat_le frames most_frames) (fault.Frames frames)
+frames_fault frames = unless (nat_le frames most_frames) (fault.frames frames)
 
 -- the steps after those of a configuration that is accepted: the guests, the report, and the frames
 abbrev pub accepted_steps : Files → FileCommand → Result Configuration ConfigFault → List Step
@@ -150,10 +150,6 @@ asks_of files command = made_of (steps_for files command)
 -- report
 abbrev pub most_reads : ℕ
 most_reads = 34
-
--- some reads were made
-abbrev pub AskedSome : Option (List Ask) → Option (List Ask) → Type 0
-AskedSome before after = (reads : List Ask) × AskedMore reads before after
 
 -- reads were made, and the first of them was that of the command's configuration, whatever it answered; a
 -- work makes none

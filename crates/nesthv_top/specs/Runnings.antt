@@ -1,6 +1,6 @@
 -- What a run of a plan leaves: its account, and the report of machines.
-use Rattle.std.specs.Prelude.{◌≡◌, ℕ, ◌+◌, ◌^◌, ◌<◌, ◌≤◌, zero, suc, ◌==◌, Bool, true, false, if◌then◌else◌, List, [], ◌∷◌, ◌++◌, length, map, Option, Some, None, Result, Ok, Err}
-use Rattle.std.specs.List.{All, count_by, range_with_len}
+use Rattle.std.specs.Prelude.{◌≡◌, ℕ, ◌+◌, ◌^◌, ◌<◌, ◌≤◌, zero, suc, Bool, true, false, List, [], ◌∷◌, ◌++◌, length, map, Result, Ok, Err}
+use Rattle.std.specs.List.{All, range_with_len}
 use Rattle.command_line.specs.Commands.{FileCommand, Run, Replay, Check, Save}
 use Rattle.guest_turns.specs.Hosted.{Hosted, count_set, is_set, part_at}
 use Rattle.guest_turns.specs.Moves.{emptied}
@@ -50,15 +50,6 @@ moves_by (suc spare) turns = length turns
 
 abbrev pub moves_for : Plan → ℕ
 moves_for plan = moves_by plan.spare plan.turns
-
--- how many of these turns are a guest's
-abbrev pub own_turns : ℕ → List (ℕ × ℕ) → ℕ
-own_turns g turns = count_by (λ turn. turn.0 == g) turns
-
--- one turn more of the guest that is kept, if one is, which no guest has: so it never retires
-abbrev pub kept_turn : Option ℕ → ℕ → ℕ
-kept_turn None g = 0
-kept_turn (Some kept) g = if kept == g then 1 else 0
 
 -- an account has room for the entries and steps of a command
 pub record HasRoomForCommand (account : Counts) : Type 0 where

@@ -1,5 +1,6 @@
 -- What a command does before it runs, as a list of steps: each reads a file, or none, and then tests.
-use Rattle.std.specs.Prelude.{◌≡◌, ⊤, ℕ, ◌+◌, ◌<◌, ◌≤◌, ◌⊎◌, List, [], ◌∷◌, ◌++◌, length, map, Option, Some, None, option_map, Result, Ok, Err, Bool, true}
+use Rattle.std.specs.Prelude.{◌≡◌, ⊤, ℕ, ◌+◌, ◌<◌, ◌≤◌, ◌⊎◌, List, [], ◌∷◌, ◌++◌, length, map, Option, Some, None, option_map, Result, Ok, Err, Bool, true, false}
+use Rattle.std.specs.List.{All}
 use Rattle.outside.specs.Asks.{Ask}
 use Rattle.run_config.specs.declared.faults.ConfigFault.{ConfigFault}
 use Rattle.run_config.specs.Tests.{first_fault}
@@ -103,6 +104,39 @@ abbrev pub ReadAs : {A : Type 0} → Ask → ℕ → Option (List Ask) → Resul
     → Type 0
 ReadAs ask made before (Ok a) made' after = (made' ≡ made + 1) × AskedMore (ask ∷ []) before after
 ReadAs ask made before (Err end) made' after = ReadStopsAs ask made before end after
+
+-- none of these reads failed
+abbrev pub NoneFailed : List Ask → Type 0
+NoneFailed reads = All (λ read. read.failed ≡ false) reads
+
+-- reads were made, none of which failed; with those before them, so many have been made
+pub record AreAnswered (made : ℕ) (before : Option (List Ask)) (made' : ℕ) (after : Option (List Ask))
+    : Type 0 where
+  pub reads : List Ask
+  pub asked : AskedMore reads before after
+  pub none : NoneFailed reads
+  pub number : made' ≡ made + length reads
+
+-- reads were made, of which the last one failed and no other; that one is read n of the command
+pub record IsLastFailed (made n : ℕ) (before after : Option (List Ask)) : Type 0 where
+  pub passed : List Ask
+  pub failing : Ask
+  pub asked : AskedMore (passed ++ failing ∷ []) before after
+  pub none : NoneFailed passed
+  pub failed : failing.failed ≡ true
+  pub number : n ≡ made + length passed + 1
+
+-- what a stop says of the reads that were made, whether or not the store tells its files
+abbrev pub StopAnswers : ℕ → Option (List Ask) → LoadEnd → ℕ → Option (List Ask) → Type 0
+StopAnswers made before (Refused found) made' after = AreAnswered made before made' after
+StopAnswers made before (ReadFault n) made' after = IsLastFailed made n before after
+StopAnswers made before (NoMemory n) made' after = AreAnswered made before n after
+
+-- and any end
+abbrev pub EndAnswers : {A : Type 0} → ℕ → Option (List Ask) → Result A LoadEnd → ℕ → Option (List Ask)
+    → Type 0
+EndAnswers made before (Ok a) made' after = AreAnswered made before made' after
+EndAnswers made before (Err end) made' after = StopAnswers made before end made' after
 
 -- the number that a stop of at most so many reads tells, after so many others
 abbrev pub IsNumberAfter : ℕ → ℕ → LoadEnd → Type 0

@@ -3,6 +3,7 @@
 
 mod checking;
 mod ends;
+mod laws;
 mod lines;
 mod loading;
 mod obeying;
@@ -14,6 +15,7 @@ mod top;
 mod works;
 
 pub use ends::{Ended, Job, LoadEnd, Loaded};
+pub use laws::sections_are_own;
 pub use lines::tell;
 pub use loading::load;
 pub use programs::program;

@@ -59,13 +59,13 @@ fn configuration_line(fault: ConfigFault) -> ArrayVec<u8, 128>
     let mut line = ArrayVec::new();
     line.try_extend_from_slice(b"nesthv: configuration fault ")
         .unwrap();
-    line.try_extend_from_slice(digits.format(fault.number()).as_bytes())
+    line.try_extend_from_slice(digits.format(fault.number).as_bytes())
         .unwrap();
-    line.try_extend_from_slice(guest_text(fault.guest()).as_slice())
+    line.try_extend_from_slice(guest_text(fault.guest).as_slice())
         .unwrap();
-    line.try_extend_from_slice(key_text(fault.key()).as_slice())
+    line.try_extend_from_slice(key_text(fault.key).as_slice())
         .unwrap();
-    line.try_extend_from_slice(value_text(fault.value()).as_slice())
+    line.try_extend_from_slice(value_text(fault.value).as_slice())
         .unwrap();
     line.try_extend_from_slice(b"\n").unwrap();
     line

@@ -20,7 +20,7 @@ ghost use Rattle.nesthv_top.specs.Loads.{all_read_for, frames_read, fresh_in, fr
 ghost use Rattle.nesthv_top.specs.Plans.{planned};
 ghost use Rattle.nesthv_top.specs.Reads.{config_steps, file_steps, frames_fault, fresh_steps, guest_fault, guest_steps, guests_steps, image_step, input_steps, report_steps, saved_steps};
 ghost use Rattle.nesthv_top.specs.Seen.{loaded_plan, HasGuest, IsJob};
-ghost use Rattle.nesthv_top.specs.Steps.{ArePassed, EndAs};
+ghost use Rattle.nesthv_top.specs.Steps.{AreAnswered, ArePassed, EndAs};
 
 use crate::ends::{FilesRead, FreshFiles, GuestFiles, Job, LoadEnd, Loaded};
 use crate::reads::Reads;
@@ -63,6 +63,8 @@ pub fn load<S: Store>(
     ensures passed { (files : Files) → S.files store.old ≡ Some files → OnOk result (ArePassed
         (file_steps files (file_command_seen request.entry)) 0 (S.asked store.old)
         reads.new.made (S.asked store.new)) }
+    ensures answered { OnOk result
+        (AreAnswered 0 (S.asked store.old) reads.new.made (S.asked store.new)) }
     ensures some { OnOk result (1 ≤ reads.new.made) }
     ensures cause { IfReadFailed result (Rose (S.faults store.old) (S.faults store.new)) }
     ensures planned { (files : Files) → S.files store.old ≡ Some files → IfOk result (λ loaded.
@@ -176,7 +178,7 @@ fn guest_fault(request: FileRequest<'_>, config: &Config) -> Option<ConfigFault>
 {
     match request {
         FileRequest::Save { guest, .. } if guest as usize >= config.guests().len() => {
-            Some(ConfigFault::Guest { value: guest })
+            Some(ConfigFault::no_guest(guest))
         }
         _ => None,
     }
@@ -286,10 +288,7 @@ fn read_image<S: Store>(
     if bytes.len() as u64 <= size {
         Ok(Bytes::from_vec(bytes))
     } else {
-        Err(LoadEnd::Refused(ConfigFault::ImageLong {
-            guest,
-            bytes: bytes.len() as u32,
-        }))
+        Err(LoadEnd::Refused(ConfigFault::image_long(guest, bytes.len() as u64)))
     }
 }
 
@@ -313,7 +312,7 @@ fn read_saved<S: Store>(
     let bytes = reads.read(alloc, store, name.as_str(), SAVED_MOST)?;
     match guest_save::read(alloc, bytes.as_slice()) {
         Ok(saved) => Ok(saved),
-        Err(SaveEnd::Bad) => Err(LoadEnd::Refused(ConfigFault::Saved { guest })),
+        Err(SaveEnd::Bad) => Err(LoadEnd::Refused(ConfigFault::saved(guest))),
         Err(SaveEnd::NoMemory) => Err(reads.no_memory()),
     }
 }
@@ -341,7 +340,7 @@ fn read_records<S: Store>(
     let bytes = reads.read(alloc, store, name.as_str(), RECORDS_MOST)?;
     match bad_record(bytes.as_slice()) {
         None => Ok(Bytes::from_vec(bytes)),
-        Some(record) => Err(LoadEnd::Refused(ConfigFault::InputFile { guest, record })),
+        Some(number) => Err(LoadEnd::Refused(ConfigFault::input_file(guest, number))),
     }
 }
 
@@ -375,7 +374,7 @@ fn frames_fault(frames: u64) -> Option<ConfigFault>
     if frames <= MOST_FRAMES {
         None
     } else {
-        Some(ConfigFault::Frames { sum: frames as u32 })
+        Some(ConfigFault::frames(frames))
     }
 }
 

@@ -5,7 +5,7 @@ ghost use Rattle.std.specs.List.{All};
 ghost use Rattle.outside.specs.Faults.{Rose};
 ghost use Rattle.outside.specs.Pieces.{Puts};
 ghost use Rattle.arch_defs.specs.Frames.{most_frames};
-ghost use Rattle.guest_turns.specs.Hosted.{count_set, is_set, lowest, part_at};
+ghost use Rattle.guest_turns.specs.Hosted.{count_set, is_set, lowest, part_at, KeepsShares};
 ghost use Rattle.frame_split.specs.Shares.{frames_with};
 ghost use Rattle.guest_save.specs.Forms.{form};
 ghost use Rattle.guest_turns.specs.Moves.{HasMoved};
@@ -13,7 +13,8 @@ ghost use Rattle.guest_turns.specs.Sources.{AreBootableSources, machines_of_sour
 ghost use Rattle.guest_turns.specs.TurnLists.{with_turns};
 ghost use Rattle.run_config.specs.Configurations.{IsGuestWithin, IsTurnWithin};
 ghost use Rattle.nesthv_top.specs.Plans.{AllRunAsWritten, IsResumable, machine_after, report_of};
-ghost use Rattle.nesthv_top.specs.Runnings.{hosted_as, kept_turn, moves_by, own_turns, sections_of, CanMove, CountsTurns, CountsTurnsOf, HasRoomForCommand, HaveBlocks, IsAccountOf, IsMovedBy, IsReady};
+ghost use Rattle.nesthv_top.specs.Moving.{kept_turn, own_turns, retires, retires_by, shares_of, with_moves, HasMovedBy};
+ghost use Rattle.nesthv_top.specs.Runnings.{hosted_as, moves_by, sections_of, CanMove, CountsTurns, CountsTurnsOf, HasRoomForCommand, HaveBlocks, IsAccountOf, IsMovedBy, IsReady};
 ghost use Rattle.nesthv_top.specs.Seen.{names_in, plan_seen, plan_with, IsJob};
 ghost use Rattle.nesthv_top.specs.Written.{PutsText, Writes};
 
@@ -127,6 +128,9 @@ pub fn hosted(
         ≡ hosted_as host.retired (with_turns turns.now (machines_of_sources sources.items))) }
     ensures active { spare ≡ 0 → IfOk result (λ host. (g : ℕ) → is_set host.retired g ≡ false) }
     ensures kept { IfOk result (λ host. IfSome kept (λ g. is_set host.retired g ≡ false)) }
+    ensures retired { IfOk result (λ host. (g : ℕ) → g < length sources.items
+        → is_set host.retired g ≡ retires_by spare kept turns.now g) }
+    ensures shares { IfOk result (HasMovedBy (needs_of_sources sources.items) spare kept turns.now) }
     ensures account { OnOk result
         (CountsTurns (plan_with sources.items turns.now spare) tally.old tally.new) }
     ensures moved { OnOk result (moves.new ≡ moves.old + moves_by spare turns.now) }
@@ -157,6 +161,7 @@ fn run_turns(host: &mut Host, turns: &[(u32, u64)], tally: &mut Tally)
 
     ensures machines { host.new.machines ≡ with_turns turns.now host.old.machines }
     ensures active { (g : ℕ) → is_set host.new.retired g ≡ false }
+    ensures shares { KeepsShares host.old host.new }
     ensures account { CountsTurnsOf host.old.machines turns.now tally.old tally.new }
 {
     for &(guest, steps) in turns {
@@ -184,6 +189,9 @@ fn run_moving(
     ensures machines { host.new.machines
         ≡ hosted_as host.new.retired (with_turns turns.now host.old.machines) }
     ensures kept { IfSome kept (λ g. is_set host.new.retired g ≡ false) }
+    ensures retired { (g : ℕ) → g < length host.old.machines
+        → is_set host.new.retired g ≡ retires kept turns.now g }
+    ensures shares { shares_of host.new ≡ with_moves kept 0 turns.now (shares_of host.old) }
     ensures account { CountsTurnsOf host.old.machines turns.now tally.old tally.new }
     ensures moved { moves.new ≡ moves.old + length turns.now }
 {

@@ -1,12 +1,12 @@
 -- Weights times a quantum, one guest after the other.
-use Rattle.std.proofs.Common.{◌≡◌, ℕ, ◌+◌, ◌*◌, ◌^◌, ◌<◌, ◌≤◌, pos, nat_le, false, List, [], ◌∷◌, get_or, length, drop, map, Option, Some, None, refl, arith}
+use Rattle.std.proofs.Common.{◌≡◌, ℕ, ◌+◌, ◌*◌, ◌^◌, ◌<◌, ◌≤◌, nat_le, false, List, [], ◌∷◌, get_or, length, drop, map, Option, Some, None, refl, arith}
 use Rattle.std.proofs.lemmas.Bool.{le-leb}
 use Rattle.std.proofs.lemmas.Bool.Decides.{nat_tests}
 use Rattle.std.proofs.lemmas.List.{drop_all, drop_more}
 use Rattle.std.proofs.lemmas.List.Elements.{All-nil, All-cons, All-get_or, All-map}
 use Rattle.std.specs.List.{All, enumerate_from, slice_index}
 use Rattle.run_config.specs.declared.faults.ConfigFault.{ConfigFault}
-use Rattle.run_config.specs.declared.faults.ConfigFault.TheVariants as fault
+use Rattle.run_config.specs.Faults as fault
 use Rattle.run_config.specs.declared.guests.GuestSettings.{GuestSettings}
 use Rattle.run_config.specs.Accept.{weights_of}
 use Rattle.run_config.specs.Tests.{first_fault, unless}
@@ -25,7 +25,7 @@ weight_passes weights quantum guest within light =
     rw (drop_more weights guest 0 within, le-leb (slice_index weights guest * quantum) (2 ^ 32) light) refl
 
 pub weight_fails : (weights : List ℕ) (quantum guest : ℕ) → guest < length weights → 2 ^ 32 < slice_index weights guest * quantum
-    → rest_fault weights quantum guest ≡ Some (fault.Weight guest (pos (slice_index weights guest * quantum)))
+    → rest_fault weights quantum guest ≡ Some (fault.weight guest (slice_index weights guest * quantum))
 weight_fails weights quantum guest within heavy =
     rw (drop_more weights guest 0 within, over (slice_index weights guest * quantum) (2 ^ 32) heavy) refl
 

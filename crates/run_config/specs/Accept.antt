@@ -6,7 +6,7 @@ use Rattle.toml.specs.Data.{Items, no_items, item, Members, no_members, as_array
 use Rattle.toml.specs.Parse.{parse_document}
 use Rattle.run_config.specs.declared.keys.ConfigKey.TheVariants as key
 use Rattle.run_config.specs.declared.faults.ConfigFault.{ConfigFault}
-use Rattle.run_config.specs.declared.faults.ConfigFault.TheVariants as fault
+use Rattle.run_config.specs.Faults as fault
 use Rattle.run_config.specs.declared.formats.Format.{Format}
 use Rattle.run_config.specs.declared.formats.Format.TheVariants.{One, Two}
 use Rattle.run_config.specs.declared.guests.GuestSettings.{GuestSettings}
@@ -78,16 +78,16 @@ schedule_in document = schedule_at (length (guests_in document)) document
 -- (own)
 unfoldable pub head_fault : Members → Option ConfigFault
 head_fault document =
-    first_fault (unless (is_some (format_at document)) fault.Format ∷ missing None document key.Guest ∷ [])
+    first_fault (unless (is_some (format_at document)) fault.format ∷ missing None document key.Guest ∷ [])
 
 -- the first of the faults that are found after these (own)
 unfoldable pub body_fault : Members → Option ConfigFault
 body_fault document = first_fault (
-    unless (is_some (guests_at document)) (fault.Range None key.Guest (array_length document))
+    unless (is_some (guests_at document)) (fault.range None key.Guest (array_length document))
     ∷ wrong_among None document (document_table (format_in document))
     ∷ guests_fault (format_in document) [] (guests_in document)
-    ∷ unless (is_some (schedule_in document)) fault.Turns
-    ∷ unless (has_only (document_keys (format_in document)) document) (fault.Extra None)
+    ∷ unless (is_some (schedule_in document)) fault.turns
+    ∷ unless (has_only (document_keys (format_in document)) document) (fault.extra None)
     ∷ (schedule_in document >>= schedule_fault (weights_of (settings_in document)))
     ∷ [])
 
@@ -110,8 +110,8 @@ document_of bytes = unwrap_or (tree_of bytes) no_members
 -- the first fault of the bytes (own)
 unfoldable pub configuration_fault : List ℕ → Option ConfigFault
 configuration_fault bytes = first_fault (
-    unless (nat_le (length bytes) 65536) fault.TooLong
-    ∷ unless (is_some (tree_of bytes)) fault.NotToml
+    unless (nat_le (length bytes) 65536) fault.too_long
+    ∷ unless (is_some (tree_of bytes)) fault.not_toml
     ∷ document_fault (document_of bytes)
     ∷ [])
 

@@ -4,7 +4,7 @@ use Rattle.std.specs.List.{list_any}
 use Rattle.toml.specs.Data.{Data, Members, as_array}
 use Rattle.run_config.specs.declared.keys.ConfigKey.TheVariants as key
 use Rattle.run_config.specs.declared.faults.ConfigFault.{ConfigFault}
-use Rattle.run_config.specs.declared.faults.ConfigFault.TheVariants as fault
+use Rattle.run_config.specs.Faults as fault
 use Rattle.run_config.specs.declared.formats.Format.{Format}
 use Rattle.run_config.specs.declared.formats.Format.TheVariants.{One, Two}
 use Rattle.run_config.specs.declared.guests.GuestSettings.{GuestSettings}
@@ -85,9 +85,9 @@ guest_tests resumed format names guest =
     absent_key resumed (length names) guest
     ∷ wrong_value resumed (length names) guest
     ∷ wrong_option resumed format (length names) guest
-    ∷ unless (is_new_name names (text_at key.Name guest)) (fault.Name (length names))
-    ∷ unless (has_inputs resumed format guest) (fault.Input (length names))
-    ∷ unless (has_only (guest_keys resumed format) guest) (fault.Extra (Some (length names)))
+    ∷ unless (is_new_name names (text_at key.Name guest)) (fault.name (length names))
+    ∷ unless (has_inputs resumed format guest) (fault.input (length names))
+    ∷ unless (has_only (guest_keys resumed format) guest) (fault.extra (Some (length names)))
     ∷ []
 
 -- the first fault of a guest

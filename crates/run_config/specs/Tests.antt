@@ -3,7 +3,7 @@ use Rattle.std.specs.Prelude.{ℕ, Bool, true, false, List, [], ◌∷◌, map, 
 use Rattle.toml.specs.Data.{Data, Members, as_integer}
 use Rattle.run_config.specs.declared.keys.ConfigKey.{ConfigKey}
 use Rattle.run_config.specs.declared.faults.ConfigFault.{ConfigFault}
-use Rattle.run_config.specs.declared.faults.ConfigFault.TheVariants as fault
+use Rattle.run_config.specs.Faults as fault
 use Rattle.run_config.specs.Tables.{Kind}
 use Rattle.run_config.specs.Values.{◌>>=◌, value_at, is_of}
 
@@ -20,11 +20,11 @@ first_fault (Some found ∷ tests) = Some found
 
 -- the key must be there: in a guest's table, or in the document where no guest is named
 unfoldable pub missing : Option ℕ → Members → ConfigKey → Option ConfigFault
-missing guest table key = unless (is_some (value_at key table)) (fault.Missing guest key)
+missing guest table key = unless (is_some (value_at key table)) (fault.missing guest key)
 
 -- a value must be of the kind that its row of the table says
 unfoldable pub wrong_kind : Option ℕ → ConfigKey × Kind → Data → Option ConfigFault
-wrong_kind guest row value = unless (is_of row.1 value) (fault.Range guest row.0 (as_integer value))
+wrong_kind guest row value = unless (is_of row.1 value) (fault.range guest row.0 (as_integer value))
 
 -- the same of the value at the key of a row, where there is one
 unfoldable pub out_of_range : Option ℕ → Members → ConfigKey × Kind → Option ConfigFault

@@ -1,10 +1,10 @@
 -- The two forms in which a configuration says its turns.
-use Rattle.std.specs.Prelude.{⊤, ℕ, pos, ◌*◌, ◌-◌, ◌^◌, ◌≤◌, nat_le, ◌&&◌, List, length, map, Option, Some, None, is_none, is_some, if◌then◌else◌}
+use Rattle.std.specs.Prelude.{⊤, ℕ, ◌*◌, ◌-◌, ◌^◌, ◌≤◌, nat_le, ◌&&◌, List, length, map, Option, Some, None, is_none, is_some, if◌then◌else◌}
 use Rattle.std.specs.List.{enumerate_from}
 use Rattle.toml.specs.Data.{Members, as_array, as_integer}
 use Rattle.turn_plan.specs.Turns.{weighted_rounds}
 use Rattle.run_config.specs.declared.faults.ConfigFault.{ConfigFault}
-use Rattle.run_config.specs.declared.faults.ConfigFault.TheVariants as fault
+use Rattle.run_config.specs.Faults as fault
 use Rattle.run_config.specs.declared.keys.ConfigKey.TheVariants as key
 use Rattle.run_config.specs.declared.schedules.Schedule.{Schedule}
 use Rattle.run_config.specs.declared.schedules.Schedule.TheVariants.{Listed, Rounds}
@@ -53,7 +53,7 @@ turns_of weights (Rounds quantum rounds) = weighted_rounds weights quantum round
 -- a turn of a guest, by its number and its weight, must have at most 2^32 steps (own)
 abbrev pub too_long_turn : ℕ → ℕ × ℕ → Option ConfigFault
 too_long_turn quantum guest =
-    unless (nat_le (guest.1 * quantum) (2 ^ 32)) (fault.Weight guest.0 (pos (guest.1 * quantum)))
+    unless (nat_le (guest.1 * quantum) (2 ^ 32)) (fault.weight guest.0 (guest.1 * quantum))
 
 -- the fault of the first guest whose turns have more, however many rounds there are
 unfoldable pub weights_fault : List ℕ → ℕ → Option ConfigFault

@@ -1,6 +1,6 @@
 //! The inputs of a guest in a file of records.
 
-ghost use Rattle.std.specs.Prelude.{◌≡◌, ℕ, ◌*◌, ◌+◌, ◌<◌, ◌≤◌, length, Some, None, IfOk, IsErrOf, OnOk};
+ghost use Rattle.std.specs.Prelude.{◌≡◌, ℕ, ◌*◌, ◌+◌, ◌<◌, ◌≤◌, length, Some, None, IfOk, IfSome, IsErrOf, OnOk};
 ghost use Rattle.run_config.specs.declared.input_records.InputEnd.TheVariants.{NoMemory, Bad};
 ghost use Rattle.run_config.specs.Configurations.{AreByteInputs};
 ghost use Rattle.run_config.specs.Records.{bad_record, byte_at, is_bad, moment_at, moment_before, record_at, records_of, record_count};
@@ -24,7 +24,7 @@ pub enum InputEnd {
     NoMemory,
     /// The number of its first bad record, from 0 on.
     #[error("a bad record")]
-    Bad(u32),
+    Bad(u64),
 }
 
 impl From<AllocError> for InputEnd {
@@ -105,12 +105,13 @@ fn is_bad(bytes: &[u8], number: usize) -> bool
 /// The number of the first bad record of a file of inputs, from 0 on. A record is bad that has fewer than
 /// nine bytes, a moment of 2^62 or more or less than the one before, or the number 65,536.
 #[tactic(auto, using(crate::proofs::Recording::records))]
-pub fn bad_record(bytes: &[u8]) -> Option<u32>
-    ensures { result ≡ bad_record bytes.now }
+pub fn bad_record(bytes: &[u8]) -> Option<u64>
+    ensures number { result ≡ bad_record bytes.now }
+    ensures most { IfSome result (λ number. number ≤ 65536) }
 {
     for number in 0..record_count(bytes) {
         if is_bad(bytes, number) {
-            return Some(number as u32);
+            return Some(number as u64);
         }
     }
     None

@@ -4,7 +4,7 @@
 ghost use Rattle.std.specs.Prelude.{◌≡◌, Some, None, IfOk, IfErr, OnOk};
 ghost use Rattle.toml.specs.Data.{as_integer, as_str};
 ghost use Rattle.toml.specs.View.{view, table_view};
-ghost use Rattle.run_config.specs.declared.faults.ConfigFault.TheVariants as fault;
+ghost use Rattle.run_config.specs.Faults as fault;
 ghost use Rattle.run_config.specs.Tables.{any_text, text_of, integer_of};
 ghost use Rattle.run_config.specs.Tests.{out_of_range, wrong_kind};
 ghost use Rattle.run_config.specs.Values.{natural_or, number_within};
@@ -16,13 +16,9 @@ use toml::{Table, Value};
 
 // The fault of a value that is not as its key's row of the table says.
 fn range_fault(guest: Option<u32>, key: ConfigKey, value: &Value) -> ConfigFault
-    ensures { result ≡ fault.Range guest key (as_integer (view value.now)) }
+    ensures { result ≡ fault.range guest key (as_integer (view value.now)) }
 {
-    ConfigFault::Range {
-        guest,
-        key,
-        value: value.as_integer(),
-    }
+    ConfigFault::range(guest, key, value.as_integer())
 }
 
 /// The text that a value is.

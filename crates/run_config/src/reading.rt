@@ -4,7 +4,7 @@ ghost use Rattle.std.specs.Prelude.{◌≡◌, ◌<◌, ◌≤◌, false, length
 ghost use Rattle.std.specs.Str.{is_utf8};
 ghost use Rattle.toml.specs.View.{view, items_view, table_view};
 ghost use Rattle.run_config.specs.declared.ends.ReadEnd.TheVariants.{NoMemory, Refused};
-ghost use Rattle.run_config.specs.declared.faults.ConfigFault.TheVariants as fault;
+ghost use Rattle.run_config.specs.Faults as fault;
 ghost use Rattle.run_config.specs.Accept.{accept, array_length, body_fault, configuration_of, document_fault, format_at, format_in, guests_at, guests_in, head_fault, spare_at, tree_of, AcceptedIsWithinLimits};
 ghost use Rattle.run_config.specs.Answers.{IfRefused};
 ghost use Rattle.run_config.specs.Configurations.{IsWithinLimits};
@@ -37,11 +37,11 @@ const MOST_GUESTS: usize = 16;
 #[tactic(auto, unfolding(crate::specs::Accept::tree_of), using(crate::proofs::Texts::texts))]
 fn tree(alloc: Global, bytes: &[u8]) -> Result<Table, ReadEnd>
     ensures ok { IfOk result (λ t. tree_of bytes.now ≡ Some (table_view t)) }
-    ensures refused { IfRefused result (λ f. (f ≡ fault.NotToml) × (tree_of bytes.now ≡ None)) }
-    ensures no_text { is_utf8 bytes.now ≡ false → result ≡ Err (Refused fault.NotToml) }
+    ensures refused { IfRefused result (λ f. (f ≡ fault.not_toml) × (tree_of bytes.now ≡ None)) }
+    ensures no_text { is_utf8 bytes.now ≡ false → result ≡ Err (Refused fault.not_toml) }
 {
     let Ok(text) = str::from_utf8(bytes) else {
-        return Err(ReadEnd::Refused(ConfigFault::NotToml))
+        return Err(ReadEnd::Refused(ConfigFault::not_toml()))
     };
     match toml::table_from_str(alloc, text) {
         Ok(table) => Ok(table),
@@ -49,7 +49,7 @@ fn tree(alloc: Global, bytes: &[u8]) -> Result<Table, ReadEnd>
             if error.is_memory() {
                 Err(ReadEnd::NoMemory)
             } else {
-                Err(ReadEnd::Refused(ConfigFault::NotToml))
+                Err(ReadEnd::Refused(ConfigFault::not_toml()))
             }
         }
     }
@@ -159,13 +159,10 @@ fn head_of(document: &Table) -> Result<Format, ConfigFault>
     ensures refused { IfErr result (λ f. head_fault (table_view document.now) ≡ Some f) }
 {
     let Some(format) = format_at(document) else {
-        return Err(ConfigFault::Format)
+        return Err(ConfigFault::format())
     };
     if value_at(document, ConfigKey::Guest).is_none() {
-        return Err(ConfigFault::Missing {
-            guest: None,
-            key: ConfigKey::Guest,
-        });
+        return Err(ConfigFault::missing(None, ConfigKey::Guest));
     }
     Ok(format)
 }
@@ -179,19 +176,19 @@ fn body_of(alloc: Global, format: Format, document: &Table) -> Result<Config, Re
     ensures refused { IfRefused result (λ f. body_fault (table_view document.now) ≡ Some f) }
 {
     let Some(tables) = guests_at(alloc, document)? else {
-        return Err(ReadEnd::Refused(ConfigFault::Range {
-            guest: None,
-            key: ConfigKey::Guest,
-            value: array_length(document),
-        }))
+        return Err(ReadEnd::Refused(ConfigFault::range(
+            None,
+            ConfigKey::Guest,
+            array_length(document),
+        )))
     };
     let spare = spare_at(format, document)?;
     let guests = all_settings(alloc, format, tables.as_slice())?;
     let Some(schedule) = schedule_at(alloc, guests.len() as u32, document)? else {
-        return Err(ReadEnd::Refused(ConfigFault::Turns))
+        return Err(ReadEnd::Refused(ConfigFault::turns()))
     };
     if !has_only(document, format.document_keys()) {
-        return Err(ReadEnd::Refused(ConfigFault::Extra { guest: None }));
+        return Err(ReadEnd::Refused(ConfigFault::extra(None)));
     }
     let turns = turns_of(alloc, guests.as_slice(), schedule)?;
     Ok(Config::new(guests, turns, spare))
@@ -219,13 +216,13 @@ fn configuration_of(alloc: Global, document: &Table) -> Result<Config, ReadEnd>
 pub fn read(alloc: Global, bytes: &[u8]) -> Result<Config, ReadEnd>
     ensures accepted { IfOk result (λ c. accept bytes.now ≡ Ok c) }
     ensures refused { IfRefused result (λ f. accept bytes.now ≡ Err f) }
-    ensures too_long { 65536 < length bytes.now → result ≡ Err (Refused fault.TooLong) }
+    ensures too_long { 65536 < length bytes.now → result ≡ Err (Refused fault.too_long) }
     ensures no_text { length bytes.now ≤ 65536 → is_utf8 bytes.now ≡ false
-        → result ≡ Err (Refused fault.NotToml) }
+        → result ≡ Err (Refused fault.not_toml) }
     ensures limits { IfOk result IsWithinLimits }
 {
     if bytes.len() > MOST_BYTES {
-        return Err(ReadEnd::Refused(ConfigFault::TooLong));
+        return Err(ReadEnd::Refused(ConfigFault::too_long()));
     }
     match tree(alloc, bytes) {
         Ok(document) => configuration_of(alloc, &document),

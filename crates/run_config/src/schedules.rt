@@ -166,10 +166,7 @@ fn weights_fault(weights: &[u64], quantum: u64) -> Option<ConfigFault>
     for guest in 0..weights.len() {
         let product = weights[guest] * quantum;
         if product > MOST_STEPS {
-            return Some(ConfigFault::Weight {
-                guest: guest as u32,
-                product: product as i64,
-            });
+            return Some(ConfigFault::weight(guest as u32, product));
         }
     }
     None

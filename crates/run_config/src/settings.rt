@@ -69,10 +69,7 @@ fn required<'a>(table: &'a Table, guest: u32, key: ConfigKey) -> Result<&'a Valu
 {
     match value_at(table, key) {
         Some(value) => Ok(value),
-        None => Err(ConfigFault::Missing {
-            guest: Some(guest),
-            key,
-        }),
+        None => Err(ConfigFault::missing(Some(guest), key)),
     }
 }
 
@@ -277,13 +274,13 @@ fn fresh_settings(
     let seen = values_of(table, guest)?;
     let options = options_at(format, table, guest)?;
     if !is_new_name(before, seen.name) {
-        return Err(ReadEnd::Refused(ConfigFault::Name { guest }));
+        return Err(ReadEnd::Refused(ConfigFault::name(guest)));
     }
     let Some(input) = input_at(alloc, format, table)? else {
-        return Err(ReadEnd::Refused(ConfigFault::Input { guest }))
+        return Err(ReadEnd::Refused(ConfigFault::input(guest)))
     };
     if !has_only(table, format.fresh_keys()) {
-        return Err(ReadEnd::Refused(ConfigFault::Extra { guest: Some(guest) }));
+        return Err(ReadEnd::Refused(ConfigFault::extra(Some(guest))));
     }
     Ok(fresh_kept(alloc, seen, options, input)?)
 }
@@ -306,10 +303,10 @@ fn resumed_settings(
     let seen = names_in(table, guest)?;
     let weight = resumed_weight(table, guest)?;
     if !is_new_name(before, seen.name) {
-        return Err(ReadEnd::Refused(ConfigFault::Name { guest }));
+        return Err(ReadEnd::Refused(ConfigFault::name(guest)));
     }
     if !has_only(table, &RESUMED_KEYS) {
-        return Err(ReadEnd::Refused(ConfigFault::Extra { guest: Some(guest) }));
+        return Err(ReadEnd::Refused(ConfigFault::extra(Some(guest))));
     }
     Ok(resumed_kept(alloc, seen, weight)?)
 }

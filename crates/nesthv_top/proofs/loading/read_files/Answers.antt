@@ -41,7 +41,7 @@ returns-in_err-stored-clause-first g c =
     let guests = c.in_ok-guests.ensures in
     let is : c.from_residual-in_err-stored.result ≡ Err c.in_err-stored.field-0.0 = search rules in
     rw is (first_then g.S.Store (file_command_seen c.args.request) 1 _ _ c.in_err-stored.field-0.0 _ _ _
-    (begins_then g.S.Store (file_command_seen c.args.request) _ _ _ config.first guests.leaves.asked) (omega (arith, config.some, guests.leaves.numbers.0)) c.in_err-stored.ensures.leaves)
+    (begins_then g.S.Store (file_command_seen c.args.request) _ _ _ _ _ config.first guests.leaves.answers) (omega (arith, config.some, guests.leaves.numbers.0)) c.in_err-stored.ensures.leaves)
 
 pub returns-in_err-stored-clause-leaves : goal.returns-in_err-stored-clause-leaves
 returns-in_err-stored-clause-leaves g c =
@@ -64,8 +64,8 @@ returns-in-Some-clause-ends g c = λ files told.
 pub returns-in-Some-clause-first : goal.returns-in-Some-clause-first
 returns-in-Some-clause-first g c =
     let config = c.in_ok-config.ensures in
-    begins_then g.S.Store (file_command_seen c.args.request) _ _ _ (begins_then g.S.Store (file_command_seen c.args.request) _ _ _ config.first c.in_ok-guests.ensures.leaves.asked)
-    c.in_ok-stored.ensures.leaves.asked
+    begins_then g.S.Store (file_command_seen c.args.request) _ _ _ _ _
+    (begins_then g.S.Store (file_command_seen c.args.request) _ _ _ _ _ config.first c.in_ok-guests.ensures.leaves.answers) c.in_ok-stored.ensures.leaves.answers
 
 pub returns-in-Some-clause-leaves : goal.returns-in-Some-clause-leaves
 returns-in-Some-clause-leaves g c =
@@ -88,8 +88,8 @@ returns-in-None-clause-ends g c = λ files told.
 pub returns-in-None-clause-first : goal.returns-in-None-clause-first
 returns-in-None-clause-first g c =
     let config = c.in_ok-config.ensures in
-    begins_then g.S.Store (file_command_seen c.args.request) _ _ _ (begins_then g.S.Store (file_command_seen c.args.request) _ _ _ config.first c.in_ok-guests.ensures.leaves.asked)
-    c.in_ok-stored.ensures.leaves.asked
+    begins_then g.S.Store (file_command_seen c.args.request) _ _ _ _ _
+    (begins_then g.S.Store (file_command_seen c.args.request) _ _ _ _ _ config.first c.in_ok-guests.ensures.leaves.answers) c.in_ok-stored.ensures.leaves.answers
 
 pub returns-in-None-clause-leaves : goal.returns-in-None-clause-leaves
 returns-in-None-clause-leaves g c =

@@ -1,5 +1,5 @@
-use Rattle.std.proofs.Common.{rules, ◌≡◌, ◌∙◌, Err, Some, length, ap, arith}
-use Rattle.run_config.specs.declared.faults.ConfigFault.TheVariants as fault
+use Rattle.std.proofs.Common.{rules, ◌≡◌, ◌∙◌, Err, Some, length, ap, sym, arith}
+use Rattle.run_config.specs.Faults as fault
 use Rattle.nesthv_top.specs.Contents.{image_most, image_of}
 use Rattle.nesthv_top.specs.Reads.{ask, image_fault}
 use Rattle.nesthv_top.proofs.GuestReads.{image_fits, image_too_long}
@@ -29,4 +29,4 @@ returns-else-len-size-clause-ends g c = λ files told.
     let told_as : length (image_of files fresh) ≡ c.len-else-len-size.result = omega (arith, ap length bytes, c.len-else-len-size.ensures, c.in_ok-bytes.bytes.ok.0) in
     one_refused (ask fresh.image (image_most fresh)) (image_fault c.args.guest fresh (image_of files fresh)) _ c.args.reads.now.made
     (g.S.Store.asked c.args.store.now) (g.S.Store.asked c.read.new.store) (rw c.as_str.ensures at c.in_ok-bytes.ensures.read).1
-    (image_too_long c.args.guest fresh (image_of files fresh) (rw count c.if-len-size.false) ∙ ap (λ n. Some (fault.ImageLong c.args.guest n)) told_as)
+    (image_too_long c.args.guest fresh (image_of files fresh) (rw count c.if-len-size.false) ∙ ap (λ n. Some (fault.image_long c.args.guest n)) told_as ∙ ap Some (sym c.image_long.ensures))

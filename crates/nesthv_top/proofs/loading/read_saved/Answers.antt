@@ -1,5 +1,5 @@
 use Rattle.std.proofs.Common.{rules, ◌≡◌, ◌∙◌, [], ◌∷◌, Err, None, refl, ap}
-use Rattle.run_config.specs.declared.faults.ConfigFault.TheVariants as fault
+use Rattle.run_config.specs.Faults as fault
 use Rattle.nesthv_top.specs.declared.ends.LoadEnd.TheVariants.{NoMemory, Refused}
 use Rattle.nesthv_top.specs.Contents.{saved_most, saved_of}
 use Rattle.nesthv_top.specs.Reads.{ask, making, reading, saved_fault}
@@ -33,10 +33,11 @@ returns-in-Err-Bad-clause-ends g c = λ files told.
     let bytes = rw c.as_str.ensures at (c.in_ok-bytes.ensures.bytes files told) in
     let read = one_passed (ask name saved_most) None c.args.reads.now.made c.read.new.self.made (g.S.Store.asked c.args.store.now) (g.S.Store.asked c.read.new.store)
     (rw c.as_str.ensures at c.in_ok-bytes.ensures.read) refl in
-    stopped_later (reading (ask name saved_most) None ∷ []) (making (saved_fault c.args.guest (saved_of files name)) ∷ []) c.args.reads.now.made c.read.new.self.made (Refused (fault.Saved c.args.guest))
+    rw c.saved.ensures
+    (stopped_later (reading (ask name saved_most) None ∷ []) (making (saved_fault c.args.guest (saved_of files name)) ∷ []) c.args.reads.now.made c.read.new.self.made (Refused (fault.saved c.args.guest))
     (g.S.Store.asked c.args.store.now) (g.S.Store.asked c.read.new.store) (g.S.Store.asked c.read.new.store) read
-    (making_refused (saved_fault c.args.guest (saved_of files name)) (fault.Saved c.args.guest) c.read.new.self.made (g.S.Store.asked c.read.new.store)
-    (saved_bad c.args.guest (saved_of files name) (rw (c.as_slice.ensures.value, bytes) at (c.read-2.ensures.refused (c.in-Err-Bad.is ∙ ap Err c.in-Err-Bad.field-0-is)))))
+    (making_refused (saved_fault c.args.guest (saved_of files name)) (fault.saved c.args.guest) c.read.new.self.made (g.S.Store.asked c.read.new.store)
+    (saved_bad c.args.guest (saved_of files name) (rw (c.as_slice.ensures.value, bytes) at (c.read-2.ensures.refused (c.in-Err-Bad.is ∙ ap Err c.in-Err-Bad.field-0-is))))))
 
 pub returns-clause-ends : goal.returns-clause-ends
 returns-clause-ends g c = λ files told.

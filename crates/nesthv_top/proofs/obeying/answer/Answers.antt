@@ -33,4 +33,4 @@ returns-in-Err-WriteFault-clause-account g c =
 pub returns-clause-reads : goal.returns-clause-reads
 returns-clause-reads g c =
     let is : c.from-in-Err-NoMemory.result ≡ NoMemory c.load.new.reads.made = search rules in
-    rw is (wanting_says g.S.Store (file_command_seen c.args.request) c.load.new.reads.made c.args.store.now c.load.new.store c.in-Ok.ensures.some c.in-Ok.ensures.passed c.in-Ok.ensures.reads)
+    rw is (wanting_says g.S.Store (file_command_seen c.args.request) c.load.new.reads.made c.args.store.now c.load.new.store c.in-Ok.ensures.some c.in-Ok.ensures.passed c.in-Ok.ensures.answered c.in-Ok.ensures.reads)

@@ -6,7 +6,7 @@ use Rattle.nesthv_top.specs.Endings.{SaysOfAccount, SaysOfReads}
 use Rattle.nesthv_top.specs.Plans.{work_plan}
 use Rattle.nesthv_top.specs.Runnings.{CountsTurns}
 use Rattle.nesthv_top.proofs.Accounting.{counted_work, in_part}
-use Rattle.nesthv_top.proofs.CommandReads.{nothing_read, work_done, work_unwritten}
+use Rattle.nesthv_top.proofs.CommandReads.{no_command_says, nothing_read, work_done, work_unwritten}
 use Rattle.nesthv_top.proofs.Telling.{is_for}
 use Rattle.nesthv_top.proofs.obeying.obey.Goals as goal
 
@@ -65,3 +65,6 @@ returns-in-Err-NoMemory-clause-reads g c = nothing_read g.S.Store (command_of c.
 
 pub returns-in-Err-clause-reads : goal.returns-in-Err-clause-reads
 returns-in-Err-clause-reads g c = nothing_read g.S.Store (command_of c.args.words.now) c.args.store.now
+
+pub returns-in-Ok-None-clause-reads : goal.returns-in-Ok-None-clause-reads
+returns-in-Ok-None-clause-reads g c = no_command_says g.S.Store (command_of c.args.words.now) c.args.store.now (sym (rw c.in-Ok-None.field-0-is at c.in-Ok-None.ensures.request))

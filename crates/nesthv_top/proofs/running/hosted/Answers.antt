@@ -1,9 +1,11 @@
 use Rattle.std.proofs.Common.{◌≡◌, ◌∙◌, ◌<◌, length, get_or, ap, sym, arith}
 use Rattle.std.proofs.lemmas.List.{get_or-map, length-map}
 use Rattle.arch_defs.specs.Layouts.{no_part}
-use Rattle.guest_turns.specs.Sources.{machine_of_source, machines_of_sources, need_of_source}
+use Rattle.guest_turns.specs.Sources.{machine_of_source, machines_of_sources, need_of_source, needs_of_sources}
 use Rattle.guest_turns.specs.TurnLists.{with_turns}
+use Rattle.nesthv_top.specs.Moving.{shares_of, AreBooted}
 use Rattle.nesthv_top.specs.Runnings.{hosted_as}
+use Rattle.nesthv_top.proofs.MovedShares.{each_moved, each_retires, kept_shares, none_moved, none_retires}
 use Rattle.nesthv_top.proofs.Reporting.{counted}
 use Rattle.nesthv_top.proofs.RetiredMachines.{all_active, none_retired}
 use Rattle.nesthv_top.proofs.SourceMachines.{needs_block, no_source, run_as_written}
@@ -75,3 +77,31 @@ returns-clause-kept c = elim c.if-spare-eq0.branch [
   | then-spare-eq0 w ↦ rw w.host-is (all_active c.args.kept w.run_turns.new.host.retired w.run_turns.ensures.active)
   | else-spare-eq0 w ↦ rw w.host-is w.run_moving.ensures.kept
 ]
+
+pub returns-clause-shares : goal.returns-clause-shares
+returns-clause-shares c =
+    let booted = c.in_ok-host.ensures in
+    let are : AreBooted (needs_of_sources c.args.sources.items) c.args.spare (shares_of c.in_ok-host.host) = record { parts = booted.parts; free = booted.free; active = booted.active } in
+    elim c.if-spare-eq0.branch [
+      | then-spare-eq0 w ↦ rw w.host-is (
+        shares_of c.in_ok-host.host,
+        are,
+        kept_shares c.in_ok-host.host w.run_turns.new.host w.run_turns.ensures.shares
+            ∙ sym (none_moved c.args.spare c.args.kept c.args.turns.now (shares_of c.in_ok-host.host) w.if-spare-eq0.true),
+      )
+      | else-spare-eq0 w ↦ rw w.host-is (
+        shares_of c.in_ok-host.host,
+        are,
+        w.run_moving.ensures.shares
+            ∙ sym (each_moved c.args.spare c.args.kept c.args.turns.now (shares_of c.in_ok-host.host) w.if-spare-eq0.false),
+      )
+    ]
+
+pub returns-clause-retired : goal.returns-clause-retired
+returns-clause-retired c = λ g inside.
+    let machines : length c.in_ok-host.host.machines ≡ length c.args.sources.items = ap length c.in_ok-host.ensures.machines ∙ length-map c.args.sources.items machine_of_source in
+    elim c.if-spare-eq0.branch [
+      | then-spare-eq0 w ↦ rw w.host-is (w.run_turns.ensures.active g ∙ sym (none_retires c.args.spare c.args.kept c.args.turns.now g w.if-spare-eq0.true))
+      | else-spare-eq0 w ↦ rw w.host-is (w.run_moving.ensures.retired g (omega (arith, inside, machines))
+          ∙ sym (each_retires c.args.spare c.args.kept c.args.turns.now g w.if-spare-eq0.false))
+    ]

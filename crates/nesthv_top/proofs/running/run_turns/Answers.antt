@@ -1,4 +1,4 @@
-use Rattle.std.proofs.Common.{◌<◌, length, get_or, refl, arith}
+use Rattle.std.proofs.Common.{◌∙◌, ◌<◌, length, get_or, refl, arith}
 use Rattle.nesthv_top.proofs.Turning.{bounded, counted_turns, entries_left, left_next}
 use Rattle.nesthv_top.proofs.running.run_turns.Goals as goal
 
@@ -31,6 +31,11 @@ loop-guest-preserved c = record {
         account = c.turn.ensures.account;
       });
   active = rw c.turn.ensures.shares.retired c.loop-guest.invariant.active;
+  shares = record {
+    parts = c.turn.ensures.shares.parts ∙ c.loop-guest.invariant.shares.parts;
+    free = c.turn.ensures.shares.free ∙ c.loop-guest.invariant.shares.free;
+    retired = c.turn.ensures.shares.retired ∙ c.loop-guest.invariant.shares.retired;
+  };
 }
 
 pub returns-clause-account : goal.returns-clause-account

@@ -1,5 +1,5 @@
 use Rattle.std.proofs.Common.{◌≡◌, ℕ, ◌<◌, get_or, length, take}
-use Rattle.nesthv_top.proofs.MovingTurns.{due}
+use Rattle.nesthv_top.specs.Moving.{due}
 use Rattle.nesthv_top.proofs.running.turns_left.Given as goal
 
 abbrev pub invariant-loop-guest : goal.invariant-loop-guest
