@@ -1,4 +1,5 @@
 pub mod Beginnings
 pub mod Fronts
 pub mod RoundTrips
+pub mod Searches
 pub mod Streams

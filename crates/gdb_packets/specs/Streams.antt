@@ -1,8 +1,20 @@
 -- The messages of a stream of bytes.
-use Rattle.std.specs.Prelude.{ℕ, zero, suc, List, [], ◌∷◌, drop, length, Option, Some, None}
-use Rattle.gdb_packets.specs.Frames.{message_in}
+use Rattle.std.specs.Prelude.{◌≡◌, ℕ, zero, suc, ◌≤◌, List, [], ◌∷◌, drop, length, Option, Some, None}
+use Rattle.gdb_packets.specs.Frames.{body_length, message_in}
+use Rattle.gdb_packets.specs.declared.messages.Beginning.{Beginning}
+use Rattle.gdb_packets.specs.declared.messages.Beginning.TheVariants.{Whole, Cut}
 use Rattle.gdb_packets.specs.declared.messages.Message.{Message}
 use Rattle.gdb_packets.specs.declared.messages.Received.{Received}
+
+-- the bytes behind a message, if they begin with one
+abbrev pub behind : Option Received → List ℕ → List ℕ
+behind (Some received) bytes = drop received.length bytes
+behind None bytes = bytes
+
+-- bytes begin with this message, or with none yet: no closing is among so many of those behind the first
+abbrev pub IsBeginning : List ℕ → Option Received → Beginning → Type 0
+IsBeginning rest message (Whole received) = message ≡ Some received
+IsBeginning rest message (Cut searched) = (message ≡ None) × (searched ≤ body_length rest)
 
 -- a message, if there is one, before those behind it
 abbrev pub with_later : Option Received → (ℕ → List Message) → List Message

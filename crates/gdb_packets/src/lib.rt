@@ -8,9 +8,11 @@ mod escapes;
 mod frames;
 mod laws;
 mod messages;
+mod unread;
 
 pub use digits::{digit_value, hex_of, unhex};
 pub use frames::frame;
 pub use laws::{digits_are_read_back, frames_are_read_back};
-pub use messages::{Message, Payload, Received, read_message};
+pub use messages::{Message, Payload, Received};
 pub use no_memory::NoMemory;
+pub use unread::Unread;

@@ -1,8 +1,9 @@
 // What a stream of bytes begins with.
 
-ghost use Rattle.std.specs.Prelude.{◌≡◌, ◌+◌, ◌^◌, ◌<◌, ◌≤◌, drop, length, IfOk, option_map};
+ghost use Rattle.std.specs.Prelude.{◌≡◌, ◌+◌, ◌^◌, ◌<◌, ◌≤◌, drop, length, IfOk};
 ghost use Rattle.gdb_packets.specs.Frames.{body_length, checksum, is_sum, message_in, packet_at, packet_in, single};
 ghost use Rattle.gdb_packets.specs.Digits.{pair_value};
+ghost use Rattle.gdb_packets.specs.Streams.{IsBeginning};
 
 use crate::digits::pair_value;
 use crate::escapes::{checksum, unescaped};
@@ -75,13 +76,22 @@ fn single(byte: u8) -> Message
     }
 }
 
-// How many bytes stand before the closing of a packet.
-#[tactic(auto, using(crate::proofs::Beginnings::body_within))]
-fn body_length(rest: &[u8]) -> usize
+/// What bytes begin with: a message that has come whole, or none yet, and of how many bytes behind the first
+/// it is known that none is a closing.
+#[derive(Drop)]
+pub(crate) enum Beginning {
+    Whole(Received),
+    Cut(usize),
+}
+
+// How many bytes stand before the closing of a packet, none of which is among so many of the first.
+#[tactic(auto, using(crate::proofs::Searches::searches))]
+fn body_length(rest: &[u8], searched: usize) -> usize
+    requires { searched ≤ body_length rest.now }
     ensures value { result ≡ body_length rest.now }
     ensures within { result ≤ length rest.now }
 {
-    let mut place = 0;
+    let mut place = searched;
     while place < rest.len() {
         if rest[place] == CLOSING {
             return place;
@@ -116,18 +126,19 @@ fn packet_at(alloc: Global, n: usize, rest: &[u8]) -> Result<Message, NoMemory>
     }
 }
 
-// The packet that these bytes begin behind its opening.
+// What the bytes of a packet behind its opening begin with, where so many of them were searched.
 #[tactic(auto, unfolding(crate::specs::Frames::packet_in))]
-fn packet_in(alloc: Global, rest: &[u8]) -> Result<Option<Received>, NoMemory>
-    requires { length rest.now < 2 ^ 62 }
-    ensures { IfOk result (λ received. received ≡ packet_in rest.now) }
+fn packet_in(alloc: Global, rest: &[u8], searched: usize) -> Result<Beginning, NoMemory>
+    requires few { length rest.now < 2 ^ 62 }
+    requires searched { searched ≤ body_length rest.now }
+    ensures { IfOk result (IsBeginning rest.now (packet_in rest.now)) }
 {
-    let n = body_length(rest);
+    let n = body_length(rest, searched);
     if rest.len() <= n + 2 {
-        return Ok(None);
+        return Ok(Beginning::Cut(n));
     }
     let message = packet_at(alloc, n, rest)?;
-    Ok(Some(Received {
+    Ok(Beginning::Whole(Received {
         message,
         length: n + 4,
     }))
@@ -141,20 +152,24 @@ fn behind_first(bytes: &[u8]) -> &[u8]
     &bytes[1..]
 }
 
-/// The message that bytes begin with; nothing where there is none, or where it is cut. It may answer out of
-/// memory.
+/// What bytes begin with, where so many of them behind the first were searched. It may answer out of memory.
 #[tactic(auto, using(crate::proofs::Beginnings::messages))]
-pub fn read_message(alloc: Global, bytes: &[u8]) -> Result<Option<Received>, NoMemory>
-    requires { length bytes.now < 2 ^ 62 }
-    ensures { IfOk result (λ received. received ≡ message_in bytes.now) }
+pub(crate) fn begin_with(
+    alloc: Global,
+    bytes: &[u8],
+    searched: usize,
+) -> Result<Beginning, NoMemory>
+    requires few { length bytes.now < 2 ^ 62 }
+    requires searched { searched ≤ body_length (drop 1 bytes.now) }
+    ensures { IfOk result (IsBeginning (drop 1 bytes.now) (message_in bytes.now)) }
 {
     if bytes.is_empty() {
-        return Ok(None);
+        return Ok(Beginning::Cut(0));
     }
     if bytes[0] == b'$' {
-        return packet_in(alloc, behind_first(bytes));
+        return packet_in(alloc, behind_first(bytes), searched);
     }
-    Ok(Some(Received {
+    Ok(Beginning::Whole(Received {
         message: single(bytes[0]),
         length: 1,
     }))

@@ -1,16 +1,23 @@
--- A talk, message by message, and the stream that it reads.
-use Rattle.std.proofs.Common.{◌≡◌, ◌∙◌, ℕ, List, [], ◌∷◌, ◌++◌, drop, refl, ap, sym, subst, Option, Some, None, Result, Ok, Err, IfOk, OnOk, Bool, true, false, not, if◌then◌else◌}
-use Rattle.std.proofs.lemmas.List.{append_assoc, append-nil}
-use Rattle.std.specs.Io.KnownBytes.{Consumes, IsAtEnd, Keeps}
+-- A talk, transfer by transfer.
+use Rattle.std.proofs.Common.{◌≡◌, ◌∙◌, ℕ, List, [], ◌∷◌, ◌++◌, drop, take, refl, ap, sym, subst, Option, Some, None, Result, Ok, Err, IfOk, OnOk, IsErrOf, is_ok, option_map, Bool, true, false, not, if◌then◌else◌}
+use Rattle.std.proofs.lemmas.List.{append_assoc, append-nil, take-append-drop}
+use Rattle.std.specs.Io.KnownBytes.{Consumes, IsAtEnd}
 use Rattle.gdb_packets.specs.declared.messages.Message.{Message}
 use Rattle.gdb_packets.specs.declared.messages.Received.{Received}
 use Rattle.gdb_packets.specs.Frames.{message_in}
-use Rattle.gdb_packets.specs.Streams.{messages_in}
+use Rattle.gdb_packets.specs.Streams.{behind, messages_in}
 use Rattle.gdb_packets.proofs.Streams.{messages_heard, messages_over}
+use Rattle.outside.specs.Connections.{came_in, sent_in, Sends}
 use Rattle.outside.specs.Pieces.{Appends}
+use Rattle.outside.specs.declared.connections.Connection as connections
+use Rattle.outside.specs.declared.connections.Transfer.{Transfer}
+use Rattle.outside.specs.declared.connections.Transfer.TheVariants.{Came, Sent}
 use Rattle.outside.proofs.Pieces.{appends_then}
+use Rattle.outside.proofs.Transfers.{came_append, sent_append}
 use Rattle.gdb_stub.specs.Sessions.{Recording}
-use Rattle.gdb_stub.specs.Talks.{after_message, all_said, is_end, said_to, said_to_all, HasTalked, IsReceived, TalkedTo, TalkState}
+use Rattle.gdb_stub.specs.Talks.{after_message, all_said, is_end, is_whole, said_to, said_to_all, AreSent, HasGoneOn, HasCome, HasSaid, HasTalked, IsFront, IsPart, IsPrompt, TalkedTo, TalkState}
+use Rattle.gdb_stub.specs.declared.talks.TalkEnd.{TalkEnd}
+use Rattle.gdb_stub.specs.declared.talks.TalkEnd.TheVariants.{ReadFault, WriteFault, NoMemory}
 
 -- what is said to a message and those behind it
 said_next : (r : Recording) (t : TalkState) (message : Message) (rest : List Message)
@@ -22,14 +29,6 @@ said_none : (r : Recording) (t : TalkState) → said_to_all r t [] ≡ []
 unfolding said_to_all
 said_none r t = refl
 
--- a text that is appended is another one that is the same
-pub appends_same : {S : Type 0} (stands_for : S → List ℕ → Type 0) (old new : S) (a b : List ℕ) → Appends stands_for old new a → a ≡ b → Appends stands_for old new b
-appends_same stands_for old new a b said is = subst (λ (text : List ℕ). Appends stands_for old new text) is said
-
--- nothing is appended
-append_none : {S : Type 0} (stands_for : S → List ℕ → Type 0) (sink : S) → Appends stands_for sink sink []
-append_none stands_for sink = λ before is. subst (λ (bytes : List ℕ). stands_for sink bytes) (sym (append-nil before)) is
-
 not_true : (b : Bool) → true ≡ not b → b ≡ false
 not_true true is = cc
 not_true false is = refl
@@ -38,116 +37,354 @@ not_false : (b : Bool) → false ≡ not b → b ≡ true
 not_false true is = refl
 not_false false is = cc
 
+-- known bytes of which none is taken, and those of two reads
+consumes_none : (known : Option (List ℕ)) → Consumes known known []
+consumes_none None = tt
+consumes_none (Some xs) = refl
+
+consumes_kept : (old new : Option (List ℕ)) → new ≡ old → Consumes old new []
+consumes_kept old new is = subst (λ (known : Option (List ℕ)). Consumes old known []) (sym is) (consumes_none old)
+
+consumes_then : (a b c : Option (List ℕ)) (xs ys : List ℕ) → Consumes a b xs → Consumes b c ys → Consumes a c (xs ++ ys)
+consumes_then None b c xs ys first next = tt
+consumes_then (Some known) None c xs ys first next = absurd first
+consumes_then (Some known) (Some bs) None xs ys first next = absurd next
+consumes_then (Some known) (Some bs) (Some cs) xs ys first next =
+    first ∙ ap (λ (rest : List ℕ). xs ++ rest) next ∙ sym (append_assoc xs ys cs)
+
+consumes_some : (a b : Option (List ℕ)) (xs left : List ℕ) → a ≡ Some left → Consumes a b xs → (rest : List ℕ) × (b ≡ Some rest) × (left ≡ xs ++ rest)
+consumes_some None b xs left is gone = absurd cc
+consumes_some (Some known) None xs left is gone = absurd gone
+consumes_some (Some known) (Some bs) xs left is gone = let same : known ≡ left = cc in (bs, refl, sym same ∙ gone)
+
+consumes_all : (a b : Option (List ℕ)) (left : List ℕ) → a ≡ Some left → Consumes a b [] → IsAtEnd b → left ≡ []
+consumes_all None b left is gone over = absurd cc
+consumes_all (Some known) None left is gone over = absurd gone
+consumes_all (Some known) (Some bs) left is gone over = let same : known ≡ left = cc in sym same ∙ gone ∙ over
+
+-- nothing is transferred
+appends_none : {S A : Type 0} (made : S → List A → Type 0) (s : S) → Appends made s s []
+appends_none made s = λ before is. subst (λ items. made s items) (sym (append-nil before)) is
+
+-- parts of texts
+front_all : (all : Bool) (text : List ℕ) → IsPart all text text
+front_all true text = refl
+front_all false text = ([], append-nil text)
+
+part_after : (all : Bool) (first part text : List ℕ) → IsPart all part text → IsPart all (first ++ part) (first ++ text)
+part_after true first part text is = ap (λ (rest : List ℕ). first ++ rest) is
+part_after false first part text (rest, is) = (rest, append_assoc first part rest ∙ ap (λ (rest : List ℕ). first ++ rest) is)
+
+part_front : (all : Bool) (part text more : List ℕ) → all ≡ false → IsPart all part text → IsFront part (text ++ more)
+part_front true part text more is holds = absurd cc
+part_front false part text more is (rest, holds) =
+    (rest ++ more, sym (append_assoc part rest more) ∙ ap (λ (front : List ℕ). front ++ more) holds)
+
+module _ {C : Type 0} (K : connections.Ghosts C) where
+  -- a text that is sent
+  pub says_sent : (old new : C) (all : Bool) (piece text : List ℕ) → Sends K.made old new all piece → K.coming new ≡ K.coming old → piece ≡ text
+      → HasSaid K all text old new
+  says_sent old new true piece text sends kept is = record {
+    transfers = Sent piece ∷ [];
+    made = sends;
+    kept = kept;
+    silent = tt;
+    said = append-nil piece ∙ is;
+  }
+  says_sent old new false piece text (n, within, sends) kept is = record {
+    transfers = Sent (take n piece) ∷ [];
+    made = sends;
+    kept = kept;
+    silent = tt;
+    said = (drop n piece, ap (λ (front : List ℕ). front ++ drop n piece) (append-nil (take n piece)) ∙ take-append-drop n piece ∙ is);
+  }
+
+  -- or of which nothing is
+  pub says_none : (c : C) (text : List ℕ) → HasSaid K false text c c
+  says_none c text = record { transfers = []; made = appends_none K.made c; kept = refl; silent = tt; said = (text, refl) }
+
+  pub says_empty : (c : C) → HasSaid K true [] c c
+  says_empty c = record { transfers = []; made = appends_none K.made c; kept = refl; silent = tt; said = refl }
+
+-- transfers without a read
 module _ (r : Recording) (t : TalkState) where
-  -- a message that has come whole
-  heard_stays : {S : Type 0} (stands_for : S → List ℕ → Type 0) (old new : S) (come left : List ℕ) (remaining : Option (List ℕ)) (received : Received) (after : TalkState)
-      → message_in come ≡ Some received → remaining ≡ Some left → is_end received.message ≡ false → after ≡ after_message r t received.message
-      → Appends stands_for old new (said_to r t received.message)
-      → TalkedTo (Appends stands_for old new) remaining r t after (come ++ left) (drop received.length come)
-  heard_stays stands_for old new come left remaining received after is remains stays goes said = record {
-    left = left;
-    text = said_to r t received.message;
-    remains = remains;
-    appends = said;
-    rest = ap (λ (all : List Message). said_to_all r t all) (messages_heard come left received is)
-        ∙ said_next r t received.message (messages_in (drop received.length come ++ left))
-        ∙ rw (stays, goes) refl;
+  prompt_sent : (come said : List ℕ) (transfers : List Transfer) → AreSent transfers → IsPrompt r t come said transfers
+  prompt_sent come said [] silent = tt
+  prompt_sent come said (Came piece ∷ rest) silent = absurd silent
+  prompt_sent come said (Sent piece ∷ rest) silent = prompt_sent come (said ++ piece) rest silent
+
+  prompt_then : (come said : List ℕ) (a b : List Transfer) → IsPrompt r t come said a → IsPrompt r t (come ++ came_in a) (said ++ sent_in a) b
+      → IsPrompt r t come said (a ++ b)
+  prompt_then come said [] b first next =
+      subst (λ (text : List ℕ). IsPrompt r t come text b) (append-nil said)
+      (subst (λ (bytes : List ℕ). IsPrompt r t bytes (said ++ []) b) (append-nil come) next)
+  prompt_then come said (Came piece ∷ a) b (answered, first) next = (
+    answered,
+    prompt_then (come ++ piece) said a b first
+        (subst (λ (bytes : List ℕ). IsPrompt r t bytes (said ++ sent_in a) b) (sym (append_assoc come piece (came_in a))) next),
+  )
+  prompt_then come said (Sent piece ∷ a) b first next =
+      prompt_then come (said ++ piece) a b first
+      (subst (λ (text : List ℕ). IsPrompt r t (come ++ came_in a) text b) (sym (append_assoc said piece (sent_in a))) next)
+
+no_came : (transfers : List Transfer) → AreSent transfers → came_in transfers ≡ []
+no_came [] silent = refl
+no_came (Came piece ∷ rest) silent = absurd silent
+no_came (Sent piece ∷ rest) silent = no_came rest silent
+
+-- transfers that are prompt from a part of a talk on are so from its begin on
+prompt_moved : (r : Recording) (t t' : TalkState) (front before come' more said : List ℕ) (b : List Transfer)
+    → ((later : List ℕ) → all_said r t (front ++ later) ≡ before ++ all_said r t' (come' ++ later))
+    → IsPrompt r t' (come' ++ more) said b → IsPrompt r t (front ++ more) (before ++ said) b
+prompt_moved r t t' front before come' more said [] rest prompt = tt
+prompt_moved r t t' front before come' more said (Came piece ∷ b) rest (answered, prompt) = (
+  ap (λ (text : List ℕ). before ++ text) answered ∙ sym (rest more),
+  subst (λ (bytes : List ℕ). IsPrompt r t bytes (before ++ said) b) (sym (append_assoc front more piece))
+      (prompt_moved r t t' front before come' (more ++ piece) said b rest
+      (subst (λ (bytes : List ℕ). IsPrompt r t' bytes said b) (append_assoc come' more piece) prompt)),
+)
+prompt_moved r t t' front before come' more said (Sent piece ∷ b) rest prompt =
+    subst (λ (text : List ℕ). IsPrompt r t (front ++ more) text b) (sym (append_assoc before said piece))
+    (prompt_moved r t t' front before come' more (said ++ piece) b rest prompt)
+
+module _ {C : Type 0} (K : connections.Ghosts C) (r : Recording) (t : TalkState) where
+  -- a message that has come whole, and what comes later
+  next_said : (come : List ℕ) (received : Received) (later : List ℕ) → message_in come ≡ Some received
+      → all_said r t (come ++ later) ≡ said_to r t received.message
+      ++ (if is_end received.message then [] else all_said r (after_message r t received.message) (drop received.length come ++ later))
+  next_said come received later is = ap (λ (all : List Message). said_to_all r t all) (messages_heard come later received is)
+      ∙ said_next r t received.message (messages_in (drop received.length come ++ later))
+
+  -- gdb stays after a message
+  heard_stays : (old new : C) (come : List ℕ) (received : Received) (after : TalkState)
+      → message_in come ≡ Some received → is_end received.message ≡ false → after ≡ after_message r t received.message
+      → HasSaid K true (said_to r t received.message) old new
+      → TalkedTo K r t after come (drop received.length come) old new
+  heard_stays old new come received after is stays goes says =
+      let none = no_came says.transfers says.silent in
+      record {
+        transfers = says.transfers;
+        made = says.made;
+        comes = subst (λ (bytes : List ℕ). Consumes (K.coming old) (K.coming new) bytes) (sym none) (consumes_kept (K.coming old) (K.coming new) says.kept);
+        prompt = prompt_sent r t come [] says.transfers says.silent;
+        rest = λ later. ap (λ (bytes : List ℕ). all_said r t (come ++ bytes ++ later)) none
+            ∙ ap (λ (front : List ℕ). all_said r t (front ++ later)) (append-nil come)
+            ∙ next_said come received later is ∙ rw (stays, goes, says.said) refl;
+      }
+
+  -- or it has left
+  heard_last : (old new : C) (come : List ℕ) (received : Received) → message_in come ≡ Some received → is_end received.message ≡ true
+      → HasSaid K true (said_to r t received.message) old new → HasTalked K r t come None old new
+  heard_last old new come received is ends says =
+      let none = no_came says.transfers says.silent in
+      let all : (later : List ℕ) → sent_in says.transfers ≡ all_said r t (come ++ later) =
+      λ later. says.said ∙ sym (next_said come received later is ∙ rw (ends) (append-nil (said_to r t received.message))) in
+      record {
+        transfers = says.transfers;
+        made = says.made;
+        comes = subst (λ (bytes : List ℕ). Consumes (K.coming old) (K.coming new) bytes) (sym none) (consumes_kept (K.coming old) (K.coming new) says.kept);
+        prompt = prompt_sent r t come [] says.transfers says.silent;
+        said = all (came_in says.transfers);
+        done = λ none left told. all left;
+      }
+
+  -- or not all could be said
+  heard_cut : (old new : C) (come : List ℕ) (received : Received) (end : TalkEnd) → message_in come ≡ Some received → is_whole (Some end) ≡ false
+      → HasSaid K false (said_to r t received.message) old new → HasTalked K r t come (Some end) old new
+  heard_cut old new come received end is cut says =
+      let none = no_came says.transfers says.silent in
+      record {
+        transfers = says.transfers;
+        made = says.made;
+        comes = subst (λ (bytes : List ℕ). Consumes (K.coming old) (K.coming new) bytes) (sym none) (consumes_kept (K.coming old) (K.coming new) says.kept);
+        prompt = prompt_sent r t come [] says.transfers says.silent;
+        said = rw (cut, next_said come received (came_in says.transfers) is)
+            (part_front false (sent_in says.transfers) (said_to r t received.message)
+            (if is_end received.message then [] else all_said r (after_message r t received.message) (drop received.length come ++ came_in says.transfers)) refl says.said);
+        done = λ none. absurd cc;
+      }
+
+  heard_by : (old new : C) (come : List ℕ) (received : Received) (after : TalkState) (result : Result Bool TalkEnd)
+      → message_in come ≡ Some received → IfOk result (λ stays. stays ≡ not (is_end received.message))
+      → OnOk result (after ≡ after_message r t received.message) → ¬ IsErrOf result ReadFault
+      → HasSaid K (is_ok result) (said_to r t received.message) old new
+      → HasGoneOn K r t after come (drop received.length come) result old new
+  heard_by old new come received after (Ok true) is last goes no_read says = heard_stays old new come received after is (not_true _ last) goes says
+  heard_by old new come received after (Ok false) is last goes no_read says = heard_last old new come received is (not_false _ last) says
+  heard_by old new come received after (Err ReadFault) is last goes no_read says = absurd (no_read refl)
+  heard_by old new come received after (Err WriteFault) is last goes no_read says = heard_cut old new come received WriteFault is refl says
+  heard_by old new come received after (Err NoMemory) is last goes no_read says = heard_cut old new come received NoMemory is refl says
+
+  -- so what answering the next message leaves of the talk
+  pub heard : (old new : C) (come come' : List ℕ) (message : Message) (after : TalkState) (result : Result Bool TalkEnd)
+      → Some message ≡ option_map (λ (received : Received). received.message) (message_in come) → come' ≡ behind (message_in come) come
+      → IfOk result (λ stays. stays ≡ not (is_end message)) → OnOk result (after ≡ after_message r t message) → ¬ IsErrOf result ReadFault
+      → HasSaid K (is_ok result) (said_to r t message) old new
+      → HasGoneOn K r t after come come' result old new
+  heard old new come come' message after result found rest last goes no_read says = by (message_in come) refl found rest
+    where
+      by : (o : Option Received) → message_in come ≡ o → Some message ≡ option_map (λ (received : Received). received.message) o → come' ≡ behind o come
+          → HasGoneOn K r t after come come' result old new
+      by None is found rest = absurd cc
+      by (Some received) is found rest =
+          let same : message ≡ received.message = cc in
+          subst (λ (bytes : List ℕ). HasGoneOn K r t after come bytes result old new) (sym rest)
+          (heard_by old new come received after result is
+          (subst (λ (m : Message). IfOk result (λ stays. stays ≡ not (is_end m))) same last)
+          (subst (λ (m : Message). OnOk result (after ≡ after_message r t m)) same goes) no_read
+          (subst (λ (m : Message). HasSaid K (is_ok result) (said_to r t m) old new) same says))
+
+  -- nothing is to be said to bytes that hold no message
+  none_said : (come : List ℕ) → message_in come ≡ None → all_said r t come ≡ []
+  none_said come nothing = ap (λ (all : List Message). said_to_all r t all) (messages_over come nothing) ∙ said_none r t
+
+  none_more : (come : List ℕ) → message_in come ≡ None → all_said r t (come ++ []) ≡ []
+  none_more come nothing = ap (λ (bytes : List ℕ). all_said r t bytes) (append-nil come) ∙ none_said come nothing
+
+  -- what a read leaves of it
+  came_by : (old new : C) (come come' : List ℕ) (result : Result Bool TalkEnd) → message_in come ≡ None → HasCome K come come' result old new
+      → HasGoneOn K r t t come come' result old new
+  came_by old new come come' (Ok true) nothing (piece, more, made, comes) = record {
+    transfers = Came piece ∷ [];
+    made = made;
+    comes = subst (λ (bytes : List ℕ). Consumes (K.coming old) (K.coming new) bytes) (sym (append-nil piece)) comes;
+    prompt = (sym (none_said come nothing), tt);
+    rest = λ later. ap (λ (bytes : List ℕ). all_said r t (come ++ bytes ++ later)) (append-nil piece)
+        ∙ ap (λ (bytes : List ℕ). all_said r t (bytes ++ later)) (sym more);
+  }
+  came_by old new come come' (Ok false) nothing (made, comes, over) = record {
+    transfers = Came [] ∷ [];
+    made = made;
+    comes = comes;
+    prompt = (sym (none_said come nothing), tt);
+    said = sym (none_more come nothing);
+    done = λ none left told. sym (ap (λ (bytes : List ℕ). all_said r t (come ++ bytes)) (consumes_all (K.coming old) (K.coming new) left told comes over)
+        ∙ none_more come nothing);
+  }
+  came_by old new come come' (Err ReadFault) nothing (made, kept) = record {
+    transfers = [];
+    made = made;
+    comes = consumes_kept (K.coming old) (K.coming new) kept;
+    prompt = tt;
+    said = sym (none_more come nothing);
+    done = λ none. absurd cc;
+  }
+  came_by old new come come' (Err WriteFault) nothing came = absurd came
+  came_by old new come come' (Err NoMemory) nothing (piece, made, comes) = record {
+    transfers = Came piece ∷ [];
+    made = made;
+    comes = subst (λ (bytes : List ℕ). Consumes (K.coming old) (K.coming new) bytes) (sym (append-nil piece)) comes;
+    prompt = (sym (none_said come nothing), tt);
+    said = (all_said r t (come ++ (piece ++ [])), refl);
+    done = λ none. absurd cc;
   }
 
-  heard_last : {S : Type 0} (stands_for : S → List ℕ → Type 0) (old new : S) (come left : List ℕ) (received : Received)
-      → message_in come ≡ Some received → is_end received.message ≡ true → Appends stands_for old new (said_to r t received.message)
-      → Appends stands_for old new (all_said r t (come ++ left))
-  heard_last stands_for old new come left received is ends said =
-      subst (λ (text : List ℕ). Appends stands_for old new text)
-      (sym (ap (λ (all : List Message). said_to_all r t all) (messages_heard come left received is)
-      ∙ said_next r t received.message (messages_in (drop received.length come ++ left))
-      ∙ rw (ends) (append-nil (said_to r t received.message)))) said
+  pub came : (old new : C) (come mid come' : List ℕ) (result : Result Bool TalkEnd)
+      → None ≡ option_map (λ (received : Received). received.message) (message_in come) → mid ≡ behind (message_in come) come
+      → HasCome K mid come' result old new → HasGoneOn K r t t come come' result old new
+  came old new come mid come' result none rest has = by (message_in come) refl none rest
+    where
+      by : (o : Option Received) → message_in come ≡ o → None ≡ option_map (λ (received : Received). received.message) o → mid ≡ behind o come
+          → HasGoneOn K r t t come come' result old new
+      by None is none rest = came_by old new come come' result is (subst (λ (bytes : List ℕ). HasCome K bytes come' result old new) rest has)
+      by (Some received) is none rest = absurd cc
 
-  -- so what answering a message leaves of the talk
-  pub heard : {S E : Type 0} (stands_for : S → List ℕ → Type 0) (old new : S) (come left : List ℕ) (remaining : Option (List ℕ)) (received : Received) (after : TalkState)
-      (result : Result Bool E) → message_in come ≡ Some received → remaining ≡ Some left
-      → IfOk result (λ stays. stays ≡ not (is_end received.message)) → OnOk result (after ≡ after_message r t received.message)
-      → OnOk result (Appends stands_for old new (said_to r t received.message))
-      → IfOk result (HasTalked (Appends stands_for old new) remaining r t after (come ++ left) (drop received.length come))
-  heard stands_for old new come left remaining received after (Err e) is remains last goes said = tt
-  heard stands_for old new come left remaining received after (Ok true) is remains last goes said =
-      heard_stays stands_for old new come left remaining received after is remains (not_true (is_end received.message) last) goes said
-  heard stands_for old new come left remaining received after (Ok false) is remains last goes said =
-      heard_last stands_for old new come left received is (not_false (is_end received.message) last) said
-
-  -- more bytes have come
-  came_more : {S : Type 0} (stands_for : S → List ℕ → Type 0) (sink : S) (come after left : List ℕ) (remaining : Option (List ℕ))
-      → IsReceived left come after remaining true → TalkedTo (Appends stands_for sink sink) remaining r t t (come ++ left) after
-  came_more stands_for sink come after left remaining (rest, remains, same) = record {
-    left = rest;
-    text = [];
-    remains = remains;
-    appends = append_none stands_for sink;
-    rest = ap (λ (bytes : List ℕ). all_said r t bytes) (sym same);
+  -- memory was wanting before anything was transferred
+  pub stopped : (c : C) (come : List ℕ) → HasTalked K r t come (Some NoMemory) c c
+  stopped c come = record {
+    transfers = [];
+    made = appends_none K.made c;
+    comes = consumes_none (K.coming c);
+    prompt = tt;
+    said = (all_said r t (come ++ []), refl);
+    done = λ none. absurd cc;
   }
 
-  -- or none comes any more
-  came_none : {S : Type 0} (stands_for : S → List ℕ → Type 0) (sink : S) (come left : List ℕ)
-      → message_in come ≡ None → left ≡ [] → Appends stands_for sink sink (all_said r t (come ++ left))
-  came_none stands_for sink come left nothing over =
-      subst (λ (text : List ℕ). Appends stands_for sink sink text)
-      (sym (ap (λ (rest : List ℕ). all_said r t (come ++ rest)) over ∙ ap (λ (bytes : List ℕ). all_said r t bytes) (append-nil come)
-      ∙ ap (λ (all : List Message). said_to_all r t all) (messages_over come nothing) ∙ said_none r t))
-      (append_none stands_for sink)
-
-  -- so what a read leaves of it
-  pub came : {S E : Type 0} (stands_for : S → List ℕ → Type 0) (sink : S) (come after left : List ℕ) (remaining : Option (List ℕ)) (result : Result Bool E)
-      → message_in come ≡ None → IfOk result (IsReceived left come after remaining)
-      → IfOk result (HasTalked (Appends stands_for sink sink) remaining r t t (come ++ left) after)
-  came stands_for sink come after left remaining (Err e) nothing received = tt
-  came stands_for sink come after left remaining (Ok true) nothing received = came_more stands_for sink come after left remaining received
-  came stands_for sink come after left remaining (Ok false) nothing received = came_none stands_for sink come left nothing received
-
-  -- from a part of a talk on
-  pub talked_then : {S : Type 0} (stands_for : S → List ℕ → Type 0) (old mid new : S) (remaining : Option (List ℕ)) (after last : TalkState) (bytes come come' left : List ℕ) (text : List ℕ)
-      → all_said r t bytes ≡ text ++ all_said r after (come ++ left) → Appends stands_for old mid text
-      → TalkedTo (Appends stands_for mid new) remaining r after last (come ++ left) come'
-      → TalkedTo (Appends stands_for old new) remaining r t last bytes come'
-  talked_then stands_for old mid new remaining after last bytes come come' left text is appends next = record {
-    left = next.left;
-    text = text ++ next.text;
-    remains = next.remains;
-    appends = appends_then stands_for old mid new text next.text appends next.appends;
-    rest = is ∙ ap (λ (rest : List ℕ). text ++ rest) next.rest ∙ sym (append_assoc text next.text (all_said r last (come' ++ next.left)));
+  -- no part of a talk yet
+  pub begins : (c : C) (come : List ℕ) → TalkedTo K r t t come come c c
+  begins c come = record {
+    transfers = [];
+    made = appends_none K.made c;
+    comes = consumes_none (K.coming c);
+    prompt = tt;
+    rest = λ later. ap (λ (front : List ℕ). all_said r t (front ++ later)) (append-nil come);
   }
 
-  pub talked_over : {S : Type 0} (stands_for : S → List ℕ → Type 0) (old mid new : S) (after : TalkState) (bytes come left : List ℕ) (text : List ℕ)
-      → all_said r t bytes ≡ text ++ all_said r after (come ++ left) → Appends stands_for old mid text
-      → Appends stands_for mid new (all_said r after (come ++ left)) → Appends stands_for old new (all_said r t bytes)
-  talked_over stands_for old mid new after bytes come left text is appends last =
-      subst (λ (all : List ℕ). Appends stands_for old new all) (sym is)
-      (appends_then stands_for old mid new text (all_said r after (come ++ left)) appends last)
+  -- two parts
+  module _ (old mid new : C) (t' : TalkState) (come come' : List ℕ) where
+    prompt_on : (first : TalkedTo K r t t' come come' old mid) (b : List Transfer) → IsPrompt r t' come' [] b → IsPrompt r t come [] (first.transfers ++ b)
+    prompt_on first b next =
+        let bytes = came_in first.transfers in
+        prompt_then r t come [] first.transfers b first.prompt
+        (subst (λ (front : List ℕ). IsPrompt r t front (sent_in first.transfers) b) (append-nil (come ++ bytes))
+        (subst (λ (text : List ℕ). IsPrompt r t ((come ++ bytes) ++ []) text b) (append-nil (sent_in first.transfers))
+        (prompt_moved r t t' (come ++ bytes) (sent_in first.transfers) come' [] [] b
+        first.rest
+        (subst (λ (front : List ℕ). IsPrompt r t' front [] b) (sym (append-nil come')) next))))
 
-  pub talked_none : {S : Type 0} (stands_for : S → List ℕ → Type 0) (sink : S) (come left : List ℕ)
-      → TalkedTo (Appends stands_for sink sink) (Some left) r t t (come ++ left) come
-  talked_none stands_for sink come left = record {
-    left = left;
-    text = [];
-    remains = refl;
-    appends = append_none stands_for sink;
-    rest = refl;
-  }
+    came_both : (a b : List Transfer) → come ++ came_in (a ++ b) ≡ (come ++ came_in a) ++ came_in b
+    came_both a b = ap (λ (bytes : List ℕ). come ++ bytes) (came_append a b) ∙ sym (append_assoc come (came_in a) (came_in b))
 
--- a piece that a read gave
-pub received_some : (left come piece : List ℕ) (remaining : Option (List ℕ)) → Consumes (Some left) remaining piece
-    → IsReceived left come (come ++ piece) remaining true
-received_some left come piece None gone = absurd gone
-received_some left come piece (Some rest) is = (rest, refl, append_assoc come piece rest ∙ ap (λ (bytes : List ℕ). come ++ bytes) (sym is))
+    came_on : (a b : List Transfer) (later : List ℕ) → (come ++ came_in (a ++ b)) ++ later ≡ (come ++ came_in a) ++ (came_in b ++ later)
+    came_on a b later = ap (λ (bytes : List ℕ). bytes ++ later) (came_both a b) ∙ append_assoc (come ++ came_in a) (came_in b) later
 
-pub received_none : (left come after piece : List ℕ) (remaining : Option (List ℕ)) → Consumes (Some left) remaining piece → piece ≡ [] → IsAtEnd remaining
-    → IsReceived left come after remaining false
-received_none left come after piece None gone none over = absurd gone
-received_none left come after piece (Some rest) is none over = is ∙ ap (λ (bytes : List ℕ). bytes ++ rest) none ∙ over
+    comes_on : (a b : List Transfer) → Consumes (K.coming old) (K.coming mid) (came_in a) → Consumes (K.coming mid) (K.coming new) (came_in b)
+        → Consumes (K.coming old) (K.coming new) (came_in (a ++ b))
+    comes_on a b first next = subst (λ (bytes : List ℕ). Consumes (K.coming old) (K.coming new) bytes) (sym (came_append a b))
+        (consumes_then (K.coming old) (K.coming mid) (K.coming new) (came_in a) (came_in b) first next)
 
-pub received_later : (left come : List ℕ) (remaining : Option (List ℕ)) → Keeps (Some left) remaining → IsReceived left come come remaining true
-received_later left come None gone = absurd gone
-received_later left come (Some rest) is = (rest, refl, ap (λ (bytes : List ℕ). come ++ bytes) is)
+    pub talked_then : (t'' : TalkState) (come'' : List ℕ) → TalkedTo K r t t' come come' old mid → TalkedTo K r t' t'' come' come'' mid new
+        → TalkedTo K r t t'' come come'' old new
+    talked_then t'' come'' first next = record {
+      transfers = first.transfers ++ next.transfers;
+      made = appends_then K.made old mid new first.transfers next.transfers first.made next.made;
+      comes = comes_on first.transfers next.transfers first.comes next.comes;
+      prompt = prompt_on first next.transfers next.prompt;
+      rest = λ later. ap (λ (bytes : List ℕ). all_said r t bytes) (came_on first.transfers next.transfers later)
+          ∙ first.rest (came_in next.transfers ++ later)
+          ∙ ap (λ (bytes : List ℕ). sent_in first.transfers ++ all_said r t' bytes) (sym (append_assoc come' (came_in next.transfers) later))
+          ∙ ap (λ (text : List ℕ). sent_in first.transfers ++ text) (next.rest later)
+          ∙ sym (append_assoc (sent_in first.transfers) (sent_in next.transfers) (all_said r t'' (come'' ++ later)))
+          ∙ ap (λ (text : List ℕ). text ++ all_said r t'' (come'' ++ later)) (sym (sent_append first.transfers next.transfers));
+    }
 
-pub ruleset talkings = (heard, came, talked_then, talked_over, talked_none)
+    said_on : (first : TalkedTo K r t t' come come' old mid) (b : List Transfer)
+        → all_said r t (come ++ came_in (first.transfers ++ b)) ≡ sent_in first.transfers ++ all_said r t' (come' ++ came_in b)
+    said_on first b = ap (λ (bytes : List ℕ). all_said r t bytes) (came_both first.transfers b) ∙ first.rest (came_in b)
 
-pub ruleset pieces = (received_some, received_none, received_later)
+    pub talked_over : (end : Option TalkEnd) → TalkedTo K r t t' come come' old mid → HasTalked K r t' come' end mid new → HasTalked K r t come end old new
+    talked_over end first next = record {
+      transfers = first.transfers ++ next.transfers;
+      made = appends_then K.made old mid new first.transfers next.transfers first.made next.made;
+      comes = comes_on first.transfers next.transfers first.comes next.comes;
+      prompt = prompt_on first next.transfers next.prompt;
+      said = subst (λ (text : List ℕ). IsPart (is_whole end) (sent_in (first.transfers ++ next.transfers)) text) (sym (said_on first next.transfers))
+          (subst (λ (part : List ℕ). IsPart (is_whole end) part (sent_in first.transfers ++ all_said r t' (come' ++ came_in next.transfers)))
+          (sym (sent_append first.transfers next.transfers))
+          (part_after (is_whole end) (sent_in first.transfers) (sent_in next.transfers) (all_said r t' (come' ++ came_in next.transfers)) next.said));
+      done = λ none left told. done_on first next none left (consumes_some (K.coming old) (K.coming mid) (came_in first.transfers) left told first.comes);
+    }
+      where
+        done_on : (first : TalkedTo K r t t' come come' old mid) (next : HasTalked K r t' come' end mid new) → end ≡ None → (left : List ℕ)
+            → (rest : List ℕ) × (K.coming mid ≡ Some rest) × (left ≡ came_in first.transfers ++ rest)
+            → sent_in (first.transfers ++ next.transfers) ≡ all_said r t (come ++ left)
+        done_on first next none left (rest, told, is) = sent_append first.transfers next.transfers
+            ∙ ap (λ (text : List ℕ). sent_in first.transfers ++ text) (next.done none rest told)
+            ∙ sym (ap (λ (bytes : List ℕ). all_said r t (come ++ bytes)) is
+            ∙ ap (λ (bytes : List ℕ). all_said r t bytes) (sym (append_assoc come (came_in first.transfers) rest)) ∙ first.rest rest)
+
+    pub ended_then : (r' : Recording) (end : Option TalkEnd) → r' ≡ r → TalkedTo K r t t' come come' old mid → HasTalked K r' t' come' end mid new
+        → HasTalked K r t come end old new
+    ended_then r' end same first next = talked_over end first (subst (λ (rec : Recording). HasTalked K rec t' come' end mid new) same next)
+
+pub ruleset talkings = (heard, came, stopped, begins, talked_then, talked_over)
+
+pub ruleset sayings = (says_sent, says_none, says_empty)
+
+-- what a read of a connection leaves
+module _ {C : Type 0} (K : connections.Ghosts C) (old new : C) where
+  pub came_piece : (come come' piece : List ℕ) → come' ≡ come ++ piece → Appends K.made old new (Came piece ∷ []) → Consumes (K.coming old) (K.coming new) piece
+      → HasCome K come come' (Ok true) old new
+  came_piece come come' piece is made comes = (piece, is, made, comes)
+
+pub ruleset comings = (came_piece)

@@ -1,5 +1,6 @@
 -- What a stub says to what gdb says (manual of gdb, "Overview" of the remote protocol).
-use Rattle.std.specs.Prelude.{◌≡◌, ℕ, Bool, true, false, List, [], ◌∷◌, ◌++◌, codes, Option, Some, if◌then◌else◌}
+use Rattle.std.specs.Prelude.{◌≡◌, ℕ, ⊤, Bool, true, false, List, [], ◌∷◌, ◌++◌, codes, Option, Some, None, Result, Ok, Err, if◌then◌else◌}
+use Rattle.std.specs.Io.KnownBytes.{Consumes, IsAtEnd}
 use Rattle.gdb_commands.specs.declared.commands.Command.{Command}
 use Rattle.gdb_commands.specs.declared.commands.Command.TheVariants as command
 use Rattle.gdb_commands.specs.Commands.{command_in}
@@ -7,9 +8,16 @@ use Rattle.gdb_packets.specs.declared.messages.Message.{Message}
 use Rattle.gdb_packets.specs.declared.messages.Message.TheVariants.{Packet, BadSum, BadEscape, Nack}
 use Rattle.gdb_packets.specs.Frames.{framed}
 use Rattle.gdb_packets.specs.Streams.{messages_in}
+use Rattle.outside.specs.Connections.{came_in, sent_in}
+use Rattle.outside.specs.Pieces.{Appends}
+use Rattle.outside.specs.declared.connections.Connection as connections
+use Rattle.outside.specs.declared.connections.Transfer.{Transfer}
+use Rattle.outside.specs.declared.connections.Transfer.TheVariants.{Came, Sent}
 use Rattle.gdb_stub.specs.Answers.{answer_to}
 use Rattle.gdb_stub.specs.Sessions.{state_after, state_of, Recording, SessionState}
 use Rattle.gdb_stub.specs.declared.talks.Talk.{Talk}
+use Rattle.gdb_stub.specs.declared.talks.TalkEnd.{TalkEnd}
+use Rattle.gdb_stub.specs.declared.talks.TalkEnd.TheVariants.{ReadFault, WriteFault, NoMemory}
 
 -- a session, and the packet that was sent last
 pub record TalkState : Type 0 where
@@ -70,32 +78,94 @@ all_said r t bytes = said_to_all r t (messages_in bytes)
 abbrev pub at_begin : TalkState
 at_begin = record { session = record { place = 0; pcs = []; watched = [] }; sent = [] }
 
--- all that a stub says to a stream of bytes
-unfoldable pub talk : Recording → List ℕ → List ℕ
-talk r bytes = all_said r at_begin bytes
-
 -- what contracts see of a talk
 abbrev pub talk_of : {Y : Type 0} → Talk Y → TalkState
 talk_of t = record { session = state_of t.session; sent = t.sent.items }
 
--- a piece of what was left of a stream stands behind what had come, if there is more
-abbrev pub IsReceived : List ℕ → List ℕ → List ℕ → Option (List ℕ) → Bool → Type 0
-IsReceived left come after remaining true =
-    (rest : List ℕ) × (remaining ≡ Some rest) × (after ++ rest ≡ come ++ left)
-IsReceived left come after remaining false = left ≡ []
+-- no read is among transfers
+abbrev pub AreSent : List Transfer → Type 0
+AreSent [] = ⊤
+AreSent (Came piece ∷ rest) = ⊥
+AreSent (Sent piece ∷ rest) = AreSent rest
 
--- after a part of a talk about bytes that came or will come: some of what is to be said has been said, and what
--- is to be said from there on is the rest
-pub record TalkedTo (said : List ℕ → Type 0) (remaining : Option (List ℕ)) (r : Recording)
-    (old new : TalkState) (bytes come : List ℕ) : Type 0 where
-  pub left : List ℕ
-  pub text : List ℕ
-  pub remains : remaining ≡ Some left
-  pub appends : said text
-  pub rest : all_said r old bytes ≡ text ++ all_said r new (come ++ left)
+-- each read among transfers was made only when all that had come before it was answered: this came before the
+-- first of them, and this was said
+abbrev pub IsPrompt : Recording → TalkState → List ℕ → List ℕ → List Transfer → Type 0
+IsPrompt r t come said [] = ⊤
+IsPrompt r t come said (Came piece ∷ rest) =
+    (said ≡ all_said r t come) × IsPrompt r t (come ++ piece) said rest
+IsPrompt r t come said (Sent piece ∷ rest) = IsPrompt r t come (said ++ piece) rest
 
--- the same where gdb stays, and else all has been said
-abbrev pub HasTalked : (List ℕ → Type 0) → Option (List ℕ) → Recording → TalkState → TalkState
-    → List ℕ → List ℕ → Bool → Type 0
-HasTalked said remaining r old new bytes come true = TalkedTo said remaining r old new bytes come
-HasTalked said remaining r old new bytes come false = said (all_said r old bytes)
+-- a text begins with this
+abbrev pub IsFront : List ℕ → List ℕ → Type 0
+IsFront front text = (rest : List ℕ) × (front ++ rest ≡ text)
+
+-- this is all of a text, or otherwise a front of it
+abbrev pub IsPart : Bool → List ℕ → List ℕ → Type 0
+IsPart true part text = part ≡ text
+IsPart false part text = IsFront part text
+
+-- what was said of a text at an end of a talk: all of it where gdb has left, the stream has ended or a read
+-- has failed, and otherwise a front of it
+abbrev pub is_whole : Option TalkEnd → Bool
+is_whole None = true
+is_whole (Some ReadFault) = true
+is_whole (Some WriteFault) = false
+is_whole (Some NoMemory) = false
+
+-- the end of a talk, if it has ended before gdb left
+abbrev pub end_of : {A : Type 0} → Result A TalkEnd → Option TalkEnd
+end_of (Ok a) = None
+end_of (Err end) = Some end
+
+-- a text was sent, all of it or otherwise a front of it, and nothing was read
+pub record HasSaid {C : Type 0} (K : connections.Ghosts C) (all : Bool) (text : List ℕ) (old new : C)
+    : Type 0 where
+  pub transfers : List Transfer
+  pub made : Appends K.made old new transfers
+  pub kept : K.coming new ≡ K.coming old
+  pub silent : AreSent transfers
+  pub said : IsPart all (sent_in transfers) text
+
+-- what a read leaves of a connection and of the bytes that have come: more of these, or the end
+abbrev pub HasCome : {C : Type 0} → connections.Ghosts C → List ℕ → List ℕ → Result Bool TalkEnd
+    → C → C → Type 0
+HasCome K come come' (Ok true) old new = (piece : List ℕ) × (come' ≡ come ++ piece)
+    × Appends K.made old new (Came piece ∷ []) × Consumes (K.coming old) (K.coming new) piece
+HasCome K come come' (Ok false) old new = Appends K.made old new (Came [] ∷ [])
+    × Consumes (K.coming old) (K.coming new) [] × IsAtEnd (K.coming new)
+HasCome K come come' (Err ReadFault) old new =
+    Appends K.made old new [] × (K.coming new ≡ K.coming old)
+HasCome K come come' (Err WriteFault) old new = ⊥
+HasCome K come come' (Err NoMemory) old new = (piece : List ℕ)
+    × Appends K.made old new (Came piece ∷ []) × Consumes (K.coming old) (K.coming new) piece
+
+-- a part of a talk: what was transferred; and whatever comes later, what is to be said is what was said in this
+-- part, and then what is to be said from there on
+pub record TalkedTo {C : Type 0} (K : connections.Ghosts C) (r : Recording) (t t' : TalkState)
+    (come come' : List ℕ) (old new : C) : Type 0 where
+  pub transfers : List Transfer
+  pub made : Appends K.made old new transfers
+  pub comes : Consumes (K.coming old) (K.coming new) (came_in transfers)
+  pub prompt : IsPrompt r t come [] transfers
+  pub rest : (later : List ℕ) → all_said r t (come ++ came_in transfers ++ later)
+      ≡ sent_in transfers ++ all_said r t' (come' ++ later)
+
+-- a talk up to its end: what was transferred, each read only when all that had come was answered; what was
+-- said to what came; and where it was done, that nothing more is to be said to what is left
+pub record HasTalked {C : Type 0} (K : connections.Ghosts C) (r : Recording) (t : TalkState) (come : List ℕ)
+    (end : Option TalkEnd) (old new : C) : Type 0 where
+  pub transfers : List Transfer
+  pub made : Appends K.made old new transfers
+  pub comes : Consumes (K.coming old) (K.coming new) (came_in transfers)
+  pub prompt : IsPrompt r t come [] transfers
+  pub said : IsPart (is_whole end) (sent_in transfers) (all_said r t (come ++ came_in transfers))
+  pub done : end ≡ None → (left : List ℕ) → K.coming old ≡ Some left
+      → sent_in transfers ≡ all_said r t (come ++ left)
+
+-- a step of a talk: gdb stays, or it has ended
+abbrev pub HasGoneOn : {C : Type 0} → connections.Ghosts C → Recording → TalkState → TalkState
+    → List ℕ → List ℕ → Result Bool TalkEnd → C → C → Type 0
+HasGoneOn K r t t' come come' (Ok true) old new = TalkedTo K r t t' come come' old new
+HasGoneOn K r t t' come come' (Ok false) old new = HasTalked K r t come None old new
+HasGoneOn K r t t' come come' (Err end) old new = HasTalked K r t come (Some end) old new

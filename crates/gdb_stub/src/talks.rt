@@ -1,21 +1,19 @@
-// The talk with gdb, by streams of bytes.
+// The talk with gdb, on a connection.
 
-ghost use Rattle.std.specs.Prelude.{◌≡◌, ◌≤◌, ◌++◌, [], List, ℕ, not, codes, drop, length, IfOk, IsErrOf, OnOk};
+ghost use Rattle.std.specs.Prelude.{◌≡◌, ◌≤◌, ◌++◌, [], not, codes, is_ok, IfOk, IsErrOf, OnOk};
 ghost use Rattle.gdb_commands.specs.Commands.{command_in};
 ghost use Rattle.outside.specs.Faults.{Rose};
-ghost use Rattle.outside.specs.Pieces.{Appends};
 ghost use Rattle.gdb_stub.specs.Sessions.{recording_of, state_after, state_of, IsHeld, KeepsSession};
-ghost use Rattle.gdb_stub.specs.Talks.{after_command, after_message, all_said, is_end, is_kill, is_last, packet_for, said_to, said_to_command, talk_of, HasTalked, IsReceived};
+ghost use Rattle.gdb_stub.specs.Talks.{after_command, after_message, end_of, is_end, is_kill, is_last, packet_for, said_to, said_to_command, talk_of, HasGoneOn, HasCome, HasSaid, HasTalked};
 ghost use Rattle.gdb_stub.specs.declared.talks.TalkEnd.TheVariants as talk_end;
 
 use crate::sessions::Session;
 use gdb_commands::{Command, command_of};
-use gdb_packets::{Message, frame, read_message};
+use gdb_packets::{Message, Unread, frame};
 use no_memory::NoMemory;
-use outside::{Sink, SinkFault};
+use outside::{Connection, SinkFault};
 use run_positions::Runner;
 use std::alloc::Global;
-use std::io::{ErrorKind, Read};
 
 // How many bytes are read at once.
 const PIECE: usize = 4_096;
@@ -23,12 +21,12 @@ const PIECE: usize = 4_096;
 // More bytes than a packet may have.
 const MOST: usize = 1 << 24;
 
-/// Why a talk has ended before gdb left.
+/// Why a talk has ended before gdb left or its stream ended.
 #[derive(Clone, Copy, PartialEq, Eq)]
 pub enum TalkEnd {
     ReadFault,
     WriteFault,
-    /// Memory was wanting, or a packet has more than 2^24 bytes.
+    /// Out of memory, or a packet has more than 2^24 bytes.
     NoMemory,
 }
 
@@ -52,7 +50,7 @@ impl From<SinkFault> for TalkEnd {
 #[derive(Drop)]
 pub struct Talk<R> {
     session: Session<R>,
-    come: Vec<u8>,
+    come: Unread,
     sent: Vec<u8>,
 }
 
@@ -82,38 +80,24 @@ fn acknowledged(alloc: Global, packet: &[u8]) -> Result<Vec<u8>, NoMemory>
     Ok(said)
 }
 
-// All bytes but so many of the first.
-fn behind(alloc: Global, bytes: &[u8], n: usize) -> Result<Vec<u8>, NoMemory>
-    requires { n ≤ length bytes.now }
-    ensures { IfOk result (λ rest. rest.items ≡ drop n bytes.now) }
-{
-    let rest = Vec::from_slice(alloc, &bytes[n..])?;
-    Ok(rest)
-}
-
 // A piece of what comes, behind what has come; whether there is more.
-#[tactic(auto, using(crate::proofs::Talking::pieces))]
-fn receive<I: Read>(input: &mut I, come: &mut Vec<u8>) -> Result<bool, TalkEnd>
-    ensures more { (left : List ℕ) → I.remaining input.old ≡ Some left
-        → IfOk result (IsReceived left come.old.items come.new.items (I.remaining input.new)) }
-    ensures read { ¬ IsErrOf result TalkEnd.WriteFault }
+#[tactic(auto, using(crate::proofs::Talking::comings))]
+fn receive<C: Connection>(connection: &mut C, come: &mut Unread) -> Result<bool, TalkEnd>
+    ensures come { HasCome C.Connection come.old come.new result connection.old connection.new }
+    ensures read_cause { IsErrOf result TalkEnd.ReadFault
+        → Rose (C.read_faults connection.old) (C.read_faults connection.new) }
+    ensures read_count { C.read_faults connection.old ≤ C.read_faults connection.new }
+    ensures write { C.write_faults connection.new ≡ C.write_faults connection.old }
 {
-    let mut piece = [0; PIECE];
-    match input.read(&mut piece) {
-        Ok(n) => {
-            if come.extend_from_slice(&piece[..n]).is_err() {
-                return Err(TalkEnd::NoMemory);
-            }
-            Ok(n > 0)
-        }
-        Err(error) => {
-            if error.kind() == ErrorKind::Interrupted {
-                Ok(true)
-            } else {
-                Err(TalkEnd::ReadFault)
-            }
-        }
+    let mut room = [0; PIECE];
+    let Ok(n) = connection.receive(&mut room) else {
+        return Err(TalkEnd::ReadFault);
+    };
+    if n == 0 {
+        return Ok(false);
     }
+    come.add(&room[..n])?;
+    Ok(true)
 }
 
 impl<R: Runner + Drop> Talk<R> {
@@ -121,11 +105,11 @@ impl<R: Runner + Drop> Talk<R> {
     pub fn new(alloc: Global, session: Session<R>) -> Talk<R>
         ensures session { result.session ≡ session }
         ensures talk { talk_of result ≡ record { session = state_of session; sent = [] } }
-        ensures come { result.come.items ≡ [] }
+        ensures come { result.come ≡ [] }
     {
         Talk {
             session,
-            come: Vec::new(alloc),
+            come: Unread::new(alloc),
             sent: Vec::new(alloc),
         }
     }
@@ -138,7 +122,7 @@ impl<R: Runner + Drop> Talk<R> {
             ≡ state_after (recording_of R.Runner self.old.session) (state_of self.old.session) command) }
         ensures packet { IfOk result (λ packet. packet.items
             ≡ packet_for (recording_of R.Runner self.old.session) (state_of self.old.session) command) }
-        ensures come { self.new.come.items ≡ self.old.come.items }
+        ensures come { self.new.come ≡ self.old.come }
     {
         let answer = self.session.answer(alloc, command)?;
         if is_kill(command) {
@@ -148,112 +132,117 @@ impl<R: Runner + Drop> Talk<R> {
     }
 
     // Answers a packet; whether gdb stays.
-    fn hear_packet<O: Sink>(
+    #[tactic(auto, using(crate::proofs::Talking::sayings))]
+    fn hear_packet<C: Connection>(
         &mut self,
         alloc: Global,
         payload: &[u8],
-        out: &mut O,
+        connection: &mut C,
     ) -> Result<bool, TalkEnd>
         requires held { IsHeld R.Runner self.old.session }
         ensures keeps { KeepsSession R.Runner self.old.session self.new.session }
-        ensures said { OnOk result (Appends O.stands_for out.old out.new
-            (said_to_command (recording_of R.Runner self.old.session) (talk_of self.old)
-            (command_in payload.now))) }
+        ensures said { HasSaid C.Connection (is_ok result) (said_to_command
+            (recording_of R.Runner self.old.session) (talk_of self.old) (command_in payload.now))
+            connection.old connection.new }
         ensures talk { OnOk result (talk_of self.new ≡ after_command
             (recording_of R.Runner self.old.session) (talk_of self.old) (command_in payload.now)) }
         ensures last { IfOk result (λ stays. stays ≡ not (is_last (command_in payload.now))) }
-        ensures come { self.new.come.items ≡ self.old.come.items }
-        ensures cause { IsErrOf result TalkEnd.WriteFault → Rose (O.faults out.old) (O.faults out.new) }
-        ensures count { O.faults out.old ≤ O.faults out.new }
+        ensures come { self.new.come ≡ self.old.come }
+        ensures no_read { ¬ IsErrOf result TalkEnd.ReadFault }
+        ensures write_cause { IsErrOf result TalkEnd.WriteFault
+            → Rose (C.write_faults connection.old) (C.write_faults connection.new) }
+        ensures write_count { C.write_faults connection.old ≤ C.write_faults connection.new }
+        ensures read { C.read_faults connection.new ≡ C.read_faults connection.old }
     {
         let command = command_of(alloc, payload)?;
         self.sent = self.obey(alloc, command)?;
         let said = acknowledged(alloc, self.sent.as_slice())?;
-        out.put(said.as_slice())?;
+        connection.send(said.as_slice())?;
         Ok(!is_last(command))
     }
 
     // Answers a message; whether gdb stays.
-    fn hear<O: Sink>(
+    #[tactic(auto, using(crate::proofs::Talking::sayings))]
+    fn hear<C: Connection>(
         &mut self,
         alloc: Global,
         message: Message,
-        out: &mut O,
+        connection: &mut C,
     ) -> Result<bool, TalkEnd>
         requires held { IsHeld R.Runner self.old.session }
         ensures keeps { KeepsSession R.Runner self.old.session self.new.session }
-        ensures said { OnOk result (Appends O.stands_for out.old out.new
-            (said_to (recording_of R.Runner self.old.session) (talk_of self.old) message)) }
+        ensures said { HasSaid C.Connection (is_ok result)
+            (said_to (recording_of R.Runner self.old.session) (talk_of self.old) message)
+            connection.old connection.new }
         ensures talk { OnOk result (talk_of self.new ≡ after_message
             (recording_of R.Runner self.old.session) (talk_of self.old) message) }
         ensures last { IfOk result (λ stays. stays ≡ not (is_end message)) }
-        ensures come { self.new.come.items ≡ self.old.come.items }
-        ensures cause { IsErrOf result TalkEnd.WriteFault → Rose (O.faults out.old) (O.faults out.new) }
-        ensures count { O.faults out.old ≤ O.faults out.new }
+        ensures come { self.new.come ≡ self.old.come }
+        ensures no_read { ¬ IsErrOf result TalkEnd.ReadFault }
+        ensures write_cause { IsErrOf result TalkEnd.WriteFault
+            → Rose (C.write_faults connection.old) (C.write_faults connection.new) }
+        ensures write_count { C.write_faults connection.old ≤ C.write_faults connection.new }
+        ensures read { C.read_faults connection.new ≡ C.read_faults connection.old }
     {
         match message {
-            Message::Packet(payload) => self.hear_packet(alloc, payload.as_slice(), out),
+            Message::Packet(payload) => self.hear_packet(alloc, payload.as_slice(), connection),
             Message::BadSum | Message::BadEscape => {
-                out.put(WRONG)?;
+                connection.send(WRONG)?;
                 Ok(true)
             }
             Message::Nack => {
-                out.put(self.sent.as_slice())?;
+                connection.send(self.sent.as_slice())?;
                 Ok(true)
             }
             Message::Ack | Message::Interrupt | Message::Stray => Ok(true),
         }
     }
 
-    // Answers what has come, or waits for more; whether gdb stays.
+    // Answers a message that has come, or waits for more where none is left; whether gdb stays.
     #[tactic(auto, using(crate::proofs::Talking::talkings))]
-    fn go_on<I: Read, O: Sink>(
-        &mut self,
-        alloc: Global,
-        input: &mut I,
-        out: &mut O,
-    ) -> Result<bool, TalkEnd>
+    fn go_on<C: Connection>(&mut self, alloc: Global, connection: &mut C) -> Result<bool, TalkEnd>
         requires held { IsHeld R.Runner self.old.session }
         ensures keeps { KeepsSession R.Runner self.old.session self.new.session }
-        ensures talked { (left : List ℕ) → I.remaining input.old ≡ Some left → IfOk result
-            (HasTalked (Appends O.stands_for out.old out.new) (I.remaining input.new)
-            (recording_of R.Runner self.old.session) (talk_of self.old) (talk_of self.new)
-            (self.old.come.items ++ left) self.new.come.items) }
-        ensures cause { IsErrOf result TalkEnd.WriteFault → Rose (O.faults out.old) (O.faults out.new) }
-        ensures count { O.faults out.old ≤ O.faults out.new }
+        ensures talked { HasGoneOn C.Connection (recording_of R.Runner self.old.session)
+            (talk_of self.old) (talk_of self.new) self.old.come self.new.come result
+            connection.old connection.new }
+        ensures read_cause { IsErrOf result TalkEnd.ReadFault
+            → Rose (C.read_faults connection.old) (C.read_faults connection.new) }
+        ensures read_count { C.read_faults connection.old ≤ C.read_faults connection.new }
+        ensures write_cause { IsErrOf result TalkEnd.WriteFault
+            → Rose (C.write_faults connection.old) (C.write_faults connection.new) }
+        ensures write_count { C.write_faults connection.old ≤ C.write_faults connection.new }
     {
         if self.come.len() > MOST {
             return Err(TalkEnd::NoMemory);
         }
-        match read_message(alloc, self.come.as_slice())? {
-            Some(received) => {
-                self.come = behind(alloc, self.come.as_slice(), received.length)?;
-                self.hear(alloc, received.message, out)
-            }
-            None => receive(input, &mut self.come),
+        match self.come.next(alloc)? {
+            Some(message) => self.hear(alloc, message, connection),
+            None => receive(connection, &mut self.come),
         }
     }
 
-    /// Answers all that comes, up to where the stream ends or gdb leaves. Whatever comes, the machine that is
+    /// Answers all that comes, up to where the stream ends or gdb leaves: what was said at each end, and that
+    /// more was waited for only when all that had come was answered. Whatever comes, the machine that is
     /// shown is that of the run at its position.
     #[tactic(auto, using(crate::proofs::Talking::talkings))]
-    pub fn serve<I: Read, O: Sink>(
-        &mut self,
-        alloc: Global,
-        input: &mut I,
-        out: &mut O,
-    ) -> Result<(), TalkEnd>
+    pub fn serve<C: Connection>(&mut self, alloc: Global, connection: &mut C) -> Result<(), TalkEnd>
         requires held { IsHeld R.Runner self.old.session }
         ensures keeps { KeepsSession R.Runner self.old.session self.new.session }
-        ensures said { (left : List ℕ) → I.remaining input.old ≡ Some left → OnOk result
-            (Appends O.stands_for out.old out.new (all_said (recording_of R.Runner self.old.session)
-            (talk_of self.old) (self.old.come.items ++ left))) }
-        ensures cause { IsErrOf result TalkEnd.WriteFault → Rose (O.faults out.old) (O.faults out.new) }
-        ensures count { O.faults out.old ≤ O.faults out.new }
+        ensures talked { HasTalked C.Connection (recording_of R.Runner self.old.session)
+            (talk_of self.old) self.old.come (end_of result) connection.old connection.new }
+        ensures read_cause { IsErrOf result TalkEnd.ReadFault
+            → Rose (C.read_faults connection.old) (C.read_faults connection.new) }
+        ensures read_count { C.read_faults connection.old ≤ C.read_faults connection.new }
+        ensures write_cause { IsErrOf result TalkEnd.WriteFault
+            → Rose (C.write_faults connection.old) (C.write_faults connection.new) }
+        ensures write_count { C.write_faults connection.old ≤ C.write_faults connection.new }
     {
         for _ in 0..u64::MAX {
-            if !self.go_on(alloc, input, out)? {
-                return Ok(());
+            match self.go_on(alloc, connection) {
+                Ok(true) => {}
+                Ok(false) => return Ok(()),
+                Err(end) => return Err(end),
             }
         }
         Err(TalkEnd::NoMemory)

@@ -1,48 +1,38 @@
--- How a talk about a guest of a plan ends.
-use Rattle.std.proofs.Common.{◌≡◌, ◌∙◌, ◌<◌, ◌++◌, ℕ, List, [], length, get_or, Option, Some, OnOk, Result, ap, sym, subst, arith}
+-- How a talk about a guest of a plan ends, and what its end tells.
+use Rattle.std.proofs.Common.{◌≡◌, ◌∙◌, ◌<◌, ◌≤◌, ◌⊎◌, inl, inr, ℕ, zero, suc, ◌+◌, List, [], length, get_or, Option, Some, None, ap, subst, sym, refl, arith}
 use Rattle.std.proofs.lemmas.List.{get_or-map}
 use Rattle.std.specs.Option.{IsSomeAnd}
-use Rattle.command_line.specs.Commands.{Command}
+use Rattle.std.specs.Prelude.{IsSome}
+use Rattle.command_line.specs.Commands.{Command, FileCommand, OnFiles}
+use Rattle.outside.specs.declared.connections.Connection as connections
+use Rattle.outside.specs.declared.stores.Store as stores
+use Rattle.outside.specs.Asks.{Ask}
+use Rattle.outside.specs.Faults.{Rose}
 use Rattle.outside.specs.Files.{Files}
-use Rattle.outside.specs.Pieces.{Appends}
 use Rattle.gdb_stub.specs.Sessions.{Recording}
-use Rattle.gdb_stub.specs.Talks.{all_said, at_begin, talk, TalkState}
+use Rattle.gdb_stub.specs.Talks.{at_begin, HasTalked, TalkState}
+use Rattle.gdb_stub.specs.declared.talks.TalkEnd.{TalkEnd}
+use Rattle.gdb_stub.specs.declared.talks.TalkEnd.TheVariants as talk_end
 use Rattle.guest_turns.specs.declared.sources.Source.{Source}
 use Rattle.guest_turns.specs.Hosted.{machine_at, no_machine}
 use Rattle.guest_turns.specs.Sources.{machine_of_source, machines_of_sources}
 use Rattle.machine_defs.specs.Machine.{Machine}
 use Rattle.nesthv_top.specs.declared.ends.Ended.{Ended}
 use Rattle.nesthv_top.specs.declared.ends.Ended.TheVariants.{Done, Differs, NoCommand, Refused, ReadFault, WriteFault, NoMemory}
-use Rattle.nesthv_top.specs.Endings.{HasPlan}
-use Rattle.nesthv_top.specs.Plans.{Plan}
+use Rattle.nesthv_top.specs.Endings.{HasPlan, IsFor, IsRefusal, ReadsFrom, SaysOfReads}
+use Rattle.nesthv_top.specs.Plans.{Plan, fault_of, plan_of}
+use Rattle.nesthv_top.specs.Reads.{file_steps}
 use Rattle.nesthv_top.specs.Statuses.{status_of}
-use Rattle.gdb_top.specs.Debugging.{IsDoneFor}
-
--- on status 0 all was done
-pub done_there : (told : Option Files) (command : Option Command) (ended : Ended) (P : Files → Command → Plan → Type 0)
-    → status_of ended ≡ 0 → IsDoneFor told command ended P → HasPlan told command P
-done_there told command Done P zero is = is
-done_there told command Differs P zero is = absurd (omega (arith, zero))
-done_there told command NoCommand P zero is = absurd (omega (arith, zero))
-done_there told command (Refused found) P zero is = absurd (omega (arith, zero))
-done_there told command (ReadFault n) P zero is = absurd (omega (arith, zero))
-done_there told command WriteFault P zero is = absurd (omega (arith, zero))
-done_there told command (NoMemory n) P zero is = absurd (omega (arith, zero))
+use Rattle.nesthv_top.specs.Steps.{asks_in, ArePassed}
+use Rattle.nesthv_top.proofs.StepLists.{made_all}
+use Rattle.nesthv_top.proofs.Telling.{has_plan, known, not_both}
+use Rattle.gdb_top.specs.Debugging.{debug_command, saving_words, TalksAbout}
+use Rattle.gdb_top.proofs.Saving.{never_replayed}
+use Rattle.gdb_top.specs.Endings.{files_end, IsCutTalk, SaysOfCauses, SaysOfTalk}
 
 -- a plan of which something holds
 pub has : {A : Type 0} (found : Option A) (a : A) (P : A → Type 0) → found ≡ Some a → P a → IsSomeAnd found P
 has found a P is holds = subst (λ found. IsSomeAnd found P) (sym is) holds
-
--- a talk that begins is all that is said to what comes
-pub said_from : {S A E : Type 0} (stands_for : S → List ℕ → Type 0) (old new : S) (result : Result A E) (rec r : Recording) (t : TalkState) (come bytes : List ℕ)
-    → rec ≡ r → t ≡ at_begin → come ≡ [] → OnOk result (Appends stands_for old new (all_said rec t (come ++ bytes)))
-    → OnOk result (Appends stands_for old new (talk r bytes))
-unfolding talk
-said_from stands_for old new result rec r t come bytes run begins none said =
-    let text : all_said rec t (come ++ bytes) ≡ all_said r at_begin bytes =
-    ap (λ (rec : Recording). all_said rec t (come ++ bytes)) run ∙ ap (λ (t : TalkState). all_said r t (come ++ bytes)) begins
-    ∙ ap (λ (come : List ℕ). all_said r at_begin (come ++ bytes)) none in
-    subst (λ (text : List ℕ). OnOk result (Appends stands_for old new text)) text said
 
 abbrev pub recording : Machine → ℕ → List ℕ → Recording
 recording begin last description = record { begin = begin; last = last; description = description }
@@ -57,3 +47,117 @@ pub begins_with : (sources : List Source) (g : ℕ) (source : Source) → g < le
     → machine_of_source source ≡ machine_at (machines_of_sources sources) g
 begins_with sources g source inside is =
     ap (λ (s : Source). machine_of_source s) is ∙ sym (get_or-map machine_of_source sources g source no_machine inside)
+
+-- a talk of a recording at its begin
+pub talks_from : {C : Type 0} (K : connections.Ghosts C) (old new : C) (end : Option TalkEnd) (rec r : Recording) (t : TalkState) (come : List ℕ)
+    → rec ≡ r → t ≡ at_begin → come ≡ [] → HasTalked K rec t come end old new → HasTalked K r at_begin [] end old new
+talks_from K old new end rec r t come same begins none talked =
+    subst (λ (come : List ℕ). HasTalked K r at_begin come end old new) none
+    (subst (λ (t : TalkState). HasTalked K r t come end old new) begins
+    (subst (λ (rec : Recording). HasTalked K rec t come end old new) same talked))
+
+-- where memory was wanting in a talk, all files had been read
+module _ {C : Type 0} (K : connections.Ghosts C) (told : Option Files) (command : FileCommand) (description : List ℕ) (old new : C) where
+  pub cut_talk : (n : ℕ) (before after : Option (List Ask)) → 1 ≤ n
+      → ((files : Files) → told ≡ Some files → ArePassed (file_steps files command) 0 before n after)
+      → HasPlan told (Some (OnFiles command)) (λ files command plan. TalksAbout K plan command description (Some talk_end.NoMemory) old new)
+      → IsCutTalk K told (Some (OnFiles command)) description n old new
+  cut_talk zero before after some passed talk = absurd (omega (arith, some))
+  cut_talk (suc n) before after some passed talk = inr (λ files is.
+      let all = passed files is in (
+        all.number ∙ zero_plus (length (asks_in (file_steps files command)))
+            ∙ ap (λ (asks : List Ask). length asks) (sym (made_all (file_steps files command) all.fault)),
+        talk files is,
+      ))
+    where
+      zero_plus : (n : ℕ) → 0 + n ≡ n
+      zero_plus n = omega arith
+
+-- what the statuses tell
+module _ {X C : Type 0} (S : stores.Ghosts X) (K : connections.Ghosts C) (command : Option Command) (description : List ℕ)
+    (store store' : X) (connection connection' : C) where
+  pub talked : (ended : Ended) → status_of ended ≡ 0 → SaysOfTalk K (S.files store) command description ended connection connection'
+      → HasPlan (S.files store) command (λ files command plan. TalksAbout K plan command description None connection connection')
+  talked Done none says = says
+  talked Differs none says = absurd (omega (arith, none))
+  talked NoCommand none says = absurd (omega (arith, none))
+  talked (Refused found) none says = absurd (omega (arith, none))
+  talked (ReadFault n) none says = absurd (omega (arith, none))
+  talked WriteFault none says = absurd (omega (arith, none))
+  talked (NoMemory n) none says = absurd (omega (arith, none))
+
+  read_failed : (n : ℕ) → SaysOfCauses S K (ReadFault n) store store' connection connection'
+      → Rose (S.faults store) (S.faults store') ⊎ Rose (K.read_faults connection) (K.read_faults connection')
+  read_failed zero says = inr says.read
+  read_failed (suc n) says = inl says.read
+
+  pub read_fault : (ended : Ended) → status_of ended ≡ 3 → SaysOfCauses S K ended store store' connection connection'
+      → Rose (S.faults store) (S.faults store') ⊎ Rose (K.read_faults connection) (K.read_faults connection')
+  read_fault Done three says = absurd (omega (arith, three))
+  read_fault Differs three says = absurd (omega (arith, three))
+  read_fault NoCommand three says = absurd (omega (arith, three))
+  read_fault (Refused found) three says = absurd (omega (arith, three))
+  read_fault (ReadFault n) three says = read_failed n says
+  read_fault WriteFault three says = absurd (omega (arith, three))
+  read_fault (NoMemory n) three says = absurd (omega (arith, three))
+
+  pub write_fault : (ended : Ended) → status_of ended ≡ 4 → SaysOfCauses S K ended store store' connection connection'
+      → Rose (K.write_faults connection) (K.write_faults connection')
+  write_fault Done four says = absurd (omega (arith, four))
+  write_fault Differs four says = absurd (omega (arith, four))
+  write_fault NoCommand four says = absurd (omega (arith, four))
+  write_fault (Refused found) four says = absurd (omega (arith, four))
+  write_fault (ReadFault n) four says = absurd (omega (arith, four))
+  write_fault WriteFault four says = says.write
+  write_fault (NoMemory n) four says = absurd (omega (arith, four))
+
+  -- a command that has a fault has no plan, and so no talk
+  no_talk : {P : Type 0} (files : Files) (Q : Command → Plan → Type 0) → ReadsFrom (S.files store) command files → IsSome (fault_of files command)
+      → HasPlan (S.files store) command (λ files command plan. Q command plan) → P
+  no_talk files Q told fault talk = absurd (not_both files command (has_plan files command _ (talk files told)) fault)
+
+  refused_fault : (files : Files) (ended : Ended) → ReadsFrom (S.files store) command files → SaysOfReads S command (files_end ended) store store'
+      → status_of ended ≡ 2 → IsSome (fault_of files command)
+  refused_fault files Done told reads two = absurd (omega (arith, two))
+  refused_fault files Differs told reads two = absurd (omega (arith, two))
+  refused_fault files NoCommand told reads two = absurd (omega (arith, two))
+  refused_fault files (Refused found) told reads two = known (fault_of files command) found (reads.fault files told)
+  refused_fault files (ReadFault n) told reads two = absurd (omega (arith, two))
+  refused_fault files WriteFault told reads two = absurd (omega (arith, two))
+  refused_fault files (NoMemory n) told reads two = absurd (omega (arith, two))
+
+module _ {X C : Type 0} (S : stores.Ghosts X) (K : connections.Ghosts C) (words : List (List ℕ)) (description : List ℕ)
+    (store store' : X) (connection connection' : C) where
+  refuses : (files : Files) (ended : Ended) → ReadsFrom (S.files store) (debug_command words) files → IsFor ended (saving_words words)
+      → SaysOfTalk K (S.files store) (debug_command words) description ended connection connection'
+      → IsSome (fault_of files (debug_command words)) → (status_of ended ≡ 2) ⊎ (status_of ended ≡ 3) ⊎ (status_of ended ≡ 5)
+  refuses files Done told is talk fault = no_talk S K (debug_command words) description store store' connection connection' files _ told fault talk
+  refuses files Differs told is talk fault = absurd (never_replayed words is)
+  refuses files NoCommand told is talk fault = let none = rw is at fault in cc
+  refuses files (Refused found) told is talk fault = inl refl
+  refuses files (ReadFault n) told is talk fault = inr (inl refl)
+  refuses files WriteFault told is talk fault = no_talk S K (debug_command words) description store store' connection connection' files _ told fault talk
+  refuses files (NoMemory n) told is talk fault = inr (inr refl)
+
+  pub refusal : (ended : Ended) → IsFor ended (saving_words words) → SaysOfReads S (debug_command words) (files_end ended) store store'
+      → SaysOfTalk K (S.files store) (debug_command words) description ended connection connection'
+      → IsRefusal (S.files store) (debug_command words) (status_of ended)
+  refusal ended is reads talk = record {
+    only = λ files told two. refused_fault S K (debug_command words) description store store' connection connection' files ended told reads two;
+    always = λ files told. refuses files ended told is talk;
+  }
+
+  pub complete : (files : Files) (ended : Ended) → ReadsFrom (S.files store) (debug_command words) files → IsFor ended (saving_words words)
+      → SaysOfReads S (debug_command words) (files_end ended) store store' → SaysOfCauses S K ended store store' connection connection'
+      → IsSome (plan_of files (debug_command words)) → ¬ Rose (S.faults store) (S.faults store')
+      → ¬ Rose (K.read_faults connection) (K.read_faults connection') → ¬ Rose (K.write_faults connection) (K.write_faults connection')
+      → (status_of ended ≡ 0) ⊎ (status_of ended ≡ 5)
+  complete files Done told is reads causes plan file read write = inl refl
+  complete files Differs told is reads causes plan file read write = absurd (never_replayed words is)
+  complete files NoCommand told is reads causes plan file read write = let none = rw is at plan in cc
+  complete files (Refused found) told is reads causes plan file read write =
+      absurd (not_both files (debug_command words) plan (known (fault_of files (debug_command words)) found (reads.fault files told)))
+  complete files (ReadFault zero) told is reads causes plan file read write = absurd (read causes.read)
+  complete files (ReadFault (suc n)) told is reads causes plan file read write = absurd (file causes.read)
+  complete files WriteFault told is reads causes plan file read write = absurd (write causes.write)
+  complete files (NoMemory n) told is reads causes plan file read write = inr refl

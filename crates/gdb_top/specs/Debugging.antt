@@ -1,20 +1,24 @@
 -- What is debugged, and what is said about it.
-use Rattle.std.specs.Prelude.{⊤, ℕ, List, [], ◌∷◌, Option, codes}
-use Rattle.command_line.specs.Commands.{Command, FileCommand, OnFiles, Save, command_of}
+use Rattle.std.specs.Prelude.{⊤, ℕ, Bool, false, List, [], ◌∷◌, Option, codes}
+use Rattle.std.specs.List.{list_all}
+use Rattle.command_line.specs.Commands.{Command, FileCommand, OnFiles, Save, command_of, is_plain}
 use Rattle.gdb_stub.specs.Sessions.{Recording}
-use Rattle.gdb_stub.specs.Talks.{talk}
+use Rattle.gdb_stub.specs.declared.talks.TalkEnd.{TalkEnd}
+use Rattle.gdb_stub.specs.Talks.{at_begin, HasTalked}
 use Rattle.guest_turns.specs.Hosted.{machine_at}
 use Rattle.guest_turns.specs.TurnLists.{own_steps}
-use Rattle.nesthv_top.specs.declared.ends.Ended.{Ended}
-use Rattle.nesthv_top.specs.declared.ends.Ended.TheVariants.{Done}
-use Rattle.nesthv_top.specs.Endings.{HasPlan}
 use Rattle.nesthv_top.specs.Plans.{Plan, machines_of}
-use Rattle.outside.specs.Files.{Files}
+use Rattle.outside.specs.declared.connections.Connection as connections
 
 -- the words after the program's name are a configuration and a guest's number, as those of a save are
 abbrev pub saving_words : List (List ℕ) → List (List ℕ)
 saving_words [] = []
 saving_words (name ∷ words) = name ∷ codes "save" ∷ words
+
+-- whether there is a word, and none after the first is empty or begins with a dash
+abbrev pub are_plain : List (List ℕ) → Bool
+are_plain [] = false
+are_plain (name ∷ words) = list_all is_plain words
 
 -- a command that saves a guest
 abbrev pub IsSave : FileCommand → Type 0
@@ -32,16 +36,9 @@ recording_for plan guest description = record {
   description = description;
 }
 
--- what is said about the guest of this number, to bytes that come
-abbrev pub text_about : Plan → FileCommand → List ℕ → List ℕ → List ℕ
-text_about plan (Save config guest) description bytes = talk (recording_for plan guest description) bytes
-text_about plan other description bytes = []
-
-abbrev pub debug_text : Plan → Command → List ℕ → List ℕ → List ℕ
-debug_text plan (OnFiles command) description bytes = text_about plan command description bytes
-debug_text plan other description bytes = []
-
--- where an end is that all was done, there is a plan of which this holds
-abbrev pub IsDoneFor : Option Files → Option Command → Ended → (Files → Command → Plan → Type 0) → Type 0
-IsDoneFor told command Done P = HasPlan told command P
-IsDoneFor told command other P = ⊤
+-- how the talk went about the guest that a command names, from the begin of its run up to this end
+abbrev pub TalksAbout : {C : Type 0} → connections.Ghosts C → Plan → Command → List ℕ → Option TalkEnd
+    → C → C → Type 0
+TalksAbout K plan (OnFiles (Save config guest)) description end old new =
+    HasTalked K (recording_for plan guest description) at_begin [] end old new
+TalksAbout K plan other description end old new = ⊥

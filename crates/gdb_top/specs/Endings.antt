@@ -1,13 +1,18 @@
 -- What the end of debugging says.
-use Rattle.std.specs.Prelude.{◌≡◌, ℕ, zero, List, Option, None, IsSome, ⊤, codes}
+use Rattle.std.specs.Prelude.{◌≡◌, ◌≤◌, ◌⊎◌, ℕ, zero, suc, List, Option, Some, None, length, codes}
 use Rattle.command_line.specs.Commands.{Command}
+use Rattle.gdb_stub.specs.declared.talks.TalkEnd.TheVariants as talk_end
+use Rattle.outside.specs.declared.connections.Connection as connections
 use Rattle.outside.specs.declared.sinks.Sink as sinks
 use Rattle.outside.specs.declared.stores.Store as stores
 use Rattle.outside.specs.Faults.{Rose}
+use Rattle.outside.specs.Files.{Files}
 use Rattle.nesthv_top.specs.declared.ends.Ended.{Ended}
-use Rattle.nesthv_top.specs.declared.ends.Ended.TheVariants.{Done, Differs, NoCommand, Refused, ReadFault, NoMemory}
-use Rattle.nesthv_top.specs.Endings.{IfReadFault, SaysOfErr, SaysOfReads}
+use Rattle.nesthv_top.specs.declared.ends.Ended.TheVariants.{Done, NoCommand, ReadFault, WriteFault, NoMemory}
+use Rattle.nesthv_top.specs.Endings.{HasPlan, IfKnown, IfReadFault, IfWriteFault, SaysOfErr, WithPlan}
+use Rattle.nesthv_top.specs.Reads.{asks_of}
 use Rattle.nesthv_top.specs.Written.{IsLinePut}
+use Rattle.gdb_top.specs.Debugging.{TalksAbout}
 
 abbrev pub usage_line : List ℕ
 usage_line = codes "nesthv-gdb: usage: CONFIG GUEST\n"
@@ -17,31 +22,42 @@ abbrev pub SaysOfLine : {Z : Type 0} → sinks.Ghosts Z → Ended → Z → Z �
 SaysOfLine E NoCommand old new = IsLinePut E old new usage_line
 SaysOfLine E other old new = SaysOfErr E other old new
 
--- the end by the reads of files: read fault 0 is one of the stream, and comes after all of these
+-- the end by the reads of files: read fault 0 is one of the connection, and comes after all of these
 abbrev pub files_end : Ended → Ended
 files_end (ReadFault zero) = Done
 files_end other = other
 
--- whether the words are a command: they are none just where the end says so, but where memory was wanting to
--- read them; no end is that of a replay
-abbrev pub IsEndOf : Option Command → Ended → Type 0
-IsEndOf command NoCommand = command ≡ None
-IsEndOf command Differs = ⊥
-IsEndOf command (NoMemory zero) = ⊤
-IsEndOf command other = IsSome command
+-- why a read failed: the count rose of the connection, or that of the store
+abbrev pub IsReadCause : Type 0 → Type 0 → ℕ → Type 0
+IsReadCause connection store zero = connection
+IsReadCause connection store (suc n) = store
 
--- nothing was said where no talk began
-abbrev pub IsSilent : {Y : Type 0} → Ended → Y → Y → Type 0
-IsSilent NoCommand old new = new ≡ old
-IsSilent (Refused found) old new = new ≡ old
-IsSilent (ReadFault n) old new = new ≡ old
-IsSilent (NoMemory zero) old new = new ≡ old
-IsSilent other old new = ⊤
+-- why a read or a write failed, by the counts of faults, which never fall
+pub record SaysOfCauses {X C : Type 0} (S : stores.Ghosts X) (K : connections.Ghosts C) (ended : Ended)
+    (store store' : X) (connection connection' : C) : Type 0 where
+  pub read : IfReadFault ended (IsReadCause (Rose (K.read_faults connection) (K.read_faults connection'))
+      (Rose (S.faults store) (S.faults store')))
+  pub write : IfWriteFault ended (Rose (K.write_faults connection) (K.write_faults connection'))
+  pub read_count : K.read_faults connection ≤ K.read_faults connection'
+  pub write_count : K.write_faults connection ≤ K.write_faults connection'
 
--- what an end says of the words, of the files that were read, and of `out`
-pub record SaysOfEnd {X Y : Type 0} (S : stores.Ghosts X) (command : Option Command) (ended : Ended)
-    (store store' : X) (out out' : Y) : Type 0 where
-  pub words : IsEndOf command ended
-  pub reads : SaysOfReads S command (files_end ended) store store'
-  pub cause : IfReadFault (files_end ended) (λ n. Rose (S.faults store) (S.faults store'))
-  pub silent : IsSilent (files_end ended) out out'
+-- the talk where it was out of memory after so many reads: none had begun, or all files had been read
+abbrev pub IsCutTalk : {C : Type 0} → connections.Ghosts C → Option Files → Option Command → List ℕ → ℕ
+    → C → C → Type 0
+IsCutTalk K told command description zero old new = new ≡ old
+IsCutTalk K told command description (suc n) old new = (new ≡ old)
+    ⊎ IfKnown told command (λ files. (suc n ≡ length (asks_of files command))
+    × WithPlan files command (λ command plan.
+    TalksAbout K plan command description (Some talk_end.NoMemory) old new))
+
+-- the talk at each end; nothing is transferred where none began
+abbrev pub SaysOfTalk : {C : Type 0} → connections.Ghosts C → Option Files → Option Command → List ℕ → Ended
+    → C → C → Type 0
+SaysOfTalk K told command description Done old new =
+    HasPlan told command (λ files command plan. TalksAbout K plan command description None old new)
+SaysOfTalk K told command description (ReadFault zero) old new = HasPlan told command (λ files command plan.
+    TalksAbout K plan command description (Some talk_end.ReadFault) old new)
+SaysOfTalk K told command description WriteFault old new = HasPlan told command (λ files command plan.
+    TalksAbout K plan command description (Some talk_end.WriteFault) old new)
+SaysOfTalk K told command description (NoMemory n) old new = IsCutTalk K told command description n old new
+SaysOfTalk K told command description other old new = new ≡ old

@@ -1,58 +1,76 @@
 // The debugger from its words to its status.
 
-ghost use Rattle.std.specs.Prelude.{◌≡◌, List, ℕ, Some, IfOk, OnErr};
-ghost use Rattle.command_line.specs.Commands.{OnFiles};
+ghost use Rattle.std.specs.Prelude.{◌≡◌, ◌⊎◌, None, Some, IfOk, IsSome, OnErr};
+ghost use Rattle.std.specs.List.{list_all};
+ghost use Rattle.command_line.specs.Commands.{is_plain, OnFiles};
 ghost use Rattle.command_line.specs.Seen.{file_command_seen};
 ghost use Rattle.outside.specs.Faults.{Rose};
-ghost use Rattle.outside.specs.Pieces.{Appends};
-ghost use Rattle.nesthv_top.specs.Endings.{HasPlan, IfWriteFault};
+ghost use Rattle.nesthv_top.specs.Endings.{HasPlan, IfKnown, IsFor, IsOfCommand, IsRefusal, SaysOfReads};
 ghost use Rattle.nesthv_top.specs.Lines.{memory_line};
-ghost use Rattle.nesthv_top.specs.Statuses.{IsStatusOf};
+ghost use Rattle.nesthv_top.specs.Plans.{plan_of};
+ghost use Rattle.nesthv_top.specs.Statuses.{IsNoCommand, IsStatusOf};
 ghost use Rattle.nesthv_top.specs.Written.{IsLinePut};
-ghost use Rattle.gdb_top.specs.Debugging.{debug_command, debug_text, saving_words, IsDoneFor, IsSave};
-ghost use Rattle.gdb_top.specs.Endings.{usage_line, SaysOfEnd, SaysOfLine};
+ghost use Rattle.gdb_top.specs.Debugging.{are_plain, debug_command, saving_words, IsSave, TalksAbout};
+ghost use Rattle.gdb_top.specs.Endings.{files_end, usage_line, SaysOfCauses, SaysOfLine, SaysOfTalk};
 
 use crate::guests::talk_about;
 use command_line::{FileRequest, Request, request_of};
 use gdb_stub::TalkEnd;
 use nesthv_top::{Ended, Loaded, Reads, load, status_of, tell};
 use no_memory::NoMemory;
-use outside::{Sink, Store, Word};
+use outside::{Connection, Sink, Store, Word};
 use std::alloc::Global;
-use std::io::Read;
 
 /// Lets gdb look at a guest of a configuration, at each position of its run, and answers the program's
 /// status: 0 where gdb has left or its stream has ended, and else those of `nesthv`. A read fault of number 0
-/// is one of the stream. Without words the line of status 5 is put, and nothing else is done.
-pub fn debug<S: Store, I: Read, O: Sink, E: Sink>(
+/// is one of gdb's stream. Without words the line of status 5 is put, and nothing else is done.
+pub fn debug<S: Store, C: Connection, E: Sink>(
     alloc: Global,
     words: Result<Vec<Word>, NoMemory>,
     description: &[u8],
     store: &mut S,
-    input: &mut I,
-    out: &mut O,
+    connection: &mut C,
     err: &mut E,
 ) -> u8
     // The headline: on status 0 all has been answered as the definition says, for the run of the guest's lone
-    // machine.
-    ensures text { IfOk words (λ words. result ≡ 0 → HasPlan (S.files store.old) (debug_command words.items)
-        (λ files command plan. (bytes : List ℕ) → I.remaining input.old ≡ Some bytes
-        → Appends O.stands_for out.old out.new (debug_text plan command description.now bytes))) }
+    // machine, and each message before more was waited for.
+    ensures talk { IfOk words (λ words. result ≡ 0
+        → HasPlan (S.files store.old) (debug_command words.items) (λ files command plan.
+        TalksAbout C.Connection plan command description.now None connection.old connection.new)) }
+
+    // When each status comes. 5 is out of memory, which is free.
+    ensures no_command { IfOk words (λ words. IsNoCommand (saving_words words.items) result) }
+    ensures refused { IfOk words (λ words.
+        IsRefusal (S.files store.old) (debug_command words.items) result) }
+    ensures read_fault { result ≡ 3 → Rose (S.faults store.old) (S.faults store.new)
+        ⊎ Rose (C.read_faults connection.old) (C.read_faults connection.new) }
+    ensures write_fault { result ≡ 4
+        → Rose (C.write_faults connection.old) (C.write_faults connection.new) }
+    ensures complete { IfOk words (λ words.
+        IfKnown (S.files store.old) (debug_command words.items) (λ files.
+        IsSome (plan_of files (debug_command words.items))
+        → ¬ Rose (S.faults store.old) (S.faults store.new)
+        → ¬ Rose (C.read_faults connection.old) (C.read_faults connection.new)
+        → ¬ Rose (C.write_faults connection.old) (C.write_faults connection.new)
+        → (result ≡ 0) ⊎ (result ≡ 5))) }
 
     // What it leaves, by the end that the status stands for.
     ensures ended { IfOk words (λ words. IsStatusOf result (λ ended.
-        SaysOfEnd S.Store (debug_command words.items) ended store.old store.new out.old out.new
+        IsFor ended (saving_words words.items)
+        × SaysOfReads S.Store (debug_command words.items) (files_end ended) store.old store.new
+        × SaysOfCauses S.Store C.Connection ended store.old store.new connection.old connection.new
+        × SaysOfTalk C.Connection (S.files store.old) (debug_command words.items) description.now ended
+        connection.old connection.new
         × SaysOfLine E.Sink ended err.old err.new)) }
-    ensures write_fault { result ≡ 4 → Rose (O.faults out.old) (O.faults out.new) }
 
     // Without words.
     ensures status { OnErr words (result ≡ 5) }
     ensures line { OnErr words (IsLinePut E.Sink err.old err.new memory_line) }
     ensures store { OnErr words (store.new ≡ store.old) }
-    ensures out { OnErr words (out.new ≡ out.old) }
+    ensures connection { OnErr words (connection.new ≡ connection.old) }
 {
     match words {
-        Ok(words) => debug_words(alloc, words, description, store, input, out, err),
+        Ok(words) => debug_words(alloc, words, description, store, connection, err),
         Err(NoMemory) => {
             say(Ended::NoMemory(0), err);
             status_of(Ended::NoMemory(0))
@@ -61,24 +79,38 @@ pub fn debug<S: Store, I: Read, O: Sink, E: Sink>(
 }
 
 // The same with words.
-fn debug_words<S: Store, I: Read, O: Sink, E: Sink>(
+fn debug_words<S: Store, C: Connection, E: Sink>(
     alloc: Global,
     words: Vec<Word>,
     description: &[u8],
     store: &mut S,
-    input: &mut I,
-    out: &mut O,
+    connection: &mut C,
     err: &mut E,
 ) -> u8
-    ensures text { result ≡ 0 → HasPlan (S.files store.old) (debug_command words.items)
-        (λ files command plan. (bytes : List ℕ) → I.remaining input.old ≡ Some bytes
-        → Appends O.stands_for out.old out.new (debug_text plan command description.now bytes)) }
+    ensures talk { result ≡ 0
+        → HasPlan (S.files store.old) (debug_command words.items) (λ files command plan.
+        TalksAbout C.Connection plan command description.now None connection.old connection.new) }
+    ensures no_command { IsNoCommand (saving_words words.items) result }
+    ensures refused { IsRefusal (S.files store.old) (debug_command words.items) result }
+    ensures read_fault { result ≡ 3 → Rose (S.faults store.old) (S.faults store.new)
+        ⊎ Rose (C.read_faults connection.old) (C.read_faults connection.new) }
+    ensures write_fault { result ≡ 4
+        → Rose (C.write_faults connection.old) (C.write_faults connection.new) }
+    ensures complete { IfKnown (S.files store.old) (debug_command words.items) (λ files.
+        IsSome (plan_of files (debug_command words.items))
+        → ¬ Rose (S.faults store.old) (S.faults store.new)
+        → ¬ Rose (C.read_faults connection.old) (C.read_faults connection.new)
+        → ¬ Rose (C.write_faults connection.old) (C.write_faults connection.new)
+        → (result ≡ 0) ⊎ (result ≡ 5)) }
     ensures ended { IsStatusOf result (λ ended.
-        SaysOfEnd S.Store (debug_command words.items) ended store.old store.new out.old out.new
+        IsFor ended (saving_words words.items)
+        × SaysOfReads S.Store (debug_command words.items) (files_end ended) store.old store.new
+        × SaysOfCauses S.Store C.Connection ended store.old store.new connection.old connection.new
+        × SaysOfTalk C.Connection (S.files store.old) (debug_command words.items) description.now ended
+        connection.old connection.new
         × SaysOfLine E.Sink ended err.old err.new) }
-    ensures write_fault { result ≡ 4 → Rose (O.faults out.old) (O.faults out.new) }
 {
-    let ended = obey(alloc, words, description, store, input, out);
+    let ended = obey(alloc, words, description, store, connection);
     say(ended, err);
     status_of(ended)
 }
@@ -100,6 +132,32 @@ fn put_usage<E: Sink>(err: &mut E)
     let _ = err.put(b"nesthv-gdb: usage: CONFIG GUEST\n");
 }
 
+fn is_plain(word: &str) -> bool
+    ensures { result ≡ is_plain word.now }
+{
+    match word.as_bytes() {
+        [] => false,
+        [first, ..] => *first != b'-',
+    }
+}
+
+fn all_plain(words: &[Word]) -> bool
+    ensures { result ≡ list_all is_plain words.now }
+{
+    words.iter().all(|word| is_plain(word.as_str()))
+}
+
+// Whether there is a word, and none after the first is empty or begins with a dash.
+#[tactic(auto, using(crate::proofs::Saving::plainly))]
+fn are_plain(words: &[Word]) -> bool
+    ensures { result ≡ are_plain words.now }
+{
+    if words.is_empty() {
+        return false;
+    }
+    all_plain(&words[1..])
+}
+
 // The words with that of a command behind the program's name.
 fn saving_words(alloc: Global, words: Vec<Word>) -> Result<Vec<Word>, NoMemory>
     ensures { IfOk result (λ all. all.items ≡ saving_words words.items) }
@@ -113,27 +171,31 @@ fn saving_words(alloc: Global, words: Vec<Word>) -> Result<Vec<Word>, NoMemory>
 }
 
 // Does what the words ask for.
-#[tactic(auto, using(crate::proofs::Saving::saves_alone))]
-fn obey<S: Store, I: Read, O: Sink>(
+#[tactic(auto, using(crate::proofs::Saving::saves_alone, nesthv_top::proofs::CommandReads::nothing_read, nesthv_top::proofs::CommandReads::no_command_says))]
+fn obey<S: Store, C: Connection>(
     alloc: Global,
     words: Vec<Word>,
     description: &[u8],
     store: &mut S,
-    input: &mut I,
-    out: &mut O,
+    connection: &mut C,
 ) -> Ended
-    ensures text { IsDoneFor (S.files store.old) (debug_command words.items) result
-        (λ files command plan. (bytes : List ℕ) → I.remaining input.old ≡ Some bytes
-        → Appends O.stands_for out.old out.new (debug_text plan command description.now bytes)) }
-    ensures end { SaysOfEnd S.Store (debug_command words.items) result store.old store.new out.old out.new }
-    ensures cause { IfWriteFault result (Rose (O.faults out.old) (O.faults out.new)) }
+    ensures words { IsFor result (saving_words words.items) }
+    ensures reads { SaysOfReads S.Store (debug_command words.items) (files_end result)
+        store.old store.new }
+    ensures causes { SaysOfCauses S.Store C.Connection result store.old store.new
+        connection.old connection.new }
+    ensures talk { SaysOfTalk C.Connection (S.files store.old) (debug_command words.items)
+        description.now result connection.old connection.new }
 {
+    if !are_plain(words.as_slice()) {
+        return Ended::NoCommand;
+    }
     let Ok(words) = saving_words(alloc, words) else {
         return Ended::NoMemory(0);
     };
     match request_of(alloc, words.as_slice()) {
         Ok(Some(Request::OnFiles(request))) => {
-            answer(alloc, request, description, store, input, out)
+            answer(alloc, request, description, store, connection)
         }
         Ok(Some(Request::Work { .. })) => unreachable!(),
         Ok(None) => Ended::NoCommand,
@@ -142,21 +204,22 @@ fn obey<S: Store, I: Read, O: Sink>(
 }
 
 // Lets gdb look at the guest that a request names, which is one that saves it.
-fn answer<S: Store, I: Read, O: Sink>(
+fn answer<S: Store, C: Connection>(
     alloc: Global,
     request: FileRequest<'_>,
     description: &[u8],
     store: &mut S,
-    input: &mut I,
-    out: &mut O,
+    connection: &mut C,
 ) -> Ended
     requires { IsSave (file_command_seen request) }
-    ensures text { IsDoneFor (S.files store.old) (Some (OnFiles (file_command_seen request.entry))) result
-        (λ files command plan. (bytes : List ℕ) → I.remaining input.old ≡ Some bytes
-        → Appends O.stands_for out.old out.new (debug_text plan command description.now bytes)) }
-    ensures end { SaysOfEnd S.Store (Some (OnFiles (file_command_seen request.entry))) result
-        store.old store.new out.old out.new }
-    ensures cause { IfWriteFault result (Rose (O.faults out.old) (O.faults out.new)) }
+    ensures command { IsOfCommand (OnFiles (file_command_seen request.entry)) result }
+    ensures reads { SaysOfReads S.Store (Some (OnFiles (file_command_seen request.entry)))
+        (files_end result) store.old store.new }
+    ensures causes { SaysOfCauses S.Store C.Connection result store.old store.new
+        connection.old connection.new }
+    ensures talk { SaysOfTalk C.Connection (S.files store.old)
+        (Some (OnFiles (file_command_seen request.entry))) description.now result
+        connection.old connection.new }
 {
     let FileRequest::Save { guest, .. } = request else {
         unreachable!();
@@ -166,7 +229,7 @@ fn answer<S: Store, I: Read, O: Sink>(
         Ok(loaded) => loaded,
         Err(end) => return Ended::from(end),
     };
-    match talk_about(alloc, job, guest, description, input, out) {
+    match talk_about(alloc, job, guest, description, connection) {
         Ok(()) => Ended::Done,
         Err(TalkEnd::ReadFault) => Ended::ReadFault(0),
         Err(TalkEnd::WriteFault) => Ended::WriteFault,

@@ -1,11 +1,10 @@
 // The guest that is debugged.
 
-ghost use Rattle.std.specs.Prelude.{◌≡◌, ◌^◌, ◌<◌, ◌≤◌, List, ℕ, Some, length, slice_index_or, IsErrOf, OnOk};
+ghost use Rattle.std.specs.Prelude.{◌≡◌, ◌^◌, ◌<◌, ◌≤◌, [], length, slice_index_or, IsErrOf};
 ghost use Rattle.std.specs.List.{All};
-ghost use Rattle.gdb_stub.specs.Talks.{talk};
+ghost use Rattle.gdb_stub.specs.Talks.{at_begin, end_of, HasTalked};
 ghost use Rattle.guest_turns.specs.TurnLists.{own_steps};
 ghost use Rattle.outside.specs.Faults.{Rose};
-ghost use Rattle.outside.specs.Pieces.{Appends};
 ghost use Rattle.run_config.specs.Configurations.{IsTurnWithin};
 ghost use Rattle.nesthv_top.specs.Seen.{plan_seen, IsJob};
 ghost use Rattle.gdb_top.specs.Debugging.{recording_for};
@@ -13,9 +12,8 @@ ghost use Rattle.gdb_top.specs.Debugging.{recording_for};
 use gdb_stub::{Session, Talk, TalkEnd};
 use guest_runs::HostRun;
 use nesthv_top::Job;
-use outside::Sink;
+use outside::Connection;
 use std::alloc::Global;
-use std::io::Read;
 
 // The steps of a guest's own turns.
 #[tactic(auto, using(crate::proofs::OwnSteps::own_rules))]
@@ -36,21 +34,24 @@ fn own_steps(guest: u32, turns: &[(u32, u64)]) -> u64
 }
 
 /// Talks with gdb about the guest of this number of a job.
-pub fn talk_about<I: Read, O: Sink>(
+#[tactic(auto, using(gdb_stub::proofs::Talking::stopped))]
+pub fn talk_about<C: Connection>(
     alloc: Global,
     job: Job,
     guest: u32,
     description: &[u8],
-    input: &mut I,
-    out: &mut O,
+    connection: &mut C,
 ) -> Result<(), TalkEnd>
     requires job { IsJob job }
     requires guest { guest < length job.sources.items }
-    ensures said { (bytes : List ℕ) → I.remaining input.old ≡ Some bytes → OnOk result
-        (Appends O.stands_for out.old out.new
-        (talk (recording_for (plan_seen job) guest description.now) bytes)) }
-    ensures cause { IsErrOf result TalkEnd.WriteFault → Rose (O.faults out.old) (O.faults out.new) }
-    ensures count { O.faults out.old ≤ O.faults out.new }
+    ensures talked { HasTalked C.Connection (recording_for (plan_seen job) guest description.now)
+        at_begin [] (end_of result) connection.old connection.new }
+    ensures read_cause { IsErrOf result TalkEnd.ReadFault
+        → Rose (C.read_faults connection.old) (C.read_faults connection.new) }
+    ensures read_count { C.read_faults connection.old ≤ C.read_faults connection.new }
+    ensures write_cause { IsErrOf result TalkEnd.WriteFault
+        → Rose (C.write_faults connection.old) (C.write_faults connection.new) }
+    ensures write_count { C.write_faults connection.old ≤ C.write_faults connection.new }
 {
     let Job {
         config,
@@ -59,7 +60,11 @@ pub fn talk_about<I: Read, O: Sink>(
     } = job;
     let last = own_steps(guest, config.turns().as_slice());
     let source = sources.swap_remove(guest as usize);
-    let run = HostRun::new(alloc, source)?;
-    let session = Session::new(alloc, run, last, description)?;
-    Talk::new(alloc, session).serve(alloc, input, out)
+    let Ok(run) = HostRun::new(alloc, source) else {
+        return Err(TalkEnd::NoMemory);
+    };
+    let Ok(session) = Session::new(alloc, run, last, description) else {
+        return Err(TalkEnd::NoMemory);
+    };
+    Talk::new(alloc, session).serve(alloc, connection)
 }

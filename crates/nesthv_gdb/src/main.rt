@@ -5,22 +5,20 @@ mod descriptions;
 
 use descriptions::DESCRIPTION;
 use gdb_top::debug;
-use outside::{FileStore, ProcessArguments, StdSink, words_of};
+use outside::{FileStore, ProcessArguments, StdConnection, StdSink, words_of};
 use std::process::ExitCode;
 
 fn main(rt: HostRuntime) -> ExitCode {
     let words = words_of(&ProcessArguments::new(&rt), rt.alloc());
     let mut store = FileStore::new(&rt);
-    let mut input = rt.stdin();
-    let mut out = StdSink::new(rt.stdout());
+    let mut connection = StdConnection::new(rt.stdin(), rt.stdout());
     let mut err = StdSink::new(rt.stderr());
     ExitCode::from(debug(
         rt.alloc(),
         words,
         DESCRIPTION,
         &mut store,
-        &mut input,
-        &mut out,
+        &mut connection,
         &mut err,
     ))
 }
