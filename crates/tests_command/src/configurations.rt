@@ -168,152 +168,103 @@ fn rounds(rt: HostRuntime) -> Result<(), Fail> {
     Ok(())
 }
 
-// A fault, and what it keeps.
-struct Kept {
-    fault: ConfigFault,
-    number: u8,
-    guest: Option<u32>,
-    key: Option<ConfigKey>,
-    value: Option<i64>,
-}
-
 // A fault that keeps nothing.
-const FAULT: Kept = Kept {
-    fault: ConfigFault::NotToml,
+const FAULT: ConfigFault = ConfigFault {
     number: 1,
     guest: None,
     key: None,
     value: None,
 };
 
-static FAULTS: [Kept; 16] = [
+// The faults by their numbers, each with what it keeps.
+static FAULTS: [ConfigFault; 15] = [
     FAULT,
-    Kept {
-        fault: ConfigFault::Format,
-        number: 2,
-        ..FAULT
-    },
-    Kept {
-        fault: ConfigFault::Missing {
-            guest: Some(3),
-            key: ConfigKey::Entries,
-        },
+    ConfigFault { number: 2, ..FAULT },
+    ConfigFault {
         number: 3,
         guest: Some(3),
         key: Some(ConfigKey::Entries),
-        ..FAULT
+        value: None,
     },
-    Kept {
-        fault: ConfigFault::Range {
-            guest: Some(0),
-            key: ConfigKey::Entries,
-            value: Some(15),
-        },
+    ConfigFault {
         number: 4,
-        guest: Some(0),
-        key: Some(ConfigKey::Entries),
-        value: Some(15),
-    },
-    Kept {
-        fault: ConfigFault::Range {
-            guest: None,
-            key: ConfigKey::Spare,
-            value: Some(33),
-        },
-        number: 4,
+        guest: None,
         key: Some(ConfigKey::Spare),
         value: Some(33),
-        ..FAULT
     },
-    Kept {
-        fault: ConfigFault::Name { guest: 1 },
+    ConfigFault {
         number: 5,
         guest: Some(1),
         ..FAULT
     },
-    Kept {
-        fault: ConfigFault::Turns,
-        number: 6,
-        ..FAULT
-    },
-    Kept {
-        fault: ConfigFault::Input { guest: 2 },
+    ConfigFault { number: 6, ..FAULT },
+    ConfigFault {
         number: 7,
         guest: Some(2),
         ..FAULT
     },
-    Kept {
-        fault: ConfigFault::Extra { guest: None },
-        number: 8,
-        ..FAULT
-    },
-    Kept {
-        fault: ConfigFault::TooLong,
-        number: 9,
-        ..FAULT
-    },
-    Kept {
-        fault: ConfigFault::ImageLong {
-            guest: 0,
-            bytes: 2_097_153,
-        },
+    ConfigFault { number: 8, ..FAULT },
+    ConfigFault { number: 9, ..FAULT },
+    ConfigFault {
         number: 10,
         guest: Some(0),
         value: Some(2_097_153),
         ..FAULT
     },
-    Kept {
-        fault: ConfigFault::Frames { sum: 263_056 },
+    ConfigFault {
         number: 11,
         value: Some(263_056),
         ..FAULT
     },
-    Kept {
-        fault: ConfigFault::InputFile {
-            guest: 1,
-            record: 65_536,
-        },
+    ConfigFault {
         number: 12,
         guest: Some(1),
         value: Some(65_536),
         ..FAULT
     },
-    Kept {
-        fault: ConfigFault::Weight {
-            guest: 15,
-            product: 8_589_934_592,
-        },
+    ConfigFault {
         number: 13,
         guest: Some(15),
         value: Some(8_589_934_592),
         ..FAULT
     },
-    Kept {
-        fault: ConfigFault::Saved { guest: 4 },
+    ConfigFault {
         number: 14,
         guest: Some(4),
         ..FAULT
     },
-    Kept {
-        fault: ConfigFault::Guest { value: 99 },
+    ConfigFault {
         number: 15,
         value: Some(99),
         ..FAULT
     },
 ];
 
-fn keeps(kept: &Kept) -> bool {
-    let fault = kept.fault;
-    fault.number() == kept.number
-        && fault.guest() == kept.guest
-        && fault.key() == kept.key
-        && fault.value() == kept.value
+// The same as the calls make them.
+fn made() -> [ConfigFault; 15] {
+    [
+        ConfigFault::not_toml(),
+        ConfigFault::format(),
+        ConfigFault::missing(Some(3), ConfigKey::Entries),
+        ConfigFault::range(None, ConfigKey::Spare, Some(33)),
+        ConfigFault::name(1),
+        ConfigFault::turns(),
+        ConfigFault::input(2),
+        ConfigFault::extra(None),
+        ConfigFault::too_long(),
+        ConfigFault::image_long(0, 2_097_153),
+        ConfigFault::frames(263_056),
+        ConfigFault::input_file(1, 65_536),
+        ConfigFault::weight(15, 8_589_934_592),
+        ConfigFault::saved(4),
+        ConfigFault::no_guest(99),
+    ]
 }
 
 #[test]
-fn faults_show_what_they_keep(rt: HostRuntime) {
-    for kept in &FAULTS {
-        assert!(rt; keeps(kept), "{}", kept.number);
+fn faults_keep_what_they_tell(rt: HostRuntime) {
+    for (made, fault) in made().iter().zip(&FAULTS) {
+        assert!(rt; made == fault, "{}", fault.number);
     }
     assert!(rt; ConfigKey::Entries.text() == "entries");
 }

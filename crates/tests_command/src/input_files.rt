@@ -9,7 +9,7 @@ use std::test::Fail;
 struct Case {
     records: &'static [(u64, u8)],
     rest: &'static [u8],
-    bad: Option<u32>,
+    bad: Option<u64>,
 }
 
 const CASE: Case = Case {
@@ -150,7 +150,7 @@ fn records(alloc: Global, count: u32) -> Result<Vec<u8>, AllocError> {
 
 // How many inputs a file of so many such records and a few bytes gives, or the number of its first bad
 // record.
-fn count_of(alloc: Global, count: u32, rest: &[u8]) -> Result<Result<usize, u32>, AllocError> {
+fn count_of(alloc: Global, count: u32, rest: &[u8]) -> Result<Result<usize, u64>, AllocError> {
     let mut bytes = records(alloc, count)?;
     bytes.extend_from_slice(rest)?;
     match inputs(alloc, bytes.as_slice()) {

@@ -9,6 +9,8 @@ mod comparisons;
 #[cfg(test)]
 mod configurations;
 #[cfg(test)]
+mod connections;
+#[cfg(test)]
 mod images;
 #[cfg(test)]
 mod input_files;

@@ -31,19 +31,26 @@ const A: Said = Said {
     file: Some("a.saved"),
 };
 
-const WRONG_KIND: Result<&'static [Said], ConfigFault> = Err(ConfigFault::Range {
+const WRONG_KIND: Result<&'static [Said], ConfigFault> = Err(ConfigFault {
+    number: 4,
     guest: Some(0),
-    key: ConfigKey::Resume,
+    key: Some(ConfigKey::Resume),
     value: None,
 });
 
-const WRONG_WEIGHT: Result<&'static [Said], ConfigFault> = Err(ConfigFault::Range {
+const WRONG_WEIGHT: Result<&'static [Said], ConfigFault> = Err(ConfigFault {
+    number: 4,
     guest: Some(0),
-    key: ConfigKey::Weight,
+    key: Some(ConfigKey::Weight),
     value: Some(0),
 });
 
-const EXTRA: Result<&'static [Said], ConfigFault> = Err(ConfigFault::Extra { guest: Some(0) });
+const EXTRA: Result<&'static [Said], ConfigFault> = Err(ConfigFault {
+    number: 8,
+    guest: Some(0),
+    key: None,
+    value: None,
+});
 
 static RIGHT: [Case; 7] = [
     CASE,
@@ -115,18 +122,20 @@ static WRONG: [Case; 40] = [
     // Values of another kind.
     Case {
         guests: "guest=[{name='a',resume=1}]",
-        answer: Err(ConfigFault::Range {
+        answer: Err(ConfigFault {
+            number: 4,
             guest: Some(0),
-            key: ConfigKey::Resume,
+            key: Some(ConfigKey::Resume),
             value: Some(1),
         }),
         ..CASE
     },
     Case {
         guests: "guest=[{name='a',resume=-9223372036854775808}]",
-        answer: Err(ConfigFault::Range {
+        answer: Err(ConfigFault {
+            number: 4,
             guest: Some(0),
-            key: ConfigKey::Resume,
+            key: Some(ConfigKey::Resume),
             value: Some(-9_223_372_036_854_775_808),
         }),
         ..CASE
@@ -240,17 +249,20 @@ static WRONG: [Case; 40] = [
     // The first fault, in the order of the tests.
     Case {
         guests: "guest=[{resume=''}]",
-        answer: Err(ConfigFault::Missing {
+        answer: Err(ConfigFault {
+            number: 3,
             guest: Some(0),
-            key: ConfigKey::Name,
+            key: Some(ConfigKey::Name),
+            value: None,
         }),
         ..CASE
     },
     Case {
         guests: "guest=[{name=1,resume=2,weight=0}]",
-        answer: Err(ConfigFault::Range {
+        answer: Err(ConfigFault {
+            number: 4,
             guest: Some(0),
-            key: ConfigKey::Name,
+            key: Some(ConfigKey::Name),
             value: Some(1),
         }),
         ..CASE
@@ -267,23 +279,43 @@ static WRONG: [Case; 40] = [
     },
     Case {
         guests: "guest=[{name='',resume='f',image='i'}]",
-        answer: Err(ConfigFault::Name { guest: 0 }),
+        answer: Err(ConfigFault {
+            number: 5,
+            guest: Some(0),
+            key: None,
+            value: None,
+        }),
         ..CASE
     },
     Case {
         guests: "guest=[{name='a',resume='f'},{name='a',resume='g',image='i'}]",
-        answer: Err(ConfigFault::Name { guest: 1 }),
+        answer: Err(ConfigFault {
+            number: 5,
+            guest: Some(1),
+            key: None,
+            value: None,
+        }),
         ..CASE
     },
     Case {
         guests: "guest=[{name='a',image='i',blocks=1,spaces=1,entries=16,console=0},\
             {name='a',resume='f'}]",
-        answer: Err(ConfigFault::Name { guest: 1 }),
+        answer: Err(ConfigFault {
+            number: 5,
+            guest: Some(1),
+            key: None,
+            value: None,
+        }),
         ..CASE
     },
     Case {
         guests: "guest=[{name='a',resume='f'},{name='b',resume='f',image='i'},{name=''}]",
-        answer: Err(ConfigFault::Extra { guest: Some(1) }),
+        answer: Err(ConfigFault {
+            number: 8,
+            guest: Some(1),
+            key: None,
+            value: None,
+        }),
         ..CASE
     },
     Case {
@@ -293,37 +325,53 @@ static WRONG: [Case; 40] = [
     },
     Case {
         lines: "format=2\nresume='f'\n",
-        answer: Err(ConfigFault::Turns),
+        answer: Err(ConfigFault {
+            number: 6,
+            guest: None,
+            key: None,
+            value: None,
+        }),
         ..CASE
     },
     Case {
         lines: "format=2\nturns=[]\nresume='f'\n",
-        answer: Err(ConfigFault::Extra { guest: None }),
+        answer: Err(ConfigFault {
+            number: 8,
+            guest: None,
+            key: None,
+            value: None,
+        }),
         ..CASE
     },
     Case {
         lines: "format=2\nquantum=4294967296\nrounds=0\n",
         guests: "guest=[{name='a',resume='f',weight=2}]",
-        answer: Err(ConfigFault::Weight {
-            guest: 0,
-            product: 8_589_934_592,
+        answer: Err(ConfigFault {
+            number: 13,
+            guest: Some(0),
+            key: None,
+            value: Some(8_589_934_592),
         }),
     },
     // Without the key a guest of format 2 must have those of its start.
     Case {
         guests: "guest=[{name='a',Resume='f'}]",
-        answer: Err(ConfigFault::Missing {
+        answer: Err(ConfigFault {
+            number: 3,
             guest: Some(0),
-            key: ConfigKey::Image,
+            key: Some(ConfigKey::Image),
+            value: None,
         }),
         ..CASE
     },
     // Format 1 has no such key.
     Case {
         lines: "format=1\nturns=[]\n",
-        answer: Err(ConfigFault::Missing {
+        answer: Err(ConfigFault {
+            number: 3,
             guest: Some(0),
-            key: ConfigKey::Image,
+            key: Some(ConfigKey::Image),
+            value: None,
         }),
         ..CASE
     },
@@ -340,7 +388,12 @@ static WRONG: [Case; 40] = [
     Case {
         lines: "format=1\nturns=[]\n",
         guests: "guest=[{name='a',image='i',blocks=1,spaces=1,entries=16,console=0,resume='f',input=1}]",
-        answer: Err(ConfigFault::Input { guest: 0 }),
+        answer: Err(ConfigFault {
+            number: 7,
+            guest: Some(0),
+            key: None,
+            value: None,
+        }),
     },
 ];
 

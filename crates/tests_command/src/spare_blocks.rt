@@ -19,20 +19,27 @@ const CASE: Case = Case {
 };
 
 // What a value says that is no integer, and what 33 says.
-const WRONG_KIND: Result<u64, ConfigFault> = Err(ConfigFault::Range {
+const WRONG_KIND: Result<u64, ConfigFault> = Err(ConfigFault {
+    number: 4,
     guest: None,
-    key: ConfigKey::Spare,
+    key: Some(ConfigKey::Spare),
     value: None,
 });
 
-const WRONG_33: Result<u64, ConfigFault> = Err(ConfigFault::Range {
+const WRONG_33: Result<u64, ConfigFault> = Err(ConfigFault {
+    number: 4,
     guest: None,
-    key: ConfigKey::Spare,
+    key: Some(ConfigKey::Spare),
     value: Some(33),
 });
 
 // What a key says that the document does not have.
-const EXTRA: Result<u64, ConfigFault> = Err(ConfigFault::Extra { guest: None });
+const EXTRA: Result<u64, ConfigFault> = Err(ConfigFault {
+    number: 8,
+    guest: None,
+    key: None,
+    value: None,
+});
 
 static CASES: [Case; 29] = [
     CASE,
@@ -63,18 +70,20 @@ static CASES: [Case; 29] = [
     },
     Case {
         lines: "format=2\nturns=[]\nspare=-1\n",
-        spare: Err(ConfigFault::Range {
+        spare: Err(ConfigFault {
+            number: 4,
             guest: None,
-            key: ConfigKey::Spare,
+            key: Some(ConfigKey::Spare),
             value: Some(-1),
         }),
         ..CASE
     },
     Case {
         lines: "format=2\nturns=[]\nspare=9223372036854775807\n",
-        spare: Err(ConfigFault::Range {
+        spare: Err(ConfigFault {
+            number: 4,
             guest: None,
-            key: ConfigKey::Spare,
+            key: Some(ConfigKey::Spare),
             value: Some(9_223_372_036_854_775_807),
         }),
         ..CASE
@@ -117,13 +126,23 @@ static CASES: [Case; 29] = [
     },
     Case {
         lines: "format=1\nspare=33\n",
-        spare: Err(ConfigFault::Turns),
+        spare: Err(ConfigFault {
+            number: 6,
+            guest: None,
+            key: None,
+            value: None,
+        }),
         ..CASE
     },
     // It is the document's key alone, and is written in small letters.
     Case {
         guests: "guest=[{name='a',image='a',blocks=1,spaces=1,entries=16,console=0,spare=1}]",
-        spare: Err(ConfigFault::Extra { guest: Some(0) }),
+        spare: Err(ConfigFault {
+            number: 8,
+            guest: Some(0),
+            key: None,
+            value: None,
+        }),
         ..CASE
     },
     Case {
@@ -134,32 +153,41 @@ static CASES: [Case; 29] = [
     // Faults that are found before.
     Case {
         lines: "format=3\nturns=[]\nspare=33\n",
-        spare: Err(ConfigFault::Format),
+        spare: Err(ConfigFault {
+            number: 2,
+            guest: None,
+            key: None,
+            value: None,
+        }),
         ..CASE
     },
     Case {
         lines: "format=2\nturns=[]\nspare=33\n",
         guests: "",
-        spare: Err(ConfigFault::Missing {
+        spare: Err(ConfigFault {
+            number: 3,
             guest: None,
-            key: ConfigKey::Guest,
+            key: Some(ConfigKey::Guest),
+            value: None,
         }),
     },
     Case {
         lines: "format=2\nturns=[]\nspare=33\n",
         guests: "guest=[]",
-        spare: Err(ConfigFault::Range {
+        spare: Err(ConfigFault {
+            number: 4,
             guest: None,
-            key: ConfigKey::Guest,
+            key: Some(ConfigKey::Guest),
             value: Some(0),
         }),
     },
     Case {
         lines: "format=2\nturns=[]\nspare=33\n",
         guests: "guest=[{},1]",
-        spare: Err(ConfigFault::Range {
+        spare: Err(ConfigFault {
+            number: 4,
             guest: None,
-            key: ConfigKey::Guest,
+            key: Some(ConfigKey::Guest),
             value: Some(2),
         }),
     },
@@ -172,9 +200,11 @@ static CASES: [Case; 29] = [
     Case {
         lines: "format=2\nturns=[]\nspare=32\n",
         guests: "guest=[{}]",
-        spare: Err(ConfigFault::Missing {
+        spare: Err(ConfigFault {
+            number: 3,
             guest: Some(0),
-            key: ConfigKey::Name,
+            key: Some(ConfigKey::Name),
+            value: None,
         }),
     },
     Case {
@@ -189,7 +219,12 @@ static CASES: [Case; 29] = [
     },
     Case {
         lines: "format=2\nspare=32\ncolor=1\n",
-        spare: Err(ConfigFault::Turns),
+        spare: Err(ConfigFault {
+            number: 6,
+            guest: None,
+            key: None,
+            value: None,
+        }),
         ..CASE
     },
     Case {

@@ -6,15 +6,13 @@ ghost use Rattle.arch_defs.specs.FirstEntries.{HasGuestFrame};
 ghost use Rattle.arch_defs.specs.Layouts.{names_each_once};
 ghost use Rattle.machine_laws.specs.HostPlaces.{in_ram};
 ghost use Rattle.machine_laws.specs.Renaming.{ReservesWithin};
-ghost use Rattle.world_switch.specs.Hosting.{hart_state_in, root_at};
+ghost use Rattle.world_switch.specs.Hosting.{loaded_in, root_at};
 
 use arch_defs::{
-    FirstBuffer, FirstEntry, GuestMode, GuestRoot, HartState, Interrupts, Mode, Part,
-    SupervisorRoot, Tag, Virtual,
+    FirstEntry, GuestMode, GuestRoot, HartState, Interrupts, Mode, Part, SupervisorRoot, Tag,
+    Virtual,
 };
-use no_memory::NoMemory;
-use std::alloc::Global;
-use world_switch::{fix_up, load, load_state, save, save_state};
+use world_switch::{fix_up, load, save};
 
 const START: u64 = 0x8000_0000;
 
@@ -71,21 +69,34 @@ fn guest(mode: Mode) -> Virtual
     virt
 }
 
-// The state of a hart that had something else before.
-fn loaded_for(virt: &Virtual, part: &Part, root: u64) -> Virtual
+// What a hart has that had something else before.
+fn loaded_for(virt: &Virtual, part: &Part, root: u64) -> HartState
     requires { ReservesWithin (in_ram part.now.blocks) virt.now.reservation }
-    ensures { result ≡ hart_state_in part.now (root_at part.now root) virt.now }
+    ensures { result ≡ loaded_in part.now (root_at part.now root) virt.now }
 {
-    let mut hart = Virtual::starting_at(Mode::VU, START);
-    load_state(virt, part, root, &mut hart);
+    let mut hart = HartState {
+        virt: Virtual::starting_at(Mode::VU, START),
+        tag: Tag::Nested(GuestRoot::Bare),
+    };
+    hart.virt.first.fill(translation(2));
+    load(virt, part, root, &mut hart);
     hart
+}
+
+// Whether two guests have the same.
+fn is_same(one: &Virtual, other: &Virtual) -> bool {
+    one.regs == other.regs
+        && one.csrs == other.csrs
+        && one.mode == other.mode
+        && one.reservation == other.reservation
+        && one.first.as_slice() == other.first.as_slice()
 }
 
 // The hart's VS is the guest's HS, and its VU the guest's U: each exception that V = 0 raises, and each
 // interrupt, is delegated to VS; WFI and SRET trap (8.2.1, 8.2.2).
 fn is_hosted(mode: Mode, hosted: Mode) -> bool {
     let virt = guest(mode);
-    let hart = loaded_for(&virt, &part(), ROOT);
+    let hart = loaded_for(&virt, &part(), ROOT).virt;
     let csrs = &hart.csrs;
     let all = csrs.hideleg;
     hart.mode == hosted
@@ -166,7 +177,7 @@ static TABLES: [Table; 9] = [
 
 // hgatp has MODE 8 (Sv39x4) or 9 (Sv48x4), VMID 0 and for PPN the frame of the root (8.2.10).
 fn is_under_a_table(mode: Mode, table: &Table) -> bool {
-    let hart = loaded_for(&guest(mode), &part(), table.root);
+    let hart = loaded_for(&guest(mode), &part(), table.root).virt;
     let root = GuestRoot::Table {
         mode: table.mode,
         vmid: 0,
@@ -183,8 +194,8 @@ fn reserved_at(address: u64, part: &Part) -> (Option<(u64, u8)>, Option<(u64, u8
     virt.reservation = Some((address, 8));
     let hart = loaded_for(&virt, part, ROOT);
     let mut after = Virtual::starting_at(Mode::HS, START);
-    save_state(&hart, part, &mut after);
-    (hart.reservation, after.reservation)
+    save(&hart, part, &mut after);
+    (hart.virt.reservation, after.reservation)
 }
 
 // Whether the place of a reservation in machine memory is this one.
@@ -196,15 +207,15 @@ fn is_renamed(address: u64, place: u64) -> bool
 
 fn is_without_a_reservation() -> bool {
     let virt = Virtual::starting_at(Mode::HS, START);
-    loaded_for(&virt, &part(), ROOT).reservation.is_none()
+    loaded_for(&virt, &part(), ROOT).virt.reservation.is_none()
 }
 
 fn is_reservation_lost() -> bool {
     let part = part();
     let mut virt = guest(Mode::HS);
     let mut hart = loaded_for(&virt, &part, ROOT);
-    hart.reservation = None;
-    save_state(&hart, &part, &mut virt);
+    hart.virt.reservation = None;
+    save(&hart, &part, &mut virt);
     virt.reservation.is_none()
 }
 
@@ -214,8 +225,8 @@ fn is_saved(mode: Mode) -> bool {
     let virt = guest(mode);
     let hart = loaded_for(&virt, &part, ROOT);
     let mut after = virt;
-    save_state(&hart, &part, &mut after);
-    after == virt
+    save(&hart, &part, &mut after);
+    is_same(&after, &virt)
 }
 
 // A trap from V = 0 into HS clears GVA, SPV, htval and htinst, and leaves SPVP (8.2.1, 8.2.8, 8.2.9).
@@ -235,10 +246,10 @@ fn is_saved_after_a_trap() -> bool {
     let part = part();
     let virt = guest(Mode::U);
     let mut hart = loaded_for(&virt, &part, ROOT);
-    hart.mode = Mode::VS;
-    hart.csrs.vs.cause = 8;
+    hart.virt.mode = Mode::VS;
+    hart.virt.csrs.vs.cause = 8;
     let mut after = virt;
-    save_state(&hart, &part, &mut after);
+    save(&hart, &part, &mut after);
     after.mode == Mode::HS
         && after.csrs.hs.cause == 8
         && after.csrs.hstatus.spv
@@ -263,34 +274,18 @@ fn translation(page: u64) -> FirstEntry
     }
 }
 
-// A buffer with one translation.
-fn buffer(alloc: Global, page: u64) -> Result<FirstBuffer, NoMemory> {
-    let mut first = FirstBuffer::new(alloc)?;
-    first.fill(translation(page));
-    Ok(first)
-}
-
-fn has(first: &FirstBuffer, page: u64) -> bool {
-    first.as_slice() == [translation(page)].as_slice()
-}
-
-// While the hart has the guest's first-stage translations, the guest has the hart's; the accesses are for
-// whom the guest's are.
-fn is_first_switched(alloc: Global, mode: Mode, tag: Tag) -> Result<bool, NoMemory> {
+// The hart has the guest's first-stage translations, in the place of those that it had, and the accesses are
+// for whom the guest's are. The guest gets those that the hart has afterwards.
+fn is_first_switched(mode: Mode, tag: Tag) -> bool {
     let part = part();
     let mut virt = guest(mode);
-    let mut first = buffer(alloc, 1)?;
-    let mut hart = HartState {
-        virt: Virtual::starting_at(Mode::VU, START),
-        first: buffer(alloc, 2)?,
-        tag: Tag::Nested(GuestRoot::Bare),
-    };
-    load(&virt, &mut first, &part, ROOT, &mut hart);
-    let loaded = has(&hart.first, 1) && has(&first, 2) && hart.tag == tag;
-    hart.first.fill(translation(3));
-    save(&mut hart, &part, &mut virt, &mut first);
+    virt.first.fill(translation(1));
+    let mut hart = loaded_for(&virt, &part, ROOT);
+    let loaded = hart.virt.first.as_slice() == [translation(1)].as_slice() && hart.tag == tag;
+    hart.virt.first.fill(translation(3));
+    save(&hart, &part, &mut virt);
     let both = [translation(1), translation(3)];
-    Ok(loaded && virt == guest(mode) && first.as_slice() == both.as_slice() && has(&hart.first, 2))
+    loaded && virt.first.as_slice() == both.as_slice()
 }
 
 #[test]
@@ -302,7 +297,7 @@ fn first_switched(rt: HostRuntime) {
         (Mode::VS, nested),
         (Mode::VU, nested),
     ] {
-        assert!(rt; is_first_switched(rt.alloc(), mode, tag) == Ok(true));
+        assert!(rt; is_first_switched(mode, tag));
     }
 }
 

@@ -3,7 +3,6 @@
 ghost use Rattle.std.specs.Prelude.{◌<◌};
 ghost use Rattle.std.specs.Option.{ForSome};
 
-use arch_defs::Interrupts;
 use virtual_timer::{Clock, WaitEnd};
 
 // From here on no moment is a wake moment.
@@ -79,11 +78,7 @@ fn waited(timer: bool, external: bool, moment: u64, input: Option<u64>) -> (Wait
 {
     let mut clock = Clock::new();
     clock.set(moment);
-    let sie = Interrupts {
-        software: true,
-        timer,
-        external,
-    };
+    let sie = 0x2 + timer as u64 * 0x20 + external as u64 * 0x200;
     (clock.wait(sie, input), clock.now())
 }
 

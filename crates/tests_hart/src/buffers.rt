@@ -6,7 +6,9 @@
 
 ghost use Rattle.std.specs.Prelude.{◌≤◌};
 
-use crate::cases::{CASE, Case, End, HELD, doubleword, hart_of, holds, memory_of, put, stop_of};
+use crate::cases::{
+    CASE, Case, End, HELD, are_same, doubleword, hart_of, holds, memory_of, put, stop_of,
+};
 use arch_defs::{FirstEntry, GuestRoot, Mode, Tag, Virtual};
 use rv64_hart::{Hart, PhysMem, Tally, Why};
 use sample_programs::LineFault;
@@ -465,18 +467,18 @@ fn has_pages(first: &[FirstEntry], pages: &[u64]) -> bool {
 
 fn is_cached(alloc: Global, row: &Cached) -> Result<bool, LineFault> {
     let mut memory = memory_of(alloc, &row.case)?;
-    let mut hart = hart_of(alloc, &row.case)?;
+    let mut hart = hart_of(&row.case);
     let stop = hart.run(&mut memory, 1, false, &mut Tally::new());
     Ok(
         stop == stop_of(row.case.taken, row.case.end)
-            && has_pages(hart.state().first.as_slice(), row.pages),
+            && has_pages(hart.state().virt.first.as_slice(), row.pages),
     )
 }
 
 // Whether another's accesses use what one has cached: each finds its own.
 fn is_by_tag(alloc: Global) -> Result<bool, LineFault> {
     let mut memory = memory_of(alloc, &BETWEEN_RUNS)?;
-    let mut hart = hart_of(alloc, &BETWEEN_RUNS)?;
+    let mut hart = hart_of(&BETWEEN_RUNS);
     let _ = hart.run(&mut memory, 2, false, &mut Tally::new());
     put(&mut memory, 0x4038, 8, 0x1CCF);
     hart.state_mut().tag = Tag::Nested(GuestRoot::Bare);
@@ -514,7 +516,7 @@ fn outcome_of(alloc: Global, case: &Case, limit: u64) -> Result<Outcome, LineFau
     requires { limit ≤ 100 }
 {
     let mut memory = memory_of(alloc, case)?;
-    let mut hart = hart_of(alloc, case)?;
+    let mut hart = hart_of(case);
     let mut tally = Tally::new();
     let why = run(&mut hart, &mut memory, limit, &mut tally);
     let state = hart.state().virt;
@@ -534,7 +536,7 @@ fn is_same_by_steps(alloc: Global, case: &Case) -> Result<bool, LineFault> {
     let steps = outcome_of(alloc, case, 1)?;
     Ok(
         steps.why == whole.why
-            && steps.state == whole.state
+            && are_same(&steps.state, &whole.state)
             && steps.taken == whole.taken
             && steps.trace == whole.trace
             && steps.word == whole.word,
@@ -552,7 +554,7 @@ fn walks_of_a_loop(alloc: Global, steps: u64) -> Result<Option<u64>, LineFault>
     requires { steps ≤ 100_000 }
 {
     let mut memory = memory_of(alloc, &LOOP)?;
-    let mut hart = Hart::new(alloc)?;
+    let mut hart = Hart::new();
     let stop = hart.run(&mut memory, steps, false, &mut Tally::new());
     if stop == stop_of(steps, End::Limit) {
         Ok(Some(hart.walks()))
@@ -575,7 +577,7 @@ const SECOND_BETWEEN_RUNS: Case = Case {
 // What the second load gives where somebody else has stored to a table between two runs.
 fn given_after(alloc: Global, case: &Case, at: u64, word: u64) -> Result<Option<u64>, LineFault> {
     let mut memory = memory_of(alloc, case)?;
-    let mut hart = hart_of(alloc, case)?;
+    let mut hart = hart_of(case);
     let mut tally = Tally::new();
     let _ = hart.run(&mut memory, 2, false, &mut tally);
     put(&mut memory, at, 8, word);

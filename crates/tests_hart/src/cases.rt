@@ -3,7 +3,6 @@
 ghost use Rattle.std.specs.Prelude.{◌≡◌, ◌⊎◌, ◌≤◌};
 
 use arch_defs::{Mode, Trap, Virtual};
-use no_memory::NoMemory;
 use rv64_hart::{Hart, PhysMem, Stop, Tally, Why};
 use sample_programs::places::{At, set_all, value_at};
 use sample_programs::{LineFault, words};
@@ -148,7 +147,7 @@ pub fn memory_of(alloc: Global, case: &Case) -> Result<PhysMem, LineFault> {
     Ok(memory)
 }
 
-pub fn started(case: &Case) -> Virtual {
+fn started(case: &Case) -> Virtual {
     let mut state = Virtual::starting_at(case.mode, START);
     let (regs, csrs, mode) = (&mut state.regs, &mut state.csrs, &mut state.mode);
     set_all(regs, csrs, mode, case.setting);
@@ -160,10 +159,10 @@ pub fn started(case: &Case) -> Virtual {
 }
 
 /// A hart that begins as a case says, with no first-stage translation cached.
-pub fn hart_of(alloc: Global, case: &Case) -> Result<Hart, NoMemory> {
-    let mut hart = Hart::new(alloc)?;
+pub fn hart_of(case: &Case) -> Hart {
+    let mut hart = Hart::new();
     hart.state_mut().virt = started(case);
-    Ok(hart)
+    hart
 }
 
 /// The trap of a cause. With V = 1 stval has a guest virtual address but for an illegal or virtual
@@ -210,7 +209,7 @@ pub fn stop_of(taken: u64, end: End) -> Stop {
 pub fn holds(alloc: Global, case: &Case) -> Result<bool, LineFault> {
     let mut memory = memory_of(alloc, case)?;
     let before = started(case);
-    let mut hart = hart_of(alloc, case)?;
+    let mut hart = hart_of(case);
     let mut tally = Tally::new();
     let stop = hart.run(&mut memory, case.limit.min(MOST), case.watch, &mut tally);
     Ok(
@@ -225,7 +224,16 @@ fn are_registers_left(case: &Case, before: &Virtual, after: &Virtual) -> bool {
     have(case.gives, after)
         && stay(case.stays, before, after)
         && after.reservation == case.reserved
-        && (case.taken != 0 || after == before)
+        && (case.taken != 0 || are_same(before, after))
+}
+
+/// Whether two states are the same, all that is cached too.
+pub fn are_same(one: &Virtual, other: &Virtual) -> bool {
+    one.regs == other.regs
+        && one.csrs == other.csrs
+        && one.mode == other.mode
+        && one.reservation == other.reservation
+        && one.first.as_slice() == other.first.as_slice()
 }
 
 fn have(values: &[(At, u64)], state: &Virtual) -> bool {

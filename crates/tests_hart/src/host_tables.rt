@@ -311,7 +311,7 @@ const CLEARED: Case = Case {
 // The walk is of memory as it is: without its leaf the block has no address any more.
 fn is_walked_as_it_is(alloc: Global) -> Result<bool, LineFault> {
     let mut memory = memory_of(alloc, &CLEARED)?;
-    let mut hart = hart_of(alloc, &CLEARED)?;
+    let mut hart = hart_of(&CLEARED);
     let before = hart.run(&mut memory, 1, false, &mut Tally::new());
     let (at, _) = HOST_LEAF;
     put(&mut memory, at, 8, 0);

@@ -27,7 +27,7 @@ const PROGRAM: Case = Case {
 // call itself. The sum of the four words made is 2_804F_F728, and that of their pcs 1C.
 fn is_run(alloc: Global) -> Result<bool, LineFault> {
     let mut memory = memory_of(alloc, &PROGRAM)?;
-    let mut hart = Hart::new(alloc)?;
+    let mut hart = Hart::new();
     let mut tally = Tally::new();
     let none = hart.run(&mut memory, 0, false, &mut tally);
     let two = hart.run(&mut memory, 2, false, &mut tally);

@@ -1,8 +1,8 @@
 // What access to data the instruction at pc wants, by the text of the standard (Unprivileged ISA 20191213,
 // 2.6 and 8). That access is told whether or not it has a place.
 
-use crate::cases::{CASE, Case, DATA, memory_of, started};
-use arch_defs::{FirstBuffer, Reg, Tag, Width};
+use crate::cases::{CASE, Case, DATA, hart_of, memory_of};
+use arch_defs::{Reg, Width};
 use op_defs::{AmoOp, DataAccess, Purpose};
 use rv64_hart::wanted_at;
 use sample_programs::LineFault;
@@ -188,8 +188,7 @@ fn access_of(wants: Option<(u64, Width, What)>) -> Option<DataAccess> {
 
 fn is_told(alloc: Global, row: &Row) -> Result<bool, LineFault> {
     let memory = memory_of(alloc, &row.case)?;
-    let first = FirstBuffer::new(alloc)?;
-    let wanted = wanted_at(&started(&row.case), &first, &Tag::Flat, &memory);
+    let wanted = wanted_at(hart_of(&row.case).state(), &memory);
     Ok(wanted == access_of(row.wants))
 }
 

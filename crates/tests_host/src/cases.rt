@@ -129,7 +129,16 @@ fn is_left(case: &Case, guest: &Guest) -> bool {
 fn are_registers_left(case: &Case, before: &Virtual, after: &Virtual) -> bool {
     have(case.gives, after)
         && stay(case.stays, before, after)
-        && (case.status != Status::Waiting || after == before)
+        && (case.status != Status::Waiting || are_same(after, before))
+}
+
+// Whether two states are the same, all that is cached too.
+fn are_same(one: &Virtual, other: &Virtual) -> bool {
+    one.regs == other.regs
+        && one.csrs == other.csrs
+        && one.mode == other.mode
+        && one.reservation == other.reservation
+        && one.first.as_slice() == other.first.as_slice()
 }
 
 fn have(values: &[(At, u64)], virt: &Virtual) -> bool {

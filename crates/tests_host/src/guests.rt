@@ -11,7 +11,7 @@ ghost use Rattle.guest_exit.specs.View.{IsPlaced};
 
 use crate::cases::Case;
 use crate::storable::is_storable;
-use arch_defs::{BLOCK_SIZE, FirstBuffer, Part, Virtual};
+use arch_defs::{BLOCK_SIZE, Part, Virtual};
 use guest_exit::{Console, Guest, Pool};
 use host_tables::build;
 use machine_defs::Status;
@@ -35,7 +35,6 @@ fn at_start(alloc: Global, case: &Case) -> Result<Guest, NoMemory>
         part,
         virt: Virtual::starting_at(case.mode, RAM_BASE),
         pool: Pool::new(alloc, &part, 1, 16)?,
-        first: FirstBuffer::new(alloc)?,
         clock: Clock::new(),
         console: console(alloc, case)?,
         steps: 0,

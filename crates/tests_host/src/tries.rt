@@ -41,7 +41,7 @@ pub fn tries(
     requires entries { tally.old.entries ≡ 0 }
     requires taken { tally.old.taken ≡ 0 }
 {
-    let mut hart = Hart::new(alloc)?;
+    let mut hart = Hart::new();
     let mut made = Vec::new(alloc);
     while made.len() < count {
         if guest.status != Status::Running {
@@ -74,10 +74,10 @@ fn one(guest: &mut Guest, hart: &mut Hart, memory: &mut PhysMem, most: u64, tall
         return By::HostByInterrupt;
     }
     let limit = limit(guest, most);
-    let stop = enter(guest, hart, memory, limit, false, tally);
+    let stop = enter(guest, hart, memory, limit, tally);
     match stop.why {
         Why::Limit => By::Hart(stop.taken),
         Why::VsTrap => By::HartByTrap(stop.taken),
-        Why::Exit(trap) => By::Host(handle(guest, memory, &trap)),
+        Why::Exit(trap) => By::Host(handle(guest, memory, trap)),
     }
 }

@@ -2,7 +2,7 @@
 // standard (Unprivileged ISA 20191213, 2.4, 5.2, 7 and 8.4), and not by `int_ops`.
 
 use arch_defs::{Width, extend};
-use int_ops::{alu, amo, word_alu};
+use int_ops::{double_alu, sized_amo, word_alu};
 use op_defs::{AluOp, AmoOp, WordOp};
 
 static ARITHMETIC: [(AluOp, u64, u64, u64); 102] = [
@@ -634,7 +634,7 @@ static ATOMICS: [(AmoOp, Width, u64, u64, u64); 46] = [
 #[test]
 fn arithmetic(rt: HostRuntime) {
     for &(op, a, b, want) in &ARITHMETIC {
-        assert!(rt; alu(op, a, b) == want, "{op:?} of {a} and {b}");
+        assert!(rt; double_alu(op, a, b) == want, "{op:?} of {a} and {b}");
     }
 }
 
@@ -649,7 +649,7 @@ fn words(rt: HostRuntime) {
 #[test]
 fn atomics(rt: HostRuntime) {
     for &(op, width, held, b, want) in &ATOMICS {
-        let stored = extend(width, false, amo(op, width, held, b));
+        let stored = extend(width, false, sized_amo(op, width, held, b));
         assert!(rt; stored == want, "{op:?} of {held} and {b}");
     }
 }

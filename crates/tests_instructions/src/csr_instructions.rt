@@ -2,7 +2,7 @@
 // and from chapter 9 of the Unprivileged ISA 20191213.
 
 use crate::performing::{
-    DONE, Ends, ILLEGAL, START, VIRTUAL, after, before, ends_as, timed, trapping,
+    DONE, Ends, ILLEGAL, START, VIRTUAL, after, are_same, before, ends_as, timed, trapping,
 };
 use arch_defs::{
     CsrEnd, Csrs, Interrupts, Mode, Reg, SupervisorMode, SupervisorRoot, SupervisorStatus, Virtual,
@@ -260,7 +260,7 @@ fn is_refused(mode: Mode, number: u16, written: Option<u64>, refusal: CsrEnd) ->
         None => reads(number),
     };
     let (end, state) = after(csrs, mode, &effect);
-    end == Performed::Refused(refusal) && state == before(csrs, mode)
+    end == Performed::Refused(refusal) && are_same(&state, &before(csrs, mode))
 }
 
 #[test]

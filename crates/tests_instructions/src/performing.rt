@@ -23,6 +23,15 @@ pub fn before(csrs: Csrs, mode: Mode) -> Virtual {
     state
 }
 
+/// Whether two states are the same, all that is cached too.
+pub fn are_same(one: &Virtual, other: &Virtual) -> bool {
+    one.regs == other.regs
+        && one.csrs == other.csrs
+        && one.mode == other.mode
+        && one.reservation == other.reservation
+        && one.first.as_slice() == other.first.as_slice()
+}
+
 /// How an instruction ends, and the state after it.
 pub fn after(csrs: Csrs, mode: Mode, effect: &Privileged) -> (Performed, Virtual) {
     let mut state = before(csrs, mode);

@@ -2,7 +2,7 @@
 // 20211203.
 
 use crate::performing::{
-    DONE, Ends, ILLEGAL, START, VIRTUAL, after, before, ends_as, timed, trapping,
+    DONE, Ends, ILLEGAL, START, VIRTUAL, after, are_same, before, ends_as, timed, trapping,
 };
 use arch_defs::{Csrs, Fence, GuestMode, GuestRoot, Mode, Reg, Tag, Width};
 use op_defs::{DataAccess, Privileged, Purpose};
@@ -155,7 +155,7 @@ fn is_left_to_be_made(width: Width, purpose: Purpose) -> bool {
     let (_, state) = after(timed(true), Mode::HS, &effect);
     ends_as(with_hu(false), &effect, &hlv_ends(&access, false))
         && ends_as(with_hu(true), &effect, &hlv_ends(&access, true))
-        && state == before(timed(true), Mode::HS)
+        && are_same(&state, &before(timed(true), Mode::HS))
 }
 
 #[test]
@@ -171,7 +171,7 @@ fn passes(mode: Mode, effect: &Privileged) -> bool {
     let (_, state) = after(timed(true), mode, effect);
     let mut want = before(timed(true), mode);
     want.regs.pc = START + 4;
-    state == want
+    are_same(&state, &want)
 }
 
 #[test]

@@ -85,7 +85,7 @@ pub fn frame_of(mem: &PhysMem, root: u64, page: u64) -> Option<u64>
         page * 4096,
         Access::Load,
     ) {
-        WalkEnd::Leaf(leaf) => Some(leaf.frame),
+        WalkEnd::Leaf(frame, ..) => Some(frame),
         _ => None,
     }
 }
@@ -115,7 +115,8 @@ pub fn filled(machine: &mut Machine, key: GuestRoot, entry: Entry) -> u64
     ensures part { machine.new.pool.part ≡ machine.old.pool.part }
     ensures small { result < 2 ^ 44 }
 {
-    let root = machine.pool.enter(&mut machine.mem, Key::of(key));
+    let key = Key::of(key);
+    let root = machine.pool.enter(&mut machine.mem, key);
     if entry.page >= 0x40_0000_0000 || entry.level > 3 {
         return root;
     }
@@ -123,7 +124,7 @@ pub fn filled(machine: &mut Machine, key: GuestRoot, entry: Entry) -> u64
         return root;
     }
     if entry.r {
-        machine.pool.fill(&mut machine.mem, entry);
+        machine.pool.fill(&mut machine.mem, key, entry);
     }
     root
 }

@@ -7,7 +7,7 @@ ghost use Rattle.std.specs.Prelude.{◌≡◌, ◌*◌, ◌≤◌, ◌<◌, ◌^
 ghost use Rattle.arch_defs.specs.Frames.{most_frames};
 ghost use Rattle.shadow_space.specs.Shadows.{Tidy};
 
-use arch_defs::{Access, LeafPte, Shape, TABLES_PER_ENTRY, WalkEnd};
+use arch_defs::{Access, Shape, TABLES_PER_ENTRY, WalkEnd};
 use phys_mem::{NoMemory, PhysMem};
 use sample_memory::{Words, memory, part, word_at};
 use shadow_space::{Entry, MOST_ENTRIES, Part, Space};
@@ -333,16 +333,8 @@ fn leads(mem: &PhysMem, page: u64, access: Access, frame: Option<u64>) -> bool {
         return false;
     }
     match (walked(mem, page, access), frame) {
-        (WalkEnd::Leaf(found), Some(frame)) => {
-            found
-                == LeafPte {
-                    frame,
-                    level: 0,
-                    r: true,
-                    w: access == Access::Store,
-                    x: true,
-                    u: true,
-                }
+        (WalkEnd::Leaf(found, 0, true, w, true, true), Some(frame)) => {
+            found == frame && w == (access == Access::Store)
         }
         (WalkEnd::PageFault, None) => true,
         _ => false,

@@ -2,6 +2,7 @@
 // Unprivileged ISA 20191213, 2.6, 8.2 and 8.4; Privileged Architecture 20211203, 3.1.15 for the codes, and
 // 8.6 for gva.
 
+use crate::states::are_same;
 use arch_defs::{Access, Csrs, Mode, Reg, Trap, Virtual, Width};
 use data_access::{DataAccess, Purpose, complete, kind_of, place_for};
 use op_defs::AmoOp;
@@ -195,7 +196,11 @@ fn is_right(alloc: Global, case: &Case) -> Result<bool, NoMemory> {
         purpose: purpose_of(case.what),
     };
     let end = made(&mut memory, &mut state, &wanted);
-    Ok(end.is_ok() && state == expected && has_words(&memory, &[(0x100, case.held), (0x108, 0)]))
+    Ok(
+        end.is_ok()
+            && are_same(&state, &expected)
+            && has_words(&memory, &[(0x100, case.held), (0x108, 0)]),
+    )
 }
 
 #[test]

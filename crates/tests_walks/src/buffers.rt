@@ -4,11 +4,11 @@
 // 7 to 0.
 
 ghost use Rattle.std.specs.Prelude.{IfOk};
-ghost use Rattle.translation_buffer.specs.Serving.{Serves};
+ghost use Rattle.translation_buffer.specs.Serving.{ServesHart};
 
 use arch_defs::{
-    Access, Csrs, FirstBuffer, FirstEntry, GuestMode, GuestRoot, Mode, SupervisorMode,
-    SupervisorRoot, Tag,
+    Access, Csrs, FirstEntry, GuestMode, GuestRoot, HartState, Mode, SupervisorMode,
+    SupervisorRoot, Tag, Virtual,
 };
 use phys_mem::{NoMemory, PhysMem};
 use sample_memory::{put, with_words};
@@ -318,10 +318,7 @@ static STORES: [(u64, u64, Option<u64>); 4] = [
 #[derive(Drop)]
 struct Trial {
     memory: PhysMem,
-    csrs: Csrs,
-    mode: Mode,
-    first: FirstBuffer,
-    owner: Tag,
+    state: HartState,
     buffer: Buffer,
 }
 
@@ -348,34 +345,32 @@ fn csrs_of(setting: &Setting) -> Csrs {
 }
 
 fn start(alloc: Global, setting: &Setting) -> Result<Trial, NoMemory>
-    ensures { IfOk result (λ t. Serves t.buffer t.first t.owner t.csrs t.mode t.memory) }
+    ensures { IfOk result (λ t. ServesHart t.buffer t.state t.memory) }
 {
-    let csrs = csrs_of(setting);
-    let mode = setting.mode;
     let memory = with_words(alloc, &TABLES)?;
-    let first = FirstBuffer::new(alloc)?;
+    let mut virt = Virtual::starting_at(setting.mode, 0);
+    virt.csrs = csrs_of(setting);
+    let buffer = Buffer::new(&virt.csrs, virt.mode);
+    let state = HartState { virt, tag: OWNER };
     Ok(Trial {
         memory,
-        csrs,
-        mode,
-        first,
-        owner: OWNER,
-        buffer: Buffer::new(&csrs, mode),
+        state,
+        buffer,
     })
 }
 
 fn fill(t: &mut Trial, entry: FirstEntry)
-    requires { Serves t.old.buffer t.old.first t.old.owner t.old.csrs t.old.mode t.old.memory }
-    ensures { Serves t.new.buffer t.new.first t.new.owner t.new.csrs t.new.mode t.new.memory }
+    requires { ServesHart t.old.buffer t.old.state t.old.memory }
+    ensures { ServesHart t.new.buffer t.new.state t.new.memory }
 {
     if entry.frame < 0x1000_0000_0000 {
-        t.buffer.fill(&mut t.first, entry);
+        t.buffer.fill(&mut t.state.virt.first, entry);
     }
 }
 
 fn fill_all(t: &mut Trial, entries: &[FirstEntry])
-    requires { Serves t.old.buffer t.old.first t.old.owner t.old.csrs t.old.mode t.old.memory }
-    ensures { Serves t.new.buffer t.new.first t.new.owner t.new.csrs t.new.mode t.new.memory }
+    requires { ServesHart t.old.buffer t.old.state t.old.memory }
+    ensures { ServesHart t.new.buffer t.new.state t.new.memory }
 {
     for i in 0..entries.len() {
         fill(t, entries[i]);
@@ -383,8 +378,8 @@ fn fill_all(t: &mut Trial, entries: &[FirstEntry])
 }
 
 fn crowd(t: &mut Trial, count: u64)
-    requires { Serves t.old.buffer t.old.first t.old.owner t.old.csrs t.old.mode t.old.memory }
-    ensures { Serves t.new.buffer t.new.first t.new.owner t.new.csrs t.new.mode t.new.memory }
+    requires { ServesHart t.old.buffer t.old.state t.old.memory }
+    ensures { ServesHart t.new.buffer t.new.state t.new.memory }
 {
     for i in 0..count.min(64) {
         let page = 0x100 + i;
@@ -393,26 +388,25 @@ fn crowd(t: &mut Trial, count: u64)
 }
 
 fn access(t: &mut Trial, va: u64, access: Access) -> Option<u64>
-    requires { Serves t.old.buffer t.old.first t.old.owner t.old.csrs t.old.mode t.old.memory }
-    ensures { Serves t.new.buffer t.new.first t.new.owner t.new.csrs t.new.mode t.new.memory }
+    requires { ServesHart t.old.buffer t.old.state t.old.memory }
+    ensures { ServesHart t.new.buffer t.new.state t.new.memory }
 {
-    t.buffer
-        .place(&t.memory, &t.csrs, t.mode, &t.first, &t.owner, va, access)
+    t.buffer.place(&t.memory, &t.state, va, access)
 }
 
 fn enter(t: &mut Trial, setting: &Setting)
-    requires { Serves t.old.buffer t.old.first t.old.owner t.old.csrs t.old.mode t.old.memory }
-    ensures { Serves t.new.buffer t.new.first t.new.owner t.new.csrs t.new.mode t.new.memory }
+    requires { ServesHart t.old.buffer t.old.state t.old.memory }
+    ensures { ServesHart t.new.buffer t.new.state t.new.memory }
 {
     let csrs = csrs_of(setting);
     t.buffer.follow(&csrs, setting.mode);
-    t.csrs = csrs;
-    t.mode = setting.mode;
+    t.state.virt.csrs = csrs;
+    t.state.virt.mode = setting.mode;
 }
 
 fn store(t: &mut Trial, at: u64, word: u64)
-    requires { Serves t.old.buffer t.old.first t.old.owner t.old.csrs t.old.mode t.old.memory }
-    ensures { Serves t.new.buffer t.new.first t.new.owner t.new.csrs t.new.mode t.new.memory }
+    requires { ServesHart t.old.buffer t.old.state t.old.memory }
+    ensures { ServesHart t.new.buffer t.new.state t.new.memory }
 {
     if at < t.memory.size() && at % 8 == 0 {
         t.buffer.open(at);
@@ -421,15 +415,15 @@ fn store(t: &mut Trial, at: u64, word: u64)
 }
 
 fn begin_again(t: &mut Trial, at: u64, word: u64)
-    ensures { Serves t.new.buffer t.new.first t.new.owner t.new.csrs t.new.mode t.new.memory }
+    ensures { ServesHart t.new.buffer t.new.state t.new.memory }
 {
     put(&mut t.memory, at, word);
-    t.buffer.restart(&t.csrs, t.mode);
+    t.buffer.restart(&t.state.virt.csrs, t.state.virt.mode);
 }
 
 fn is_found(t: &mut Trial, va: u64, kind: Access, place: u64) -> bool
-    requires { Serves t.old.buffer t.old.first t.old.owner t.old.csrs t.old.mode t.old.memory }
-    ensures { Serves t.new.buffer t.new.first t.new.owner t.new.csrs t.new.mode t.new.memory }
+    requires { ServesHart t.old.buffer t.old.state t.old.memory }
+    ensures { ServesHart t.new.buffer t.new.state t.new.memory }
 {
     let walks = t.buffer.walks();
     access(t, va, kind) == Some(place) && t.buffer.walks() == walks
@@ -437,8 +431,8 @@ fn is_found(t: &mut Trial, va: u64, kind: Access, place: u64) -> bool
 
 // Makes a step; whether the buffer answers as it should.
 fn is_made(t: &mut Trial, step: Step) -> bool
-    requires { Serves t.old.buffer t.old.first t.old.owner t.old.csrs t.old.mode t.old.memory }
-    ensures { Serves t.new.buffer t.new.first t.new.owner t.new.csrs t.new.mode t.new.memory }
+    requires { ServesHart t.old.buffer t.old.state t.old.memory }
+    ensures { ServesHart t.new.buffer t.new.state t.new.memory }
 {
     match step {
         Step::Makes(kind, va, place) => return access(t, va, kind) == place,

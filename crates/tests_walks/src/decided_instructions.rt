@@ -3,7 +3,8 @@
 // or immediate, funct3, rd, opcode.
 
 use crate::states::{
-    At, HSTATUS, SEPC, SSCRATCH, SSTATUS, START, VSEPC, VSSCRATCH, VSSTATUS, has, state_with,
+    At, HSTATUS, SEPC, SSCRATCH, SSTATUS, START, VSEPC, VSSCRATCH, VSSTATUS, are_same, has,
+    state_with,
 };
 use arch_defs::{Fence, Mode, Reg, Trap, Virtual, Width};
 use hcsr_emulation::{Accessed, Emulated, Op, access, emulate, is_decided};
@@ -204,7 +205,7 @@ fn has_end(case: &Ends, mode: Mode, end: End) -> bool {
         End::Illegal => 2,
         End::Virtual => 22,
     };
-    found == Some(Accessed::Raise(trap(cause, case.word))) && state == before
+    found == Some(Accessed::Raise(trap(cause, case.word))) && are_same(&state, &before)
 }
 
 fn ends_are_right(case: &Ends) -> bool {
@@ -498,7 +499,7 @@ fn goes_on(case: &Other, mode: Mode, want: Emulated, pc_by: u64) -> bool {
     let mut state = state_with(mode, &[(At::X(5), 0x400), (At::X(6), 3)]);
     let mut after = state;
     after.regs.pc = START + pc_by.min(4);
-    emulated(&mut state, &op_of(case.instruction)) == Some(want) && state == after
+    emulated(&mut state, &op_of(case.instruction)) == Some(want) && are_same(&state, &after)
 }
 
 // In U it is illegal, in VU a virtual instruction.

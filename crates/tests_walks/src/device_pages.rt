@@ -8,7 +8,7 @@ ghost use Rattle.guest_specs.specs.Inputs.{AreInputs};
 
 use crate::forms::End::{Done, Fault};
 use crate::forms::{Made, Row, ended, expected, op_of, state_after, state_before};
-use crate::states::{At, HSTATUS, SPVP};
+use crate::states::{At, HSTATUS, SPVP, are_same};
 use crate::translations::{End, csrs_for};
 use arch_defs::{Access, Mode, Trap, Width};
 use console_dev::Console;
@@ -370,7 +370,7 @@ fn is_made(alloc: Global, case: &OnPage) -> Result<bool, NoMemory> {
     let end = ended(&mut memory, &mut state, op, case.device, &mut console);
     Ok(
         end == Some(expected(case.row.1, case.row.2))
-            && state == state_after(before, case.row.2)
+            && are_same(&state, &state_after(before, case.row.2))
             && console.bytes() == case.bytes
             && console.unread().len() == case.unread,
     )

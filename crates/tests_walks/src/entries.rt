@@ -446,7 +446,7 @@ fn met_is_right(case: &Met, shape: Shape) -> bool {
     match case.end {
         End::Below => end == leaf(0, ALL),
         End::PageFault => end == WalkEnd::PageFault,
-        End::Here => matches!(end, WalkEnd::Leaf(found) if found.level == case.level),
+        End::Here => matches!(end, WalkEnd::Leaf(_, level, ..) if level == case.level),
     }
 }
 

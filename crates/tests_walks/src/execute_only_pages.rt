@@ -5,7 +5,7 @@ ghost use Rattle.arch_defs.specs.Frames.{LieIn, in_blocks};
 
 use crate::forms::End::{Done, Fault, Refused};
 use crate::forms::{End, HLV_BU, HLVX_HU, Made, Row, expected, op_of, state_after, state_before};
-use crate::states::{At, HGATP, HSTATUS, HU, MXR, SPVP, SSTATUS, VSSTATUS};
+use crate::states::{At, HGATP, HSTATUS, HU, MXR, SPVP, SSTATUS, VSSTATUS, are_same};
 use arch_defs::{Mode, Part, Virtual};
 use console_dev::Console;
 use hlv_hsv::{Accessed, Op, access};
@@ -130,7 +130,7 @@ fn in_ram_is_right(ram: &mut Ram, case: &InRam, console: &mut Console) -> bool
     let before = state_before(case.mode, case.given, &row);
     let mut state = before;
     let end = ended_in_ram(ram, &mut state, op_of(case.made), console);
-    end == Some(expected(0x1000, case.end)) && state == state_after(before, case.end)
+    end == Some(expected(0x1000, case.end)) && are_same(&state, &state_after(before, case.end))
 }
 
 // The name of the first access that does not end as it should.

@@ -7,7 +7,9 @@ use crate::forms::{
     HLV_B, HLV_BU, HLV_D, HLV_H, HLV_HU, HLV_W, HLV_WU, HLVX_HU, HLVX_WU, Made, Row, ended,
     expected, op_of, state_after, state_before,
 };
-use crate::states::{At, HGATP, HSTATUS, HU, MXR, SATP, SPVP, SSTATUS, SUM, VSATP, VSSTATUS};
+use crate::states::{
+    At, HGATP, HSTATUS, HU, MXR, SATP, SPVP, SSTATUS, SUM, VSATP, VSSTATUS, are_same,
+};
 use arch_defs::{Mode, Width};
 use console_dev::Console;
 use phys_mem::{NoMemory, PhysMem};
@@ -501,7 +503,7 @@ fn row_is_right(
     let before = state_before(mode, given, row);
     let mut state = before;
     let end = ended(memory, &mut state, op_of(row.0), false, console);
-    end == Some(expected(row.1, row.2)) && state == state_after(before, row.2)
+    end == Some(expected(row.1, row.2)) && are_same(&state, &state_after(before, row.2))
 }
 
 fn is_right(alloc: Global, case: &Case) -> Result<bool, NoMemory> {

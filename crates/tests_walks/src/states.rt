@@ -70,6 +70,15 @@ fn is_at(state: &Virtual, at: At, value: u64) -> bool {
     }
 }
 
+/// Whether two states are the same, all that is cached too.
+pub fn are_same(one: &Virtual, other: &Virtual) -> bool {
+    one.regs == other.regs
+        && one.csrs == other.csrs
+        && one.mode == other.mode
+        && one.reservation == other.reservation
+        && one.first.as_slice() == other.first.as_slice()
+}
+
 /// Whether a state has these values.
 pub fn has(state: &Virtual, values: &[(At, u64)]) -> bool {
     for &(at, value) in values {

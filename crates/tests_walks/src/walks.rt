@@ -4,7 +4,7 @@
 ghost use Rattle.std.specs.Prelude.{◌==◌, ◌<◌, ◌^◌, Ok, Err, if◌then◌else◌};
 
 use arch_defs::{Access, Trap};
-use stage_walk::{Fetch, LeafPte, Shape, WalkEnd, walk};
+use stage_walk::{Fetch, Shape, WalkEnd, walk};
 
 /// V, R, W, X, A and D.
 pub const LEAF: u64 = 0x20_0000_00CF;
@@ -127,14 +127,7 @@ pub const ALL: Rights = Rights {
 };
 
 pub fn leaf(level: u8, rights: Rights) -> WalkEnd {
-    WalkEnd::Leaf(LeafPte {
-        frame: 0x800_0000,
-        level,
-        r: rights.r,
-        w: rights.w,
-        x: rights.x,
-        u: rights.u,
-    })
+    WalkEnd::Leaf(0x800_0000, level, rights.r, rights.w, rights.x, rights.u)
 }
 
 // Whether a table whose root has leaves alone has an address.
@@ -407,10 +400,7 @@ fn unread_is_right(case: &Unread) -> bool {
         low: Err(UNREADABLE),
         otherwise: UNREADABLE,
     };
-    let end = WalkEnd::FetchEnd {
-        place: case.place,
-        trap: UNREADABLE,
-    };
+    let end = WalkEnd::FetchEnd(case.place, UNREADABLE);
     walk(
         &chain,
         root_of(case.shape),

@@ -2,8 +2,8 @@ use Rattle.std.proofs.Common.{◌≤◌, ◌+◌, ◌-◌, ◌*◌, ◌^◌, len
 use Rattle.guest_exit.specs.View.{IsPlaced}
 use Rattle.tests_host.proofs.tries.tries.Given as goal
 
-abbrev pub invariant-loop-guest : goal.invariant-loop-guest
-invariant-loop-guest l = record {
+abbrev pub invariant-loop-hart : goal.invariant-loop-hart
+invariant-loop-hart l = record {
   placed : IsPlaced l.guest l.memory;
   clock : l.guest.clock.time ≤ 2 ^ 62 + l.guest.steps;
   steps : l.guest.steps ≤ 100 * length l.made.items;
@@ -14,5 +14,5 @@ invariant-loop-guest l = record {
   most : l.most ≤ 100;
 }
 
-abbrev pub decreases-loop-guest : goal.decreases-loop-guest
-decreases-loop-guest l = l.count - length l.made.items
+abbrev pub decreases-loop-hart : goal.decreases-loop-hart
+decreases-loop-hart l = l.count - length l.made.items

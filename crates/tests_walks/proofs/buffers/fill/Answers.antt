@@ -2,4 +2,4 @@ use Rattle.tests_walks.proofs.buffers.fill.Goals as goal
 
 pub returns-then-entry-lt17592186044416 : goal.returns-then-entry-lt17592186044416
 returns-then-entry-lt17592186044416 c =
-    c.fill.ensures.serves c.args.t.now.owner c.args.t.now.csrs c.args.t.now.mode c.args.t.now.memory c.requires
+    c.fill.ensures.serves c.args.t.now.state.tag c.args.t.now.state.virt.csrs c.args.t.now.state.virt.mode c.args.t.now.memory c.requires
