@@ -1,5 +1,7 @@
-# Completion of bash for nesthv, nesthv-run, nesthv-inputs, nesthv-saved, nesthv-look and examples/run. Read it
-# by `source tools/completion.bash`, or install it.
+# Completion of bash for nesthv, its tools and examples/run. Read it by `source tools/completion.bash`, or
+# install it.
+_nesthv_image='--steps --blocks --spaces --entries --console --input --device --write'
+
 _nesthv() {
     if [ "$COMP_CWORD" -eq 1 ]; then
         mapfile -t COMPREPLY < <(compgen -W 'run replay check work save' -- "$2")
@@ -22,16 +24,24 @@ _nesthv_guests() {
     count=$(grep -c '^ *\[\[guest\]\]' -- "$1" 2>/dev/null) && seq 0 $((count - 1))
 }
 
+# _nesthv_words OPTIONS WORD: the options that fit, where WORD begins like one
+_nesthv_words() {
+    [[ $2 == -?* ]] && mapfile -t COMPREPLY < <(compgen -W "$1 --help" -- "$2")
+}
+
 _nesthv_run() {
     local folder names
     compopt -o filenames
     case $3 in
-    --expect) mapfile -t COMPREPLY < <(compgen -W 'running waiting stopped 0 1 2 3 4 5 6' -- "$2") && return ;;
-    --program) mapfile -t COMPREPLY < <(compgen -f -- "$2") && return ;;
-    --seconds) return ;;
+    --expect)
+        mapfile -t COMPREPLY < <(compgen -W 'running waiting stopped 0 1 2 3 4 5 6' -- "$2")
+        return
+        ;;
+    --program | --input | --write) mapfile -t COMPREPLY < <(compgen -f -- "$2") && return ;;
+    --seconds | --steps | --blocks | --spaces | --entries | --console) return ;;
     esac
-    if [[ $2 == -* ]]; then
-        mapfile -t COMPREPLY < <(compgen -W '--json --expect --progress --program --seconds --help' -- "$2")
+    if _nesthv_words "--json --expect --verdict --progress --program --quiet --raw --seconds --elf --version
+        $_nesthv_image" "$2"; then
         return
     fi
     folder=$(dirname -- "$1")/../examples
@@ -39,21 +49,46 @@ _nesthv_run() {
     mapfile -t COMPREPLY < <(compgen -W "run replay check save $names" -- "$2"; compgen -f -- "$2")
 }
 
-_nesthv_inputs() {
+# _nesthv_files OPTIONS WORD: the options that fit, or files
+_nesthv_files() {
     compopt -o filenames
-    if [[ $2 == -?* ]]; then
-        mapfile -t COMPREPLY < <(compgen -W '--text --help' -- "$2")
-    else
-        mapfile -t COMPREPLY < <(compgen -f -- "$2")
-    fi
+    _nesthv_words "$1" "$2" || mapfile -t COMPREPLY < <(compgen -f -- "$2")
+}
+
+_nesthv_inputs() {
+    _nesthv_files --text "$2"
 }
 
 _nesthv_saved() {
-    compopt -o filenames
-    if [[ $2 == -?* ]]; then
-        mapfile -t COMPREPLY < <(compgen -W '--console --ram --help' -- "$2")
+    _nesthv_files '--console --ram --raw' "$2"
+}
+
+_nesthv_qemu_run() {
+    case $3 in --guest | --seconds | --cpu) return ;; esac
+    _nesthv_files '--guest --traps --trace --gdb --seconds --plain --single --time --raw --cpu' "$2"
+}
+
+_nesthv_batch() {
+    case $3 in --only | --jobs | --seconds | --sshlogin) return ;; esac
+    _nesthv_files '--only --jobs --seconds --first --store --verdict --times --tap --json --junit --program
+        --sshlogin' "$2"
+}
+
+_nesthv_debug() {
+    case $3 in --gdb | --steps | --blocks | --spaces | --entries | --console) return ;; esac
+    if [[ $3 == *.toml ]] && [[ $2 != -* ]]; then
+        mapfile -t COMPREPLY < <(compgen -W "$(_nesthv_guests "$3")" -- "$2")
     else
-        mapfile -t COMPREPLY < <(compgen -f -- "$2")
+        _nesthv_files "--print --gdb --stub $_nesthv_image" "$2"
+    fi
+}
+
+_nesthv_gdb() {
+    compopt -o filenames
+    if [ "$COMP_CWORD" -eq 1 ]; then
+        mapfile -t COMPREPLY < <(compgen -d -- "$2"; compgen -f -X '!*.toml' -- "$2")
+    elif [ "$COMP_CWORD" -eq 2 ]; then
+        mapfile -t COMPREPLY < <(compgen -W "$(_nesthv_guests "$3")" -- "$2")
     fi
 }
 
@@ -68,8 +103,8 @@ _nesthv_look() {
     status) mapfile -t COMPREPLY < <(compgen -W 'waiting stopped' -- "$2") && return ;;
     esac
     if [[ $2 == -* ]]; then
-        mapfile -t COMPREPLY < <(compgen -W '--as --step --svg --most --elf --json --program --cache --cache-size
-            --help' -- "$2")
+        _nesthv_words "--as --step --svg --most --elf --json --program --cache --cache-size
+            $_nesthv_image" "$2"
         return
     fi
     for word in "${COMP_WORDS[@]:1:COMP_CWORD-1}"; do
@@ -87,4 +122,8 @@ complete -F _nesthv nesthv
 complete -F _nesthv_look nesthv-look tools/look
 complete -F _nesthv_inputs nesthv-inputs tools/inputs
 complete -F _nesthv_saved nesthv-saved tools/saved
+complete -F _nesthv_batch nesthv-batch tools/batch
+complete -F _nesthv_debug nesthv-debug tools/debug
+complete -F _nesthv_gdb nesthv-gdb dist/nesthv-gdb
+complete -F _nesthv_qemu_run nesthv-qemu-run tools/qemu-run
 complete -F _nesthv_run nesthv-run examples/run ./run tools/run

@@ -17,6 +17,7 @@ PROGRAM = os.path.join(TOP, "dist", "nesthv")
 LETTER = struct.pack("<5I", 0x00100893, 0x04100513, 0x73, 0x00800893, 0x73)
 LETTER_REPORT = b"guest a stopped steps 5 bytes 1\nA\n"
 LOOP = struct.pack("<I", 0x6F)  # jal zero, 0
+LIMIT = 600  # seconds that a test waits for a tool, which on a loaded machine may get little time
 GUEST = {"name": '"a"', "image": '"a.bin"', "blocks": 1, "spaces": 1, "entries": 16, "console": 100}
 
 
@@ -50,9 +51,10 @@ class ToolTest(unittest.TestCase):
 
     def tool(self, name, *words, **options):
         """Runs a tool in the folder, by the program of dist/, and gives what it wrote and its status."""
-        options = {"cwd": self.folder, "stdin": subprocess.DEVNULL, "stdout": subprocess.PIPE, **options}
+        options = {"cwd": self.folder, "stdin": subprocess.DEVNULL, "stdout": subprocess.PIPE, "timeout": LIMIT,
+                   **options}
         variables = {**os.environ, "NESTHV": PROGRAM, **options.pop("variables", {})}
-        ran = subprocess.run([os.path.join(TOP, name), *words], stderr=subprocess.PIPE, timeout=120,
+        ran = subprocess.run([os.path.join(TOP, name), *words], stderr=subprocess.PIPE,
                              env=variables, **options)
         ran.lines = ran.stderr.decode(errors="replace").splitlines()
         return ran

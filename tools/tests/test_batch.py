@@ -3,10 +3,9 @@ import json
 import os
 import signal
 import subprocess
-import time
 from xml.etree import ElementTree
 
-from helper import LETTER, LETTER_REPORT, LOOP, TOOLS, ToolTest, take_interrupts
+from helper import LETTER, LETTER_REPORT, LIMIT, LOOP, TOOLS, ToolTest, take_interrupts
 
 ENDLESS = "format = 1\nquantum = 4294967296\nrounds = 1000\n"
 
@@ -65,7 +64,7 @@ class BatchTest(ToolTest):
         lines = self.lines_of(self.batch(), 1)
         self.assertEqual([line for line in lines if line[0] != "#"], [
             "PASS a.toml", "FAIL b.toml status 2", "FAIL c.toml status 3", "FAIL d.toml status 3"])
-        for words in ("# nesthv: configuration fault 8 guest 0", "is it to be `console`?",
+        for words in ("# nesthv: configuration fault 8 guest 0", "did you mean `console`?",
                       "none.bin of guest 0 cannot be read: there is no such file",
                       "d.report cannot be read: it is a folder"):
             self.assertTrue(any(words in line for line in lines), (words, lines))
@@ -102,7 +101,7 @@ class BatchTest(ToolTest):
         self.assertEqual(self.lines_of(self.batch("--tap"), 1), [
             "1..2", "ok 1 - a.toml: PASS",
             "not ok 2 - b.toml: FAIL the report differs from the stored one at 5",
-            "# the stored report is no whole report, and differs at byte 5", "# 1 of 2 passed"])
+            "# the stored report is not a whole report, and differs at byte 5", "# 1 of 2 passed"])
 
     def test_json_and_junit(self):
         self.put("kept/b.report", b"guest")
@@ -118,12 +117,20 @@ class BatchTest(ToolTest):
         self.assertIn("the report differs from the stored one at 5", cases["b.toml"].get("message"))
 
     def test_many(self):
-        """Sixty configurations take some seconds."""
+        """Sixty configurations take some seconds of a processor."""
         for number in range(60):
             self.configure(f"kept/b{number}.toml")
-        begin = time.monotonic()
+        before = os.times()
         self.assertEqual(self.lines_of(self.batch(), 0)[-1], "# 61 of 61 passed")
-        self.assertLess(time.monotonic() - begin, 60)
+        after = os.times()
+        self.assertLess(after.children_user + after.children_system
+                        - before.children_user - before.children_system, 60)
+
+    def test_names_with_line_feeds(self):
+        self.configure("kept/b\n#ok 9.toml")
+        self.assertEqual(self.lines_of(self.batch("--tap"), 0),
+                         ["1..2", "ok 1 - a.toml: PASS", "ok 2 - b\\n ok 9.toml: PASS", "# 2 of 2 passed"])
+        self.assertEqual(self.lines_of(self.batch(), 0)[1], "PASS b\\n#ok 9.toml")
 
     def test_names_that_are_no_text(self):
         path = os.path.join(os.fsencode(self.folder), b"kept", b"\xff.toml")
@@ -131,7 +138,7 @@ class BatchTest(ToolTest):
             other.write(file.read())
         for words in ([], ["--tap"], ["--json"], ["--junit", "out.xml"]):
             self.check_plain(self.batch(*words), 1)
-        self.assertIn("is no UTF-8", self.batch().stdout.decode())
+        self.assertIn("is not UTF-8", self.batch().stdout.decode())
 
     def test_other_machines(self):
         """By a script that stands for GNU parallel, and runs each command here."""
@@ -167,5 +174,5 @@ class BatchTest(ToolTest):
                                    env={**os.environ, "NESTHV": f"{TOOLS}/../dist/nesthv"})
         self.assertEqual(started.stdout.readline(), b"PASS a.toml\n")
         started.send_signal(signal.SIGINT)
-        _, lines = started.communicate(timeout=20)
+        _, lines = started.communicate(timeout=LIMIT)
         self.assertEqual((started.returncode, lines), (130, b"tools/batch: interrupted\n"))

@@ -1,9 +1,9 @@
-"""Tests of examples/build: sources of one's own. They want the GNU tools for RISC-V."""
+"""Tests of examples/build: sources of one's own. They need the GNU tools for RISC-V."""
 import os
 import shutil
 import struct
 
-from helper import LETTER, LETTER_REPORT, ToolTest
+from helper import LETTER, ToolTest
 
 PUT = "li a7, 1\nli a0, {}\necall\n"
 STOP = "li a7, 8\necall\n"

@@ -8,6 +8,7 @@ import struct
 import subprocess
 
 from helper import LETTER, LETTER_REPORT, LOOP, TOP, ToolTest
+from nesthv_tools import images, reports
 
 MEBIBYTE = 1 << 20
 LONG = "format = 1\nquantum = 1000000\nrounds = 1\n"
@@ -37,16 +38,16 @@ class ConfigurationTest(ToolTest):
             self.check_unsaid(ran, "is enough")
 
     def test_device(self):
-        self.check_unsaid(self.refused("is no regular file", image='"/dev/zero"'), "is enough")
+        self.check_unsaid(self.refused("is not a regular file", image='"/dev/zero"'), "is enough")
 
     def test_misspelt_keys(self):
-        self.refused("`consle` (is it to be `console`?)", consle=1)
-        self.refused("lacks `entries`: an integer from 16 to 256 (is `entires` to be it?)", entries=None,
+        self.refused("`consle` (did you mean `console`?)", consle=1)
+        self.refused("lacks `entries`: an integer from 16 to 256 (did you misspell it as `entires`?)", entries=None,
                      entires=16)
-        self.refused("(is `quantun` to be it?)", front="format = 1\nquantun = 1\nrounds = 1\n")
-        self.refused("the file lacks `format = 1` or `format = 2` (is `formta` to be it?)",
+        self.refused("(did you misspell it as `quantun`?)", front="format = 1\nquantun = 1\nrounds = 1\n")
+        self.refused("the file lacks `format = 1` or `format = 2` (did you misspell it as `formta`?)",
                      front="formta = 1\nquantum = 1\nrounds = 1\n")
-        self.check_unsaid(self.refused("`zzz`", zzz=1), "is it to be")
+        self.check_unsaid(self.refused("`zzz`", zzz=1), "did you mean")
 
 
 class EntryTest(ToolTest):
@@ -55,7 +56,6 @@ class EntryTest(ToolTest):
         return [line for line in ran.lines if "compressed" in line]
 
     def test_images_of_the_repository(self):
-        import images
         for path in glob.glob(f"{TOP}/examples/*/*.bin") + glob.glob(f"{TOP}/bench/*/*.bin"):
             self.assertEqual(images.notices_at(path), [], path)
 
@@ -86,7 +86,6 @@ class EntryTest(ToolTest):
 
     def test_any_image(self):
         """Any words are followed to an end, also from a file, where far addresses have no place."""
-        import images
         chosen = random.Random(46)
         kinds = (0x6F, 0x67, 0x63, 0x73, 0x17, 0x37, 0x13, 0x03, 0x23, 0x0F)
         for _ in range(300):
@@ -147,7 +146,6 @@ class DifferenceTest(ToolTest):
         self.check_said(ran, "guest a: console byte 0: 'B' -> 'A'")
 
     def test_words(self):
-        import reports
         one = b"guest a stopped steps 5 bytes 2\nAB\n"
         other = b"guest a stopped steps 5 bytes 1\nA\n"
         self.assertEqual(reports.differences(one, one), [])
@@ -155,6 +153,6 @@ class DifferenceTest(ToolTest):
                          ["guest a: bytes 2 -> 1, console byte 1: 'B' -> its end"])
         self.assertEqual(reports.differences(one + other, one), ["guests 2 -> 1"])
         self.assertEqual(reports.differences(one[:-1], one),
-                         ["the stored report is no whole report, and differs at byte 34"])
+                         ["the stored report is not a whole report, and differs at byte 34"])
         for wrong in (b"", b"guest", one + b"\n"):
-            self.assertIn("no whole report", reports.differences(wrong, one)[0])
+            self.assertIn("not a whole report", reports.differences(wrong, one)[0])

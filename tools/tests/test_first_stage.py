@@ -3,8 +3,9 @@ import json
 import unittest
 from xml.dom import minidom
 
-from forms import HGATP, form
+from saved_files import HGATP, form
 from test_look import GIVEN, answers_of, pointer, ram_of
+from nesthv_tools import drawing, fences, presentation, saves, state_changes, walks
 
 
 class FirstStageTest(unittest.TestCase):
@@ -15,18 +16,15 @@ class FirstStageTest(unittest.TestCase):
     TABLES = {"at80007000": 0x80000000 >> 2 | 0xCF, "at80008008": 0xCB}
 
     def saved(self, first, words=None, **numbers):
-        import saves
         tables = {"at80004000": pointer(0x80005000), "at80005000": pointer(0x80006000),
                   "at80006008": GIVEN >> 2 | 0xD7, **self.TABLES, **(words or {})}
         return saves.Saved(form(first=first, ram=ram_of(**tables), **{
             "hgatp": HGATP, "satp": self.SATP, "vsatp": self.VSATP, "spaces": 2, **numbers}))
 
     def lines(self, saved, address, mode):
-        import views
-        import walks
-        found = views.translation_of(walks.Translation(walks.View(saved, mode), address), saved)
+        found = presentation.translation_of(walks.Translation(walks.View(saved, mode), address), saved)
         json.dumps(found)
-        return views.lines_of_translation(found)
+        return presentation.lines_of_translation(found)
 
     def test_supervisor(self):
         """A stale translation is used where it permits, and else the table."""
@@ -70,8 +68,6 @@ class FirstStageTest(unittest.TestCase):
         self.assertEqual(answers_of(saved, 0x40001008, "VU")["load"], "U clear")
 
     def test_stale(self):
-        import views
-        import walks
         first = [(0, 0, self.SATP, 0x80008, 0x80008, 7 + 16), (0, 0, self.SATP, 1, 0x80001, 7),
                  (0, 0, self.SATP, 2, 0x80002, 7 + 16), (1, HGATP, self.VSATP, 0x40001, 1, 5 + 16),
                  (1, HGATP, self.VSATP, 5, 1, 1), (1, 0, self.SATP, 0, 0x80000, 7 + 16),
@@ -81,32 +77,27 @@ class FirstStageTest(unittest.TestCase):
             (0x80008, "cached 80008000 rwx-, table says V clear"), (1, "cached of level 0, table has level 2"),
             (5, "cached 1000 r---, table says V clear"),
             (0, "cached 80001000 rwx-, table says 80000000 rwx-")])
-        lines = views.lines_of_maps(views.maps_of(saved))
+        lines = presentation.lines_of_maps(presentation.maps_of(saved))
         for line in ("  cached 2000 -> 80002000 rwx- level 2", "  stale 5000: cached 1000 r---, table says V clear",
-                     f"first stage by vsatp: Sv39, ASID 1, root 80007000, hgatp 0, not present"):
+                     "first stage by vsatp: Sv39, ASID 1, root 80007000, hgatp 0, not present"):
             self.assertIn(line, lines)
 
     def test_drawing(self):
-        import drawing
-        import views
         saved = self.saved([(0, 0, self.SATP, 1, 0x80009, 1), (1, HGATP, self.VSATP, 0x40002, 1, 1)])
-        drawn = minidom.parseString(drawing.svg_of(views.maps_of(saved)))
+        drawn = minidom.parseString(drawing.svg_of(presentation.maps_of(saved)))
         kinds = [each.getAttribute("class") for each in drawn.getElementsByTagName("path")]
         self.assertEqual(kinds.count("stale"), 2)
 
     def test_changes(self):
-        import views
         entry = (0, 0, self.SATP, 1, 0x80009, 1)
         one, other = self.saved([]), self.saved([entry, (1, 0, self.SATP, 2, 0x80009, 1)])
-        self.assertEqual(views.cache_changes(one, other), [("filled satp", "1000", "80009000"),
-                                                           ("filled vsatp", "2000", "80009000")])
-        self.assertEqual(views.cache_changes(other, one)[0], ("dropped satp", "1000", "80009000"))
-        self.assertEqual(views.differences(one, other), [])
+        self.assertEqual(state_changes.cache_changes(one, other), [("filled satp", 0x1000, 0x80009000),
+                                                                  ("filled vsatp", 0x2000, 0x80009000)])
+        self.assertEqual(state_changes.cache_changes(other, one)[0], ("dropped satp", 0x1000, 0x80009000))
+        self.assertEqual(state_changes.differences(one, other), [])
 
     def test_drops(self):
         """Those for V = 1 are dropped with the spaces, and those of satp apart."""
-        import fences
-        import saves
         held = [(HGATP, [(1, 0x80009, 1)])]
         first = [(0, 0, self.SATP, 1, 0x80009, 1), (1, HGATP, self.VSATP, 2, 0x80009, 1)]
 

@@ -5,6 +5,7 @@ import struct
 import subprocess
 
 from helper import LOOP, PROGRAM, TOOLS, ToolTest
+from nesthv_tools import faults
 
 FORMAT_2 = "format = 2\nquantum = 1000\nrounds = 1\n"
 # li a7, 2; ecall; li a7, 1; ecall; li a7, 8; ecall: puts the first input
@@ -69,23 +70,22 @@ class FormatTest(ToolTest):
         ran = self.said(2, "lower one of the two", front=front, weight=2)
         self.check_said(ran, "nesthv: configuration fault 13 guest 0 value 8589934592")
         self.check_said(ran, "`weight` of guest 0 ('a') is 2 and `quantum` is 4294967296")
-        self.said(2, "`weight` of guest 0 ('a') is 0: it is to be an integer from 1 to 1,000", weight=0)
-        self.said(2, "(is it to be `weight`?)", wieght=2)
+        self.said(2, "`weight` of guest 0 ('a') is 0: it must be an integer from 1 to 1,000", weight=0)
+        self.said(2, "(did you mean `weight`?)", wieght=2)
 
     def check_explained(self, line, words, head, **keys):
         """Checks what is said of a line of the program, for one guest below these lines of a file."""
-        import faults
         path = self.configure(front=head + "quantum = 1\nrounds = 1\n", **keys)
         self.assertIn(words, faults.explained(line, path, faults.text_of(path)))
 
     def test_spare_blocks(self):
-        fault, range_ = "nesthv: configuration fault ", "it is to be an integer from 0 to 32"
+        fault, range_ = "nesthv: configuration fault ", "it must be an integer from 0 to 32"
         for head, line, words in (
                 ("format = 2\nspare = 33\n", "4 key spare value 33", "`spare` is 33: " + range_),
                 ("format = 2\nspare = -1\n", "4 key spare value -1", "`spare` is -1: " + range_),
                 ('format = 2\nspare = "1"\n', "4 key spare", "`spare` is '1': " + range_),
                 ("format = 1\nspare = 1\n", "8", "the file has `spare` (a key of `format = 2`)"),
-                ("format = 2\nspair = 1\n", "8", "the file has `spair` (is it to be `spare`?)"),
+                ("format = 2\nspair = 1\n", "8", "the file has `spair` (did you mean `spare`?)"),
                 ("format = 2\nspare = 32\n", "11 value 131073", "the guests and the spare blocks need 131073"),
                 ("format = 2\nspare = 32\n", "11 value 131073", "By guest: 0: 569; `spare = 32`: 16384"),
                 ("format = 2\n", "11 value 131073", "the guests need 131073 frames")):
@@ -93,7 +93,7 @@ class FormatTest(ToolTest):
 
     def test_device_page(self):
         fault, two = "nesthv: configuration fault ", "format = 2\n"
-        range_ = ": it is to be an integer, 0 or 1"
+        range_ = ": it must be an integer, 0 or 1"
         resumed = {key: None for key in ("image", "blocks", "spaces", "entries", "console")}
         resumed["resume"] = '"s"'
         for head, keys, line, words in (
@@ -102,7 +102,7 @@ class FormatTest(ToolTest):
                 (two, {"device": -1}, "4 guest 0 key device value -1", "is -1" + range_),
                 (two, {"device": "true"}, "4 guest 0 key device", "is true" + range_),
                 (two, {"device": '"1"'}, "4 guest 0 key device", "is '1'" + range_),
-                (two, {"devise": 1}, "8 guest 0", "`devise` (is it to be `device`?)"),
+                (two, {"devise": 1}, "8 guest 0", "`devise` (did you mean `device`?)"),
                 (two, {"device": 1}, "8 guest 0", "each key of guest 0 ('a') is one that it may have"),
                 (two, resumed | {"device": 0}, "8 guest 0", "`device` (the file that `resume` names tells"),
                 (two + "device = 1\n", {}, "8", "the file has `device`, and its keys are"),
@@ -117,7 +117,7 @@ class FormatTest(ToolTest):
         self.said(2, "`weight` (a key of `format = 2`)", front=front, weight=2)
         self.said(2, "the name of a file is of `format = 2`", front=front, input='"in"')
         self.said(2, "pairs are of `format = 1`", input="[[1, 2]]")
-        self.said(2, "`format` is to be 1 or 2", front=front.replace("format = 1", "format = 3"))
+        self.said(2, "`format` must be 1 or 2", front=front.replace("format = 1", "format = 3"))
 
     def test_progress(self):
         self.put("b.bin", LOOP)
@@ -138,7 +138,6 @@ class FormatTest(ToolTest):
 
     def test_changed_configurations(self):
         """Whatever the program takes or refuses, the tool explains it without a traceback."""
-        import faults
         chosen = random.Random(39)
         self.put("in", record(7, 65) + b"\0")
         with open(self.configure(front=FORMAT_2, weight=3, input='"in"'), "rb") as file:

@@ -42,19 +42,19 @@ class InputsTest(ToolTest):
             self.assertEqual(self.made(text), b"".join(record(*pair) for pair in pairs), text)
 
     def test_texts_that_are_wrong(self):
-        for text, words in (('x "a"', "line 1: x is no moment"), ('"a"', "line 1: \"a\" is no moment"),
-                            ('\n-1 "a"', "line 2: -1 is no moment"), ("10", "line 1: no byte"),
-                            ('10 ""', "line 1: no byte"), ("10 256", "line 1: 256 is no byte"),
-                            ("10 1__", "line 1: 1__ is no byte"), ('10 "a', "line 1: a text has no end"),
+        for text, words in (('x "a"', "line 1: x is not a moment"), ('"a"', "line 1: \"a\" is not a moment"),
+                            ('\n-1 "a"', "line 2: -1 is not a moment"), ("10", "line 1: no byte"),
+                            ('10 ""', "line 1: no byte"), ("10 256", "line 1: 256 is not a byte"),
+                            ("10 1__", "line 1: 1__ is not a byte"), ('10 "a', "line 1: a text has no end"),
                             ('10 "a\\"', "line 1: a text has no end"),
-                            ('10 "\\q"', "line 1: \\q is no escape"),
-                            ('10 "\\x4"', "line 1: \\x is no escape"), ("0x 1", "line 1: 0x is no moment"),
-                            ("9" * 5000 + " 1", "is no moment"),
+                            ('10 "\\q"', "line 1: \\q is not an escape"),
+                            ('10 "\\x4"', "line 1: \\x is not an escape"), ("0x 1", "line 1: 0x is not a moment"),
+                            ("9" * 5000 + " 1", "is not a moment"),
                             ('5 "ab"\n# c\n5 "c"', "line 3: the moment 5 is less than 6"),
-                            ('4611686018427387904 "a"', "line 1: 4611686018427387904 is no moment"),
+                            ('4611686018427387904 "a"', "line 1: 4611686018427387904 is not a moment"),
                             ('4611686018427387903 "ab"', "line 1: the last of 2 bytes"),
                             ("0 1\n" * 65536 + "0 1", "line 65537: this makes more than 65,536"),
-                            (b"\n10 \"\xff\"", "line 2: it is no UTF-8"), (b"\0", "line 1: ")):
+                            (b"\n10 \"\xff\"", "line 2: it is not UTF-8"), (b"\0", "line 1: ")):
             self.refused(words, text)
 
     def test_records_that_are_wrong(self):

@@ -5,6 +5,7 @@ import struct
 import sys
 
 from helper import GUEST, TOP, ToolTest
+from nesthv_tools import faults
 
 sys.path.insert(0, os.path.join(TOP, "bench"))
 RAM = 0x80000000
@@ -29,7 +30,6 @@ def second_walk(image, hgatp, address):
 
 class FramesTest(ToolTest):
     def test_sum(self):
-        import faults
         self.assertEqual(faults.frames_of({"blocks": 1, "spaces": 1, "entries": 16}), 512 + 5 + 4 + 16 * 3)
         self.assertEqual(faults.frames_of({"blocks": 32, "spaces": 8, "entries": 256}), 16384 + 5 + 8 * (4 + 768))
 

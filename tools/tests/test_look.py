@@ -1,18 +1,23 @@
 """Tests of tools/look and of what it stands on."""
 import json
 import os
+import signal
 import struct
 import subprocess
+import time
 import unittest
 from xml.dom import minidom
 
-from forms import HGATP, form
-from helper import LETTER, LOOP, PROGRAM, TOOLS, TOP, ToolTest
+from saved_files import HGATP, form
+from helper import LETTER, LIMIT, LOOP, PROGRAM, TOOLS, TOP, ToolTest
+from nesthv_tools import (
+    drawing, guest_runs, presentation, registers, saves, searches, state_cache, state_changes, symbols, trap_causes,
+    walks)
 
 FAKE = os.path.join(TOOLS, "tests", "fake-program")
 TABLE = 0x80004000  # of HGATP
 GIVEN = 0x80008000
-# auipc t0, 0; addi t0, t0, 28; csrw stvec, t0; li a7, 1; li a0, 65; ecall; what is no instruction; and from
+# auipc t0, 0; addi t0, t0, 28; csrw stvec, t0; li a7, 1; li a0, 65; ecall; what is not an instruction; and from
 # 28 on li a0, 66; ecall; li a7, 8; ecall
 TRAPPING = struct.pack("<11I", 0x00000297, 0x01C28293, 0x10529073, 0x00100893, 0x04100513, 0x73, 0xFFFFFFFF,
                        0x04200513, 0x73, 0x00800893, 0x73)
@@ -40,7 +45,6 @@ def pointer(place):
 
 def saved_of(held=(), words=None, **numbers):
     """A saved guest under HGATP, whose table maps page 1 of the guest to GIVEN, with V, R, W, U, A and D."""
-    import saves
     tables = {"at80004000": pointer(0x80005000), "at80005000": pointer(0x80006000),
               "at80006008": GIVEN >> 2 | 0xD7}
     return saves.Saved(form(held=held, ram=ram_of(**{**tables, **(words or {})}),
@@ -48,7 +52,6 @@ def saved_of(held=(), words=None, **numbers):
 
 
 def answers_of(saved, address, mode="VS"):
-    import walks
     found = walks.Translation(walks.View(saved, mode), address)
     return {kind: answer.wrong or f"{answer.address:x}{'*' * answer.is_cached}"
             for kind, answer in found.answers.items()}
@@ -56,14 +59,12 @@ def answers_of(saved, address, mode="VS"):
 
 class SavedTest(unittest.TestCase):
     def test_form(self):
-        import saves
         for data in (form(), form(b"Hi", [(5, 65)], [(HGATP, [(1, 0x80000, 5), (2, 0x80001, 7 + 8)])], x3=7)):
             self.assertEqual(saves.Saved(data).form(), data)
 
     def test_changed(self):
-        import saves
         saved = saves.Saved(form(held=[(HGATP, [(1, 0x80000, 5)])]))
-        self.assertEqual(saved.changed(spaces=[(HGATP, [])], x7=3), form(held=[(HGATP, [])], x7=3))
+        self.assertEqual(saved.changed({"x7": 3}, [(HGATP, [])]), form(held=[(HGATP, [])], x7=3))
         self.assertEqual(saved.form(), form(held=[(HGATP, [(1, 0x80000, 5)])]))
 
     def test_word_at(self):
@@ -90,10 +91,9 @@ class WalkTest(unittest.TestCase):
         saved = saved_of(words={"at80006008": 0x90000000 >> 2 | 0xD7})
         self.assertEqual(answers_of(saved, 0x1000)["store"], "90000000 is not in RAM")
         saved = saved_of(words={"at80005000": 0x80001000 >> 2 | 0xDF})
-        self.assertIn("no multiple of the 512 frames", answers_of(saved, 0x1000)["load"])
+        self.assertIn("not a multiple of the 512 frames", answers_of(saved, 0x1000)["load"])
 
     def test_cached(self):
-        import walks
         saved = saved_of(held=[(HGATP, [(1, 0x80009, 1), (3, 0x8000A, 3)])])
         self.assertEqual(answers_of(saved, 0x1008),
                          {"fetch": "no X", "load": "80009008*", "store": "80008008"})
@@ -125,32 +125,37 @@ class WalkTest(unittest.TestCase):
         self.assertEqual(set(answers_of(saved, 0x200123, "HS").values()), {"80200123 is not in RAM"})
 
     def test_maps(self):
-        import drawing
-        import views
-        import walks
         saved = saved_of(held=[(HGATP, [(1, 0x80009, 1)])],
                          words={"at80006010": GIVEN + 4096 >> 2 | 0xD7, "at80006018": GIVEN >> 2 | 0x97,
                                 "at80007000": 0x80000000 >> 2 | 0xCF}, satp=8 << 60 | 0x80007)
-        lines = views.lines_of_maps(views.maps_of(saved))
+        lines = presentation.lines_of_maps(presentation.maps_of(saved))
         for line in ("  0000000000000000    200000  rwx-  -> 80000000",
                      "  0000000000200000  3fe00000  rwx-  -> 80200000  not usable: not in RAM",
                      "  0000000000001000      2000  rw-  -> 80008000",
                      "  0000000000003000      1000  rw-  -> 80008000  not usable: A clear",
                      "  stale 1000: cached 80009000 r--, table says 80008000 rw-"):
             self.assertIn(line, lines)
-        drawn = minidom.parseString(drawing.svg_of(views.maps_of(saved)))
+        drawn = minidom.parseString(drawing.svg_of(presentation.maps_of(saved)))
         kinds = [each.getAttribute("class") for each in drawn.getElementsByTagName("path")]
         self.assertEqual(sorted(kinds), ["band", "band", "stale"])
         texts = [each.firstChild.data for each in drawn.getElementsByTagName("text")]
-        for text in ("80008000 +1000  satp rwx-, VMID 1 rw-", "1000 +2000 rw-",
-                     "80009000 +1000  satp rwx-, VMID 1 rw-, VMID 1 r-- stale",
+        for text in ("0x80008000, 4 KiB: satp rwx-, VMID 1 rw-", "0x1000, 8 KiB: rw-",
+                     "0x80009000, 4 KiB: satp rwx-, VMID 1 rw-, VMID 1 r-- stale",
                      "dashed: a cached translation that is stale"):
             self.assertIn(text, texts)
         self.check_apart(drawn)
+        whole = drawn.documentElement
+        sizes = [whole.getAttribute(name) for name in ("width", "height")]
+        self.assertEqual(whole.getAttribute("viewBox"), f"0 0 {sizes[0]} {sizes[1]}")
+        self.assertEqual(drawn.getElementsByTagName("title")[0].firstChild.data, "Address spaces at step 0")
+        self.assertIn("present: hgatp names this table now", texts)
+        self.assertFalse([text for text in texts if text.startswith("VS and VU")])  # it has no table
+        self.assertEqual([drawing.shown_size(size) for size in (8, 4096, 6 << 20, 5 << 30)],
+                         ["8 bytes", "4 KiB", "6 MiB", "5 GiB"])
         endless = saved_of(words={f"at{place:x}": pointer(TABLE)
                                   for place in range(TABLE, TABLE + 0x4000, 8)})
         self.assertTrue(walks.map_of(endless, HGATP, True).is_cut)
-        minidom.parseString(drawing.svg_of(views.maps_of(endless)))
+        minidom.parseString(drawing.svg_of(presentation.maps_of(endless)))
 
     def check_apart(self, drawn):
         """Checks that no two texts of a drawing share a place, and that each box is as wide as its text."""
@@ -170,11 +175,9 @@ class DeviceTest(unittest.TestCase):
     LEAF = {"at80006010": 0x10000000 >> 2 | 0xDF}
 
     def lines(self, saved, address, mode="VS"):
-        import views
-        import walks
-        found = views.translation_of(walks.Translation(walks.View(saved, mode), address), saved)
+        found = presentation.translation_of(walks.Translation(walks.View(saved, mode), address), saved)
         json.dumps(found)
-        return views.lines_of_translation(found)
+        return presentation.lines_of_translation(found)
 
     def test_served(self):
         none = "10000000 is on the device page, offset 0, where no fetch is served"
@@ -231,12 +234,10 @@ class DeviceTest(unittest.TestCase):
             self.assertIn("load: load access fault (5): ", "\n".join(self.lines(saved, 0)))
 
     def test_maps(self):
-        import drawing
-        import views
         large = {"at80007000": 0xCF, "at80006018": 0x10000000 >> 2 | 0x97}
         saved = saved_of(device=1, words={**self.LEAF, **large}, satp=8 << 60 | 0x80007,
                          held=[(HGATP, [(4, 0x10000, 3)])])
-        lines = views.lines_of_maps(views.maps_of(saved))
+        lines = presentation.lines_of_maps(presentation.maps_of(saved))
         for line in ("  0000000000000000  10000000  rwx-  -> 0  not usable: not in RAM",
                      "  0000000010000000      1000  rwx-  -> 10000000  the device page",
                      "  0000000010001000  2ffff000  rwx-  -> 10001000  not usable: not in RAM",
@@ -245,16 +246,15 @@ class DeviceTest(unittest.TestCase):
                      "  cached 4000 -> 10000000 rw- level 0  the device page"):
             self.assertIn(line, lines)
         texts = [each.firstChild.data for each in
-                 minidom.parseString(drawing.svg_of(views.maps_of(saved))).getElementsByTagName("text")]
-        self.assertIn("10000000 +1000  the device page: satp rwx-, VMID 1 rwx, VMID 1 rw- stale", texts)
+                 minidom.parseString(drawing.svg_of(presentation.maps_of(saved))).getElementsByTagName("text")]
+        self.assertIn("0x10000000, 4 KiB: the device page, satp rwx-, VMID 1 rwx, VMID 1 rw- stale", texts)
         saved = saved_of(words={**self.LEAF, **large}, satp=8 << 60 | 0x80007)
-        lines = views.lines_of_maps(views.maps_of(saved))
+        lines = presentation.lines_of_maps(presentation.maps_of(saved))
         self.assertIn("  0000000000000000  40000000  rwx-  -> 0  not usable: not in RAM", lines)
         self.assertFalse([line for line in lines if "device" in line])
 
     def test_reasons(self):
         """Why an access to the page is a fault: that of a guest without it is one outside memory."""
-        import reasons
         trap = {"cause": 5, "tval": 0x10000000, "to": "HS"}
         words = "the device page serves a load and a store of 1 byte at offset 0, and a load of 8 bytes at " \
             "offset 8: any other access is an access fault"
@@ -262,21 +262,19 @@ class DeviceTest(unittest.TestCase):
                                        ({"device": 1}, {"cause": 7, "tval": 0x10000FFF}, [words]),
                                        ({"device": 1}, {"cause": 1}, [words]),
                                        ({"device": 1}, {"tval": 0x10001000}, [])):
-            found = reasons.reasons_of(None, saved_of(**numbers), 0x0002A303, {**trap, **changes})
+            found = trap_causes.reasons_of(None, saved_of(**numbers), 0x0002A303, {**trap, **changes})
             self.assertEqual(found, said)
         saved = saved_of(device=1, words=self.LEAF, mode=2, held=[(HGATP, [])])
-        self.assertEqual(reasons.reasons_of(None, saved, 0x13, {**trap, "tval": 0x2004}), [words])
+        self.assertEqual(trap_causes.reasons_of(None, saved, 0x13, {**trap, "tval": 0x2004}), [words])
         saved = saved_of(device=1, words=self.LEAF)
-        self.assertEqual(reasons.reasons_of(None, saved, 0x6C02C373, {**trap, "tval": 0x2000}), [words])
+        self.assertEqual(trap_causes.reasons_of(None, saved, 0x6C02C373, {**trap, "tval": 0x2000}), [words])
 
     def test_differences(self):
-        import views
-        self.assertEqual(views.differences(saved_of(), saved_of(device=1)), [])
+        self.assertEqual(state_changes.differences(saved_of(), saved_of(device=1)), [])
 
 
 class RegisterTest(unittest.TestCase):
     def pending(self, **numbers):
-        import registers
         return dict(registers.lines_of_pending(saved_of(**numbers)))
 
     def test_pending(self):
@@ -288,13 +286,12 @@ class RegisterTest(unittest.TestCase):
         self.assertEqual(self.pending(hvip=0x40, hie=0x40, hideleg=0x40),
                          {"VSTIP": "not taken: hideleg has it, and V is 0 in HS"})
         self.assertEqual(self.pending(hvip=0x44, hie=0x44, mode=1),
-                         {"VSSIP": "the next step takes it into HS", "VSTIP": "another one goes first"})
+                         {"VSSIP": "the next step takes it into HS", "VSTIP": "another interrupt goes first"})
         self.assertEqual(self.pending(hvip=0x40)["VSTIP"], "not taken: hie.VSTIE is clear, which VS cannot "
                          "set in its sie: hideleg does not have it")
         self.assertEqual(self.pending(hvip=0x40, hideleg=0x40), {"VSTIP": "not taken: hie.VSTIE is clear"})
 
     def test_refused_instructions(self):
-        import reasons
         time, satp, wfi, sret, hvip = 0xC0102573, 0x18002573, 0x10500073, 0x10200073, 0x64502573
         for mode, word, numbers, words in (
                 ("VS", time, {}, "hcounteren.TM is clear"), ("VS", time, {"hcounteren": 2}, ""),
@@ -304,15 +301,14 @@ class RegisterTest(unittest.TestCase):
                 ("VS", sret, {"hstatus": 2 << 32 | 1 << 22}, "hstatus.VTSR is set"),
                 ("VS", hvip, {}, "HS may make it, and VS may not"), ("VU", satp, {}, "VU may not make it")):
             saved = saved_of(mode=2 + (mode == "VU"), held=[(HGATP, [])], **numbers)
-            self.assertEqual(reasons.why_refused(saved, word, 22), words)
+            self.assertEqual(trap_causes.why_refused(saved, word, 22), words)
         for mode, word, words in ((0, 0, "it is 0, as memory is that nobody wrote"), (0, 0xFFFFFFFF, ""),
                                   (0, 0x45A9, "its low half is a compressed instruction"),
                                   (0, 0x02007053, "it is of floating point"), (1, wfi, "U may not make it")):
-            self.assertEqual(reasons.why_refused(saved_of(mode=mode), word, 2), words)
-        self.assertEqual(reasons.why_refused(saved_of(mode=1), time, 2), "scounteren.TM is clear")
+            self.assertEqual(trap_causes.why_refused(saved_of(mode=mode), word, 2), words)
+        self.assertEqual(trap_causes.why_refused(saved_of(mode=1), time, 2), "scounteren.TM is clear")
 
     def test_meanings(self):
-        import registers
         for name, value, words in (("scause", 2**63 + 5, "supervisor timer interrupt"),
                                    ("scause", 21, "load guest-page fault"), ("scause", 0, ""),
                                    ("hgatp", HGATP, "Sv39x4, VMID 1, root 80004000"),
@@ -340,7 +336,6 @@ class SymbolTest(ToolTest):
         return header + LETTER + symbols + names
 
     def test_symbols(self):
-        import symbols
         self.put("a.elf", self.elf())
         elf = symbols.elf_beside(os.path.join(self.folder, "a.bin"))
         self.assertEqual([elf.symbol_at(0x80000000 + at) for at in (0, 4, 8, 12)],
@@ -352,21 +347,18 @@ class SymbolTest(ToolTest):
         self.assertEqual(found.symbol_of(0x73, 0x80000008, 0x80010000, False), "call")
 
     def test_files_that_are_none(self):
-        import symbols
         whole = self.elf()
         for length in range(0, len(whole), 3):
             symbols.elf_at(self.put("a.elf", whole[:length]))
         self.assertIsNone(symbols.elf_at(os.path.join(self.folder, "a.bin")))
 
     def test_without_objdump(self):
-        import symbols
         told = symbols.Disassembler()
         told.program = None
         self.assertEqual(told.text_of(0x13, 0), ".word 0x00000013")
         self.assertEqual(told.text_of(0x62628073, 0), "hfence.gvma t0, t1")
 
     def test_objdump(self):
-        import symbols
         told = symbols.Disassembler()
         if not told.program or "riscv" not in told.program:
             self.skipTest("binutils for RISC-V are not installed")
@@ -377,8 +369,7 @@ class SymbolTest(ToolTest):
 
 class CacheTest(ToolTest):
     def test_bound(self):
-        import states
-        cache = states.Cache(self.folder, 100000, "key")
+        cache = state_cache.Cache(self.folder, 100000, "key")
         for step in range(10):
             cache.keep(step, bytes([1 + step]) * 20000 + bytes(1 << 20))
             os.utime(os.path.join(self.folder, "key", str(step)), (step, step))
@@ -388,21 +379,19 @@ class CacheTest(ToolTest):
         self.assertIsNone(cache.read(0))
 
     def test_folder_that_cannot_be_written(self):
-        import states
         for folder, most in ((os.path.join(self.folder, "a.bin"), 100000), (self.folder, 0)):
-            cache = states.Cache(folder, most, "key")
+            cache = state_cache.Cache(folder, most, "key")
             self.addCleanup(cache.close)
             cache.keep(0, b"x")
             self.assertEqual(cache.steps(), [0])
             self.assertEqual([name for name in os.listdir(self.folder) if name != "key"], ["a.bin"])
 
     def test_first_step(self):
-        import states
         for first in (1, 2, 7, 99, 100):
-            self.assertEqual(states.first_step(lambda step: step >= first, 0, 100), first)
-            self.assertEqual(states.last_change(lambda step: step >= first, 0, 100), first)
-        self.assertIsNone(states.last_change(lambda step: True, 0, 100))
-        self.assertEqual(states.last_change(lambda step: step < 10 or step > 90, 0, 100), 91)
+            self.assertEqual(searches.first_step(lambda step: step >= first, 0, 100), first)
+            self.assertEqual(searches.last_change(lambda step: step >= first, 0, 100), first)
+        self.assertIsNone(searches.last_change(lambda step: True, 0, 100))
+        self.assertEqual(searches.last_change(lambda step: step < 10 or step > 90, 0, 100), 91)
 
 
 class LookTest(ToolTest):
@@ -433,12 +422,11 @@ class GuestTest(LookTest):
     front = "format = 2\nturns = [[0, 10]]\n"
 
     def test_keys(self):
-        import states
-        keys = states.Guest(FAKE, self.configure(), 0).keys
+        keys = guest_runs.Guest(FAKE, self.configure(), 0).keys
         self.assertNotIn("device", keys)
         for device in (0, 1):
             path = self.configure(front=self.front, device=device)
-            self.assertEqual(states.Guest(FAKE, path, 0).keys, {**keys, "device": device})
+            self.assertEqual(guest_runs.Guest(FAKE, path, 0).keys, {**keys, "device": device})
 
     def test_at(self):
         path = self.configure(front=self.front, device=1)
@@ -454,7 +442,7 @@ class GuestTest(LookTest):
         self.assertTrue(line.startswith("store: 10000000, on the device page"), line)
         ran = self.look(path, "walk", "device")
         self.check_plain(ran, 2)
-        self.check_said(ran, "device is no address")
+        self.check_said(ran, "device is not an address")
 
     def test_diff(self):
         path = self.configure(front=self.front, device=1)
@@ -514,7 +502,7 @@ class FakeTest(LookTest):
         self.assertTrue(line[0].startswith("6 HS 0000000080000018  ffffffff"), line)
         self.assertEqual(self.lines(path, "first-trap")[1], "illegal instruction (2) to HS, stval ffffffff")
         self.assertEqual(self.lines(path, "first-trap", "2", status=1),
-                         ["1 traps are found up to step 11, the end"])
+                         ["1 trap is found up to step 11, the end"])
 
     def test_last_trap(self):
         path = self.trapping()
@@ -544,20 +532,63 @@ class FakeTest(LookTest):
 
     def test_bad_words(self):
         path = self.trapping()
-        for words, said in (([path], "CONFIG alone is no command"), ([path, "to", "5"], "to is no command"),
-                            ([path, "at"], "`at` takes 1 words"), ([path, "at", "-"], "- is no step"),
+        for words, said in (([path], "a command is missing behind"), ([path, "to", "5"], "to is not a command"),
+                            ([path, "tarce", "5", "6"], "tarce is not a command (did you mean `trace`?)"),
+                            ([path, "at"], "`at` takes 1 word"), ([path, "at", "-"], "- is not a step: give a decimal number"),
                             ([path, "1", "at", "0"], "there is no guest 1"),
                             (["none", "at", "0"], "no such file"),
-                            ([path, "walk", "xyz"], "xyz is no address"),
+                            ([path, "walk", "xyz"], "xyz is not an address"),
                             ([path, "trace", "5", "3"], "TO is 3, which is before FROM, 5"),
-                            ([path, "first", "luck", "1"], "is no condition"),
-                            ([path, "first", "memory", "0", "1"], "no physical address"),
-                            ([path, "--elf", path, "at", "0"], "is no ELF file"),
-                            ([path, "--program", "none", "at", "0"], "none is no program")):
+                            ([path, "first", "luck", "1"], "is not a condition"),
+                            ([path, "first", "memory", "0", "1"], "not a physical address"),
+                            ([path, "--elf", path, "at", "0"], "cannot be read as an ELF file"),
+                            ([path, "--program", "none", "at", "0"], "none is not a program")):
             ran = self.look(*words)
             self.check_plain(ran, 2)
             self.assertEqual(len(ran.lines), 1, ran.lines)
             self.check_said(ran, said)
+
+    def test_signals(self):
+        """A tool that a signal ends leaves no folder and no program."""
+        place = os.path.join(self.folder, "place")
+        os.mkdir(place)
+        path = self.configure(front="format = 2\nturns = [[0, 4000000]]\n", image=f'"{os.path.basename(self.put("l.bin", LOOP))}"')
+        slow = self.put("slow", f"#!/bin/sh\n[ $1 = check ] && exit\ntouch {place}/began\nexec sleep 100\n")
+        os.chmod(slow, 0o755)
+        for number in (signal.SIGTERM, signal.SIGHUP):
+            variables = {**os.environ, "NESTHV": slow, "TMPDIR": place, "XDG_CACHE_HOME": self.folder}
+            started = subprocess.Popen([f"{TOOLS}/look", "--cache-size", "0", path, "at", "end"], env=variables,
+                                       stdout=subprocess.PIPE, stderr=subprocess.PIPE)
+            while not os.path.exists(f"{place}/began"):
+                time.sleep(0.05)
+            time.sleep(0.2)
+            started.send_signal(number)
+            lines = started.communicate(timeout=LIMIT)[1].decode()
+            self.assertNotIn("Traceback", lines)
+            self.assertEqual((started.returncode, os.listdir(place)), (128 + number, ["began"]), lines)
+            os.remove(f"{place}/began")
+
+    def test_json(self):
+        """Each number is a number, and none a text in hexadecimal. A name may look like one, as `a7`."""
+        path = self.trapping()
+        for words in (["trace", "0", "10"], ["last-trap"], ["at", "6"], ["walk", "80000000"], ["maps"], ["fences"]):
+            for line in self.look(*words[:0], path, *words, "--json").stdout.decode().splitlines():
+                self.check_json(json.loads(line))
+        ran = self.look(path, "trace", "4", "6", "--json")
+        first, second = map(json.loads, ran.stdout.decode().splitlines())
+        self.assertEqual(first["changes"], [{"name": "a0", "values": [0, 0x41]}])
+        self.assertEqual(second["changes"][1], {"name": "console byte", "place": 0, "values": ["its end", "'A'"]})
+
+    def check_json(self, value):
+        if isinstance(value, dict):
+            for key, each in value.items():
+                if key != "name":
+                    self.check_json(each)
+        elif isinstance(value, list):
+            for each in value:
+                self.check_json(each)
+        elif isinstance(value, str):
+            self.assertNotRegex(value, "^(0x)?[0-9a-f]*[0-9][0-9a-f]*$")
 
     def test_program_without_save(self):
         old = self.put("old", "#!/bin/sh\n"
@@ -575,7 +606,7 @@ class ProgramTest(LookTest):
         super().setUp()
         self.program = program_with_save()
         if not self.program:
-            self.skipTest("there is no program with the command `save`")
+            self.skipTest("there is not a program with the command `save`")
 
     def example(self, name, **changes):
         """A copy of an example's configuration, in which keys have other values."""
@@ -604,12 +635,12 @@ class ProgramTest(LookTest):
 
     def test_fences(self):
         lines = self.lines(self.example("nested3"), "fences", status=1)
-        self.assertIn("1 of 5 drops change the report, up to the end", lines)
+        self.assertIn("1 of 5 drops changes the report, up to the end", lines)
         self.assertTrue(any("the entry at 80009008 was changed by 45 HS" in line for line in lines), lines)
         self.assertEqual(self.lines("nested3.toml", "fences", "60", "end")[0],
                          "0 of 3 drops change the report, up to the end")
         self.assertEqual(self.lines("nested3.toml", "fences", "--most", "1")[0],
-                         "0 of 1 drops change the report, up to step 51: --most N looks at more")
+                         "0 of 1 drop changes the report, up to step 51: --most N looks at more")
 
     def test_fence_that_is_left_out(self):
         with open(os.path.join(TOP, "examples", "nested3", "nested3.bin"), "rb") as file:
@@ -657,22 +688,21 @@ class ProgramTest(LookTest):
 
     def test_long_run(self):
         """A search makes a few times the steps of the run, and keeps states where they are far apart."""
-        import states
         made = []
 
-        class Counted(states.Runs):
+        class Counted(guest_runs.Runs):
             def call(self, command, keys, steps):
                 made.append(steps)
                 return super().call(command, keys, steps)
         self.put("loop.bin", LOOP)
         path = self.configure(front=f"format = 2\nturns = [[0, {10**7}]]\n", image='"loop.bin"')
-        cache = states.Cache(os.path.join(self.folder, "cache"), 10**8, "key")
-        runs = Counted(self.program, states.Guest(self.program, path, 0), cache)
+        cache = state_cache.Cache(os.path.join(self.folder, "cache"), 10**8, "key")
+        runs = Counted(self.program, guest_runs.Guest(self.program, path, 0), cache)
         self.addCleanup(runs.close)
         runs.at(10**7)
-        found = states.first_step(lambda step: runs.at(step).numbers["clock"] >= 7654321, 0, 10**7)
+        found = searches.first_step(lambda step: runs.at(step).numbers["clock"] >= 7654321, 0, 10**7)
         self.assertEqual(found, 7654321)
-        self.assertIsNone(states.Traps(runs, ("stvec", "vstvec"), lambda low, high: None).last(10**7))
+        self.assertIsNone(searches.Traps(runs, ("stvec", "vstvec"), lambda low, high: None).last(10**7))
         self.assertLess(sum(made), 5 * 10**7)
         self.assertLess(len(cache.steps()), 50)
 
@@ -695,7 +725,7 @@ class FaultTest(LookTest):
         super().setUp()
         self.program = program_with_save()
         if not self.program:
-            self.skipTest("there is no program with the command `save`")
+            self.skipTest("there is not a program with the command `save`")
 
     def faulty(self, fault):
         """The configuration of the guest with this fault."""

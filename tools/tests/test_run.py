@@ -1,4 +1,4 @@
-"""Tests of tools/run: programs, images that are no regular files, TOML 1.1, streams that fail, options."""
+"""Tests of tools/run: programs, images that are not regular files, TOML 1.1, streams that fail, options."""
 import json
 import os
 import random
@@ -9,7 +9,8 @@ import sys
 import threading
 import time
 
-from helper import LETTER, LETTER_REPORT, LOOP, PROGRAM, TOOLS, TOP, ToolTest, take_interrupts
+from helper import LETTER, LETTER_REPORT, LIMIT, LOOP, PROGRAM, TOOLS, TOP, ToolTest, take_interrupts
+from nesthv_tools import faults, toml11
 
 INLINE = """format = 1
 quantum = 1000
@@ -76,7 +77,26 @@ class RunTest(ToolTest):
             self.assertEqual(ran.stdout, b"")
         ran = self.tool("tools/run", "nothing")
         self.check_plain(ran, 2)
-        self.check_said(ran, "nothing is no file, and none of the examples")
+        self.check_said(ran, "nothing: there is no such file, nor such an example")
+
+    def test_meant_words(self):
+        """What is wrong has its true cause."""
+        path = self.configure()
+        for words, said in ((["chek", path], "chek is not a command (did you mean `check`?)"),
+                            (["kernl"], "nor such an example (did you mean `kernel`?)"),
+                            (["save", path, "x"], "x is not the number of a guest: give a decimal number")):
+            ran = self.tool("tools/run", *words)
+            self.check_plain(ran, 2)
+            self.check_said(ran, said)
+
+    def test_quiet(self):
+        ran = self.tool("tools/run", "--quiet", self.configure())
+        self.assertEqual((ran.stdout, ran.lines), (LETTER_REPORT, []))
+
+    def test_name_that_begins_with_a_dash(self):
+        self.configure("-dash.toml")
+        self.assertEqual(self.tool("tools/run", "--quiet", "--", "-dash.toml").stdout, LETTER_REPORT)
+        self.check_plain(self.tool("tools/look", "--", "-dash.toml", "at", "0"), 0)
 
     def test_missing_configuration(self):
         for name in ("none.toml", "none/none.toml"):
@@ -110,7 +130,7 @@ class ProgramTest(ToolTest):
         for program in ("none", "a.bin", self.folder):
             ran = self.tool("tools/run", "--program", program, path)
             self.check_plain(ran, 2)
-            self.check_said(ran, f"{program} is no program")
+            self.check_said(ran, f"{program} is not a program")
 
     def test_program_that_cannot_be_run(self):
         for text in ("#!/none/none\n", "none"):
@@ -124,7 +144,7 @@ class ProgramTest(ToolTest):
             ran = self.tool("tools/run", *option, "--program", self.copy("odd", "#!/bin/sh\necho guest\n"),
                             path)
             self.check_plain(ran, 10 if "--expect" in option else 0)
-            self.check_said(ran, "is no report")
+            self.check_said(ran, "is not a report")
 
     def test_program_that_a_signal_ends(self):
         ran = self.tool("tools/run", "--program", self.copy("odd", "#!/bin/sh\nkill -9 $$\n"),
@@ -149,6 +169,9 @@ class ProgramTest(ToolTest):
         sources = subprocess.run([f"{top}/dist/sources"], stdout=subprocess.PIPE, check=True).stdout.decode()
         self.put("top/dist/MADE", f"sources {sources}")
         self.assertEqual(self.tool(f"{top}/tools/program", variables=FOUND).lines, [])
+        without_bash = {**FOUND, "PATH": os.path.dirname(sys.executable)}
+        ran = self.tool(sys.executable, f"{top}/tools/program", variables=without_bash)
+        self.assertEqual(ran.lines, [])
 
     def test_program_with_another_hash(self):
         top = self.clone()
@@ -160,8 +183,10 @@ class ProgramTest(ToolTest):
 
     def test_install(self):
         path = self.configure("kept/a.toml", image='"../a.bin"')
+        older = self.put("prefix/lib/nesthv/tools/common.py", "")
         self.check_plain(self.tool("tools/install", "prefix"), 0)
         self.check_plain(self.tool("tools/install", "prefix"), 0)
+        self.assertFalse(os.path.exists(older))
         ran = self.tool(f"{self.folder}/prefix/bin/nesthv-run", path, variables=FOUND)
         self.assertEqual(ran.stdout, LETTER_REPORT)
         self.assertEqual(ran.lines, [f"nesthv-run: by the proved program {os.path.realpath(self.folder)}"
@@ -208,7 +233,7 @@ class ImageTest(ToolTest):
     def test_folder(self):
         ran = self.tool("tools/run", self.configure(image='"."'))
         self.check_plain(ran, 3)
-        self.check_said(ran, ".: it is a folder, and no image")
+        self.check_said(ran, ".: it is a folder, not an image")
 
     def test_names_of_files_that_fail(self):
         path = self.configure(image='"none.bin"')
@@ -232,8 +257,15 @@ class ImageTest(ToolTest):
             self.check_said(ran, words)
 
     def test_elf_file(self):
-        ran = self.tool("tools/run", self.configure(image=f'"{sys.executable}"', blocks=32))
-        self.check_said(ran, "it is an ELF file, and no image")
+        path = self.configure(image='"a.elf"')
+        self.put("a.elf", b"\x7fELF\2\1\1" + bytes(11) + b"\x3e" + bytes(45))
+        ran = self.tool("tools/run", path)
+        self.check_plain(ran, 2)
+        self.assertEqual((ran.stdout, len(ran.lines)), (b"", 1))
+        self.check_said(ran, "`riscv64-linux-gnu-objcopy -O binary")
+        ran = self.tool("tools/run", "--elf", path)
+        self.check_plain(ran, 0)
+        self.check_said(ran, "it is an ELF file, not an image")
         self.check_said(ran, "it is not for RISC-V")
 
 
@@ -262,7 +294,6 @@ class TomlTest(ToolTest):
         self.check_said(ran, "after 10,000,000 steps of each guest: a running, 0 bytes")
 
     def test_toml11(self):
-        import toml11
         table = {"x": 1, "y": ["A\x1b", {"z": 2}]}
         text = 'a = {\n x = 1, # }\n y = ["\\x41\\e", {z = 2, },],\n}\n'
         self.assertEqual(toml11.loads(text), {"a": table})
@@ -272,7 +303,6 @@ class TomlTest(ToolTest):
 
     def test_changed_configurations(self):
         """Whatever the program takes or refuses, the tool explains it without a traceback."""
-        import faults
         chosen = random.Random(46)
         with open(self.configure(front="format = 1\nturns = [[0, 10]]\n", input="[[1, 2]]"), "rb") as file:
             whole = file.read()
@@ -332,5 +362,5 @@ class StreamTest(ToolTest):
         started.stderr.readline()  # which program it takes
         time.sleep(0.3)
         started.send_signal(signal.SIGINT)
-        output, lines = started.communicate(timeout=20)
+        output, lines = started.communicate(timeout=LIMIT)
         self.assertEqual((started.returncode, output, lines), (130, b"", b"tools/run: interrupted\n"))

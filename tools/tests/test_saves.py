@@ -4,8 +4,9 @@ import random
 import re
 import subprocess
 
-from forms import HGATP, form
-from helper import LETTER, PROGRAM, TOOLS, TOP, ToolTest
+from saved_files import HGATP, form
+from helper import LETTER, PROGRAM, TOP, ToolTest
+from nesthv_tools import faults, saves
 
 TURNS = "format = 2\nturns = [[0, 3]]\n"
 FLAT = (0, 0, 0x8000000000080004, 1, 0x80002, 1)
@@ -17,7 +18,6 @@ class FileTest(ToolTest):
     """What is said of a file."""
 
     def test_offsets(self):
-        import saves
         self.assertEqual(len(form()), 2097776)
         self.assertEqual([saves.offset_of(name, saves.NAMES) for name in ("blocks", "pc", "x1", "sstatus", "hgatp")],
                          [8, 88, 96, 344, 568])
@@ -27,7 +27,6 @@ class FileTest(ToolTest):
 
     def test_table(self):
         """The table of docs/saved.md has each number at its offset."""
-        import saves
         other = {"x31": "x31", "SSIP": "sip.SSIP", "width": "reservation width", "its": "reservation address"}
         with open(os.path.join(TOP, "docs", "saved.md"), encoding="utf-8") as file:
             rows = re.findall(r"^\| (\d[\d, to]*) \| ([^|]*) \|", file.read().split("## The numbers")[1], re.M)
@@ -42,7 +41,6 @@ class FileTest(ToolTest):
         self.assertEqual(set(wanted) - set(found), {f"x{number}" for number in range(2, 31)})
 
     def test_right_files(self):
-        import saves
         for data in (form(), form(b"x" * 100), form(inputs=[(5, 1), (5, 2), (2**62 - 1, 3)]),
                      form(mode=3, hgatp=HGATP, held=[(HGATP, [(2**29 - 1, 0x801FF, 7 + 16)])]),
                      form(steps=2**60, clock=2**62 + 2**60, status=2, reservation_width=8,
@@ -53,7 +51,6 @@ class FileTest(ToolTest):
     def test_earlier_versions(self):
         """A file without the number for the device page, or without translations of the first stage, is that of a
         guest that has none. One of the first version is written as one of the second."""
-        import saves
         data = form(b"A", steps=7)
         front = saves.Saved(data).front
         second = b"NESTHV02" + data[8:front - 8] + data[front:]
@@ -68,7 +65,6 @@ class FileTest(ToolTest):
     def test_first_stage(self):
         """A file of the third version tells the translations of the first stage, and each form is read and written
         as it is."""
-        import saves
         satp, vsatp = 8 << 60 | 0x80007, 9 << 60 | 5 << 44 | 2
         first = [(0, 0, satp, 1, 0x80008, 3), (1, HGATP, vsatp, 2**52 - 1, 2**44 - 1, 5 + 24 + 32),
                  (1, 0, satp, 1, 0, 1)]
@@ -76,7 +72,7 @@ class FileTest(ToolTest):
         self.assertIsNone(saves.wrong(data))
         saved = saves.Saved(data)
         self.assertEqual((saved.form(), saved.first, saved.front), (data, first, 616 + 1 + 9 + 40 + 8 + 3 * 48))
-        self.assertEqual(saved.changed(first=first[1:], x7=3),
+        self.assertEqual(saved.changed({"x7": 3}, first=first[1:]),
                          form(b"A", [(5, 66)], [(HGATP, [(1, 0x80000, 5)])], first=first[1:], x7=3))
         self.assertEqual((saved.has_first(), saves.Saved(form(first=None)).has_first()), (True, False))
         self.assertEqual(len(form(first=[])), 2097776)
@@ -88,19 +84,17 @@ class FileTest(ToolTest):
                                ([(0, HGATP, satp, 1, 0, 1)], "V is 0 and hgatp 0x8"),
                                ([(1, HGATP | 1, satp, 1, 0, 1)], "V is 1 and hgatp"),
                                ([(0, 0, 0, 1, 0, 1)], "satp or vsatp is 0x0: its MODE"),
-                               ([(0, 0, satp, 2**52, 0, 1)], "the page 0x10000000000000 is to be below 2^52"),
+                               ([(0, 0, satp, 2**52, 0, 1)], "the page 0x10000000000000 must be below 2^52"),
                                (twice, "translation 1 of the first stage: the page"),
-                               ([(0, 0, satp, 1, 2**44, 1)], "the frame 0x100000000000 is to be below 2^44"),
+                               ([(0, 0, satp, 1, 2**44, 1)], "the frame 0x100000000000 must be below 2^44"),
                                ([(0, 0, satp, 1, 0, 2)], "the flags are 0x2"), ([(0, 0, satp, 1, 0, 25)], "is 0 to 2"),
                                ([(0, 0, satp, 1, 0, 65)], "the flags are 0x41")):
             self.assertIn(words, saves.wrong(form(first=entries)) or "")
 
     def test_device_page(self):
-        import saves
         self.assertIsNone(saves.wrong(form(device=1, held=[(HGATP, [(1, 0x10000, 3)])])))
 
     def test_wrong_files(self):
-        import saves
         entry = (1, 0x80000, 5)
         for data, words in (
                 (b"", "it has 0 bytes, and ends within its letters"),
@@ -108,14 +102,14 @@ class FileTest(ToolTest):
                 (form()[:-1], "2,097,151 bytes stand behind offset 624, and RAM has 2,097,152: it is cut"),
                 (form() + b"\0", "it is too long"),
                 (form()[:608], "ends within spaces, which begin at offset 608"),
-                (form(blocks=33), "at offset 8 blocks is 33: it is to be 1 to 32"),
+                (form(blocks=33), "at offset 8 blocks is 33: it must be 1 to 32"),
                 (form(entries=15), "at offset 24 entries is 15"),
                 (form(steps=2**60 + 1), "at offset 56 steps is"),
                 (form(clock=2**62 + 1), "at offset 64 clock is 0x4000000000000001: at most 2^62 more"),
-                (form(pc=2), "at offset 88 pc is 0x2: it is to be a multiple of 4"),
-                (form(sstatus=0), "sstatus is 0x0: of the bits outside 0xc0122 it is to have 0x200000000"),
-                (form(satp=10 << 60), "its MODE is to be 8 or 9"),
-                (form(reservation_width=4), "it is to be in RAM"),
+                (form(pc=2), "at offset 88 pc is 0x2: it must be a multiple of 4"),
+                (form(sstatus=0), "sstatus is 0x0: of the bits outside 0xc0122 it must have 0x200000000"),
+                (form(satp=10 << 60), "its MODE must be 8 or 9"),
+                (form(reservation_width=4), "it must be in RAM"),
                 (form(b"x" * 101), "at offset 592 the number of console bytes is 101: at most 100"),
                 (form(inputs=[(5, 1), (4, 1)]), "the moment of unread input 1 is 4"),
                 (form(held=[(0, [])]), "the key of space 0 is 0x0"),
@@ -125,7 +119,7 @@ class FileTest(ToolTest):
                 (form(held=[(HGATP, [(1, 0x80200, 5)])]), "the frame 0x80200 is not in RAM"),
                 (form(held=[(HGATP, [(1, 0x10000, 3)])]), "the frame 0x10000 is not in RAM"),
                 (form(device=1, held=[(HGATP, [(1, 0x10001, 3)])]), "0x10001 is not in RAM, nor that of the"),
-                (form(device=2), "at offset 40 device is 2: it is to be 0 to 1"),
+                (form(device=2), "at offset 40 device is 2: it must be 0 to 1"),
                 (form(held=[(HGATP, [(1, 0x80000, 2)])]), "the flags are 0x2"),
                 (form(mode=2, hgatp=HGATP), "the first space is that of hgatp"),
                 (form()[:616], "ends within translations of the first stage, which begin at offset 616")):
@@ -162,7 +156,7 @@ class FileTest(ToolTest):
     def test_saved_refuses(self):
         ran = self.tool("tools/saved", "a.bin")
         self.check_plain(ran, 2)
-        self.check_said(ran, "a.bin is no saved guest: it does not begin with `NESTHV03`, or as an older version does")
+        self.check_said(ran, "a.bin is not a saved guest: it does not begin with `NESTHV03`, or as an older version does")
         self.check_plain(self.tool("tools/saved", "none"), 2)
 
 
@@ -170,7 +164,6 @@ class FaultTest(ToolTest):
     """What is said of a line of the program."""
 
     def explained(self, line, front=TURNS, **keys):
-        import faults
         path = self.configure(front=front, **keys)
         return faults.explained("nesthv: " + line, path, faults.text_of(path))
 
@@ -178,16 +171,16 @@ class FaultTest(ToolTest):
         fault = "configuration fault "
         self.put("s", form()[:-1])
         for line, words, keys in (
-                ("14 guest 0", "s, which `resume` of guest 0 ('a') names, is no saved guest: 2,097,151", {}),
-                ("14 guest 0", "and no regular file", {"resume": '"none"'}),
-                ("4 guest 0 key resume", "`resume` of guest 0 ('a') is '': it is to be the name of a file",
+                ("14 guest 0", "s, which `resume` of guest 0 ('a') names, is not a saved guest: 2,097,151", {}),
+                ("14 guest 0", "nor a regular file", {"resume": '"none"'}),
+                ("4 guest 0 key resume", "`resume` of guest 0 ('a') is '': it must be the name of a file",
                  {"resume": '""'}),
-                ("4 guest 0 key resume value 5", "is 5: it is to be the name of a file", {"resume": 5}),
+                ("4 guest 0 key resume value 5", "is 5: it must be the name of a file", {"resume": 5}),
                 ("8 guest 0", "`blocks` (the file that `resume` names tells it), and its keys are name, "
                  "resume, weight", {"blocks": 1}),
-                ("8 guest 0", "`wieght` (is it to be `weight`?)", {"wieght": 1}),
+                ("8 guest 0", "`wieght` (did you mean `weight`?)", {"wieght": 1}),
                 ("3 guest 0 key image", "lacks `image`", {"resume": None}),
-                ("3 guest 0 key image", "(is `resum` to be it?)", {"resume": None, "resum": '"s"'}),
+                ("3 guest 0 key image", "(did you misspell it as `resum`?)", {"resume": None, "resum": '"s"'}),
                 ("3 guest 0 key image", "has `resume` in its place", {"resume": None})):
             self.assertIn(words, self.explained(fault + line, **{**RESUMED, **keys}))
 
@@ -238,17 +231,16 @@ class ProgramTest(ToolTest):
         ran = self.save(path, "1")
         self.check_plain(ran, 2)
         self.check_said(ran, "there is no guest 1: guests")
-        self.check_plain(self.save(path, "x"), 1)
+        self.check_plain(self.save(path, "x"), 2)
         self.check_plain(self.save(path), 2)
         self.check_plain(self.save("--json", path, "0"), 2)
         self.put("s", b"")
         ran = self.tool("tools/run", "check", self.configure(front=TURNS, **RESUMED))
         self.check_plain(ran, 2)
-        self.check_said(ran, "is no saved guest: it has 0 bytes")
+        self.check_said(ran, "is not a saved guest: it has 0 bytes")
 
     def test_changed_files(self):
         """The tool finds a fault exactly where the program does."""
-        import saves
         chosen = random.Random(41)
         first = [(0, 0, 8 << 60 | 7, 1, 0x80008, 35), (1, HGATP, 9 << 60 | 2, 5, 6, 20)]
         has_first = self.save(self.configure(front=TURNS), "0").stdout[:8] == b"NESTHV03"

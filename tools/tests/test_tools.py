@@ -2,12 +2,14 @@
 import ast
 import os
 import shutil
+import subprocess
 import sys
 
-from helper import LETTER, LOOP, TOOLS, ToolTest
+from helper import LETTER, LOOP, TOOLS, TOP, ToolTest
+from nesthv_tools import qemu
 
 PYTHON = [name for name in sorted(os.listdir(TOOLS)) if os.access(os.path.join(TOOLS, name), os.X_OK)
-          and os.path.isfile(os.path.join(TOOLS, name))]
+          and os.path.isfile(os.path.join(TOOLS, name)) and name != "test"]
 
 
 class CommonTest(ToolTest):
@@ -20,7 +22,9 @@ class CommonTest(ToolTest):
     def test_help_of_scripts(self):
         for name in ("examples/run", "examples/check", "examples/build", "examples/words", "bench/steps.sh",
                      "bench/folded.sh", "bench/compare.sh", "bench/work.sh", "bench/save.sh",
-                     "bench/hypervisors.py"):
+                     "bench/hypervisors.py", "bench/refused.sh", "bench/hostile-outside.sh", "conformance/build",
+                     "conformance/run", "dist/make", "dist/check", "dist/sources", "docs/clauses", "docs/commands",
+                     "tools/test"):
             ran = self.tool(name, "--help")
             self.check_plain(ran, 0)
             self.assertIn(b"usage:", ran.stdout.lower())
@@ -31,14 +35,38 @@ class CommonTest(ToolTest):
 
     def test_older_python(self):
         """Python 3.6 can read what runs before the version is tested, and gets one line."""
-        for name in [*PYTHON, "common.py"]:
+        for name in [*PYTHON, "nesthv_tools/__init__.py"]:
             with open(os.path.join(TOOLS, name), encoding="utf-8") as file:
                 ast.parse(file.read(), feature_version=(3, 6))
-        script = f"import sys; sys.version_info = (3, 6, 0); sys.path.insert(0, {TOOLS!r}); import common"
+        script = f"import sys; sys.version_info = (3, 6, 0); sys.path.insert(0, {TOOLS!r}); import nesthv_tools"
         ran = self.tool(sys.executable, "-c", script)
         self.check_plain(ran, 1)
         self.assertEqual(len(ran.lines), 1)
         self.check_said(ran, "this needs Python 3.11 or later")
+
+
+    def test_isolated_python(self):
+        for name in PYTHON:
+            self.check_plain(self.tool(sys.executable, "-I", f"{TOOLS}/{name}", "--help"), 0)
+
+    def test_scripts_by_older_python(self):
+        """Where an older Python is there, each script ends with one line."""
+        older = next(filter(None, map(shutil.which, ("python3.8", "python3.9", "python3.10"))), None)
+        if not older or subprocess.run([older, "-c", ""], capture_output=True).returncode:
+            self.skipTest("there is no older Python")
+        for name in [*(f"tools/{name}" for name in PYTHON), "docs/clauses", "docs/commands", "examples/words",
+                     "conformance/run", "bench/hypervisors.py"]:
+            ran = self.tool(older, f"{TOP}/{name}")
+            self.assertEqual((ran.returncode, len(ran.lines)), (1, 1), (name, ran.lines))
+
+    def test_output_that_is_lost(self):
+        """A script whose output cannot be written says so, and does not end with 0."""
+        for words in ("docs/commands --help", "docs/clauses --help", "conformance/run --help",
+                      "conformance/run --first 0 --lines clock", "tools/saved --help", "tools/program"):
+            for place in (">&-", ">/dev/full"):
+                ran = self.tool("/bin/sh", "-c", f"cd {TOP} && {words} {place}")
+                self.check_plain(ran, 2)
+                self.check_said(ran, "standard output" if "--help" in words else "could not be written")
 
 
 class QemuVersionTest(ToolTest):
@@ -46,8 +74,14 @@ class QemuVersionTest(ToolTest):
 
     QEMU = {"QEMU": os.path.join(TOOLS, "tests", "fake-qemu")}
 
+    def test_output_that_is_lost(self):
+        """QEMU gets no output that is closed, and does not tell of one that is full."""
+        for place in (">&-", ">/dev/full"):
+            ran = self.tool("/bin/sh", "-c", f"{TOOLS}/qemu-run a.bin {place}", variables=self.QEMU)
+            self.check_plain(ran, 2)
+            self.check_said(ran, "standard output: ")
+
     def test_words_of_versions(self):
-        import qemu
         for version, words in (((7, 2), ""), ((8, 1), ",Zfa=false"), ((8, 2), ",zfa=false"),
                                ((10, 0), ",zfa=false")):
             self.assertEqual(qemu.cpu_words(version), "rv64,h=true,c=false,d=false,f=false" + words)
@@ -67,7 +101,11 @@ class QemuVersionTest(ToolTest):
         os.chmod(failing, 0o755)
         ran = self.tool("tools/qemu-compare", variables={"QEMU": failing})
         self.check_plain(ran, 1)
-        self.assertEqual(ran.stdout.decode().splitlines()[-1], "same=0 known=0 wrong=0 failed=18")
+        *guests, last = ran.stdout.decode().splitlines()
+        self.assertTrue(guests)
+        for line in guests:
+            self.assertIn(": the run failed, with status ", line)
+        self.assertEqual(last, f"same=0 known=0 wrong=0 failed={len(guests)}")
 
     def test_no_qemu(self):
         ran = self.tool("tools/qemu-run", self.configure(), variables={"QEMU": "none"})
@@ -98,8 +136,8 @@ class QemuTest(ToolTest):
     def test_bad_options(self):
         path = self.configure()
         for words, said in ((["--guest", "5", path], "there is no guest 5"),
-                            (["--guest", "-1", path], "no integer"),
-                            (["--seconds", "0", path], "no time"), (["none.toml"], "there is no such file"),
+                            (["--guest", "-1", path], "is not an integer"),
+                            (["--seconds", "0", path], "is not a time"), (["none.toml"], "there is no such file"),
                             (["none.bin"], "there is no such file"), (["."], "it is a folder")):
             ran = self.tool("tools/qemu-run", *words)
             self.check_plain(ran, 2)

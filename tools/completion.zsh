@@ -1,0 +1,97 @@
+#compdef nesthv nesthv-gdb nesthv-run nesthv-look nesthv-debug nesthv-batch nesthv-inputs nesthv-saved nesthv-qemu-run
+# Completion of zsh for nesthv and its tools. tools/install puts it into share/zsh/site-functions.
+
+local -a image
+image=(
+    '--steps[how many steps]:number:'
+    '--blocks[RAM in blocks of 2 MiB]:number:'
+    '--spaces[spaces]:number:'
+    '--entries[entries of a space]:number:'
+    '--console[bytes of the console]:number:'
+    '--input[a file of inputs]:file:_files'
+    '--device[give it the device page]'
+    '--write[keep the files in this folder]:folder:_files -/'
+)
+case $service in
+nesthv) _arguments "1:command:(run replay check work save)" "2:configuration:_files -g '*.toml'" "3:file:_files" ;;
+nesthv-gdb) _arguments "1:configuration:_files -g '*.toml'" "2:guest:" ;;
+nesthv-run)
+    _arguments '--help[say what it does]' \
+        '--program[the program to take]:file:_files' \
+        '--json[print the report as JSON]' \
+        '--expect[end with 0 where this is the status]:word:(running waiting stopped 0 1 2 3 4 5 6)' \
+        '--verdict[end with the guests'\'' own verdict]' \
+        '--progress[say how far the guests are]' \
+        '--quiet[do not say by which program it runs]' \
+        '--raw[write control characters as they are]' \
+        '--seconds[the limit of rt try]:word:' \
+        '--elf[run an ELF image as it is]' \
+        '--version[print the version]' \
+        "${image[@]}" \
+        '*:configuration:_files'
+    ;;
+nesthv-look)
+    _arguments '--help[say what it does]' \
+        '--as[the mode of a walk]:word:(HS U VS VU)' \
+        '--step[the state]:word:(end)' \
+        '--svg[draw maps into this file]:file:_files' \
+        '--most[at how many entries fences drops]:word:' \
+        '--elf[one more ELF file with symbols]:file:_files' \
+        '--json[print JSON]' \
+        '--program[the program to take]:file:_files' \
+        '--cache[where states are kept]:folder:_files -/' \
+        '--cache-size[MiB of kept states]:word:' \
+        "${image[@]}" \
+        '1:configuration:_files' '*:word:(at walk maps first trace traps first-trap last-trap entered diff fences)'
+    ;;
+nesthv-debug)
+    _arguments '--help[say what it does]' \
+        '--print[print gdb'\''s command]' \
+        '--gdb[the gdb to take]:word:' \
+        '--stub[the nesthv-gdb to take]:file:_files' \
+        "${image[@]}" \
+        '1:configuration:_files' '2:guest:'
+    ;;
+nesthv-batch)
+    _arguments '--help[say what it does]' \
+        '--only[those whose name fits]:word:' \
+        '--jobs[how many at a time]:word:' \
+        '--seconds[the limit of one]:word:' \
+        '--first[stop at the first that fails]' \
+        '--store[store the reports]' \
+        '--verdict[take the guests'\'' own verdict]' \
+        '--times[print the seconds of each]' \
+        '--tap[print TAP]' \
+        '--json[print JSON]' \
+        '--junit[write JUnit XML]:file:_files' \
+        '--program[the program to take]:file:_files' \
+        '--sshlogin[machines]:word:' \
+        '1:folder:_files -/'
+    ;;
+nesthv-inputs)
+    _arguments '--help[say what it does]' \
+        '--text[make a text of a file of inputs]' \
+        '*:file:_files'
+    ;;
+nesthv-saved)
+    _arguments '--help[say what it does]' \
+        '--console[write the bytes of the console]' \
+        '--ram[write the bytes of RAM]' \
+        '--raw[write control characters as they are]' \
+        '1:file:_files'
+    ;;
+nesthv-qemu-run)
+    _arguments '--help[say what it does]' \
+        '--guest[the number of the guest]:word:' \
+        '--traps[print each trap]' \
+        '--trace[print each block]' \
+        '--gdb[wait for gdb]' \
+        '--seconds[the limit]:word:' \
+        '--plain[QEMU'\''s own clock]' \
+        '--single[one instruction at a time]' \
+        '--time[print how long it took]' \
+        '--raw[write control characters as they are]' \
+        '--cpu[the words of -cpu]:word:' \
+        '1:configuration:_files'
+    ;;
+esac

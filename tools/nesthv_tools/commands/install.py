@@ -1,0 +1,96 @@
+"""Installs the proved program `nesthv`, the debugger `nesthv-gdb` where dist/ has it, and the tools:
+`nesthv-run`, which explains what the program says, `nesthv-look`, which looks at a guest at any step,
+`nesthv-debug`, which starts gdb, `nesthv-batch`, which runs many configurations, `nesthv-inputs`, which makes
+files of inputs, `nesthv-saved`, which shows files of saved guests, and `nesthv-qemu-run`, which runs a guest
+under QEMU; with man pages, and completion for bash, zsh and fish. With --uninstall it removes what it has
+installed.
+"""
+import contextlib
+import glob
+import os
+
+from nesthv_tools import command_line, layout, programs, streams, whole_files
+
+
+def made(prefix: str, path: str) -> str:
+    """A path below the prefix, whose folder is there."""
+    whole = os.path.join(prefix, path)
+    os.makedirs(os.path.dirname(whole), exist_ok=True)
+    return whole
+
+
+def install(program: str, prefix: str) -> None:
+    files, links = list(layout.files(program)), list(layout.links())
+    paths = sorted(layout.paths_of(files, links))
+    stale = {*paths_installed(prefix), *modules_installed(prefix)} - set(paths)
+    manifest = layout.File(layout.MANIFEST, "".join(f"{path}\n" for path in paths).encode(), 0o644)
+    for file in [*files, manifest]:
+        whole_files.write(made(prefix, file.path), file.data, file.mode)
+    for link in links:
+        whole_files.link(link.target, made(prefix, link.path))
+    remove(prefix, sorted(stale))
+
+
+def paths_installed(prefix: str) -> list[str]:
+    """The paths below the prefix that an install has written, as its list says."""
+    try:
+        with open(os.path.join(prefix, layout.MANIFEST), encoding="utf-8") as file:
+            paths = file.read().splitlines()
+    except OSError:
+        return []
+    return [path for path in paths if path and not path.startswith("/") and ".." not in path.split("/")]
+
+
+def modules_installed(prefix: str) -> list[str]:
+    """The modules below the prefix: an older version, which had no list, has left others."""
+    form = os.path.join(glob.escape(os.path.join(prefix, layout.LIBRARY)), "**", "*.py")
+    return [os.path.relpath(path, prefix) for path in glob.glob(form, recursive=True)]
+
+
+def remove(prefix: str, paths: list[str]) -> None:
+    """Removes these paths below the prefix, and the folders that are empty then."""
+    for path in paths:
+        with contextlib.suppress(FileNotFoundError):
+            os.remove(os.path.join(prefix, path))
+        folder = os.path.dirname(path)
+        while folder:
+            try:
+                os.rmdir(os.path.join(prefix, folder))
+            except OSError:
+                break
+            folder = os.path.dirname(folder)
+
+
+def uninstall(prefix: str) -> int:
+    """Removes what the list of an install names."""
+    paths = paths_installed(prefix)
+    if not paths:
+        streams.say(f"nothing is installed in {prefix}: there is no {layout.MANIFEST}, which tools/install "
+                    "writes")
+        return 1
+    remove(prefix, [*paths, layout.MANIFEST])
+    print(f"removed from {prefix}")
+    return 0
+
+
+def main() -> int:
+    parser = command_line.Parser(__doc__)
+    parser.add_argument("prefix", metavar="PREFIX", nargs="?", default=os.path.expanduser("~/.local"),
+                        help="the folder that gets `bin`, `lib` and `share`; ~/.local if left out")
+    parser.add_argument("--uninstall", action="store_true", help="removes what was installed there")
+    options = parser.parse_args()
+    prefix = os.path.abspath(options.prefix)
+    if options.uninstall:
+        return uninstall(prefix)
+    program = programs.proved()
+    if not program:
+        streams.say("no proved program (see dist/check); `rt all check` and `rt run` in crates/nesthv make "
+                    "it")
+        return 1
+    install(program.path, prefix)
+    print(f"installed in {prefix}, from {program.path}"
+          + (f", which {program.notice}" if program.notice else ""))
+    folder = os.path.join(prefix, "bin")
+    if folder not in os.environ.get("PATH", "").split(":"):
+        print(f"{folder} is not on the path: export PATH=\"{folder}:$PATH\"")
+    return 0

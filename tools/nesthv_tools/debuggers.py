@@ -1,0 +1,94 @@
+"""The stub nesthv-gdb, and the command of gdb by which a guest is debugged."""
+import glob
+import os
+import shlex
+from typing import NamedTuple
+
+from nesthv_tools import elf_images, places, programs
+
+BUILT = os.path.join(places.TOP, "crates", "nesthv_gdb", "out", "nesthv_gdb")
+INSTALLED = os.path.join(places.TOP, "..", "..", "bin", "nesthv-gdb")
+SCRIPT = os.path.join(places.TOOLS, "debug.gdb")
+SHORTEST = 64  # bytes of a nested guest that are looked for in an image
+SECONDS = 600  # of one answer of the stub
+
+
+class World(NamedTuple):
+    """An ELF file with symbols, and the addresses that it takes."""
+    path: str
+    start: int
+    end: int
+
+
+class Worlds(NamedTuple):
+    """The ELF file of the guest itself, or none, and those of guests of its own, which its image has in
+    it."""
+    own: World | None
+    nested: list[World]
+
+
+def stub(path: str | None = None) -> str | None:
+    """The path of nesthv-gdb: the one that is named, else that of where tools/install has put the tools, else
+    that of dist/, else the one that rt has built; or none."""
+    kept = os.path.join(places.DIST, "nesthv-gdb")
+    candidates = [path] if path else [INSTALLED, kept, BUILT]
+    return next((os.path.abspath(each) for each in candidates if programs.is_program(each)), None)
+
+
+def world_at(path: str) -> World | None:
+    """The ELF file at this path, or none where it is not one."""
+    try:
+        with open(path, "rb") as file:
+            data = file.read()
+        segments = list(elf_images.segments_of(data, elf_images.header_of(data)))
+    except (OSError, elf_images.Wrong):
+        return None
+    if not segments:
+        return None
+    ends = [each.address + each.length for each in segments]
+    return World(path, min(each.address for each in segments), max(ends))
+
+
+def is_within(path: str, image: bytes) -> bool:
+    """Whether an image has the ELF file at this path in it, as a hypervisor has a guest of its own."""
+    try:
+        with open(path, "rb") as file:
+            data = elf_images.placed(file.read())
+    except OSError:
+        return False
+    return len(data) >= SHORTEST and data != image[:len(data)] and data in image
+
+
+def worlds_beside(path: str) -> Worlds:
+    """The ELF files that stand beside the image, or the saved guest, at this path."""
+    beside = [os.path.splitext(path)[0] + ".elf", path + ".elf"]
+    own = next((each for each in beside if os.path.isfile(each) and not os.path.samefile(each, path)), None)
+    with open(path, "rb") as file:
+        image = file.read()
+    found = sorted(glob.glob(os.path.join(glob.escape(os.path.dirname(path)), "*.elf")))
+    nested = [each for each in found if each != own and is_within(each, image)]
+    return Worlds(world_at(own) if own else None, [each for each in map(world_at, nested) if each])
+
+
+def symbol_commands(worlds: Worlds) -> list[str]:
+    """What gdb is told of symbols: the guest's own, and those of its guests that have other addresses. `hs`
+    and `vs` of the script take the one or the other alone."""
+    commands, taken = [], [worlds.own] if worlds.own else []
+    if worlds.own:
+        commands += [f"file {shlex.quote(worlds.own.path)}", f'set $nesthv_hs = "{worlds.own.path}"']
+    if worlds.nested:
+        commands.append(f'set $nesthv_vs = "{worlds.nested[0].path}"')
+    for world in worlds.nested:
+        if all(world.end <= other.start or other.end <= world.start for other in taken):
+            commands.append(f"add-symbol-file {shlex.quote(world.path)}")
+            taken.append(world)
+    return commands
+
+
+def command(gdb: str, program: str, folder: str, place: str, guest: int, worlds: Worlds) -> list[str]:
+    """The words by which gdb is started for the guest of this number of a configuration in this folder."""
+    words = shlex.join([program, place, str(guest)])
+    there = f"cd {shlex.quote(folder)} && exec " if folder != "." else ""
+    commands = [f"set remotetimeout {SECONDS}", "set architecture riscv:rv64", *symbol_commands(worlds),
+                f"target remote | {there}{words}"]
+    return [gdb, "-x", SCRIPT, *(word for each in commands for word in ("-ex", each))]

@@ -1,0 +1,264 @@
+"""Whether a guest's report rests on a cached translation that it should have fenced. The standard permits a
+machine to drop cached translations at any time. So where a run from which they were dropped ends in another
+report, both are runs that the standard permits, and the guest's fences do not decide between them.
+
+Where a guest enters V = 1, those for V = 1 are dropped: of the second stage, and of the first under vsatp.
+Those of satp are dropped behind each trap that HS takes from itself or from U, and, since a kernel may have
+few traps, at some steps evenly: at each where the run is short.
+"""
+import itertools
+from collections.abc import Iterator
+from typing import Any
+
+from nesthv_tools import (
+    code_paths, guest_runs, parallel, reports, saves, searches, state_changes, visits, walks)
+from nesthv_tools.sessions import Session
+
+Page = tuple[int | walks.Key, int]  # whose it is, and its number
+Stale = tuple[str, int | walks.Key, int, str, walks.Walk]
+
+PROBES = 64  # steps, evenly, at which translations of satp are dropped
+
+
+class Drop:
+    """The run that goes on behind a step without cached translations: those for V = 1, or those of satp."""
+
+    def __init__(self, runs: guest_runs.Runs, step: int, is_of_satp: bool = False) -> None:
+        self.runs, self.step, self.is_of_satp, saved = runs, step, is_of_satp, runs.at(step)
+        kept = [entry for entry in saved.first if bool(entry.v) == is_of_satp]
+        empty: saves.Spaces = [(key, []) for key, _ in saved.spaces]
+        self.data = saved.changed({}, saved.spaces if is_of_satp else empty, kept)
+        self.is_empty = spaces_are_empty(saved, is_of_satp) and len(kept) == len(saved.first)
+
+    def line(self) -> guest_runs.Line:
+        return guest_runs.Line(self.runs, self.step, self.data)
+
+    def report(self) -> bytes:
+        with self.line() as line:
+            return line.call("run", self.runs.last)
+
+    def first_difference(self, end: int, tell: searches.Tell) -> "Difference | None":
+        """The first state that differs from that of the guest's own run, as far as halves find it, with its
+        step and the states before it: the run's own, and this one's."""
+        with self.line() as line:
+            def differs(step: int) -> bool:
+                return bool(state_changes.differences(self.runs.at(step), line.at(step)))
+            if not differs(end):
+                return None
+            step = searches.first_step(differs, self.step, end, tell)
+            return Difference(step, [self.runs.at(step - 1), line.at(step - 1)],
+                              [self.runs.at(step), line.at(step)])
+
+
+def spaces_are_empty(saved: saves.Saved, is_of_satp: bool) -> bool:
+    return is_of_satp or not any(entries for _, entries in saved.spaces)
+
+
+def used_addresses(saved: saves.Saved) -> list[tuple[int, str]]:
+    """The virtual addresses of the next step, each with the kind of access: pc, and the data of a load or
+    store."""
+    word, _, _ = walks.fetched(saved)
+    data = None if word is None else data_address(saved, word)
+    is_load = word is not None and (word & 0x7F == 0x03 or word & 0xF800007F == 0x1000002F)
+    kind = walks.LOAD if is_load else walks.STORE
+    return [(saved.numbers["pc"], walks.FETCH)] + ([] if data is None else [(data, kind)])
+
+
+def used_pages(saved: saves.Saved) -> set[Page]:
+    """What the next step uses of each stage: the guest physical pages of its first-stage entries, of pc and
+    of data, and the virtual pages that it has cached translations of the first stage for, each with whose it
+    is: hgatp, or the key of the accesses."""
+    view, pages = walks.View(saved), set[Page]()
+    for address, kind in used_addresses(saved):
+        translation = walks.Translation(view, address)
+        places: list[int] = []
+        between = translation.between
+        if translation.is_by_first(kind):
+            pages.add((view.key(), address >> 12))
+            between = translation.cached_between
+        elif translation.first:
+            places = [met.place for met in translation.first.met]
+        if view.is_nested:
+            places += [between] if between is not None else []
+            pages.update((view.hgatp, place >> 12) for place in places)
+    return pages
+
+
+def data_address(saved: saves.Saved, word: int) -> int | None:
+    """The address that a load, store or atomic operation uses, or none where the word is not one."""
+    kind = word & 0x7F
+    if kind not in (0x03, 0x23, 0x2F):
+        return None
+    source, low = word >> 15 & 31, {0x03: word >> 20, 0x23: word >> 25 << 5 | word >> 7 & 31, 0x2F: 0}[kind]
+    base = saved.numbers[f"x{source}"] if source else 0
+    return base + code_paths.signed(low, 12) & 2**64 - 1
+
+
+WHO = ("with them", "without them")
+
+
+class Difference:
+    """A step from which on two runs differ, the states before it and those behind it."""
+
+    def __init__(self, step: int, before: list[saves.Saved], after: list[saves.Saved]) -> None:
+        self.step, self.before, self.after = step, before, after
+
+    def differences(self) -> list[state_changes.Change]:
+        return state_changes.differences(self.after[0], self.after[1])
+
+    def stale(self) -> list[Stale]:
+        """The stale translations that one of the two runs has, and the other has not: whose they are, the
+        key, the page, how they differ in words, and the walk. Where the step uses some of them, only these.
+        The key of one of the first stage has V, hgatp, and satp or vsatp.
+        """
+        found = self.all_stale() + self.all_first_stale()
+        used = {each for saved in self.before for each in used_pages(saved)}
+        return [each for each in found if each[1:3] in used] or found
+
+    def all_stale(self) -> list[Stale]:
+        found: list[Stale] = []
+        held = [dict(saved.spaces) for saved in self.before]
+        for number, who in enumerate(WHO):
+            for key, page, words, walk in walks.stale_entries(self.before[number]):
+                other = [entry for entry in held[1 - number].get(key, []) if entry[0] == page]
+                own = [entry for entry in held[number][key] if entry[0] == page]
+                if own != other:
+                    found.append((who, key, page, words, walk))
+        return found
+
+    def all_first_stale(self) -> list[Stale]:
+        return [(who, entry[:3], entry.page, words, walk) for number, who in enumerate(WHO)
+                for entry, words, walk in walks.stale_first_entries(self.before[number])
+                if entry not in self.before[1 - number].first]
+
+
+def last_change(runs: guest_runs.Runs, walk: walks.Walk, step: int) -> tuple[int, int] | None:
+    """The last step up to `step` that changed an entry which this walk met, as far as halves find it, and the
+    entry's place; or none where all are as at the start."""
+    now, latest = runs.at(step), None
+    for met in walk.met:
+        value = now.word_at(met.place)
+        changed = value is not None and searches.last_change(
+            lambda each: runs.at(each).word_at(met.place) == value, runs.first, step)
+        if changed and (latest is None or changed > latest[0]):
+            latest = changed, met.place
+    return latest
+
+
+def value_of(session: Session, drop: Drop, plain: bytes, report: bytes,
+             found: Difference | None) -> dict[str, Any]:
+    """What is known of a drop that changes the report."""
+    value: dict[str, Any] = {"dropped_at": [drop.step], "report": reports.differences(plain, report),
+                             "step": None, "instruction": None, "line": None, "differences": [], "stale": []}
+    if not found:
+        return value
+    value.update(step=found.step - 1, instruction=session.instruction(found.before[0]),
+                 line=session.line(found.before[0]),
+                 differences=[each.value() for each in found.differences()])
+    for who, key, page, words, walk in found.stale():
+        change = last_change(session.runs, walk, found.step - 1)
+        before = session.runs.at(change[0] - 1) if change else None
+        value["stale"].append({
+            "who": who, **table_of(key), "page": page, "words": words, "entry": change[1] if change else None,
+            "changed_at": change[0] - 1 if change else None,
+            "changed_by": session.line(before) if before else None})
+    return value
+
+
+def table_of(key: int | walks.Key) -> dict[str, Any]:
+    """Whose a cached translation is: the register of its table, its value, and hgatp beside vsatp."""
+    if isinstance(key, int):
+        return {"register": "hgatp", "key": key, "hgatp": None}
+    v, hgatp, atp = key
+    return {"register": "vsatp" if v else "satp", "key": atp, "hgatp": hgatp if v else None}
+
+
+def lines_of(value: dict[str, Any]) -> list[str]:
+    """What is known of a drop that changes the report."""
+    step = value["dropped_at"][0]
+    lines = [f"without the translations that are cached at step {step} the report differs:"]
+    lines += [f"  {words}" for words in value["report"]]
+    if value["line"] is None:
+        return [*lines, "  where it comes from is not found: the states at the end are the same"]
+    lines.append(f"the states differ from this step on: {value['line']}")
+    lines += [f"  {state_changes.line_of(each, '|')}" for each in value["differences"]]
+    for each in value["stale"]:
+        under = "" if each["hgatp"] is None else f" under hgatp {each['hgatp']:x}"
+        table = f"{each['register']} {each['key']:x}{under}"
+        lines.append(f"  page {each['page'] << 12:x} of {table}, {each['who']}: {each['words']}")
+        if each["changed_by"]:
+            lines.append(f"    the entry at {each['entry']:x} was changed by {each['changed_by']}")
+    if not value["stale"]:
+        lines.append("  before it no cached translation is stale that one of the two runs has alone")
+    return lines
+
+
+class Search:
+    """Drops cached translations behind a step, up to a second one, wherever there are some to drop, one
+    drop at a time and at most `most` of them, where that is not 0. Counts the drops, and those that change
+    the report. `cut` is the step of the first one that is left out, or none."""
+
+    def __init__(self, session: Session, start: int, end: int, most: int) -> None:
+        self.session, self.start, self.end, self.most = session, start, end, most
+        self.count = 0
+        self.changing: list[int] = []
+        self.found: dict[int | None, dict[str, Any]] = {}
+        self.cut: int | None = None
+        session.doing = self.progress
+
+    def progress(self, low: int, high: int) -> str:
+        return f"{self.shown()} the report so far"
+
+    def shown(self) -> str:
+        """How many drops change, of how many, with the verb."""
+        count, changed = self.count, len(self.changing)
+        verb = "changes" if changed == 1 or count == 1 else "change"
+        return f"{changed} of {count} drop{'' if count == 1 else 's'} {verb}"
+
+    def drops(self) -> Iterator[Drop]:
+        runs, made = self.session.runs, set[tuple[int, bool]]()
+        places = [self.places()] + ([self.even_places()] if runs.start.has_first() else [])
+        for place in itertools.chain(*places):
+            drop = Drop(runs, *place)
+            if drop.is_empty or place in made:
+                continue
+            if len(made) == self.most > 0:
+                self.cut = drop.step
+                return
+            made.add(place)
+            yield drop
+
+    def places(self) -> Iterator[tuple[int, bool]]:
+        """Steps at which those for V = 1, or those of satp, are dropped: entries into V = 1, and traps."""
+        runs = self.session.runs
+        for visit, trap in visits.visits_and_traps(runs, self.start, self.end, lambda low, high: None):
+            if visit:
+                yield visit.entry, False
+            elif trap is not None:
+                yield trap, True
+
+    def even_places(self) -> Iterator[tuple[int, bool]]:
+        """Steps at which those of satp are dropped, evenly, in HS and U."""
+        runs, end = self.session.runs, min(self.end, self.session.end())
+        for step in sorted({self.start + (end - self.start) * part // PROBES for part in range(PROBES)}):
+            if not visits.is_nested(runs.at(step)):
+                yield step, True
+
+    def findings(self) -> Iterator[dict[str, Any]]:
+        """Yields what is known of each drop that changes the report, but once where several lead to the same
+        first difference."""
+        session = self.session
+        plain = session.runs.call("run", session.guest.keys, session.guest.steps)
+        for drop, report in parallel.in_order(lambda drop: (drop, drop.report()), self.drops()):
+            self.count += 1
+            session.tell(drop.step, self.end)
+            if report == plain:
+                continue
+            self.changing.append(drop.step)
+            difference = drop.first_difference(session.end(), session.tell)
+            place = difference.step if difference else None
+            if place in self.found:
+                self.found[place]["dropped_at"].append(drop.step)
+            else:
+                self.found[place] = value_of(session, drop, plain, report, difference)
+                yield self.found[place]

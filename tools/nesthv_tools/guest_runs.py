@@ -1,0 +1,245 @@
+"""The state of a guest at any step, by the program's `save`: runs are exact and go on where they were saved,
+so kept states shorten the way.
+"""
+import collections
+import contextlib
+import hashlib
+import itertools
+import os
+import subprocess
+import tempfile
+from collections.abc import Iterator
+
+from nesthv_tools import children, faults, parallel, progress, records, saves, state_cache
+
+KEPT_IN_MEMORY, KEPT_IN_FILES = 8, 4  # states
+AT_ONCE = 256  # single steps from one state
+FAR = 100000  # steps from a state to one that is worth keeping, for each block of RAM
+
+
+class Unusable(Exception):
+    """Why there is no guest to look at, in words."""
+
+
+def read(path: str, most: int, what: str) -> bytes:
+    try:
+        with open(path, "rb") as file:
+            return file.read(most)
+    except (OSError, ValueError) as error:
+        raise Unusable(f"{what} {path} cannot be read: {getattr(error, 'strerror', error)}") from None
+
+
+def checked(program: str, path: str, folder: str) -> None:
+    """Has the program test a configuration, and says in words what it finds."""
+    place = os.path.join(".", os.path.basename(path))
+    try:
+        ran = subprocess.run([program, "check", place], cwd=folder, stdin=subprocess.DEVNULL,
+                             capture_output=True)
+    except OSError as error:
+        raise Unusable(f"{program} cannot be run: {error.strerror}") from None
+    if ran.returncode:
+        line = next(iter(ran.stderr.decode(errors="replace").splitlines()), f"status {ran.returncode}")
+        meaning = faults.explained(line, path, faults.text_of(path))
+        raise Unusable(line + (f": {meaning}" if meaning else ""))
+
+
+class Guest:
+    """One guest of a configuration: the files that it begins with, by the names that they get here, its keys
+    in TOML, and how many steps its turns have."""
+
+    def __init__(self, program: str, path: str, number: int) -> None:
+        folder = os.path.dirname(path) or "."
+        if not os.path.isfile(path):
+            raise Unusable(f"the configuration {path} is not a regular file{faults.unreadable(path)}")
+        document = faults.parsed(faults.text_of(path))[0] or {}
+        for name in faults.file_names(document):
+            file = os.path.join(folder, name)
+            if os.path.exists(file) and not os.path.isfile(file):
+                raise Unusable(f"{file} is not a regular file, and can perhaps be read only once")
+        checked(program, path, folder)
+        guests = faults.guests_of(document)
+        if not 0 <= number < len(guests):
+            raise Unusable(f"{path}: {faults.guest_missing(len(guests), number)}")
+        table = guests[number]
+        self.name, self.steps = table["name"], progress.sums_of(document)[number]
+        self.image = None if faults.is_resumed(document, table) else os.path.join(folder, table["image"])
+        self.files: dict[str, bytes] = {}
+        self.keys: faults.Table = {"name": self.name}
+        if self.image:
+            self.begin(folder, table, faults.format_of(document))
+        else:
+            self.files["resumed"] = read(os.path.join(folder, table["resume"]), saves.MOST_BYTES, "the file")
+            self.keys["resume"] = "resumed"
+
+    def begin(self, folder: str, table: faults.Table, form: int) -> None:
+        """Takes what a guest at its start has."""
+        most = faults.BLOCK * table["blocks"] + 1
+        self.files["image"] = read(os.path.join(folder, table["image"]), most, "the image")
+        keys = [key for key in ("blocks", "spaces", "entries", "console", "device") if key in table]
+        self.keys.update({"image": "image"}, **{key: table[key] for key in keys})
+        if "input" in table:
+            self.keys["input"] = "inputs"
+            self.files["inputs"] = records.bytes_of(table["input"]) if form == 1 else \
+                read(os.path.join(folder, table["input"]), records.MOST_BYTES, "the input file")
+
+    def hash(self) -> str:
+        made = hashlib.sha256()
+        for name, data in [*self.files.items(), ("keys", repr(self.keys).encode())]:
+            made.update(f"{name} {len(data)} ".encode() + data)
+        return made.hexdigest()[:32]
+
+
+class Runs:
+    """The runs of a guest by a program, in a temporary folder."""
+
+    def __init__(self, program: str, guest: Guest, cache: state_cache.Cache) -> None:
+        self.program, self.guest, self.cache = program, guest, cache
+        self.folder = tempfile.TemporaryDirectory(prefix="nesthv-look-")
+        self.numbers, self.calls = itertools.count(), 0
+        self.known: collections.OrderedDict[int, saves.Saved] = collections.OrderedDict()
+        for name, data in guest.files.items():
+            self.put(name, data)
+        self.start = self.saved_of(self.call("save", guest.keys, 0))
+        self.first = self.start.numbers["steps"]
+        self.far = FAR * self.start.numbers["blocks"]
+        self.know(self.first, self.start)
+        self.last = self.first + guest.steps
+
+    def close(self) -> None:
+        self.folder.cleanup()
+        self.cache.close()
+
+    def path(self, name: str) -> str:
+        return os.path.join(self.folder.name, name)
+
+    def put(self, name: str, data: bytes) -> str:
+        with open(self.path(name), "wb") as file:
+            file.write(data)
+        return name
+
+    def call(self, command: str, keys: faults.Table, steps: int) -> bytes:
+        """What the program writes for a guest of these keys that makes this many steps."""
+        name = f"{next(self.numbers)}.toml"
+        lines = ["format = 2", f"turns = {progress.turns_of([steps], steps)}", "[[guest]]"]
+        lines += [f"{key} = {progress.toml_of(value)}" for key, value in keys.items()]
+        self.put(name, "\n".join(lines).encode() + b"\n")
+        words = [self.program, command, name] + (["0"] if command == "save" else [])
+        self.calls += 1
+        try:
+            with tempfile.TemporaryFile(dir=self.folder.name) as output:  # large, and slow by a pipe
+                status, said = children.run(words, self.folder.name, output)
+                output.seek(0)
+                data = output.read()
+        finally:
+            with contextlib.suppress(FileNotFoundError):
+                os.remove(self.path(name))
+        if status:
+            raise Unusable(self.refusal(status, said))
+        return data
+
+    def refusal(self, status: int, said: bytes) -> str:
+        line = next(iter(said.decode(errors="replace").splitlines()), f"status {status}")
+        if "usage" in line:
+            return f"{self.program} has no command `save`, by which states are looked at"
+        return f"{self.program}: {line}"
+
+    def saved_of(self, data: bytes) -> saves.Saved:
+        try:
+            return saves.Saved(data)
+        except saves.Wrong as why:
+            raise Unusable(f"what {self.program} saved is not a saved guest: {why}") from None
+
+    def at(self, step: int) -> saves.Saved:
+        """The state at this step, or where the run ends before, at its end."""
+        step = min(max(step, self.first), self.last)
+        if step not in self.known:
+            self.know(step, self.kept_at(step) or self.saved_of(self.made_at(step)))
+        self.known.move_to_end(step)
+        return self.known[step]
+
+    def know(self, step: int, saved: saves.Saved) -> None:
+        self.known[step] = saved
+        while len(self.known) > KEPT_IN_MEMORY:
+            self.known.pop(next(iter(self.known)), None)
+
+    def kept_at(self, step: int) -> saves.Saved | None:
+        data = self.cache.read(step) if step in self.cache.steps() else None
+        try:
+            return saves.Saved(data) if data else None
+        except saves.Wrong:
+            return None
+
+    def made_at(self, step: int) -> bytes:
+        """The bytes of the state at this step, made from the last one before that is known. On a long way
+        states are kept, the closer to each other the closer they are to its end."""
+        before, saved = self.last_before(step)
+        with Line(self, before, saved.form()) as line:
+            while step - before >= 2 * self.far:
+                before += (step - before) // 2
+                data = line.call("save", before)
+                self.cache.keep(before, data)
+                if saves.status_of(data):  # it makes no more steps
+                    return data
+            data = line.call("save", step)
+        if step - before >= self.far:
+            self.cache.keep(step, data)
+        return data
+
+    def last_before(self, step: int) -> tuple[int, saves.Saved]:
+        """The last state before a step that is known, with its step."""
+        near = max((each for each in self.known if each < step), default=self.first)
+        for before in sorted((each for each in self.cache.steps() if near < each < step), reverse=True):
+            saved = self.kept_at(before)
+            if saved:
+                return before, saved
+        if near in self.known:
+            self.known.move_to_end(near)
+        return near, self.known.get(near, self.start)
+
+    def singles(self, start: int, end: int) -> Iterator[saves.Saved]:
+        """The states at the steps from `start` to `end`, in order."""
+        yield self.at(start)
+        while start < end:
+            until = min(start + AT_ONCE, end)
+            with Line(self, start, self.at(start).form()) as line:
+                yield from parallel.in_order(line.at, range(start + 1, until + 1))
+            start = until
+
+
+class Line:
+    """A run that goes on from the state that `data` has, which is that at a step. What it comes to is made
+    from the last state before that is kept in a file: the first one, or one of the few that were far from the
+    one before."""
+
+    def __init__(self, runs: Runs, step: int, data: bytes) -> None:
+        self.runs, self.start = runs, step
+        self.files: collections.OrderedDict[int, str] = collections.OrderedDict()
+        self.keep(step, data)
+
+    def __enter__(self) -> "Line":
+        return self
+
+    def __exit__(self, *_: object) -> None:
+        for name in self.files.values():
+            with contextlib.suppress(FileNotFoundError):  # the whole folder is gone where the tool ends
+                os.remove(self.runs.path(name))
+
+    def keep(self, step: int, data: bytes) -> None:
+        self.files[step] = self.runs.put(f"{next(self.runs.numbers)}.saved", data)
+        if len(self.files) > KEPT_IN_FILES:
+            oldest = next(each for each in self.files if each != self.start)
+            os.remove(self.runs.path(self.files.pop(oldest)))
+
+    def call(self, command: str, step: int) -> bytes:
+        """What the program writes where the run goes on up to this step."""
+        before = max(each for each in self.files if each <= step)
+        self.files.move_to_end(before)
+        keys = {"name": self.runs.guest.name, "resume": self.files[before]}
+        data = self.runs.call(command, keys, step - before)
+        if command == "save" and step - before >= self.runs.far:
+            self.keep(step, data)
+        return data
+
+    def at(self, step: int) -> saves.Saved:
+        """The state at this step."""
+        return self.runs.saved_of(self.call("save", step))

@@ -1,0 +1,111 @@
+"""Finds the program that the tools take: the one that is named, else the proved one."""
+import glob
+import hashlib
+import os
+import platform
+from collections.abc import Iterator
+
+from nesthv_tools import places
+
+BUILT = os.path.join(places.TOP, "crates", "nesthv", "out", "nesthv")
+INSTALLED = os.path.join(places.TOP, "..", "..", "bin", "nesthv")
+
+
+class Unusable(Exception):
+    """Why the program that is named cannot be taken."""
+
+
+class Program:
+    """A program: its path, whether it is a proved one, and what there is to say of it."""
+
+    def __init__(self, path: str, is_proved: bool, notice: str = "") -> None:
+        self.path, self.is_proved, self.notice = path, is_proved, notice
+
+
+def hash_of(path: str) -> str:
+    with open(path, "rb") as file:
+        return hashlib.sha256(file.read()).hexdigest()
+
+
+def is_of(path: str, folder: str, name: str = "nesthv") -> bool:
+    """Whether the file at this path has the SHA-256 that the file of this name in this folder says."""
+    try:
+        with open(os.path.join(folder, f"{name}.sha256"), encoding="ascii") as file:
+            return hash_of(path) == file.read().split()[0]
+    except (OSError, IndexError, UnicodeDecodeError):
+        return False
+
+
+def sources() -> Iterator[str]:
+    """The sources, as dist/sources has them: what `rt ci` reads in the repository."""
+    yield from ("HANDLES", "crates.txt")
+    for folder, folders, names in os.walk(os.path.join(places.TOP, "crates")):
+        crate = os.path.relpath(folder, places.TOP)
+        if crate.count(os.sep) == 1 and "out" in folders:
+            folders.remove("out")
+        yield from (os.path.join(crate, name) for name in names if name != "README.md")
+
+
+def hash_of_sources() -> str:
+    """The SHA-256 of the sources, which dist/sources prints."""
+    paths = [path for path in sources() if not os.path.islink(os.path.join(places.TOP, path))]
+    lines = (f"{hash_of(os.path.join(places.TOP, path))}  {path}\n"
+             for path in sorted(paths, key=os.fsencode))
+    return hashlib.sha256("".join(lines).encode(errors="surrogateescape")).hexdigest()
+
+
+def is_of_these_sources() -> bool:
+    """Whether dist/nesthv was made of the sources that are here."""
+    try:
+        with open(os.path.join(places.DIST, "MADE"), encoding="utf-8") as file:
+            return f"sources {hash_of_sources()}" in file.read().splitlines()
+    except OSError:
+        return False
+
+
+def is_older_than_sources(program: str) -> bool:
+    """Whether a source of a crate has changed since this program was built."""
+    built = os.path.getmtime(program)
+    return any(os.path.getmtime(path) > built
+               for path in glob.glob(os.path.join(places.TOP, "crates", "*", "s*", "*")))
+
+
+def is_program(path: str) -> bool:
+    return os.path.isfile(path) and os.access(path, os.X_OK)
+
+
+def why_not(path: str) -> str:
+    """Why the file at this path cannot be a program."""
+    if not os.path.exists(path):
+        return "there is no such file"
+    return "it is not a regular file" if not os.path.isfile(path) else "it is not executable"
+
+
+def named(path: str) -> Program:
+    """The program at the path that a user names."""
+    if not is_program(path):
+        raise Unusable(f"{path} is not a program: {why_not(path)}")
+    path = os.path.abspath(path)
+    is_proved = is_of(path, places.DIST) or is_of(path, places.TOOLS)
+    return Program(path, is_proved, "" if is_proved else "is not known to be proved")
+
+
+def proved() -> Program | None:
+    """The proved program: of a folder where tools/install has put it, or of a repository that of dist/ where
+    it has the SHA-256 that stands beside it, else the one that `rt run` has built; or none."""
+    if is_of(INSTALLED, places.TOOLS) and is_program(INSTALLED):
+        return Program(os.path.realpath(INSTALLED), True)
+    path = os.path.join(places.DIST, "nesthv")
+    is_here = (platform.system(), platform.machine()) == ("Linux", "x86_64")
+    if is_here and is_program(path) and is_of(path, places.DIST):
+        notice = "" if is_of_these_sources() else "is of other sources; dist/check says more"
+        return Program(path, True, notice)
+    if is_program(BUILT):
+        return Program(BUILT, True, "is older than the sources" if is_older_than_sources(BUILT) else "")
+    return None
+
+
+def found(path: str | None = None) -> Program | None:
+    """The program at this path, else at the one that NESTHV has, else the proved one, or none."""
+    path = path or os.environ.get("NESTHV")
+    return named(path) if path else proved()

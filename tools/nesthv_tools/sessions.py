@@ -1,0 +1,85 @@
+"""A guest that tools/look shows: its runs, its symbols, and how what is found is printed."""
+import json
+import time
+from argparse import Namespace
+from collections.abc import Callable
+
+from nesthv_tools import guest_runs, presentation, programs, saves, state_cache, streams, symbols, terminal
+from nesthv_tools.presentation import Value
+
+TOLD_EVERY = 10.0  # seconds
+
+
+class Bad(Exception):
+    """What is wrong with the words, in words."""
+
+
+def number_of(text: str, what: str) -> int:
+    if not text.isdecimal() or len(text) > 20:
+        raise Bad(f"{text} is not a {what}: give a decimal number")
+    return int(text)
+
+
+class Session:
+    """A guest that is looked at, and how it is shown."""
+
+    def __init__(self, options: Namespace, program: programs.Program, config: str, guest: int) -> None:
+        self.options, self.program = options, program
+        self.guest = guest_runs.Guest(program.path, config, guest)
+        key = f"{programs.hash_of(program.path)[:16]}-{self.guest.hash()}"
+        cache = state_cache.Cache(options.cache, options.cache_size * state_cache.MIB, key)
+        self.runs, self.told = guest_runs.Runs(program.path, self.guest, cache), time.monotonic()
+        beside = symbols.elf_beside(self.guest.image) if self.guest.image else None
+        self.symbols = symbols.Symbols(beside, [elf_of(name) for name in options.elf])
+        self.disassembler = symbols.Disassembler()
+        self.doing: Callable[[int, int], str] = \
+            lambda low, high: f"{self.runs.calls} runs made, now between step {low:,} and {high:,}"
+
+    def tell(self, low: int, high: int) -> None:
+        """Says how far a search is, where it takes long."""
+        if time.monotonic() - self.told > TOLD_EVERY:
+            self.told = time.monotonic()
+            streams.say(self.doing(low, high))
+
+    def step_of(self, text: str) -> int:
+        """The step that a word names; what is out of the run is said."""
+        if text == "end":
+            return self.runs.last
+        step = number_of(text, "step")
+        if not self.runs.first <= step <= self.runs.last:
+            raise Bad(f"there is no step {step}: the guest goes from {self.runs.first} to {self.runs.last}")
+        return step
+
+    def state(self, text: str) -> saves.Saved:
+        """The state at a step. Where the guest has come to its end before, that is said."""
+        step = self.step_of(text)
+        saved = self.runs.at(step)
+        made = saved.numbers["steps"]
+        if made < step and text != "end":
+            status = saves.STATUSES[saved.numbers["status"]]
+            streams.say(f"the guest is {status} at step {made}: this is shown")
+        return saved
+
+    def end(self) -> int:
+        """The last step that the guest makes."""
+        return self.runs.at(self.runs.last).numbers["steps"]
+
+    def print(self, value: object, lines: list[str]) -> None:
+        shown = json.dumps(value) if self.options.json else "\n".join(map(terminal.line_of, lines))
+        print(shown, flush=True)
+        self.told = time.monotonic()
+
+    def instruction(self, saved: saves.Saved) -> Value:
+        return presentation.instruction_of(saved, self.symbols, self.disassembler)
+
+    def line(self, saved: saves.Saved) -> str:
+        """The next instruction of a state, with its step and mode."""
+        shown = presentation.line_of_instruction(saved.numbers["pc"], self.instruction(saved))
+        return f"{saved.numbers['steps']} {saved.mode()} {shown}"
+
+
+def elf_of(name: str) -> symbols.Elf:
+    elf = symbols.elf_at(name)
+    if not elf:
+        raise Bad(f"{name} cannot be read as an ELF file of 64 bits, little endian")
+    return elf

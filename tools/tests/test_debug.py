@@ -1,0 +1,98 @@
+"""Tests of tools/debug, by a script that stands for gdb, and by gdb-multiarch where it is installed."""
+import os
+import shlex
+import shutil
+import struct
+import unittest
+
+from elf_files import RAM, elf, with_headers
+from helper import LETTER, TOP, ToolTest
+
+STUB = os.path.join(TOP, "dist", "nesthv-gdb")
+FAKE = '#!/bin/sh\nfor word; do printf "%s\\n" "$word"; done\nexit 3\n'
+NESTED = bytes(range(1, 101))
+
+
+class DebugTest(ToolTest):
+    def setUp(self):
+        super().setUp()
+        os.chmod(self.put("fake gdb", FAKE), 0o755)
+
+    def debug(self, *words):
+        ran = self.tool("tools/debug", "--gdb", "./fake gdb", *words)
+        ran.words = ran.stdout.decode().splitlines()
+        return ran
+
+    def test_command(self):
+        self.put("deep er/b.bin", LETTER)
+        path = self.configure("deep er/b.toml", image='"b.bin"')
+        ran = self.debug(path, "--", "-batch")
+        self.check_plain(ran, 3)
+        self.assertEqual(ran.words[:2], ["-x", os.path.join(TOP, "tools", "debug.gdb")])
+        self.assertEqual(ran.words[-1], "-batch")
+        folder = shlex.quote(os.path.join(self.folder, "deep er"))
+        self.assertIn(f"target remote | cd {folder} && exec {STUB} ./b.toml 0", ran.words)
+        self.check_said(ran, "no ELF file stands beside the image")
+        printed = self.debug("--print", path)
+        self.check_plain(printed, 0)
+        self.assertEqual(shlex.split(printed.stdout.decode())[1:], ran.words[:-1])
+
+    def test_symbols_of_each_world(self):
+        """The guest's own ELF file, one of a guest that its image has in it, at other addresses and at the
+        same ones, and one that is of neither."""
+        self.put("a.bin", LETTER + NESTED)
+        self.put("a.elf", elf((RAM, LETTER + NESTED)))
+        self.put("low.elf", elf((0x1000, NESTED), entry=0x1000))
+        self.put("same.elf", elf((RAM, NESTED)))
+        self.put("other.elf", elf((0x1000, bytes(100))))
+        ran = self.debug(self.configure())
+        self.assertIn(f"file {self.folder}/a.elf", ran.words)
+        self.assertIn(f'set $nesthv_vs = "{self.folder}/low.elf"', ran.words)
+        self.assertEqual([word for word in ran.words if word.startswith("add-")],
+                         [f"add-symbol-file {self.folder}/low.elf"])
+        self.check_said(ran, f"symbols of a guest of its own: {self.folder}/same.elf")
+        self.check_unsaid(ran, "other.elf")
+
+    def test_faults_in_words(self):
+        path = self.configure()
+        for words, status, said in (
+                ([path, "5"], 2, "configuration fault 15 value 5: there is no guest 5: guests are numbered"),
+                (["none.toml"], 2, "the configuration none.toml cannot be read: there is no such file"),
+                ([self.configure("b.toml", image='"none"')], 3, "read fault 2: the image "),
+                ([self.configure("c.toml", blocks=0)], 2, "`blocks` of guest 0 ('a') is 0"),
+                (["--gdb", "none", path], 2, "there is no none (apt-get install gdb-multiarch)"),
+                (["--stub", "none", path], 2, "none is not a program"),
+                (["nothing"], 2, "nothing is not a file, and not an example"),
+                (["--print", "a.bin"], 2, "wants --write FOLDER")):
+            ran = self.debug(*words)
+            self.check_plain(ran, status)
+            self.check_said(ran, said)
+            self.assertEqual(ran.stdout, b"")
+
+    def test_elf_file_in_place_of_a_configuration(self):
+        self.put("k.elf", elf())
+        ran = self.debug("k.elf", "--steps", "7", "--write", "kept")
+        self.check_plain(ran, 3)
+        self.assertIn("file kept/k.elf", ran.words)
+        self.assertIn(f"target remote | cd kept && exec {STUB} ./k.toml 0", ran.words)
+
+    @unittest.skipUnless(shutil.which("gdb-multiarch"), "gdb-multiarch is not installed")
+    def test_gdb(self):
+        self.put("a.bin", LETTER + NESTED)
+        self.put("a.elf", elf((RAM, LETTER + NESTED)))
+        shown = [word for each in ("stepi 2", "print $a0", "monitor goto 1", "print $a0", "vs", "hs")
+                 for word in ("-ex", each)]
+        ran = self.tool("tools/debug", self.configure(), "--", "-nx", "-batch", *shown)
+        self.check_plain(ran, 0)
+        self.assertEqual([line for line in ran.stdout.decode().splitlines() if line.startswith("$")],
+                         ["$1 = 65", "$2 = 0"])
+        self.assertIn(b"no ELF file of a guest in VS stands beside the image", ran.stdout)
+
+
+class PlacedTest(unittest.TestCase):
+    def test_bytes_in_memory(self):
+        from nesthv_tools import elf_images
+        self.assertEqual(elf_images.placed(elf((0x2000, b"b"), (0x1000, b"a"))), b"a" + bytes(0xFFF) + b"b")
+        self.assertEqual(elf_images.placed(with_headers(b"a")), b"a")
+        for data in (b"", b"none", elf()[:70], elf((0, b"a"), (2**40, b"b")), struct.pack("<I", 0)):
+            self.assertEqual(elf_images.placed(data), b"")
