@@ -1,3 +1,4 @@
+# shellcheck shell=bash disable=SC2154 # each script sets `steps`
 # What the scripts of this folder share; they source it after they set `steps`. `program` is the proved program that
 # tools/program names. Where there is none, `rt run` proves all crates and builds it, which takes long; where a proof
 # fails, the script ends with that status.

@@ -46,7 +46,7 @@ emulate() {
     taken=$(awk '$1 == "ns" { print $2 }' "$folder/errors")
 }
 
-# agree NAME WHO TEXT: the checksum that this one gives is to be that of the image
+# agree NAME WHO TEXT: the checksum that this one gives must be that of the image
 agree() {
     checksum=${checksum:-$3}
     if [ "$checksum" != "$3" ]; then

@@ -1,12 +1,15 @@
 #!/usr/bin/env bash
 # Runs the proved program on files, streams and limits of memory that fail, on the system as it is: a full device, a
-# closed pipe, a closed output, a folder for a file, a file without leave to read, names that are long or no UTF-8, a
+# closed pipe, a closed output, a folder for a file, a file without leave to read, names that are long or not UTF-8, a
 # REPORT of 64 MiB, an image that grows while it is read, saves that are cut, and less and less memory. It prints a line for each answer
 # that is not the one that the contract has, and ends with status 1 where there was one.
 # Usage: bench/hostile-outside.sh [PROGRAM]
 # It takes the proved program (tools/program) if none is named. Memory is limited by `ulimit -v`. Where it is run as
 # root, the file without leave is read as `nobody`, by setpriv.
 set -eu
+case ${1:-} in
+-h | --help) sed -n '2,/^set/{/^#/s/^# \{0,1\}//p}' "$0" && exit ;;
+esac
 cd "$(dirname "$0")/.."
 program=$(realpath "${1:-$(tools/program)}")
 folder=$(mktemp -d)
@@ -64,21 +67,22 @@ resumed() {
 
 # Outputs that fail. `check` has two pieces, and `replay` one.
 for words in 'run first.toml' 'check first.toml' 'replay first.toml report' 'work 0 1' 'save first.toml 0'; do
+    read -ra list <<<"$words"
     status=0
-    "$program" $words >/dev/full 2>err || status=$?
+    "$program" "${list[@]}" >/dev/full 2>err || status=$?
     ended "$words to a full device" 4 'nesthv: write fault'
     status=0
-    "$program" $words >&- 2>err || status=$?
+    "$program" "${list[@]}" >&- 2>err || status=$?
     ended "$words to a closed output" 4 'nesthv: write fault'
     # The reader has ended before the program begins. A pipe without a reader also sends a signal, which ends a program
     # that does not ignore it; then the shell has status 141.
-    status=$(exec 3>&1; { sleep 0.2; s=0; "$program" $words 2>err || s=$?; echo "$s" >&3; } | true)
+    status=$(exec 3>&1; { sleep 0.2; s=0; "$program" "${list[@]}" 2>err || s=$?; echo "$s" >&3; } | true)
     case $status in
     141) ;;
     *) ended "$words to a closed pipe" 4 'nesthv: write fault' ;;
     esac
     status=0
-    "$program" $words >out 2>/dev/full || status=$?
+    "$program" "${list[@]}" >out 2>/dev/full || status=$?
     : >err
     ended "$words with a full error output" 0 ''
 done
@@ -99,7 +103,7 @@ cp first.bin "$(printf 'i%.0s' $(seq 251)).bin"
 refused 'no configuration' 3 'nesthv: read fault 1' run none.toml
 refused 'a folder as configuration' 3 'nesthv: read fault 1' run place
 refused 'a name that the system refuses' 3 'nesthv: read fault 1' run "$longer"
-refused 'a name that is no UTF-8' 1 \
+refused 'a name that is not UTF-8' 1 \
     'nesthv: usage: run CONFIG | replay CONFIG REPORT | check CONFIG | work SEED SIZE | save CONFIG GUEST' \
     run $'\xff\xfe'
 refused 'a report that is not there' 3 'nesthv: read fault 3' replay first.toml none
@@ -132,8 +136,9 @@ cmp -s out report || { wrong=$((wrong + 1)); echo 'an empty input file: another 
 configured "$(printf 'i%.0s' $(seq 252)).bin"
 refused 'an image name of 256 bytes' 2 'nesthv: configuration fault 4 guest 0 key image' run named.toml
 for words in "run $long" "check $long"; do
+    read -ra list <<<"$words"
     status=0
-    "$program" $words >out 2>err || status=$?
+    "$program" "${list[@]}" >out 2>err || status=$?
     ended 'a name of 255 bytes' 0 ''
 done
 configured "$(printf 'i%.0s' $(seq 251)).bin"
@@ -159,7 +164,7 @@ cp report longer
 printf '\n' >>longer
 for pair in 'big 0' "longer $(stat -c %s report)" '/dev/null 0'; do
     status=0
-    "$program" replay first.toml ${pair% *} >out 2>err || status=$?
+    "$program" replay first.toml "${pair% *}" >out 2>err || status=$?
     ended "${pair% *} as report" 6 ''
     if [ "$(cat out)" != "differs at ${pair#* }" ]; then
         wrong=$((wrong + 1))
@@ -220,16 +225,16 @@ ended 'a save from a save' 0 ''
 cmp -s out saved || { wrong=$((wrong + 1)); echo 'a save from a save: other bytes'; }
 
 # Less and less memory: the whole output or, with status 5, none of it.
-least=0
 for words in 'run first.toml' 'check first.toml' 'replay first.toml report' 'replay first.toml big' 'work 0 1' \
     'save first.toml 0' 'run resumed.toml' 'save resumed.toml 0'; do
+    read -ra list <<<"$words"
     usual=0
-    "$program" $words >wanted || usual=$?
+    "$program" "${list[@]}" >wanted || usual=$?
     wanting=0
     for ((size = 200000; size > 1500; size = size * 97 / 100)); do
         status=0
         # Below some size the system itself does not start a program: it ends by a signal, or the shell says so.
-        (ulimit -v "$size" && exec "$program" $words) >out 2>err || status=$?
+        (ulimit -v "$size" && exec "$program" "${list[@]}") >out 2>err || status=$?
         if ((status >= 126)); then
             break
         fi

@@ -2,7 +2,7 @@
 """Makes hostile guest hypervisors from seeds, and runs each in several ways whose sections must be byte for byte the
 same: alone in one turn, alone in turns of random lengths, and beside another guest in random turns, with two choices
 of the other guest's spaces and entries, and with spare blocks, so that RAM moves after each turn. The guest is also
-saved at a random place, and goes on from the file beside another guest, with spare blocks; a save at the end is to be,
+saved at a random place, and goes on from the file beside another guest, with spare blocks; a save at the end must be,
 byte for byte, that of the guest in one turn. It prints each difference and what the guests reached, and ends with
 status 1 where a section or a save differs or a run ends with another status than 0.
 
@@ -12,16 +12,8 @@ of every level), puts random words at mapped places, writes registers, delegates
 waits, makes HLV, HLVX and HSV, and enters VS, VU and U. Half of the guests have the device page, which their tables
 and registers name. Half of them move pages of satp and vsatp between accesses, with a fence that names the page, with
 another one, and with none, so that accesses go by what is cached of the first stage. Its trap handler puts on the console what trapped, from where,
-and a hash of the registers, and goes on with the next deed.
+and a hash of the registers, and goes on with the next deed. 10,000 images take some minutes on four processors.
 """
-# Usage: bench/hypervisors.py [--first SEED] [--count N] [--steps N] [--jobs N] [--program PATH] [--keep FOLDER]
-#   --first SEED, --count N  the images of N seeds from SEED on; 0 and 10,000 if left out
-#   --steps N                the steps of each guest in each run; 12,000 if left out
-#   --jobs N                 N at once; as many as there are processors if left out
-#   --program PATH           this program in place of the proved one (tools/program)
-#   --keep FOLDER            writes the files of each run that differs there
-# 10,000 images take some minutes on four processors.
-import argparse
 import collections
 import os
 import random
@@ -33,6 +25,11 @@ import tempfile
 from concurrent.futures import ProcessPoolExecutor
 
 TOP = os.path.dirname(os.path.dirname(os.path.abspath(__file__)))
+sys.dont_write_bytecode = True
+sys.path.insert(0, os.path.join(TOP, "tools"))
+from nesthv_tools import command_line, start, streams
+from nesthv_tools.csrs import NUMBERS as CSRS
+
 RAM = 0x80000000
 BLOCK = 2097152
 DEVICE = 0x10000000
@@ -49,14 +46,14 @@ HIGH, OWN = 0x1A000, 0x1B000
 OWN_MIDDLE, OWN_LAST, PAGES = 0x1E000, 0x1F000, 0x40000000
 SV39, SV48 = 8, 9  # MODE of satp and vsatp; of hgatp Sv39x4 and Sv48x4
 
-SSTATUS, SIE, STVEC, SCOUNTEREN, SSCRATCH, SEPC, SCAUSE, STVAL, SIP, SATP = (
-    0x100, 0x104, 0x105, 0x106, 0x140, 0x141, 0x142, 0x143, 0x144, 0x180)
-VSSTATUS, VSIE, VSTVEC, VSEPC, VSCAUSE, VSTVAL, VSIP, VSATP = 0x200, 0x204, 0x205, 0x241, 0x242, 0x243, 0x244, 0x280
-HSTATUS, HEDELEG, HIDELEG, HIE, HTIMEDELTA, HCOUNTEREN, HTVAL, HIP, HVIP, HTINST, HGATP, TIME = (
-    0x600, 0x602, 0x603, 0x604, 0x605, 0x606, 0x643, 0x644, 0x645, 0x64A, 0x680, 0xC01)
-REGISTERS = [SSTATUS, SIE, STVEC, SCOUNTEREN, 0x10A, SSCRATCH, SEPC, SCAUSE, STVAL, SIP, SATP, VSSTATUS, VSIE, VSTVEC,
-             0x240, VSEPC, VSCAUSE, VSTVAL, VSIP, VSATP, HSTATUS, HEDELEG, HIDELEG, HIE, HTIMEDELTA, HCOUNTEREN, 0x607,
-             0x60A, HTVAL, HIP, HVIP, HTINST, HGATP, TIME, 0xC00, 0xE12, 0x300, 0xF14]
+# Registers, as nested code may name them.
+NAMES = """sstatus sie stvec scounteren senvcfg sscratch sepc scause stval sip satp vsstatus vsie vstvec vsscratch vsepc
+vscause vstval vsip vsatp hstatus hedeleg hideleg hie htimedelta hcounteren hgeie henvcfg htval hip hvip htinst hgatp
+time cycle hgeip mstatus mhartid""".split()
+REGISTERS = [CSRS[name] for name in NAMES]
+(SSTATUS, SIE, STVEC, SCOUNTEREN, _, SSCRATCH, SEPC, SCAUSE, STVAL, SIP, SATP, VSSTATUS, VSIE, VSTVEC, _, VSEPC,
+ VSCAUSE, VSTVAL, VSIP, VSATP, HSTATUS, HEDELEG, HIDELEG, HIE, HTIMEDELTA, HCOUNTEREN, _, _, HTVAL, HIP, HVIP, HTINST,
+ HGATP, TIME, *_) = REGISTERS
 
 ECALL, EBREAK, SRET, WFI, NOP = 0x73, 0x100073, 0x10200073, 0x10500073, 0x13
 
@@ -155,7 +152,7 @@ class Maker:
         return self.random.random() < self.wild
 
     def names_device(self, share):
-        """Whether the device page is to be named here, which so many of the guests that have it do."""
+        """Whether the device page is named here, as by this share of the guests that have it."""
         return self.has_device and self.device_random.random() < share
 
     # the tables
@@ -667,18 +664,22 @@ def tried(task):
 
 
 def main():
-    parser = argparse.ArgumentParser(prog="bench/hypervisors.py", description=__doc__)
-    parser.add_argument("--first", type=int, default=0)
-    parser.add_argument("--count", type=int, default=10000)
-    parser.add_argument("--steps", type=int, default=12000)
-    parser.add_argument("--jobs", type=int, default=os.cpu_count())
-    parser.add_argument("--program")
-    parser.add_argument("--keep")
+    parser = command_line.Parser(__doc__)
+    add, most = parser.add_argument, 10**9
+    add("--first", type=command_line.number(0, most), default=0, metavar="SEED", help="the first seed; 0 if left out")
+    add("--count", type=command_line.number(0, most), default=10000, metavar="N",
+        help="the images of N seeds; 10,000 if left out")
+    add("--steps", type=command_line.number(1, most), default=12000, metavar="N",
+        help="the steps of each guest in each run; 12,000 if left out")
+    add("--jobs", type=command_line.number(1, 1024), default=os.cpu_count(), metavar="N",
+        help="how many at a time; as many as there are processors if left out")
+    add("--program", metavar="PATH", help="the program; the proved one (tools/program) if left out")
+    add("--keep", metavar="FOLDER", help="writes the files of each run that differs there")
     options = parser.parse_args()
     program = options.program or subprocess.run([os.path.join(TOP, "tools", "program")], stdout=subprocess.PIPE,
                                                 text=True).stdout.strip()
     if not program:
-        print("bench/hypervisors.py: no proved program; `cd crates/nesthv && rt run` builds it", file=sys.stderr)
+        streams.say("no proved program; `cd crates/nesthv && rt run` builds it")
         return 2
     program = os.path.abspath(program)
     counts = collections.Counter()
@@ -698,4 +699,4 @@ def main():
 
 
 if __name__ == "__main__":
-    sys.exit(main())
+    start.run(main)

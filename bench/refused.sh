@@ -11,9 +11,11 @@
 # Usage: bench/refused.sh [PROGRAM]
 # It takes the proved program (tools/program) if none is named, and a C compiler (CC, or cc).
 set -eu
+case ${1:-} in
+-h | --help) sed -n '2,/^set/{/^#/s/^# \{0,1\}//p}' "$0" && exit ;;
+esac
 cd "$(dirname "$0")/.."
 program=$(realpath "${1:-$(tools/program)}")
-here=$PWD
 folder=$(mktemp -d)
 trap 'rm -rf "$folder"' EXIT
 "${CC:-cc}" -O1 -fPIC -shared -o "$folder/refused.so" bench/refused.c -ldl

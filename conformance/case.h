@@ -2,6 +2,7 @@
    case's line or sum, and the way to make one instruction in a mode. */
 #include <stdbool.h>
 #include <stdint.h>
+#include "csrs.h" /* the registers by their numbers, which conformance/build makes of tools/csrs.txt */
 
 typedef uint64_t u64;
 typedef uint32_t u32;
@@ -28,15 +29,6 @@ extern u64 handler;
 #define read_csr(number) \
     ({ u64 value_; __asm__ volatile("csrr %0, %1" : "=r"(value_) : "i"(number)); value_; })
 #define write_csr(number, value) __asm__ volatile("csrw %0, %1" : : "i"(number), "r"((u64)(value)) : "memory")
-
-enum csr {
-    SSTATUS = 0x100, SIE = 0x104, STVEC = 0x105, SCOUNTEREN = 0x106, SENVCFG = 0x10A, SSCRATCH = 0x140,
-    SEPC = 0x141, SCAUSE = 0x142, STVAL = 0x143, SIP = 0x144, SATP = 0x180, VSSTATUS = 0x200, VSIE = 0x204,
-    VSTVEC = 0x205, VSSCRATCH = 0x240, VSEPC = 0x241, VSCAUSE = 0x242, VSTVAL = 0x243, VSIP = 0x244,
-    VSATP = 0x280, HSTATUS = 0x600, HEDELEG = 0x602, HIDELEG = 0x603, HIE = 0x604, HTIMEDELTA = 0x605,
-    HCOUNTEREN = 0x606, HGEIE = 0x607, HENVCFG = 0x60A, HTVAL = 0x643, HIP = 0x644, HVIP = 0x645,
-    HTINST = 0x64A, HGATP = 0x680, TIME = 0xC01, HGEIP = 0xE12
-};
 
 #define SSTATUS_SPP (1ul << 8)
 #define SSTATUS_SUM (1ul << 18)

@@ -139,7 +139,7 @@ class Model:
 
 
 def qemu(program, cpu, seconds):
-    """QEMU, with the words of -cpu that its version wants."""
+    """QEMU, with the words of -cpu that its version needs."""
     try:
         said = subprocess.run([program, "--version"], capture_output=True, text=True).stdout
     except OSError:
