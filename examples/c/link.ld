@@ -1,11 +1,11 @@
-/* Lays the guest out in RAM, which begins at 0x80000000: the first instruction of start.s, the other code and
+/* Lays the guest out in RAM, from 0x80000000 on or from `origin`: the first instruction of start.s, the other code and
    constants; from the next page on, variables and a stack of 64 KiB. RAM behind the image is zero, and so is .bss,
    which is not in the image. */
 ENTRY(_start)
 
 SECTIONS
 {
-    . = 0x80000000;
+    . = DEFINED(origin) ? origin : 0x80000000;
     .text : { *(.text.start) *(.text .text.*) }
     .rodata : { *(.rodata .rodata.* .srodata .srodata.*) }
     . = ALIGN(0x1000);

@@ -1,4 +1,4 @@
-# The world switch of hypervisor.c, and the image of its guest.
+# The world switch of hypervisor.c, and of that of examples/sbi.
     .option norelax
     .globl  run
     .macro  each op, base       # loads or stores all registers but x2 and x10
@@ -45,10 +45,3 @@ back:
     .balign 8
 caller:
     .skip   8
-
-# The image of the guest.
-    .section .rodata
-    .globl  image, image_end
-image:
-    .incbin "device.bin"
-image_end:

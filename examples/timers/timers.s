@@ -1,6 +1,6 @@
 # A hypervisor in HS with two kernels in VS, which run the same code under tables of their own. Each has a page that is
 # mapped on demand, reads the time, and sleeps until its timer comes. Each of six lines has a number: without one of
-# them the hypervisor has a fault, and docs/guide.md shows how it is found.
+# them the hypervisor has a fault, and docs/six-faults.md shows how it is found.
     .option norelax             # the linker changes no instruction, so .org is where it says
     .globl  _start
 

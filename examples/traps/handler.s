@@ -1,5 +1,6 @@
 # A trap handler for a guest that does nothing you can see. It prints all registers in hexadecimal, 54 lines of 27 bytes
-# each, and stops the guest. Link it to your guest, and set stvec before anything else:
+# each, and a last line `exit 255`, which `nesthv-run --verdict` ends with, and stops the guest. Link it to your guest,
+# and set stvec before anything else:
 #
 #     la      t0, show_trap
 #     csrw    stvec, t0
@@ -59,6 +60,12 @@ small:
     li      a0, '\n'
     ecall
     bltu    s0, s2, line
+    addi    s3, s0, 9           # behind the names
+verdict:
+    lbu     a0, 0(s0)
+    ecall
+    addi    s0, s0, 1
+    bltu    s0, s3, verdict
     li      a7, 8               # call 8 stops the guest
     ecall
 
@@ -70,6 +77,7 @@ names:
     .ascii  "sip       satp      time      htval     htinst    hstatus   hedeleg   hideleg   hgatp     "
     .ascii  "hie       hvip      vsstatus  vstvec    vsscratch vsepc     vscause   vstval    vsatp     "
 names_end:
+    .ascii  "exit 255\n\0\0\0"   # as long as whole words, as `.balign` wants it
     .balign 8
 saved:                          # x1 to x31, and then the others, in the order of the names
     .zero   8 * 54
