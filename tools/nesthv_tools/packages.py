@@ -23,7 +23,7 @@ Priority: optional
 Architecture: amd64
 Depends: libc6 (>= 2.34), python3 (>= 3.11)
 Suggests: gdb-multiarch, gcc-riscv64-linux-gnu, qemu-system-misc | qemu-system-riscv
-Maintainer: the maintainers of nesthv <nesthv@localhost>
+Maintainer: {maintainer}
 Installed-Size: {size}
 Description: deterministic RISC-V simulator for hypervisors, proved
  It runs bare images for RV64IMA with the hypervisor extension. The same
@@ -99,7 +99,8 @@ def debian_package(version: str, files: list[layout.File], links: list[layout.Li
     links = [link._replace(path=os.path.join("usr", link.path)) for link in links]
     size = sum(-(-len(file.data) // 1024) for file in files)
     sums = "".join(f"{hashlib.md5(file.data).hexdigest()}  {file.path}\n" for file in files)
-    control = [layout.File("DEBIAN/control", CONTROL.format(version=version, size=size).encode(), 0o644),
+    fields = CONTROL.format(version=version, size=size, maintainer=versions.author())
+    control = [layout.File("DEBIAN/control", fields.encode(), 0o644),
                layout.File("DEBIAN/md5sums", sums.encode(), 0o644)]
     with tempfile.TemporaryDirectory(prefix="nesthv-package-") as folder:
         root, made = os.path.join(folder, "root"), os.path.join(folder, "made.deb")

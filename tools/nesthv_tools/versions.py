@@ -42,13 +42,25 @@ def made() -> list[str]:
     return lines_at(INSTALLED) or lines_at(os.path.join(places.DIST, "MADE"))
 
 
+def of_commit(form: str, commit: str) -> str:
+    """What `git show` tells of a commit in this form, or an empty text where there is no such commit."""
+    ran = subprocess.run(["git", "show", "-s", f"--format={form}", commit], cwd=places.TOP,
+                         stdin=subprocess.DEVNULL, capture_output=True, text=True)
+    return ran.stdout.strip() if ran.returncode == 0 else ""
+
+
 def seconds() -> int:
     """The time of what is packed: SOURCE_DATE_EPOCH, else that of the commit of dist/MADE, else 0."""
     if os.environ.get("SOURCE_DATE_EPOCH", "").isdecimal():
         return int(os.environ["SOURCE_DATE_EPOCH"])
-    ran = subprocess.run(["git", "show", "-s", "--format=%ct", value_of(made(), "commit")], cwd=places.TOP,
-                         stdin=subprocess.DEVNULL, capture_output=True, text=True)
-    return int(ran.stdout) if ran.returncode == 0 and ran.stdout.strip().isdecimal() else 0
+    told = of_commit("%ct", value_of(made(), "commit"))
+    return int(told) if told.isdecimal() else 0
+
+
+def author() -> str:
+    """The name and the address of the author of the commit of dist/MADE, else of the last commit."""
+    form = "%an <%ae>"
+    return of_commit(form, value_of(made(), "commit")) or of_commit(form, "HEAD")
 
 
 def installed_text() -> str:

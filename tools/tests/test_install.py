@@ -225,6 +225,9 @@ class PackageTest(ToolTest):
     def test_deb(self):
         fields = subprocess.run(["dpkg-deb", "--field", self.deb[0]], capture_output=True, text=True).stdout
         self.assertIn(f"Package: nesthv\nVersion: {versions.version()}\n", fields)
+        words = ["git", "log", "--format=%an <%ae>"]
+        authors = subprocess.run(words, cwd=TOP, capture_output=True, text=True).stdout.splitlines()
+        self.assertIn(re.search("^Maintainer: (.*)$", fields, re.M)[1], authors)
         if not (BUSYBOX and os.geteuid() == 0 and shutil.which("dpkg")):
             subprocess.run(["dpkg-deb", "-x", self.deb[0], os.path.join(self.folder, "x")], check=True)
             self.check_unpacked(os.path.join(self.folder, "x", "usr"))
