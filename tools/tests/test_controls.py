@@ -1,4 +1,4 @@
-"""Tests of tools/controls on a small repository, with an `rt` that refuses a crate where a file says `wrong`."""
+"""Tests of tools/controls on a small repository, with an `rt` that refuses a crate whose code says `wrong`."""
 import os
 import shutil
 import subprocess
@@ -9,79 +9,128 @@ import unittest
 from helper import LIMIT, TOOLS
 
 RT = """#!/bin/sh
-if grep -q wrong src/lib.rt; then echo "error: a goal is open"; exit 1; fi
+echo "$*" >> "$CHECKS"
+if grep -q wrong src/*.rt; then echo "error: a goal is open"; exit 1; fi
 """
-EDIT = "file: src/lib.rt\nold: a + b\nnew: a\n"
-CONTROL = "file: src/lib.rt\nold: a + b\nnew: b + a\n"
+SOURCE = "fn sum() { a + b }\nfn less() { a < b }\nfn both() { a && b }\n"
+OLD = {"half": "a + b", "equal": "a < b", "either": "a && b"}
+NEW = {"half": "b + a", "equal": "b > a", "either": "b && a"}
+
+
+def edit(name, new):
+    return f"file: src/lib.rt\nold: {OLD[name]}\nnew: {new}\n"
 
 
 class ControlsTest(unittest.TestCase):
-    """What tools/controls says of a crate with one edit."""
+    """What tools/controls says of a crate with one edit, and with three."""
 
     def setUp(self):
         folder = tempfile.TemporaryDirectory()
         self.addCleanup(folder.cleanup)
-        self.folder = folder.name
+        self.folder = os.path.realpath(folder.name)
         self.put("crates.txt", "one\n")
         self.put("HANDLES", "Handles allowed: none.\n")
-        self.put("crates/one/src/lib.rt", "fn sum() { a + b }\n")
-        self.put("crates/one/must-fail/half.edit", EDIT)
+        self.put("crates/one/src/lib.rt", SOURCE)
+        self.put_edit("half")
         self.put("bin/rt", RT)
         os.chmod(os.path.join(self.folder, "bin", "rt"), 0o755)
-        os.makedirs(os.path.join(self.folder, "tools"))
-        shutil.copy(os.path.join(TOOLS, "controls"), os.path.join(self.folder, "tools"))
+        tools = os.path.join(self.folder, "tools")
+        shutil.copytree(os.path.join(TOOLS, "nesthv_tools"), os.path.join(tools, "nesthv_tools"),
+                        ignore=shutil.ignore_patterns("__pycache__"))
+        shutil.copy(os.path.join(TOOLS, "controls"), tools)
+        os.makedirs(os.path.join(self.folder, "examples"))
 
     def put(self, name, text):
         path = os.path.join(self.folder, name)
         os.makedirs(os.path.dirname(path), exist_ok=True)
         with open(path, "w", encoding="utf-8") as file:
             file.write(text)
+        return path
+
+    def put_edit(self, name):
+        return self.put(f"crates/one/must-fail/{name}.edit", edit(name, "a"))
+
+    def put_control(self, name, new=None):
+        return self.put(f"crates/one/controls/{name}.control", edit(name, new or NEW[name]))
 
     def check_said(self, status, out, error, *words):
-        variables = {**os.environ, "PATH": os.path.join(self.folder, "bin") + ":" + os.environ["PATH"]}
-        ran = subprocess.run([sys.executable, os.path.join(self.folder, "tools", "controls"), *words], text=True,
-                             stdin=subprocess.DEVNULL, capture_output=True, timeout=LIMIT, env=variables)
+        """Runs the tool, and gives how many checks it made."""
+        checks = self.put("checks", "")
+        variables = {**os.environ, "CHECKS": checks,
+                     "PATH": os.path.join(self.folder, "bin") + ":" + os.environ["PATH"]}
+        tool = os.path.join(self.folder, "tools", "controls")
+        ran = subprocess.run([sys.executable, tool, *words], text=True, stdin=subprocess.DEVNULL,
+                             capture_output=True, timeout=LIMIT, env=variables)
         self.assertEqual((ran.returncode, ran.stdout), (status, out))
         self.assertEqual(ran.stderr, error if not error else "tools/controls: " + error + "\n")
+        with open(checks, encoding="utf-8") as file:
+            return len(file.readlines())
 
     def test_proved(self):
-        self.put("crates/one/controls/half.control", CONTROL)
+        self.put_control("half")
         self.check_said(0, "one/half: proved\n", "")
         self.check_said(0, "one/half: proved\n", "", "one", "--jobs", "2")
 
     def test_refused(self):
-        self.put("crates/one/controls/half.control", CONTROL.replace("b + a", "wrong"))
+        self.put_control("half", "wrong")
         self.check_said(1, "one/half: refused: error: a goal is open\n", "")
 
     def test_no_control(self):
         self.check_said(1, "one/half: no control\n", "", "one")
 
+    def test_one_check_for_all(self):
+        for name in OLD:
+            self.put_edit(name)
+            self.put_control(name)
+        checks = self.check_said(0, "one/either: proved\none/equal: proved\none/half: proved\n", "")
+        self.assertEqual(checks, 1)
+
+    def test_halves_of_a_round(self):
+        for name in OLD:
+            self.put_edit(name)
+            self.put_control(name, "wrong" if name == "equal" else None)
+        said = "one/either: proved\none/equal: refused: error: a goal is open\none/half: proved\n"
+        self.check_said(1, said, "")
+
+    def test_two_controls_of_a_line(self):
+        self.put_control("half")
+        self.put("crates/one/must-fail/nothing.edit", edit("half", "0"))
+        self.put("crates/one/controls/nothing.control", edit("half", "a + b + 0"))
+        self.assertEqual(self.check_said(0, "one/half: proved\none/nothing: proved\n", ""), 2)
+
+    def test_control_that_writes_what_another_replaces(self):
+        for name in "half", "equal":
+            self.put_edit(name)
+            self.put_control(name)
+        self.put_control("half", "if a < b { b + a } else { b + a }")
+        self.assertEqual(self.check_said(0, "one/equal: proved\none/half: proved\n", ""), 1)
+
     def test_crate_that_is_not_proved(self):
         self.put("crates/one/src/lib.rt", "wrong, a + b\n")
-        self.put("crates/one/controls/half.control", CONTROL)
+        self.put_control("half")
         self.check_said(2, "", "one: the crate itself is not proved: error: a goal is open")
 
     def test_files_that_are_wrong(self):
-        path = os.path.join(os.path.realpath(self.folder), "crates", "one", "controls", "half.control")
+        right = edit("half", NEW["half"])
+        path = self.put_control("half")
         for text, why in [
-            (EDIT, f"{path}: it is the wrong body itself"),
-            (CONTROL.replace("a + b", "a"), f"{path}: its file and its lines `old: ` are not those of half.edit"),
-            ("new: b\n", f"{path}: it has not one line `file: ` and pairs of lines `old: ` and `new:`"),
-            (CONTROL + "more\n", f"{path}:4: the line begins with none of `file: `, `old: `, `new:`"),
+            (edit("half", "a"), f"{path}: it is the wrong body itself"),
+            (right.replace("a + b", "a"), f"{path}: its `file:` and its `old:` are not those of half.edit"),
+            ("new: b\n", f"{path}: it has not one line `file:` and pairs of lines `old:` and `new:`"),
+            (right + "more\n", f"{path}:4: the line begins with none of `file:`, `old:`, `new:`"),
         ]:
             self.put("crates/one/controls/half.control", text)
             self.check_said(2, "", why)
-        self.put("crates/one/controls/half.control", CONTROL)
+        self.put_control("half")
         self.put("crates/one/src/lib.rt", "a - b\n")
         self.check_said(2, "", "src/lib.rt: 0 places are `a + b`")
 
     def test_control_of_no_edit(self):
-        self.put("crates/one/controls/third.control", CONTROL)
-        path = os.path.join(os.path.realpath(self.folder), "crates", "one", "controls", "third.control")
+        path = self.put("crates/one/controls/third.control", edit("half", NEW["half"]))
         self.check_said(2, "", f"{path}: there is no third.edit in must-fail")
 
     def test_crate_that_there_is_not(self):
-        self.check_said(2, "", "two is no crate", "two")
+        self.check_said(2, "", "two is not a crate", "two")
 
 
 if __name__ == "__main__":
