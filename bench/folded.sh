@@ -23,8 +23,8 @@ timed "a fence and an entry every 14 steps" run
 configure kernels 1 "$steps" 2 16
 timed "two kernels" run
 
-# A space of E entries takes the entry of the code E reads after its fill: E + 1 fills are E reads. So many pages are
-# read in turn that each read is of a page without an entry.
+# A space of E entries takes the entry of the code E reads after its fill: E + 1 fills are E reads. The pages that are
+# read in turn are so numerous that each read is of a page without an entry.
 pages same 0 0
 for entries in 16 256; do
     configure same 1 "$steps" 1 "$entries"

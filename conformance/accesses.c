@@ -143,7 +143,7 @@ static void choose_tops(void)
     }
 }
 
-/* The lowest bit of an address that is no part of an index into a table, or the one below it. */
+/* The lowest bit of an address that is not part of an index into a table, or the one below it. */
 static u64 first_free_bit(void)
 {
     return c.is_bare ? (c.is_guest_wide && !c.is_flat ? 50 : 38) : c.is_wide ? 47 : 38;
@@ -213,7 +213,7 @@ static u64 named(u64 place)
 }
 
 /* A leaf to a block of this level: now and then outside RAM, also as a guest physical address, or at a place
-   that is no multiple of its size. None leads to the image itself. */
+   that is not a multiple of its size. None leads to the image itself. */
 static u64 block_leaf(u64 block, int level, u64 bits)
 {
     if (once_in(64))

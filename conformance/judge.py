@@ -25,7 +25,7 @@ class Difference(NamedTuple):
 
 
 def parsed(line):
-    """The case of a line, or none where it is no case's."""
+    """The case of a line, or none where the line is not that of a case."""
     head, separator, rest = line.partition(" :")
     words = head.split()
     values = dict(re.findall(r"(~?\w+)=([0-9A-F]+)", rest))

@@ -3,7 +3,7 @@
 #include <stddef.h>
 #include <stdint.h>
 
-/* What a program computes in so many rounds, each of some 1,000,000 steps. */
+/* What a program computes in the given number of rounds, each of some 1,000,000 steps. */
 uint64_t checksum(uint64_t rounds);
 
 /* The next pseudo-random number, by shifts of 13, 7 and 17. The state is not 0. */

@@ -75,7 +75,7 @@ static CALLED enum kind kind_after(enum kind kind, bool is_empty)
     return kind == ENDED ? COUNTED : kind;
 }
 
-/* Sells so many of an article, or buys new ones where there are too few. */
+/* Sells `amount` of an article, or buys new ones where there are too few. */
 static CALLED int32_t sell(struct article *article, int32_t amount, int32_t *till)
 {
     struct article changed = *article;

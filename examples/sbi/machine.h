@@ -2,7 +2,7 @@
 #include <stdbool.h>
 #include <stdint.h>
 
-#define BLOCK 0x200000UL            /* a leaf of level 1 maps so much */
+#define BLOCK 0x200000UL            /* what a leaf of level 1 maps */
 #define GUEST_RAM 0x80200000UL      /* physical and guest physical, behind the hypervisor's block */
 #define ARGUMENTS ((const char *)(GUEST_RAM - 0x1000)) /* the text that the guest's kernel gets */
 

@@ -21,7 +21,7 @@ static long call(long number, long argument)
 }
 
 /* The attribute has gcc keep each register that the function changes, and end it by SRET. Its address goes into stvec,
-   whose two lowest bits are no part of the address. */
+   whose two lowest bits are not part of the address. */
 __attribute__((interrupt("supervisor"), aligned(4))) static void on_trap(void)
 {
     int64_t cause;

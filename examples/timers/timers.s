@@ -7,7 +7,7 @@
     # What the hypervisor has of a kernel: sepc at 0, register i at 8 * i, and then:
     .equ HGATP, 256
     .equ LEVEL0, 264            # its table of level 0
-    .equ LEAF, 272              # the leaf of its page 0, if that were no code
+    .equ LEAF, 272              # the leaf of its page 0, if that had no code
     .equ OTHER, 280             # the other kernel
     .equ ENDED, 288
     .equ VS, 296                # nine registers

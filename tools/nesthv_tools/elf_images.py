@@ -109,7 +109,7 @@ def headers_in(segment: Segment, header: Header) -> int:
 
 
 def without(segment: Segment, count: int) -> Segment:
-    """A segment without so many bytes at its start."""
+    """A segment without the first `count` bytes."""
     place, address, data, length, offset = segment
     return Segment(place + count, address + count, data[count:], length - count, offset + count)
 
@@ -121,7 +121,7 @@ def from_ram(segment: Segment, header: Header) -> Segment:
 
 
 def refuse_places(segments: list[Segment], header: Header, most: int) -> None:
-    """Refuses segments that are not in RAM of so many bytes, or that overlap, and another start than that of
+    """Refuses segments that are not in RAM of `most` bytes, or that overlap, and another start than that of
     RAM."""
     if not segments:
         raise Wrong("it has no segment to load")
@@ -142,7 +142,7 @@ def refuse_places(segments: list[Segment], header: Header, most: int) -> None:
 
 
 def image_of(data: bytes, most: int) -> Image:
-    """The image of an ELF file, for a guest whose RAM has so many bytes."""
+    """The image of an ELF file, for a guest whose RAM has `most` bytes."""
     header = header_of(data)
     refuse_kind(header)
     found = (from_ram(segment, header) for segment in segments_of(data, header))

@@ -75,7 +75,7 @@ def is_image(path: str) -> bool:
 
 
 def image_at(path: str, blocks: int | None) -> elf_images.Image:
-    """The image of the ELF file or of the image at this path, for a guest of so many blocks."""
+    """The image of the ELF file or of the image at this path, for a guest with this number of blocks."""
     most = (blocks or faults.MOST_BLOCKS) * faults.BLOCK
     with open(path, "rb") as file:
         data = file.read()
@@ -106,7 +106,7 @@ def name_of(path: str) -> str:
 
 
 def text_of(name: str, options: argparse.Namespace, length: int) -> str:
-    """The configuration of a guest of this name, whose image takes so many bytes of RAM."""
+    """The configuration of a guest of this name, whose image takes `length` bytes of RAM."""
     blocks = options.blocks or min(faults.MOST_BLOCKS,
                                    max(FEWEST_BLOCKS, -(-(length + LENGTH_OF_STACK) // faults.BLOCK)))
     given = {key: getattr(options, key) for key in DEFAULTS}

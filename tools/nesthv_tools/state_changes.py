@@ -16,7 +16,7 @@ SIZES = ("blocks", "spaces", "entries", "console", "device", "steps")
 
 
 def words_that_differ(one: bytes, other: bytes, ignored: Container[int] = ()) -> Iterator[int]:
-    """The places of the doublewords that differ of two RAMs, but for those that are to be ignored."""
+    """The places of the doublewords that differ of two RAMs, except for those to be ignored."""
     for page in range(0, min(len(one), len(other)), 4096):
         first, second = one[page:page + 4096], other[page:page + 4096]
         if first == second:
