@@ -17,8 +17,27 @@ PROGRAM = os.path.join(TOP, "dist", "nesthv")
 LETTER = struct.pack("<5I", 0x00100893, 0x04100513, 0x73, 0x00800893, 0x73)
 LETTER_REPORT = b"guest a stopped steps 5 bytes 1\nA\n"
 LOOP = struct.pack("<I", 0x6F)  # jal zero, 0
+# Imports all modules of the tools.
+IMPORTS = """import importlib, pkgutil, nesthv_tools
+for module in pkgutil.walk_packages(nesthv_tools.__path__, "nesthv_tools."):
+    if not module.name.endswith("__main__"):
+        importlib.import_module(module.name)
+"""
 LIMIT = 600  # seconds that a test waits for a tool, which on a loaded machine may get little time
 GUEST = {"name": '"a"', "image": '"a.bin"', "blocks": 1, "spaces": 1, "entries": 16, "console": 100}
+
+
+def compiled():
+    """A folder with all modules of the tools, and those that they import, compiled once. Each tool that a test
+    runs takes them from there: by itself a tool compiles its modules each time, and keeps none."""
+    folder = tempfile.TemporaryDirectory(prefix="nesthv-compiled-")
+    os.environ["PYTHONPYCACHEPREFIX"] = folder.name
+    variables = {key: value for key, value in os.environ.items() if key != "PYTHONDONTWRITEBYTECODE"}
+    subprocess.run(["python3", "-c", IMPORTS], cwd=TOOLS, env=variables, stdin=subprocess.DEVNULL, check=True)
+    return folder
+
+
+COMPILED = compiled()
 
 
 def take_interrupts():

@@ -198,7 +198,7 @@ class PackageTest(ToolTest):
                                             os.path.exists(f"{root}{PYTHON}"))):
             script = f"cd {first} && exec {folder}/bin/{' '.join(command)} first.toml"
             ran = self.tool(shutil.which("chroot"), root, BUSYBOX, "sh", "-c", script,
-                            variables={"NESTHV": "", "PATH": "/bin:/usr/bin"})
+                            variables={"NESTHV": "", "PATH": "/bin:/usr/bin", "PYTHONPYCACHEPREFIX": ""})
             self.check_plain(ran, 0)
             self.assertEqual(ran.stdout, LETTER_REPORT)
 
