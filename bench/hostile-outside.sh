@@ -230,7 +230,7 @@ for words in 'run first.toml' 'check first.toml' 'replay first.toml report' 'rep
     read -ra list <<<"$words"
     usual=0
     "$program" "${list[@]}" >wanted || usual=$?
-    wanting=0
+    short=0
     for ((size = 200000; size > 1500; size = size * 97 / 100)); do
         status=0
         # Below some size the system itself does not start a program: it ends by a signal, or the shell says so.
@@ -242,12 +242,12 @@ for words in 'run first.toml' 'check first.toml' 'replay first.toml report' 'rep
             ended "$words in $size KiB" "$usual" ''
             cmp -s out wanted || { wrong=$((wrong + 1)); echo "$words in $size KiB: another output"; }
         else
-            wanting=$((wanting + 1))
+            short=$((short + 1))
             ended "$words in $size KiB" 5 'nesthv: out of memory'
             silent "$words in $size KiB"
         fi
     done
-    echo "$words: wanted memory at $wanting sizes"
+    echo "$words: ran out of memory at $short sizes"
 done
 echo "$tries answers, $wrong that are not the contract's"
 [ "$wrong" = 0 ]

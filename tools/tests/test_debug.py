@@ -63,7 +63,7 @@ class DebugTest(ToolTest):
                 (["--gdb", "none", path], 2, "there is no none (apt-get install gdb-multiarch)"),
                 (["--stub", "none", path], 2, "none is not a program"),
                 (["nothing"], 2, "nothing is not a file, and not an example"),
-                (["--print", "a.bin"], 2, "wants --write FOLDER")):
+                (["--print", "a.bin"], 2, "needs --write FOLDER")):
             ran = self.debug(*words)
             self.check_plain(ran, status)
             self.check_said(ran, said)

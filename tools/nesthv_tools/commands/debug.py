@@ -53,7 +53,7 @@ def options_of_words() -> Namespace:
     options = parser.parse_args(words[:end])
     options.more = words[end + 1:]  # of gdb
     if options.is_printed and not options.write and image_configurations.is_image(options.config):
-        parser.error("--print of an ELF file or an image wants --write FOLDER, where the command finds them")
+        parser.error("--print of an ELF file or an image needs --write FOLDER, where the command finds them")
     return options
 
 
