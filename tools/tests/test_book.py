@@ -33,6 +33,11 @@ def made(name: str):
     return book_module().make(name)
 
 
+@functools.cache
+def document(name: str) -> str:
+    return book_module().document_of(made(name))
+
+
 class Books(unittest.TestCase):
     def test_each_name_means_something(self):
         for name in book_module().PAGES:
@@ -47,15 +52,14 @@ class Books(unittest.TestCase):
     def test_each_link_leads_to_a_definition_of_its_page(self):
         for name in book_module().PAGES:
             with self.subTest(name):
-                page = book_module().document_of(made(name))
+                page = document(name)
                 anchors = re.findall(r' id="([^"]*)"', page)
                 self.assertEqual(len(anchors), len(set(anchors)))
                 self.assertEqual(set(re.findall(r'href="#([^"]*)"', page)) - set(anchors), set())
 
     def test_a_page_takes_nothing_from_elsewhere(self):
         for name in book_module().PAGES:
-            self.assertIsNone(re.search(r'<script|<link|src=|href="[^#]|@import|url\(',
-                                        book_module().document_of(made(name))), name)
+            self.assertIsNone(re.search(r'<script|<link|src=|href="[^#]|@import|url\(', document(name)), name)
 
     def test_the_headline_reaches_the_step_of_a_machine_and_the_table_of_instructions(self):
         for name in ("nesthv", "run"):
