@@ -11,6 +11,8 @@ INSTALLED = os.path.join(places.TOP, "..", "..", "bin", "nesthv-gdb")
 SCRIPT = os.path.join(places.TOOLS, "debug.gdb")
 SHORTEST = 64  # bytes of a nested guest that are looked for in an image
 SECONDS = 600  # of one answer of the stub
+# Reads what gdb acknowledges when it leaves. The stub has ended by then, and gdb would tell of a broken pipe.
+REST = "exec cat >/dev/null"
 
 
 class World(NamedTuple):
@@ -88,7 +90,7 @@ def symbol_commands(worlds: Worlds) -> list[str]:
 def command(gdb: str, program: str, folder: str, place: str, guest: int, worlds: Worlds) -> list[str]:
     """The words by which gdb is started for the guest of this number of a configuration in this folder."""
     words = shlex.join([program, place, str(guest)])
-    there = f"cd {shlex.quote(folder)} && exec " if folder != "." else ""
+    there = f"cd {shlex.quote(folder)} && " if folder != "." else ""
     commands = [f"set remotetimeout {SECONDS}", "set architecture riscv:rv64", *symbol_commands(worlds),
-                f"target remote | {there}{words}"]
+                f"target remote | {there}{words}; {REST}"]
     return [gdb, "-x", SCRIPT, *(word for each in commands for word in ("-ex", each))]

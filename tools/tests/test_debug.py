@@ -31,7 +31,7 @@ class DebugTest(ToolTest):
         self.assertEqual(ran.words[:2], ["-x", os.path.join(TOP, "tools", "debug.gdb")])
         self.assertEqual(ran.words[-1], "-batch")
         folder = shlex.quote(os.path.join(self.folder, "deep er"))
-        self.assertIn(f"target remote | cd {folder} && exec {STUB} ./b.toml 0", ran.words)
+        self.assertIn(f"target remote | cd {folder} && {STUB} ./b.toml 0; exec cat >/dev/null", ran.words)
         self.check_said(ran, "no ELF file stands beside the image")
         printed = self.debug("--print", path)
         self.check_plain(printed, 0)
@@ -74,7 +74,7 @@ class DebugTest(ToolTest):
         ran = self.debug("k.elf", "--steps", "7", "--write", "kept")
         self.check_plain(ran, 3)
         self.assertIn("file kept/k.elf", ran.words)
-        self.assertIn(f"target remote | cd kept && exec {STUB} ./k.toml 0", ran.words)
+        self.assertIn(f"target remote | cd kept && {STUB} ./k.toml 0; exec cat >/dev/null", ran.words)
 
     @unittest.skipUnless(shutil.which("gdb-multiarch"), "gdb-multiarch is not installed")
     def test_gdb(self):
@@ -87,6 +87,7 @@ class DebugTest(ToolTest):
         self.assertEqual([line for line in ran.stdout.decode().splitlines() if line.startswith("$")],
                          ["$1 = 65", "$2 = 0"])
         self.assertIn(b"no ELF file of a guest in VS stands beside the image", ran.stdout)
+        self.check_unsaid(ran, "Remote communication error")
 
 
 class PlacedTest(unittest.TestCase):
