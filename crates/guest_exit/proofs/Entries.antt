@@ -370,6 +370,7 @@ at_next part pool m memory changed n own at only reserved there =
       space_room = at.space_room;
       entry_room = at.entry_room;
       caches = subst (λ size. All (λ s. All (HasPlace size) s.entries) m.spaces) (before ∙ sym (size_of part changed held)) at.caches;
+      devices = at.devices;
       orderly = subst IsOrderly there (stays_orderly m n at.orderly);
       storable = subst (λ m. IsStorable m.platform.virt) there (stays_storable m n at.storable);
     }

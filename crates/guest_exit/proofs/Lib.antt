@@ -2,6 +2,7 @@ pub mod Agreement
 pub mod Alone
 pub mod Decided
 pub mod Delegation
+pub mod DevicePages
 pub mod Enabled
 pub mod Entries
 pub mod ExitCases

@@ -30,9 +30,11 @@ use Rattle.machine_laws.specs.StorableStates.{IsStorable}
 use Rattle.machine_laws.proofs.StorableRuns.{fill_stays_storable, stays_storable, try_stays_storable}
 use Rattle.shadow_pool.specs.Slots.{Pooled, TidyPool, pool_frames, room_of, spaces_of, table_frames_for}
 use Rattle.guest_exit.specs.declared.guests.Guest.{Guest}
+use Rattle.guest_exit.specs.DevicePages.{CachesOwnDevice, IsOfDevice}
 use Rattle.guest_exit.specs.HartSteps.{IsAt, changing}
 use Rattle.guest_exit.specs.Steps.{Fills, MakesStep}
 use Rattle.guest_exit.specs.View.{IsPlaced, KeepsLayout, KeepsSpaces, changed_by, machine_of}
+use Rattle.guest_exit.proofs.DevicePages.{fill_keeps_device, run_keeps_device, try_keeps_device}
 use Rattle.guest_exit.proofs.Pools.{held_after, size_of, tidy_by_blocks}
 
 -- what is reserved in RAM of so many bytes
@@ -59,12 +61,14 @@ hgatp_is_held guest memory at = ap (λ csrs. csrs.hgatp) at.storable.csrs
 -- what a machine is after a step, a fill or a run
 record IsKept (before after : Machine) : Type 0 where
   ram : KeepsInRam before after
+  devices : CachesOwnDevice after
   orderly : IsOrderly after
   storable : IsStorable after.platform.virt
 
 kept_by_try : (part : Layout) (pool : Pooled) (m : Machine) (memory : List ℕ) → IsAt part pool m memory → IsKept m (left_after m)
 kept_by_try part pool m memory at = record {
   ram = try_stays_in_ram m (whole part pool m memory at) at.caches (reserves part pool m memory at);
+  devices = try_keeps_device m at.devices;
   orderly = try_stays_orderly m at.orderly;
   storable = try_stays_storable m at.storable;
 }
@@ -72,6 +76,7 @@ kept_by_try part pool m memory at = record {
 kept_by_run : (part : Layout) (pool : Pooled) (m : Machine) (memory : List ℕ) (k : ℕ) → IsAt part pool m memory → IsKept m (run m k)
 kept_by_run part pool m memory k at = record {
   ram = stays_in_ram m k (whole part pool m memory at) at.caches (reserves part pool m memory at);
+  devices = run_keeps_device m k at.devices;
   orderly = stays_orderly m k at.orderly;
   storable = stays_storable m k at.storable;
 }
@@ -94,6 +99,7 @@ at_after part pool new memory changed m after at only own tidy ram spaces space_
       space_room = space_room;
       entry_room = entry_room;
       caches = kept.ram.0;
+      devices = kept.devices;
       orderly = kept.orderly;
       storable = kept.storable;
     }
@@ -131,6 +137,7 @@ placed_by_fill old new memory changed at fixed only tidy (e, lacks, is) =
     placed_if old new memory changed at fixed.part fixed.pool only tidy
     (subst (IsKept m) (sym is) (record {
       ram = fill_stays_in_ram m e at.caches (reserves old.part old.pool m memory at) lacks;
+      devices = fill_keeps_device m e at.devices lacks;
       orderly = fill_stays_orderly m e at.orderly lacks;
       storable = fill_stays_storable m e at.storable;
     }))
@@ -153,6 +160,7 @@ placed_new guest memory once held new zeros reserved flat storable =
       space_room = refl;
       entry_room = refl;
       caches = rw new.spaces (All-nil (λ (s : Space). All (HasPlace _) s.entries));
+      devices = rw new.spaces (All-nil (λ (s : Space). All (IsOfDevice _ s.key) s.entries));
       orderly = record {
         entries = new.entries;
         spaces = new.room;
@@ -189,6 +197,7 @@ placed_by_blocks guest memory changed at only =
       space_room = refl;
       entry_room = refl;
       caches = subst (λ size. All (λ (s : Space). All (HasPlace size) s.entries) (spaces_of guest.pool)) same at.caches;
+      devices = at.devices;
       orderly = record { entries = at.orderly.entries; spaces = at.orderly.spaces; front = at.orderly.front };
       storable = at.storable;
     }

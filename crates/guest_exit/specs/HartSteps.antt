@@ -34,6 +34,7 @@ use Rattle.shadow_pool.specs.Slots.{Pooled, TidyPool, front_root, pool_frames, r
 use Rattle.rv64_hart.specs.Steps.{HartEnd, Goes, Exits, attempt_of, end_by, enters_vs, hart_step}
 use Rattle.world_switch.specs.Hosting.{guest_state_after, hosted_level, loaded_in, root_at}
 use Rattle.world_switch.specs.Laws.{KeepsHidden}
+use Rattle.guest_exit.specs.DevicePages.{CachesOwnDevice}
 use Rattle.guest_exit.specs.ExitCases.{IsLeft, exit_of, found_next}
 
 -- whether an interrupt is one that the hart does not take for the guest, by the guest's V and hideleg: with
@@ -111,8 +112,9 @@ Follows part root m memory end =
 
 -- a machine in a part of machine memory: the part names no frame twice, and memory holds it with its host
 -- table; RAM is the bytes of its blocks; what is reserved, if anything, is a place of RAM; the spaces are
--- those of a pool of the same part, whose tables are tidy in memory, and cache frames of RAM; while the
--- machine folds, the space of hgatp is in front; and the registers hold what they can store
+-- those of a pool of the same part, whose tables are tidy in memory, and cache frames of RAM, and that of the
+-- device page only where the machine has it; while the machine folds, the space of hgatp is in front; and the
+-- registers hold what they can store
 pub record IsAt (part : Layout) (pool : Pooled) (m : Machine) (memory : List ℕ) : Type 0 where
   pub once : NamesEachOnce part
   pub held : IsHeld part memory
@@ -124,6 +126,7 @@ pub record IsAt (part : Layout) (pool : Pooled) (m : Machine) (memory : List ℕ
   pub space_room : m.space_room ≡ room_of pool
   pub entry_room : m.entry_room ≡ pool.most
   pub caches : CachesInRam m
+  pub devices : CachesOwnDevice m
   pub orderly : IsOrderly m
   pub storable : IsStorable m.platform.virt
 

@@ -1,5 +1,6 @@
 -- A guest as the host has it, and its machine
 pub mod View
+pub mod DevicePages
 pub mod Starting
 pub mod Steps
 -- The entry of the hart

@@ -1,5 +1,6 @@
 // Laws of the hart that stands for a guest.
 
+ghost use Rattle.guest_exit.specs.DevicePages.{RunKeepsDevice};
 ghost use Rattle.guest_exit.specs.HartSteps.{StepsFollow, TimeExits, WaitsExit};
 
 /// A step of the hart, loaded for a guest, is a try of the guest's lone machine: what is saved of the hart is
@@ -9,4 +10,9 @@ pub fn hart_steps_follow()
     ensures steps { StepsFollow }
     ensures waits { WaitsExit }
     ensures time { TimeExits }
+{}
+
+/// A run caches entries of the device page only where the machine has one.
+pub fn device_stays()
+    ensures { RunKeepsDevice }
 {}

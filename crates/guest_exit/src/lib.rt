@@ -21,5 +21,5 @@ pub use guests::Guest;
 pub use hart_entry::enter;
 pub use hart_exit::{Handled, handle};
 pub use host_interrupts::interrupt;
-pub use laws::hart_steps_follow;
+pub use laws::{device_stays, hart_steps_follow};
 pub use shadow_pool::Pool;

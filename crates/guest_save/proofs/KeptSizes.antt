@@ -1,5 +1,5 @@
 -- A run keeps sizes: how many blocks of RAM there are, and for how many spaces, entries and console bytes
--- there is room; and whether there is the device page.
+-- there is room.
 use Rattle.std.specs.Prelude.{◌==◌, ◌&&◌, option_map}
 use Rattle.std.proofs.Common.{◌≡◌, ℕ, ◌/◌, ◌%◌, ◌∙◌, Bool, true, false, List, Option, Some, None, length, refl, ap, arith}
 use Rattle.arch_defs.specs.declared.first.FirstEntry.{FirstEntry}
@@ -43,14 +43,14 @@ called_room : (p : Platform) → (called p).console.room ≡ p.console.room
 called_room p = let same = environment_room (state_of p.virt.regs p.clock p.console) in
     either (λ (q : Platform). q.console.room ≡ p.console.room) (read p.virt.regs a7 == 8) _ _ same same
 
--- there is room for as many spaces, entries and console bytes, and the device page or not
-abbrev pub HasRooms : ℕ → ℕ → ℕ → Bool → Machine → Type 0
-HasRooms spaces entries console device m =
-    (m.space_room ≡ spaces) × (m.entry_room ≡ entries) × (m.platform.console.room ≡ console) × (m.device ≡ device)
+-- there is room for as many spaces, entries and console bytes
+abbrev HasRooms : ℕ → ℕ → ℕ → Machine → Type 0
+HasRooms spaces entries console m =
+    (m.space_room ≡ spaces) × (m.entry_room ≡ entries) × (m.platform.console.room ≡ console)
 
 -- what a try leaves has the same
 abbrev KeepsRooms : Machine → Tried → Type 0
-KeepsRooms m t = HasRooms m.space_room m.entry_room m.platform.console.room m.device (left_by m t)
+KeepsRooms m t = HasRooms m.space_room m.entry_room m.platform.console.room (left_by m t)
 
 -- so a load or a store of the device page
 abbrev RoomIs : ℕ → Option DeviceEnd → Type 0
@@ -70,54 +70,54 @@ stored_room offset bytes value console =
 
 loaded_rooms : (m : Machine) (missing : MissingPlace) (width : Width) (signed : Bool) (rd : ℕ) (end : Option DeviceEnd) → RoomIs m.platform.console.room end
     → KeepsRooms m (served m missing (option_map (with_loaded m.platform.virt width signed rd) end))
-loaded_rooms m missing width signed rd None room = (refl, refl, refl, refl)
-loaded_rooms m missing width signed rd (Some end) room = (refl, refl, room, refl)
+loaded_rooms m missing width signed rd None room = (refl, refl, refl)
+loaded_rooms m missing width signed rd (Some end) room = (refl, refl, room)
 
 put_rooms : (m : Machine) (missing : MissingPlace) (end : Option DeviceEnd) → RoomIs m.platform.console.room end
     → KeepsRooms m (served m missing (option_map (with_put m.platform.virt) end))
-put_rooms m missing None room = (refl, refl, refl, refl)
-put_rooms m missing (Some end) room = (refl, refl, room, refl)
+put_rooms m missing None room = (refl, refl, refl)
+put_rooms m missing (Some end) room = (refl, refl, room)
 
 device_rooms : (m : Machine) (missing : MissingPlace) (width : Width) (purpose : Purpose) → KeepsRooms m (device_step m missing width purpose)
 device_rooms m missing width (Load signed rd) = let p = m.platform in
     loaded_rooms m missing width signed rd _ (loaded_room (missing.address % 4096) (bytes_in width) p.console p.clock.time)
-device_rooms m missing width (LoadCode rd) = (refl, refl, refl, refl)
+device_rooms m missing width (LoadCode rd) = (refl, refl, refl)
 device_rooms m missing width (Store value) =
     put_rooms m missing _ (stored_room (missing.address % 4096) (bytes_in width) value m.platform.console)
-device_rooms m missing width (Reserve rd) = (refl, refl, refl, refl)
-device_rooms m missing width (StoreReserved value rd) = (refl, refl, refl, refl)
-device_rooms m missing width (Modify op operand rd) = (refl, refl, refl, refl)
+device_rooms m missing width (Reserve rd) = (refl, refl, refl)
+device_rooms m missing width (StoreReserved value rd) = (refl, refl, refl)
+device_rooms m missing width (Modify op operand rd) = (refl, refl, refl)
 
 wanted_rooms : (m : Machine) (missing : MissingPlace) (wanted : Option DataAccess) → KeepsRooms m (device_wanted m missing wanted)
-wanted_rooms m missing None = (refl, refl, refl, refl)
+wanted_rooms m missing None = (refl, refl, refl)
 wanted_rooms m missing (Some wanted) = device_rooms m missing wanted.width wanted.purpose
 
 unplaced_rooms : (m : Machine) (missing : MissingPlace) (wanted : Option DataAccess) (on : Bool) → KeepsRooms m (unplaced m missing wanted on)
 unplaced_rooms m missing wanted true =
-    either (KeepsRooms m) (is_implicit missing.kind) (trapped m (missing_place_fault missing)) (device_wanted m missing wanted) (refl, refl, refl, refl) (wanted_rooms m missing wanted)
-unplaced_rooms m missing wanted false = (refl, refl, refl, refl)
+    either (KeepsRooms m) (is_implicit missing.kind) (trapped m (missing_place_fault missing)) (device_wanted m missing wanted) (refl, refl, refl) (wanted_rooms m missing wanted)
+unplaced_rooms m missing wanted false = (refl, refl, refl)
 
 -- a wait, and an HLV, HLVX or HSV
 until_rooms : (m : Machine) (virt : Virtual) (moment : Option ℕ) → KeepsRooms m (waited_until m virt moment)
-until_rooms m virt (Some moment) = (refl, refl, refl, refl)
-until_rooms m virt None = (refl, refl, refl, refl)
+until_rooms m virt (Some moment) = (refl, refl, refl)
+until_rooms m virt None = (refl, refl, refl)
 
 waited_rooms : (m : Machine) (virt : Virtual) → KeepsRooms m (waited m virt)
-waited_rooms m virt = either (KeepsRooms m) (has_enabled_interrupt m.platform.virt.csrs) _ _ (refl, refl, refl, refl) (until_rooms m virt _)
+waited_rooms m virt = either (KeepsRooms m) (has_enabled_interrupt m.platform.virt.csrs) _ _ (refl, refl, refl) (until_rooms m virt _)
 
 hlv_rooms : (m : Machine) (wanted : DataAccess) (end : HlvEnd) → KeepsRooms m (hlv_committed m wanted end)
-hlv_rooms m wanted (Completes completion) = (refl, refl, refl, refl)
+hlv_rooms m wanted (Completes completion) = (refl, refl, refl)
 hlv_rooms m wanted (Device missing) = device_rooms m missing wanted.width wanted.purpose
-hlv_rooms m wanted (Traps trap) = (refl, refl, refl, refl)
+hlv_rooms m wanted (Traps trap) = (refl, refl, refl)
 
 outcome_rooms : (device : OnDevice) (m : Machine) (o : Outcome) → KeepsRooms m (apply_outcome device m o)
-outcome_rooms device m (Done virt stored event) = (refl, refl, refl, refl)
-outcome_rooms device m (Trapped trap) = (refl, refl, refl, refl)
+outcome_rooms device m (Done virt stored event) = (refl, refl, refl)
+outcome_rooms device m (Trapped trap) = (refl, refl, refl)
 outcome_rooms device m (Missed missing wanted) = unplaced_rooms m missing wanted (device missing.address missing.kind)
-outcome_rooms device m Called = (refl, refl, called_room m.platform, refl)
+outcome_rooms device m Called = (refl, refl, called_room m.platform)
 outcome_rooms device m (Waits virt) = waited_rooms m virt
-outcome_rooms device m (Fenced virt fence) = (refl, refl, refl, refl)
-outcome_rooms device m (FirstFenced virt named fence) = (refl, refl, refl, refl)
+outcome_rooms device m (Fenced virt fence) = (refl, refl, refl)
+outcome_rooms device m (FirstFenced virt named fence) = (refl, refl, refl)
 outcome_rooms device m (Accesses wanted) = hlv_rooms m wanted (hlv_outcome m.device (ram_memory m.ram) m.platform.virt wanted)
 
 -- what the machine has cached has no part in it
@@ -130,20 +130,20 @@ unfolding try_under
 tried_rooms m = by (due m.platform.virt.csrs m.platform.virt.mode)
   where
     by : (code : Option ℕ) → KeepsRooms m (tried_with (stages_of m) m code)
-    by (Some code) = (refl, refl, refl, refl)
+    by (Some code) = (refl, refl, refl)
     by None = found_rooms m (all_filled m.platform.virt.first (found_by_outcome (stages_of m) m)) (tried_with (stages_of m) m None)
         (outcome_rooms (device_of m) (with_found (stages_of m) m) (outcome_under (stages_of m) m))
 
-pub rooms_kept : (spaces entries console : ℕ) (device : Bool) → IsKept (HasRooms spaces entries console device)
-rooms_kept spaces entries console device = record {
+rooms_kept : (spaces entries console : ℕ) → IsKept (HasRooms spaces entries console)
+rooms_kept spaces entries console = record {
   filled = λ m e has lacks. has;
-  tried = λ m (of_spaces, of_entries, of_console, of_device). let after = tried_rooms m in
-      (after.0 ∙ of_spaces, after.1 ∙ of_entries, after.2 ∙ of_console, after.3 ∙ of_device);
+  tried = λ m (of_spaces, of_entries, of_console). let after = tried_rooms m in
+      (after.0 ∙ of_spaces, after.1 ∙ of_entries, after.2 ∙ of_console);
 }
 
-rooms_stay : (m : Machine) (n : ℕ) → HasRooms m.space_room m.entry_room m.platform.console.room m.device (run m n)
-rooms_stay m n = let rooms = HasRooms m.space_room m.entry_room m.platform.console.room m.device in
-    kept_by_runs rooms (rooms_kept m.space_room m.entry_room m.platform.console.room m.device) m n (refl, refl, refl, refl)
+rooms_stay : (m : Machine) (n : ℕ) → HasRooms m.space_room m.entry_room m.platform.console.room (run m n)
+rooms_stay m n = let rooms = HasRooms m.space_room m.entry_room m.platform.console.room in
+    kept_by_runs rooms (rooms_kept m.space_room m.entry_room m.platform.console.room) m n (refl, refl, refl)
 
 -- RAM keeps its size, since what is stored is stored in it
 pub sizes_stay : RunKeepsSizes

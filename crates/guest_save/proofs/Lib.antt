@@ -4,7 +4,6 @@ pub mod Comparing
 pub mod CountedFirst
 pub mod CountedParts
 pub mod Deciding
-pub mod DevicePages
 pub mod Eights
 pub mod GoingOn
 pub mod KeptSizes

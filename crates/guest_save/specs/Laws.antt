@@ -10,7 +10,7 @@ use Rattle.guest_save.specs.Forms.{form, form_of, front_form}
 use Rattle.guest_save.specs.Headers.{header_of}
 use Rattle.guest_save.specs.Reading.{machine_in}
 use Rattle.guest_save.specs.Registers.{csrs_in}
-use Rattle.guest_save.specs.Savable.{HasSizes, IsOfDevice, IsSavable, IsSavableEntry}
+use Rattle.guest_save.specs.Savable.{HasSizes, IsSavable, IsSavableEntry}
 use Rattle.guest_save.specs.Saves.{saved_form, saved_in}
 use Rattle.guest_save.specs.Versions.{CanTell}
 use Rattle.guest_specs.specs.declared.guests.GuestSpec.{GuestSpec}
@@ -18,7 +18,6 @@ use Rattle.guest_specs.specs.Inputs.{AreInputs}
 use Rattle.machine_defs.specs.Freshness.{FirstFresh, UsesFresh}
 use Rattle.machine_defs.specs.Machine.{Machine, start}
 use Rattle.machine_defs.specs.Runs.{run}
-use Rattle.machine_laws.specs.EachEntry.{EachEntry}
 use Rattle.machine_laws.specs.Keeping.{IsOrderly}
 use Rattle.machine_laws.specs.Reservations.{CachesInRam, ReservesInRam}
 use Rattle.machine_laws.specs.StorableStates.{stored_form}
@@ -86,11 +85,6 @@ StartIsSavable = (guest : GuestSpec) → CanStart guest → IsSavable (start gue
 abbrev pub RunKeepsSizes : Type 0
 RunKeepsSizes = (m : Machine) (n : ℕ) → CachesInRam m → ReservesInRam m
     → HasSizes (header_of m) (length m.ram) → HasSizes (header_of (run m n)) (length (run m n).ram)
-
--- and each cached entry is of the device page only where there is one
-abbrev pub RunKeepsDevice : Type 0
-RunKeepsDevice = (m : Machine) (n : ℕ) → EachEntry (IsOfDevice m.device) m.spaces
-    → EachEntry (IsOfDevice (run m n).device) (run m n).spaces
 
 -- a run of a and then of b steps, saved between, is the run of both
 abbrev pub ResumedGoesOn : Type 0

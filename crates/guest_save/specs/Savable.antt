@@ -58,11 +58,6 @@ pub record IsKey (key : GuestRoot) : Type 0 where
 abbrev pub IsInReach : ℕ → Bool → Entry → Type 0
 IsInReach size device e = IsInRam size e ⊎ ((device ≡ true) × (e.frame ≡ device_frame))
 
--- an entry is of the device page only where there is one, whatever the value of hgatp is that its space is
--- for
-abbrev pub IsOfDevice : Bool → GuestRoot → Entry → Type 0
-IsOfDevice device key e = e.frame ≡ device_frame → device ≡ true
-
 -- an entry that a walk of a table of this key can give a guest whose RAM has this size
 pub record IsSavableEntry (key : GuestRoot) (size : ℕ) (device : Bool) (e : Entry) : Type 0 where
   pub page : e.page < pages_of key

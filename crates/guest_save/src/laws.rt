@@ -1,6 +1,6 @@
 // Laws of forms.
 
-ghost use Rattle.guest_save.specs.Laws.{BadExactly, FormIsSaved, FrontDecides, ReadIsStored, ResumedGoesOn, RoundTrip, RunKeepsDevice, RunKeepsSizes, SavableGoesOn, SavableIsFilled, SavedExactly, SavedFirstFresh, SavedUseFresh, StartIsSavable, UnsavedIsBad};
+ghost use Rattle.guest_save.specs.Laws.{BadExactly, FormIsSaved, FrontDecides, ReadIsStored, ResumedGoesOn, RoundTrip, RunKeepsSizes, SavableGoesOn, SavableIsFilled, SavedExactly, SavedFirstFresh, SavedUseFresh, StartIsSavable, UnsavedIsBad};
 
 /// The form of a machine that can be saved gives it back, and other bytes than such a form are bad.
 pub fn reading_is_exact()
@@ -29,8 +29,7 @@ pub fn saved_is_decided()
 {}
 
 /// A run keeps the sizes of a machine that caches and reserves in its RAM alone: they stay within the limits,
-/// and RAM stays of whole blocks. And a run caches entries of the device page only where there is one.
+/// and RAM stays of whole blocks.
 pub fn sizes_stay()
-    ensures sizes { RunKeepsSizes }
-    ensures device { RunKeepsDevice }
+    ensures { RunKeepsSizes }
 {}

@@ -43,6 +43,7 @@ hosted_kept guest old new same hosted =
         space_room = refl;
         entry_room = refl;
         caches = subst CachesInRam (sym machine) at.caches;
+        devices = at.devices;
         orderly = subst IsOrderly (sym machine) at.orderly;
         storable = at.storable;
       };

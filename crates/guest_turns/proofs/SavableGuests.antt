@@ -13,11 +13,12 @@ use Rattle.arch_defs.specs.Roots.{is_root}
 use Rattle.arch_defs.specs.Spaces.{Space}
 use Rattle.arch_defs.proofs.SameRoots.{root_is}
 use Rattle.guest_exit.specs.declared.guests.Guest.{Guest}
+use Rattle.guest_exit.specs.DevicePages.{IsOfDevice}
 use Rattle.guest_exit.specs.View.{machine_of}
 use Rattle.guest_exit.proofs.Pools.{size_of}
 use Rattle.guest_save.specs.Headers.{header_numbers, header_of}
 use Rattle.guest_save.specs.declared.versions.Version.TheVariants.{Third}
-use Rattle.guest_save.specs.Savable.{Fits, HasOtherKey, IsInReach, IsOfDevice, IsSavable, IsSavableEntry, IsSavableSpace}
+use Rattle.guest_save.specs.Savable.{Fits, HasOtherKey, IsInReach, IsSavable, IsSavableEntry, IsSavableSpace}
 use Rattle.guest_specs.specs.Inputs.{AreInputs}
 use Rattle.machine_laws.specs.EachEntry.{EachEntry}
 use Rattle.machine_laws.specs.HostPlaces.{ram_size}
@@ -114,7 +115,7 @@ savable_hosted guest memory hosted may inputs console numbers registers = record
   clock = hosted.clock;
   reservation = subst (λ n. ReservesWithin (places_from ram_base n) guest.virt.reservation) (sym size) hosted.placed.reserved;
   few = few_spaces guest.pool.slots;
-  spaces = savable_spaces guest.pool.part guest.pool.most (length (machine_of guest memory).ram) guest.device guest.pool.slots memory hosted.placed.tidy.slots hosted.placed.tidy.tables may.keys may.tables hosted.placed.caches may.device;
+  spaces = savable_spaces guest.pool.part guest.pool.most (length (machine_of guest memory).ram) guest.device guest.pool.slots memory hosted.placed.tidy.slots hosted.placed.tidy.tables may.keys may.tables hosted.placed.caches hosted.placed.devices;
   keys = other_keys guest.pool.part guest.pool.most guest.pool.slots hosted.placed.tidy.slots;
   front = hosted.placed.orderly.front;
   first = may.first;

@@ -1,12 +1,17 @@
 -- The machines of sources: each can be saved.
-use Rattle.std.proofs.Common.{◌≡◌, ℕ, ◌*◌, ◌^◌, ◌-◌, ◌<◌, ◌≤◌, List, [], ◌∷◌, ◌++◌, length, get_or, map, replicate, refl, ap, ◌∙◌, arith}
+use Rattle.std.proofs.Common.{◌≡◌, ℕ, ◌*◌, ◌^◌, ◌-◌, ◌<◌, ◌≤◌, inl, inr, Bool, List, [], ◌∷◌, ◌++◌, length, get_or, map, replicate, refl, ap, ◌∙◌, arith}
 use Rattle.std.specs.List.{All}
 use Rattle.std.proofs.lemmas.List.{append-nil, get_or-map, length-map}
+use Rattle.std.proofs.lemmas.List.Elements.{All-weaker}
+use Rattle.arch_defs.specs.declared.cached.Entry.{Entry}
+use Rattle.arch_defs.specs.declared.roots.GuestRoot.{GuestRoot}
 use Rattle.arch_defs.specs.Memory.{block_size, loaded, zeros}
+use Rattle.arch_defs.specs.Spaces.{Space}
 use Rattle.frame_split.specs.Shares.{AreNeeds}
+use Rattle.guest_exit.specs.DevicePages.{CachesOwnDevice, IsOfDevice}
 use Rattle.guest_save.specs.Headers.{blocks_of}
 use Rattle.guest_save.specs.Laws.{CanStart}
-use Rattle.guest_save.specs.Savable.{IsSavable}
+use Rattle.guest_save.specs.Savable.{IsInReach, IsSavable, IsSavableEntry, IsSavableSpace}
 use Rattle.guest_save.proofs.GoingOn.{start_is_savable}
 use Rattle.guest_specs.specs.declared.guests.GuestSpec.{GuestSpec}
 use Rattle.guest_specs.specs.Needs.{IsNeed}
@@ -32,6 +37,22 @@ can_start spec is = record {
 pub savable : (source : Source) → IsBootableSource source → IsSavable (machine_of_source source)
 savable (Fresh spec) is = start_is_savable spec (can_start spec is)
 savable (Kept name kept) is = is
+
+-- a machine that can be saved caches the device page only where it has one
+reach_of_device : (key : GuestRoot) (size : ℕ) (device : Bool) (e : Entry) → IsInReach size device e → IsOfDevice device key e
+reach_of_device key size device e (inl ram) page = absurd (omega (arith, ram.0, page))
+reach_of_device key size device e (inr has) page = has.0
+
+entry_of_device : (key : GuestRoot) (size : ℕ) (device : Bool) (e : Entry) → IsSavableEntry key size device e → IsOfDevice device key e
+entry_of_device key size device e is = reach_of_device key size device e is.frame
+
+entries_of_device : (size room : ℕ) (device : Bool) (s : Space) → IsSavableSpace size room device s → All (IsOfDevice device s.key) s.entries
+entries_of_device size room device s is =
+    All-weaker (IsSavableEntry s.key size device) (IsOfDevice device s.key) (entry_of_device s.key size device) s.entries is.entries
+
+pub of_own_device : (m : Machine) → IsSavable m → CachesOwnDevice m
+of_own_device m is = All-weaker (IsSavableSpace (length m.ram) m.entry_room m.device) (λ (s : Space). All (IsOfDevice m.device s.key) s.entries)
+    (entries_of_device (length m.ram) m.entry_room m.device) m.spaces is.spaces
 
 -- what a guest needs is within the limits
 pub is_need : (source : Source) → IsBootableSource source → IsNeed (need_of_source source)

@@ -1,15 +1,14 @@
 -- The runs of sources: what a host does not keep of a machine that can be saved holds of each machine that they
 -- come to, while its steps are few.
 use Rattle.std.specs.List.{All}
-use Rattle.std.proofs.Common.{ℕ, ◌^◌, ◌≤◌, inl, inr, Bool, length, arith}
+use Rattle.std.proofs.Common.{ℕ, ◌^◌, ◌≤◌, Bool, length, arith}
 use Rattle.std.proofs.lemmas.List.Elements.{All-weaker}
 use Rattle.arch_defs.specs.declared.cached.Entry.{Entry}
 use Rattle.arch_defs.specs.declared.roots.GuestMode.TheVariants.{Sv39x4, Sv48x4}
 use Rattle.arch_defs.specs.declared.roots.GuestRoot.{GuestRoot}
 use Rattle.arch_defs.specs.declared.roots.GuestRoot.TheVariants.{Bare, Table}
 use Rattle.arch_defs.specs.Spaces.{Space}
-use Rattle.guest_save.specs.Savable.{IsInReach, IsOfDevice, IsSavable, IsSavableEntry, IsSavableSpace}
-use Rattle.guest_save.proofs.DevicePages.{device_stays}
+use Rattle.guest_save.specs.Savable.{IsSavable, IsSavableEntry, IsSavableSpace}
 use Rattle.guest_save.proofs.GoingOn.{savable_goes_on}
 use Rattle.guest_save.proofs.KeptSizes.{sizes_stay}
 use Rattle.machine_defs.specs.Machine.{Machine}
@@ -44,22 +43,6 @@ tables_of : (m : Machine) → IsSavable m → EachEntry IsOfTable m.spaces
 tables_of m is = All-weaker (IsSavableSpace (length m.ram) m.entry_room m.device) (λ (s : Space). All (IsOfTable s.key) s.entries)
     (entries_of_table (length m.ram) m.entry_room m.device) m.spaces is.spaces
 
--- and have entries of the device page only where there is one
-reach_of_device : (key : GuestRoot) (size : ℕ) (device : Bool) (e : Entry) → IsInReach size device e → IsOfDevice device key e
-reach_of_device key size device e (inl ram) page = absurd (omega (arith, ram.0, page))
-reach_of_device key size device e (inr has) page = has.0
-
-entry_of_device : (key : GuestRoot) (size : ℕ) (device : Bool) (e : Entry) → IsSavableEntry key size device e → IsOfDevice device key e
-entry_of_device key size device e is = reach_of_device key size device e is.frame
-
-entries_of_device : (size room : ℕ) (device : Bool) (s : Space) → IsSavableSpace size room device s → All (IsOfDevice device s.key) s.entries
-entries_of_device size room device s is =
-    All-weaker (IsSavableEntry s.key size device) (IsOfDevice device s.key) (entry_of_device s.key size device) s.entries is.entries
-
-device_of : (m : Machine) → IsSavable m → EachEntry (IsOfDevice m.device) m.spaces
-device_of m is = All-weaker (IsSavableSpace (length m.ram) m.entry_room m.device) (λ (s : Space). All (IsOfDevice m.device s.key) s.entries)
-    (entries_of_device (length m.ram) m.entry_room m.device) m.spaces is.spaces
-
 -- and a run keeps all that is asked, but that its steps are few
 run_of : (m : Machine) (n : ℕ) → IsSavable m → (run m n).platform.steps ≤ 2 ^ 60 → MayBeSaved (run m n)
 run_of m n is few = let on = savable_goes_on m is in record {
@@ -67,7 +50,6 @@ run_of m n is few = let on = savable_goes_on m is in record {
   steps = few;
   keys = keys_stay m n is.virt (keys_of m is);
   tables = tables_stay m n on.orderly (tables_of m is);
-  device = device_stays m n (device_of m is);
   first = first_stays m n is.first;
   storable = first_stays_storable m n is.virt is.storable;
 }

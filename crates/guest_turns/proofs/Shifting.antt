@@ -22,6 +22,7 @@ use Rattle.shadow_space.specs.Shadows.{AreZeros}
 use Rattle.shadow_pool.specs.Moves.{pool_in_part, slot_in_part}
 use Rattle.shadow_pool.specs.Slots.{Pooled, TidyPool, room_of, spaces_of}
 use Rattle.guest_exit.specs.declared.guests.Guest.{Guest}
+use Rattle.guest_exit.specs.DevicePages.{CachesOwnDevice}
 use Rattle.guest_exit.specs.View.{machine_of, platform_of}
 use Rattle.guest_turns.specs.Hosted.{Hosted, count_set, is_set, part_at}
 use Rattle.guest_turns.specs.Hosting.{AreHosted, IsFree, IsHosted, parts_of}
@@ -70,6 +71,7 @@ module _ (old : Guest) (memory changed : List ℕ) (i to : ℕ) (part : Layout) 
           space_room = refl;
           entry_room = refl;
           caches = subst CachesInRam (sym same_machine) at.caches;
+          devices = subst CachesOwnDevice (sym same_machine) at.devices;
           orderly = subst IsOrderly (sym same_machine) at.orderly;
           storable = at.storable;
         };

@@ -33,6 +33,7 @@ use Rattle.shadow_pool.proofs.Front.{pool_lasts}
 use Rattle.shadow_space.specs.Shadows.{AreZeros}
 use Rattle.shadow_space.proofs.Clearing.{zeros_at}
 use Rattle.guest_exit.specs.declared.guests.Guest.{Guest}
+use Rattle.guest_exit.specs.DevicePages.{CachesOwnDevice}
 use Rattle.guest_exit.specs.View.{machine_of, platform_of}
 use Rattle.guest_exit.proofs.Pools.{pool_in_part, size_of}
 use Rattle.guest_turns.specs.declared.sources.Source.{Source}
@@ -42,7 +43,7 @@ use Rattle.guest_turns.specs.Limits.{IsBootable}
 use Rattle.guest_turns.specs.Sources.{AreBootableSources, IsBootableSource, machine_of_source, machines_of_sources, need_of_source, needs_of_sources}
 use Rattle.guest_turns.proofs.Among.{machines_of}
 use Rattle.guest_turns.proofs.Placing.{part_ram_kept}
-use Rattle.guest_turns.proofs.Savables.{savable}
+use Rattle.guest_turns.proofs.Savables.{of_own_device, savable}
 
 pub some_frames : (sources : List Source) (spare : ℕ) → 1 ≤ length sources → 1 ≤ frames_with (needs_of_sources sources) spare
 some_frames [] spare some = absurd (omega (arith, some))
@@ -351,6 +352,7 @@ hosted_made m part guest memory savable made once held ram = record {
     space_room = refl;
     entry_room = refl;
     caches = subst CachesInRam (sym machine) goes.caches;
+    devices = subst CachesOwnDevice (sym machine) (of_own_device m savable);
     orderly = subst IsOrderly (sym machine) goes.orderly;
     storable = subst (λ p. IsStorable p.virt) (sym made.platform) savable.virt;
   };

@@ -1,8 +1,9 @@
 -- Cached entries of the device page: a machine that has none caches none.
 use Rattle.std.specs.Prelude.{◌||◌, ◌&&◌, nat_le}
-use Rattle.std.proofs.Common.{◌≡◌, ℕ, ◌+◌, ◌*◌, ◌/◌, ◌∙◌, Bool, true, false, List, [], ◌∷◌, Some, length, refl, sym, subst, arith}
+use Rattle.std.proofs.Common.{◌≡◌, ℕ, ◌+◌, ◌*◌, ◌/◌, Bool, true, false, List, [], ◌∷◌, Option, Some, length, refl, sym, subst, arith}
 use Rattle.std.proofs.lemmas.Bool.{and_parts, leb-true}
 use Rattle.arch_defs.specs.declared.cached.Entry.{Entry}
+use Rattle.arch_defs.specs.declared.cached.Fence.{Fence}
 use Rattle.arch_defs.specs.declared.modes.Access.{Access}
 use Rattle.arch_defs.specs.declared.registers.Csrs.{Csrs}
 use Rattle.arch_defs.specs.declared.roots.GuestRoot.{GuestRoot}
@@ -15,16 +16,17 @@ use Rattle.arch_defs.specs.SecondStage.{has_frame_of}
 use Rattle.arch_defs.specs.Spaces.{Space}
 use Rattle.arch_defs.specs.Walk.{leaf_address}
 use Rattle.arch_defs.specs.WalkedEntries.{entry_by_table, entry_by_walk, entry_under}
-use Rattle.guest_save.proofs.KeptSizes.{HasRooms, rooms_kept}
-use Rattle.guest_save.specs.Laws.{RunKeepsDevice}
-use Rattle.guest_save.specs.Savable.{IsOfDevice}
-use Rattle.machine_defs.specs.Fills.{missing_entry}
-use Rattle.machine_defs.specs.Machine.{Machine}
-use Rattle.machine_defs.specs.Runs.{run}
+use Rattle.machine_defs.specs.Fills.{fill, missing_entry}
+use Rattle.machine_defs.specs.Machine.{Machine, Tried}
+use Rattle.machine_defs.specs.Runs.{left_after, left_by}
+use Rattle.machine_defs.specs.Tries.{stages_of}
 use Rattle.machine_laws.specs.EachEntry.{EachEntry, FrontHas}
 use Rattle.machine_laws.proofs.Cached.{given, lacked}
-use Rattle.machine_laws.proofs.EachEntry.{each_kept}
+use Rattle.machine_laws.proofs.EachEntry.{front_each, tried_each}
 use Rattle.machine_laws.proofs.KeptByRuns.{IsKept, kept_by_runs}
+use Rattle.machine_laws.proofs.Rooting.{RootEnd, root_end}
+use Rattle.machine_laws.proofs.TryEnds.{Calls, Fences, Halts, Makes, Passes, Serves, Takes}
+use Rattle.guest_exit.specs.DevicePages.{CachesOwnDevice, IsOfDevice, RunKeepsDevice}
 
 -- what a walk gives: a frame in RAM is not that of the device page, and that page is given where there is one
 walked_of_device : (device : Bool) (csrs : Csrs) (ram : List ℕ) (address : ℕ) (kind : Access) (e : Entry) → entry_by_walk device csrs ram address kind ≡ Some e
@@ -54,18 +56,29 @@ each_front : (Q : Type 0) → Q → (spaces : List Space) → FrontHas (λ key. 
 each_front Q holds [] = tt
 each_front Q holds (s ∷ ss) = holds
 
--- so it stays where the machine keeps the page or lacks it
-of_device_kept : (spaces entries console : ℕ) (device : Bool)
-    → IsKept (λ m. EachEntry (IsOfDevice device) m.spaces × HasRooms spaces entries console device m)
-of_device_kept spaces entries console device = let rooms = rooms_kept spaces entries console device in
-    each_kept (IsOfDevice device) (HasRooms spaces entries console device)
-    (λ m e has all lacks. each_front (IsOfDevice device m.platform.virt.csrs.hgatp e) (λ page. sym has.3 ∙ filled_of_device m e lacks page) m.spaces)
-    (λ m e has all lacks. rooms.filled m e has lacks)
-    (λ m has all. rooms.tried m has)
+-- so it stays after a fill
+pub fill_keeps_device : (m : Machine) (e : Entry) → CachesOwnDevice m → missing_entry m ≡ Some e → CachesOwnDevice (fill m e)
+fill_keeps_device m e all lacks = front_each (IsOfDevice m.device) m.entry_room m.spaces e all
+    (each_front (IsOfDevice m.device m.platform.virt.csrs.hgatp e) (filled_of_device m e lacks) m.spaces)
 
-pub device_stays : RunKeepsDevice
-device_stays m n all =
-    let rooms = HasRooms m.space_room m.entry_room m.platform.console.room m.device in
-    let kept = kept_by_runs (λ (t : Machine). EachEntry (IsOfDevice m.device) t.spaces × rooms t)
-    (of_device_kept m.space_room m.entry_room m.platform.console.room m.device) m n (all, (refl, refl, refl, refl)) in
-    subst (λ (device : Bool). EachEntry (IsOfDevice device) (run m n).spaces) (sym kept.1.3) kept.0
+-- and after a try, which leaves whether there is the page
+device_left : (m : Machine) {t : Tried} {fence : Option Fence} → RootEnd m t fence → (left_by m t).device ≡ m.device
+device_left m (Takes first trap) = refl
+device_left m (Makes first completion event keeps) = refl
+device_left m (Serves first rd value console leaves) = refl
+device_left m (Calls first) = refl
+device_left m (Passes first virt moment keeps) = refl
+device_left m Halts = refl
+device_left m (Fences first virt fence keeps) = refl
+
+pub try_keeps_device : (m : Machine) → CachesOwnDevice m → CachesOwnDevice (left_after m)
+try_keeps_device m all =
+    subst (λ (device : Bool). EachEntry (IsOfDevice device) (left_after m).spaces) (sym (device_left m (root_end m (stages_of m))))
+    (tried_each (IsOfDevice m.device) m (stages_of m) all)
+
+-- and so after each run
+device_kept : IsKept CachesOwnDevice
+device_kept = record { filled = fill_keeps_device; tried = try_keeps_device }
+
+pub run_keeps_device : RunKeepsDevice
+run_keeps_device m n all = kept_by_runs CachesOwnDevice device_kept m n all
