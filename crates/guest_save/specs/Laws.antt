@@ -101,7 +101,8 @@ SavedUseFresh = (saved : Machine) (n : ℕ) → UsesFreshSince saved n
 
 -- and so are its first-stage translations, in each run without any at its begin of which it is a state
 abbrev pub FirstFreshSince : Machine → ℕ → Type 0
-FirstFreshSince saved n = (m : Machine) (k : ℕ) → m.platform.virt.first ≡ [] → saved ≡ run m k → FirstFresh m (k + n)
+FirstFreshSince saved n =
+    (m : Machine) (k : ℕ) → m.platform.virt.first ≡ [] → saved ≡ run m k → FirstFresh m (k + n)
 
 abbrev pub SavedFirstFresh : Type 0
 SavedFirstFresh = (saved : Machine) (n : ℕ) → FirstFreshSince saved n
