@@ -1,4 +1,4 @@
-"""Tests of tools/controls on a small repository, with an `rt` that refuses a crate whose code says `wrong`."""
+"""Tests of tools/controls on a small repository, with an `rt` that refuses code that says `wrong`."""
 import os
 import shutil
 import subprocess
@@ -13,6 +13,24 @@ echo "$*" >> "$CHECKS"
 if grep -q wrong src/*.rt; then echo "error: a goal is open"; exit 1; fi
 """
 SOURCE = "fn sum() { a + b }\nfn less() { a < b }\nfn both() { a && b }\n"
+METHODS = """const MOST: u64 = 7;
+
+impl<T: Drop> Store for Files<T> {
+    fn read(&self) {
+        if a { self.b } else { 0 }
+    }
+}
+
+impl Files<u8> {
+    pub(crate) fn count(&self) {
+        self.counted
+    }
+}
+
+pub fn add() {
+    a - b
+}
+"""
 OLD = {"half": "a + b", "equal": "a < b", "either": "a && b"}
 NEW = {"half": "b + a", "equal": "b > a", "either": "b && a"}
 
@@ -54,7 +72,7 @@ class ControlsTest(unittest.TestCase):
         return self.put(f"crates/one/controls/{name}.control", edit(name, new or NEW[name]))
 
     def check_said(self, status, out, error, *words):
-        """Runs the tool, and gives how many checks it made."""
+        """Runs the tool, and gives the words of the checks that it made."""
         checks = self.put("checks", "")
         variables = {**os.environ, "CHECKS": checks,
                      "PATH": os.path.join(self.folder, "bin") + ":" + os.environ["PATH"]}
@@ -64,7 +82,7 @@ class ControlsTest(unittest.TestCase):
         self.assertEqual((ran.returncode, ran.stdout), (status, out))
         self.assertEqual(ran.stderr, error if not error else "tools/controls: " + error + "\n")
         with open(checks, encoding="utf-8") as file:
-            return len(file.readlines())
+            return file.read().splitlines()
 
     def test_proved(self):
         self.put_control("half")
@@ -83,7 +101,7 @@ class ControlsTest(unittest.TestCase):
             self.put_edit(name)
             self.put_control(name)
         checks = self.check_said(0, "one/either: proved\none/equal: proved\none/half: proved\n", "")
-        self.assertEqual(checks, 1)
+        self.assertEqual(checks, ["check --jobs 1 --only both --only less --only sum"])
 
     def test_halves_of_a_round(self):
         for name in OLD:
@@ -96,14 +114,23 @@ class ControlsTest(unittest.TestCase):
         self.put_control("half")
         self.put("crates/one/must-fail/nothing.edit", edit("half", "0"))
         self.put("crates/one/controls/nothing.control", edit("half", "a + b + 0"))
-        self.assertEqual(self.check_said(0, "one/half: proved\none/nothing: proved\n", ""), 2)
+        self.assertEqual(len(self.check_said(0, "one/half: proved\none/nothing: proved\n", "")), 2)
 
     def test_control_that_writes_what_another_replaces(self):
         for name in "half", "equal":
             self.put_edit(name)
             self.put_control(name)
         self.put_control("half", "if a < b { b + a } else { b + a }")
-        self.assertEqual(self.check_said(0, "one/equal: proved\none/half: proved\n", ""), 1)
+        self.assertEqual(len(self.check_said(0, "one/equal: proved\none/half: proved\n", "")), 1)
+
+    def test_functions_that_are_proved(self):
+        self.put("crates/one/src/a/files.rt", METHODS)
+        os.remove(self.put_edit("half"))
+        for old, path in [("MOST: u64 = 7", "a::files"), ("{ self.b }", "FilesStore::read"),
+                          ("self.counted", "Files::count"), ("a - b", "a::files::add")]:
+            for kind, new in ("must-fail/x.edit", "0"), ("controls/x.control", "1"):
+                self.put(f"crates/one/{kind}", f"file: src/a/files.rt\nold: {old}\nnew: {new}\n")
+            self.assertEqual(self.check_said(0, "one/x: proved\n", ""), [f"check --jobs 1 --only {path}"])
 
     def test_crate_that_is_not_proved(self):
         self.put("crates/one/src/lib.rt", "wrong, a + b\n")

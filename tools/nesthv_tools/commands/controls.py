@@ -4,13 +4,14 @@ lines `file:` and `old:`, and its lines `new:` have a right body in the textual 
 control is refused, the prover may refuse the edit for its form too, and not for what it means: then the edit
 shows nothing.
 
-The controls of a crate that change different lines are applied together, in a copy of the sources, and
-`rt check` proves that once. Where it refuses them, each half is tried, down to single controls. It is no part
-of the gate. The status is 0 where each control is proved, 1 where one is not or an edit has none, 2 where
-nothing was tried.
+The controls of a crate that change different lines are applied together, in a copy of the sources, and one
+`rt check` proves the functions that they change. Where it refuses them, each half is tried, down to single
+controls. It is no part of the gate. The status is 0 where each control is proved, 1 where one is not or an
+edit has none, 2 where nothing was tried.
 """
 import glob
 import os
+import re
 import shutil
 import subprocess
 import tempfile
@@ -21,6 +22,8 @@ from nesthv_tools import command_line, places, streams
 CRATES = os.path.join(places.TOP, "crates")
 KEYS = ("file", "old", "new")
 TOLD = ("error", "open", "gave up")  # a line with one of these tells why a crate is not proved
+FUNCTION = re.compile(r"^( *)(?:pub(?:\(\w+\))? )?(?:const )?fn (\w+)", re.MULTILINE)
+IMPL = re.compile(r"^impl(?:<.*?>)? (?:(\w+)(?:<.*?>)? for )?(\w+)", re.MULTILINE)
 
 
 class Unusable(Exception):
@@ -92,6 +95,20 @@ def changed(text: str, changes: list[Change]) -> str:
     return text
 
 
+def path_of(file: str, text: str, place: int) -> str:
+    """By what `--only` finds the function of a file that has this place: its module and name, or for a method
+    its type, trait and name. Outside functions it is the module, and at the root of a crate nothing."""
+    module = "::".join(os.path.splitext(file)[0].split("/")[1:])
+    path = [] if module in ("lib", "main") else [module]
+    function = next(reversed(list(FUNCTION.finditer(text, 0, place))), None)
+    if function and f"\n{function[1]}}}" not in text[function.end():place]:
+        if function[1]:
+            impl = list(IMPL.finditer(text, 0, function.start()))[-1]
+            path = [impl[2] + (impl[1] or "")]
+        path.append(function[2])
+    return "::".join(path)
+
+
 class Crate:
     """A crate in a copy of the sources, and its controls by the names of their edits."""
 
@@ -130,16 +147,25 @@ class Crate:
             free[1].update(lines)
         return [names for names, _ in rounds]
 
-    def check(self, names: list[str]) -> str | None:
-        """Proves the crate with these controls, or gives the line that tells why it is refused."""
+    def functions(self, names: list[str]) -> list[str]:
+        """The words by which a check proves the functions alone that these controls change."""
+        paths = {path_of(self.controls[name].file, self.texts[self.controls[name].file], change.place)
+                 for name in names for change in self.changes[name]}
+        return [] if "" in paths else [word for path in sorted(paths) for word in ("--only", path)]
+
+    def apply(self, names: list[str]) -> None:
+        """Writes the files of the crate with these controls."""
         for file, text in self.texts.items():
             changes = [change for name in names if self.controls[name].file == file
                        for change in self.changes[name]]
             with open(os.path.join(self.folder, file), "w", encoding="utf-8") as to:
                 to.write(changed(text, changes))
-        ran = subprocess.run(["rt", "check", "--jobs", str(self.jobs)], cwd=self.folder, text=True,
+
+    def check(self, functions: list[str]) -> str | None:
+        """Proves these functions of the crate, or gives the line that tells why one is refused."""
+        ran = subprocess.run(["rt", "check", "--jobs", str(self.jobs), *functions], cwd=self.folder,
                              stdin=subprocess.DEVNULL, stdout=subprocess.PIPE, stderr=subprocess.STDOUT,
-                             errors="replace")
+                             text=True, errors="replace")
         if ran.returncode == 0:
             return None
         lines = [line.strip() for line in ran.stdout.splitlines() if line.strip()]
@@ -149,12 +175,15 @@ class Crate:
     def refused(self, names: list[str]) -> int:
         """Tries these controls together, or each half where they are refused. Tells of each, and gives how
         many are refused."""
-        why = self.check(names)
+        functions = self.functions(names)
+        self.apply(names)
+        why = self.check(functions)
         if why and len(names) > 1:
             half = len(names) // 2
             return self.refused(names[:half]) + self.refused(names[half:])
         if why:
-            unproved = self.check([])
+            self.apply([])
+            unproved = self.check(functions)
             if unproved:
                 raise Unusable(f"{self.name}: the crate itself is not proved: {unproved}")
         for name in names:
