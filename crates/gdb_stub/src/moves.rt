@@ -114,7 +114,7 @@ impl<R: Runner + Drop> Session<R> {
     {
         if goes_on(self.positions.runner().status()) {
             let stops = stops_by(alloc, self.pcs.as_slice(), seen)?;
-            self.positions.on_to_stop(alloc, &stops, self.last);
+            self.positions.on_to_stop(&stops, self.last);
         }
         Ok(())
     }

@@ -9,19 +9,16 @@ ghost use Rattle.guest_turns.specs.Sources.{machine_of_source, need_of_source, I
 ghost use Rattle.guest_runs.specs.HostRuns.{HasOne, IsForm};
 
 use arch_defs::{Access, Virtual};
+use form_pool::FormPool;
 use guest_save::{SaveEnd, Snapshot, read, reading_is_exact};
 use guest_turns::{Host, Source, turns_count_alike};
 use machine_defs::{Name, Status};
 use no_memory::NoMemory;
-use outside::ListSink;
 use phys_mem::{BLOCK_SIZE, RAM_BASE};
 use run_positions::Runner;
 use rv64_hart::Tally;
 use std::alloc::Global;
 use std::marker::Model;
-
-// More than what stands before RAM in any form.
-const FRONT_ROOM: u64 = 1_700_000;
 
 /// A host of one guest, which contracts see as the guest's lone machine.
 #[derive(Drop)]
@@ -117,16 +114,11 @@ impl Runner for HostRun {
         }
     }
 
-    fn keep(&self, alloc: Global) -> Result<Vec<u8>, NoMemory> {
+    fn keep(&self, forms: &mut FormPool) -> Result<(), NoMemory> {
         reading_is_exact();
         self.host.can_be_saved(0);
-        let room = self.host.blocks(0) * BLOCK_SIZE + FRONT_ROOM;
-        let mut sink = ListSink::new(alloc, room as usize)?;
-        match self.host.save(0, &mut sink) {
-            Ok(()) => {
-                let form = Vec::from_slice(alloc, sink.bytes())?;
-                Ok(form)
-            }
+        match self.host.save(0, forms) {
+            Ok(()) => Ok(()),
             Err(_) => Err(NoMemory),
         }
     }

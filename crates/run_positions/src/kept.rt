@@ -1,8 +1,8 @@
 // A state that is kept.
 
-/// A machine as bytes, and after how many steps of the run it is there.
-#[derive(Drop)]
+/// After how many steps of the run a state is that of its machine, and which form of the pool brings it back.
+#[derive(Clone, Copy)]
 pub struct Kept {
     pub place: u64,
-    pub form: Vec<u8>,
+    pub form: usize,
 }

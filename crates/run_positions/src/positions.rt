@@ -2,12 +2,13 @@
 
 ghost use Rattle.std.specs.Prelude.{◌≡◌, ◌+◌, ◌-◌, ◌^◌, ◌<◌, ◌≤◌, length, ℕ, IfOk, IfSome, OnErr, OnOk};
 ghost use Rattle.run_positions.specs.Looks.{offset_of};
-ghost use Rattle.run_positions.specs.Positions.{begin_of, shown_of, IsShown, IsWithinAt, KeepsRun};
+ghost use Rattle.run_positions.specs.Positions.{begin_of, shown_of, HasKept, IsKeptState, IsShown, KeepsRun};
 ghost use Rattle.run_positions.specs.Stops.{last_stop, next_stop, IsFoundFrom};
 
 use crate::kept::Kept;
 use crate::runners::Runner;
 use crate::stops::{Stops, goes_on};
+use form_pool::FormPool;
 use no_memory::NoMemory;
 use std::alloc::Global;
 
@@ -20,15 +21,33 @@ const KEPT_STEPS: u64 = 1 << 60;
 // How many steps are between the first two states that are kept. Each further distance is greater by as many.
 const GAP: u64 = 16_384;
 
-/// A run of a machine at a position, which is after how many steps it is shown, with states that are kept.
+// The machine that the run begins with.
+const BEGIN: Kept = Kept { place: 0, form: 0 };
+
+/// A run of a machine at a position, which is after how many steps it is shown, with states that are kept. The
+/// first form of the pool is that of the begin.
 #[derive(Drop)]
 pub struct Positions<R> {
     runner: R,
     place: u64,
-    first: Vec<u8>,
+    forms: FormPool,
     kept: Vec<Kept>,
+    // Where the form is written that brings a state back.
+    bytes: Vec<u8>,
     next: u64,
     gap: u64,
+}
+
+// Keeps the state of a machine behind the forms that are kept.
+#[tactic(auto, using(crate::proofs::Moving::forms_kept))]
+fn keep_state<R: Runner>(runner: &R, forms: &mut FormPool) -> Result<(), NoMemory>
+    requires { (R.machine runner.now).platform.steps ≤ 2 ^ 60 }
+    ensures kept { OnOk result (HasKept R.Runner (R.machine runner.now) forms.old forms.new) }
+    ensures stays { OnErr result (forms.new.kept ≡ forms.old.kept) }
+{
+    forms.restart();
+    runner.keep(forms)?;
+    forms.keep()
 }
 
 impl<R: Runner + Drop> Positions<R> {
@@ -40,12 +59,14 @@ impl<R: Runner + Drop> Positions<R> {
         ensures origin { IfOk result (λ p. begin_of R.Runner p ≡ R.machine runner) }
         ensures place { IfOk result (λ p. p.place ≡ 0) }
     {
-        let first = runner.keep(alloc)?;
+        let mut forms = FormPool::new(alloc);
+        keep_state(&runner, &mut forms)?;
         Ok(Positions {
             runner,
             place: 0,
-            first,
+            forms,
             kept: Vec::new(alloc),
+            bytes: Vec::new(alloc),
             next: GAP,
             gap: GAP,
         })
@@ -91,7 +112,7 @@ impl<R: Runner + Drop> Positions<R> {
 
     // Keeps the state of this position, where there is memory for it, and says when the next is to be kept.
     #[tactic(auto, using(crate::proofs::Moving::movings))]
-    fn keep(&mut self, alloc: Global)
+    fn keep(&mut self)
         requires held { IsShown R.Runner self.old }
         ensures keeps { KeepsRun R.Runner self.old self.new }
         ensures place { self.new.place ≡ self.old.place }
@@ -99,7 +120,8 @@ impl<R: Runner + Drop> Positions<R> {
         self.gap = self.gap.saturating_add(GAP);
         self.next = self.place.saturating_add(self.gap);
         if self.runner.steps() <= KEPT_STEPS {
-            if let Ok(form) = self.runner.keep(alloc) {
+            let form = self.forms.count();
+            if let Ok(()) = keep_state(&self.runner, &mut self.forms) {
                 let place = self.place;
                 let _ = self.kept.push(Kept { place, form });
             }
@@ -107,7 +129,7 @@ impl<R: Runner + Drop> Positions<R> {
     }
 
     // Makes some of the steps to a later position: as many as stand before the next state that is to be kept.
-    fn advance(&mut self, alloc: Global, n: u64)
+    fn advance(&mut self, n: u64)
         requires held { IsShown R.Runner self.old }
         requires later { self.old.place < n }
         requires few { n ≤ 2 ^ 52 }
@@ -122,13 +144,13 @@ impl<R: Runner + Drop> Positions<R> {
         };
         self.run_on(to - self.place);
         if self.place == self.next {
-            self.keep(alloc);
+            self.keep();
         }
     }
 
     // Makes all steps to a later position.
     #[tactic(auto, using(crate::proofs::Moving::keepings))]
-    fn go_on(&mut self, alloc: Global, n: u64)
+    fn go_on(&mut self, n: u64)
         requires held { IsShown R.Runner self.old }
         requires later { self.old.place ≤ n }
         requires few { n ≤ 2 ^ 52 }
@@ -136,52 +158,38 @@ impl<R: Runner + Drop> Positions<R> {
         ensures place { self.new.place ≡ n }
     {
         while self.place < n {
-            self.advance(alloc, n);
+            self.advance(n);
         }
     }
 
-    // Which state that is kept is the latest one that is not behind a position.
-    fn nearest(&self, n: u64) -> Option<usize>
-        ensures inside { IfSome result (λ i. i < length self.now.kept.items) }
-        ensures within { IfSome result (λ i. IsWithinAt self.now.kept.items i n) }
+    // The latest state that is kept and not behind a position, or that of the begin.
+    #[tactic(auto, using(crate::proofs::Moving::begin_is_kept))]
+    fn nearest(&self, n: u64) -> Kept
+        requires held { IsShown R.Runner self.now }
+        ensures kept { IsKeptState R.Runner (begin_of R.Runner self.now) self.now.forms.kept result }
+        ensures within { result.place ≤ n }
     {
-        let mut found = None;
-        let mut place = 0;
+        let mut found = BEGIN;
         for i in 0..self.kept.len() {
-            let state = &self.kept[i];
-            if place < state.place && state.place <= n {
-                place = state.place;
-                found = Some(i);
+            let state = self.kept[i];
+            if found.place < state.place && state.place <= n {
+                found = state;
             }
         }
         found
     }
 
-    // Brings back the begin.
-    #[tactic(auto, using(crate::proofs::Moving::movings))]
-    fn bring_begin(&mut self, alloc: Global) -> Result<(), NoMemory>
-        requires held { IsShown R.Runner self.old }
-        ensures keeps { KeepsRun R.Runner self.old self.new }
-        ensures place { OnOk result (self.new.place ≡ 0) }
-        ensures stays { OnErr result (self.new.place ≡ self.old.place) }
-    {
-        self.runner.bring_back(alloc, self.first.as_slice())?;
-        self.place = 0;
-        Ok(())
-    }
-
     // Brings back a state that is kept.
     #[tactic(auto, using(crate::proofs::Moving::movings))]
-    fn bring_kept(&mut self, alloc: Global, i: usize, n: u64) -> Result<(), NoMemory>
+    fn bring(&mut self, alloc: Global, state: Kept) -> Result<(), NoMemory>
         requires held { IsShown R.Runner self.old }
-        requires kept { i < length self.old.kept.items }
-        requires within { IsWithinAt self.old.kept.items i n }
+        requires kept { IsKeptState R.Runner (begin_of R.Runner self.old) self.old.forms.kept state }
         ensures keeps { KeepsRun R.Runner self.old self.new }
-        ensures place { OnOk result (self.new.place ≤ n) }
+        ensures place { OnOk result (self.new.place ≡ state.place) }
         ensures stays { OnErr result (self.new.place ≡ self.old.place) }
     {
-        let state = &self.kept[i];
-        self.runner.bring_back(alloc, state.form.as_slice())?;
+        self.forms.write(state.form, &mut self.bytes)?;
+        self.runner.bring_back(alloc, self.bytes.as_slice())?;
         self.place = state.place;
         Ok(())
     }
@@ -195,10 +203,8 @@ impl<R: Runner + Drop> Positions<R> {
         ensures place { OnOk result (self.new.place ≤ n) }
         ensures stays { OnErr result (self.new.place ≡ self.old.place) }
     {
-        match self.nearest(n) {
-            Some(i) => self.bring_kept(alloc, i, n),
-            None => self.bring_begin(alloc),
-        }
+        let state = self.nearest(n);
+        self.bring(alloc, state)
     }
 
     /// Shows the machine after `n` steps. Where there is no memory for it, the position stays.
@@ -213,7 +219,7 @@ impl<R: Runner + Drop> Positions<R> {
         if n < self.place {
             self.bring_back(alloc, n)?;
         }
-        self.go_on(alloc, n);
+        self.go_on(n);
         Ok(())
     }
 
@@ -276,7 +282,7 @@ impl<R: Runner + Drop> Positions<R> {
     /// Goes on to the first later position, up to `n`, at which a stop holds or the machine does not go on,
     /// or to `n`. It stays where it is not before `n`.
     #[tactic(auto, using(crate::proofs::Stopping::goings_on))]
-    pub fn on_to_stop(&mut self, alloc: Global, stops: &Stops, n: u64)
+    pub fn on_to_stop(&mut self, stops: &Stops, n: u64)
         requires held { IsShown R.Runner self.old }
         requires few { n ≤ 2 ^ 52 }
         ensures keeps { KeepsRun R.Runner self.old self.new }
@@ -284,7 +290,7 @@ impl<R: Runner + Drop> Positions<R> {
             ≡ next_stop (begin_of R.Runner self.old) stops.now self.old.place (n - self.old.place) }
     {
         while self.place < n {
-            self.go_on(alloc, self.place + 1);
+            self.go_on(self.place + 1);
             if stops.end(&self.runner) {
                 return;
             }

@@ -1,12 +1,13 @@
 // What runs a machine.
 
-ghost use Rattle.std.specs.Prelude.{◌≡◌, ◌+◌, ◌^◌, ◌≤◌, ℕ, List, slice_index, OnErr, OnOk, IfOk};
+ghost use Rattle.std.specs.Prelude.{◌≡◌, ◌+◌, ◌^◌, ◌≤◌, ℕ, List, [], slice_index, OnErr, OnOk};
 ghost use Rattle.guest_specs.specs.declared.statuses.Status.{Status};
 ghost use Rattle.machine_defs.specs.Machine.{Machine};
 ghost use Rattle.machine_defs.specs.Runs.{run};
 ghost use Rattle.run_positions.specs.Looks.{offset_of};
 
 use arch_defs::Virtual;
+use form_pool::FormPool;
 use machine_defs::Status;
 use no_memory::NoMemory;
 use std::alloc::Global;
@@ -48,11 +49,13 @@ pub trait Runner {
         ensures offset { result ≡ offset_of (machine self.old) va }
         ensures stays { machine self.new ≡ machine self.old };
 
-    /// Bytes that bring the machine back.
-    fn keep(&self, alloc: Global) -> Result<Vec<u8>, NoMemory>
-        requires { (machine self.now).platform.steps ≤ 2 ^ 60 }
-        ensures form { IfOk result (λ form. is_form form.items) }
-        ensures machine { IfOk result (λ form. machine_in form.items ≡ machine self.now) };
+    /// Makes the partial form of a pool bytes that bring the machine back.
+    fn keep(&self, forms: &mut FormPool) -> Result<(), NoMemory>
+        requires early { (machine self.now).platform.steps ≤ 2 ^ 60 }
+        requires none { forms.old.partial ≡ [] }
+        ensures form { OnOk result (is_form forms.new.partial) }
+        ensures machine { OnOk result (machine_in forms.new.partial ≡ machine self.now) }
+        ensures kept { forms.new.kept ≡ forms.old.kept };
 
     /// The machine of such bytes is the one that it runs then. Where there is no memory, nothing changes.
     fn bring_back(&mut self, alloc: Global, form: &[u8]) -> Result<(), NoMemory>
