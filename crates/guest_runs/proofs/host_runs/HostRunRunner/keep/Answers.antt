@@ -25,3 +25,6 @@ returns-in-Ok-clause-machine c =
 
 pub returns-in-Ok-clause-kept : goal.returns-in-Ok-clause-kept
 returns-in-Ok-clause-kept c = same_forms c.save.new.out.kept c.args.forms.now.kept c.in-Ok.ensures.stays
+
+pub returns-in-Err-clause-kept : goal.returns-in-Err-clause-kept
+returns-in-Err-clause-kept c = same_forms c.save.new.out.kept c.args.forms.now.kept c.in-Err.ensures.stays
