@@ -5,6 +5,9 @@ report, both are runs that the standard permits, and the guest's fences do not d
 Where a guest enters V = 1, those for V = 1 are dropped: of the second stage, and of the first under vsatp.
 Those of satp are dropped behind each trap that HS takes from itself or from U, and, since a kernel may have
 few traps, at some steps evenly: at each where the run is short.
+
+A long run has too many of these places. There all are dropped at some steps evenly, all in one run, and only
+where its report is another one is it found which drop changes it.
 """
 import itertools
 from collections.abc import Iterator
@@ -18,6 +21,13 @@ Page = tuple[int | walks.Key, int]  # whose it is, and its number
 Stale = tuple[str, int | walks.Key, int, str, walks.Walk]
 
 PROBES = 64  # steps, evenly, at which translations of satp are dropped
+LONG = 1000000  # steps, of a run from which all are dropped at some steps in one run
+SWEPT = 100  # of these steps
+
+
+def without_translations(saved: saves.Saved) -> saves.Saved:
+    """The state without any cached translation."""
+    return saved.changed({}, [(key, []) for key, _ in saved.spaces], [])
 
 
 class Drop:
@@ -27,15 +37,22 @@ class Drop:
         self.runs, self.step, self.is_of_satp, saved = runs, step, is_of_satp, runs.at(step)
         kept = [entry for entry in saved.first if bool(entry.v) == is_of_satp]
         empty: saves.Spaces = [(key, []) for key, _ in saved.spaces]
-        self.data = saved.changed({}, saved.spaces if is_of_satp else empty, kept)
+        self.saved = saved.changed({}, saved.spaces if is_of_satp else empty, kept)
         self.is_empty = spaces_are_empty(saved, is_of_satp) and len(kept) == len(saved.first)
 
+    @classmethod
+    def of_all(cls, runs: guest_runs.Runs, step: int) -> "Drop":
+        """The run that goes on without any of them."""
+        drop = cls(runs, step)
+        drop.saved = without_translations(runs.at(step))
+        return drop
+
     def line(self) -> guest_runs.Line:
-        return guest_runs.Line(self.runs, self.step, self.data)
+        return guest_runs.Line(self.runs, self.step, self.saved)
 
     def report(self) -> bytes:
         with self.line() as line:
-            return line.call("run", self.runs.last)
+            return line.call("run", self.runs.last).read()
 
     def first_difference(self, end: int, tell: searches.Tell) -> "Difference | None":
         """The first state that differs from that of the guest's own run, as far as halves find it, with its
@@ -48,6 +65,34 @@ class Drop:
             step = searches.first_step(differs, self.step, end, tell)
             return Difference(step, [self.runs.at(step - 1), line.at(step - 1)],
                               [self.runs.at(step), line.at(step)])
+
+
+class Sweep:
+    """A run from which all cached translations are dropped at some steps evenly, from one step up to another
+    one."""
+
+    def __init__(self, runs: guest_runs.Runs, start: int, end: int, tell: searches.Tell) -> None:
+        self.runs, self.end, self.tell = runs, end, tell
+        self.places = sorted({start + (end - start) * part // SWEPT for part in range(SWEPT)})
+
+    def report(self) -> bytes:
+        """What comes of this run."""
+        saved = self.runs.at(self.places[0])
+        for step, behind in itertools.pairwise(self.places):
+            self.tell(step, self.end)
+            with guest_runs.Line(self.runs, step, without_translations(saved)) as line:
+                saved = line.at(behind)
+        with guest_runs.Line(self.runs, self.places[-1], without_translations(saved)) as line:
+            return line.call("run", self.runs.last).read()
+
+    def drops(self) -> Iterator[Drop]:
+        """The drops, each alone, behind which the state is another one at the next of these steps."""
+        for step, behind in itertools.pairwise([*self.places, self.end]):
+            self.tell(step, self.end)
+            drop = Drop.of_all(self.runs, step)
+            with drop.line() as line:
+                if state_changes.differences(self.runs.at(behind), line.at(behind)):
+                    yield drop
 
 
 def spaces_are_empty(saved: saves.Saved, is_of_satp: bool) -> bool:
@@ -196,7 +241,9 @@ def lines_of(value: dict[str, Any]) -> list[str]:
 class Search:
     """Drops cached translations behind a step, up to a second one, wherever there are some to drop, one
     drop at a time and at most `most` of them, where that is not 0. Counts the drops, and those that change
-    the report. `cut` is the step of the first one that is left out, or none."""
+    the report. `cut` is the step of the first one that is left out, or none. Where the run is long and `most`
+    is 0, `is_swept` says that the drops are made in one run first, and `together` has what it changes of the
+    report, where none of the drops alone changes it."""
 
     def __init__(self, session: Session, start: int, end: int, most: int) -> None:
         self.session, self.start, self.end, self.most = session, start, end, most
@@ -204,6 +251,8 @@ class Search:
         self.changing: list[int] = []
         self.found: dict[int | None, dict[str, Any]] = {}
         self.cut: int | None = None
+        self.is_swept = most == 0 and end - start > LONG
+        self.together: list[str] = []
         session.doing = self.progress
 
     def progress(self, low: int, high: int) -> str:
@@ -247,18 +296,38 @@ class Search:
     def findings(self) -> Iterator[dict[str, Any]]:
         """Yields what is known of each drop that changes the report, but once where several lead to the same
         first difference."""
-        session = self.session
-        plain = session.runs.call("run", session.guest.keys, session.guest.steps)
+        plain = self.session.runs.call("run", self.session.guest.keys, self.session.guest.steps).read()
+        if self.is_swept:
+            yield from self.swept(plain)
+            return
         for drop, report in parallel.in_order(lambda drop: (drop, drop.report()), self.drops()):
             self.count += 1
-            session.tell(drop.step, self.end)
-            if report == plain:
-                continue
-            self.changing.append(drop.step)
-            difference = drop.first_difference(session.end(), session.tell)
-            place = difference.step if difference else None
-            if place in self.found:
-                self.found[place]["dropped_at"].append(drop.step)
-            else:
-                self.found[place] = value_of(session, drop, plain, report, difference)
-                yield self.found[place]
+            self.session.tell(drop.step, self.end)
+            if report != plain:
+                yield from self.changes(drop, plain, report)
+
+    def swept(self, plain: bytes) -> Iterator[dict[str, Any]]:
+        """What is known of the first drop that changes the report, where one run with all of them does."""
+        sweep = Sweep(self.session.runs, self.start, min(self.end, self.session.end()), self.session.tell)
+        self.count = len(sweep.places)
+        swept = sweep.report()
+        if swept == plain:
+            return
+        for drop in sweep.drops():
+            report = drop.report()
+            if report != plain:
+                self.cut = drop.step + 1
+                yield from self.changes(drop, plain, report)
+                return
+        self.together = reports.differences(plain, swept)
+
+    def changes(self, drop: Drop, plain: bytes, report: bytes) -> Iterator[dict[str, Any]]:
+        """What is known of a drop with another report, unless its first difference is known."""
+        self.changing.append(drop.step)
+        difference = drop.first_difference(self.session.end(), self.session.tell)
+        place = difference.step if difference else None
+        if place in self.found:
+            self.found[place]["dropped_at"].append(drop.step)
+        else:
+            self.found[place] = value_of(self.session, drop, plain, report, difference)
+            yield self.found[place]

@@ -10,7 +10,7 @@ import subprocess
 import tempfile
 from collections.abc import Iterator
 
-from nesthv_tools import children, faults, parallel, progress, records, saves, state_cache
+from nesthv_tools import children, faults, parallel, progress, records, saves, state_cache, state_files
 
 KEPT_IN_MEMORY, KEPT_IN_FILES = 8, 4  # states
 AT_ONCE = 256  # single steps from one state
@@ -99,7 +99,7 @@ class Runs:
         self.known: collections.OrderedDict[int, saves.Saved] = collections.OrderedDict()
         for name, data in guest.files.items():
             self.put(name, data)
-        self.start = self.saved_of(self.call("save", guest.keys, 0))
+        self.start: saves.Saved = self.saved_of(self.call("save", guest.keys, 0))
         self.first = self.start.numbers["steps"]
         self.far = FAR * self.start.numbers["blocks"]
         self.know(self.first, self.start)
@@ -117,7 +117,10 @@ class Runs:
             file.write(data)
         return name
 
-    def call(self, command: str, keys: faults.Table, steps: int) -> bytes:
+    def new_path(self) -> str:
+        return self.path(f"{next(self.numbers)}.saved")
+
+    def call(self, command: str, keys: faults.Table, steps: int) -> state_files.OwnFile:
         """What the program writes for a guest of these keys that makes this many steps."""
         name = f"{next(self.numbers)}.toml"
         lines = ["format = 2", f"turns = {progress.turns_of([steps], steps)}", "[[guest]]"]
@@ -125,17 +128,16 @@ class Runs:
         self.put(name, "\n".join(lines).encode() + b"\n")
         words = [self.program, command, name] + (["0"] if command == "save" else [])
         self.calls += 1
+        written = state_files.OwnFile(self.new_path())
         try:
-            with tempfile.TemporaryFile(dir=self.folder.name) as output:  # large, and slow by a pipe
+            with open(written.path, "wb") as output:  # large, and slow by a pipe
                 status, said = children.run(words, self.folder.name, output)
-                output.seek(0)
-                data = output.read()
         finally:
             with contextlib.suppress(FileNotFoundError):
                 os.remove(self.path(name))
         if status:
             raise Unusable(self.refusal(status, said))
-        return data
+        return written
 
     def refusal(self, status: int, said: bytes) -> str:
         line = next(iter(said.decode(errors="replace").splitlines()), f"status {status}")
@@ -143,9 +145,9 @@ class Runs:
             return f"{self.program} has no command `save`, by which states are looked at"
         return f"{self.program}: {line}"
 
-    def saved_of(self, data: bytes) -> saves.Saved:
+    def saved_of(self, file: state_files.OwnFile) -> state_files.State:
         try:
-            return saves.Saved(data)
+            return state_files.State(file)
         except saves.Wrong as why:
             raise Unusable(f"what {self.program} saved is not a saved guest: {why}") from None
 
@@ -163,27 +165,27 @@ class Runs:
             self.known.pop(next(iter(self.known)), None)
 
     def kept_at(self, step: int) -> saves.Saved | None:
-        data = self.cache.read(step) if step in self.cache.steps() else None
+        file = state_files.OwnFile(self.new_path())
         try:
-            return saves.Saved(data) if data else None
+            return state_files.State(file) if self.cache.put_at(step, file.path) else None
         except saves.Wrong:
             return None
 
-    def made_at(self, step: int) -> bytes:
-        """The bytes of the state at this step, made from the last one before that is known. On a long way
+    def made_at(self, step: int) -> state_files.OwnFile:
+        """The file of the state at this step, made from the last one before that is known. On a long way
         states are kept, the closer to each other the closer they are to its end."""
         before, saved = self.last_before(step)
-        with Line(self, before, saved.form()) as line:
+        with Line(self, before, saved) as line:
             while step - before >= 2 * self.far:
                 before += (step - before) // 2
-                data = line.call("save", before)
-                self.cache.keep(before, data)
-                if saves.status_of(data):  # it makes no more steps
-                    return data
-            data = line.call("save", step)
+                file = line.call("save", before)
+                self.cache.keep(before, file.mapped())
+                if saves.status_of(file.mapped()):  # it makes no more steps
+                    return file
+            file = line.call("save", step)
         if step - before >= self.far:
-            self.cache.keep(step, data)
-        return data
+            self.cache.keep(step, file.mapped())
+        return file
 
     def last_before(self, step: int) -> tuple[int, saves.Saved]:
         """The last state before a step that is known, with its step."""
@@ -201,44 +203,41 @@ class Runs:
         yield self.at(start)
         while start < end:
             until = min(start + AT_ONCE, end)
-            with Line(self, start, self.at(start).form()) as line:
+            with Line(self, start, self.at(start)) as line:
                 yield from parallel.in_order(line.at, range(start + 1, until + 1))
             start = until
 
 
 class Line:
-    """A run that goes on from the state that `data` has, which is that at a step. What it comes to is made
-    from the last state before that is kept in a file: the first one, or one of the few that were far from the
-    one before."""
+    """A run that goes on from a state, which is that at a step. What it comes to is made from the last state
+    before that is kept in a file: the first one, or one of the few that were far from the one before."""
 
-    def __init__(self, runs: Runs, step: int, data: bytes) -> None:
+    def __init__(self, runs: Runs, step: int, saved: saves.Saved) -> None:
         self.runs, self.start = runs, step
-        self.files: collections.OrderedDict[int, str] = collections.OrderedDict()
-        self.keep(step, data)
+        self.files: collections.OrderedDict[int, state_files.OwnFile] = collections.OrderedDict()
+        self.keep(step, state_files.file_of(saved, runs.new_path()))
 
     def __enter__(self) -> "Line":
         return self
 
     def __exit__(self, *_: object) -> None:
-        for name in self.files.values():
-            with contextlib.suppress(FileNotFoundError):  # the whole folder is gone where the tool ends
-                os.remove(self.runs.path(name))
+        self.files.clear()
 
-    def keep(self, step: int, data: bytes) -> None:
-        self.files[step] = self.runs.put(f"{next(self.runs.numbers)}.saved", data)
+    def keep(self, step: int, file: state_files.OwnFile) -> None:
+        self.files[step] = file
         if len(self.files) > KEPT_IN_FILES:
-            oldest = next(each for each in self.files if each != self.start)
-            os.remove(self.runs.path(self.files.pop(oldest)))
+            self.files.pop(next(each for each in self.files if each != self.start))
 
-    def call(self, command: str, step: int) -> bytes:
+    def call(self, command: str, step: int) -> state_files.OwnFile:
         """What the program writes where the run goes on up to this step."""
         before = max(each for each in self.files if each <= step)
         self.files.move_to_end(before)
-        keys = {"name": self.runs.guest.name, "resume": self.files[before]}
-        data = self.runs.call(command, keys, step - before)
+        own = self.files[before]  # stays while the program reads it
+        keys = {"name": self.runs.guest.name, "resume": os.path.basename(own.path)}
+        file = self.runs.call(command, keys, step - before)
         if command == "save" and step - before >= self.runs.far:
-            self.keep(step, data)
-        return data
+            self.keep(step, file)
+        return file
 
     def at(self, step: int) -> saves.Saved:
         """The state at this step."""

@@ -4,14 +4,18 @@ read too: the second lacks the cached translations of the first stage, and the f
 page as well.
 """
 import copy
+import mmap
 import struct
-from typing import NamedTuple
+from collections.abc import Iterator
+from typing import NamedTuple, Self
 
 Entry = tuple[int, int, int]  # of a space: page, frame, flags
 Spaces = list[tuple[int, list[Entry]]]
+Bytes = bytes | mmap.mmap
 
 BLOCK = 2097152
 MOST_BYTES = 68798705  # that the program reads: one more than a good file has
+PIECE = 1 << 18  # bytes of RAM that are compared at a time
 LETTERS = (b"NESTHV01", b"NESTHV02", b"NESTHV03")  # of each version
 RAM, DEVICE_FRAME, DEVICE = 0x80000000, 0x10000, 0x10000000
 STATUSES, MODES = ["running", "waiting", "stopped"], ["HS", "U", "VS", "VU"]
@@ -46,7 +50,7 @@ def demand(is_right: object, words: str) -> None:
 class Reader:
     """Takes the bytes of a file from its start on."""
 
-    def __init__(self, data: bytes) -> None:
+    def __init__(self, data: Bytes) -> None:
         self.data, self.at = data, 0
 
     def take(self, count: int, what: str) -> bytes:
@@ -77,11 +81,46 @@ class First(NamedTuple):
     flags: int
 
 
+class Ram:
+    """The bytes of RAM, behind the front of a file, which may be mapped: they are copied when they are asked
+    for."""
+
+    def __init__(self, data: Bytes, front: int) -> None:
+        self.data, self.front = data, front
+
+    def __len__(self) -> int:
+        return len(self.data) - self.front
+
+    def __getitem__(self, part: slice) -> bytes:
+        start, end, _ = part.indices(len(self))
+        return self.data[self.front + start:self.front + end]
+
+    def is_same(self, other: "Ram") -> bool:
+        return len(self) == len(other) and not any(True for _ in pieces_that_differ(self, other))
+
+    def forget(self) -> None:
+        """Gives back the memory of a file that is mapped, until its bytes are asked for again."""
+        if isinstance(self.data, mmap.mmap):
+            self.data.madvise(mmap.MADV_DONTNEED)
+
+
+def pieces_that_differ(one: Ram, other: Ram) -> Iterator[tuple[int, bytes, bytes]]:
+    """The pieces that differ of two RAMs, each with where it begins."""
+    try:
+        for at in range(0, min(len(one), len(other)), PIECE):
+            first, second = one[at:at + PIECE], other[at:at + PIECE]
+            if first != second:
+                yield at, first, second
+    finally:
+        one.forget()
+        other.forget()
+
+
 class Saved:
     """A saved guest: its numbers by name, its console, its unread inputs, its spaces, its cached translations
-    of the first stage, and where its RAM begins."""
+    of the first stage, and its RAM with where it begins."""
 
-    def __init__(self, data: bytes) -> None:
+    def __init__(self, data: Bytes) -> None:
         reader = Reader(data)
         self.letters = reader.take(8, "its letters")
         demand(self.letters in LETTERS, f"it does not begin with `{LETTERS[-1].decode()}`, or as an older "
@@ -107,7 +146,7 @@ class Saved:
             found = struct.iter_unpack("<6Q", reader.take(48 * count, "translations of the first stage"))
             self.first = [First(*numbers) for numbers in found]
         test_first(self.first)
-        self.front, self.ram = reader.at, data[reader.at:]
+        self.front, self.ram = reader.at, Ram(data, reader.at)
         has, ram = len(data) - self.front, self.numbers["blocks"] * BLOCK
         demand(has == ram, f"{has:,} bytes stand behind offset {self.front:,}, and RAM has {ram:,}: it is "
               + ("cut" if has < ram else "too long"))
@@ -119,6 +158,10 @@ class Saved:
     def form(self) -> bytes:
         """The bytes of a file that has all this, which a program of its version reads; that of the first
         version is one of the second."""
+        return self.head() + self.ram[:]
+
+    def head(self) -> bytes:
+        """What such a file has in front of RAM."""
         number = self.numbers
         made = [max(self.letters, LETTERS[1]),
                 struct.pack(f"<{len(NAMES)}Q", *(number[name] for name in NAMES)),
@@ -131,17 +174,17 @@ class Saved:
         if self.has_first():
             made.append(struct.pack("<Q", len(self.first)))
             made += [struct.pack("<6Q", *entry) for entry in self.first]
-        return b"".join([*made, self.ram])
+        return b"".join(made)
 
     def changed(self, numbers: dict[str, int], spaces: Spaces | None = None,
-                first: list[First] | None = None) -> bytes:
-        """The bytes of a file that has other numbers, by name, and other spaces and translations of the first
+                first: list[First] | None = None) -> Self:
+        """The saved guest that has other numbers, by name, and other spaces and translations of the first
         stage, but else the same."""
         other = copy.copy(self)
         other.numbers = {**self.numbers, **numbers}
         other.spaces = self.spaces if spaces is None else spaces
         other.first = self.first if first is None else first
-        return other.form()
+        return other
 
     def mode(self) -> str:
         return MODES[self.numbers["mode"]]
@@ -168,7 +211,7 @@ def offset_of(name: str, names: list[str]) -> int:
     return 8 + 8 * names.index(name)
 
 
-def status_of(data: bytes) -> int:
+def status_of(data: Bytes) -> int:
     """The status in the bytes of a file."""
     status, = struct.unpack_from("<Q", data, offset_of("status", names_of(data[:8])))
     return int(status)

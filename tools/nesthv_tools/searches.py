@@ -60,7 +60,7 @@ class Traps:
             return False
         numbers = {**planted.numbers, **{name: own.numbers[name] for name in self.names}}
         return numbers == own.numbers and planted.console == own.console and planted.inputs == own.inputs \
-            and planted.ram == own.ram
+            and planted.ram.is_same(own.ram)
 
     def planted(self, step: int) -> guest_runs.Line:
         """The run from a step on with the planted registers."""

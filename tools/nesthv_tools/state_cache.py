@@ -1,9 +1,10 @@
 """A folder of kept states, with a bound on its size."""
 import os
+import shutil
 import tempfile
 from typing import BinaryIO
 
-from nesthv_tools import whole_files
+from nesthv_tools import saves, whole_files
 
 MIB = 1 << 20
 DEFAULT_SIZE = 256 * MIB  # of the disk
@@ -38,17 +39,21 @@ class Cache:
             names = []
         return [int(name) for name in names if name.isdigit()]
 
-    def read(self, step: int) -> bytes | None:
-        """The bytes of a state that is kept, or none."""
-        path = os.path.join(self.folder, str(step))
+    def put_at(self, step: int, path: str) -> bool:
+        """Puts the file of a state that is kept at this path, and says whether there is one. It stays there
+        though the cache is trimmed."""
+        own = os.path.join(self.folder, str(step))
         try:
-            with open(path, "rb") as file:
-                os.utime(path)
-                return file.read()
+            os.utime(own)
+            try:
+                os.link(own, path)
+            except OSError:  # another disk
+                shutil.copyfile(own, path)
         except OSError:
-            return None
+            return False
+        return True
 
-    def keep(self, step: int, data: bytes) -> None:
+    def keep(self, step: int, data: saves.Bytes) -> None:
         if not self.most:
             return
         try:
@@ -79,7 +84,7 @@ class Cache:
             size -= has
 
 
-def write_sparse(file: BinaryIO, data: bytes) -> None:
+def write_sparse(file: BinaryIO, data: saves.Bytes) -> None:
     """Writes these bytes; pieces of zeros take no place of the disk."""
     for at in range(0, len(data), len(ZEROS)):
         piece = data[at:at + len(ZEROS)]

@@ -15,15 +15,15 @@ DECIMAL = ("clock", "unread inputs")
 SIZES = ("blocks", "spaces", "entries", "console", "device", "steps")
 
 
-def words_that_differ(one: bytes, other: bytes, ignored: Container[int] = ()) -> Iterator[int]:
+def words_that_differ(one: saves.Ram, other: saves.Ram, ignored: Container[int] = ()) -> Iterator[int]:
     """The places of the doublewords that differ of two RAMs, except for those to be ignored."""
-    for page in range(0, min(len(one), len(other)), 4096):
-        first, second = one[page:page + 4096], other[page:page + 4096]
-        if first == second:
-            continue
-        for at in range(0, 4096, 8):
-            if first[at:at + 8] != second[at:at + 8] and page + at + saves.RAM not in ignored:
-                yield page + at + saves.RAM
+    for start, first, second in saves.pieces_that_differ(one, other):
+        for page in range(0, len(first), 4096):
+            if first[page:page + 4096] == second[page:page + 4096]:
+                continue
+            for at in range(page, page + 4096, 8):
+                if first[at:at + 8] != second[at:at + 8] and start + at + saves.RAM not in ignored:
+                    yield start + at + saves.RAM
 
 
 @dataclass(frozen=True)

@@ -105,7 +105,7 @@ class FirstStageTest(unittest.TestCase):
             def __init__(self, saved):
                 self.at = lambda step: saved
         run = Run(self.saved(first, held=held))
-        nested, of_satp = (saves.Saved(fences.Drop(run, 0, is_of_satp).data) for is_of_satp in (False, True))
+        nested, of_satp = (saves.Saved(fences.Drop(run, 0, is_of_satp).saved.form()) for is_of_satp in (False, True))
         self.assertEqual((nested.first, nested.spaces), (first[:1], [(HGATP, [])]))
         self.assertEqual((of_satp.first, of_satp.spaces), (first[1:], held))
         self.assertTrue(fences.Drop(Run(self.saved(first[1:], held=held)), 0, True).is_empty)

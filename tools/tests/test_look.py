@@ -64,7 +64,7 @@ class SavedTest(unittest.TestCase):
 
     def test_changed(self):
         saved = saves.Saved(form(held=[(HGATP, [(1, 0x80000, 5)])]))
-        self.assertEqual(saved.changed({"x7": 3}, [(HGATP, [])]), form(held=[(HGATP, [])], x7=3))
+        self.assertEqual(saved.changed({"x7": 3}, [(HGATP, [])]).form(), form(held=[(HGATP, [])], x7=3))
         self.assertEqual(saved.form(), form(held=[(HGATP, [(1, 0x80000, 5)])]))
 
     def test_word_at(self):
@@ -375,8 +375,11 @@ class CacheTest(ToolTest):
             os.utime(os.path.join(self.folder, "key", str(step)), (step, step))
         self.assertIn(9, cache.steps())
         self.assertLess(len(cache.steps()), 6)
-        self.assertEqual(cache.read(9), b"\n" * 20000 + bytes(1 << 20))
-        self.assertIsNone(cache.read(0))
+        path = os.path.join(self.folder, "state")
+        self.assertFalse(cache.put_at(0, path))
+        self.assertTrue(cache.put_at(9, path))
+        with open(path, "rb") as file:
+            self.assertEqual(file.read(), b"\n" * 20000 + bytes(1 << 20))
 
     def test_folder_that_cannot_be_written(self):
         for folder, most in ((os.path.join(self.folder, "a.bin"), 100000), (self.folder, 0)):

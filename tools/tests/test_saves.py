@@ -72,7 +72,7 @@ class FileTest(ToolTest):
         self.assertIsNone(saves.wrong(data))
         saved = saves.Saved(data)
         self.assertEqual((saved.form(), saved.first, saved.front), (data, first, 616 + 1 + 9 + 40 + 8 + 3 * 48))
-        self.assertEqual(saved.changed({"x7": 3}, first=first[1:]),
+        self.assertEqual(saved.changed({"x7": 3}, first=first[1:]).form(),
                          form(b"A", [(5, 66)], [(HGATP, [(1, 0x80000, 5)])], first=first[1:], x7=3))
         self.assertEqual((saved.has_first(), saves.Saved(form(first=None)).has_first()), (True, False))
         self.assertEqual(len(form(first=[])), 2097776)

@@ -436,11 +436,14 @@ def show_fences(session: Session, words: list[str]) -> int:
     if until is None and end < session.end():
         until = end
     where = "the end" if until is None else f"step {until}"
-    where += ": --most N looks at more" if search.cut is not None else ""
-    line = f"{search.shown()} the report, up to {where}"
+    where += ": --most N looks at more" if search.cut is not None or search.is_swept else ""
+    line = f"{search.shown()} the report, {'all in one run, ' if search.is_swept else ''}up to {where}"
     steps = ", ".join(map(str, sorted(search.changing)))
     lines = [line + (f"; those at step {steps}" if changed > 1 else "")]
-    if changed:
+    if search.together:
+        lines.append("but the run with all of them has another report:")
+        lines += [f"  {words}" for words in search.together]
+    if changed or search.together:
         lines.append("the standard permits each of these runs, and the guest's fences do not decide between "
                      "them")
     elif not search.count:
@@ -448,9 +451,10 @@ def show_fences(session: Session, words: list[str]) -> int:
         if session.runs.start.has_first():
             at += ", and none of satp at any other of these steps"
         lines.append(at + ", so there is nothing to drop")
-    session.print({"drops": search.count, "changing": changed, "looked_up_to": until,
+    session.print({"drops": search.count, "changing": changed, "in_one_run": search.is_swept,
+                   "together": search.together, "looked_up_to": until,
                    "found": list(search.found.values())}, lines)
-    return NOTHING if changed else 0
+    return NOTHING if changed or search.together else 0
 
 
 COMMANDS = {"at": look_at, "walk": show_walk, "maps": show_maps, "first": show_first, "trace": show_trace,
