@@ -6,13 +6,14 @@ import struct
 import subprocess
 import time
 import unittest
+from unittest import mock
 from xml.dom import minidom
 
 from saved_files import HGATP, form
 from helper import LETTER, LIMIT, LOOP, PROGRAM, TOOLS, TOP, ToolTest
 from nesthv_tools import (
-    drawing, guest_runs, presentation, registers, saves, searches, state_cache, state_changes, symbols, trap_causes,
-    walks)
+    drawing, fences, guest_runs, presentation, registers, saves, searches, state_cache, state_changes, symbols,
+    trap_causes, walks)
 
 FAKE = os.path.join(TOOLS, "tests", "fake-program")
 TABLE = 0x80004000  # of HGATP
@@ -645,11 +646,30 @@ class ProgramTest(LookTest):
         self.assertEqual(self.lines("nested3.toml", "fences", "--most", "1")[0],
                          "0 of 1 drop changes the report, up to step 51: --most N looks at more")
 
-    def test_fence_that_is_left_out(self):
+    def without_fence(self):
+        """A copy of nested3 without an HFENCE.GVMA."""
         with open(os.path.join(TOP, "examples", "nested3", "nested3.bin"), "rb") as file:
             image = file.read()
-        self.example("nested3")
+        path = self.example("nested3")
         self.put("nested3.bin", image.replace(struct.pack("<I", 0x62628073), struct.pack("<I", 0x13)))
+        return path
+
+    @mock.patch.object(fences, "SWEPT", 20)
+    def test_all_drops_in_one_run(self):
+        """The report stays where no fence is left out, and else one of the drops alone changes it too."""
+        for make, is_right in ((lambda: self.example("timers"), True), (self.without_fence, False)):
+            guest = guest_runs.Guest(self.program, make(), 0)
+            runs = guest_runs.Runs(self.program, guest, state_cache.Cache(self.folder, 0, "key"))
+            self.addCleanup(runs.close)
+            plain = runs.call("run", guest.keys, guest.steps).read()
+            end = runs.at(runs.last).numbers["steps"]
+            sweep = fences.Sweep(runs, runs.first, end, lambda low, high: None)
+            self.assertEqual(sweep.report() == plain, is_right)
+            found = [drop.step for drop in sweep.drops() if drop.report() != plain]
+            self.assertEqual(not found, is_right)
+
+    def test_fence_that_is_left_out(self):
+        self.without_fence()
         lines = self.lines("nested3.toml", "fences", status=1)
         self.assertIn("3 of 5 drops change the report, up to the end; those at step 51, 67, 83", lines)
 
