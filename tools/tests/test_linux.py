@@ -49,7 +49,7 @@ class MakeTest(ToolTest):
 
     def test_folders(self):
         variables = self.programs()
-        self.assertIn("has a space or a comma", self.refused("a b", variables=variables))
+        self.assertIn("has a space or a comma in its name", self.refused("a b", variables=variables))
         self.put("file", "")
         self.assertIn("cannot be made", self.refused("file/out", variables=variables))
         self.assertIn("there is no file", self.refused("--source", "none", "out", variables=variables))
