@@ -72,8 +72,31 @@ fn through<M: Mem>(mem: &mut M, at: u64) -> (bool, Option<u64>)
     (set, got)
 }
 
+// Memory without a byte: it has two calls, and no other.
+#[derive(Clone, Copy)]
+struct NoBytes;
+
+impl Mem for NoBytes {
+    ghost use Rattle.std.specs.Prelude.{[], ⊤};
+
+    ghost memory = { λ _. record { base = 0; bytes = [] } };
+
+    ghost is_backed = { λ _. ⊤ };
+
+    ghost keeps = { λ _ _. ⊤ };
+
+    fn get(&self, _at: u64, _width: u8) -> Option<u64> {
+        None
+    }
+
+    fn set(&mut self, _at: u64, _width: u8, _value: u64) -> bool {
+        false
+    }
+}
+
 #[test]
 fn memory_of_any_kind(rt: HostRuntime) -> Result<(), Fail> {
+    assert!(rt; through(&mut NoBytes, 0) == (false, None));
     let mut memory = memory(rt.alloc(), 3)?;
     assert!(rt; through(&mut memory, 12280) == (true, Some(5)));
     assert!(rt; through(&mut memory, 12288) == (false, None));
