@@ -100,7 +100,7 @@ fn atomic_operations(rt: HostRuntime) {
     assert!(rt; double == 0x8000_0000);
 }
 
-// ADDI x10, x0, 65; the word 0 is no instruction.
+// ADDI x10, x0, 65; the word 0 is not an instruction.
 #[test]
 fn words_are_decoded(rt: HostRuntime) {
     let none: Option<Op> = decode(0u32);

@@ -95,7 +95,7 @@ fn a_label_is_missing(rt: HostRuntime) -> Result<(), Fail> {
     Ok(())
 }
 
-// BEQ over so many instructions.
+// BEQ over that number of instructions.
 fn end_over(alloc: Global, count: u32) -> Result<Result<usize, AsmFault>, NoMemory> {
     let mut image = Image::new(alloc);
     image.push_to(beq(), 1u32)?;

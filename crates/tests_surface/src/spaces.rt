@@ -31,7 +31,7 @@ struct Machine {
     space: Space,
 }
 
-// The space of a part in memory of so many frames of zeros, if these hold the part's tables.
+// The space of a part in memory of these frames, all zeros, if they hold the part's tables.
 fn empty_space(
     alloc: Global,
     part: &Part,
@@ -81,7 +81,7 @@ fn fill(space: &mut Space, mem: &mut PhysMem, page: u64)
     space.fill(mem, entry);
 }
 
-// Fills the first page of each of so many spans of 262,144 pages.
+// Fills the first page of each of the first spans of 262,144 pages.
 fn fill_spans(space: &mut Space, mem: &mut PhysMem, count: u64)
     requires tidy { Tidy space.old mem.old }
     requires blocks { length space.old.part.blocks ≡ 2 }
