@@ -11,4 +11,6 @@ mod hosts;
 #[cfg(test)]
 mod outputs;
 #[cfg(test)]
+mod programs;
+#[cfg(test)]
 mod states;
