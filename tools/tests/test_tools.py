@@ -23,8 +23,8 @@ class CommonTest(ToolTest):
         for name in ("examples/run", "examples/check", "examples/build", "examples/words", "bench/steps.sh",
                      "bench/folded.sh", "bench/compare.sh", "bench/work.sh", "bench/save.sh",
                      "bench/hypervisors.py", "bench/refused.sh", "bench/hostile-outside.sh", "conformance/build",
-                     "conformance/run", "dist/make", "dist/check", "dist/sources", "docs/clauses", "docs/commands",
-                     "tools/test"):
+                     "conformance/run", "dist/make", "dist/check", "dist/sources", "dist/package", "docs/book", "docs/clauses",
+                     "docs/commands", "tools/test"):
             ran = self.tool(name, "--help")
             self.check_plain(ran, 0)
             self.assertIn(b"usage:", ran.stdout.lower())
@@ -43,7 +43,6 @@ class CommonTest(ToolTest):
         self.check_plain(ran, 1)
         self.assertEqual(len(ran.lines), 1)
         self.check_said(ran, "this needs Python 3.11 or later")
-
 
     def test_isolated_python(self):
         for name in PYTHON:
