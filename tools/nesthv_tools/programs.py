@@ -41,8 +41,8 @@ def sources() -> Iterator[str]:
     yield from ("HANDLES", "crates.txt")
     for folder, folders, names in os.walk(os.path.join(places.TOP, "crates")):
         crate = os.path.relpath(folder, places.TOP)
-        if crate.count(os.sep) == 1 and "out" in folders:
-            folders.remove("out")
+        if crate.count(os.sep) == 1:
+            folders[:] = [name for name in folders if name not in ("out", "controls")]
         yield from (os.path.join(crate, name) for name in names if name != "README.md")
 
 

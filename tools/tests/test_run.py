@@ -157,7 +157,8 @@ class ProgramTest(ToolTest):
         top = os.path.join(self.folder, "top")
         for name in ("tools", "dist"):
             shutil.copytree(os.path.join(TOP, name), os.path.join(top, name))
-        for name in ("HANDLES", "crates.txt", "crates/a/src/lib.rt"):
+        for name in ("HANDLES", "crates.txt", "crates/a/src/lib.rt", "crates/a/README.md",
+                     "crates/a/controls/b.control", "crates/a/out/c"):
             self.put(f"top/{name}", "")
         return top
 
