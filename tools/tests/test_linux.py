@@ -1,5 +1,6 @@
-"""Tests of examples/linux/make, up to where it would build, of examples/linux/check, with a small guest in
-place of Linux, and of bench/linux.sh where there is no Linux."""
+"""Tests of examples/linux/make and examples/u-boot/make, up to where they would build, of their `check`, with
+a small guest in place of Linux and U-Boot, and of bench/linux.sh and docs/commands --linux where there is no
+Linux."""
 import os
 import shutil
 import struct
@@ -18,21 +19,29 @@ def printing(text):
     return struct.pack(f"<{len(words) + 2}I", *words, 0x00800893, 0x73)
 
 
-class MakeTest(ToolTest):
+class BuildTest(ToolTest):
+    """What the tests of both scripts share that build a guest."""
+
+    SCRIPT = None
+
     def refused(self, *words, **options):
-        ran = self.tool("examples/linux/make", *words, **options)
+        ran = self.tool(self.SCRIPT, *words, **options)
         self.check_plain(ran, 2)
         self.assertEqual(len(ran.lines), 1, ran.lines)
-        self.assertTrue(ran.lines[0].startswith("examples/linux/make: "), ran.lines)
+        self.assertTrue(ran.lines[0].startswith(f"{self.SCRIPT}: "), ran.lines)
         return ran.lines[0]
 
     def programs(self, **scripts):
         """The variables by which these scripts stand for programs, and others for those that build Linux."""
-        for name in ("make", "flex", "bison", "bc", "xz", "fake-gcc", "fake-objcopy"):
+        for name in ("gcc", "make", "flex", "bison", "bc", "xz", "fake-gcc", "fake-objcopy"):
             scripts.setdefault(name, "exit 0")
         for name, script in scripts.items():
             os.chmod(self.put(f"programs/{name}", f"#!/bin/sh\n{script}\n"), 0o755)
         return {"PATH": os.path.join(self.folder, "programs") + ":" + os.environ["PATH"], "CROSS": "fake-"}
+
+
+class MakeTest(BuildTest):
+    SCRIPT = "examples/linux/make"
 
     def test_words(self):
         self.assertIn(b"Usage: examples/linux/make", self.tool("examples/linux/make", "--help").stdout)
@@ -67,20 +76,52 @@ class MakeTest(ToolTest):
         self.check_said(ran, "to download linux-source-6.99, which apt has to know (apt-get update), failed")
 
 
+class UBootTest(BuildTest):
+    SCRIPT = "examples/u-boot/make"
+
+    def test_words(self):
+        for words, said in ((["--none"], "--none is not an option"), (["a", "b"], "it takes one folder"),
+                            (["--jobs", "0"], "0 is not a number of compilers"),
+                            (["--source"], "--source has a word")):
+            self.assertIn(said, self.refused(*words))
+
+    def test_no_compiler(self):
+        said = self.refused("out", variables={"CROSS": "none-"})
+        self.assertIn("there is no none-gcc", said)
+        self.assertIn("libssl-dev", said)
+
+    def test_folders(self):
+        variables = self.programs()
+        self.assertIn("has a space or a comma in its name", self.refused("a b", variables=variables))
+        self.assertIn("there is no file", self.refused("--source", "none", "out", variables=variables))
+
+    def test_no_space(self):
+        variables = self.programs(df="echo head; echo disk 20 10 10 50% /")
+        said = self.refused("--source", self.put("u-boot.tar.xz", "x"), "out", variables=variables)
+        self.assertIn("has 10 MB of free disk, and 500 are needed", said)
+
+    def test_file_that_is_not_a_tarball(self):
+        ran = self.tool(self.SCRIPT, "--source", self.put("u-boot.tar.xz", "x"), "out",
+                        variables=self.programs())
+        self.check_plain(ran, 2)
+        self.check_said(ran, "to unpack")
+
+
 class CheckTest(ToolTest):
-    """A copy of the script in a folder of its own, with its stored reports."""
+    """A copy of the scripts in a folder of its own, with their stored reports."""
 
     def setUp(self):
         super().setUp()
-        script = self.put("examples/linux/check", "")
-        shutil.copy(os.path.join(TOP, "examples/linux/check"), script)
-        os.symlink(os.path.join(TOP, "tools"), os.path.join(self.folder, "tools"))
+        for script in ("examples/linux/check", "examples/u-boot/check"):
+            shutil.copy(os.path.join(TOP, script), self.put(script, ""))
+        for folder in ("tools", "docs"):
+            os.symlink(os.path.join(TOP, folder), os.path.join(self.folder, folder))
         self.configure("built/linux.toml", image='"a.bin"', console=1000)
         self.put("built/a.bin", LETTER)
         self.put("built/linux.version", VERSION)
 
-    def check(self, status, *words):
-        ran = self.tool(os.path.join(self.folder, "examples", "linux", "check"), *words)
+    def check(self, status, *words, script="linux"):
+        ran = self.tool(os.path.join(self.folder, "examples", script, "check"), *words)
         self.check_plain(ran, status)
         return ran.stdout.decode(), ran.lines
 
@@ -108,8 +149,24 @@ class CheckTest(ToolTest):
             self.assertIn("other versions make other steps", lines)
             self.assertIn(said, lines)
 
+    def test_u_boot(self):
+        self.configure("u-boot/u-boot.toml", image='"a.bin"', console=1000)
+        self.put("u-boot/u-boot.version", "2023.01 12.2.0\n")
+        self.put("u-boot/a.bin", LETTER)
+        self.assertIn("has not taken the last command", self.check(1, "u-boot", script="u-boot")[0])
+        for stored, status, said in ((LETTER_REPORT, 0, "as stored, guest a stopped"),
+                                     (LETTER_REPORT.replace(b"A", b"B"), 1, "> A")):
+            self.put("examples/u-boot/u-boot-2023.01-12.2.0.report", stored)
+            self.assertIn(said, self.check(status, "u-boot", script="u-boot")[0])
+        self.assertIn("examples/u-boot/make builds it", self.check(2, "none", script="u-boot")[1][0])
+        self.put("u-boot/u-boot.version", "2023.01 14.2.0\n")
+        self.put("u-boot/a.bin", printing("poweroff ...\n"))
+        self.assertIn("no report is stored of it", self.check(0, "u-boot", script="u-boot")[0])
+
     def test_nothing_there(self):
         self.assertIn("examples/linux/make builds it", self.check(2, "none")[1][0])
+        self.assertIn("has no Linux with KVM", self.check(2, "--guide", "none")[1][0])
+        self.assertIn("none has no Linux", self.tool("docs/commands", "--linux", "none").lines[-1])
         self.assertIn("no report of linux is stored", self.check(2, "built")[1][-1])
         self.assertIn("is not an option", self.check(2, "--none")[1][0])
         ran = self.tool("bench/linux.sh", "none")

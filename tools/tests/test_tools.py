@@ -20,7 +20,8 @@ class CommonTest(ToolTest):
             self.assertTrue(ran.stdout.decode().startswith(f"usage: tools/{name}"))
 
     def test_help_of_scripts(self):
-        for name in ("examples/run", "examples/check", "examples/build", "examples/words", "bench/steps.sh",
+        for name in ("examples/run", "examples/check", "examples/build", "examples/words", "examples/u-boot/make",
+                     "examples/u-boot/check", "examples/linux/check", "bench/steps.sh",
                      "bench/folded.sh", "bench/compare.sh", "bench/work.sh", "bench/save.sh",
                      "bench/hypervisors.py", "bench/refused.sh", "bench/hostile-outside.sh", "conformance/build",
                      "conformance/run", "dist/make", "dist/check", "dist/sources", "dist/package", "docs/book", "docs/clauses",
