@@ -9,6 +9,8 @@ from elf_files import RAM, elf, with_headers
 from helper import LETTER, TOP, ToolTest
 
 STUB = os.path.join(TOP, "dist", "nesthv-gdb")
+MEMORY = ("GLIBC_TUNABLES=${GLIBC_TUNABLES-glibc.malloc.mmap_threshold=1073741824"
+          ":glibc.malloc.trim_threshold=1073741824}")
 FAKE = '#!/bin/sh\nfor word; do printf "%s\\n" "$word"; done\nexit 3\n'
 NESTED = bytes(range(1, 101))
 
@@ -31,7 +33,8 @@ class DebugTest(ToolTest):
         self.assertEqual(ran.words[:2], ["-x", os.path.join(TOP, "tools", "debug.gdb")])
         self.assertEqual(ran.words[-1], "-batch")
         folder = shlex.quote(os.path.join(self.folder, "deep er"))
-        self.assertIn(f"target remote | cd {folder} && {STUB} ./b.toml 0; exec cat >/dev/null", ran.words)
+        stub = f"cd {folder} && {MEMORY} {STUB} ./b.toml 0; exec cat >/dev/null"
+        self.assertIn(f"target remote | {stub}", ran.words)
         self.check_said(ran, "no ELF file stands beside the image")
         printed = self.debug("--print", path)
         self.check_plain(printed, 0)
@@ -74,7 +77,8 @@ class DebugTest(ToolTest):
         ran = self.debug("k.elf", "--steps", "7", "--write", "kept")
         self.check_plain(ran, 3)
         self.assertIn("file kept/k.elf", ran.words)
-        self.assertIn(f"target remote | cd kept && {STUB} ./k.toml 0; exec cat >/dev/null", ran.words)
+        stub = f"cd kept && {MEMORY} {STUB} ./k.toml 0; exec cat >/dev/null"
+        self.assertIn(f"target remote | {stub}", ran.words)
 
     @unittest.skipUnless(shutil.which("gdb-multiarch"), "gdb-multiarch is not installed")
     def test_gdb(self):
