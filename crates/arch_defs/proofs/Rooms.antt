@@ -1,4 +1,4 @@
--- When the frames of a part lie in memory of so many bytes.
+-- When the frames of a part lie in memory of that many bytes.
 use Rattle.std.proofs.Common.{◌≡◌, ℕ, ◌+◌, ◌-◌, ◌*◌, ◌/◌, ◌<◌, ◌≤◌, ◌⊎◌, inl, inr, Bool, true, ◌↔◌, IsTrue, List, length, slice_index, arith}
 use Rattle.std.proofs.lemmas.Bool.{or_cases}
 use Rattle.arch_defs.specs.Frames.{Frames, within, in_blocks, joined, LieIn, Within}

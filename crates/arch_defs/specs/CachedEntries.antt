@@ -18,7 +18,7 @@ entry_at page entries = find (λ e. e.page == page) entries
 abbrev pub without : ℕ → List Entry → List Entry
 without page entries = filter (λ e. not (e.page == page)) entries
 
--- the last entries, at most so many
+-- the last entries, at most that many
 abbrev pub newest : ℕ → List Entry → List Entry
 newest most entries = drop (length entries - most) entries
 

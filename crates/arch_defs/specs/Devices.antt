@@ -30,7 +30,7 @@ abbrev pub device_status : ConsoleState → ℕ → ℕ
 device_status console clock =
     bit_number 0 (has_input console.inputs clock) + bit_number 1 (has_room console)
 
--- a load of so many bytes at an offset: the byte at 0 is the input that has come, which is read, or else 0;
+-- a load of that many bytes at an offset: the byte at 0 is the input that has come, which is read, or else 0;
 -- the doubleword at 8 is the status; there is no other
 unfoldable pub device_loaded : ℕ → ℕ → ConsoleState → ℕ → Option DeviceEnd
 device_loaded offset bytes console clock =

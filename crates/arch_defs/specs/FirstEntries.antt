@@ -70,7 +70,7 @@ first_room = 32
 abbrev pub without_first : FirstEntry → List FirstEntry → List FirstEntry
 without_first e entries = filter (λ other. not (is_first_of e.tag e.atp e.page other)) entries
 
--- the last entries, at most so many as are cached
+-- the last entries, at most as many as are cached
 abbrev pub newest_first : List FirstEntry → List FirstEntry
 newest_first entries = drop (length entries - first_room) entries
 

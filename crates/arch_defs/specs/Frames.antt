@@ -10,7 +10,7 @@ most_frames = 131072
 abbrev pub Frames : Type 0
 Frames = ℕ → Bool
 
--- so many frames from a first one on
+-- that many frames from a first one on
 abbrev pub within : ℕ → ℕ → Frames
 within first count frame = nat_le first frame && nat_lt frame (first + count)
 
@@ -30,7 +30,7 @@ Apart a b = (frame : ℕ) → a frame ≡ true → b frame ≡ false
 abbrev pub Within : Frames → Frames → Type 0
 Within a b = (frame : ℕ) → a frame ≡ true → b frame ≡ true
 
--- all of them lie in memory of so many bytes
+-- all of them lie in memory of that many bytes
 abbrev pub LieIn : Frames → ℕ → Type 0
 LieIn a size = (frame : ℕ) → a frame ≡ true → frame * 4096 + 4096 ≤ size
 

@@ -32,7 +32,7 @@ load bytes at n = little_number n (drop at bytes)
 abbrev pub pasted : List ℕ → ℕ → List ℕ → List ℕ
 pasted bytes at piece = take at bytes ++ piece ++ drop (at + length piece) bytes
 
--- so many zeros
+-- that many zeros
 unfoldable pub zeros : ℕ → List ℕ
 zeros size = replicate size 0
 
@@ -40,7 +40,7 @@ zeros size = replicate size 0
 unfoldable pub loaded : ℕ → List ℕ → List ℕ
 loaded size image = image ++ zeros (size - length image)
 
--- what memory gives at a physical address: the number of so many bytes
+-- what memory gives at a physical address: the number of that many bytes
 abbrev pub Reading : Type 0
 Reading = ℕ → ℕ → ℕ
 
@@ -77,7 +77,7 @@ pub record Mmu : Type 0 where
 abbrev pub mmu : Known → SecondStage → Reading → Mmu
 mmu known second reading = record { known = known; second = second; reading = reading }
 
--- what an instruction stores: a number in so many bytes at a physical address
+-- what an instruction stores: a number in that many bytes at a physical address
 pub record Stored : Type 0 where
   pub place : ℕ
   pub width : ℕ

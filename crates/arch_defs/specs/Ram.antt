@@ -2,7 +2,7 @@
 use Rattle.std.specs.Prelude.{ℕ, ◌≡◌, ◌+◌, ◌-◌, ◌*◌, ◌/◌, ◌%◌, ◌<◌, ◌≤◌, ◌&&◌, List, [], ◌∷◌, ◌++◌, Option, Some, None, length, take, drop, slice_index, nat_le, nat_lt, if◌then◌else◌}
 use Rattle.arch_defs.specs.Memory.{ram_base, block_size}
 
--- the slices of so many bytes with these numbers, one after the other
+-- the slices of that many bytes with these numbers, one after the other
 unfoldable pub slices : ℕ → List ℕ → List ℕ → List ℕ
 slices size [] memory = []
 slices size (n ∷ ns) memory = take size (drop (n * size) memory) ++ slices size ns memory

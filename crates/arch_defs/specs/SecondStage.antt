@@ -25,7 +25,7 @@ use Rattle.arch_defs.specs.Translation.{unread}
 use Rattle.arch_defs.specs.Traps.{exception, faults_of, is_virtual, missing_place_fault}
 use Rattle.arch_defs.specs.Walk.{EntryReading, walk, leaf_address}
 
--- memory has so many bytes from a place on
+-- memory has that many bytes from a place on
 abbrev pub has_bytes : Memory → ℕ → ℕ → Bool
 has_bytes memory place n =
     nat_le memory.base place && nat_le (place + n) (memory.base + length memory.bytes)

@@ -90,7 +90,7 @@ abbrev pub later : (ℕ → List Met) → Next → List Met
 later from (Ends end) = []
 later from (Below table) = from table
 
--- the entries met from a table with so many levels on: its own, and those from the table that it names on
+-- the entries met from a table with that many levels on: its own, and those from the table that it names on
 unfoldable pub path_from : EntryReading → Shape → ℕ → Access → ℕ → ℕ → List Met
 path_from reading shape va access zero table = []
 path_from reading shape va access (suc level) table =

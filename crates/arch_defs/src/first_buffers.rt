@@ -157,7 +157,7 @@ impl FirstBuffer {
         }
     }
 
-    /// Takes over the translations of another: their number, and then so many.
+    /// Takes over the translations of another: their number, and then that many.
     pub fn copy_from(&mut self, other: &FirstBuffer)
         ensures { self.new ≡ other.now }
     {

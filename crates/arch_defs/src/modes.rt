@@ -81,7 +81,7 @@ impl Access {
 /// The codes of the faults of an access (Privileged Architecture 20211203, 4.1.8 and 8.6.1).
 #[derive(Clone, Copy, PartialEq, Eq)]
 pub struct FaultCodes {
-    /// Its address is no multiple of its width.
+    /// Its address is not a multiple of its width.
     pub misaligned: u64,
     /// Memory has no place for it.
     pub access: u64,

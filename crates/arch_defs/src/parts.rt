@@ -170,7 +170,7 @@ impl Part {
         self.count as u64 * BLOCK_SIZE
     }
 
-    /// Whether all of its frames lie in memory of so many bytes.
+    /// Whether all of its frames lie in memory of that many bytes.
     pub fn lies_in(&self, size: u64) -> bool
         ensures { IsTrue result ↔ LieIn (named_by self.now) size }
     {
@@ -205,7 +205,7 @@ fn slots_of(blocks: &[u32]) -> [u32; MOST_BLOCKS]
     slots
 }
 
-// Whether all of these blocks lie in memory of so many bytes.
+// Whether all of these blocks lie in memory of that many bytes.
 fn blocks_lie_in(blocks: &[u32], size: u64) -> bool
     ensures { IsTrue result ↔ LieIn (in_blocks blocks.now) size }
 {
@@ -214,7 +214,7 @@ fn blocks_lie_in(blocks: &[u32], size: u64) -> bool
         .all(|block| (*block as u64 + 1) * BLOCK_SIZE <= size)
 }
 
-// Whether so many frames from a first one on do.
+// Whether that many frames from a first one on do.
 fn range_lies_in(first: u64, count: u64, size: u64) -> bool
     requires some { 0 < count }
     requires small { first + count < 2 ^ 40 }

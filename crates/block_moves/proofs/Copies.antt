@@ -11,7 +11,7 @@ use Rattle.shadow_space.specs.Shadows.{AreZeros}
 use Rattle.block_moves.specs.Moves.{block_cleared, block_copied}
 use Rattle.block_moves.proofs.Blocks.{of_one, one_block}
 
--- a slice of so many bytes is as long, and a piece that is laid over it is what stands there
+-- a slice of that many bytes is as long, and a piece that is laid over it is what stands there
 module _ (size n : ℕ) (bytes : List ℕ) (fits : n * size + size ≤ length bytes) where
   pub slice_long : length (take size (drop (n * size) bytes)) ≡ size
   slice_long = length-take-le size (drop (n * size) bytes) (omega (arith, length-drop (n * size) bytes, fits))

@@ -92,7 +92,7 @@ impl<'a> Configuration<'a> {
         self.text_in(self.format, self.spare, turns)
     }
 
-    /// The text of the configuration with these turns, in format 2 with so many spare blocks.
+    /// The text of the configuration with these turns, in format 2 with that many spare blocks.
     pub fn text_with_spare(&self, turns: Turns<'a>, spare: u64) -> Result<String, NoMemory> {
         self.text_in(2, Some(spare), turns)
     }

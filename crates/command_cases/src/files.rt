@@ -213,7 +213,7 @@ impl<'a> Files<'a> {
     }
 }
 
-// Puts a piece in the place of the bytes from an offset on, where there are so many.
+// Puts a piece in the place of the bytes from an offset on, where there are that many.
 fn replace(bytes: &mut [u8], offset: usize, piece: &[u8]) -> Option<()> {
     let end = offset.checked_add(piece.len())?;
     if end > bytes.len() {

@@ -5,7 +5,7 @@ use std::alloc::Global;
 use std::str;
 
 /// How a configuration is given to the program: as it is written, in format 2 in place of format 1, or in
-/// format 2 with so many spare blocks.
+/// format 2 with that many spare blocks.
 #[derive(Clone, Copy)]
 pub enum Form {
     Written,

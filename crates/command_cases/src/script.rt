@@ -3,7 +3,7 @@
 use crate::faults::Fault;
 use crate::terms::number;
 
-/// A put that fails once it has taken so many bytes, and whether the stream takes nothing at all, with a
+/// A put that fails once it has taken that many bytes, and whether the stream takes nothing at all, with a
 /// count of faults that stands at its end. Put 0 is none.
 #[derive(Clone, Copy)]
 pub struct StreamScript {

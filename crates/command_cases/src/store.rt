@@ -84,7 +84,7 @@ fn note(asked: &mut String, name: &str, most: u64) -> Result<(), NoMemory> {
     Ok(())
 }
 
-// So many bytes of these at most.
+// At most that many of these bytes.
 fn front(alloc: Global, bytes: &[u8], most: u64) -> Result<Vec<u8>, NoMemory>
     ensures { IfOk result (λ v. length v.items ≤ most) }
 {

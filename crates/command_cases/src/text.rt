@@ -84,7 +84,7 @@ fn push_line(text: &mut String, name: &str, line: &str) -> Result<(), NoMemory> 
     Ok(())
 }
 
-/// Appends these bytes, those that are no visible letters as `\xHH`.
+/// Appends these bytes, those that are not visible letters as `\xHH`.
 pub fn push_shown(text: &mut String, bytes: &[u8]) -> Result<(), NoMemory> {
     for byte in bytes {
         push_byte(text, *byte)?;

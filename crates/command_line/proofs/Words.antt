@@ -425,7 +425,7 @@ pub words_refused : (name : List ℕ) (words : List (List ℕ)) → list_all is_
 words_refused name [] plain other = refl
 words_refused name (verb ∷ rest) plain other = refuses_verb name verb rest (verb_of verb) plain other
 
--- a parse that failed, but not for want of memory
+-- a parse that failed, but not for lack of memory
 pub words_failed : (name : List ℕ) (words : List (List ℕ)) (kind : ErrorKind) → list_all is_plain words ≡ true → kind ≢ OutOfMemory
     → (kind ≡ OutOfMemory) ⊎ IsAmong kind (fault_of nesthv_app (name ∷ words)) → asked_by words ≡ None
 words_failed name words kind plain other (inl e) = absurd (other e)

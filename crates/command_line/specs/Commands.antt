@@ -22,7 +22,7 @@ abbrev pub is_plain : List ℕ → Bool
 is_plain [] = false
 is_plain (first ∷ rest) = not (nat_eq first 45)
 
--- whether a word has 1 to so many bytes, each a decimal digit
+-- whether a word has 1 to that many bytes, each a decimal digit
 abbrev pub is_numeral : ℕ → List ℕ → Bool
 is_numeral digits word = nat_le 1 (length word) && nat_le (length word) digits && list_all is_ascii_digit word
 
@@ -30,7 +30,7 @@ is_numeral digits word = nat_le 1 (length word) && nat_le (length word) digits &
 abbrev pub if_within : ℕ → ℕ → ℕ → Option ℕ
 if_within least most n = if nat_le least n && nat_le n most then Some n else None
 
--- the number of a word of 1 to so many digits, of which the first may be zeros, where it is within these
+-- the number of a word of 1 to that many digits, of which the first may be zeros, where it is within these
 -- bounds (own)
 unfoldable pub bounded_number : ℕ → ℕ → ℕ → List ℕ → Option ℕ
 bounded_number digits least most word =

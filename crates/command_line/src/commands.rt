@@ -115,7 +115,7 @@ fn is_plain(word: &str) -> bool
     }
 }
 
-/// What the words after the program's name ask for, if they are a command; or want of memory.
+/// What the words after the program's name ask for, if they are a command; or out of memory.
 #[tactic(auto, unfolding(crate::specs::Commands::command_of))]
 pub fn request_of<'a>(alloc: Global, words: &'a [Word]) -> Result<Option<Request<'a>>, NoMemory>
     ensures request { IfOk result (λ request. option_map command_seen request ≡ command_of words.entry.now) }
@@ -214,7 +214,7 @@ fn work_request<'a>(seed: &str, size: &str) -> Option<Request<'a>>
     Some(Request::Work { seed, size })
 }
 
-// The number of a word of 1 to so many digits, where it is within these bounds.
+// The number of a word of 1 to that many digits, where it is within these bounds.
 #[tactic(auto, unfolding(crate::specs::Commands::bounded_number), using(crate::proofs::Numbers::numbers))]
 fn number_of(word: &str, digits: usize, least: u64, most: u64) -> Option<u64>
     ensures number { result ≡ bounded_number digits least most word.now }
@@ -229,7 +229,7 @@ fn number_of(word: &str, digits: usize, least: u64, most: u64) -> Option<u64>
     }
 }
 
-// Whether a word has 1 to so many bytes, each a decimal digit.
+// Whether a word has 1 to that many bytes, each a decimal digit.
 #[tactic(auto, using(crate::proofs::Numbers::numeral_is))]
 fn is_numeral(word: &str, digits: usize) -> bool
     ensures { result ≡ is_numeral digits word.now }

@@ -33,7 +33,7 @@ impl Model for Console {
 }
 
 impl Console {
-    /// An empty console with room for so many bytes, and these inputs, all unread. An input is a pair of a
+    /// An empty console with room for that many bytes, and these inputs, all unread. An input is a pair of a
     /// moment and a byte.
     ///
     /// # Errors
@@ -46,8 +46,8 @@ impl Console {
         Console::resume(alloc, room, &[], inputs)
     }
 
-    /// A console with room for so many bytes, which has these already, and these inputs, all unread: one that
-    /// goes on from there.
+    /// A console with room for that many bytes, which has these already, and these inputs, all unread: one
+    /// that goes on from there.
     ///
     /// # Errors
     ///

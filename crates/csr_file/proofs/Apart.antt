@@ -26,7 +26,7 @@ supervisor_others registers Cause s v h = grind arith
 supervisor_others registers Tval s v h = grind arith
 supervisor_others registers Atp s v h = grind arith
 
--- the supervisor registers are no part of what the other groups show
+-- the supervisor registers are not part of what the other groups show
 interrupts_by_supervisors : (csrs : Csrs) (hs vs : SupervisorCsrs) (s : InterruptCsr) → interrupts_shown (record csrs { hs = hs; vs = vs }) s ≡ interrupts_shown csrs s
 unfolding interrupts_shown
 interrupts_by_supervisors csrs hs vs s = grind arith

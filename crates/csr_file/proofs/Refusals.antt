@@ -28,7 +28,7 @@ unfolding reached_by reached
 alike_in_vu csrs None = refl
 alike_in_vu csrs (Some q) = none_in_vu csrs q
 
--- what is read or changed is no part of it
+-- what is read or changed is not part of it
 by_value : (csrs : Csrs) (x : Result Register CsrEnd) → is_illegal (value_of csrs x) ≡ is_illegal x
 by_value csrs (Ok r) = refl
 by_value csrs (Err Illegal) = refl

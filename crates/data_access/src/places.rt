@@ -20,7 +20,7 @@ pub fn is_aligned(address: u64, width: Width) -> bool
     address % width.bytes() as u64 == 0
 }
 
-// The trap of an access at an address that is no multiple of its width.
+// The trap of an access at an address that is not a multiple of its width.
 fn misaligned(mode: Mode, va: u64, access: Access) -> Trap
     ensures { result ≡ exception mode (faults_of access).misaligned va }
 {
@@ -36,7 +36,7 @@ fn shows_whole<M: Mem>(mem: &M)
 }
 
 /// Where in memory an access to a virtual address is made as a mode, by both stages as the registers and
-/// memory are, or its trap, with all that its entry writes. An address that is no multiple of the width
+/// memory are, or its trap, with all that its entry writes. An address that is not a multiple of the width
 /// traps before it is translated (own).
 #[tactic(auto, using(crate::proofs::Fitting::fits_at))]
 pub fn place_for<M: Mem>(

@@ -6,7 +6,7 @@ ghost use Rattle.device_page.specs.Ends.{IsPageAccess, device_accessed};
 
 use console_dev::Console;
 
-/// A store of a value, or else a load, of so many bytes at an offset of the page, by the clock of the
+/// A store of a value, or else a load, of that many bytes at an offset of the page, by the clock of the
 /// console's machine: what it gives, which is 0 for a store. There is none, and nothing changes, exactly for
 /// one that the page does not serve.
 pub fn access(

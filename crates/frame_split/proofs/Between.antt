@@ -103,7 +103,7 @@ between_lies a b p frames order roots tables most lies frame named = by (frame_b
     by (inr (inl x)) = omega (arith, x.1, order.roots, tables, most)
     by (inr (inr x)) = omega (arith, x.1, most)
 
--- the part of the next guest: its blocks are so many numbers from the first free one on
+-- the part of the next guest: its blocks are that many numbers from the first free one on
 pub lies_after : (need : Need) (free : Free) (part : Layout) → Meets need part → ((i : ℕ) → i < length part.blocks → slice_index part.blocks i ≡ free.block + i)
     → part.first_root ≡ free.root → part.first_table ≡ free.table → LiesBetween free (after_need need free) part
 lies_after need free part meets from root table = record {
@@ -142,7 +142,7 @@ once_after need free part limits meets from root table blocks_room roots_room al
     by frame inside (inl here) = absurd (in_one frame inside.1 (or_cases (root_frames part frame) (table_frames part frame) here))
     by frame inside (inr free_of) = free_of
 
--- the part that is made of so many slots
+-- the part that is made of that many slots
 pub meets_here : (need : Need) (free : Free) (slots : List ℕ) → need.blocks ≤ length slots
     → Meets need (record { blocks = take need.blocks slots; first_root = free.root; first_table = free.table; spaces = need.spaces; entries = need.entries })
 meets_here need free slots room = record { blocks = length-take-le need.blocks slots room; spaces = refl; entries = refl }

@@ -13,7 +13,7 @@ abbrev pub frames_of_all : List Need → ℕ
 frames_of_all [] = 0
 frames_of_all (need ∷ needs) = frames_needed need + frames_of_all needs
 
--- and with so many spare blocks beside
+-- and with that many spare blocks beside
 abbrev pub frames_with : List Need → ℕ → ℕ
 frames_with needs spare = frames_of_all needs + 512 * spare
 
@@ -31,7 +31,7 @@ ArePairwiseApart parts =
     (i j : ℕ) (d : Layout) → i < length parts → j < length parts → i ≢ j
     → Apart (named_by (get_or parts i d)) (named_by (get_or parts j d))
 
--- each part names no frame twice, and lies in memory of so many frames
+-- each part names no frame twice, and lies in memory of that many frames
 abbrev pub AreSound : List Layout → ℕ → Type 0
 AreSound parts frames =
     (i : ℕ) (d : Layout) → i < length parts
@@ -46,7 +46,7 @@ abbrev pub RootsComeNext : List Layout → Type 0
 RootsComeNext parts = (i j f g : ℕ) (d : Layout) → i < length parts → j < length parts
     → root_frames (get_or parts i d) f ≡ true → table_frames (get_or parts j d) g ≡ true → f < g
 
--- parts for these needs in memory of so many frames
+-- parts for these needs in memory of that many frames
 pub record IsSplit (needs : List Need) (parts : List Layout) (frames : ℕ) : Type 0 where
   pub count : length parts ≡ length needs
   pub meet : MeetEach needs parts
@@ -103,8 +103,8 @@ abbrev pub RootsLieFrom : ℕ → List Layout → Type 0
 RootsLieFrom frame parts =
     (i : ℕ) (d : Layout) → i < length parts → frame ≤ (get_or parts i d).first_root
 
--- so many spare blocks from a first one on lie between the blocks of all parts and their roots: in no part,
--- and in memory of so many frames
+-- that many spare blocks from a first one on lie between the blocks of all parts and their roots: in no part,
+-- and in memory of that many frames
 pub record LeavesSpare (first spare : ℕ) (parts : List Layout) (frames : ℕ) : Type 0 where
   pub behind : BlocksLieBelow first parts
   pub before : RootsLieFrom (512 * (first + spare)) parts
@@ -127,8 +127,8 @@ pub record SoFar (needs : List Need) (done : ℕ) (parts : List Layout) (start f
   pub aligned : free.root % 4 ≡ 0
   pub from : (start.block ≤ free.block) × (start.root ≤ free.root) × (start.table ≤ free.table)
 
--- why there is no plan, by the frames that all would need: they are too many, or they aren't and memory is
--- wanting
+-- why there is no plan, by the frames that all would need: they are too many, or they aren't and memory runs
+-- out
 abbrev pub Causes : PlanFault → ℕ → Type 0
 Causes NoMemory all = all ≤ most_frames
 Causes (TooMuch sum) all = (sum ≡ all) × (most_frames < sum)

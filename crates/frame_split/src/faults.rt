@@ -8,7 +8,7 @@ use thiserror::Error;
 pub enum PlanFault {
     #[error("out of memory")]
     NoMemory,
-    /// The guests and the spare blocks need so many frames, more than there are.
+    /// The guests and the spare blocks need that many frames, more than there are.
     #[error("{0} frames are too many")]
     TooMuch(u64),
 }

@@ -36,7 +36,7 @@ struct Totals {
 }
 
 /// Shares out machine memory: each guest gets a part of the size that it needs, all blocks come first, then
-/// so many spare blocks that are in no part, then all roots, then all other tables. It answers `TooMuch`,
+/// that many spare blocks that are in no part, then all roots, then all other tables. It answers `TooMuch`,
 /// with the sum, exactly where the needs and the spare blocks sum to more than 131,072 frames, and else may
 /// answer `NoMemory`.
 pub fn plan(alloc: Global, needs: &[Need], spare: u64) -> Result<Split, PlanFault>
@@ -171,7 +171,7 @@ fn part_at(need: &Need, free: Free) -> Part
     part
 }
 
-// So many numbers from a first one on.
+// That many numbers from a first one on.
 fn numbers(first: u64, count: u64) -> [u32; MOST_BLOCKS]
     requires most { count ≤ 32 }
     requires small { first + count ≤ 2 ^ 32 }

@@ -27,9 +27,9 @@ pub enum StopKind {
 /// What stands behind `monitor`.
 #[derive(Clone, Copy)]
 pub enum Request {
-    /// Makes so many steps.
+    /// Makes that many steps.
     Step(u64),
-    /// Shows the machine after so many steps of its run.
+    /// Shows the machine after that many steps of its run.
     GoTo(u64),
     /// Tells where the tables have an address for a load.
     Walk(u64),
@@ -82,7 +82,7 @@ fn begins(bytes: &[u8], text: &[u8]) -> bool
     bytes.starts_with(text)
 }
 
-// All bytes but so many.
+// All bytes but that many.
 fn behind(bytes: &[u8], n: usize) -> &[u8]
     requires { n ≤ length bytes.now }
     ensures { result.now ≡ drop n bytes.now }
@@ -90,7 +90,7 @@ fn behind(bytes: &[u8], n: usize) -> &[u8]
     &bytes[n..]
 }
 
-// So many bytes.
+// The given number of bytes.
 fn front(bytes: &[u8], n: usize) -> &[u8]
     requires { n ≤ length bytes.now }
     ensures { result.now ≡ take n bytes.now }
@@ -114,7 +114,7 @@ fn comma_place(bytes: &[u8]) -> usize
     place
 }
 
-// The two numbers, of which the first is of so many bytes.
+// The two numbers, of which the first is of that many bytes.
 fn numbers_at(n: usize, bytes: &[u8]) -> Option<Place>
     requires { n ≤ length bytes.now }
     ensures { result ≡ numbers_at n bytes.now }

@@ -31,7 +31,7 @@ hex_back [] bytes = unhex_end
 hex_back (b ∷ rest) bytes = unhex_step (digit (b / 16)) (digit (b % 16)) (hex rest)
     ∙ rw (pair_back b (first_is IsByte b rest bytes), hex_back rest (rest_are IsByte b rest bytes)) refl
 
--- what a special byte is sent as is no closing, and turned again it is the byte
+-- what a special byte is sent as is not a closing, and turned again it is the byte
 abbrev IsOpen : ℕ → Type 0
 IsOpen b = b ≢ closing
 

@@ -65,7 +65,7 @@ abbrev pub is_sum : Option ℕ → ℕ → Bool
 is_sum (Some given) sum = given == sum
 is_sum None sum = Bool.false
 
--- the packet whose data are so many of these bytes, behind which its closing and its two digits stand
+-- the packet whose data are that many of these bytes, behind which its closing and its two digits stand
 abbrev pub packet_at : ℕ → List ℕ → Message
 packet_at n rest =
     if is_sum (pair_value (slice_index rest (n + 1)) (slice_index rest (n + 2))) (checksum (take n rest))

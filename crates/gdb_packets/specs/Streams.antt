@@ -11,7 +11,7 @@ abbrev pub behind : Option Received → List ℕ → List ℕ
 behind (Some received) bytes = drop received.length bytes
 behind None bytes = bytes
 
--- bytes begin with this message, or with none yet: no closing is among so many of those behind the first
+-- bytes begin with this message, or with none yet: no closing is among that many of those behind the first
 abbrev pub IsBeginning : List ℕ → Option Received → Beginning → Type 0
 IsBeginning rest message (Whole received) = message ≡ Some received
 IsBeginning rest message (Cut searched) = (message ≡ None) × (searched ≤ body_length rest)
@@ -21,7 +21,7 @@ abbrev pub with_later : Option Received → (ℕ → List Message) → List Mess
 with_later None later = []
 with_later (Some received) later = received.message ∷ later received.length
 
--- at most so many of the first messages
+-- at most that many of the first messages
 unfoldable pub first_messages : ℕ → List ℕ → List Message
 first_messages zero bytes = []
 first_messages (suc n) bytes = with_later (message_in bytes) (λ k. first_messages n (drop k bytes))

@@ -59,7 +59,7 @@ pub(crate) fn pair_value(high: u8, low: u8) -> Option<u8>
     }
 }
 
-/// The bytes that digits give; nothing where one of them is no digit, or their count is odd. It may answer
+/// The bytes that digits give; nothing where one of them is not a digit, or their count is odd. It may answer
 /// out of memory.
 #[tactic(auto, using(crate::proofs::Fronts::digits_read))]
 pub fn unhex(alloc: Global, digits: &[u8]) -> Result<Option<Vec<u8>>, NoMemory>

@@ -84,7 +84,7 @@ pub(crate) enum Beginning {
     Cut(usize),
 }
 
-// How many bytes stand before the closing of a packet, none of which is among so many of the first.
+// How many bytes stand before the closing of a packet, none of which is among that many of the first.
 #[tactic(auto, using(crate::proofs::Searches::searches))]
 fn body_length(rest: &[u8], searched: usize) -> usize
     requires { searched ≤ body_length rest.now }
@@ -111,7 +111,7 @@ fn is_sum(high: u8, low: u8, sum: u8) -> bool
     }
 }
 
-// The packet whose data are so many of these bytes.
+// The packet whose data are that many of these bytes.
 fn packet_at(alloc: Global, n: usize, rest: &[u8]) -> Result<Message, NoMemory>
     requires { n + 2 < length rest.now }
     ensures { IfOk result (λ message. message ≡ packet_at n rest.now) }
@@ -126,7 +126,7 @@ fn packet_at(alloc: Global, n: usize, rest: &[u8]) -> Result<Message, NoMemory>
     }
 }
 
-// What the bytes of a packet behind its opening begin with, where so many of them were searched.
+// What the bytes of a packet behind its opening begin with, where that many of them were searched.
 #[tactic(auto, unfolding(crate::specs::Frames::packet_in))]
 fn packet_in(alloc: Global, rest: &[u8], searched: usize) -> Result<Beginning, NoMemory>
     requires few { length rest.now < 2 ^ 62 }
@@ -152,7 +152,8 @@ fn behind_first(bytes: &[u8]) -> &[u8]
     &bytes[1..]
 }
 
-/// What bytes begin with, where so many of them behind the first were searched. It may answer out of memory.
+/// What bytes begin with, where that many of them behind the first were searched. It may answer out of
+/// memory.
 #[tactic(auto, using(crate::proofs::Beginnings::messages))]
 pub(crate) fn begin_with(
     alloc: Global,

@@ -132,7 +132,7 @@ no_came [] silent = refl
 no_came (Came piece ∷ rest) silent = absurd silent
 no_came (Sent piece ∷ rest) silent = no_came rest silent
 
--- transfers that are prompt from a part of a talk on are so from its begin on
+-- transfers that are prompt from a part of a talk on are so from its start on
 prompt_moved : (r : Recording) (t t' : TalkState) (front before come' more said : List ℕ) (b : List Transfer)
     → ((later : List ℕ) → all_said r t (front ++ later) ≡ before ++ all_said r t' (come' ++ later))
     → IsPrompt r t' (come' ++ more) said b → IsPrompt r t (front ++ more) (before ++ said) b
@@ -289,7 +289,7 @@ module _ {C : Type 0} (K : connections.Ghosts C) (r : Recording) (t : TalkState)
       by None is none rest = came_by old new come come' result is (subst (λ (bytes : List ℕ). HasCome K bytes come' result old new) rest has)
       by (Some received) is none rest = absurd cc
 
-  -- memory was wanting before anything was transferred
+  -- memory ran out before anything was transferred
   pub stopped : (c : C) (come : List ℕ) → HasTalked K r t come (Some NoMemory) c c
   stopped c come = record {
     transfers = [];

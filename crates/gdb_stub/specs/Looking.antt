@@ -10,12 +10,12 @@ abbrev pub offset_before : Option ℕ → List ℕ → List ℕ
 offset_before (Some offset) rest = offset ∷ rest
 offset_before None rest = []
 
--- the offsets into RAM of so many bytes from an address on, up to the first that has no place
+-- the offsets into RAM of that many bytes from an address on, up to the first that has no place
 unfoldable pub offsets_in : Machine → ℕ → ℕ → List ℕ
 offsets_in m address zero = []
 offsets_in m address (suc n) = offset_before (offset_of m address) (offsets_in m ((address + 1) % 2 ^ 64) n)
 
--- at most so many bytes are shown or watched at once
+-- at most that many bytes are shown or watched at once
 abbrev pub most_shown : ℕ → ℕ
 most_shown n = if nat_le n 1024 then n else 1024
 

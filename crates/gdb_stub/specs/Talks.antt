@@ -74,7 +74,7 @@ said_to_all r t (message ∷ rest) = said_to r t message
 abbrev pub all_said : Recording → TalkState → List ℕ → List ℕ
 all_said r t bytes = said_to_all r t (messages_in bytes)
 
--- a session at the begin of a run, without a stop
+-- a session at the start of a run, without a stop
 abbrev pub at_begin : TalkState
 at_begin = record { session = record { place = 0; pcs = []; watched = [] }; sent = [] }
 

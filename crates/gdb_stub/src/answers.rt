@@ -40,7 +40,7 @@ fn behind(bytes: &[u8], n: u64) -> &[u8]
     }
 }
 
-// At most so many first bytes.
+// At most that many first bytes.
 fn front(bytes: &[u8], n: u64) -> &[u8]
     ensures { result.now ≡ take n bytes.now }
 {

@@ -13,7 +13,7 @@ use std::alloc::Global;
 /// At most how many bytes are shown or watched at once.
 pub(crate) const MOST: u64 = 1_024;
 
-/// The offsets into RAM of so many bytes from an address on, up to the first that has no place.
+/// The offsets into RAM of that many bytes from an address on, up to the first that has no place.
 #[tactic(auto, using(crate::proofs::Reading::readings))]
 pub(crate) fn offsets_in<R: Runner + Drop>(
     alloc: Global,

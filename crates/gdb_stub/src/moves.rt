@@ -119,7 +119,7 @@ impl<R: Runner + Drop> Session<R> {
         Ok(())
     }
 
-    // Goes back to a stop, or to the begin.
+    // Goes back to a stop, or to the start.
     fn go_back(&mut self, alloc: Global, seen: &[(Watched, u8)]) -> Result<(), NoMemory>
         requires held { IsHeld R.Runner self.old }
         requires seen { seen.now ≡ seen_in (shown (recording_of R.Runner self.old) (state_of self.old))
@@ -176,7 +176,7 @@ impl<R: Runner + Drop> Session<R> {
         !goes_on(self.positions.runner().status()) || self.positions.place() == self.last
     }
 
-    // And whether it is the begin of one.
+    // And whether it is the start of one.
     fn is_at_begin(&self) -> bool
         requires held { IsHeld R.Runner self.now }
         ensures { result ≡ is_at_begin (recording_of R.Runner self.now) self.now.pcs.items

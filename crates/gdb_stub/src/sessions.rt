@@ -37,7 +37,7 @@ pub struct Session<R> {
 }
 
 impl<R: Runner + Drop> Session<R> {
-    /// The run of a machine up to a last position, at its begin, without a stop.
+    /// The run of a machine from its start up to a last position, with no stops set.
     pub fn new(
         alloc: Global,
         runner: R,

@@ -48,7 +48,7 @@ pub begins_with : (sources : List Source) (g : ℕ) (source : Source) → g < le
 begins_with sources g source inside is =
     ap (λ (s : Source). machine_of_source s) is ∙ sym (get_or-map machine_of_source sources g source no_machine inside)
 
--- a talk of a recording at its begin
+-- a talk of a recording at its start
 pub talks_from : {C : Type 0} (K : connections.Ghosts C) (old new : C) (end : Option TalkEnd) (rec r : Recording) (t : TalkState) (come : List ℕ)
     → rec ≡ r → t ≡ at_begin → come ≡ [] → HasTalked K rec t come end old new → HasTalked K r at_begin [] end old new
 talks_from K old new end rec r t come same begins none talked =
@@ -56,7 +56,7 @@ talks_from K old new end rec r t come same begins none talked =
     (subst (λ (t : TalkState). HasTalked K r t come end old new) begins
     (subst (λ (rec : Recording). HasTalked K rec t come end old new) same talked))
 
--- where memory was wanting in a talk, all files had been read
+-- where memory ran out in a talk, all files had been read
 module _ {C : Type 0} (K : connections.Ghosts C) (told : Option Files) (command : FileCommand) (description : List ℕ) (old new : C) where
   pub cut_talk : (n : ℕ) (before after : Option (List Ask)) → 1 ≤ n
       → ((files : Files) → told ≡ Some files → ArePassed (file_steps files command) 0 before n after)

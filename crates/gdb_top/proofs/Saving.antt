@@ -57,7 +57,7 @@ not_saved None saves (config, report, is) = cc
 pub never_replayed : (words : List (List ℕ)) → IsReplay (debug_command words) → ⊥
 never_replayed words is = not_saved (debug_command words) (by_all words) is
 
--- words that are not plain are no command
+-- words that are not plain are not a command
 pub asks_none : (words : List (List ℕ)) → are_plain words ≡ false → debug_command words ≡ None
 unfolding command_of
 asks_none [] other = refl

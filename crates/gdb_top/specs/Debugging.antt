@@ -36,7 +36,7 @@ recording_for plan guest description = record {
   description = description;
 }
 
--- how the talk went about the guest that a command names, from the begin of its run up to this end
+-- how the talk went about the guest that a command names, from the start of its run up to this end
 abbrev pub TalksAbout : {C : Type 0} → connections.Ghosts C → Plan → Command → List ℕ → Option TalkEnd
     → C → C → Type 0
 TalksAbout K plan (OnFiles (Save config guest)) description end old new =

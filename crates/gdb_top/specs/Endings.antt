@@ -41,7 +41,7 @@ pub record SaysOfCauses {X C : Type 0} (S : stores.Ghosts X) (K : connections.Gh
   pub read_count : K.read_faults connection ≤ K.read_faults connection'
   pub write_count : K.write_faults connection ≤ K.write_faults connection'
 
--- the talk where it was out of memory after so many reads: none had begun, or all files had been read
+-- the talk where it was out of memory after that many reads: none had begun, or all files had been read
 abbrev pub IsCutTalk : {C : Type 0} → connections.Ghosts C → Option Files → Option Command → List ℕ → ℕ
     → C → C → Type 0
 IsCutTalk K told command description zero old new = new ≡ old

@@ -138,7 +138,7 @@ pub part_kept : (old new : Guest) (memory changed : List ℕ) (result : Handled)
 part_kept old new memory changed result at within is =
     record { only = within.only; placed = placed_by old new memory changed result at within is; keeps = within.keeps }
 
--- a wait is no plain step
+-- a wait is not a plain step
 until_is_quiet : (m : Machine) (virt : Virtual) (moment : Option ℕ) → IsNotPlain (waited_until m virt moment)
 until_is_quiet m virt (Some moment) = record { trace = refl; plain = refl }
 until_is_quiet m virt None = record { trace = refl; plain = refl }

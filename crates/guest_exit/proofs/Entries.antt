@@ -99,7 +99,7 @@ abbrev after_step : Machine → Bool → Virtual → List ℕ → Machine
 after_step m trapped hart ram =
     record m { platform = ticked (record m.platform { virt = guest_state_after trapped hart m.platform.virt }); ram = ram }
 
--- and after so many, which leave it this state
+-- and after that many, which leave it this state
 abbrev pub placed : Machine → Virtual → List ℕ → ℕ → Machine
 placed m virt ram n = record m { platform = moved m.platform virt n; ram = ram }
 
@@ -158,7 +158,7 @@ made part root m memory virtual (Goes state changed e) t q is by some =
     }
 made part root m memory virtual (Exits trap) t q is by some = absurd (none-some q some)
 
--- so many steps of the hart are a run of the machine
+-- that many steps of the hart are a run of the machine
 pub record Ran (part : Layout) (pool : Pooled) (m : Machine) (memory : List ℕ) (t n : ℕ) (q : Progress) : Type 0 where
   pub own : Virtual
   pub stands : IsOf part m.platform.virt own q.state
@@ -341,7 +341,7 @@ trace_further m placed n t u w e h none before one =
     rw (← events_compose m n 1, e, one_event placed h none, sum_by-append pc_and_word (events m n) (event_in (try placed)))
     (raised_then _ _ t u w before one)
 
--- one step more that is made, and before which nothing is lacking
+-- one step more that is made, and before which nothing is missing
 abbrev Goes' : Machine → Type 0
 Goes' m = (m.platform.status ≡ Running) × (missing_entry m ≡ None)
 
@@ -473,7 +473,7 @@ pub steps_from : (watch : Bool) (part : Layout) (pool : Pooled) (v : Virtual) (m
 unfolding root_for
 steps_from watch part pool v memory t taken q e = e
 
--- so many steps of an entry
+-- that many steps of an entry
 pub ran : (part : Layout) (pool : Pooled) (m : Machine) (memory : List ℕ) (limit t : ℕ) → m.platform.status ≡ Running → Lasts m.platform limit → IsAt part pool m memory → (n : ℕ) → n ≤ limit
     → (q : Progress) → hart_steps (is_watched m.platform.virt) n (progress (loaded_in part (root_for part pool m.platform.virt) m.platform.virt) memory t false) ≡ Some q → Ran part pool m memory t n q
 unfolding hart_steps

@@ -61,6 +61,6 @@ waits_exactly m after result running step status =
       λ e. let waiting : (left_by m (try m)).platform.status ≡ Waiting = ap (λ tried. (left_by m tried).platform.status) e in answer_of result (sym is ∙ waiting),
     )
 
--- a trap is no wait
+-- a trap is not a wait
 pub never_waits : (m other : Machine) (trap : Trap) (result : Handled) → result ≢ handled.Waits → try m ≡ trapped other trap → (result ≡ handled.Waits) ↔ (try m ≡ WaitsForGood)
 never_waits m other trap result goes is = (λ e. absurd (goes e), λ e. let never : WaitsForGood ≡ trapped other trap = sym e ∙ is in absurd (cc))

@@ -96,7 +96,7 @@ hlv_alike through s first (op.GuestFetch width rd rs1) is = access_alike s first
 hlv_alike through s first (op.GuestStore width rs1 rs2) is = access_alike s first (encoded (op.GuestStore width rs1 rs2)) _
 hlv_alike through s first other never = absurd never
 
--- it is no plain step
+-- it is not a plain step
 quiet_by : (m : Machine) (wanted : DataAccess) (end : HlvEnd) → IsNotPlain (hlv_committed m wanted end)
 quiet_by m wanted (Completes completion) = record { trace = refl; plain = refl }
 quiet_by m wanted (Device missing) = served_is_quiet m missing _

@@ -112,7 +112,7 @@ none_on_device m missing on = by (entry_for m missing) refl
     by None none = none
     by (Some e) some = let off = (filled_by m missing e some).off in let never : true ≡ false = sym on ∙ off in absurd (cc)
 
--- such an access is no plain step
+-- such an access is not a plain step
 pub served_is_quiet : (m : Machine) (missing : MissingPlace) (completion : Option DeviceCompletion) → IsNotPlain (served m missing completion)
 served_is_quiet m missing None = record { trace = refl; plain = refl }
 served_is_quiet m missing (Some completion) = record { trace = refl; plain = refl }

@@ -37,7 +37,7 @@ use Rattle.guest_exit.specs.View.{IsPlaced, KeepsLayout, KeepsSpaces, changed_by
 use Rattle.guest_exit.proofs.DevicePages.{fill_keeps_device, run_keeps_device, try_keeps_device}
 use Rattle.guest_exit.proofs.Pools.{held_after, size_of, tidy_by_blocks}
 
--- what is reserved in RAM of so many bytes
+-- what is reserved in RAM of that many bytes
 abbrev ReservesBelow : ℕ → Option (ℕ × ℕ) → Type 0
 ReservesBelow size reserved = ReservesWithin (places_from ram_base size) reserved
 

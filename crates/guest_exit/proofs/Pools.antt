@@ -21,7 +21,7 @@ blocks_held part memory held = blocks_lie_in part.blocks (length memory) (first_
 pub size_of : (part : Layout) (memory : List ℕ) → IsHeld part memory → length (ram_of part.blocks memory) ≡ length part.blocks * block_size
 size_of part memory held = ram_length part.blocks memory (blocks_held part memory held)
 
--- the frames of a pool of the part are no frames of its RAM, nor of its host table
+-- the frames of a pool of the part are not frames of its RAM, nor of its host table
 pub pool_apart : (part : Layout) (pool : Pooled) (memory : List ℕ) → NamesEachOnce part → pool.part ≡ part → TidyPool pool memory
     → Apart (in_blocks part.blocks) (pool_frames pool) × Apart (host_frames part) (pool_frames pool)
 pool_apart part pool memory once own tidy =

@@ -24,12 +24,12 @@ use Rattle.guest_exit.specs.declared.guests.Guest.{Guest}
 use Rattle.guest_exit.specs.HartSteps.{host_takes, root_for}
 use Rattle.guest_exit.specs.View.{IsPlaced, KeepsSpaces, loaded_for, platform_of}
 
--- whether something has come is the same at each step of so many as it is now
+-- at each of that many steps, whether something has come is the same as it is now
 abbrev pub KeepsCome : (ℕ → Bool) → ℕ → ℕ → Type 0
 KeepsCome has_come clock limit = (n : ℕ) → n < limit → has_come (clock + n) ≡ has_come clock
 
--- nothing that the hart does not have for the guest changes before the last of so many steps begins: the step
--- is the hart's now, no interrupt of VS waits for HS to take it, and no moment comes
+-- nothing that the hart does not have for the guest changes before the last of that many steps begins: the
+-- step is the hart's now, no interrupt of VS waits for HS to take it, and no moment comes
 pub record Lasts (p : Platform) (limit : ℕ) : Type 0 where
   pub current : with_pending_lines p ≡ p
   pub own : host_takes p.virt ≡ false
@@ -37,7 +37,7 @@ pub record Lasts (p : Platform) (limit : ℕ) : Type 0 where
   pub timer : KeepsCome (nat_le p.clock.timer) p.clock.time limit
   pub inputs : KeepsCome (has_input p.console.inputs) p.clock.time limit
 
--- a guest may enter the hart for so many steps: nothing that the hart does not have for it changes in them,
+-- a guest may enter the hart for that many steps: nothing that the hart does not have for it changes in them,
 -- and its clock and its count of steps have room for them
 pub record CanEnter (guest : Guest) (memory : List ℕ) (limit : ℕ) : Type 0 where
   pub running : guest.status ≡ Running
@@ -46,12 +46,12 @@ pub record CanEnter (guest : Guest) (memory : List ℕ) (limit : ℕ) : Type 0 w
   pub clock : guest.clock.time ≤ 2 ^ 62 + guest.steps
   pub steps : guest.steps + limit ≤ 2 ^ 61
 
--- the hart's account has room for one entry and so many steps
+-- the hart's account has room for one entry and that many steps
 pub record HasRoomForEntry (limit : ℕ) (account : Counts) : Type 0 where
   pub entries : account.entries < 2 ^ 62
   pub taken : account.taken + limit ≤ 2 ^ 62
 
--- a platform after so many steps of the hart, which leave it this state
+-- a platform after that many steps of the hart, which leave it this state
 abbrev pub moved : Platform → Virtual → ℕ → Platform
 moved p virt n =
     let clock = record p.clock { time = p.clock.time + n } in
@@ -78,7 +78,7 @@ pub record Hands (part : Layout) (pool : Pooled) (m : Machine) (memory : List �
 abbrev pub is_watched : Virtual → Bool
 is_watched virt = not (is_virtual virt.mode)
 
--- the last of so many steps of a machine with V = 0 is a trap into HS
+-- the last of that many steps of a machine with V = 0 is a trap into HS
 pub record EndsInTrap (m : Machine) (n : ℕ) : Type 0 where
   pub own : is_virtual m.platform.virt.mode ≡ false
   pub some : 0 < n
@@ -98,7 +98,7 @@ pub record Stops (part : Layout) (pool : Pooled) (before after : Machine) (memor
   pub within : stop.taken ≤ limit
   pub why : IsStopped part pool before after memory limit stop.taken stop.why
 
--- the hart has made so many steps for a guest, from what it has for it, with V = 0 none but the last a trap
+-- the hart has made that many steps for a guest, from what it has for it, with V = 0 none but the last a trap
 -- into VS. What it has then is the guest's: what is saved of it and, after such a trap, what that leaves to
 -- the host
 pub record HartMakes (n : ℕ) (before after : Guest) (memory : List ℕ) (trace : ℕ) (made : Progress)
@@ -108,14 +108,14 @@ pub record HartMakes (n : ℕ) (before after : Guest) (memory : List ℕ) (trace
   pub saves : platform_of after
       ≡ moved (platform_of before) (taken_back before.part made.state.virt made.trapped before.virt) n
 
--- the hart's account of one entry: so many steps, of so much pc and word
+-- the hart's account of one entry: that many steps, with this sum of pc and word
 pub record IsAccounted (steps sum : ℕ) (before after : Counts) : Type 0 where
   pub entries : after.entries ≡ before.entries + 1
   pub taken : after.taken ≡ before.taken + steps
   pub trace : IsRaisedBy sum before.trace after.trace
 
--- a guest goes on after so many steps of the hart, and the registers that the clock sets are as the clock has
--- them
+-- a guest goes on after that many steps of the hart, and the registers that the clock sets are as the clock
+-- has them
 pub record GoesOn (taken : ℕ) (before after : Guest) : Type 0 where
   pub status : after.status ≡ Running
   pub steps : after.steps ≡ before.steps + taken

@@ -35,7 +35,7 @@ IsMiss m = (e : Entry) × (missing_entry m ≡ Some e)
 abbrev pub Fills : Machine → Machine → Type 0
 Fills before after = (e : Entry) × (missing_entry before ≡ Some e) × (after ≡ fill before e)
 
--- a try that is no plain step
+-- a try that is not a plain step
 pub record IsNotPlain (tried : Tried) : Type 0 where
   pub trace : trace_of (event_in tried) ≡ 0
   pub plain : plain_count (event_in tried) ≡ 0

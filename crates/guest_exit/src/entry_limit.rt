@@ -11,7 +11,7 @@ ghost use Rattle.guest_exit.specs.View.{platform_of};
 use crate::guests::Guest;
 use arch_defs::Csrs;
 
-/// The largest limit, of at most so many steps, at which nothing that the hart does not have for the guest
+/// The largest limit, of at most that many steps, at which nothing that the hart does not have for the guest
 /// changes before the last step begins: 1 where an interrupt of VS waits that the host has to take, and else
 /// up to the timer or the first unread input, where that is ahead of the clock.
 pub fn limit(guest: &Guest, most: u64) -> u64
@@ -31,7 +31,7 @@ pub fn limit(guest: &Guest, most: u64) -> u64
     steps_before(guest.console.next(), time, before_timer)
 }
 
-// How many of at most so many steps begin before this moment, where there is one and it is ahead.
+// How many of at most that many steps begin before this moment, where there is one and it is ahead.
 fn steps_before(moment: Option<u64>, time: u64, most: u64) -> u64
     ensures stays { KeepsCome (has_come moment) time result }
     ensures some { 1 ≤ most → 1 ≤ result }

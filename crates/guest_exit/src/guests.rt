@@ -45,7 +45,7 @@ impl Guest {
         self.virt.csrs.time = time;
     }
 
-    /// A step has been made, which was no wait.
+    /// A step has been made, which was not a wait.
     pub(crate) fn tick(&mut self)
         requires clock { self.old.clock.time < 2 ^ 63 }
         requires steps { self.old.steps < 2 ^ 61 }
@@ -72,7 +72,7 @@ impl Guest {
         self.set_pending_lines();
     }
 
-    /// The hart has made so many steps for the guest, the last of which was a trap into VS or was not.
+    /// The hart has made that many steps for the guest, the last of which was a trap into VS or was not.
     pub(crate) fn take_steps(&mut self, hart: &HartState, trapped: bool, taken: u64)
         requires event { ForSome (next_event self.old.clock)
             (λ moment. self.old.clock.time + taken ≤ moment) }

@@ -36,7 +36,7 @@ use two_stage_walk::supervisor_of;
 pub enum Handled {
     /// It was made.
     Stepped,
-    /// It was not made: a cached translation was lacking, which is filled now.
+    /// It was not made: a cached translation was missing, and has been filled.
     Retry,
     /// It is a WFI that waits for good, and was not made.
     Waits,

@@ -43,7 +43,7 @@ fn load_block(mem: &mut PhysMem, part: &Part, i: u64, image: &[u8])
     fill(mem, place, piece, BLOCK_SIZE);
 }
 
-// At most so many bytes of an image from a place on.
+// At most that many bytes of an image from a place on.
 #[tactic(auto, using(crate::proofs::Pieces::cut))]
 fn piece_of(image: &[u8], from: usize, most: usize) -> &[u8]
     ensures piece { result.now ≡ take most (drop from image.now) }
@@ -53,7 +53,7 @@ fn piece_of(image: &[u8], from: usize, most: usize) -> &[u8]
     &rest[..most.min(rest.len())]
 }
 
-// Lays a piece over memory, and zeros behind it up to so many bytes.
+// Lays a piece over memory, and zeros behind it up to that many bytes.
 #[tactic(auto, using(crate::proofs::Pieces::pasted_over))]
 fn fill(mem: &mut PhysMem, place: u64, piece: &[u8], size: u64)
     requires short { length piece.now ≤ size }

@@ -27,7 +27,7 @@ abbrev pub RoundTrip : Type 0
 RoundTrip = (version : Version) (m : Machine) → IsSavable m → CanTell version m
     → saved_in (form_of version m) ≡ record { version = version; machine = m }
 
--- bytes are no form of a machine that can be saved
+-- bytes are not a form of a machine that can be saved
 abbrev pub IsNoForm : List ℕ → Type 0
 IsNoForm bytes = (version : Version) (m : Machine) → IsSavable m → CanTell version m
     → form_of version m ≡ bytes → ⊥
@@ -91,7 +91,7 @@ abbrev pub ResumedGoesOn : Type 0
 ResumedGoesOn = (m : Machine) (a b : ℕ) → IsSavable (run m a)
     → run (machine_in (form (run m a))) b ≡ run m (a + b)
 
--- what a machine that was read uses is fresh, in each run without spaces at its begin of which it is a state
+-- what a machine that was read uses is fresh, in each run without spaces at its start of which it is a state
 abbrev pub UsesFreshSince : Machine → ℕ → Type 0
 UsesFreshSince saved n = (m : Machine) (k : ℕ) → IsOrderly m → m.spaces ≡ [] → saved ≡ run m k
     → UsesFresh m (k + n)
@@ -99,7 +99,7 @@ UsesFreshSince saved n = (m : Machine) (k : ℕ) → IsOrderly m → m.spaces �
 abbrev pub SavedUseFresh : Type 0
 SavedUseFresh = (saved : Machine) (n : ℕ) → UsesFreshSince saved n
 
--- and so are its first-stage translations, in each run without any at its begin of which it is a state
+-- and so are its first-stage translations, in each run without any at its start of which it is a state
 abbrev pub FirstFreshSince : Machine → ℕ → Type 0
 FirstFreshSince saved n =
     (m : Machine) (k : ℕ) → m.platform.virt.first ≡ [] → saved ≡ run m k → FirstFresh m (k + n)

@@ -13,11 +13,11 @@ numbers ns = flat_map number ns
 unfoldable pub number_in : List ℕ → ℕ
 number_in bytes = if nat_le 8 (length bytes) then from_le_bytes w64 (take 8 bytes) else 0
 
--- so many items, each of which is read of the bytes that it begins, and is of so many bytes
+-- that many items, each of which is read of the bytes that it begins, and is of that many bytes
 unfoldable pub items_in : {A : Type 0} → (List ℕ → A) → ℕ → ℕ → List ℕ → List A
 items_in item size zero bytes = []
 items_in item size (suc count) bytes = item bytes ∷ items_in item size count (drop size bytes)
 
--- the numbers that bytes begin with, so many
+-- the numbers that bytes begin with, that many
 abbrev pub numbers_in : ℕ → List ℕ → List ℕ
 numbers_in count bytes = items_in number_in 8 count bytes

@@ -67,7 +67,7 @@ abbrev pub space_in : List ℕ → Space
 space_in bytes =
     record { key = guest_root_of (number_in bytes); entries = entries_in (entry_count bytes) (drop 16 bytes) }
 
--- what is left after a space, and after so many
+-- what is left after a space, and after that many
 abbrev pub after_space : List ℕ → List ℕ
 after_space bytes = drop (24 * entry_count bytes) (drop 16 bytes)
 

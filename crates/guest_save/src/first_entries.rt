@@ -82,7 +82,7 @@ fn first_entry_in(bytes: &[u8]) -> FirstEntry
     }
 }
 
-// So many translations.
+// The given number of translations.
 fn first_entries_in(alloc: Global, count: usize, bytes: &[u8]) -> Result<Vec<FirstEntry>, NoMemory>
     requires { count ≤ 32 }
     ensures { IfOk result (λ entries. entries.items ≡ first_entries_in count bytes.now) }

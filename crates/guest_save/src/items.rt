@@ -38,7 +38,7 @@ fn input_of(bytes: &[u8]) -> (u64, u8)
     (number_in(bytes), byte)
 }
 
-/// So many inputs.
+/// The given number of inputs.
 pub fn inputs_in(alloc: Global, count: usize, bytes: &[u8]) -> Result<Vec<(u64, u8)>, NoMemory>
     requires { count ≤ 65536 }
     ensures { IfOk result (λ inputs. inputs.items ≡ inputs_in count bytes.now) }
@@ -76,7 +76,7 @@ fn entry_in(bytes: &[u8]) -> Entry
     }
 }
 
-// So many entries.
+// The given number of entries.
 fn entries_in(alloc: Global, count: usize, bytes: &[u8]) -> Result<Vec<Entry>, NoMemory>
     requires { count ≤ 256 }
     ensures { IfOk result (λ entries. entries.items ≡ entries_in count bytes.now) }
@@ -112,7 +112,7 @@ fn after_space(bytes: &[u8]) -> &[u8]
     after(after(bytes, 16), 24 * entry_count(bytes))
 }
 
-/// So many spaces.
+/// The given number of spaces.
 pub fn spaces_in(alloc: Global, count: usize, bytes: &[u8]) -> Result<Vec<SavedSpace>, NoMemory>
     requires { count ≤ 8 }
     ensures { IfOk result (λ spaces. spaces.items ≡ spaces_in count bytes.now) }
@@ -126,7 +126,7 @@ pub fn spaces_in(alloc: Global, count: usize, bytes: &[u8]) -> Result<Vec<SavedS
     Ok(spaces)
 }
 
-/// What is left after so many spaces.
+/// What is left after that many spaces.
 pub fn after_spaces(count: usize, bytes: &[u8]) -> &[u8]
     ensures { result.now ≡ after_spaces count bytes.now }
 {

@@ -138,7 +138,7 @@ fn copied(alloc: Global, bytes: &[u8]) -> Result<Vec<u8>, NoMemory>
     Ok(copy)
 }
 
-// The first of these bytes, at most so many.
+// The first of these bytes, at most that many.
 fn at_most(bytes: &[u8], count: usize) -> &[u8]
     ensures { result.now ≡ take count bytes.now }
 {

@@ -17,7 +17,7 @@ pub fn number_in(bytes: &[u8]) -> u64
     u64::from_le_bytes(word)
 }
 
-/// The bytes after so many; none where there are fewer.
+/// The bytes after that many; none where there are fewer.
 pub fn after(bytes: &[u8], count: usize) -> &[u8]
     ensures { result.now ≡ drop count bytes.now }
 {
@@ -39,7 +39,7 @@ pub fn numbers_in(bytes: &[u8], into: &mut [u64])
     }
 }
 
-/// The count that bytes begin with, at most so many.
+/// The count that bytes begin with, at most that many.
 pub fn count_in(bytes: &[u8], most: usize) -> usize
     ensures count { result ≡ count_in most bytes.now }
     ensures few { result ≤ most }

@@ -164,7 +164,7 @@ fn is_saved(version: Version, parts: &MachineParts, bytes: &[u8]) -> bool
 ///
 /// # Errors
 ///
-/// Out of memory; `Bad` exactly where they are no such form.
+/// Out of memory; `Bad` exactly where they are not such a form.
 pub fn read(alloc: Global, bytes: &[u8]) -> Result<Saved, SaveEnd>
     ensures machine { IfOk result (λ saved. saved ≡ saved_in bytes.now) }
     ensures savable { IfOk result (λ saved. IsSavable saved.machine) }

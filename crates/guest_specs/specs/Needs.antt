@@ -3,7 +3,7 @@ use Rattle.std.specs.Prelude.{ℕ, ◌+◌, ◌*◌, ◌≤◌}
 use Rattle.guest_specs.specs.declared.guests.GuestSpec.{GuestSpec}
 use Rattle.guest_specs.specs.declared.needs.Need.{Need}
 
--- the tables below the root of a space that may have so many entries: an entry needs at most one on each
+-- the tables below the root of a space that may have that many entries: an entry needs at most one on each
 -- level below the root's
 abbrev pub tables_for : ℕ → ℕ
 tables_for entries = 3 * entries
@@ -23,6 +23,7 @@ pub record IsNeed (need : Need) : Type 0 where
 abbrev pub most_needed : ℕ
 most_needed = 512 * 32 + 5 + 8 * (4 + tables_for 256)
 
--- what a guest needs: its RAM in blocks, and tables for so many cached spaces of at most so many entries each
+-- what a guest needs: its RAM in blocks, and tables for that many cached spaces of at most that many entries
+-- each
 abbrev pub need_of : GuestSpec → Need
 need_of guest = record { blocks = guest.blocks; spaces = guest.spaces; entries = guest.entries }

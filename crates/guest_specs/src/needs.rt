@@ -7,8 +7,8 @@ ghost use Rattle.guest_specs.specs.Needs.{IsNeed, frames_needed, most_needed};
 /// level below the root's.
 pub const TABLES_PER_ENTRY: u64 = 3;
 
-/// What a guest needs of machine memory: so many blocks for its RAM, and tables for so many cached
-/// spaces of at most so many entries each.
+/// What a guest needs of machine memory: that many blocks for its RAM, and tables for that many cached
+/// spaces of at most that many entries each.
 #[derive(Clone, Copy, PartialEq, Eq)]
 pub struct Need {
     pub blocks: u64,

@@ -40,7 +40,7 @@ unfolding run step
 run_current m zero e = e
 run_current m (suc n) e = run_current (stepped m m.platform.status) n (stepped_current m m.platform.status e)
 
--- the clock is so many steps further, and the moments are the same
+-- the clock is that many steps further, and the moments are the same
 record Elapsed (m after : Machine) (n : ℕ) : Type 0 where
   time : after.platform.clock.time ≡ m.platform.clock.time + n
   timer : after.platform.clock.timer ≡ m.platform.clock.timer

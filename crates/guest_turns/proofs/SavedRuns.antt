@@ -58,7 +58,7 @@ pub may_be_saved : (s : Source) (n : ℕ) → IsBootableSource s → (run (machi
     → MayBeSaved (run (machine_of_source s) n)
 may_be_saved s n is few = run_of (machine_of_source s) n (savable s is) few
 
--- so at its begin
+-- so at its start
 pub savable_source : (s : Source) → IsBootableSource s → MayBeSaved (machine_of_source s)
 unfolding run
 savable_source s is = may_be_saved s 0 is (savable s is).steps

@@ -62,7 +62,7 @@ sized sources parts i source part meet inside source_is part_is =
     need_is : get_or (needs_of_sources sources) i (need_of_source source) ≡ need_of_source source
     need_is = get_or-map need_of_source sources i source (need_of_source source) inside ∙ ap need_of_source (sym source_is)
 
--- a part for a guest, in memory of so many bytes
+-- a part for a guest, in memory of that many bytes
 pub record IsPartFor (source : Source) (part : Layout) (size : ℕ) : Type 0 where
   pub bootable : IsBootableSource source
   pub meets : Meets (need_of_source source) part

@@ -62,7 +62,7 @@ pub record Made (m : Machine) (k : ℕ) (next : Machine) (left : ℕ) (es : List
   pub goes : Goes m k next left
   pub events_are : events m k ≡ es ++ events next left
 
--- a step that lacks nothing, a fill, and so many steps that lack nothing
+-- a step that lacks nothing, a fill, and that many steps that lack nothing
 pub step_made : (m next : Machine) (k : ℕ) → needed ≤ m.entry_room → 0 < k → m.platform.status ≡ status.Running → MakesStep m next
     → Made m k next (k - 1) (event_in (try m))
 step_made m next k room some is made =

@@ -54,21 +54,21 @@ pub record AreHosted (guests : List Guest) (retired free : List Bool) (memory : 
   pub apart : ArePairwiseApart (parts_of guests)
   pub spare : (block : ℕ) → is_set free block ≡ true → IsFree block (parts_of guests) memory
 
--- a guest and machine memory after so many steps of its lone machine
+-- a guest and machine memory after that many steps of its lone machine
 pub record HasRun (old : Guest) (memory : List ℕ) (k : ℕ) (new : Guest) (changed : List ℕ) : Type 0 where
   pub machine : machine_of new changed ≡ run (machine_of old memory) k
   pub keeps : KeepsLayout old new
   pub only : Only (changed_by old) memory changed
 
--- after a part of so many steps: as many steps as are left are the same run, and take fewer tries
+-- after a part of that many steps: as many steps as are left are the same run, and take fewer tries
 pub record Advances (old : Guest) (memory : List ℕ) (k : ℕ) (new : Guest) (changed : List ℕ)
     (left : ℕ) : Type 0 where
   pub goes : Goes (machine_of old memory) k (machine_of new changed) left
   pub keeps : KeepsLayout old new
   pub only : Only (changed_by old) memory changed
 
--- how many of so many steps are left after a part of them, by those that were made: all the others, while the
--- guest goes on
+-- how many of that many steps are left after a part of them, by those that were made: all the others, while
+-- the guest goes on
 pub record CountsLeft (old : Guest) (k : ℕ) (new : Guest) (left : ℕ) : Type 0 where
   pub within : left ≤ k
   pub forward : old.steps ≤ new.steps
@@ -114,13 +114,13 @@ pub record AreMade (sources : List Source) (parts : List Layout) (guests : List 
 abbrev pub space_tables : Layout → Frames
 space_tables part = slots.table_frames_for part part.spaces
 
--- parts for these guests, in memory of so many bytes
+-- parts for these guests, in memory of that many bytes
 pub record HaveParts (sources : List Source) (parts : List Layout) (size : ℕ) : Type 0 where
   pub frames : ℕ
   pub split : IsSplit (needs_of_sources sources) parts frames
   pub whole : size ≡ frames * 4096
 
--- the RAM of so many guests in machine memory is that of their machines, and their host tables are written.
+-- the RAM of that many guests in machine memory is that of their machines, and their host tables are written.
 -- The frames for the tables of the spaces of all guests but the first ones, whose spaces are made, are zeros,
 -- and so are those that are in no part
 pub record AreLaidOut (sources : List Source) (parts : List Layout) (done made : ℕ)

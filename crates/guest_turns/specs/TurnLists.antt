@@ -62,7 +62,7 @@ abbrev pub TurnsCountAlike : Type 0
 TurnsCountAlike = (count : Event → ℕ) (turns : List (ℕ × ℕ)) (machines : List Machine)
     → sum_by count (turn_events turns machines) ≡ sum_by count (own_events turns machines)
 
--- at most how many entries of the hart a turn of k steps takes, where a space has room for so many cached
+-- at most how many entries of the hart a turn of k steps takes, where a space has room for that many cached
 -- translations: each try of a step is one
 abbrev pub turn_entries : ℕ → ℕ → ℕ
 turn_entries room k = (k + 1) * most_tries room

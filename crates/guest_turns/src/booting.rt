@@ -26,7 +26,7 @@ use phys_mem::{PhysMem, RAM_BASE};
 use std::alloc::Global;
 use virtual_timer::Clock;
 
-/// The parts of guests, and so many spare blocks.
+/// The parts of guests, and that many spare blocks.
 pub fn share(alloc: Global, sources: &[Source], spare: u64) -> Result<Split, NoMemory>
     requires few { length sources.now ≤ 16 }
     requires each { All IsBootableSource sources.now }
@@ -189,7 +189,7 @@ fn first_resumed(saved: &Saved) -> FirstBuffer
     first
 }
 
-// The console of a saved machine, with room for so many bytes.
+// The console of a saved machine, with room for that many bytes.
 fn console_resumed(alloc: Global, saved: &Saved, room: u64) -> Result<Console, NoMemory>
     requires { room ≡ saved.now.machine.platform.console.room }
     ensures { IfOk result (λ console. console ≡ saved.now.machine.platform.console) }

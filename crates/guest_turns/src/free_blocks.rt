@@ -27,7 +27,7 @@ impl Model for FreeBlocks {
 }
 
 impl FreeBlocks {
-    /// So many blocks from a first one on.
+    /// The given number of blocks from a first one on.
     pub fn from(first: u64, count: u64) -> FreeBlocks
         requires { first + count ≤ 256 }
         ensures blocks { (block : ℕ) → is_set result block ≡ within first count block }

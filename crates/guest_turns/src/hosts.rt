@@ -84,7 +84,7 @@ impl Host {
         Host::boot_spare(alloc, guests, 0)
     }
 
-    /// The same, with so many free blocks behind those of all parts, which lie in no part.
+    /// The same, with that many free blocks behind those of all parts, which lie in no part.
     pub fn boot_spare(alloc: Global, guests: Vec<GuestSpec>, spare: u64) -> Result<Host, NoMemory>
         requires bootable { AreBootable guests.items }
         requires spare { spare ≤ 32 }
@@ -103,8 +103,8 @@ impl Host {
     }
 
     /// The machines that the guests go on from, in order, each at its start or as it was saved, in a part of
-    /// machine memory of the size that it needs, and so many free blocks behind those of all parts, which lie
-    /// in no part. It may answer out of memory.
+    /// machine memory of the size that it needs, and that many free blocks behind those of all parts, which
+    /// lie in no part. It may answer out of memory.
     pub fn boot_from(alloc: Global, sources: Vec<Source>, spare: u64) -> Result<Host, NoMemory>
         requires bootable { AreBootableSources sources.items }
         requires spare { spare ≤ 32 }

@@ -58,7 +58,7 @@ pub fn access<M: Mem>(
     }
 }
 
-// Makes an access that the mode allows. An address that is no multiple of the width traps before it is
+// Makes an access that the mode allows. An address that is not a multiple of the width traps before it is
 // translated (own).
 fn make<M: Mem>(
     mem: &mut M,

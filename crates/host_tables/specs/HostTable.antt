@@ -9,7 +9,7 @@ use Rattle.arch_defs.specs.TableEntries.{leaf_to, pte_word}
 use Rattle.table_words.specs.Entries.{pointer_word}
 use Rattle.table_words.specs.Words.{doubleword_at}
 
--- so many entries from the start of a frame on
+-- that many entries from the start of a frame on
 pub record HasEntries (frame count : ℕ) (entry : ℕ → ℕ) (memory : List ℕ) : Type 0 where
   pub each : (i : ℕ) → i < count → doubleword_at memory (512 * frame + i) ≡ entry i
 
@@ -29,7 +29,7 @@ pub record IsHostTable (part : Layout) (memory : List ℕ) : Type 0 where
   pub root : HasEntries part.first_root 2048 (root_word part.first_table) memory
   pub leaves : HasEntries part.first_table 512 (block_leaf_word part.blocks) memory
 
--- entries that are written so far, within so many frames
+-- entries that are written so far, within that many frames
 pub record IsWrittenUpTo (frame frames done : ℕ) (entry : ℕ → ℕ) (old new : List ℕ) : Type 0 where
   pub entries : HasEntries frame done entry new
   pub only : Only (within frame frames) old new

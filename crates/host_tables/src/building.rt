@@ -16,7 +16,7 @@ const NO_ENTRY: u64 = 0;
 // The root's entry that maps the 1 GiB from the start of RAM on.
 const RAM_ENTRY: u64 = 2;
 
-/// Writes the host's table for the RAM of a part, which has so many blocks. Only the frames of this table
+/// Writes the host's table for the RAM of a part, which has that many blocks. Only the frames of this table
 /// change.
 pub fn build(mem: &mut PhysMem, part: &Part, blocks: u64)
     requires blocks { blocks ≡ length part.now.blocks }

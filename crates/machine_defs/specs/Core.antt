@@ -69,8 +69,8 @@ located through csrs mode va access =
     located_by through.second mode va access
     (found_with (through.known va access) (first_stage through.second through.reading csrs mode va access))
 
--- an access of this width as a mode. One at an address that is no multiple of the width always traps, before
--- translation (own)
+-- an access of this width as a mode. One at an address that is not a multiple of the width always traps,
+-- before translation (own)
 abbrev pub accessed : Mmu → Csrs → Mode → ℕ → Width → Access → Located
 accessed through csrs mode va width access =
     if va % bytes_in width == 0 then located through csrs mode va access

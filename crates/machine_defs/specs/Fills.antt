@@ -51,7 +51,7 @@ filled_front most (s ∷ ss) e = record s { entries = filled most s.entries e } 
 abbrev pub fill : Machine → Entry → Machine
 fill m e = record m { spaces = filled_front m.entry_room m.spaces e }
 
--- a machine after the fills of its next step, at most so many
+-- a machine after the fills of its next step, at most that many
 abbrev pub after_fill : (Machine → Machine) → Machine → Option Entry → Machine
 after_fill others m None = m
 after_fill others m (Some e) = others (fill m e)
@@ -69,7 +69,7 @@ needed = 10
 abbrev pub most_fills : Machine → ℕ
 most_fills m = m.entry_room + needed
 
--- how many tries a step takes at most where a space has room for so many entries: one after each fill, and
+-- how many tries a step takes at most where a space has room for that many entries: one after each fill, and
 -- the first
 abbrev pub most_tries : ℕ → ℕ
 most_tries room = room + needed + 1
@@ -78,7 +78,7 @@ most_tries room = room + needed + 1
 abbrev pub ready : Machine → Machine
 ready m = after_fills (most_fills m) m
 
--- how many fills the next step of a machine makes, of at most so many
+-- how many fills the next step of a machine makes, of at most that many
 abbrev pub counted : (Machine → ℕ) → Machine → Option Entry → ℕ
 counted others m None = 0
 counted others m (Some e) = others (fill m e) + 1

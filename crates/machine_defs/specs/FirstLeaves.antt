@@ -65,7 +65,7 @@ entry_walked tag through virt va access =
     let atp = (supervisor_of virt.csrs virt.mode).atp in
     option_map (first_entry tag atp va) (leaf_under through (privilege_of virt.csrs virt.mode) va access atp)
 
--- an access of a width finds it, unless the address is known, or is no multiple of the width
+-- an access of a width finds it, unless the address is known, or is not a multiple of the width
 abbrev pub entries_of : Option FirstEntry → List FirstEntry
 entries_of None = []
 entries_of (Some e) = e ∷ []

@@ -95,7 +95,7 @@ pub record Answer : Type 0 where
   pub device : Bool
 
 -- by a cached translation: by one of hgatp's VMID and of the address's page that permits the access. Which
--- table it was walked from is not asked: a write of hgatp is no fence (8.2.10, 8.3.2)
+-- table it was walked from is not asked: a write of hgatp is not a fence (8.2.10, 8.3.2)
 pub record IsByCache (caching : Caching) (device : Bool) (virt : Virtual) (cache : List CachedTranslation)
     (address : ℕ) (kind : Access) (answer : Answer) : Type 0 where
   pub serving : caching.serves virt ≡ true

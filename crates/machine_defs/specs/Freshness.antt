@@ -49,8 +49,8 @@ abbrev pub UsesFresh : Machine → ℕ → Type 0
 UsesFresh m steps = let virt = (run m steps).platform.virt in
     folds virt ≡ true → All (IsFresh m steps virt.csrs.hgatp) (front (ready (run m steps)).spaces)
 
--- the first-stage translations that the next step of a machine finds; a wait for good is no step, and finds
--- none
+-- the first-stage translations that the next step of a machine finds; a wait for good is not a step, and
+-- finds none
 abbrev pub found_if_ended : List FirstEntry → Tried → List FirstEntry
 found_if_ended found (Ended after event) = found
 found_if_ended found WaitsForGood = []

@@ -80,7 +80,7 @@ start guest = record {
   device = guest.device;
 }
 
--- a step has been made, after which the clock is at a moment: the next one, where the step was no wait
+-- a step has been made, after which the clock is at a moment: the next one, where the step was not a wait
 abbrev pub made_by : Platform → ℕ → Platform
 made_by p moment =
     with_pending_lines (record p { clock = record p.clock { time = moment }; steps = p.steps + 1 })

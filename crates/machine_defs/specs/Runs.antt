@@ -20,7 +20,7 @@ left_by m WaitsForGood = with_status m status.Waiting
 abbrev pub left_after : Machine → Machine
 left_after m = left_by m (try m)
 
--- what at most so many fills, and then one last try, leave
+-- what at most that many fills, and then one last try, leave
 abbrev pub step_within : ℕ → Machine → Machine
 step_within n m = left_after (after_fills n m)
 
@@ -75,7 +75,7 @@ is_instruction System = true
 abbrev pub plain_count : List Event → ℕ
 plain_count events = count_by is_plain_step events
 
--- how many steps were no interrupt taken
+-- how many steps were other than an interrupt taken
 abbrev pub instruction_count : List Event → ℕ
 instruction_count events = count_by is_instruction events
 

@@ -90,7 +90,7 @@ ends_more small large asked at PageFault other alike = alike
 ends_more small large asked at (FetchEnd place trap) other alike =
     stops_more small large asked (at ∷ asked) place Implicit (other ≡ FetchEnd place trap) (other ≡ FetchEnd place trap) (λ h. inr h) (λ e. e) alike
 
--- an entry that was read is no end of reading
+-- an entry that was read is not an end of reading
 abbrev pub IsRead : Next → Type 0
 IsRead (Ends (Leaf frame level r w x u)) = Unit {0}
 IsRead (Ends PageFault) = Unit {0}

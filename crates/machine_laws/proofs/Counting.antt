@@ -98,7 +98,7 @@ still_fresh : (IsFresh : Entry → Type 0) (most : ℕ) (before since : List Ent
 unfolding still
 still_fresh IsFresh most before since e fresh = All-drop IsFresh _ (without e.page before) (All-filter _ IsFresh before fresh)
 
--- a list after at most so many fills, where it says itself what it lacks
+-- a list after at most that many fills, where it says itself what it lacks
 abbrev pub next_filled : (List Entry → List Entry) → ℕ → List Entry → Option Entry → List Entry
 next_filled others most entries None = entries
 next_filled others most entries (Some e) = others (filled most entries e)
@@ -107,14 +107,14 @@ unfoldable pub filling : (List Entry → Option Entry) → ℕ → ℕ → List 
 filling lacks most zero entries = entries
 filling lacks most (suc n) entries = next_filled (filling lacks most n) most entries (lacks entries)
 
--- what is asked of that: no page is lacking that has a fresh entry; what is filled is fresh; and where all
--- entries are fresh, only some pages are lacking
+-- what is asked of that: no page is missing that has a fresh entry; what is filled is fresh; and where all
+-- entries are fresh, only some pages are missing
 pub record Counts (IsFresh : Entry → Type 0) (lacks : List Entry → Option Entry) (pages : List ℕ) : Type 0 where
   pub missing : (entries : List Entry) (e held : Entry) → lacks entries ≡ Some e → entry_at e.page entries ≡ Some held → IsFresh held → ⊥
   pub fresh : (entries : List Entry) (e : Entry) → lacks entries ≡ Some e → IsFresh e
   pub few : (entries : List Entry) (e : Entry) → All IsFresh entries → lacks entries ≡ Some e → In e.page pages
 
--- what is lacking has not been filled since
+-- what is missing has not been filled since
 not_since : {IsFresh : Entry → Type 0} {lacks : List Entry → Option Entry} {pages : List ℕ} → Counts IsFresh lacks pages
     → (entries before since : List Entry) (e : Entry) → IsSplit IsFresh entries before since → lacks entries ≡ Some e → entry_at e.page since ≡ None
 not_since {IsFresh = IsFresh} c entries before since e split missing_entry = by (entry_at e.page since) refl

@@ -69,7 +69,7 @@ fills_front m ss folding none (suc n) s = rw (missing_entry_front m s ss folding
     by None deeper = refl
     by (Some e) deeper = deeper (record s { entries = filled m.entry_room s.entries e })
 
--- so many suffice
+-- that many suffice
 nothing_to_fill : (n : ℕ) (m : Machine) → missing_entry m ≡ None → missing_entry (after_fills n m) ≡ None
 nothing_to_fill n m e = rw (no_fills n m e) e
 

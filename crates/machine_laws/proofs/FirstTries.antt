@@ -61,7 +61,7 @@ unfolding unnamed_first
 part_keeps P before _ Whole all = all
 part_keeps P before _ (Part named) all = All-filter _ P before all
 
--- what a try leaves of them, where it names such; a wait for good is no fence
+-- what a try leaves of them, where it names such; a wait for good is not a fence
 abbrev Leaves : List FirstEntry → (FirstEntry → Bool) → Tried → Type 0
 Leaves before named (Ended after event) = IsPart before after.platform.virt.first × All (λ e. named e ≡ false) after.platform.virt.first
 Leaves before named WaitsForGood = (e : FirstEntry) → named e ≡ false
@@ -72,7 +72,7 @@ names_none e = false
 none_is_named : (first : List FirstEntry) → All (λ e. names_none e ≡ false) first
 none_is_named first i e inside = refl
 
--- all of them, where it is no fence
+-- all of them, where it is not a fence
 stepped_leaves : (m : Machine) → IsPart m.platform.virt.first m.platform.virt.first × All (λ e. names_none e ≡ false) m.platform.virt.first
 stepped_leaves m = (Whole, none_is_named m.platform.virt.first)
 

@@ -116,7 +116,7 @@ counts device known virt ram = record {
       rw page (in_pages u.address _ among);
 }
 
--- so many fills suffice for the list of a state
+-- that many fills suffice for the list of a state
 pub list_suffices : (device : Bool) (known : Known) (virt : Virtual) (ram : List ℕ) (most : ℕ) (entries : List Entry) → needed ≤ most
     → missing_entry_under device known virt ram (filling (missing_entry_under device known virt ram) most (most + needed) entries) ≡ None
 list_suffices device known virt ram most entries room =

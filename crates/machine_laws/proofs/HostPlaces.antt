@@ -35,7 +35,7 @@ same_offset base a b a_above b_above same = omega arith
 from_zero : (place : ℕ) → place - 0 ≡ place
 from_zero place = omega arith
 
--- RAM of so many bytes passes each of its addresses on
+-- RAM of that many bytes passes each of its addresses on
 abbrev flat : ℕ → SecondStage
 flat size address access = cond (nat_le ram_base address && nat_lt address (ram_base + size)) (Some address) None
 

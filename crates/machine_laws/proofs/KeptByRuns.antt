@@ -7,7 +7,7 @@ use Rattle.machine_defs.specs.Fills.{after_fill, after_fills, fill, missing_entr
 use Rattle.machine_defs.specs.Machine.{Machine}
 use Rattle.machine_defs.specs.Runs.{left_after, run, step, stepped}
 
--- a fill of what is lacking keeps it, and so does a try
+-- a fill of what is missing keeps it, and so does a try
 pub record IsKept (P : Machine → Type 0) : Type 0 where
   pub filled : (m : Machine) (e : Entry) → P m → missing_entry m ≡ Some e → P (fill m e)
   pub tried : (m : Machine) → P m → P (left_after m)

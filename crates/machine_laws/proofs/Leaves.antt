@@ -30,7 +30,7 @@ use Rattle.machine_laws.specs.Laws.{FillsCanBeMade}
 use Rattle.arch_defs.proofs.Shapes.{few_levels}
 use Rattle.machine_laws.proofs.Cached.{IsGiven, given, serves}
 
--- what holds of each leaf that a walk of so many levels ends at
+-- what holds of each leaf that a walk of that many levels ends at
 pub record IsSound (count : ℕ) (leaf : LeafPte) : Type 0 where
   pub level : leaf.level < count
   pub right : (leaf.r || leaf.x) ≡ true

@@ -13,8 +13,8 @@ abbrev pub budget : Machine → ℕ → ℕ
 budget m zero = 0
 budget m (suc k) = k * (most_fills m + 1) + (fills (most_fills m) m + 1)
 
--- what one try leaves of a run of k steps: so many steps of the next machine are the same run, and take fewer
--- tries
+-- what one try leaves of a run of k steps: that many steps of the next machine are the same run, and take
+-- fewer tries
 pub record Goes (m : Machine) (k : ℕ) (next : Machine) (left : ℕ) : Type 0 where
   pub ran : run next left ≡ run m k
   pub fewer : budget next left + 1 ≤ budget m k
@@ -34,7 +34,7 @@ TryGoes = (m : Machine) (k : ℕ) → needed ≤ m.entry_room → 0 < k → m.pl
 abbrev pub ReadyStepIsTry : Type 0
 ReadyStepIsTry = (m : Machine) → m.platform.status ≡ Running → missing_entry m ≡ None → step m ≡ left_after m
 
--- so many steps that are made, and before which none is lacking, leave as many steps less
+-- that many steps that are made, and before which none is missing, leave as many steps less
 abbrev pub NeedNoFill : ℕ → Machine → Type 0
 NeedNoFill n m = (i : ℕ) → i < n → ((run m i).platform.status ≡ Running) × (missing_entry (run m i) ≡ None)
 
@@ -46,7 +46,7 @@ ReadyStepsGo = (m : Machine) (n k : ℕ) → needed ≤ m.entry_room → 0 < n �
 abbrev pub BudgetIsSmall : Type 0
 BudgetIsSmall = (m : Machine) (k : ℕ) → budget m k ≤ k * most_tries m.entry_room
 
--- a fill is no event, and a try that lacks nothing is one, if it is a step
+-- a fill is not an event, and a try that lacks nothing is one, if it is a step
 abbrev pub FillIsNoEvent : Type 0
 FillIsNoEvent = (m : Machine) (e : Entry) (k : ℕ) → needed ≤ m.entry_room → m.platform.status ≡ Running
     → missing_entry m ≡ Some e → events (fill m e) k ≡ events m k

@@ -8,7 +8,7 @@ use Rattle.arch_defs.specs.Memory.{SecondStage, Stored, bare, block_size, machin
 use Rattle.arch_defs.specs.Ram.{IsDistinct, SlicesLieIn, host_answer, host_place, ram_of}
 use Rattle.machine_laws.specs.Renaming.{GivesWithin, IsRenamed, Places, StoresWithin, stored_renamed}
 
--- the bytes of RAM of so many blocks
+-- the bytes of RAM of that many blocks
 abbrev pub ram_size : List ℕ → ℕ
 ram_size blocks = length blocks * block_size
 

@@ -68,7 +68,7 @@ StopsAreFaults = (m : Machine) (missing : MissingPlace) (wanted : Option DataAcc
     ≡ false
     → entry_by_walk m.device m.platform.virt.csrs m.ram missing.address missing.kind ≡ None
 
--- so many fills suffice, as many as a space has room for and `needed`: the next try lacks nothing
+-- that many fills suffice, as many as a space has room for and `needed`: the next try lacks nothing
 abbrev pub FillsSuffice : Type 0
 FillsSuffice = (m : Machine) → needed ≤ m.entry_room → missing_entry (ready m) ≡ None
 
@@ -91,7 +91,7 @@ StepsSettle = (m : Machine) (n : ℕ) → needed ≤ m.entry_room → most_fills
 abbrev pub OnlySpaces : Type 0
 OnlySpaces = (m : Machine) (n : ℕ) → after_fills n m ≡ record m { spaces = (after_fills n m).spaces }
 
--- a step makes at most so many fills
+-- a step makes at most that many fills
 abbrev pub FewFills : Type 0
 FewFills = (m : Machine) (n : ℕ) → fills n m ≤ n
 

@@ -43,7 +43,7 @@ MissedIsWanted = (through : Mmu) (virt : Virtual) (missing : MissingPlace) (want
     → core through virt ≡ Missed missing wanted
     → wanted ≡ wanted_at through.reading virt (fetch_place through virt)
 
--- where it was no implicit access, the guest physical address has the offset of the virtual one
+-- where it was not an implicit access, the guest physical address has the offset of the virtual one
 abbrev pub MissedOffset : Type 0
 MissedOffset = (through : Mmu) (virt : Virtual) (missing : MissingPlace) (wanted : Option DataAccess)
     → KeepsPage through.known → core through virt ≡ Missed missing wanted

@@ -11,7 +11,7 @@ use Rattle.machine_laws.specs.Renaming.{GivesWithin, Places, ReservesWithin}
 use Rattle.machine_defs.specs.Runs.{left_after, run}
 use Rattle.machine_defs.specs.Tries.{second_of}
 
--- the places of so many bytes from a base on
+-- the places of that many bytes from a base on
 abbrev pub places_from : ℕ → ℕ → Places
 places_from base size place = nat_le base place && nat_lt place (base + size)
 
@@ -23,7 +23,7 @@ ram_places m = places_from ram_base (length m.ram)
 abbrev pub ReservesInRam : Machine → Type 0
 ReservesInRam m = ReservesWithin (ram_places m) m.platform.virt.reservation
 
--- an entry's frame is in RAM of so many bytes
+-- an entry's frame is in RAM of that many bytes
 abbrev pub IsInRam : ℕ → Entry → Type 0
 IsInRam size e = (ram_base ≤ 4096 * e.frame) × (4096 * e.frame + 4096 ≤ ram_base + size)
 

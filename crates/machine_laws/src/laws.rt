@@ -75,7 +75,7 @@ pub fn folds_by_the_front_space()
 
 /// What a machine lacks, where it folds and no interrupt is due: what the walk of the guest's own table gives
 /// for the access at which its next instruction stops under the entries of the front space, unless one of
-/// them has this access on the device page. Else nothing. Where the instruction stops, nothing is lacking,
+/// them has this access on the device page. Else nothing. Where the instruction stops, nothing is missing,
 /// and no entry has the access on the device page, this walk has a fault.
 pub fn missing_entries_are_read()
     ensures read { MissingEntriesAreRead }
@@ -94,7 +94,7 @@ pub fn fills_suffice()
     ensures steps { StepsSettle }
 {}
 
-/// A fill is no step: it changes the spaces alone, and leaves the step that was to be made, with one fill
+/// A fill is not a step: it changes the spaces alone, and leaves the step that was to be made, with one fill
 /// less to make.
 pub fn fills_go_on()
     ensures only { OnlySpaces }

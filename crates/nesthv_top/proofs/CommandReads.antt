@@ -147,7 +147,7 @@ refused_first bytes result found last (inr (other, is, refused')) refused =
     let same : other ≡ found = cc in
     rw (is, same) refl
 
--- it is passed, refused, or memory is wanting to read it
+-- it is passed, refused, or memory runs out for reading it
 pub config_stopped : (f : Files) (command : FileCommand) (end : LoadEnd) (before after : Option (List Ask))
     → ReadStopsAs (ask (config_name command) config_most) 0 before end after → StopAs (config_steps f command) 0 before end after
 config_stopped f command end before after stopped =
@@ -345,7 +345,7 @@ passed_says S command a old new made' passed first left = record {
   count = left.count;
 }
 
--- memory was wanting after all reads
+-- memory ran out after all reads
 pub wanting_says : {X : Type 0} (S : stores.Ghosts X) (command : FileCommand) (made : ℕ) (old new : X) → 1 ≤ made
     → ((f : Files) → S.files old ≡ Some f → ArePassed (file_steps f command) 0 (S.asked old) made (S.asked new)) → AreAnswered 0 (S.asked old) made (S.asked new)
     → SaysOfReads S (Some (OnFiles command)) ended.Done old new → SaysOfReads S (Some (OnFiles command)) (ended.NoMemory made) old new
@@ -359,7 +359,7 @@ wanting_says S command made old new some passed answered says = record {
   count = says.count;
 }
 
--- no read was made, as memory was wanting before
+-- no read was made, as memory ran out before
 pub nothing_read : {X : Type 0} (S : stores.Ghosts X) (command : Option Command) (store : X) → SaysOfReads S command (ended.NoMemory 0) store store
 nothing_read S command store = record {
   first = asked_none (S.asked store);
@@ -379,7 +379,7 @@ nothing_read S command store = record {
   count = omega arith;
 }
 
--- words that are no command read nothing
+-- words that are not a command read nothing
 pub no_command_says : {X : Type 0} (S : stores.Ghosts X) (command : Option Command) (store : X) → command ≡ None → SaysOfReads S command ended.NoCommand store store
 no_command_says S command store none = rw none (record {
   first = refl;

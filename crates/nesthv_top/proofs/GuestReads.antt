@@ -116,7 +116,7 @@ pub read_whole : (files : Files) (settings : List GuestSettings) (i : ℕ) (read
 read_whole files settings i read made made' before after end so_far =
     subst (λ guests. ReadSoFar files guests read made before made' after) (take_all i settings end) so_far
 
--- memory was wanting before the first read
+-- memory ran out before the first read
 asks_first : (files : Files) (number : ℕ) (origin : Origin) → 1 ≤ length (asks_in (origin_steps files number origin))
 asks_first files number (Fresh guest) = omega arith
 asks_first files number (Saved name) = omega arith

@@ -10,7 +10,7 @@ use Rattle.guest_turns.proofs.TurnLists.{runs_its_own_turns, turns_keep_count}
 use Rattle.nesthv_top.specs.Plans.{section_from, sections}
 use Rattle.nesthv_top.specs.Runnings.{said_of, sections_of}
 
--- machines that have run for the steps of their own turns, after so many others
+-- machines that have run for the steps of their own turns, after that many others
 abbrev pub runs_from : ℕ → List Machine → List (ℕ × ℕ) → List Machine
 runs_from before [] turns = []
 runs_from before (m ∷ ms) turns = run m (own_steps before turns) ∷ runs_from (before + 1) ms turns

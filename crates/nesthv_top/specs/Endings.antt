@@ -44,7 +44,7 @@ abbrev pub HasPlan : Option Files → Option Command → (Files → Command → 
 HasPlan told command P = IfKnown told command (λ files. WithPlan files command (P files))
 
 -- the status is 2 only where the command has a first fault; and where it has one, the status is 2, unless a
--- read failed or memory was wanting
+-- read failed or memory ran out
 pub record IsRefusal (told : Option Files) (command : Option Command) (status : ℕ) : Type 0 where
   pub only : IfKnown told command (λ files. status ≡ 2 → IsSome (fault_of files command))
   pub always : IfKnown told command (λ files.
@@ -67,8 +67,8 @@ IfWriteFault other P = ⊤
 abbrev pub IsReplay : Option Command → Type 0
 IsReplay command = (config : List ℕ) × (report : List ℕ) × (command ≡ Some (OnFiles (Replay config report)))
 
--- whether the words are a command, which is a replay where a difference was found; memory may have been
--- wanting to read them only where they are plain
+-- whether the words are a command, which is a replay where a difference was found; memory may have run
+-- out for reading them only where they are plain
 abbrev pub IsFor : Ended → List (List ℕ) → Type 0
 IsFor NoCommand words = command_of words ≡ None
 IsFor Differs words = IsReplay (command_of words)
@@ -88,22 +88,22 @@ pub record SaysOfCause {X Y : Type 0} (S : stores.Ghosts X) (O : sinks.Ghosts Y)
   pub read : IfReadFault ended (λ n. Rose (S.faults store) (S.faults store'))
   pub write : IfWriteFault ended (Rose (O.faults out) (O.faults out'))
 
--- the first read: that of the configuration, or none where the words are no command or a work, or memory was
--- wanting before
+-- the first read: that of the configuration, or none where the words are not a command or a work, or memory
+-- ran out before
 abbrev pub IsFirstRead : {X : Type 0} → stores.Ghosts X → Option Command → Ended → X → X → Type 0
 IsFirstRead S command NoCommand old new = new ≡ old
 IsFirstRead S command (NoMemory zero) old new = AskedMore [] (S.asked old) (S.asked new)
 IsFirstRead S command other old new = BeginsWithConfig command (S.asked old) (S.asked new)
 
--- the reads that were made: all that the command asks for, or the first ones where one failed or memory was
--- wanting
+-- the reads that were made: all that the command asks for, or the first ones where one failed or memory ran
+-- out
 abbrev pub IsAsked : Ended → Files → Option Command → Option (List Ask) → Option (List Ask) → Type 0
 IsAsked (ReadFault n) files command before after = IsFailed (steps_for files command) 0 n before after
 IsAsked (NoMemory n) files command before after = IsWanting (steps_for files command) n before after
 IsAsked other files command before after = AskedMore (asks_of files command) before after
 
 -- the same whether or not the store tells its files: with a fault of read n, n reads were made, of which the
--- last one failed and no other; else none failed, and where memory was wanting after n reads, n were made
+-- last one failed and no other; else none failed, and where memory ran out after n reads, n were made
 abbrev pub AreAnsweredBy : Ended → Option (List Ask) → Option (List Ask) → Type 0
 AreAnsweredBy (ReadFault n) before after = IsLastFailed 0 n before after
 AreAnsweredBy (NoMemory n) before after = AreAnswered 0 before n after

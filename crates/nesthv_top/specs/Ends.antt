@@ -29,7 +29,7 @@ abbrev pub IfReadFailed : {A : Type 0} → Result A LoadEnd → Type 0 → Type 
 IfReadFailed (Ok a) P = ⊤
 IfReadFailed (Err end) P = IfFailed end P
 
--- what at most so many reads leave of a store, whether or not it tells its files: these stay, its count of
+-- what at most that many reads leave of a store, whether or not it tells its files: these stay, its count of
 -- faults rises where a read failed and never falls, and its list of reads grows, by one that failed where the
 -- end says so; the reads are numbered after those made before
 pub record Leaves {X A : Type 0} (S : stores.Ghosts X) (most : ℕ) (result : Result A LoadEnd) (old new : X)

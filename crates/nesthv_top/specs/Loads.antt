@@ -89,7 +89,7 @@ sources_with (settings ∷ others) [] = []
 sources_with (settings ∷ others) (read ∷ rest) =
     source_with settings.name settings.origin read ∷ sources_with others rest
 
--- the frames that guests and so many spare blocks need
+-- the frames that guests and that many spare blocks need
 abbrev pub frames_read : List GuestSettings → List GuestFiles → ℕ → ℕ
 frames_read settings all_read spare = frames_with (needs_of_sources (sources_with settings all_read)) spare
 

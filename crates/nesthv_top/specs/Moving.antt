@@ -80,7 +80,7 @@ abbrev pub retires_by : ℕ → Option ℕ → List (ℕ × ℕ) → ℕ → Boo
 retires_by zero kept turns g = false
 retires_by (suc spare) kept turns g = retires kept turns g
 
--- who has what when guests that need so much have booted with so many spare blocks
+-- who has what when guests with these needs have booted with that many spare blocks
 pub record AreBooted (needs : List Need) (spare : ℕ) (shares : Shares) : Type 0 where
   pub parts : IsSplit needs shares.parts (frames_with needs spare)
   pub free : (block : ℕ) → is_set shares.free block ≡ within (blocks_of_all needs) spare block

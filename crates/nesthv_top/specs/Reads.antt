@@ -23,7 +23,7 @@ use Rattle.run_config.specs.Tests.{first_fault, unless}
 use Rattle.nesthv_top.specs.Contents.{config_most, config_name, content, config_of, guest_ram_size, image_most, image_of, records_most, report_most, saved_most, saved_of, sources_of}
 use Rattle.nesthv_top.specs.Steps.{Step, made_of, AskedMore}
 
--- a read of a file, at most so many bytes of it
+-- a read of a file, at most that many bytes of it
 abbrev pub ask : List ℕ → ℕ → Ask
 ask name most = record { name = name; most = most; failed = false }
 
@@ -89,7 +89,7 @@ input_steps files number (File name) =
 abbrev pub fresh_steps : Files → ℕ → FreshGuest → List Step
 fresh_steps files number guest = image_step files number guest ∷ input_steps files number guest.input
 
--- the fault of a file that is no form of a machine that can be saved: the guest's number (own)
+-- the fault of a file that is not a form of a machine that can be saved: the guest's number (own)
 abbrev pub saved_fault : ℕ → List ℕ → Option ConfigFault
 saved_fault number bytes = unless (is_saved bytes) (fault.saved number)
 
@@ -106,7 +106,7 @@ origin_steps files number (Saved name) = saved_steps files number name
 abbrev pub guest_steps : Files → ℕ → GuestSettings → List Step
 guest_steps files number guest = origin_steps files number guest.origin
 
--- the same of guests in their order, after so many others
+-- the same of guests in their order, after that many others
 unfoldable pub guests_steps : Files → ℕ → List GuestSettings → List Step
 guests_steps files before [] = []
 guests_steps files before (guest ∷ rest) =

@@ -92,13 +92,13 @@ pub record CountsTurns (plan : Plan) (old new : Counts) : Type 0 where
   pub taken_least : old.taken + plain_count (events_of plan) ≤ new.taken
   pub trace : IsRaisedBy (trace_of (events_of plan)) old.trace new.trace
 
--- the same by how the run ended; where memory was wanting, nothing was run
+-- the same by how the run ended; where memory ran out, nothing was run
 abbrev pub IsAccountOf : {A : Type 0} → Plan → Result A RunEnd → Counts → Counts → Type 0
 IsAccountOf plan (Ok a) old new = CountsTurns plan old new
 IsAccountOf plan (Err WriteFault) old new = CountsTurns plan old new
 IsAccountOf plan (Err NoMemory) old new = new ≡ old
 
--- how many blocks a run moved; where memory was wanting, none
+-- how many blocks a run moved; where memory ran out, none
 abbrev pub IsMovedBy : {A : Type 0} → Plan → Result A RunEnd → ℕ → ℕ → Type 0
 IsMovedBy plan (Ok a) old new = new ≡ old + moves_for plan
 IsMovedBy plan (Err WriteFault) old new = new ≡ old + moves_for plan

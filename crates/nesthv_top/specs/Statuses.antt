@@ -33,8 +33,8 @@ pub record ArePlain (words : List (List ℕ)) : Type 0 where
   pub some : 1 ≤ length words
   pub plain : list_all is_plain (drop 1 words) ≡ true
 
--- the status is 1 only where the words are no command; and where they are none, the status is 1, unless
--- memory was wanting to read words that are plain
+-- the status is 1 only where the words are not a command; and where they are none, the status is 1, unless
+-- memory ran out for reading words that are plain
 pub record IsNoCommand (words : List (List ℕ)) (status : ℕ) : Type 0 where
   pub only : status ≡ 1 → command_of words ≡ None
   pub always : command_of words ≡ None → (status ≡ 1) ⊎ ((status ≡ 5) × ArePlain words)

@@ -40,7 +40,7 @@ made_of (step ∷ rest) = asks_by step.ask ++ asks_unless step.fault (made_of re
 abbrev pub AskedMore : List Ask → Option (List Ask) → Option (List Ask) → Type 0
 AskedMore reads before after = after ≡ option_map (λ asks. asks ++ reads) before
 
--- these steps were passed, after so many reads of the command; their reads are counted on
+-- these steps were passed, after that many reads of the command; their reads are counted on
 pub record ArePassed (steps : List Step) (made : ℕ) (before : Option (List Ask)) (made' : ℕ)
     (after : Option (List Ask)) : Type 0 where
   pub fault : fault_in steps ≡ None
@@ -64,7 +64,7 @@ abbrev pub TakesMemory : List Step → Type 0
 TakesMemory [] = ⊥
 TakesMemory (step ∷ rest) = step.takes ≡ true
 
--- some of the steps were passed, n reads of the command were made, and memory was wanting; from the first
+-- some of the steps were passed, n reads of the command were made, and memory ran out; from the first
 -- read on, only where a read was left, or a test that takes memory was the next step
 pub record IsShort (steps : List Step) (made n : ℕ) (before after : Option (List Ask)) : Type 0 where
   pub passed : List Step
@@ -75,11 +75,11 @@ pub record IsShort (steps : List Step) (made n : ℕ) (before after : Option (Li
   pub number : n ≡ made + length (asks_in passed)
   pub left : 1 ≤ n → (1 ≤ length (asks_in rest)) ⊎ TakesMemory rest
 
--- memory was wanting after n reads of the command: before all steps were passed, or after that
+-- memory ran out after n reads of the command: before all steps were passed, or after that
 abbrev pub IsWanting : List Step → ℕ → Option (List Ask) → Option (List Ask) → Type 0
 IsWanting steps n before after = IsShort steps 0 n before after ⊎ ArePassed steps 0 before n after
 
--- how steps stop: at a fault, a failed read, or want of memory
+-- how steps stop: at a fault, a failed read, or out of memory
 abbrev pub StopAs : List Step → ℕ → Option (List Ask) → LoadEnd → Option (List Ask) → Type 0
 StopAs steps made before (Refused found) after =
     (fault_in steps ≡ Some found) × AskedMore (made_of steps) before after
@@ -92,7 +92,7 @@ abbrev pub EndAs : {A : Type 0} → List Step → ℕ → Option (List Ask) → 
 EndAs steps made before (Ok a) made' after = ArePassed steps made before made' after
 EndAs steps made before (Err end) made' after = StopAs steps made before end after
 
--- how one read stops: it failed, or memory was wanting before it
+-- how one read stops: it failed, or memory ran out before it
 abbrev pub ReadStopsAs : Ask → ℕ → Option (List Ask) → LoadEnd → Option (List Ask) → Type 0
 ReadStopsAs ask made before (Refused found) after = ⊥
 ReadStopsAs ask made before (ReadFault n) after =
@@ -109,7 +109,7 @@ ReadAs ask made before (Err end) made' after = ReadStopsAs ask made before end a
 abbrev pub NoneFailed : List Ask → Type 0
 NoneFailed reads = All (λ read. read.failed ≡ false) reads
 
--- reads were made, none of which failed; with those before them, so many have been made
+-- reads were made, none of which failed; with those before them, that many have been made
 pub record AreAnswered (made : ℕ) (before : Option (List Ask)) (made' : ℕ) (after : Option (List Ask))
     : Type 0 where
   pub reads : List Ask
@@ -138,13 +138,13 @@ abbrev pub EndAnswers : {A : Type 0} → ℕ → Option (List Ask) → Result A 
 EndAnswers made before (Ok a) made' after = AreAnswered made before made' after
 EndAnswers made before (Err end) made' after = StopAnswers made before end made' after
 
--- the number that a stop of at most so many reads tells, after so many others
+-- the number that a stop of at most that many reads tells, after that many others
 abbrev pub IsNumberAfter : ℕ → ℕ → LoadEnd → Type 0
 IsNumberAfter most made (Refused found) = ⊤
 IsNumberAfter most made (ReadFault n) = (made < n) × (n ≤ made + most)
 IsNumberAfter most made (NoMemory n) = made ≤ n
 
--- how many reads were made at an end of at most so many
+-- how many reads were made at an end of at most that many
 abbrev pub IsNumbered : {A : Type 0} → ℕ → ℕ → Result A LoadEnd → ℕ → Type 0
 IsNumbered most made (Ok a) made' = (made ≤ made') × (made' ≤ made + most)
 IsNumbered most made (Err end) made' = IsNumberAfter most made end

@@ -20,7 +20,7 @@ pub record PutsText {Y A E : Type 0} (O : sinks.Ghosts Y) (result : Result A E) 
   pub count : O.faults old ≤ O.faults new
   pub stays : O.made_with new ≡ O.made_with old
 
--- the same where memory may be wanting before
+-- the same where memory may run out before
 pub record Writes {Y A : Type 0} (O : sinks.Ghosts Y) (result : Result A RunEnd) (old new : Y)
     (text : List ℕ) : Type 0 where
   pub bytes : IsWritten O.stands_for old new result text

@@ -11,7 +11,7 @@ use no_memory::NoMemory;
 use outside::SinkFault;
 use run_config::{Config, ConfigFault};
 
-/// Why a configuration gave no job. Reads are numbered from 1; want of memory tells how many were made.
+/// Why a configuration gave no job. Reads are numbered from 1; out of memory tells how many were made.
 #[derive(Clone, Copy)]
 pub enum LoadEnd {
     Refused(ConfigFault),

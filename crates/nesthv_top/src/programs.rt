@@ -18,7 +18,7 @@ use rv64_hart::Tally;
 use std::alloc::Global;
 
 /// The program from its words to its status. The words are those of the command line, the program's name
-/// first, or want of memory for them. Then the line of status 5 is put, and nothing else is done.
+/// first, or out of memory for them. Then the line of status 5 is put, and nothing else is done.
 pub fn program<S: Store, O: Sink, E: Sink>(
     alloc: Global,
     words: Result<Vec<Word>, NoMemory>,

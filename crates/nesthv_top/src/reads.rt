@@ -52,7 +52,7 @@ impl Reads {
         }
     }
 
-    /// Memory was wanting after the reads that were made.
+    /// Memory ran out after the reads that were made.
     pub fn no_memory(&self) -> LoadEnd
         ensures { result ≡ NoMemory self.now.made }
     {

@@ -104,7 +104,7 @@ pub fn save<O: Sink>(
     Ok(host.save(guest, out)?)
 }
 
-/// Boots guests beside so many spare blocks, and makes their turns. Where there are spare blocks, each turn
+/// Boots guests beside that many spare blocks, and makes their turns. Where there are spare blocks, each turn
 /// moves a block of its guest, and each guest but the one that is kept retires after the last of its turns.
 pub fn hosted(
     alloc: Global,

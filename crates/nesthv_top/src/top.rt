@@ -45,7 +45,7 @@ pub fn nesthv<S: Store, O: Sink, E: Sink>(
     ensures saved { result ≡ 0 → HasPlan (S.files store.old) (command_of words.now)
         (λ files command plan. IfSave command (IsResumable plan)) }
 
-    // When each status comes. 5 is want of memory, which is free.
+    // When each status comes. 5 is out of memory, which is free.
     ensures verdict { IsDone result → HasPlan (S.files store.old) (command_of words.now)
         (λ files command plan. result ≡ verdict_status (found_of files command plan)) }
     ensures differs { result ≡ 6 → IsReplay (command_of words.now) }

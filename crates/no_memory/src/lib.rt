@@ -1,4 +1,4 @@
-//! Want of memory, as the one refusal of a call that takes memory.
+//! Out of memory, as the one refusal of a call that takes memory.
 #![tactic(auto)]
 
 mod wants;

@@ -39,7 +39,8 @@ is_branch_taken Ge a b = not (int_lt (signed a) (signed b))
 is_branch_taken Ltu a b = nat_lt a b
 is_branch_taken Geu a b = not (nat_lt a b)
 
--- a jump, which leaves the next pc in rd; a target that is no multiple of 4 is an exception at the jump (2.5)
+-- a jump, which leaves the next pc in rd; a target that is not a multiple of 4 is an exception at the jump
+-- (2.5)
 abbrev pub jump : ℕ → ℕ → ℕ → Effect
 jump rd next target = if target % 4 == 0 then Sets rd next target else Raises INSTRUCTION_MISALIGNED target
 

@@ -8,7 +8,7 @@ pub record Ask : Type 0 where
   pub most : ℕ
   pub failed : Bool
 
--- what a read with this result adds to the reads asked for; want of memory adds nothing
+-- what a read with this result adds to the reads asked for; running out of memory adds nothing
 abbrev pub told : {A : Type 0} → List ℕ → ℕ → Result A StoreFault → List Ask
 told name most (Ok a) = record { name = name; most = most; failed = false } ∷ []
 told name most (Err Failed) = record { name = name; most = most; failed = true } ∷ []

@@ -5,7 +5,7 @@ pub record Files : Type 0 where
   pub bytes_of : List ℕ → Option (List ℕ)
   pub absent_is_empty : Bool
 
--- what a read of at most so many bytes gives, and nothing where it must not answer Ok
+-- what a read of at most that many bytes gives, and nothing where it must not answer Ok
 abbrev pub read_of : Option (List ℕ) → Bool → ℕ → Option (List ℕ)
 read_of (Some bytes) empty most = Some (take most bytes)
 read_of None true most = Some []

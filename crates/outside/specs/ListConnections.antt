@@ -40,7 +40,7 @@ abbrev pub is_next_failing : ListState → Bool
 is_next_failing held =
     list_any (nat_eq (one_more held.reads)) held.failing || nat_le held.room (length held.made)
 
--- how many bytes the next read gives into so much room, where it does not fail
+-- how many bytes the next read gives into that much room, where it does not fail
 abbrev pub given_of : ListState → ℕ → ℕ
 given_of held room = min (min room held.most) (length held.coming)
 
@@ -59,7 +59,7 @@ after_read held room =
           ++ record { sent = length held.out.bytes; came = given_of held room } ∷ [];
     }
 
--- the reads among transfers, after so many bytes that were sent before
+-- the reads among transfers, after that many bytes that were sent before
 abbrev pub reads_in : ℕ → List Transfer → List ReadMade
 reads_in sent [] = []
 reads_in sent (Came piece ∷ rest) = record { sent = sent; came = length piece } ∷ reads_in sent rest

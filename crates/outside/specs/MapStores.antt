@@ -39,7 +39,7 @@ faults_after count (Ok a) = count
 faults_after count (Err Failed) = one_more count
 faults_after count (Err NoMemory) = count
 
--- the read gave this, or failed where it is nothing; want of memory is free
+-- the read gave this, or failed where it is nothing; out of memory is a free answer
 abbrev pub Answers : Result (Vec ℕ) StoreFault → Option (List ℕ) → Type 0
 Answers (Ok v) answer = answer ≡ Some v.items
 Answers (Err Failed) answer = answer ≡ None

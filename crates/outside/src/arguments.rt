@@ -14,7 +14,7 @@ pub trait Arguments {
     // All of them in order, the program's name first; none where they aren't told.
     ghost given: { Self → Option (List (List ℕ)) };
 
-    /// The bytes of the argument of this number, from 0, if there are so many arguments.
+    /// The bytes of the argument of this number, from 0, if there are that many arguments.
     fn argument(&self, alloc: Global, i: usize) -> Result<Option<Vec<u8>>, NoMemory>
         ensures { IfOk result (λ bytes. IsArgument (given self.now) i (option_map (λ v. v.items) bytes)) };
 }

@@ -80,7 +80,7 @@ impl<'a, R: Files> Store for FileStore<'a, R> {
         ensures leaves { self.new.faults
             ≡ (if is_ok result then self.old.faults else one_more self.old.faults) }
 
-        // An error of the system is a fault; it is want of memory exactly where its kind says so.
+        // An error of the system is a fault; it is out of memory exactly where its kind says so.
         ensures error { is_some self.new.error ≡ is_err result }
         ensures memory { IsErrOf result StoreFault.NoMemory
             ↔ (self.new.error ≡ Some ErrorKind.OutOfMemory) }

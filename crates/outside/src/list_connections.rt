@@ -59,7 +59,7 @@ impl Model for ListConnection {
 impl ListConnection {
     ghost use Rattle.outside.specs.ListConnections.{fresh_connection, is_next_failing};
 
-    /// A connection on which these bytes come, at most so many at once, with room for so many reads.
+    /// A connection on which these bytes come, at most that many at once, with room for that many reads.
     pub fn new(
         alloc: Global,
         coming: &[u8],

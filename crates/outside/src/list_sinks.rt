@@ -68,7 +68,7 @@ impl ListSink {
         })
     }
 
-    /// Lets the put with this number fail once it has taken so many bytes. The first put has number 1.
+    /// Lets the put with this number fail once it has taken that many bytes. The first put has number 1.
     pub fn fail_at(&mut self, call: u64, takes: usize) -> Result<(), NoMemory>
         ensures ok { OnOk result
             (self.new ≡ record self.old { failing = self.old.failing ++ (call, takes) ∷ [] }) }

@@ -8,11 +8,11 @@ use Rattle.arch_defs.specs.Memory.{Memory, block_size, load, pasted}
 abbrev pub IsWidth : ℕ → Type 0
 IsWidth n = (n ≡ 1) ⊎ (n ≡ 2) ⊎ (n ≡ 4) ⊎ (n ≡ 8)
 
--- so many bytes from a place on are in memory
+-- that many bytes from a place on are in memory
 abbrev pub is_inside : Memory → ℕ → ℕ → Bool
 is_inside memory at n = nat_le memory.base at && nat_le (at + n) (memory.base + length memory.bytes)
 
--- the number of so many bytes at a place
+-- the number of that many bytes at a place
 abbrev pub number_at : Memory → ℕ → ℕ → Option ℕ
 number_at memory at n =
     if is_inside memory at n then Some (load memory.bytes (at - memory.base) n) else None
@@ -36,6 +36,6 @@ frame_of n bytes = take 4096 (drop (n * 4096) bytes)
 abbrev pub block_of : ℕ → List ℕ → List ℕ
 block_of n bytes = take block_size (drop (n * block_size) bytes)
 
--- frames of so many bytes each
+-- frames of that many bytes each
 abbrev pub AreWhole : ℕ → List (List ℕ) → Type 0
 AreWhole n frames = All (λ frame. length frame ≡ n) frames

@@ -15,8 +15,8 @@ pub trait Mem {
     // What a write leaves as it was, beside the base and the other bytes.
     ghost keeps: { Self → Self → Type 0 };
 
-    /// The number of so many bytes at a place, or none exactly where they are not all in memory, which is of
-    /// whole frames.
+    /// The number of that many bytes at a place, or none exactly where they are not all in memory, which is
+    /// of whole frames.
     fn get(&self, at: u64, width: u8) -> Option<u64>
         requires width { IsWidth width }
         requires aligned { at % width ≡ 0 }

@@ -35,7 +35,7 @@ impl Model for PhysMem {
 }
 
 impl PhysMem {
-    /// So many frames of zeros.
+    /// The given number of frames of zeros.
     #[tactic(auto, unfolding(arch_defs::specs::Memory::zeros))]
     pub fn new(alloc: Global, frames: u64) -> Result<PhysMem, NoMemory>
         requires some { 1 ≤ frames }
@@ -159,7 +159,7 @@ impl PhysMem {
         copy_frames(frames, from as usize * count, to as usize * count, count);
     }
 
-    /// Fills so many bytes from a place on with zeros.
+    /// Fills that many bytes from a place on with zeros.
     pub fn clear(&mut self, at: u64, count: u64)
         requires { at + count ≤ length self.old }
         ensures { self.new ≡ pasted self.old at (zeros count) }
@@ -203,7 +203,7 @@ impl PhysMem {
         self.frames.as_flattened()
     }
 
-    // Fills so many bytes of one frame with zeros.
+    // Fills that many bytes of one frame with zeros.
     fn clear_within(&mut self, at: u64, count: u64)
         requires inside { at < length self.old }
         requires one_frame { at % 4096 + count ≤ 4096 }

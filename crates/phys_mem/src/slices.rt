@@ -44,7 +44,7 @@ pub fn paste(bytes: &mut [u8], at: usize, piece: &[u8])
     bytes[at..at + piece.len()].copy_from_slice(piece);
 }
 
-/// Fills so many bytes from a place on with zeros.
+/// Fills that many bytes from a place on with zeros.
 #[tactic(auto, unfolding(arch_defs::specs::Memory::zeros))]
 pub fn clear(bytes: &mut [u8], at: usize, count: usize)
     requires { at + count ≤ length bytes.old }
@@ -53,7 +53,7 @@ pub fn clear(bytes: &mut [u8], at: usize, count: usize)
     bytes[at..at + count].fill(0);
 }
 
-/// Lays so many frames from one on over as many others.
+/// Lays that many frames from one on over as many others.
 pub fn copy_frames(frames: &mut [[u8; 4096]], from: usize, to: usize, count: usize)
     requires from { from + count ≤ length frames.old }
     requires to { to + count ≤ length frames.old }

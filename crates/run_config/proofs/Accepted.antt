@@ -29,7 +29,7 @@ record AreTurns (guests : ℕ) (turns : List (ℕ × ℕ)) : Type 0 where
   few : length turns ≤ 2 ^ 20
   each : All (IsTurnWithin guests) turns
 
--- a schedule of so many guests: few turns that are within their limits, or few rounds
+-- a schedule of that many guests: few turns that are within their limits, or few rounds
 abbrev IsScheduleOf : ℕ → Schedule → Type 0
 IsScheduleOf guests (Listed turns) = AreTurns guests turns
 IsScheduleOf guests (Rounds quantum rounds) = guests * rounds ≤ 2 ^ 20
@@ -100,7 +100,7 @@ spare_within Two t e =
     let (fits, _) = first_none (out_of_range None t (key.Spare, integer_of 0 32)) _ e in
     (optional_row 0 0 32 None t key.Spare (omega arith) (omega arith) fits).1
 
--- guests without a fault, a schedule of so many guests, and spare blocks
+-- guests without a fault, a schedule of that many guests, and spare blocks
 settled : (format : Format) (t : Members) (gs : List Members) (schedule : Schedule) → (1 ≤ length gs) × (length gs ≤ 16) → wrong_among None t (document_table format) ≡ None → guests_fault format [] gs ≡ None → schedule_at (length gs) t ≡ Some schedule → schedule_fault (weights_of (map (settings_of format) gs)) schedule ≡ None
     → IsWithinLimits (record { guests = map (settings_of format) gs; turns = turns_of (weights_of (map (settings_of format) gs)) schedule; spare = spare_at format t })
 settled format t gs schedule few fits guests is none =

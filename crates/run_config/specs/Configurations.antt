@@ -52,7 +52,7 @@ pub record IsGuestWithin (g : GuestSettings) : Type 0 where
   pub weight_most : g.weight ≤ 1000
   pub origin : IsOriginWithin g.origin
 
--- a turn of one of so many guests, of at most 2^32 steps
+-- a turn of one of that many guests, of at most 2^32 steps
 pub record IsTurnWithin (guests : ℕ) (turn : ℕ × ℕ) : Type 0 where
   pub guest : turn.0 < guests
   pub steps : turn.1 ≤ 2 ^ 32

@@ -48,7 +48,7 @@ too_long = fault_of 9 None
 unfoldable pub image_long : ℕ → ℕ → ConfigFault
 image_long guest bytes = record { number = 10; guest = Some guest; key = None; value = Some (pos bytes) }
 
--- the guests and the spare blocks need more frames than machine memory has: so many (own)
+-- the guests and the spare blocks need more frames than machine memory has: that many (own)
 unfoldable pub frames : ℕ → ConfigFault
 frames sum = record { number = 11; guest = None; key = None; value = Some (pos sum) }
 
@@ -56,11 +56,11 @@ frames sum = record { number = 11; guest = None; key = None; value = Some (pos s
 unfoldable pub input_file : ℕ → ℕ → ConfigFault
 input_file guest number = record { number = 12; guest = Some guest; key = None; value = Some (pos number) }
 
--- the weight of a guest times the quantum is more than 2^32: so much (own)
+-- the weight of a guest times the quantum is more than 2^32: that much (own)
 unfoldable pub weight : ℕ → ℕ → ConfigFault
 weight guest product = record { number = 13; guest = Some guest; key = None; value = Some (pos product) }
 
--- the file that a guest goes on from is no saved guest (own)
+-- the file that a guest goes on from is not a saved guest (own)
 unfoldable pub saved : ℕ → ConfigFault
 saved guest = fault_of 14 (Some guest)
 

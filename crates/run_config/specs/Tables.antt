@@ -9,7 +9,7 @@ use Rattle.run_config.specs.declared.keys.ConfigKey.TheVariants as key
 pub data Kind : Type 0 where
   -- any text
   any_text : Kind
-  -- a text of at least and at most so many bytes
+  -- a text of at least and at most that many bytes
   text_of : ℕ → ℕ → Kind
   -- an integer from the one on and at most the other
   integer_of : ℕ → ℕ → Kind

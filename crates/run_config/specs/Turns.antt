@@ -33,14 +33,14 @@ quantum_and_rounds guests document = do
   _ ← passes_if (nat_le (guests * rounds) (2 ^ 20))
   Some (Rounds quantum rounds)
 
--- how the turns of so many guests are said: in exactly one of the two forms
+-- how the turns of that many guests are said: in exactly one of the two forms
 unfoldable pub schedule_at : ℕ → Members → Option Schedule
 schedule_at guests document =
     if is_some (value_at key.Turns document)
     then listed_turns guests document
     else quantum_and_rounds guests document
 
--- what holds of the schedule of so many guests
+-- what holds of the schedule of that many guests
 abbrev pub IsFor : ℕ → Schedule → Type 0
 IsFor guests (Listed turns) = ⊤
 IsFor guests (Rounds quantum rounds) = (quantum ≤ 2 ^ 32) × (guests * rounds ≤ 2 ^ 20)

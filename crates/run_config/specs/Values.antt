@@ -37,7 +37,7 @@ number_within low high value = do
   _ ← passes_if (nat_le low number && nat_le number high)
   Some number
 
--- a text of at least and at most so many bytes
+-- a text of at least and at most that many bytes
 unfoldable pub has_length : ℕ → ℕ → List ℕ → Bool
 has_length low high text = nat_le low (length text) && nat_le (length text) high
 
@@ -47,7 +47,7 @@ is_of any_text value = is_some (as_str value)
 is_of (text_of low high) value = option_map_or (has_length low high) (as_str value) false
 is_of (integer_of low high) value = is_some (number_within low high value)
 
--- a text of at least and at most so many bytes, where a value is one
+-- a text of at least and at most that many bytes, where a value is one
 unfoldable pub text_within : ℕ → ℕ → Data → Option (List ℕ)
 text_within low high value = do
   text ← as_str value
@@ -74,7 +74,7 @@ unfoldable pub has_only : List ConfigKey → Members → Bool
 has_only keys no_members = true
 has_only keys (member name value rest) = list_any (bytes_eq name) (map name_of keys) && has_only keys rest
 
--- the tables of an array: none where an item is no table
+-- the tables of an array: none where an item is not a table
 unfoldable pub tables_of : Items → Option (List Members)
 tables_of no_items = Some []
 tables_of (item value rest) = do
@@ -87,7 +87,7 @@ unfoldable pub two_items : Items → Option (Data × Data)
 two_items (item first (item second no_items)) = Some (first, second)
 two_items _ = None
 
--- an array of two integers from 0 on, each at most so much
+-- an array of two integers from 0 on, each at most that much
 unfoldable pub pair_within : ℕ → ℕ → Data → Option (ℕ × ℕ)
 pair_within first_most second_most value = do
   items ← as_array value

@@ -29,7 +29,7 @@ impl Model for Config {
 }
 
 impl Config {
-    /// The configuration of these guests and turns, with so many spare blocks.
+    /// The configuration of these guests and turns, with that many spare blocks.
     pub(crate) fn new(guests: Vec<GuestSettings>, turns: Turns, spare: u64) -> Config
         requires { IsWithinLimits (record { guests = guests.items; turns = turns; spare = spare }) }
         ensures { result ≡ record { guests = guests.items; turns = turns; spare = spare } }

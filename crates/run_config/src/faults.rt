@@ -118,8 +118,8 @@ impl ConfigFault {
         fault_of(9, None)
     }
 
-    /// Fault 10, where an image is longer than the guest's RAM: so many bytes were read. `read` never answers
-    /// it.
+    /// Fault 10, where an image is longer than the guest's RAM: that many bytes were read. `read` never
+    /// answers it.
     #[tactic(auto, unfolding(crate::specs::Faults::image_long))]
     pub fn image_long(guest: u32, bytes: u64) -> ConfigFault
         requires { bytes < 2 ^ 63 }
@@ -133,7 +133,7 @@ impl ConfigFault {
         }
     }
 
-    /// Fault 11, where the guests need more frames of memory than there are: so many. `read` never answers
+    /// Fault 11, where the guests need more frames of memory than there are: that many. `read` never answers
     /// it.
     #[tactic(auto, unfolding(crate::specs::Faults::frames))]
     pub fn frames(sum: u64) -> ConfigFault
@@ -164,7 +164,7 @@ impl ConfigFault {
         }
     }
 
-    /// Fault 13, where the weight times the quantum is more than 2^32: so much.
+    /// Fault 13, where the weight times the quantum is more than 2^32: that much.
     #[tactic(auto, unfolding(crate::specs::Faults::weight))]
     pub fn weight(guest: u32, product: u64) -> ConfigFault
         requires { product < 2 ^ 63 }
@@ -178,7 +178,7 @@ impl ConfigFault {
         }
     }
 
-    /// Fault 14, where the file that a guest goes on from is no saved guest. `read` never answers it.
+    /// Fault 14, where the file that a guest goes on from is not a saved guest. `read` never answers it.
     #[tactic(auto, unfolding(crate::specs::Faults::saved))]
     pub fn saved(guest: u32) -> ConfigFault
         ensures { result ≡ fault.saved guest }

@@ -21,7 +21,7 @@ fn two_items(items: &Array) -> Option<(&Value, &Value)>
     }
 }
 
-/// The two numbers of an array of two, each from 0 to at most so much.
+/// The two numbers of an array of two, each from 0 to at most that much.
 #[tactic(auto, unfolding(crate::specs::Values::pair_within))]
 pub fn pair_within(first_most: u64, second_most: u64, value: &Value) -> Option<(u64, u64)>
     ensures pair { result ≡ pair_within first_most second_most (view value.now) }

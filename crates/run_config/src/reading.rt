@@ -194,7 +194,7 @@ fn body_of(alloc: Global, format: Format, document: &Table) -> Result<Config, Re
     Ok(Config::new(guests, turns, spare))
 }
 
-// The configuration that a document says. Want of memory never stands in the place of a refusal by `format`,
+// The configuration that a document says. Out of memory never stands in the place of a refusal by `format`,
 // or of one where there is no `guest`.
 #[tactic(auto, unfolding(crate::specs::Accept::document_fault))]
 fn configuration_of(alloc: Global, document: &Table) -> Result<Config, ReadEnd>
@@ -211,7 +211,7 @@ fn configuration_of(alloc: Global, document: &Table) -> Result<Config, ReadEnd>
 ///
 /// More than 65,536 bytes, and bytes that are no UTF-8, are refused before any memory is taken, so that want
 /// of memory never stands in the place of these two refusals. The document takes memory from its first value
-/// on, so want of memory may stand in the place of each other answer.
+/// on, so out of memory may stand in the place of each other answer.
 #[tactic(auto, unfolding(crate::specs::Accept::accept, crate::specs::Accept::configuration_fault, crate::specs::Accept::document_of))]
 pub fn read(alloc: Global, bytes: &[u8]) -> Result<Config, ReadEnd>
     ensures accepted { IfOk result (λ c. accept bytes.now ≡ Ok c) }

@@ -36,7 +36,7 @@ pub enum Schedule {
     Rounds { quantum: u64, rounds: u64 },
 }
 
-// The turn that a value is: the number of one of so many guests, and steps.
+// The turn that a value is: the number of one of that many guests, and steps.
 fn turn_in(guests: u32, value: &Value) -> Option<(u32, u64)>
     requires { 1 ≤ guests }
     ensures { result ≡ pair_within (guests - 1) (2 ^ 32) (view value.now) }
@@ -101,7 +101,7 @@ fn listed_turns(alloc: Global, guests: u32, document: &Table) -> Result<Option<S
     }
 }
 
-// Whether so many rounds of so many guests are few enough.
+// Whether that many rounds of that many guests are few enough.
 fn are_few(guests: u32, rounds: u64) -> bool
     ensures { result ≡ nat_le (guests * rounds) (2 ^ 20) }
 {
@@ -129,7 +129,7 @@ fn quantum_and_rounds(guests: u32, document: &Table) -> Option<Schedule>
     }
 }
 
-/// How the turns of so many guests are said, where they are said in one of the two forms.
+/// How the turns of that many guests are said, where they are said in one of the two forms.
 #[tactic(auto, unfolding(crate::specs::Turns::schedule_at))]
 pub fn schedule_at(
     alloc: Global,

@@ -54,7 +54,7 @@ pub fn number_within(low: u64, high: u64, value: &Value) -> Option<u64>
     }
 }
 
-/// Whether the text has at least and at most so many bytes.
+/// Whether the text has at least and at most that many bytes.
 #[tactic(auto, unfolding(crate::specs::Values::has_length))]
 pub fn has_length(low: usize, high: usize, text: &str) -> bool
     ensures { result ≡ has_length low high text.now }
@@ -62,7 +62,7 @@ pub fn has_length(low: usize, high: usize, text: &str) -> bool
     low <= text.len() && text.len() <= high
 }
 
-/// The text that a value is, where it has at least and at most so many bytes.
+/// The text that a value is, where it has at least and at most that many bytes.
 #[tactic(auto, unfolding(crate::specs::Values::text_within))]
 pub fn text_within(low: usize, high: usize, value: &Value) -> Option<&str>
     ensures { option_map (λ t. t.now) result ≡ text_within low high (view value.now) }

@@ -1,4 +1,4 @@
--- A run is held at its begin, at its next positions, and where it is brought back to.
+-- A run is held at its start, at its next positions, and where it is brought back to.
 use Rattle.std.proofs.Common.{arith, ◌≡◌, ◌∙◌, ℕ, ◌+◌, ◌^◌, ◌<◌, ◌≤◌, List, [], ◌∷◌, ◌++◌, length, ap, sym, refl, subst}
 use Rattle.std.specs.Global.{Vec}
 use Rattle.std.specs.List.{All, slice_index_or}
@@ -71,7 +71,7 @@ module _ {Y : Type 0} (R : runners.Ghosts Y) where
     };
   }
 
-  -- the begin is kept
+  -- the start is kept
   pub begin_is_kept : (p : Positions Y) → IsShown R p → IsKeptState R (begin_of R p) p.forms.kept (record { place = 0; form = 0 })
   begin_is_kept p held = record {
     inside = held.some;

@@ -25,7 +25,7 @@ const GAP: u64 = 16_384;
 const BEGIN: Kept = Kept { place: 0, form: 0 };
 
 /// A run of a machine at a position, which is after how many steps it is shown, with states that are kept. The
-/// first form of the pool is that of the begin.
+/// first form of the pool is that of the start.
 #[derive(Drop)]
 pub struct Positions<R> {
     runner: R,
@@ -51,7 +51,7 @@ fn keep_state<R: Runner>(runner: &R, forms: &mut FormPool) -> Result<(), NoMemor
 }
 
 impl<R: Runner + Drop> Positions<R> {
-    /// The run of a machine, at its begin.
+    /// The run of a machine, at its start.
     #[tactic(auto, using(crate::proofs::Moving::begun))]
     pub fn new(alloc: Global, runner: R) -> Result<Positions<R>, NoMemory>
         requires { (R.machine runner).platform.steps ≤ 2 ^ 60 }
@@ -162,7 +162,7 @@ impl<R: Runner + Drop> Positions<R> {
         }
     }
 
-    // The latest state that is kept and not behind a position, or that of the begin.
+    // The latest state that is kept and not behind a position, or that of the start.
     #[tactic(auto, using(crate::proofs::Moving::begin_is_kept))]
     fn nearest(&self, n: u64) -> Kept
         requires held { IsShown R.Runner self.now }
@@ -194,7 +194,7 @@ impl<R: Runner + Drop> Positions<R> {
         Ok(())
     }
 
-    // Brings back the latest state that is kept and not behind a position, or that of the begin. Where there
+    // Brings back the latest state that is kept and not behind a position, or that of the start. Where there
     // is no memory for it, the position stays.
     #[tactic(auto, using(crate::proofs::Moving::movings))]
     fn bring_back(&mut self, alloc: Global, n: u64) -> Result<(), NoMemory>
@@ -258,7 +258,7 @@ impl<R: Runner + Drop> Positions<R> {
         }
     }
 
-    /// Goes back to the last earlier position at which a stop holds, or to the begin. Where there is no
+    /// Goes back to the last earlier position at which a stop holds, or to the start. Where there is no
     /// memory for it, the position is any.
     #[tactic(auto, using(crate::proofs::Stopping::goings_back))]
     pub fn back_to_stop(&mut self, alloc: Global, stops: &Stops) -> Result<(), NoMemory>

@@ -1,4 +1,4 @@
--- Items without a fault have words, and no fault is want of memory.
+-- Items without a fault have words, and no fault is out of memory.
 use Rattle.std.proofs.Common.{◌≡◌, ℕ, ◌+◌, Bool, true, false, if◌then◌else◌, List, [], ◌∷◌, Option, Some, None, refl}
 use Rattle.std.specs.Option.{option_or}
 use Rattle.op_defs.specs.declared.ops.Op.{Op}
@@ -17,7 +17,7 @@ reaching_fits index id o None e = cc
 reaching_fits index id o (Some to) e =
     holds_unless (fits (with_offset (distance index to) o)) _ e
 
--- want of memory is no fault of an item
+-- out of memory is not a fault of an item
 
 offset_wants_none : (test : Bool) (fault : AsmFault) → (fault ≡ NoMemory → ⊥) → (if test then None else Some fault) ≡ Some NoMemory → ⊥
 offset_wants_none true fault h e = cc

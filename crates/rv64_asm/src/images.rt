@@ -96,7 +96,7 @@ impl Image {
     /// The bytes of the image: the ops' words, over them the placed bytes, and zeros in the gaps.
     ///
     /// Refuses the first op whose label is not set (`NoLabel`) or too far away (`TooFar`), before any memory
-    /// is taken; so want of memory (`NoMemory`) never stands in its place.
+    /// is taken; so out of memory (`NoMemory`) never stands in its place.
     #[tactic(auto, using(crate::proofs::Faultless::wants_none))]
     pub fn finish(self) -> Result<Vec<u8>, AsmFault>
         ensures ok { OnOk result (plan_fault self ≡ None) }

@@ -121,7 +121,7 @@ progressed watch trace (Exits trap) = None
 unfoldable pub one_more_step : Bool → Progress → Option Progress
 one_more_step watch p = if p.trapped then None else progressed watch p.trace (hart_step p.state p.memory)
 
--- so many steps, none of which traps to HS and, while watched, none but the last into VS
+-- that many steps, none of which traps to HS and, while watched, none but the last into VS
 unfoldable pub hart_steps : Bool → ℕ → Progress → Option Progress
 hart_steps watch zero p = Some p
 hart_steps watch (suc n) p = option_and_then (one_more_step watch) (hart_steps watch n p)

@@ -81,7 +81,7 @@ impl Hart {
         requires entries { tally.old.entries < 2 ^ 62 }
         requires taken { tally.old.taken + limit ≤ 2 ^ 62 }
 
-        // So many steps of the hart and no others.
+        // The given number of steps of the hart and no others.
         ensures steps { hart_steps watch result.taken
             (progress self.old.state memory.old tally.old.trace false)
             ≡ Some (progress self.new.state memory.new tally.new.trace (is_vs_trap result.why)) }

@@ -66,7 +66,7 @@ impl Tally {
         self.entries += 1;
     }
 
-    // The hart has made so many steps.
+    // The hart has made that many steps.
     pub(crate) fn take(&mut self, taken: u64)
         requires { self.old.taken + taken ≤ 2 ^ 62 }
         ensures { self.new ≡ record self.old { taken = self.old.taken + taken } }

@@ -35,7 +35,7 @@ pub fn wanted_of(virt: &Virtual, word: u32) -> Option<DataAccess>
 }
 
 /// The access to data that the word at pc wants, whether or not that has a place, by the hart's own fetch as
-/// memory is, in this state. None where the fetch has no place, and where the word is no instruction with
+/// memory is, in this state. None where the fetch has no place, and where the word is not an instruction with
 /// such an access; that of HLV, HLVX and HSV is the host's.
 #[tactic(auto, using(crate::proofs::Places::wanted_found, crate::proofs::Places::wanted_none))]
 pub fn wanted_at(state: &HartState, memory: &PhysMem) -> Option<DataAccess>

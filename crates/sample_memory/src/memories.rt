@@ -9,7 +9,7 @@ use arch_defs::Part;
 use phys_mem::{Mem, NoMemory, PhysMem};
 use std::alloc::Global;
 
-/// So many frames of zeros.
+/// The given number of frames of zeros.
 pub fn memory(alloc: Global, frames: u64) -> Result<PhysMem, NoMemory>
     requires some { 1 ≤ frames }
     requires most { frames ≤ most_frames }
@@ -54,7 +54,7 @@ pub fn put(memory: &mut PhysMem, at: u64, word: u64) {
     }
 }
 
-/// The doubleword at a place; none where it is no multiple of eight or past memory.
+/// The doubleword at a place; none where it is not a multiple of eight or past memory.
 pub fn word_at(memory: &PhysMem, at: u64) -> Option<u64> {
     if at % 8 == 0 { memory.get(at, 8) } else { None }
 }

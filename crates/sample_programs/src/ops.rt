@@ -9,7 +9,7 @@ use arch_defs::{Reg, Width};
 use op_defs::{AluOp, CsrOp, CsrSource, Op, Test, WordOp};
 use rv64_asm::{encode, fits};
 
-/// The word of a line of assembly, as the standard writes it, or none where it is no instruction.
+/// The word of a line of assembly, as the standard writes it, or none where it is not an instruction.
 pub fn word_of(line: &Line) -> Option<u32> {
     match op_of(line) {
         Some(op) => encoded(op),

@@ -1,4 +1,4 @@
--- The frames of so many spaces are apart from all others of the part.
+-- The frames of that many spaces are apart from all others of the part.
 use Rattle.std.proofs.Common.{ℕ, ◌+◌, ◌*◌, ◌≤◌, arith}
 use Rattle.std.proofs.lemmas.Nat.{mul-le}
 use Rattle.arch_defs.specs.Frames.{Apart, Frames, Within, in_blocks, within}

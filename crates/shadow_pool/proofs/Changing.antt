@@ -108,7 +108,7 @@ module _ (slots : List Slot) (old new : List ℕ) (key : GuestRoot) (i : ℕ) (w
   pub filled_root : front_root (set slots i after) ≡ front_root slots
   filled_root = root_kept slots old new i was after there.0 read (subst (λ slot. KeepsSpace slot.space old after.space new) (sym read) kept)
 
--- so many tables have been fenced
+-- that many tables have been fenced
 pub record IsFencing (fence : Fence) (slots : List Slot) (old : List ℕ) (i : ℕ) (after : List Slot) (new : List ℕ) : Type 0 where
   pub has : map space_of after ≡ map (option_map (fenced_space fence)) (take i (map space_of slots)) ++ drop i (map space_of slots)
   pub root : front_root after ≡ front_root slots

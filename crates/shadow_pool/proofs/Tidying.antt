@@ -16,7 +16,7 @@ use Rattle.arch_defs.specs.declared.roots.GuestRoot.{GuestRoot}
 use Rattle.shadow_pool.specs.Slots.{AreFolded, AreSlots, AreTidy, ComesBefore, IsSlot, has_key, key_is, table_frames_for}
 use Rattle.shadow_pool.proofs.Ordering.{pairs_set}
 
--- a space's frames are among those of so many spaces
+-- a space's frames are among those of that many spaces
 pub space_within : (part : Layout) (i count : ℕ) → i < count → Within (space_frames part i) (table_frames_for part count)
 space_within part i count own =
     joined_within (within (part.first_root + 4 * (1 + i)) 4) (within (part.first_table + 1 + i * tables_for part.entries) (tables_for part.entries)) (table_frames_for part count)

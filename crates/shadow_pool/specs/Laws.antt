@@ -60,7 +60,7 @@ FarIsNotOnDevice = (pool : Pooled) (memory : List ℕ) (mxr : Bool) (address : �
     → TidyPool pool memory → nat_lt address (2 ^ guest_bits) ≡ false
     → device_by_entries (front (spaces_of pool)) mxr address access ≡ false
 
--- the frames of so many spaces are of the part, apart from its RAM and from its host table
+-- the frames of that many spaces are of the part, apart from its RAM and from its host table
 abbrev pub PoolLiesWithin : Layout → Type 0
 PoolLiesWithin part = (count : ℕ) → count ≤ part.spaces → Within (table_frames_for part count) (named_by part)
 

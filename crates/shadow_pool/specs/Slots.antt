@@ -44,7 +44,7 @@ abbrev pub IsHeld : GuestRoot → List Space → Type 0
 IsHeld key [] = ⊥
 IsHeld key (s ∷ ss) = (is_for key s ≡ true) ⊎ IsHeld key ss
 
--- an entry is filled into the space for a value of hgatp, with room for so many
+-- an entry is filled into the space for a value of hgatp, with room for that many
 abbrev pub filled_for : GuestRoot → ℕ → List Space → Entry → List Space
 filled_for key most [] e = []
 filled_for key most (s ∷ ss) e =
@@ -62,7 +62,7 @@ abbrev pub front_root : List Slot → ℕ
 front_root [] = 0
 front_root (slot ∷ slots) = root_of slot.space
 
--- the frames that a part has for the tables of so many spaces
+-- the frames that a part has for the tables of that many spaces
 abbrev pub table_frames_for : Layout → ℕ → Frames
 table_frames_for part count =
     joined (within (part.first_root + 4) (4 * count))
@@ -75,7 +75,7 @@ AreTidy slots memory = All (λ slot. Tidy slot.space memory) slots
 abbrev pub AreFolded : List Slot → List ℕ → Type 0
 AreFolded slots memory = All (λ slot. Folded slot.space memory) slots
 
--- a table of a part, with one of the first numbers and room for so many entries
+-- a table of a part, with one of the first numbers and room for that many entries
 pub record IsSlot (layout : Layout) (room count : ℕ) (slot : Slot) : Type 0 where
   pub part : slot.space.part ≡ layout
   pub most : slot.space.most ≡ room

@@ -26,8 +26,8 @@ pub fn entered_is_in_front()
     ensures again { FrontIsEnteredAgain }
 {}
 
-/// The frames that a part has for so many spaces are frames of the part, apart from its RAM and from its host
-/// table.
+/// The frames that a part has for that many spaces are frames of the part, apart from its RAM and from its
+/// host table.
 pub fn pool_is_apart(part: &Part)
     ensures within { PoolLiesWithin part.now }
     ensures ram { RamIsApartFromSpaces part.now }

@@ -40,8 +40,8 @@ impl Model for Pool {
 }
 
 impl Pool {
-    /// A pool of at most so many spaces, of at most so many entries each, in the frames that a part has for
-    /// them. There are none yet. It may answer out of memory.
+    /// A pool of at most that many spaces, of at most that many entries each, in the frames that a part has
+    /// for them. There are none yet. It may answer out of memory.
     pub fn new(alloc: Global, part: &Part, spaces: u64, entries: u64) -> Result<Pool, NoMemory>
         requires some { 1 ≤ spaces }
         requires own { spaces ≤ part.now.spaces }

@@ -86,7 +86,7 @@ departed first i frame held =
     }
     else record { frames = fewer held.frames (frame - first); memory = held.memory }
 
--- of so many frames those that are free are known, each once: a frame has no table exactly where its count
+-- of that many frames those that are free are known, each once: a frame has no table exactly where its count
 -- is 0. There are no others with a count, and all counts have this sum
 pub record IsKept (frames : TableFrames) (count total : ℕ) : Type 0 where
   pub counts : length frames.counts ≡ most_tables
@@ -136,7 +136,7 @@ pub record HoldsList (tables : Tables) (blocks : List ℕ) (most : ℕ) (entries
   pub kept : IsKept frames (top * most) (top * length entries)
   pub stands : Stands tables (number_of entries) (leaves blocks entries) entries (held_in frames memory)
 
--- places without that of entry i of so many, with those behind it moved up
+-- places without that of entry i of that many, with those behind it moved up
 pub record HasMovedUp (old new : List ℕ) (i count : ℕ) : Type 0 where
   pub size : length new ≡ length old
   pub before : (k : ℕ) → k < i → slice_index new k ≡ slice_index old k

@@ -11,7 +11,7 @@ abbrev pub PointsTo : List ℕ → Tables → ℕ → ℕ → Type 0
 PointsTo memory tables frame to =
     (s : ℕ) × (s < slots tables frame) × (doubleword_at memory (512 * frame + s) ≡ pointer_word to)
 
--- so many pointers lead from the root to a frame
+-- that many pointers lead from the root to a frame
 abbrev pub IsReachedBy : List ℕ → Tables → ℕ → ℕ → Type 0
 IsReachedBy memory tables zero to = to ≡ tables.root
 IsReachedBy memory tables (suc n) to =

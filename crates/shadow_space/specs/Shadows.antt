@@ -47,7 +47,7 @@ tables_in part index = record {
   count = tables_for part.entries;
 }
 
--- the part's numbers are of so many bits
+-- the part's numbers are of that many bits
 pub record HasSmallNumbers (part : Layout) : Type 0 where
   pub blocks : (i : ℕ) → slice_index part.blocks i < 2 ^ 32
   pub root : part.first_root < 2 ^ 32
@@ -55,8 +55,8 @@ pub record HasSmallNumbers (part : Layout) : Type 0 where
   pub spaces : part.spaces < 2 ^ 16
   pub entries : part.entries < 2 ^ 16
 
--- what holds of each space: its part has it, with frames for so many entries; these are at most so many, and
--- each can be filled and has a page of its own
+-- what holds of each space: its part has it, with frames for that many entries; these are at most that many,
+-- and each can be filled and has a page of its own
 pub record IsShadow (space : Shadow) : Type 0 where
   pub once : NamesEachOnce space.part
   pub small : HasSmallNumbers space.part

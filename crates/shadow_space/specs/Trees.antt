@@ -83,7 +83,7 @@ pub record Says (word : ℕ → ℕ) (tables : Tables) (tree : Tree) (leaf : ℕ
   pub nothing : (h k s : ℕ) → h < top → tree.place h k ≡ None → s < 512
       → entry_of tree leaf (Table h k) s ≡ 0
 
--- the tables lie in memory of so many bytes, and a pointer has room for the number of each frame
+-- the tables lie in memory of that many bytes, and a pointer has room for the number of each frame
 pub record HasTables (tables : Tables) (size : ℕ) : Type 0 where
   pub lies : LieIn (frames_of tables) size
   pub root : tables.root + 4 < 2 ^ 44

@@ -20,7 +20,7 @@ use phys_mem::PhysMem;
 use stage_walk::pte_of;
 use table_words::{doubleword_at, set_word};
 
-/// Entries, at most so many, with leaves in the blocks of a part, and the frames of their tables.
+/// Entries, at most that many, with leaves in the blocks of a part, and the frames of their tables.
 #[derive(Drop)]
 pub struct CachedTable {
     pub part: Part,

@@ -24,7 +24,7 @@ pub struct TableFrames {
 }
 
 impl TableFrames {
-    /// So many free frames.
+    /// The given number of free frames.
     pub fn new(count: usize) -> TableFrames
         requires { count ≤ most_tables }
         ensures { IsKept result count 0 }
@@ -100,7 +100,7 @@ impl TableFrames {
         self.places[i] = j as u16;
     }
 
-    /// Forgets the frame of entry i of so many; those behind it move up.
+    /// Forgets the frame of entry i of that many; those behind it move up.
     pub fn drop_place(&mut self, i: usize, count: usize)
         requires inside { i < count }
         requires few { count ≤ most_entries }

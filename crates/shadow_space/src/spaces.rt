@@ -42,7 +42,7 @@ impl Model for Space {
 }
 
 impl Space {
-    /// The space of a part with this number, of at most so many entries, without any. It keeps the part.
+    /// The space of a part with this number, of at most that many entries, without any. It keeps the part.
     pub fn new(part: &Part, i: u64, entries: u64) -> Space
         requires index { i < part.now.spaces }
         requires few { entries ≤ most_entries }

@@ -15,7 +15,7 @@ use phys_mem::{PhysMem, RAM_BASE};
 use stage_walk::{leaf_to, pointer_to, pte_of, pte_word};
 use table_words::{doubleword_at, set_word};
 
-/// Where a space's tables lie: its root, of four frames, and so many others from a first one on.
+/// Where a space's tables lie: its root, of four frames, and that many others from a first one on.
 #[derive(Clone, Copy, PartialEq, Eq)]
 pub struct Tables {
     pub root: u64,

@@ -15,7 +15,7 @@ use Rattle.arch_defs.specs.Walk.{EntryReading, levels, most_levels, is_canonical
 use Rattle.arch_defs.proofs.Shapes.{few_levels}
 use Rattle.stage_walk.specs.Laws.{HasValid, AllValid, EntriesValid, IsTranslated, IsLeafOf, LastIsLeaf, LeafAddress}
 
--- where the end of a table's entries on is no page fault, those that were read are valid
+-- where the end of a table's entries on is not a page fault, those that were read are valid
 valid_from : (reading : EntryReading) (shape : Shape) (va : ℕ) (access : Access) (level table : ℕ)
     → end_of access (path_from reading shape va access level table) ≢ PageFault → AllValid (path_from reading shape va access level table)
 unfolding path_from end_of entry_next
@@ -87,7 +87,7 @@ translated (suc (suc (suc zero))) frame va small aligned = record {
     low (suc (suc (suc i))) below = absurd (omega arith)
 translated (suc (suc (suc (suc level)))) frame va small aligned = absurd (omega arith)
 
--- a pointer is no leaf
+-- a pointer is not a leaf
 pointer_leafless : (level : ℕ) (e : Pte) (leaf : LeafPte) → pointer_next level e ≢ Ends (end_at_leaf leaf)
 pointer_leafless level e leaf = by (e.a || e.d || e.u || level == 0)
   where

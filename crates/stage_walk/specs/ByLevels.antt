@@ -13,7 +13,7 @@ abbrev pub followed : (ℕ → WalkEnd) → Next → WalkEnd
 followed from (Ends end) = end
 followed from (Below table) = from table
 
--- the end from a table with so many levels on
+-- the end from a table with that many levels on
 unfoldable pub walk_from : EntryReading → Shape → ℕ → Access → ℕ → ℕ → WalkEnd
 walk_from reading shape va access zero table = PageFault
 walk_from reading shape va access (suc level) table =

@@ -14,7 +14,7 @@ pub record PteFits (e : Pte) : Type 0 where
   pub frame : e.frame < 2 ^ 44
   pub reserved : e.reserved < 2 ^ 10
 
--- a leaf's frame is a physical page number and the first of its page, and its level is one of so many
+-- a leaf's frame is a physical page number and the first of its page, and its level is one of that many
 pub record LeafFits (levels : ℕ) (leaf : LeafPte) : Type 0 where
   pub frame : leaf.frame < 2 ^ 44
   pub level : leaf.level < levels

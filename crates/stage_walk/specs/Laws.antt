@@ -110,7 +110,7 @@ abbrev pub AllValid : List Met → Type 0
 AllValid [] = Unit {0}
 AllValid (m ∷ ms) = HasValid m.read × AllValid ms
 
--- where a walk is no page fault, all entries that it read are valid
+-- where a walk is not a page fault, all entries that it read are valid
 abbrev pub EntriesValid : Type 0
 EntriesValid = (reading : EntryReading) (root : ℕ) (shape : Shape) (va : ℕ) (access : Access)
     → walk reading root shape va access ≢ PageFault → AllValid (path reading root shape va access)

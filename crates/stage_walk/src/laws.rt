@@ -38,7 +38,7 @@ pub fn walks_end_by_levels()
     ensures { EndsByLevels }
 {}
 
-/// Where a walk is no page fault, all entries that it read are valid.
+/// Where a walk is not a page fault, all entries that it read are valid.
 pub fn entries_are_valid()
     ensures { EntriesValid }
 {}

@@ -139,7 +139,7 @@ fn bytes_of_a_moment(rt: HostRuntime) -> Result<(), Fail> {
     Ok(())
 }
 
-// So many records of the moment 7 and the byte 65.
+// The given number of records of the moment 7 and the byte 65.
 fn records(alloc: Global, count: u32) -> Result<Vec<u8>, AllocError> {
     let mut bytes = Vec::new(alloc);
     for _ in 0..count {
@@ -148,7 +148,7 @@ fn records(alloc: Global, count: u32) -> Result<Vec<u8>, AllocError> {
     Ok(bytes)
 }
 
-// How many inputs a file of so many such records and a few bytes gives, or the number of its first bad
+// How many inputs a file of that many such records and a few bytes gives, or the number of its first bad
 // record.
 fn count_of(alloc: Global, count: u32, rest: &[u8]) -> Result<Result<usize, u64>, AllocError> {
     let mut bytes = records(alloc, count)?;

@@ -41,7 +41,7 @@ fn are_texts(words: &[Word], texts: &[&[u8]]) -> bool {
             .all(|(word, text)| word.as_str().as_bytes() == *text)
 }
 
-// An argument that is no text is an empty word.
+// An argument that is not a text is an empty word.
 #[test]
 fn each_argument_is_a_word(rt: HostRuntime) -> Result<(), Fail> {
     let long = [b'l'; 300];

@@ -462,7 +462,7 @@ static LENGTHS: [(usize, bool); 5] = [
     (256, false),
 ];
 
-// The configuration of a guest whose file has a name of so many bytes.
+// The configuration of a guest whose file has a name of that many bytes.
 fn text_of_length(alloc: Global, length: usize) -> Result<String, AllocError> {
     let mut text = String::from_str(alloc, "format=2\nturns=[]\nguest=[{name='a',resume='")?;
     for _ in 0..length {

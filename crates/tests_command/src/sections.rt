@@ -9,7 +9,7 @@ use report::{GuestLine, section};
 use std::alloc::Global;
 use std::test::Fail;
 
-// A put that fails, by its number from 1 on, after it took so many bytes.
+// A put that fails, by its number from 1 on, after it took that many bytes.
 struct FailingPut {
     number: u64,
     taken: usize,

@@ -60,7 +60,7 @@ fn clean_sink_takes_all(rt: HostRuntime) {
     assert!(rt; put_three(&mut CleanSink, b"a", b"b", b"c") == Ok(()));
 }
 
-// A writer that takes so many bytes and then nothing.
+// A writer that takes that many bytes and then nothing.
 #[derive(Drop)]
 struct Narrow {
     left: usize,

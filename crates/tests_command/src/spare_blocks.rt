@@ -18,7 +18,7 @@ const CASE: Case = Case {
     spare: Ok(0),
 };
 
-// What a value says that is no integer, and what 33 says.
+// What a value says that is not an integer, and what 33 says.
 const WRONG_KIND: Result<u64, ConfigFault> = Err(ConfigFault {
     number: 4,
     guest: None,

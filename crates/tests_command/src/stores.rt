@@ -6,7 +6,7 @@ use std::alloc::Global;
 use std::io::ErrorKind;
 use std::test::Fail;
 
-// A read of at most so many bytes, and the bytes that it gives: none where it fails.
+// A read of at most that many bytes, and the bytes that it gives: none where it fails.
 #[derive(Clone, Copy)]
 struct Read {
     name: &'static str,

@@ -486,7 +486,7 @@ fn is_by_tag(alloc: Global) -> Result<bool, LineFault> {
     Ok(value_at(&hart.state().virt, X(10)) == Some(OTHER))
 }
 
-// Runs of so many steps each, to the end. There are at most a hundred.
+// Runs of that many steps each, to the end. There are at most a hundred.
 fn run(hart: &mut Hart, memory: &mut PhysMem, limit: u64, tally: &mut Tally) -> Why
     requires { limit ≤ 100 }
 {
@@ -502,7 +502,7 @@ fn run(hart: &mut Hart, memory: &mut PhysMem, limit: u64, tally: &mut Tally) -> 
     Why::Limit
 }
 
-// What runs of so many steps leave, with the doubleword at which x7 is in its leaf of 1 GiB.
+// What runs of that many steps leave, with the doubleword at which x7 is in its leaf of 1 GiB.
 #[derive(Clone, Copy)]
 struct Outcome {
     why: Why,
@@ -549,7 +549,7 @@ const LOOP: Case = Case {
     ..CASE
 };
 
-// How many walks a loop of so many steps makes.
+// How many walks a loop of that many steps makes.
 fn walks_of_a_loop(alloc: Global, steps: u64) -> Result<Option<u64>, LineFault>
     requires { steps ≤ 100_000 }
 {

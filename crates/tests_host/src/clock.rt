@@ -120,7 +120,7 @@ fn calls_and_time(rt: HostRuntime) -> Result<(), Fail> {
 }
 
 // An input can be read from its moment on, by the clock before the step, also where the console is full. Then
-// it is no more pending.
+// it is no longer pending.
 struct Get {
     time: u64,
     clock: u64,

@@ -112,7 +112,7 @@ const FOLDED: Case = Case {
 
 static CASES: [Case; 7] = [
     // The SRET enters the space of hgatp, which is empty: the fetch and the load each lack their page's
-    // entry, which is filled and is no step.
+    // entry, which is filled and is not a step.
     Case {
         name: "misses are no steps",
         made: &[STEPPED, RETRY, RETRY, HART],

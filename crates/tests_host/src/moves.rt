@@ -61,12 +61,12 @@ enum Call {
     Turn(Turn),
     // Block 0 of this guest moves, or no block is free.
     Move(u32, bool),
-    // So many steps of this guest, before each of which its block 0 moves.
+    // The given number of steps of this guest, before each of which its block 0 moves.
     Steps(u32, u64),
     Retire(u32),
-    // So many blocks are free.
+    // That many blocks are free.
     Free(u64),
-    // So many blocks were moved.
+    // That many blocks were moved.
     Count(u64),
 }
 
@@ -224,7 +224,7 @@ fn retires(host: &mut Host, g: u32) -> bool {
     g < host.count() && host.has_retired(g) && host.blocks(g) == 0
 }
 
-// Whether a guest makes so many steps, before each of which its block 0 moves.
+// Whether a guest makes that many steps, before each of which its block 0 moves.
 fn steps(host: &mut Host, g: u32, count: u64, tally: &mut Tally, moves: &mut Moves) -> bool {
     for _ in 0..count {
         if moves_block(host, g, moves) != Some(true) || !makes(host, Turn(g, 1, 1), tally) {

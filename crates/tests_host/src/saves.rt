@@ -19,7 +19,7 @@ const NEED: Need = Need {
     entries: 16,
 };
 
-// A guest that makes so many steps, and after how many of them it is saved.
+// A guest that makes that many steps, and after how many of them it is saved.
 struct Case {
     name: &'static str,
     image: &'static [u8],
@@ -49,7 +49,7 @@ static CASES: [Case; 3] = [
     },
 ];
 
-// The host of one guest after so many steps, if these are within the limits of a test.
+// The host of one guest after that many steps, if these are within the limits of a test.
 fn ran(alloc: Global, image: &[u8], steps: u64) -> Result<Option<Host>, NoMemory> {
     let Some(guests) = guests(alloc, &[image])? else {
         return Ok(None);
@@ -91,7 +91,7 @@ fn resumed(alloc: Global, bytes: &[u8]) -> Result<Option<Host>, NoMemory> {
     Ok(Some(Host::boot_from(alloc, sources, 1)?))
 }
 
-// Whether a guest that goes on from these bytes is saved as them, and as others after so many steps.
+// Whether a guest that goes on from these bytes is saved as them, and as others after that many steps.
 fn goes_on(alloc: Global, bytes: &[u8], steps: u64, whole: &[u8]) -> Result<bool, NoMemory> {
     let Some(mut host) = resumed(alloc, bytes)? else {
         return Ok(false);
@@ -110,7 +110,7 @@ fn is_saved_as(alloc: Global, host: &Host, bytes: &[u8]) -> Result<bool, NoMemor
     }
 }
 
-// What is saved of a guest after so many steps.
+// What is saved of a guest after that many steps.
 fn saved_after(alloc: Global, image: &[u8], steps: u64) -> Result<Option<ListSink>, NoMemory> {
     match ran(alloc, image, steps)? {
         Some(host) => saved(alloc, &host),
@@ -118,7 +118,7 @@ fn saved_after(alloc: Global, image: &[u8], steps: u64) -> Result<Option<ListSin
     }
 }
 
-// Whether a guest that is saved after so many of its steps ends as one that is not.
+// Whether a guest that is saved after that many of its steps ends as one that is not.
 fn ends_alike(alloc: Global, case: &Case, steps: u64, whole: &[u8]) -> Result<bool, NoMemory> {
     let left = case.steps.wrapping_sub(steps);
     match saved_after(alloc, case.image, steps)? {

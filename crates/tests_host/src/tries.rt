@@ -14,16 +14,16 @@ use std::alloc::Global;
 /// Who made a step.
 #[derive(Clone, Copy, PartialEq, Eq)]
 pub enum By {
-    // So many steps of one entry.
+    // The given number of steps of one entry.
     Hart(u64),
-    // The last of so many steps of one entry entered VS.
+    // The last of that many steps of one entry entered VS.
     HartByTrap(u64),
     HostByInterrupt,
     Host(Handled),
 }
 
-/// So many tries of the guest's next steps, fewer where it does not go on, with who made each. An entry has
-/// at most so many steps.
+/// The given number of tries of the guest's next steps, fewer where it does not go on, with who made each. An
+/// entry has at most that many steps.
 pub fn tries(
     alloc: Global,
     guest: &mut Guest,

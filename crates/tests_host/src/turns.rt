@@ -52,7 +52,7 @@ const WAITS: [u8; 4] = [0x73, 0x00, 0x50, 0x10];
 // 0000006F: jal x0, 0.
 const LOOPS: [u8; 4] = [0x6F, 0x00, 0x00, 0x00];
 
-// A turn of the guest of this number, of at most so many steps, and how many it makes.
+// A turn of the guest of this number, of at most that many steps, and how many it makes.
 #[derive(Clone, Copy)]
 pub struct Turn(pub u32, pub u64, pub u64);
 

@@ -382,7 +382,7 @@ fn reserved_words_are_none(rt: HostRuntime) {
     }
 }
 
-// The groups, in the order of the table below; the last is that of words that are no instruction.
+// The groups, in the order of the table below; the last is that of words that are not an instruction.
 const GROUPS: usize = 28;
 
 fn group_of(op: Option<Op>) -> usize

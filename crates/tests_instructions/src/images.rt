@@ -14,7 +14,7 @@ use std::test::Fail;
 #[derive(Clone, Copy)]
 enum Step {
     Push(Form),
-    /// So many ADDI x0, x0, 0.
+    /// The given number of ADDI x0, x0, 0.
     Gap(u32),
     /// BEQ of two registers to a label.
     Branch(u32, u32, u32),
@@ -24,7 +24,7 @@ enum Step {
     Bytes(u64, &'static [u8]),
 }
 
-// How an image ends: by a refusal, or with so many bytes, these from a place on.
+// How an image ends: by a refusal, or with that many bytes, these from a place on.
 #[derive(Clone, Copy)]
 enum End {
     NoLabel(u32),

@@ -175,7 +175,7 @@ fn gives(mem: &PhysMem, root: u64, rows: &[Row], numbers: [u16; 3]) -> bool {
     true
 }
 
-// The numbers that are left in a space with room for so many where a few pages more are filled.
+// The numbers that are left in a space with room for that many where a few pages more are filled.
 fn left_after(numbers: [u16; 3], more: usize, most: usize) -> [u16; 3] {
     let dropped = (count(numbers) + more.min(3)).saturating_sub(most);
     let mut left = numbers;

@@ -17,8 +17,8 @@ struct Share {
     entries: u64,
 }
 
-// What guests need, with so many spare blocks, the frames of their plan or those that are too many, and some
-// of the parts.
+// What guests need, with that many spare blocks, the frames of their plan or those that are too many, and
+// some of the parts.
 struct Case {
     name: &'static str,
     needs: &'static [Need],

@@ -23,7 +23,7 @@ pub struct Machine {
     pub pool: Pool,
 }
 
-// The pool of all spaces of a part in memory of so many frames of zeros, if these hold the part's tables.
+// The pool of all spaces of a part in memory of that many frames of zeros, if these hold the part's tables.
 fn empty_pool(
     alloc: Global,
     part: &Part,

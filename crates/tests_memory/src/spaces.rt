@@ -22,7 +22,7 @@ struct Machine {
     space: Space,
 }
 
-// The space of a part in memory of so many frames of zeros, if these hold the part's tables.
+// The space of a part in memory of that many frames of zeros, if these hold the part's tables.
 fn empty_space(
     alloc: Global,
     part: &Part,
@@ -400,7 +400,7 @@ fn spaces(rt: HostRuntime) -> Result<(), Fail> {
     Ok(())
 }
 
-// Fills the first page of each of so many spans of 134,217,728 pages, with the frames from 80000 on.
+// Fills the first page of each of that many spans of 134,217,728 pages, with the frames from 80000 on.
 fn fill_spans(space: &mut Space, mem: &mut PhysMem, count: u64)
     requires tidy { Tidy space.old mem.old }
     requires blocks { length space.old.part.blocks ≡ 2 }

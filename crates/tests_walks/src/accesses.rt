@@ -236,7 +236,7 @@ enum End {
 }
 
 // An address of memory of sixteen frames without translation, and how an access of this width ends there: it
-// is no multiple of the width, whether memory has the place or not, or it is past memory.
+// is not a multiple of the width, whether memory has the place or not, or it is past memory.
 struct Place {
     va: u64,
     width: Width,

@@ -118,7 +118,7 @@ enum Step {
     Enter(Setting),
     /// A first-stage translation of a page is cached.
     Fill(u64, u64),
-    /// So many of other pages are cached.
+    /// That many of other pages are cached.
     Crowd(u64),
     /// Another turn, before which this doubleword was changed.
     BeginAgain(u64, u64),

@@ -127,7 +127,7 @@ pub enum End {
     Fault(u64, u64),
 }
 
-/// The trap's tval is the address, and it is no implicit read's.
+/// The trap's tval is the address, and it is not an implicit read's.
 pub fn expected(va: u64, end: End) -> Result<u64, Trap> {
     match end {
         End::Place(place) => Ok(place),

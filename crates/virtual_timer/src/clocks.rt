@@ -99,7 +99,8 @@ impl Clock {
         self.time += 1;
     }
 
-    /// So many steps have been made, all of which began before the timer's moment, where that was ahead.
+    /// The given number of steps have been made, all of which began before the timer's moment, where that was
+    /// ahead.
     pub fn advance(&mut self, steps: u64)
         requires event { ForSome (next_event self.old) (λ moment. self.old.time + steps ≤ moment) }
         requires room { self.old.time + steps ≤ 2 ^ 63 }

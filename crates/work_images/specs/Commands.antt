@@ -9,7 +9,7 @@ use Rattle.work_images.specs.Numbers.{number, draw}
 abbrev pub slot_address : ℕ → ℕ
 slot_address slot = 0x80009000 + 8 * slot
 
--- an entry for one of the 15 pages of data, with V, R, W, U, A and D set; 15 is no page
+-- an entry for one of the 15 pages of data, with V, R, W, U, A and D set; 15 is not a page
 abbrev pub mapping : ℕ → ℕ
 mapping page = if page == 15 then 0 else (0x8000A + page) * 0x400 + 0xD7
 
@@ -28,7 +28,7 @@ command slot page fenced read = record {
 abbrev pub command_from : ℕ → Command
 command_from x = command (1 + draw x 0 32) (draw x 1 16) (draw x 2 4) (1 + draw x 3 32)
 
--- so many commands, each by the four draws after those of the one before
+-- that many commands, each by the four draws after those of the one before
 unfoldable pub commands_from : ℕ → ℕ → List Command
 commands_from x count = map (λ i. command_from (number x (4 * i))) (range_with_len 0 count)
 

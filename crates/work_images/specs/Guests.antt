@@ -11,7 +11,7 @@ use Rattle.work_images.specs.Program.{image_plan}
 unfoldable pub image_bytes : ImagePlan → List ℕ
 image_bytes plan = map (byte_at plan) (range_with_len 0 (size plan))
 
--- the image of so many commands that are drawn from a number on
+-- the image of that many commands that are drawn from a number on
 abbrev pub image_from : ℕ → ℕ → List ℕ
 image_from x count = image_bytes (image_plan (list_bytes (commands_from x count)))
 

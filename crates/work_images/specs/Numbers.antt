@@ -6,7 +6,7 @@ use Rattle.std.specs.Prelude.{ℕ, zero, suc, ◌+◌, ◌*◌, ◌/◌, ◌%◌
 abbrev pub following : ℕ → ℕ
 following x = (x * 1103515245 + 12345) % 2 ^ 31
 
--- the number that stands so many after a number
+-- the number that stands that many after a number
 unfoldable pub number : ℕ → ℕ → ℕ
 number x zero = x
 number x (suc count) = following (number x count)

@@ -71,7 +71,7 @@ fn mapping(page: u64) -> u64
     }
 }
 
-/// The bytes of so many commands that are drawn, and of the doubleword 0 at their end.
+/// The bytes of that many commands that are drawn, and of the doubleword 0 at their end.
 pub fn drawn_bytes(alloc: Global, numbers: &mut Numbers, count: u64) -> Result<Vec<u8>, NoMemory>
     ensures numbers { OnOk result (numbers.new ≡ number numbers.old (4 * count)) }
     ensures bytes { IfOk result (λ v. v.items ≡ list_bytes (commands_from numbers.old count)) }

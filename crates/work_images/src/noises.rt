@@ -7,7 +7,7 @@ use crate::numbers::Numbers;
 use no_memory::NoMemory;
 use std::alloc::Global;
 
-/// So many bytes that are drawn from a seed on.
+/// The given number of bytes that are drawn from a seed on.
 pub fn noise(alloc: Global, seed: u64, len: u64) -> Result<Vec<u8>, NoMemory>
     requires seed { seed < 2 ^ 31 }
     requires most { len ≤ 2093056 }

@@ -34,7 +34,7 @@ returns-in-Some-clause-makes c = record {
       (rw c.key-key.ensures (folding_front c.args.guest.now c.args.memory.now c.args.access.now c.in-Some.entry c.requires.can.placed (sym c.entry_for.ensures.entry ∙ c.in-Some.is)).first));
 }
 
--- on the device page nothing is lacking
+-- on the device page nothing is missing
 pub returns-then-has_on_device-clause-makes : goal.returns-then-has_on_device-clause-makes
 returns-then-has_on_device-clause-makes c =
     let m = machine_of c.args.guest.now c.args.memory.now in
