@@ -1,14 +1,16 @@
 // The table of words, by opcode.
 
-ghost use Rattle.std.specs.Prelude.{◌≡◌, Some, None, IfSome, ◌==◌, if◌then◌else◌, true};
-ghost use Rattle.op_defs.specs.declared.ops.Op.TheVariants.{Jalr};
-ghost use Rattle.op_defs.specs.Fields.{funct3, rd, rs1, i_immediate};
+ghost use Rattle.std.specs.Prelude.{◌≡◌, ◌+◌, ◌*◌, ◌%◌, ◌==◌, Some, None, IfSome, if◌then◌else◌, true};
+ghost use Rattle.arch_defs.specs.Bits.{field};
+ghost use Rattle.op_defs.specs.declared.ops.Op.TheVariants.{Auipc, Jal, Jalr, Lui};
+ghost use Rattle.op_defs.specs.Fields.{funct3, rd, rs1, i_immediate, j_immediate, u_immediate};
 ghost use Rattle.op_defs.specs.Table.{op_of, test_of, branch_of, load_of, store_of, fence_of, is_system};
 ghost use Rattle.rv64_decode.specs.Common.{common_op_of};
 
 use crate::atomics::atomic;
 use crate::fields::{
-    b_immediate, funct3, i_immediate, j_immediate, rd, rs1, rs2, s_immediate, u_immediate, width,
+    b_immediate, funct3, i_immediate, index, j_immediate, rd, rs1, rs2, s_immediate, u_immediate,
+    width,
 };
 use crate::registers::{immediate, register, word, word_immediate};
 use crate::systems::system;
@@ -39,43 +41,137 @@ pub fn decode_system(bits: u32) -> Option<Op>
 }
 
 /// The same, but none for a word of MISC-MEM, AMO or SYSTEM.
-#[tactic(auto, unfolding(op_defs::specs::Table::op_of, crate::specs::Common::common_op_of))]
+#[tactic(auto, using(crate::proofs::Indices::outside))]
 #[inline(always)]
 pub fn decode_common(bits: u32) -> Option<Op>
     ensures value { result ≡ common_op_of bits }
     ensures known { IfSome result (λ op. op_of bits ≡ Some op) }
 {
-    match bits & 0x7F {
-        0b0110111 => Some(Op::Lui {
-            rd: rd(bits),
-            immediate: u_immediate(bits),
-        }),
-        0b0010111 => Some(Op::Auipc {
-            rd: rd(bits),
-            immediate: u_immediate(bits),
-        }),
-        0b1101111 => Some(Op::Jal {
-            rd: rd(bits),
-            offset: j_immediate(bits),
-        }),
-        0b1100111 => jump_by_register(bits),
-        0b1100011 => branch(bits),
-        0b0000011 => load(bits),
-        0b0100011 => store(bits),
-        0b0010011 => immediate(bits),
-        0b0110011 => register(bits),
-        0b0011011 => word_immediate(bits),
-        0b0111011 => word(bits),
+    if bits % 4 == 3 {
+        indexed(index(bits), bits)
+    } else {
+        None
+    }
+}
+
+// The same of a word with the low bits 11 by its index, so that one dispatch tells opcode and funct3.
+#[tactic(auto, using(crate::proofs::Indices::opcode_at, crate::proofs::Indices::funct3_at), unfolding(op_defs::specs::Table::op_of, crate::specs::Common::common_op_of))]
+#[inline(always)]
+fn indexed(index: u32, bits: u32) -> Option<Op>
+    requires low { bits % 4 ≡ 3 }
+    requires index { index ≡ field 2 5 bits + 32 * funct3 bits }
+    ensures value { result ≡ common_op_of bits }
+    ensures known { IfSome result (λ op. op_of bits ≡ Some op) }
+{
+    match index {
+        0x00 => load(0, bits),
+        0x20 => load(1, bits),
+        0x40 => load(2, bits),
+        0x60 => load(3, bits),
+        0x80 => load(4, bits),
+        0xA0 => load(5, bits),
+        0xC0 => load(6, bits),
+        0xE0 => load(7, bits),
+        0x08 => store(0, bits),
+        0x28 => store(1, bits),
+        0x48 => store(2, bits),
+        0x68 => store(3, bits),
+        0x88 => store(4, bits),
+        0xA8 => store(5, bits),
+        0xC8 => store(6, bits),
+        0xE8 => store(7, bits),
+        0x04 => immediate(0, bits),
+        0x24 => immediate(1, bits),
+        0x44 => immediate(2, bits),
+        0x64 => immediate(3, bits),
+        0x84 => immediate(4, bits),
+        0xA4 => immediate(5, bits),
+        0xC4 => immediate(6, bits),
+        0xE4 => immediate(7, bits),
+        0x0C => register(0, bits),
+        0x2C => register(1, bits),
+        0x4C => register(2, bits),
+        0x6C => register(3, bits),
+        0x8C => register(4, bits),
+        0xAC => register(5, bits),
+        0xCC => register(6, bits),
+        0xEC => register(7, bits),
+        0x06 => word_immediate(0, bits),
+        0x26 => word_immediate(1, bits),
+        0x46 => word_immediate(2, bits),
+        0x66 => word_immediate(3, bits),
+        0x86 => word_immediate(4, bits),
+        0xA6 => word_immediate(5, bits),
+        0xC6 => word_immediate(6, bits),
+        0xE6 => word_immediate(7, bits),
+        0x0E => word(0, bits),
+        0x2E => word(1, bits),
+        0x4E => word(2, bits),
+        0x6E => word(3, bits),
+        0x8E => word(4, bits),
+        0xAE => word(5, bits),
+        0xCE => word(6, bits),
+        0xEE => word(7, bits),
+        0x18 => branch(0, bits),
+        0x38 => branch(1, bits),
+        0x58 => branch(2, bits),
+        0x78 => branch(3, bits),
+        0x98 => branch(4, bits),
+        0xB8 => branch(5, bits),
+        0xD8 => branch(6, bits),
+        0xF8 => branch(7, bits),
+        0x19 => jump_by_register(0, bits),
+        0x39 => jump_by_register(1, bits),
+        0x59 => jump_by_register(2, bits),
+        0x79 => jump_by_register(3, bits),
+        0x99 => jump_by_register(4, bits),
+        0xB9 => jump_by_register(5, bits),
+        0xD9 => jump_by_register(6, bits),
+        0xF9 => jump_by_register(7, bits),
+        0x0D | 0x2D | 0x4D | 0x6D | 0x8D | 0xAD | 0xCD | 0xED => load_upper(bits),
+        0x05 | 0x25 | 0x45 | 0x65 | 0x85 | 0xA5 | 0xC5 | 0xE5 => add_upper(bits),
+        0x1B | 0x3B | 0x5B | 0x7B | 0x9B | 0xBB | 0xDB | 0xFB => jump(bits),
         _ => None,
     }
 }
 
 #[inline(always)]
-fn jump_by_register(bits: u32) -> Option<Op>
+fn load_upper(bits: u32) -> Option<Op>
+    ensures { result ≡ Some (Lui (rd bits) (u_immediate bits)) }
+{
+    Some(Op::Lui {
+        rd: rd(bits),
+        immediate: u_immediate(bits),
+    })
+}
+
+#[inline(always)]
+fn add_upper(bits: u32) -> Option<Op>
+    ensures { result ≡ Some (Auipc (rd bits) (u_immediate bits)) }
+{
+    Some(Op::Auipc {
+        rd: rd(bits),
+        immediate: u_immediate(bits),
+    })
+}
+
+#[inline(always)]
+fn jump(bits: u32) -> Option<Op>
+    ensures { result ≡ Some (Jal (rd bits) (j_immediate bits)) }
+{
+    Some(Op::Jal {
+        rd: rd(bits),
+        offset: j_immediate(bits),
+    })
+}
+
+#[inline(always)]
+fn jump_by_register(minor: u32, bits: u32) -> Option<Op>
+    requires { minor ≡ funct3 bits }
     ensures { result
         ≡ (if funct3 bits == 0 then Some (Jalr (rd bits) (rs1 bits) (i_immediate bits)) else None) }
 {
-    if funct3(bits) == 0 {
+    if minor == 0 {
         Some(Op::Jalr {
             rd: rd(bits),
             rs1: rs1(bits),
@@ -88,10 +184,11 @@ fn jump_by_register(bits: u32) -> Option<Op>
 
 #[tactic(auto, unfolding(op_defs::specs::Table::branch_of))]
 #[inline(always)]
-fn branch(bits: u32) -> Option<Op>
+fn branch(minor: u32, bits: u32) -> Option<Op>
+    requires { minor ≡ funct3 bits }
     ensures { result ≡ branch_of bits }
 {
-    match test(funct3(bits)) {
+    match test(minor) {
         Some(test) => Some(Op::Branch {
             test,
             rs1: rs1(bits),
@@ -118,31 +215,33 @@ fn test(funct3: u32) -> Option<Test>
     }
 }
 
-#[tactic(auto, unfolding(op_defs::specs::Table::load_of))]
+#[tactic(auto, using(crate::proofs::Indices::low_bits, crate::proofs::Indices::high_bit), unfolding(op_defs::specs::Table::load_of))]
 #[inline(always)]
-fn load(bits: u32) -> Option<Op>
+fn load(minor: u32, bits: u32) -> Option<Op>
+    requires { minor ≡ funct3 bits }
     ensures { result ≡ load_of bits }
 {
-    if funct3(bits) == 7 {
+    if minor == 7 {
         return None;
     }
     Some(Op::Load {
-        width: width(bits),
-        signed: (bits >> 14) & 1 == 0,
+        width: width(minor),
+        signed: minor / 4 == 0,
         rd: rd(bits),
         rs1: rs1(bits),
         offset: i_immediate(bits),
     })
 }
 
-#[tactic(auto, unfolding(op_defs::specs::Table::store_of))]
+#[tactic(auto, using(crate::proofs::Indices::low_bits, crate::proofs::Indices::high_bit), unfolding(op_defs::specs::Table::store_of))]
 #[inline(always)]
-fn store(bits: u32) -> Option<Op>
+fn store(minor: u32, bits: u32) -> Option<Op>
+    requires { minor ≡ funct3 bits }
     ensures { result ≡ store_of bits }
 {
-    if (bits >> 14) & 1 == 0 {
+    if minor / 4 == 0 {
         Some(Op::Store {
-            width: width(bits),
+            width: width(minor),
             rs1: rs1(bits),
             rs2: rs2(bits),
             offset: s_immediate(bits),

@@ -1,6 +1,6 @@
 // The fields of a word, and the immediates of the formats.
 
-ghost use Rattle.std.specs.Prelude.{◌≡◌, ◌^◌, ◌<◌};
+ghost use Rattle.std.specs.Prelude.{◌≡◌, ◌+◌, ◌*◌, ◌%◌, ◌<◌};
 ghost use Rattle.arch_defs.specs.Bits.{field, sign_extend};
 ghost use Rattle.op_defs.specs.Fields.{i_immediate, s_immediate, b_immediate, u_immediate, j_immediate, funct3, funct7, rd, rs1, rs2};
 ghost use Rattle.op_defs.specs.Table.{width_of};
@@ -47,10 +47,10 @@ pub fn funct7(word: u32) -> u32
 /// The width that the low two bits of funct3 name.
 #[tactic(auto, unfolding(op_defs::specs::Table::width_of))]
 #[inline(always)]
-pub fn width(word: u32) -> Width
-    ensures { result ≡ width_of (field 12 2 word) }
+pub fn width(funct3: u32) -> Width
+    ensures { result ≡ width_of (funct3 % 4) }
 {
-    match (word >> 12) & 3 {
+    match funct3 % 4 {
         0 => Width::Byte,
         1 => Width::Half,
         2 => Width::Word,
@@ -62,66 +62,50 @@ pub fn width(word: u32) -> Width
 pub fn i_immediate(word: u32) -> u64
     ensures { result ≡ i_immediate word }
 {
-    extend_12((word >> 20) as u64)
+    (word.cast_signed() as i64 >> 20).cast_unsigned()
 }
 
 #[inline(always)]
 pub fn s_immediate(word: u32) -> u64
     ensures { result ≡ s_immediate word }
 {
-    extend_12((word >> 25) as u64 * 0x20 + ((word >> 7) & 31) as u64)
+    let upper = (word.cast_signed() as i64 >> 25).cast_unsigned();
+    upper
+        .wrapping_mul(32)
+        .wrapping_add((word / 128 % 32) as u64)
 }
 
 #[inline(always)]
 pub fn b_immediate(word: u32) -> u64
     ensures { result ≡ b_immediate word }
 {
-    let value = (word >> 31) as u64 * 0x1000
-        + ((word >> 7) & 1) as u64 * 0x800
-        + ((word >> 25) & 0x3F) as u64 * 0x20
-        + ((word >> 8) & 0xF) as u64 * 2;
-    if value < 0x1000 {
-        value
-    } else {
-        value + 0xFFFF_FFFF_FFFF_E000
-    }
+    let sign = (word.cast_signed() as i64 >> 31).cast_unsigned();
+    let low = word / 128 % 2 * 2048 + word / 0x200_0000 % 64 * 32 + word / 256 % 16 * 2;
+    sign.wrapping_mul(4096).wrapping_add(low as u64)
 }
 
 #[inline(always)]
 pub fn u_immediate(word: u32) -> u64
     ensures { result ≡ u_immediate word }
 {
-    let value = (word >> 12) as u64 * 0x1000;
-    if value < 0x8000_0000 {
-        value
-    } else {
-        value + 0xFFFF_FFFF_0000_0000
-    }
+    let upper = (word.cast_signed() as i64 >> 12).cast_unsigned();
+    upper.wrapping_mul(4096)
 }
 
 #[inline(always)]
 pub fn j_immediate(word: u32) -> u64
     ensures { result ≡ j_immediate word }
 {
-    let value = (word >> 31) as u64 * 0x10_0000
-        + ((word >> 12) & 0xFF) as u64 * 0x1000
-        + ((word >> 20) & 1) as u64 * 0x800
-        + ((word >> 21) & 0x3FF) as u64 * 2;
-    if value < 0x10_0000 {
-        value
-    } else {
-        value + 0xFFFF_FFFF_FFE0_0000
-    }
+    let sign = (word.cast_signed() as i64 >> 31).cast_unsigned();
+    let low = word / 4096 % 256 * 4096 + word / 0x10_0000 % 2 * 2048 + word / 0x20_0000 % 1024 * 2;
+    sign.wrapping_mul(0x10_0000).wrapping_add(low as u64)
 }
 
+/// Opcode and funct3 in one number below 256: the upper five bits of the opcode, and above them funct3.
 #[inline(always)]
-fn extend_12(value: u64) -> u64
-    requires { value < 2 ^ 12 }
-    ensures { result ≡ sign_extend 12 value }
+pub fn index(word: u32) -> u32
+    ensures value { result ≡ field 2 5 word + 32 * funct3 word }
+    ensures small { result < 256 }
 {
-    if value < 0x800 {
-        value
-    } else {
-        value + 0xFFFF_FFFF_FFFF_F000
-    }
+    (word / 4096 % 8 * 4096 + word / 4 % 32 * 4).wrapping_mul(0x42_0000) >> 24
 }

@@ -1,19 +1,21 @@
 // Arithmetic on registers and immediates.
 
 ghost use Rattle.std.specs.Prelude.{◌≡◌};
+ghost use Rattle.op_defs.specs.Fields.{funct3};
 ghost use Rattle.op_defs.specs.Table.{alu_op_of, base_op_of, base_word_op_of, immediate_arithmetic_of, immediate_op_of, multiply_op_of, multiply_word_op_of, register_arithmetic_of, shift_of, word_immediate_arithmetic_of, word_arithmetic_of, word_op_of, word_shift_of};
 
-use crate::fields::{funct3, funct7, i_immediate, rd, rs1, rs2};
+use crate::fields::{funct7, i_immediate, rd, rs1, rs2};
 use op_defs::{AluOp, Op, WordOp};
 
 /// OP-IMM.
-#[tactic(auto, unfolding(op_defs::specs::Table::immediate_arithmetic_of))]
+#[tactic(auto, using(crate::proofs::Indices::low_bits), unfolding(op_defs::specs::Table::immediate_arithmetic_of))]
 #[inline(always)]
-pub fn immediate(bits: u32) -> Option<Op>
+pub fn immediate(minor: u32, bits: u32) -> Option<Op>
+    requires { minor ≡ funct3 bits }
     ensures { result ≡ immediate_arithmetic_of bits }
 {
-    if (bits >> 12) & 3 == 1 {
-        return match shift(funct3(bits), bits >> 26) {
+    if minor % 4 == 1 {
+        return match shift(minor, bits >> 26) {
             Some(op) => Some(Op::AluImmediate {
                 op,
                 rd: rd(bits),
@@ -24,7 +26,7 @@ pub fn immediate(bits: u32) -> Option<Op>
         };
     }
     Some(Op::AluImmediate {
-        op: immediate_op(funct3(bits)),
+        op: immediate_op(minor),
         rd: rd(bits),
         rs1: rs1(bits),
         immediate: i_immediate(bits),
@@ -63,10 +65,11 @@ fn shift(funct3: u32, upper: u32) -> Option<AluOp>
 /// OP.
 #[tactic(auto, unfolding(op_defs::specs::Table::register_arithmetic_of))]
 #[inline(always)]
-pub fn register(bits: u32) -> Option<Op>
+pub fn register(minor: u32, bits: u32) -> Option<Op>
+    requires { minor ≡ funct3 bits }
     ensures { result ≡ register_arithmetic_of bits }
 {
-    match alu_op(funct7(bits), funct3(bits)) {
+    match alu_op(funct7(bits), minor) {
         Some(op) => Some(Op::Alu {
             op,
             rd: rd(bits),
@@ -128,10 +131,11 @@ fn multiply_op(funct3: u32) -> AluOp
 /// OP-IMM-32.
 #[tactic(auto, unfolding(op_defs::specs::Table::word_immediate_arithmetic_of))]
 #[inline(always)]
-pub fn word_immediate(bits: u32) -> Option<Op>
+pub fn word_immediate(minor: u32, bits: u32) -> Option<Op>
+    requires { minor ≡ funct3 bits }
     ensures { result ≡ word_immediate_arithmetic_of bits }
 {
-    if funct3(bits) == 0 {
+    if minor == 0 {
         return Some(Op::WordImmediate {
             op: WordOp::Add,
             rd: rd(bits),
@@ -139,7 +143,7 @@ pub fn word_immediate(bits: u32) -> Option<Op>
             immediate: i_immediate(bits),
         });
     }
-    match word_shift(funct3(bits), funct7(bits)) {
+    match word_shift(minor, funct7(bits)) {
         Some(op) => Some(Op::WordImmediate {
             op,
             rd: rd(bits),
@@ -166,10 +170,11 @@ fn word_shift(funct3: u32, funct7: u32) -> Option<WordOp>
 /// OP-32.
 #[tactic(auto, unfolding(op_defs::specs::Table::word_arithmetic_of))]
 #[inline(always)]
-pub fn word(bits: u32) -> Option<Op>
+pub fn word(minor: u32, bits: u32) -> Option<Op>
+    requires { minor ≡ funct3 bits }
     ensures { result ≡ word_arithmetic_of bits }
 {
-    match word_op(funct7(bits), funct3(bits)) {
+    match word_op(funct7(bits), minor) {
         Some(op) => Some(Op::Word {
             op,
             rd: rd(bits),

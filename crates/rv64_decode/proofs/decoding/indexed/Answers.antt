@@ -1,0 +1,17 @@
+use Rattle.std.proofs.Common.{rules}
+use Rattle.rv64_decode.proofs.Indices.{apart, uncommon}
+use Rattle.rv64_decode.proofs.decoding.indexed.Goals as goal
+
+pub returns-in_default-clause-value : goal.returns-in_default-clause-value
+returns-in_default-clause-value c = uncommon c.args.bits
+    (apart c.args.index c.args.bits 13 c.requires.low c.requires.index (search rules) (search rules) (search rules) (search rules) (search rules) (search rules) (search rules) (search rules))
+    (apart c.args.index c.args.bits 5 c.requires.low c.requires.index (search rules) (search rules) (search rules) (search rules) (search rules) (search rules) (search rules) (search rules))
+    (apart c.args.index c.args.bits 27 c.requires.low c.requires.index (search rules) (search rules) (search rules) (search rules) (search rules) (search rules) (search rules) (search rules))
+    (apart c.args.index c.args.bits 25 c.requires.low c.requires.index (search rules) (search rules) (search rules) (search rules) (search rules) (search rules) (search rules) (search rules))
+    (apart c.args.index c.args.bits 24 c.requires.low c.requires.index (search rules) (search rules) (search rules) (search rules) (search rules) (search rules) (search rules) (search rules))
+    (apart c.args.index c.args.bits 0 c.requires.low c.requires.index (search rules) (search rules) (search rules) (search rules) (search rules) (search rules) (search rules) (search rules))
+    (apart c.args.index c.args.bits 8 c.requires.low c.requires.index (search rules) (search rules) (search rules) (search rules) (search rules) (search rules) (search rules) (search rules))
+    (apart c.args.index c.args.bits 4 c.requires.low c.requires.index (search rules) (search rules) (search rules) (search rules) (search rules) (search rules) (search rules) (search rules))
+    (apart c.args.index c.args.bits 12 c.requires.low c.requires.index (search rules) (search rules) (search rules) (search rules) (search rules) (search rules) (search rules) (search rules))
+    (apart c.args.index c.args.bits 6 c.requires.low c.requires.index (search rules) (search rules) (search rules) (search rules) (search rules) (search rules) (search rules) (search rules))
+    (apart c.args.index c.args.bits 14 c.requires.low c.requires.index (search rules) (search rules) (search rules) (search rules) (search rules) (search rules) (search rules) (search rules))
