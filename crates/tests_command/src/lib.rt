@@ -15,6 +15,8 @@ mod images;
 #[cfg(test)]
 mod input_files;
 #[cfg(test)]
+mod kept_forms;
+#[cfg(test)]
 mod processes;
 #[cfg(test)]
 mod resumed_guests;
