@@ -79,7 +79,7 @@ all_more less more memory under run slots within all kind k d inside =
     stands_more (has_among less slot.bits) (has_among more slot.bits) memory under run kind slot (among_more less more slot.bits within) (all kind k d inside)
 
 -- memory where all frames of the set are the same
-among_held : (read : FrameSet) (bits : ℕ) → Within (has_among read bits) (has_frame read)
+pub among_held : (read : FrameSet) (bits : ℕ) → Within (has_among read bits) (has_frame read)
 unfolding has_among
 among_held read bits frame named = (and_parts (has_frame read frame) (bit (frame % 64) bits) named).0
 

@@ -1,6 +1,7 @@
 pub mod DroppedSlots
 pub mod FilledPages
 pub mod Hits
+pub mod KeptPages
 pub mod KeptPlaces
 pub mod KeptSlots
 pub mod OnePage

@@ -12,6 +12,7 @@ use Rattle.arch_defs.specs.declared.widths.Width.{Width}
 use Rattle.arch_defs.specs.declared.widths.Width.TheVariants.{Byte, Half, Word, Double}
 use Rattle.arch_defs.specs.Frames.{Apart, Frames, Only}
 use Rattle.arch_defs.specs.Memory.{Reading, pasted, with_stored}
+use Rattle.arch_defs.specs.Translation.{privilege_of}
 use Rattle.arch_defs.specs.Widths.{bytes_in}
 use Rattle.arch_defs.proofs.FrameSets.{kept, only_pasted}
 use Rattle.op_defs.specs.declared.ops.Purpose.{Purpose}
@@ -21,6 +22,7 @@ use Rattle.frame_set.specs.Holding.{has_frame}
 use Rattle.translation_buffer.specs.declared.buffers.Buffer.{Buffer}
 use Rattle.translation_buffer.specs.Places.{translator}
 use Rattle.translation_buffer.specs.Serving.{Serves}
+use Rattle.translation_buffer.proofs.KeptPages.{page_same}
 use Rattle.translation_buffer.proofs.KeptSlots.{all_same}
 
 -- where only other frames changed
@@ -30,6 +32,7 @@ serves_only buffer first owner csrs mode memory other changed serves apart only 
   context = serves.context;
   who = serves.who;
   slots = all_same buffer.read memory other (translator first owner buffer.context) buffer.run buffer.slots (kept (has_frame buffer.read) changed memory other apart only) serves.slots;
+  page = page_same (has_frame buffer.read) memory other (translator first owner buffer.context) (privilege_of csrs mode) buffer.page (kept (has_frame buffer.read) changed memory other apart only) serves.page;
 }
 
 -- one frame

@@ -5,6 +5,7 @@ use Rattle.arch_defs.specs.declared.first.FirstEntry.{FirstEntry}
 use Rattle.arch_defs.specs.declared.first.Tag.{Tag}
 use Rattle.arch_defs.specs.declared.hart_states.HartState.{HartState}
 use Rattle.arch_defs.specs.declared.modes.Access.{Access}
+use Rattle.arch_defs.specs.declared.modes.Access.TheVariants.{Fetch}
 use Rattle.arch_defs.specs.declared.modes.Mode.{Mode}
 use Rattle.arch_defs.specs.declared.registers.Csrs.{Csrs}
 use Rattle.arch_defs.specs.declared.walks.Privilege.{Privilege}
@@ -12,12 +13,13 @@ use Rattle.arch_defs.specs.Frames.{Frames, Same}
 use Rattle.arch_defs.specs.Bits.{bit}
 use Rattle.arch_defs.specs.Translation.{privilege_of}
 use Rattle.frame_set.specs.declared.sets.FrameSet.{FrameSet}
-use Rattle.frame_set.specs.Holding.{has_among}
+use Rattle.frame_set.specs.Holding.{has_among, has_frame}
 use Rattle.translation_buffer.specs.declared.buffers.Buffer.{Buffer}
+use Rattle.translation_buffer.specs.declared.pages.Page.{Page}
 use Rattle.translation_buffer.specs.declared.slots.Slot.{Slot}
 use Rattle.translation_buffer.specs.declared.slots.Slots.{Slots}
 use Rattle.translation_buffer.specs.Places.{Translator, context_of, translated_place, translator}
-use Rattle.translation_buffer.specs.Tags.{run_bits, slots_of, tag_of, who_bits}
+use Rattle.translation_buffer.specs.Tags.{run_bits, slots_of, start_of, tag_of, who_bits}
 
 -- a slot says, in each memory in which these frames are the same, where each address with its tag in a run
 -- has its place
@@ -34,6 +36,14 @@ SlotStands read memory under run kind slot = GivesPlaces (has_among read slot.bi
 abbrev pub AllStand : FrameSet → List ℕ → Translator → ℕ → Slots → Type 0
 AllStand read memory under run slots =
     (kind : Access) → All (SlotStands read memory under run kind) (slots_of slots kind)
+
+-- the page of the last fetch says, in each memory in which these frames are the same, where each address of
+-- it that is a multiple of 4 has its place for a fetch
+pub record PageStands (frames : Frames) (memory : List ℕ) (under : Translator) (who : Privilege)
+    (page : Page) : Type 0 where
+  pub place : (other : List ℕ) (va : ℕ) → Same frames memory other → va < 2 ^ 64
+      → start_of va ≡ page.start
+      → translated_place under who other va Fetch ≡ Some ((va + page.delta) % 2 ^ 64)
 
 -- a slot lacks the bit of a frame
 abbrev pub LacksBit : ℕ → Slot → Type 0
@@ -55,13 +65,15 @@ abbrev pub AllLackPages : ℕ → Option ℕ → Slots → Type 0
 AllLackPages page other slots = (kind : Access) → All (LacksPages page other) (slots_of slots kind)
 
 -- a buffer serves the accesses of a mode, by the first-stage translations that are cached and for whom they
--- are: it is for the mode's roots and for whom it accesses, and all slots of its run stand by those of the
--- frames that were read whose bits they have
+-- are: it is for the mode's roots and for whom it accesses, all slots of its run stand by those of the frames
+-- that were read whose bits they have, and the page of the last fetch stands by all of them
 pub record Serves (buffer : Buffer) (first : List FirstEntry) (owner : Tag) (csrs : Csrs) (mode : Mode)
     (memory : List ℕ) : Type 0 where
   pub context : buffer.context ≡ context_of csrs mode
   pub who : buffer.who ≡ run_bits buffer.run + who_bits (privilege_of csrs mode)
   pub slots : AllStand buffer.read memory (translator first owner buffer.context) buffer.run buffer.slots
+  pub page : PageStands (has_frame buffer.read) memory (translator first owner buffer.context)
+      (privilege_of csrs mode) buffer.page
 
 -- it serves the accesses of the hart as it is
 abbrev pub ServesHart : Buffer → HartState → List ℕ → Type 0

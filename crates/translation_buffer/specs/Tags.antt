@@ -1,5 +1,5 @@
 -- Tags: of which page a kept translation is, for whom, and of which run of the hart (own).
-use Rattle.std.specs.Prelude.{ℕ, ◌≡◌, ◌+◌, ◌*◌, ◌/◌, ◌^◌, ◌<◌, ◌⊎◌, Bool, true, false, List, [], get_or}
+use Rattle.std.specs.Prelude.{ℕ, ◌≡◌, ◌+◌, ◌*◌, ◌/◌, ◌%◌, ◌^◌, ◌<◌, ◌⊎◌, Bool, true, false, List, [], get_or}
 use Rattle.std.specs.List.{All}
 use Rattle.arch_defs.specs.declared.modes.Access.{Access}
 use Rattle.arch_defs.specs.declared.modes.Access.TheVariants.{Fetch, Load, Store, ExecLoad, Implicit}
@@ -22,6 +22,10 @@ run_bits run = 2 ^ 55 * (run + 1)
 -- the tag of the page of an address in a run, for whom the access is made
 abbrev pub tag_of : ℕ → Privilege → ℕ → ℕ
 tag_of run who va = run_bits run + who_bits who + va / 4096
+
+-- the start of an address's page, if the address is a multiple of 4, and else no start of a page
+abbrev pub start_of : ℕ → ℕ
+start_of va = va / 4096 * 4096 + va % 4
 
 -- the slots of a kind of access; there are none for HLVX and for entries
 abbrev pub slots_of : Slots → Access → List Slot

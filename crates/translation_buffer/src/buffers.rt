@@ -3,6 +3,7 @@
 ghost use Rattle.std.specs.Prelude.{◌≡◌, ℕ, ◌+◌, ◌*◌, ◌/◌, ◌%◌, ◌-◌, ◌^◌, ◌<◌, ◌≤◌, ◌⊎◌, false, find, option_map, IfSome, List, Some, length};
 ghost use Rattle.arch_defs.specs.declared.first.FirstEntry.{FirstEntry};
 ghost use Rattle.arch_defs.specs.declared.first.Tag.{Tag};
+ghost use Rattle.arch_defs.specs.declared.modes.Access.{Access};
 ghost use Rattle.arch_defs.specs.declared.modes.Mode.{Mode};
 ghost use Rattle.arch_defs.specs.declared.registers.Csrs.{Csrs};
 ghost use Rattle.arch_defs.specs.FirstEntries.{HasGuestFrame, first_filled, is_first_of, known_by};
@@ -17,6 +18,7 @@ ghost use Rattle.translation_buffer.specs.Tags.{AllUpTo, bit_of, run_bits, who_b
 ghost use Rattle.translation_buffer.specs.WalkCounts.{one_more_walk};
 
 use crate::contexts::Context;
+use crate::pages::Page;
 use crate::slots::{Slot, Slots};
 use arch_defs::{
     Access, Csrs, FirstBuffer, FirstEntry, HartState, Mode, Privilege, SupervisorRoot, Tag,
@@ -31,13 +33,15 @@ const LAST_RUN: u64 = 510;
 
 /// The translations that the hart keeps, for the roots and the privilege that it accesses memory by: the
 /// slots, and the frames of all that was read for them, now or once. `who` is what a tag has above the page's
-/// number. A restart empties no slot: it begins a run with a number that no slot has.
+/// number. A restart empties no slot: it begins a run with a number that no slot has. The page of the last
+/// fetch was a slot's for fetches, and is forgotten where any of them may be dropped.
 #[derive(Clone, Copy, PartialEq, Eq)]
 pub struct Buffer {
     pub context: Context,
     pub run: u64,
     pub who: u64,
     pub slots: Slots,
+    pub page: Page,
     pub read: FrameSet,
     walks: u64,
     ghost few: { run ≤ 510 },
@@ -183,6 +187,7 @@ impl Buffer {
             run: 0,
             who: bits_of(0, csrs, mode),
             slots: Slots::none(),
+            page: Page::none(),
             read: FrameSet::new(),
             walks: 0,
         }
@@ -229,6 +234,7 @@ impl Buffer {
         ensures walks { self.new.walks ≡ self.old.walks }
     {
         self.next_run();
+        self.page.forget();
         self.context.set(csrs, mode);
         self.who = bits_of(self.run, csrs, mode);
     }
@@ -243,6 +249,7 @@ impl Buffer {
     {
         if self.context.is_context(&Context::of(csrs, mode)) {
             self.who = bits_of(self.run, csrs, mode);
+            self.page.forget();
         } else {
             self.restart(csrs, mode);
         }
@@ -258,6 +265,7 @@ impl Buffer {
         ensures walks { self.new.walks ≡ self.old.walks }
     {
         self.slots.drop_read(frame);
+        self.page.forget();
         self.read.remove(frame);
     }
 
@@ -289,6 +297,7 @@ impl Buffer {
     {
         let dropped = first.fill(entry);
         self.slots.drop_pages(entry.page, dropped);
+        self.page.forget();
     }
 
     /// The place of an access by what is kept, if it is.
@@ -304,6 +313,37 @@ impl Buffer {
             Some(slot.place(va))
         } else {
             None
+        }
+    }
+
+    /// The place of the instruction at an address, by the page of the last fetch, if it is of that page and a
+    /// multiple of 4.
+    #[inline(always)]
+    pub fn here(&self, memory: &PhysMem, state: &HartState, pc: u64) -> Option<u64>
+        requires serves { ServesHart self.now state.now memory.now }
+        ensures place { IfSome result
+            (λ place. Some place ≡ place_on_hart state.now memory.now pc Access.Fetch) }
+        ensures inside { IfSome result (λ place. IsPlaceOf (machine_memory memory.now) pc place) }
+        ensures aligned { IfSome result (λ place. pc % 4 ≡ 0) }
+    {
+        memory.is_whole();
+        if pc / 4096 * 4096 + pc % 4 == self.page.start {
+            Some(pc.wrapping_add(self.page.delta))
+        } else {
+            None
+        }
+    }
+
+    /// Makes the page of an address that of the last fetch, if it is kept for fetches.
+    pub fn turn(&mut self, va: u64)
+        ensures serves { (first : List FirstEntry) (owner : Tag) (csrs : Csrs) (mode : Mode)
+            (memory : List ℕ) → Serves self.old first owner csrs mode memory
+            → Serves self.new first owner csrs mode memory }
+        ensures walks { self.new.walks ≡ self.old.walks }
+    {
+        let slot = self.slots.slot(va, Access::Fetch);
+        if slot.tag == self.who.wrapping_add(va / 4096) {
+            self.page = Page::of(va, slot.place(va));
         }
     }
 

@@ -4,9 +4,11 @@
 mod buffers;
 mod contexts;
 mod laws;
+mod pages;
 mod slots;
 
 pub use buffers::{Buffer, passed_by};
 pub use contexts::Context;
 pub use laws::{buffers_serve_on, fills_keep_others, hits_are_known, translations_stay};
+pub use pages::Page;
 pub use slots::{Slot, Slots};

@@ -1,4 +1,6 @@
 use Rattle.std.proofs.Common.{refl}
+use Rattle.arch_defs.specs.Translation.{privilege_of}
+use Rattle.frame_set.specs.Holding.{has_frame}
 use Rattle.translation_buffer.specs.Places.{translator}
 use Rattle.translation_buffer.proofs.DroppedSlots.{all_without}
 use Rattle.translation_buffer.proofs.buffers.Buffer.drop_read.Goals as goal
@@ -12,6 +14,7 @@ returns-clause-serves c = λ first owner csrs mode memory serves. record {
   who = serves.who;
   slots = all_without c.args.self.now.read c.remove.new.self c.args.frame memory (translator first owner c.args.self.now.context) c.args.self.now.run c.drop_read.new.self c.remove.ensures.others c.drop_read.ensures.lack
       (c.drop_read.ensures.stand c.args.self.now.read memory (translator first owner c.args.self.now.context) c.args.self.now.run serves.slots);
+  page = c.forget.ensures.stands (has_frame c.remove.new.self) memory (translator first owner c.args.self.now.context) (privilege_of csrs mode);
 }
 
 pub invariant_of-self : goal.invariant_of-self

@@ -1,4 +1,6 @@
 use Rattle.std.proofs.Common.{sym, subst}
+use Rattle.arch_defs.specs.Translation.{privilege_of}
+use Rattle.frame_set.specs.Holding.{has_frame}
 use Rattle.translation_buffer.specs.Places.{translator}
 use Rattle.translation_buffer.specs.Serving.{AllStand}
 use Rattle.translation_buffer.proofs.FilledPages.{all_filled_stand}
@@ -12,6 +14,7 @@ returns-clause-serves c = λ owner csrs mode memory serves. record {
       (all_filled_stand c.args.self.now.read memory c.args.first.now c.args.entry c.fill-dropped.result owner c.args.self.now.context c.args.self.now.run c.drop_pages.new.self
       c.fill-dropped.ensures.dropped c.drop_pages.ensures.lack
       (c.drop_pages.ensures.stand c.args.self.now.read memory (translator c.args.first.now owner c.args.self.now.context) c.args.self.now.run serves.slots));
+  page = c.forget.ensures.stands (has_frame c.args.self.now.read) memory (translator c.fill-dropped.new.self owner c.args.self.now.context) (privilege_of csrs mode);
 }
 
 pub invariant_of-self : goal.invariant_of-self

@@ -1,5 +1,7 @@
 use Rattle.std.proofs.Common.{◌≡◌, ◌∙◌}
-use Rattle.translation_buffer.specs.Places.{context_of}
+use Rattle.arch_defs.specs.Translation.{privilege_of}
+use Rattle.frame_set.specs.Holding.{has_frame}
+use Rattle.translation_buffer.specs.Places.{context_of, translator}
 use Rattle.translation_buffer.proofs.buffers.Buffer.follow.Goals as goal
 
 pub returns-then-is_context-clause-serves : goal.returns-then-is_context-clause-serves
@@ -9,6 +11,7 @@ returns-then-is_context-clause-serves c =
       context = same;
       who = c.bits_of-self.ensures;
       slots = serves.slots;
+      page = c.forget.ensures.stands (has_frame c.args.self.now.read) memory (translator first owner c.args.self.now.context) (privilege_of c.args.csrs.now c.args.mode);
     }
 
 pub returns-else-is_context-clause-serves : goal.returns-else-is_context-clause-serves

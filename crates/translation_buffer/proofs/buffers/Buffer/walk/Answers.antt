@@ -1,8 +1,9 @@
 use Rattle.std.proofs.Common.{rules, ◌≡◌, ◌%◌, ◌^◌, ◌<◌, Some, length, refl, ◌∙◌}
 use Rattle.arch_defs.specs.declared.walks.Privilege.{Privilege}
 use Rattle.arch_defs.specs.Translation.{privilege_of}
-use Rattle.frame_set.specs.Holding.{has_among}
+use Rattle.frame_set.specs.Holding.{has_among, has_frame}
 use Rattle.translation_buffer.specs.Places.{Translator, translated_place, translator}
+use Rattle.translation_buffer.proofs.KeptPages.{page_more}
 use Rattle.translation_buffer.proofs.KeptSlots.{all_more, kept_tag, kept_up_to, recent_among, walk_stands}
 use Rattle.translation_buffer.proofs.buffers.Buffer.walk.Goals as goal
 
@@ -22,6 +23,8 @@ returns-in-Some-clause-serves c =
           (kept_tag c.args.self.now c.args.state.now.virt.first c.args.state.now.tag c.args.state.now.virt.csrs c.args.state.now.virt.mode c.args.memory.now c.args.va c.requires.serves small) refl)
           (all_more c.args.self.now.read c.place_noted.new.read c.args.memory.now under c.args.self.now.run c.args.self.now.slots
           (λ frame named. c.place_noted.ensures.more frame (c.begin.ensures.same frame ∙ named)) c.requires.serves.slots);
+      page = page_more (has_frame c.args.self.now.read) (has_frame c.place_noted.new.read) c.args.memory.now (translator c.args.state.now.virt.first c.args.state.now.tag c.args.self.now.context) (privilege_of c.args.state.now.virt.csrs c.args.state.now.virt.mode) c.args.self.now.page
+          (λ frame named. c.place_noted.ensures.more frame (c.begin.ensures.same frame ∙ named)) c.requires.serves.page;
     }
 
 pub returns-in-None-clause-serves : goal.returns-in-None-clause-serves
@@ -30,6 +33,8 @@ returns-in-None-clause-serves c = record {
   who = c.requires.serves.who;
   slots = all_more c.args.self.now.read c.place_noted.new.read c.args.memory.now (translator c.args.state.now.virt.first c.args.state.now.tag c.args.self.now.context) c.args.self.now.run c.args.self.now.slots
       (λ frame named. c.place_noted.ensures.more frame (c.begin.ensures.same frame ∙ named)) c.requires.serves.slots;
+  page = page_more (has_frame c.args.self.now.read) (has_frame c.place_noted.new.read) c.args.memory.now (translator c.args.state.now.virt.first c.args.state.now.tag c.args.self.now.context) (privilege_of c.args.state.now.virt.csrs c.args.state.now.virt.mode) c.args.self.now.page
+      (λ frame named. c.place_noted.ensures.more frame (c.begin.ensures.same frame ∙ named)) c.requires.serves.page;
 }
 
 pub invariant_of-self : goal.invariant_of-self
