@@ -72,23 +72,24 @@ fn is_page(page: Option<u64>, own: u64) -> bool
     }
 }
 
-/// The kept translations of fetches, of loads and of stores, each at the low 4 bits of its page's number.
+/// The kept translations of fetches, of loads and of stores, each at the low bits of its page's number. Data
+/// lie in more pages than code does, and the page of the last fetch is kept apart.
 #[derive(Clone, Copy, PartialEq, Eq)]
 pub struct Slots {
-    pub fetches: [Slot; 16],
-    pub loads: [Slot; 16],
+    pub fetches: [Slot; 8],
+    pub loads: [Slot; 32],
     pub stores: [Slot; 16],
 }
 
-// No translation at each of 16 places.
+// No translation at each place.
 #[inline]
 #[tactic(auto, using(crate::proofs::KeptSlots::all_none, crate::proofs::SlotKinds::alike_up_to))]
-fn no_slots() -> [Slot; 16]
+fn no_slots<const N: usize>() -> [Slot; N]
     ensures stand { (read : FrameSet) (memory : List ℕ) (under : Translator) (run : ℕ) (kind : Access)
         → All (SlotStands read memory under run kind) result }
     ensures tags { (run : ℕ) → All (IsUpTo run) result }
 {
-    [Slot::none(); 16]
+    [Slot::none(); N]
 }
 
 // Drops a translation that has the bit of a frame.
@@ -195,11 +196,11 @@ impl Slots {
         ensures { (read : FrameSet) (memory : List ℕ) (under : Translator) (run : ℕ)
             → AllStand read memory under run self.now → SlotStands read memory under run access result }
     {
-        let at = (va / 4096 % 16) as usize;
+        let page = va / 4096;
         match access {
-            Access::Fetch => self.fetches[at],
-            Access::Load => self.loads[at],
-            Access::Store => self.stores[at],
+            Access::Fetch => self.fetches[(page % 8) as usize],
+            Access::Load => self.loads[(page % 32) as usize],
+            Access::Store => self.stores[(page % 16) as usize],
             Access::ExecLoad | Access::Implicit => Slot::none(),
         }
     }
@@ -211,11 +212,11 @@ impl Slots {
             → AllStand read memory under run self.new }
         ensures tags { (run : ℕ) → IsUpTo run slot → AllUpTo run self.old → AllUpTo run self.new }
     {
-        let at = (va / 4096 % 16) as usize;
+        let page = va / 4096;
         match access {
-            Access::Fetch => self.fetches[at] = slot,
-            Access::Load => self.loads[at] = slot,
-            Access::Store => self.stores[at] = slot,
+            Access::Fetch => self.fetches[(page % 8) as usize] = slot,
+            Access::Load => self.loads[(page % 32) as usize] = slot,
+            Access::Store => self.stores[(page % 16) as usize] = slot,
             Access::ExecLoad | Access::Implicit => {}
         }
     }

@@ -5,18 +5,18 @@ use Rattle.translation_buffer.proofs.SlotKinds.{fetch_kept, load_kept, store_kep
 use Rattle.translation_buffer.proofs.slots.Slots.keep.Goals as goal
 
 pub returns-in-Fetch-clause-stand : goal.returns-in-Fetch-clause-stand
-returns-in-Fetch-clause-stand c = λ read memory under run stands all. fetch_kept (SlotStands read memory under run) c.args.self.now (c.args.va / 4096 % 16) c.args.slot
+returns-in-Fetch-clause-stand c = λ read memory under run stands all. fetch_kept (SlotStands read memory under run) c.args.self.now (c.args.va / 4096 % 8) c.args.slot
     (subst (λ kind. SlotStands read memory under run kind c.args.slot) c.in-Fetch.is stands) all
 
 pub returns-in-Fetch-clause-tags : goal.returns-in-Fetch-clause-tags
-returns-in-Fetch-clause-tags c = λ run up_to all. fetch_kept (λ kind. IsUpTo run) c.args.self.now (c.args.va / 4096 % 16) c.args.slot up_to all
+returns-in-Fetch-clause-tags c = λ run up_to all. fetch_kept (λ kind. IsUpTo run) c.args.self.now (c.args.va / 4096 % 8) c.args.slot up_to all
 
 pub returns-in-Load-clause-stand : goal.returns-in-Load-clause-stand
-returns-in-Load-clause-stand c = λ read memory under run stands all. load_kept (SlotStands read memory under run) c.args.self.now (c.args.va / 4096 % 16) c.args.slot
+returns-in-Load-clause-stand c = λ read memory under run stands all. load_kept (SlotStands read memory under run) c.args.self.now (c.args.va / 4096 % 32) c.args.slot
     (subst (λ kind. SlotStands read memory under run kind c.args.slot) c.in-Load.is stands) all
 
 pub returns-in-Load-clause-tags : goal.returns-in-Load-clause-tags
-returns-in-Load-clause-tags c = λ run up_to all. load_kept (λ kind. IsUpTo run) c.args.self.now (c.args.va / 4096 % 16) c.args.slot up_to all
+returns-in-Load-clause-tags c = λ run up_to all. load_kept (λ kind. IsUpTo run) c.args.self.now (c.args.va / 4096 % 32) c.args.slot up_to all
 
 pub returns-in-Store-clause-stand : goal.returns-in-Store-clause-stand
 returns-in-Store-clause-stand c = λ read memory under run stands all. store_kept (SlotStands read memory under run) c.args.self.now (c.args.va / 4096 % 16) c.args.slot
