@@ -1,5 +1,6 @@
 -- What accesses find in the first stage.
-use Rattle.std.proofs.Common.{cond, ◌≡◌, ℕ, ◌%◌, ◌^◌, Bool, true, false, List, [], ◌∷◌, ◌++◌, Option, Some, None, Err, refl, ap, sym, subst, ◌∙◌}
+use Rattle.std.specs.Prelude.{◌||◌, not}
+use Rattle.std.proofs.Common.{cond, nat_eq, ◌≡◌, ℕ, ◌%◌, ◌^◌, Bool, true, false, List, [], ◌∷◌, ◌++◌, Option, Some, None, Err, refl, ap, sym, subst, ◌∙◌}
 use Rattle.arch_defs.specs.declared.first.FirstEntry.{FirstEntry}
 use Rattle.arch_defs.specs.declared.first.Tag.{Tag}
 use Rattle.arch_defs.specs.declared.hart_states.HartState.{HartState}
@@ -29,7 +30,9 @@ use Rattle.op_defs.specs.declared.ops.Effect.TheVariants.{Sets, Raises, Data, Ca
 use Rattle.op_defs.specs.declared.ops.Op.{Op}
 use Rattle.op_defs.specs.Meaning.{meaning}
 use Rattle.op_defs.specs.declared.ops.Op.TheVariants.{Ecall}
-use Rattle.op_defs.specs.Table.{op_of, system_of, system_op_of}
+use Rattle.op_defs.specs.Fields.{opcode}
+use Rattle.op_defs.specs.Table.{is_system, op_of, system_of, system_op_of}
+use Rattle.rv64_decode.specs.Common.{common_op_of}
 use Rattle.machine_defs.specs.Answers.{answer_of}
 use Rattle.machine_defs.specs.Core.{At, Fails, Located, accessed_data, called_from, core, decoded, event_of, fetch_place, found_with, instruction, kind_of, word_at}
 use Rattle.machine_defs.specs.FirstLeaves.{entries_of, found_at, found_by_effect, found_by_op, found_for, leaf_if, leaf_under, leaves_found, unless_known}
@@ -165,9 +168,16 @@ pub word_ends : (s : HartState) (memory : List ℕ) (word : ℕ) → attempt_at 
 unfolding all_filled
 word_ends s memory word = refl
 
-pub rare_word_ends : (s : HartState) (memory : List ℕ) (word : ℕ) (r : Attempt) → attempt_at [] s memory word ≡ r → attempt_of_word s memory word ≡ r
-unfolding all_filled
-rare_word_ends s memory word r ends = ends
+-- a common word is none of opcode SYSTEM
+pub common_plain : (word : ℕ) (op : Op) → Some op ≡ common_op_of word → is_system word ≡ false
+unfolding common_op_of is_system
+common_plain word op is = by (nat_eq (opcode word) 0b0001111) (nat_eq (opcode word) 0b0101111) (nat_eq (opcode word) 0b1110011) is
+  where
+    by : (fence atomic system : Bool) → Some op ≡ cond (not (fence || (atomic || system))) (op_of word) None → system ≡ false
+    by true atomic system is = absurd cc
+    by false true system is = absurd cc
+    by false false true is = absurd cc
+    by false false false is = refl
 
 pub data_ends : (s : HartState) (memory : List ℕ) (word : ℕ) (op : Op) (wanted : DataAccess) (r : Attempt) → meaning op s.virt.regs ≡ Data wanted
     → attempt_of (with_first s (found_over memory s wanted.address wanted.width (kind_of wanted.purpose))) memory (accessed_data (mmu_on s memory) s.virt (event_of s.virt.regs.pc word) wanted) ≡ r

@@ -58,6 +58,45 @@ pub fn kept_place(
     }
 }
 
+/// Where the instruction at pc is whose access finds nothing, by the page of the last fetch, and else by the
+/// buffer.
+#[inline(always)]
+#[tactic(auto, using(crate::proofs::Places::nothing_found, data_access::proofs::Fitting::fits_at))]
+pub fn fetch_place(state: &HartState, memory: &PhysMem, buffer: &mut Buffer, pc: u64) -> Option<u64>
+    requires serves { ServesHart buffer.old state.now memory.now }
+    ensures located { IfSome result
+        (λ place. access_over memory.now state.now pc Width.Word Access.Fetch ≡ At place) }
+    ensures none { IfSome result
+        (λ place. found_over memory.now state.now pc Width.Word Access.Fetch ≡ []) }
+    ensures place { IfSome result
+        (λ place. IsPlaceFor (machine_memory memory.now) Width.Word place) }
+    ensures serves { ServesHart buffer.new state.now memory.now }
+{
+    memory.is_whole();
+    match buffer.here(memory, state, pc) {
+        Some(place) => Some(place),
+        None => turned(state, memory, buffer, pc),
+    }
+}
+
+// The same by the buffer. Where it has a place, the page of pc becomes that of the last fetch.
+#[cold]
+#[inline(never)]
+fn turned(state: &HartState, memory: &PhysMem, buffer: &mut Buffer, pc: u64) -> Option<u64>
+    requires serves { ServesHart buffer.old state.now memory.now }
+    ensures located { IfSome result
+        (λ place. access_over memory.now state.now pc Width.Word Access.Fetch ≡ At place) }
+    ensures none { IfSome result
+        (λ place. found_over memory.now state.now pc Width.Word Access.Fetch ≡ []) }
+    ensures place { IfSome result
+        (λ place. IsPlaceFor (machine_memory memory.now) Width.Word place) }
+    ensures serves { ServesHart buffer.new state.now memory.now }
+{
+    let place = kept_place(state, memory, buffer, pc, Width::Word, Access::Fetch);
+    buffer.turn(pc);
+    place
+}
+
 /// Where in memory an instruction makes an access to data, as memory is, and what that finds is cached; where
 /// it makes none, `trap` becomes the trap of the access, and nothing is cached.
 #[inline(always)]

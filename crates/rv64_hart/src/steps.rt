@@ -18,7 +18,7 @@ ghost use Rattle.rv64_hart.specs.Endings.{IfLeft, IfPlain, IfRaised, NoneDueIfQu
 ghost use Rattle.rv64_hart.specs.MachineMemory.{mmu_on};
 ghost use Rattle.rv64_hart.specs.Steps.{Exits, attempt_of, found_at_exit, hart_step, next_attempt, one_more_step, progress, progressed, trapped_to, with_first, with_found_on};
 
-use crate::accesses::{kept_place, load_data, store_data, word_at};
+use crate::accesses::{fetch_place, load_data, store_data, word_at};
 use crate::endings::{Ended, StepEnd, raise, raise_interrupt};
 use crate::leaves::{cache, found_at_exit};
 use crate::rare_instructions::{follow, is_system, rare};
@@ -197,7 +197,7 @@ fn instruction(
     ensures plain { IfPlain result (KeepsContext state.old.virt state.new.virt) }
 {
     let pc = state.virt.regs.pc;
-    match kept_place(state, memory, buffer, pc, Width::Word, Access::Fetch) {
+    match fetch_place(state, memory, buffer, pc) {
         Some(place) => counted(state, memory, buffer, word_at(memory, place), tally, trap),
         None => instruction_anew(state, memory, buffer, tally, trap),
     }
@@ -245,7 +245,7 @@ fn instruction_anew(
 
 // The instruction of a word, whose own access at pc has found nothing. The tally gets the trace where it is
 // made.
-#[tactic(auto, using(crate::proofs::Told::system_told, crate::proofs::Told::is_system_told))]
+#[tactic(auto, using(crate::proofs::FirstFound::common_plain, crate::proofs::FirstFound::word_ends))]
 #[inline(always)]
 fn counted(
     state: &mut HartState,
@@ -265,16 +265,42 @@ fn counted(
     ensures serves { ServesHart buffer.new state.new memory.new }
     ensures plain { IfPlain result (KeepsContext state.old.virt state.new.virt) }
 {
+    match decode_common(word) {
+        Some(op) => common(state, memory, buffer, word, &op, tally, trap),
+        None => counted_anew(state, memory, buffer, word, None, tally, trap),
+    }
+}
+
+// The instruction that a common word is, which is none of opcode SYSTEM.
+#[tactic(auto, using(crate::proofs::Told::system_told))]
+#[inline(always)]
+fn common(
+    state: &mut HartState,
+    memory: &mut PhysMem,
+    buffer: &mut Buffer,
+    word: u32,
+    op: &Op,
+    tally: &mut Tally,
+    trap: &mut Trap,
+) -> Ended
+    requires op { op_of word ≡ Some op.now }
+    requires plain { is_system word ≡ false }
+    requires serves { ServesHart buffer.old state.old memory.old }
+    ensures told { told_of tally.old.trace
+        (attempt_of_effect state.old memory.old word (meaning op.now state.old.virt.regs))
+        ≡ told_by result trap.new state.new memory.new tally.new.trace }
+    ensures stays { IfRaised result
+        ((state.new ≡ state.old) × (memory.new ≡ memory.old) × (tally.new ≡ tally.old)) }
+    ensures tally { OnlyTrace tally.old tally.new }
+    ensures serves { ServesHart buffer.new state.new memory.new }
+    ensures plain { IfPlain result (KeepsContext state.old.virt state.new.virt) }
+{
     let pc = state.virt.regs.pc;
     let _ = tally.trace();
-    match decoded(state, memory, buffer, word, trap) {
+    match made(state, memory, buffer, word, op, trap) {
         Ended::Plain => {
-            if is_system(word) {
-                Ended::System
-            } else {
-                tally.count(pc, word);
-                Ended::Plain
-            }
+            tally.count(pc, word);
+            Ended::Plain
         }
         Ended::System => Ended::System,
         Ended::Raised => Ended::Raised,
@@ -316,29 +342,6 @@ fn counted_anew(
         }
         Ended::System => Ended::System,
         Ended::Raised => Ended::Raised,
-    }
-}
-
-// The instruction of a word: the common ones here, and each other by `rare`.
-#[inline(always)]
-#[tactic(auto, using(crate::proofs::FirstFound::rare_word_ends), unfolding(arch_defs::specs::FirstEntries::all_filled))]
-fn decoded(
-    state: &mut HartState,
-    memory: &mut PhysMem,
-    buffer: &mut Buffer,
-    word: u32,
-    trap: &mut Trap,
-) -> Ended
-    requires serves { ServesHart buffer.old state.old memory.old }
-    ensures ends { attempt_of_word state.old memory.old word
-        ≡ attempt_by result trap.new (event_of state.old.virt.regs.pc word) state.new memory.new }
-    ensures stays { IfRaised result ((state.new ≡ state.old) × (memory.new ≡ memory.old)) }
-    ensures serves { ServesHart buffer.new state.new memory.new }
-    ensures plain { IfPlain result (KeepsContext state.old.virt state.new.virt) }
-{
-    match decode_common(word) {
-        Some(op) => made(state, memory, buffer, word, &op, trap),
-        None => rare(state, memory, buffer, word, None, trap),
     }
 }
 
