@@ -230,13 +230,13 @@ pub fn access_data_anew(
     }
 }
 
-/// A load.
+/// A load. Each width has a call of its own, which the compiler joins to the decoder's arm of that width.
 #[inline(always)]
 pub fn load_data(
     state: &mut HartState,
     memory: &PhysMem,
     buffer: &mut Buffer,
-    address: u64,
+    at: u64,
     width: Width,
     signed: bool,
     rd: Reg,
@@ -244,15 +244,45 @@ pub fn load_data(
 ) -> Ended
     requires serves { ServesHart buffer.old state.old memory.now }
     ensures ends { (event : Event) → attempt_of (with_first state.old
-        (found_over memory.now state.old address width Access.Load)) memory.now
+        (found_over memory.now state.old at width Access.Load)) memory.now
         (accessed_data (mmu_on state.old memory.now) state.old.virt event
-        (record { address = address; width = width; purpose = Load signed rd }))
+        (record { address = at; width = width; purpose = Load signed rd }))
         ≡ attempt_by result trap.new event state.new memory.now }
     ensures stays { IfRaised result (state.new ≡ state.old) }
     ensures serves { ServesHart buffer.new state.new memory.now }
     ensures plain { IfPlain result (KeepsContext state.old.virt state.new.virt) }
 {
-    match access_place(state, memory, buffer, address, width, Access::Load, trap) {
+    match width {
+        Width::Byte => load_sized(state, memory, buffer, at, Width::Byte, signed, rd, trap),
+        Width::Half => load_sized(state, memory, buffer, at, Width::Half, signed, rd, trap),
+        Width::Word => load_sized(state, memory, buffer, at, Width::Word, signed, rd, trap),
+        Width::Double => load_sized(state, memory, buffer, at, Width::Double, signed, rd, trap),
+    }
+}
+
+// A load of a width.
+#[inline(always)]
+fn load_sized(
+    state: &mut HartState,
+    memory: &PhysMem,
+    buffer: &mut Buffer,
+    at: u64,
+    width: Width,
+    signed: bool,
+    rd: Reg,
+    trap: &mut Trap,
+) -> Ended
+    requires serves { ServesHart buffer.old state.old memory.now }
+    ensures ends { (event : Event) → attempt_of (with_first state.old
+        (found_over memory.now state.old at width Access.Load)) memory.now
+        (accessed_data (mmu_on state.old memory.now) state.old.virt event
+        (record { address = at; width = width; purpose = Load signed rd }))
+        ≡ attempt_by result trap.new event state.new memory.now }
+    ensures stays { IfRaised result (state.new ≡ state.old) }
+    ensures serves { ServesHart buffer.new state.new memory.now }
+    ensures plain { IfPlain result (KeepsContext state.old.virt state.new.virt) }
+{
+    match access_place(state, memory, buffer, at, width, Access::Load, trap) {
         Some(place) => {
             load(memory, &mut state.virt, width, signed, rd, place);
             Ended::Plain
@@ -261,9 +291,38 @@ pub fn load_data(
     }
 }
 
-/// A store.
+/// A store. Each width has a call of its own, as those of a load have.
 #[inline(always)]
 pub fn store_data(
+    state: &mut HartState,
+    memory: &mut PhysMem,
+    buffer: &mut Buffer,
+    address: u64,
+    width: Width,
+    value: u64,
+    trap: &mut Trap,
+) -> Ended
+    requires serves { ServesHart buffer.old state.old memory.old }
+    ensures ends { (event : Event) → attempt_of (with_first state.old
+        (found_over memory.old state.old address width Access.Store)) memory.old
+        (accessed_data (mmu_on state.old memory.old) state.old.virt event
+        (record { address = address; width = width; purpose = Store value }))
+        ≡ attempt_by result trap.new event state.new memory.new }
+    ensures stays { IfRaised result ((state.new ≡ state.old) × (memory.new ≡ memory.old)) }
+    ensures serves { ServesHart buffer.new state.new memory.new }
+    ensures plain { IfPlain result (KeepsContext state.old.virt state.new.virt) }
+{
+    match width {
+        Width::Byte => store_sized(state, memory, buffer, address, Width::Byte, value, trap),
+        Width::Half => store_sized(state, memory, buffer, address, Width::Half, value, trap),
+        Width::Word => store_sized(state, memory, buffer, address, Width::Word, value, trap),
+        Width::Double => store_sized(state, memory, buffer, address, Width::Double, value, trap),
+    }
+}
+
+// A store of a width.
+#[inline(always)]
+fn store_sized(
     state: &mut HartState,
     memory: &mut PhysMem,
     buffer: &mut Buffer,

@@ -1,6 +1,6 @@
 use Rattle.op_defs.specs.declared.ops.Purpose.TheVariants.{Store}
 use Rattle.rv64_hart.proofs.Kept.{serves_after}
-use Rattle.rv64_hart.proofs.accesses.store_data.Goals as goal
+use Rattle.rv64_hart.proofs.accesses.store_sized.Goals as goal
 
 pub returns-in-Some-clause-serves : goal.returns-in-Some-clause-serves
 returns-in-Some-clause-serves c =
