@@ -1,9 +1,12 @@
 -- What instructions leave: the registers by which memory is accessed, the first-stage translations that are
 -- cached, and a buffer that serves on.
-use Rattle.std.proofs.Common.{◌≡◌, ◌/◌, ℕ, List, Bool, true, false, refl, ap, subst, ◌∙◌}
+use Rattle.std.proofs.Common.{◌≡◌, ◌+◌, ◌/◌, ℕ, List, Bool, true, false, refl, ap, sym, subst, ◌∙◌}
 use Rattle.arch_defs.specs.declared.first.FirstEntry.{FirstEntry}
+use Rattle.arch_defs.specs.declared.first.Tag.{Tag}
 use Rattle.arch_defs.specs.declared.modes.Access.{Access}
+use Rattle.arch_defs.specs.declared.modes.Mode.{Mode}
 use Rattle.arch_defs.specs.declared.hart_states.HartState.{HartState}
+use Rattle.arch_defs.specs.declared.registers.Csrs.{Csrs}
 use Rattle.arch_defs.specs.declared.registers.Virtual.{Virtual}
 use Rattle.arch_defs.specs.declared.widths.Width.{Width}
 use Rattle.arch_defs.specs.Memory.{Reading, machine_memory, reading_of, with_stored}
@@ -16,9 +19,11 @@ use Rattle.machine_laws.proofs.Completions.{completed_same}
 use Rattle.data_access.specs.Places.{IsPlaceFor}
 use Rattle.frame_set.specs.Holding.{has_frame}
 use Rattle.translation_buffer.specs.declared.buffers.Buffer.{Buffer}
-use Rattle.translation_buffer.specs.Serving.{ServesHart}
+use Rattle.translation_buffer.specs.Places.{translator}
+use Rattle.translation_buffer.specs.Serving.{PageStands, Serves, ServesHart}
+use Rattle.translation_buffer.specs.Tags.{run_bits, who_bits}
 use Rattle.translation_buffer.proofs.Stored.{serves_completed}
-use Rattle.rv64_hart.specs.Endings.{NoneDueIfQuiet, KeepsContext}
+use Rattle.rv64_hart.specs.Endings.{NoneDueIfQuiet, KeepsContext, TranslatesAlike}
 use Rattle.rv64_hart.specs.MachineMemory.{access_over, mmu_on, reading_of_memory}
 use Rattle.rv64_hart.specs.Steps.{Makes, attempt_of, caching}
 
@@ -48,6 +53,16 @@ serves_after buffer s new memory other width purpose place serves free is state 
     let first = ap (λ (v : Virtual). v.first) (completed_same (reading_of (machine_memory memory)) s.virt width purpose place) in
     rw (state, stored, csrs, mode, first)
     (serves_completed buffer s.virt.first s.tag s.virt.csrs s.virt.mode memory (reading_of (machine_memory memory)) s.virt width purpose place serves free is.aligned is.to)
+
+-- and after a change by which accesses are translated alike
+pub serves_alike : (buffer : Buffer) (first : List FirstEntry) (owner : Tag) (csrs : Csrs) (mode : Mode) (other : Csrs) (other_mode : Mode) (memory : List ℕ)
+    → TranslatesAlike csrs mode other other_mode → Serves buffer first owner csrs mode memory → Serves buffer first owner other other_mode memory
+serves_alike buffer first owner csrs mode other other_mode memory (context, who) serves = record {
+  context = serves.context ∙ sym context;
+  who = serves.who ∙ ap (λ p. run_bits buffer.run + who_bits p) (sym who);
+  slots = serves.slots;
+  page = subst (λ p. PageStands (has_frame buffer.read) memory (translator first owner buffer.context) p buffer.page) (sym who) serves.page;
+}
 
 -- an access to data is completed alike whatever is cached
 abbrev CompletesAlike : List FirstEntry → Completion → Completion → Type 0

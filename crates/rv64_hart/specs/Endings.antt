@@ -2,9 +2,12 @@
 use Rattle.std.specs.Prelude.{ℕ, ◌≡◌, ◌+◌, ◌%◌, ◌^◌, List, Option, Some, None, Bool, true, false, ⊤}
 use Rattle.arch_defs.specs.declared.first.FirstEntry.{FirstEntry}
 use Rattle.arch_defs.specs.declared.hart_states.HartState.{HartState}
+use Rattle.arch_defs.specs.declared.modes.Mode.{Mode}
 use Rattle.arch_defs.specs.declared.modes.Trap.{Trap}
+use Rattle.arch_defs.specs.declared.registers.Csrs.{Csrs}
 use Rattle.arch_defs.specs.declared.registers.Virtual.{Virtual}
 use Rattle.arch_defs.specs.Interrupts.{due}
+use Rattle.arch_defs.specs.Translation.{privilege_of}
 use Rattle.op_defs.specs.declared.ops.DataAccess.{DataAccess}
 use Rattle.op_defs.specs.declared.ops.Effect.{Effect}
 use Rattle.op_defs.specs.Table.{op_of}
@@ -14,6 +17,7 @@ use Rattle.machine_defs.specs.Core.{Located, At, at_place, executed, instruction
 use Rattle.machine_defs.specs.FirstLeaves.{found_by_effect, found_by_op}
 use Rattle.machine_defs.specs.Outcomes.{Outcome}
 use Rattle.machine_defs.specs.Runs.{pc_and_word}
+use Rattle.translation_buffer.specs.Places.{context_of}
 use Rattle.rv64_hart.specs.declared.endings.Ended.{Ended}
 use Rattle.rv64_hart.specs.declared.endings.Ended.TheVariants.{Plain, System, Raised}
 use Rattle.rv64_hart.specs.declared.endings.StepEnd.{StepEnd}
@@ -100,6 +104,17 @@ abbrev pub IfLeft : StepEnd → Type 0 → Type 0
 IfLeft Continues P = ⊤
 IfLeft Ends P = ⊤
 IfLeft Left P = P
+
+-- unless a condition holds
+abbrev pub Unless : Bool → Type 0 → Type 0
+Unless true P = ⊤
+Unless false P = P
+
+-- accesses are translated under the same roots, and for the same privilege
+abbrev pub TranslatesAlike : Csrs → Mode → Csrs → Mode → Type 0
+TranslatesAlike csrs mode other other_mode =
+    (context_of other other_mode ≡ context_of csrs mode)
+    × (privilege_of other other_mode ≡ privilege_of csrs mode)
 
 -- the registers and the mode by which memory is accessed stay
 abbrev pub KeepsContext : Virtual → Virtual → Type 0

@@ -1,7 +1,7 @@
 // Instructions that are not common ones: those of opcode SYSTEM and on memory in other ways, and all of which
 // the access at pc has found a first-stage translation.
 
-ghost use Rattle.std.specs.Prelude.{◌≡◌, ◌<◌, ℕ, List, Some, IfSome, option_map, true, unwrap_or};
+ghost use Rattle.std.specs.Prelude.{◌≡◌, ◌<◌, ◌%◌, ◌==◌, ◌&&◌, ℕ, List, Some, IfSome, option_map, true, unwrap_or};
 ghost use Rattle.arch_defs.specs.declared.first.FirstEntry.{FirstEntry};
 ghost use Rattle.arch_defs.specs.declared.first.Tag.{Tag};
 ghost use Rattle.arch_defs.specs.declared.hart_states.HartState.{HartState};
@@ -16,7 +16,7 @@ ghost use Rattle.machine_defs.specs.FirstLeaves.{entries_of};
 ghost use Rattle.arch_defs.specs.Registers.{next};
 ghost use Rattle.machine_defs.specs.Privileges.{csr_accessed, privileged};
 ghost use Rattle.translation_buffer.specs.Serving.{Serves, ServesHart};
-ghost use Rattle.rv64_hart.specs.Endings.{IfPlain, IfRaised, KeepsContext, attempt_at, attempt_by, attempt_with};
+ghost use Rattle.rv64_hart.specs.Endings.{IfPlain, IfRaised, KeepsContext, TranslatesAlike, Unless, attempt_at, attempt_by, attempt_with};
 ghost use Rattle.rv64_hart.specs.MachineMemory.{found_over, mmu_on};
 ghost use Rattle.rv64_hart.specs.Steps.{Raises, attempt_of, caching, with_first};
 
@@ -150,16 +150,10 @@ fn register(
     ensures plain { IfPlain result (KeepsContext state.old.virt state.new.virt) }
 {
     let operand = operand_of(&source, &state.virt.regs);
-    match access_csr(
-        &mut state.virt,
-        op,
-        number,
-        operand,
-        writes(op, &source),
-        rd,
-    ) {
+    let wrote = writes(op, &source);
+    match access_csr(&mut state.virt, op, number, operand, wrote, rd) {
         Ok(()) => {
-            settle(state, buffer, found);
+            settle_access(state, buffer, changes_context(wrote, number), found);
             Ended::System
         }
         Err(end) => raise(state.virt.mode, refusal_code(end), word as u64, trap),
@@ -348,6 +342,36 @@ fn settle(state: &mut HartState, buffer: &mut Buffer, found: Option<&FirstEntry>
 {
     cache(&mut state.virt.first, buffer, found);
     follow(&state.virt, buffer);
+}
+
+// Whether an instruction on a register may change by what accesses are translated: where it writes one whose
+// number is a multiple of 128, as those of sstatus, satp, vsstatus, vsatp and hgatp are.
+fn changes_context(wrote: bool, number: u16) -> bool
+    ensures { result ≡ (wrote && number % 128 == 0) }
+{
+    number % 128 == 0 && wrote
+}
+
+// The same as `settle` after an instruction on a register, which may have changed by what accesses are
+// translated; where it has not, what is kept stays.
+fn settle_access(
+    state: &mut HartState,
+    buffer: &mut Buffer,
+    changes: bool,
+    found: Option<&FirstEntry>,
+)
+    requires fits { IfSome found (λ e. HasGuestFrame e.now) }
+    ensures state { state.new ≡ with_first state.old (entries_of (option_map (λ e. e.now) found.entry)) }
+    ensures serves { (before : Csrs) (mode_before : Mode) (memory : List ℕ)
+        → Unless changes (TranslatesAlike before mode_before state.old.virt.csrs state.old.virt.mode)
+        → Serves buffer.old state.old.virt.first state.old.tag before mode_before memory
+        → ServesHart buffer.new state.new memory }
+{
+    if changes {
+        settle(state, buffer, found);
+    } else {
+        cache(&mut state.virt.first, buffer, found);
+    }
 }
 
 // Drops the first-stage translations that a fence names, made for these accesses, or else for the hart's own,
