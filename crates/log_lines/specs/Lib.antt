@@ -1,0 +1,4 @@
+pub mod CountKeys
+pub mod Kinds
+pub mod Lines
+pub mod Numbers
