@@ -62,7 +62,7 @@ name_at word place at within is =
 pub no_name : (word : List ℕ) (place : ℕ) → length word < place → names_from place word ≡ []
 no_name word place past = ap (λ b. if b then kind_names (drop place word) else []) (lt-leb place (length word) past)
 
--- kinds of names one after another: none where the first is no kind
+-- kinds of names one after another: none where the first is not a kind
 pub kinds_into_some : (name : List ℕ) (names : List (List ℕ)) (kinds : Kinds) (kind : Kind) → kind_named name ≡ Some kind
     → kinds_into (name ∷ names) kinds ≡ kinds_into names (with_kind kinds kind)
 unfolding kinds_into

@@ -124,7 +124,7 @@ fn name_length(bytes: &[u8]) -> usize
     }
 }
 
-/// The kinds of a word: names with commas between, in any order. None, where one of them is no kind.
+/// The kinds of a word: names with commas between, in any order. None where one of them is not a kind.
 #[tactic(auto, unfolding(crate::specs::Kinds::kinds_of))]
 pub fn kinds_of(word: &[u8]) -> Option<Kinds>
     ensures { result ≡ kinds_of word.now }

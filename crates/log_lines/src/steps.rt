@@ -16,7 +16,7 @@ pub struct Written {
     pub value: u64,
 }
 
-/// A number of so many bytes at a physical address.
+/// A number of that many bytes at a physical address.
 #[derive(Clone, Copy)]
 pub struct MemoryValue {
     pub place: u64,
