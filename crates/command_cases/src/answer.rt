@@ -1,11 +1,10 @@
 // The answer to an ask: what the first of its runs leaves, and the others where they leave anything else.
 
 use crate::call::Left;
-use crate::configuration::Turns;
 use crate::formats::Form;
 use crate::sums::sum;
-use crate::text::push_lines;
 use crate::told::Told;
+use case_files::{Turns, push_lines};
 use no_memory::NoMemory;
 use std::alloc::Global;
 

@@ -1,13 +1,9 @@
 // A call of the whole program, and what it leaves.
 
-use crate::files::Files;
-use crate::script::Script;
-use crate::sink::ScriptedSink;
-use crate::store::ScriptedStore;
+use case_files::{Files, Script, ScriptedSink, ScriptedStore, words_in};
 use guest_turns::Moves;
 use nesthv_top::program;
 use no_memory::NoMemory;
-use outside::Word;
 use rv64_hart::Tally;
 use std::alloc::Global;
 
@@ -32,7 +28,7 @@ pub fn call<'f, 'a>(
     let words = if script.wants_words {
         Err(NoMemory)
     } else {
-        Ok(words_of(alloc, text)?)
+        Ok(words_in(alloc, text)?)
     };
     let mut store = ScriptedStore::new(alloc, files, script.store);
     let mut out = ScriptedSink::new(alloc, script.out);
@@ -50,14 +46,4 @@ pub fn call<'f, 'a>(
         tally,
         moves,
     })
-}
-
-// The words of a text, in which `""` is the empty one.
-fn words_of(alloc: Global, text: &str) -> Result<Vec<Word>, NoMemory> {
-    let mut words = Vec::new(alloc);
-    for word in text.split_whitespace() {
-        let word = if word == "\"\"" { "" } else { word };
-        words.push(Word::new(alloc, word)?)?;
-    }
-    Ok(words)
 }

@@ -2,13 +2,9 @@
 
 use crate::answer::{Answer, Run};
 use crate::call::call;
-use crate::configuration::{Configuration, Turns};
-use crate::faults::Fault;
-use crate::files::Files;
 use crate::formats::{Form, in_format_two};
-use crate::script::Script;
-use crate::terms::Names;
 use crate::told::Told;
+use case_files::{Configuration, Fault, Files, Names, Script, Turns, told_fault};
 use no_memory::NoMemory;
 use std::alloc::Global;
 
@@ -41,22 +37,6 @@ pub fn answer(
     }
     let ended = case.end(answers);
     told_fault(ended, "end", answers)
-}
-
-/// Tells a line that was not obeyed.
-pub fn told_fault(
-    obeyed: Result<(), Fault>,
-    line: &str,
-    answers: &mut String,
-) -> Result<(), NoMemory> {
-    match obeyed {
-        Ok(()) => Ok(()),
-        Err(Fault::NoMemory) => Err(NoMemory),
-        Err(Fault::Line) => {
-            writeln!(answers, "fault: {line}")?;
-            Ok(())
-        }
-    }
 }
 
 impl<'a> Case<'a> {

@@ -5,18 +5,10 @@
 mod answer;
 mod call;
 mod case;
-mod configuration;
-mod faults;
-mod files;
 mod formats;
-mod script;
-mod sink;
-mod store;
 mod suite;
 mod sums;
 mod table;
-mod terms;
-mod text;
 mod told;
 
 use std::{fs, io};

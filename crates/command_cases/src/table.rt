@@ -1,12 +1,8 @@
 // A table of configurations, each in a row, with the fault that it is refused for.
 
 use crate::call::{Left, call};
-use crate::case::told_fault;
-use crate::faults::Fault;
-use crate::files::Files;
 use crate::formats::in_format_two;
-use crate::script::Script;
-use crate::text::{push_shown, push_unescaped, quoted};
+use case_files::{Fault, Files, Script, push_shown, push_unescaped, quoted, told_fault};
 use no_memory::NoMemory;
 use std::alloc::Global;
 

@@ -1,7 +1,6 @@
 // What is told of an answer beside its status and its bytes.
 
-use crate::faults::Fault;
-use crate::terms::number;
+use case_files::{Fault, number};
 
 #[derive(Clone, Copy)]
 pub struct Told {

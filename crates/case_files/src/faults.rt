@@ -37,3 +37,19 @@ impl From<LineFault> for Fault {
         }
     }
 }
+
+/// Tells a line that was not obeyed.
+pub fn told_fault(
+    obeyed: Result<(), Fault>,
+    line: &str,
+    answers: &mut String,
+) -> Result<(), NoMemory> {
+    match obeyed {
+        Ok(()) => Ok(()),
+        Err(Fault::NoMemory) => Err(NoMemory),
+        Err(Fault::Line) => {
+            writeln!(answers, "fault: {line}")?;
+            Ok(())
+        }
+    }
+}

@@ -1,8 +1,10 @@
-// Numbers, and the names that stand for them.
+// Numbers, the names that stand for them, and words.
 
 ghost use Rattle.std.specs.Prelude.{◌≤◌};
 
 use crate::faults::Fault;
+use no_memory::NoMemory;
+use outside::Word;
 use std::alloc::Global;
 
 // A name, and the values that it stands for.
@@ -100,7 +102,17 @@ fn digits_of(digits: &str, radix: u32) -> Option<u64>
 }
 
 /// The two numbers that a text has, with this between them.
-pub fn pair(text: &str, between: &str) -> Option<(u64, u64)> {
+pub(crate) fn pair(text: &str, between: &str) -> Option<(u64, u64)> {
     let (first, second) = text.split_once(between)?;
     Some((number(first)?, number(second)?))
+}
+
+/// The words of a text, in which `""` is the empty one.
+pub fn words_in(alloc: Global, text: &str) -> Result<Vec<Word>, NoMemory> {
+    let mut words = Vec::new(alloc);
+    for word in text.split_whitespace() {
+        let word = if word == "\"\"" { "" } else { word };
+        words.push(Word::new(alloc, word)?)?;
+    }
+    Ok(words)
 }
