@@ -4,7 +4,7 @@ import os
 import shlex
 from typing import NamedTuple
 
-from nesthv_tools import elf_images, places, programs
+from nesthv_tools import children, elf_images, places, programs
 
 BUILT = os.path.join(places.TOP, "crates", "nesthv_gdb", "out", "nesthv_gdb")
 INSTALLED = os.path.join(places.TOP, "..", "..", "bin", "nesthv-gdb")
@@ -13,9 +13,6 @@ SHORTEST = 64  # bytes of a nested guest that are looked for in an image
 SECONDS = 600  # of one answer of the stub
 # Reads what gdb acknowledges when it leaves. The stub has ended by then, and gdb would tell of a broken pipe.
 REST = "exec cat >/dev/null"
-# The stub takes the guest's RAM anew for each move back. By default glibc gives so large a piece back to the
-# system, which clears it page by page when it is taken again: a good half of the time of the move.
-MEMORY = "glibc.malloc.mmap_threshold=1073741824:glibc.malloc.trim_threshold=1073741824"
 
 
 class World(NamedTuple):
@@ -94,7 +91,7 @@ def command(gdb: str, program: str, folder: str, place: str, guest: int, worlds:
     """The words by which gdb is started for the guest of this number of a configuration in this folder."""
     words = shlex.join([program, place, str(guest)])
     there = f"cd {shlex.quote(folder)} && " if folder != "." else ""
-    stub_line = f"{there}GLIBC_TUNABLES=${{GLIBC_TUNABLES-{MEMORY}}} {words}; {REST}"
+    stub_line = f"{there}GLIBC_TUNABLES=${{GLIBC_TUNABLES-{children.KEPT}}} {words}; {REST}"
     commands = [f"set remotetimeout {SECONDS}", "set architecture riscv:rv64", *symbol_commands(worlds),
                 f"target remote | {stub_line}"]
     return [gdb, "-x", SCRIPT, *(word for each in commands for word in ("-ex", each))]

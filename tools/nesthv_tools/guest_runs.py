@@ -10,11 +10,13 @@ import subprocess
 import tempfile
 from collections.abc import Iterator
 
-from nesthv_tools import children, faults, parallel, progress, records, saves, state_cache, state_files
+from nesthv_tools import (
+    children, faults, foretold_steps, parallel, progress, records, reports, saves, state_cache,
+    state_files, stubs)
 
 KEPT_IN_MEMORY, KEPT_IN_FILES = 8, 4  # states
 AT_ONCE = 256  # single steps from one state
-FAR = 100000  # steps from a state to one that is worth keeping, for each block of RAM
+FAR = 200000  # steps from a state to one that is worth keeping, for each block of RAM
 
 
 class Unusable(Exception):
@@ -33,8 +35,8 @@ def checked(program: str, path: str, folder: str) -> None:
     """Has the program test a configuration, and says in words what it finds."""
     place = os.path.join(".", os.path.basename(path))
     try:
-        ran = subprocess.run([program, "check", place], cwd=folder, stdin=subprocess.DEVNULL,
-                             capture_output=True)
+        ran = subprocess.run([program, "check", place], cwd=folder, env=children.environment(),
+                             stdin=subprocess.DEVNULL, capture_output=True)
     except OSError as error:
         raise Unusable(f"{program} cannot be run: {error.strerror}") from None
     if ran.returncode:
@@ -43,9 +45,17 @@ def checked(program: str, path: str, folder: str) -> None:
         raise Unusable(line + (f": {meaning}" if meaning else ""))
 
 
+def saved_in(data: bytes, path: str) -> saves.Saved:
+    """The saved guest in the bytes of a file."""
+    try:
+        return saves.Saved(data)
+    except saves.Wrong as why:
+        raise Unusable(f"{path} is not a saved guest: {why}") from None
+
+
 class Guest:
     """One guest of a configuration: the files that it begins with, by the names that they get here, its keys
-    in TOML, and how many steps its turns have."""
+    in TOML, how many steps its turns have, how many it has made, and how many blocks of RAM it has."""
 
     def __init__(self, program: str, path: str, number: int) -> None:
         folder = os.path.dirname(path) or "."
@@ -68,11 +78,15 @@ class Guest:
         if self.image:
             self.begin(folder, table, faults.format_of(document))
         else:
-            self.files["resumed"] = read(os.path.join(folder, table["resume"]), saves.MOST_BYTES, "the file")
+            path = os.path.join(folder, table["resume"])
+            self.files["resumed"] = read(path, saves.MOST_BYTES, "the file")
             self.keys["resume"] = "resumed"
+            numbers = saved_in(self.files["resumed"], path).numbers
+            self.first, self.blocks = numbers["steps"], numbers["blocks"]
 
     def begin(self, folder: str, table: faults.Table, form: int) -> None:
         """Takes what a guest at its start has."""
+        self.first, self.blocks = 0, table["blocks"]
         most = faults.BLOCK * table["blocks"] + 1
         self.files["image"] = read(os.path.join(folder, table["image"]), most, "the image")
         keys = [key for key in ("blocks", "spaces", "entries", "console", "device") if key in table]
@@ -94,16 +108,20 @@ class Runs:
 
     def __init__(self, program: str, guest: Guest, cache: state_cache.Cache) -> None:
         self.program, self.guest, self.cache = program, guest, cache
+        self.stub = stubs.beside(program)
         self.folder = tempfile.TemporaryDirectory(prefix="nesthv-look-")
         self.numbers, self.calls = itertools.count(), 0
         self.known: collections.OrderedDict[int, saves.Saved] = collections.OrderedDict()
         for name, data in guest.files.items():
             self.put(name, data)
-        self.start: saves.Saved = self.saved_of(self.call("save", guest.keys, 0))
-        self.first = self.start.numbers["steps"]
-        self.far = FAR * self.start.numbers["blocks"]
-        self.know(self.first, self.start)
+        self.first, self.far = guest.first, FAR * guest.blocks
         self.last = self.first + guest.steps
+        self.goes_back = True  # whether states before the one that is asked for may be asked for, too
+
+    @property
+    def start(self) -> saves.Saved:
+        """The first state."""
+        return self.at(self.first)
 
     def close(self) -> None:
         self.folder.cleanup()
@@ -120,12 +138,15 @@ class Runs:
     def new_path(self) -> str:
         return self.path(f"{next(self.numbers)}.saved")
 
-    def call(self, command: str, keys: faults.Table, steps: int) -> state_files.OwnFile:
-        """What the program writes for a guest of these keys that makes this many steps."""
-        name = f"{next(self.numbers)}.toml"
+    def put_config(self, keys: faults.Table, steps: int) -> str:
+        """The name of a configuration of a guest of these keys that makes this many steps."""
         lines = ["format = 2", f"turns = {progress.turns_of([steps], steps)}", "[[guest]]"]
         lines += [f"{key} = {progress.toml_of(value)}" for key, value in keys.items()]
-        self.put(name, "\n".join(lines).encode() + b"\n")
+        return self.put(f"{next(self.numbers)}.toml", "\n".join(lines).encode() + b"\n")
+
+    def call(self, command: str, keys: faults.Table, steps: int) -> state_files.OwnFile:
+        """What the program writes for a guest of these keys that makes this many steps."""
+        name = self.put_config(keys, steps)
         words = [self.program, command, name] + (["0"] if command == "save" else [])
         self.calls += 1
         written = state_files.OwnFile(self.new_path())
@@ -159,6 +180,19 @@ class Runs:
         self.known.move_to_end(step)
         return self.known[step]
 
+    def told_at(self, step: int) -> saves.Saved | reports.Told:
+        """What the report tells of the state at this step; or the state, where none near it is known."""
+        step = min(max(step, self.first), self.last)
+        before, saved = self.last_before(step)
+        if step in self.known or step - before > self.far:
+            return self.at(step)
+        with Line(self, before, saved) as line:
+            file = line.call("run", step)
+        told = reports.told_in(file.read())
+        if not told:
+            raise Unusable(f"what {self.program} reports is not a report")
+        return told
+
     def know(self, step: int, saved: saves.Saved) -> None:
         self.known[step] = saved
         while len(self.known) > KEPT_IN_MEMORY:
@@ -176,7 +210,7 @@ class Runs:
         states are kept, the closer to each other the closer they are to its end."""
         before, saved = self.last_before(step)
         with Line(self, before, saved) as line:
-            while step - before >= 2 * self.far:
+            while self.goes_back and step - before >= 2 * self.far:
                 before += (step - before) // 2
                 file = line.call("save", before)
                 self.cache.keep(before, file.mapped())
@@ -187,8 +221,8 @@ class Runs:
             self.cache.keep(step, file.mapped())
         return file
 
-    def last_before(self, step: int) -> tuple[int, saves.Saved]:
-        """The last state before a step that is known, with its step."""
+    def last_before(self, step: int) -> tuple[int, saves.Saved | None]:
+        """The last state before a step that is known, with its step, or the first step where none is."""
         near = max((each for each in self.known if each < step), default=self.first)
         for before in sorted((each for each in self.cache.steps() if near < each < step), reverse=True):
             saved = self.kept_at(before)
@@ -196,26 +230,41 @@ class Runs:
                 return before, saved
         if near in self.known:
             self.known.move_to_end(near)
-        return near, self.known.get(near, self.start)
+        return near, self.known.get(near)
 
     def singles(self, start: int, end: int) -> Iterator[saves.Saved]:
-        """The states at the steps from `start` to `end`, in order."""
+        """The states at the steps from `start` to `end`, in order. The run makes them all."""
         yield self.at(start)
-        while start < end:
-            until = min(start + AT_ONCE, end)
-            with Line(self, start, self.at(start)) as line:
-                yield from parallel.in_order(line.at, range(start + 1, until + 1))
-            start = until
+        step = start
+        try:
+            for state in self.stepped(start, end):
+                step = state.numbers["steps"]
+                yield state
+        except stubs.Ended:
+            pass
+        while step < end:
+            until = min(step + AT_ONCE, end)
+            with Line(self, step, self.at(step)) as line:
+                yield from parallel.in_order(line.at, range(step + 1, until + 1))
+            step = until
+
+    def stepped(self, start: int, end: int) -> Iterator[saves.Saved]:
+        """The states behind a step, up to a second one, by the stub."""
+        state = self.at(start)
+        with Line(self, start, state) as line, line.stub(end) as stub:
+            yield from foretold_steps.Steps(stub, line, state).until(end)
 
 
 class Line:
-    """A run that goes on from a state, which is that at a step. What it comes to is made from the last state
-    before that is kept in a file: the first one, or one of the few that were far from the one before."""
+    """A run that goes on from a state, which is that at a step, or from its beginning. What it comes to is
+    made from the last state before that is kept in a file: the first, or one of the few that were far from
+    the one before."""
 
-    def __init__(self, runs: Runs, step: int, saved: saves.Saved) -> None:
+    def __init__(self, runs: Runs, step: int, saved: saves.Saved | None) -> None:
         self.runs, self.start = runs, step
         self.files: collections.OrderedDict[int, state_files.OwnFile] = collections.OrderedDict()
-        self.keep(step, state_files.file_of(saved, runs.new_path()))
+        if saved:
+            self.keep(step, state_files.file_of(saved, runs.new_path()))
 
     def __enter__(self) -> "Line":
         return self
@@ -228,12 +277,17 @@ class Line:
         if len(self.files) > KEPT_IN_FILES:
             self.files.pop(next(each for each in self.files if each != self.start))
 
+    def keys(self, file: state_files.OwnFile) -> faults.Table:
+        """The guest that goes on from a file."""
+        return {"name": self.runs.guest.name, "resume": os.path.basename(file.path)}
+
     def call(self, command: str, step: int) -> state_files.OwnFile:
         """What the program writes where the run goes on up to this step."""
-        before = max(each for each in self.files if each <= step)
-        self.files.move_to_end(before)
-        own = self.files[before]  # stays while the program reads it
-        keys = {"name": self.runs.guest.name, "resume": os.path.basename(own.path)}
+        before = max((each for each in self.files if each <= step), default=self.start)
+        own = self.files.get(before)  # stays while the program reads it
+        if own:
+            self.files.move_to_end(before)
+        keys = self.keys(own) if own else self.runs.guest.keys
         file = self.runs.call(command, keys, step - before)
         if command == "save" and step - before >= self.runs.far:
             self.keep(step, file)
@@ -242,3 +296,15 @@ class Line:
     def at(self, step: int) -> saves.Saved:
         """The state at this step."""
         return self.runs.saved_of(self.call("save", step))
+
+    @contextlib.contextmanager
+    def stub(self, end: int) -> Iterator[stubs.Stub]:
+        """A stub that shows the run from its start on, up to a step."""
+        if not self.runs.stub:
+            raise stubs.Ended
+        config = self.runs.put_config(self.keys(self.files[self.start]), end - self.start)
+        stub = stubs.Stub(self.runs.stub, self.runs.folder.name, config)
+        try:
+            yield stub
+        finally:
+            stub.close()

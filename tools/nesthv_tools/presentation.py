@@ -1,4 +1,5 @@
 """What `look` shows of states, as values for JSON and as lines."""
+import struct
 from collections.abc import Iterator
 from typing import Any
 
@@ -9,6 +10,7 @@ from nesthv_tools.symbols import Disassembler, Symbols
 Value = dict[str, Any]
 
 CSRS = list(saves.REGISTERS)
+NEAR = 256  # bytes of instructions that are put into words at once
 
 
 def instruction_of(saved: saves.Saved, symbols: Symbols, disassembler: Disassembler) -> Value:
@@ -18,8 +20,18 @@ def instruction_of(saved: saves.Saved, symbols: Symbols, disassembler: Disassemb
     if word is None or physical is None:
         return {"word": None, "symbol": "", "text": "", "why": why}
     is_nested = saved.mode() in ("VS", "VU")
+    if word not in disassembler.known:
+        disassembler.learn([word, *words_near(saved, physical)])
     return {"word": word, "symbol": symbols.symbol_of(word, pc, physical, is_nested),
             "text": disassembler.text_of(word, pc), "why": ""}
+
+
+def words_near(saved: saves.Saved, physical: int) -> list[int]:
+    """The words around one in RAM that are instructions of 32 bits by their length: the next steps may need
+    them."""
+    at = (physical - saves.RAM) // NEAR * NEAR
+    words = struct.unpack(f"<{NEAR // 4}I", saved.ram[at:at + NEAR])
+    return [word for word in words if word & 3 == 3 and word & 28 != 28]
 
 
 def line_of_instruction(pc: int, found: Value) -> str:

@@ -1,9 +1,10 @@
 """Finds the program that the tools take: the one that is named, else the proved one."""
+import functools
 import glob
 import hashlib
 import os
 import platform
-from collections.abc import Iterator
+from collections.abc import Callable, Iterator
 
 from nesthv_tools import places
 
@@ -16,10 +17,15 @@ class Unusable(Exception):
 
 
 class Program:
-    """A program: its path, whether it is a proved one, and what there is to say of it."""
+    """A program: its path, whether it is a proved one, and what there is to say of it, which is found once it
+    is asked for."""
 
-    def __init__(self, path: str, is_proved: bool, notice: str = "") -> None:
-        self.path, self.is_proved, self.notice = path, is_proved, notice
+    def __init__(self, path: str, is_proved: bool, find_notice: Callable[[], str] = str) -> None:
+        self.path, self.is_proved, self.find_notice = path, is_proved, find_notice
+
+    @functools.cached_property
+    def notice(self) -> str:
+        return self.find_notice()
 
 
 def hash_of(path: str) -> str:
@@ -63,6 +69,11 @@ def is_of_these_sources() -> bool:
         return False
 
 
+def notice_of_sources() -> str:
+    """What there is to say of dist/nesthv."""
+    return "" if is_of_these_sources() else "is of other sources; dist/check says more"
+
+
 def is_older_than_sources(program: str) -> bool:
     """Whether a source of a crate has changed since this program was built."""
     built = os.path.getmtime(program)
@@ -87,7 +98,7 @@ def named(path: str) -> Program:
         raise Unusable(f"{path} is not a program: {why_not(path)}")
     path = os.path.abspath(path)
     is_proved = is_of(path, places.DIST) or is_of(path, places.TOOLS)
-    return Program(path, is_proved, "" if is_proved else "is not known to be proved")
+    return Program(path, is_proved, lambda: "is not known to be proved" * (not is_proved))
 
 
 def proved() -> Program | None:
@@ -98,10 +109,9 @@ def proved() -> Program | None:
     path = os.path.join(places.DIST, "nesthv")
     is_here = (platform.system(), platform.machine()) == ("Linux", "x86_64")
     if is_here and is_program(path) and is_of(path, places.DIST):
-        notice = "" if is_of_these_sources() else "is of other sources; dist/check says more"
-        return Program(path, True, notice)
+        return Program(path, True, notice_of_sources)
     if is_program(BUILT):
-        return Program(BUILT, True, "is older than the sources" if is_older_than_sources(BUILT) else "")
+        return Program(BUILT, True, lambda: "is older than the sources" * is_older_than_sources(BUILT))
     return None
 
 

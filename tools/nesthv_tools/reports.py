@@ -1,7 +1,9 @@
 """Reads a report: its sections, each with its console by the number of bytes that its header has."""
 import re
 from collections.abc import Sequence
-from typing import Any
+from typing import Any, NamedTuple
+
+from nesthv_tools import saves
 
 Section = dict[str, Any]
 
@@ -24,6 +26,21 @@ def sections_of(report: bytes) -> list[Section] | None:
                          "bytes": int(found[4]), "console": report[found.end():end].decode("latin-1")})
         at = end + 1
     return sections
+
+
+class Told(NamedTuple):
+    """What a report tells of the state of a guest, by the names that a saved guest has."""
+    numbers: dict[str, int]
+    console: bytes
+
+
+def told_in(report: bytes) -> Told | None:
+    """What a report of one guest tells, or none where it is not one."""
+    sections = sections_of(report)
+    if not sections or sections[0]["status"] not in saves.STATUSES:
+        return None
+    numbers = {"status": saves.STATUSES.index(sections[0]["status"]), "steps": sections[0]["steps"]}
+    return Told(numbers, sections[0]["console"].encode("latin-1"))
 
 
 def bytes_of(path: str) -> bytes | None:

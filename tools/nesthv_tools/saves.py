@@ -6,7 +6,7 @@ page as well.
 import copy
 import mmap
 import struct
-from collections.abc import Iterator
+from collections.abc import Iterable, Iterator
 from typing import NamedTuple, Self
 
 Entry = tuple[int, int, int]  # of a space: page, frame, flags
@@ -15,6 +15,7 @@ Bytes = bytes | mmap.mmap
 
 BLOCK = 2097152
 MOST_BYTES = 68798705  # that the program reads: one more than a good file has
+PAGE = 4096
 PIECE = 1 << 18  # bytes of RAM that are compared at a time
 LETTERS = (b"NESTHV01", b"NESTHV02", b"NESTHV03")  # of each version
 RAM, DEVICE_FRAME, DEVICE = 0x80000000, 0x10000, 0x10000000
@@ -83,17 +84,35 @@ class First(NamedTuple):
 
 class Ram:
     """The bytes of RAM, behind the front of a file, which may be mapped: they are copied when they are asked
-    for."""
+    for. Pages that differ from the file stand beside it, by their offsets."""
 
-    def __init__(self, data: Bytes, front: int) -> None:
-        self.data, self.front = data, front
+    def __init__(self, data: Bytes, front: int, pages: dict[int, bytes] | None = None) -> None:
+        self.data, self.front, self.pages = data, front, pages or {}
 
     def __len__(self) -> int:
         return len(self.data) - self.front
 
     def __getitem__(self, part: slice) -> bytes:
         start, end, _ = part.indices(len(self))
-        return self.data[self.front + start:self.front + end]
+        found = self.data[self.front + start:self.front + end]
+        return self.patched(found, start) if self.pages else found
+
+    def patched(self, found: bytes, start: int) -> bytes:
+        """What the file has from an offset on, with the pages that differ."""
+        end, made = start + len(found), bytearray(found)
+        for page in range(start // PAGE * PAGE, end, PAGE):
+            if page in self.pages:
+                low, high = max(page, start), min(page + PAGE, end)
+                made[low - start:high - start] = self.pages[page][low - page:high - page]
+        return bytes(made)
+
+    def changed(self, address: int, data: bytes) -> "Ram":
+        """The RAM that has these bytes at a physical address, all in one page."""
+        at = address - RAM
+        page = at // PAGE * PAGE
+        whole = bytearray(self[page:page + PAGE])
+        whole[at - page:at - page + len(data)] = data
+        return Ram(self.data, self.front, {**self.pages, page: bytes(whole)})
 
     def is_same(self, other: "Ram") -> bool:
         return len(self) == len(other) and not any(True for _ in pieces_that_differ(self, other))
@@ -106,9 +125,13 @@ class Ram:
 
 def pieces_that_differ(one: Ram, other: Ram) -> Iterator[tuple[int, bytes, bytes]]:
     """The pieces that differ of two RAMs, each with where it begins."""
+    places: Iterable[int] = range(0, min(len(one), len(other)), PIECE)
+    size = PIECE
+    if one.data is other.data and one.front == other.front:
+        places, size = sorted({*one.pages, *other.pages}), PAGE
     try:
-        for at in range(0, min(len(one), len(other)), PIECE):
-            first, second = one[at:at + PIECE], other[at:at + PIECE]
+        for at in places:
+            first, second = one[at:at + size], other[at:at + size]
             if first != second:
                 yield at, first, second
     finally:

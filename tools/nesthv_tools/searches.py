@@ -2,7 +2,7 @@
 import functools
 from collections.abc import Callable
 
-from nesthv_tools import guest_runs, saves
+from nesthv_tools import arrivals, guest_runs, saves
 
 Holds = Callable[[int], bool]
 Tell = Callable[[int, int], None]
@@ -102,32 +102,40 @@ class Traps:
 
     def last(self, end: int) -> int | None:
         """The step of the last trap up to `end`, or none."""
+        step = arrivals.last_arrival(self.runs, end)
+        if step is not None and self.is_trap(step) and self.is_quiet(step, end):
+            return step
         while end > self.runs.first:
             step = self.last_event(end)
             if step is None:
                 return None
-            with self.planted(step - 1) as line:
-                if line.at(step).numbers["pc"] == AWAY:
-                    return step
+            if self.is_trap(step):
+                return step
             end = step - 1
         return None
+
+    def is_trap(self, step: int) -> bool:
+        """Whether the step that leads to the state of this number is a trap."""
+        with self.planted(step - 1) as line:
+            return line.at(step).numbers["pc"] == AWAY
+
+    def is_quiet(self, step: int, end: int) -> bool:
+        """Whether no step from a state on, up to a second one, is a trap or uses a planted register."""
+        with self.planted(step) as line:
+            return self.is_like(line.at(end), self.runs.at(end))
 
     def last_event(self, end: int) -> int | None:
         """The last step up to `end` that is a trap or uses a planted register, or none: by going back in
         steps that grow, and by halves. Behind `high` there is none."""
-        def is_quiet(step: int) -> bool:
-            with self.planted(step) as line:
-                return self.is_like(line.at(high), self.runs.at(high))
-
         high, low = end, max(end - 4, self.runs.first)
-        while is_quiet(low):
+        while self.is_quiet(low, high):
             if low == self.runs.first:
                 return None
             high, low = low, max(low - 4 * (high - low), self.runs.first)
             self.tell(low, high)
         while high - low > 1:
             middle = (low + high) // 2
-            if is_quiet(middle):
+            if self.is_quiet(middle, high):
                 high = middle
             else:
                 low = middle

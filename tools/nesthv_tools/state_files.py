@@ -48,7 +48,7 @@ class State(saves.Saved):
 
 def file_of(saved: saves.Saved, path: str) -> OwnFile:
     """A file that has this state: its own one, or a new one at this path."""
-    if not isinstance(saved, State):
+    if not isinstance(saved, State) or saved.ram.pages:
         with open(path, "wb") as file:
             file.write(saved.form())
         return OwnFile(path)

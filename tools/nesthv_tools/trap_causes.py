@@ -107,5 +107,7 @@ def repetition_of(session: Session, after: saves.Saved, trap: Trap) -> int | Non
 
     def is_same(each: int) -> bool:
         return all(runs.at(each).numbers[name] == after.numbers[name] for name in names)
+    if step == runs.first or not is_same(step - 1):
+        return None
     made = searches.last_change(is_same, runs.first, step, session.tell)
     return made if made and made < step else None

@@ -41,11 +41,12 @@ between from them, but not from `trace`.
 import os
 from argparse import Namespace
 from collections.abc import Callable, Iterator
+from typing import NamedTuple
 
 from nesthv_tools import (
     command_line, drawing, faults, fences, guest_runs, image_configurations, presentation, programs,
-    registers, saves, searches, sessions, state_cache, state_changes, streams, trap_causes, visits, walks,
-    whole_files)
+    registers, reports, saves, searches, sessions, state_cache, state_changes, streams, trap_causes, visits,
+    walks, whole_files)
 from nesthv_tools.presentation import Value
 from nesthv_tools.sessions import Session
 
@@ -63,6 +64,7 @@ EXAMPLES = """examples:
 """
 COUNTS = {"at": [1], "walk": [1], "maps": [0], "first": [2, 3], "trace": [2], "traps": [0, 2],
           "first-trap": [0, 1], "last-trap": [0], "entered": [0, 2], "diff": [1, 2], "fences": [0, 2]}
+OF_ONE_STATE = ("at", "walk", "maps")
 MODES = ["HS", "U", "VS", "VU"]
 PROBES = 16  # of two runs that are the same at their end
 NOTHING = 1
@@ -164,30 +166,40 @@ def show_maps(session: Session, words: list[str]) -> int:
     return 0
 
 
-def condition_of(words: list[str], saved: saves.Saved) -> tuple[Callable[[saves.Saved], bool], bool]:
-    """Whether a state has what the words say, and whether it then stays so."""
+class Condition(NamedTuple):
+    """Whether a state has what words say, whether it then stays so, and whether a report tells it."""
+    holds: Callable[[saves.Saved | reports.Told], bool]
+    stays: bool
+    is_told: bool
+
+
+def condition_of(words: list[str], saved: saves.Saved) -> Condition:
+    """The condition of these words."""
     kind, value = words[0], words[-1]
     if len(words) != (3 if kind == "memory" else 2):
         raise sessions.Bad(f"`first {kind}` takes other words: --help says which")
     if kind == "status" and value in ("waiting", "stopped"):
-        return lambda state: state.numbers["status"] == saves.STATUSES.index(value), True
+        return Condition(lambda state: state.numbers["status"] == saves.STATUSES.index(value), True, True)
     if kind not in ("console", "clock", "memory"):
         raise sessions.Bad(f"{' '.join(words)} is not a condition: console N, clock N, status waiting or "
                            "stopped, and memory ADDRESS N are")
     count = sessions.number_of(value, "number")
-    if kind != "memory":
-        return (lambda state: len(state.console) >= count) if kind == "console" else \
-            (lambda state: state.numbers["clock"] >= count), True
+    if kind == "console":
+        return Condition(lambda state: len(state.console) >= count, True, True)
+    if kind == "clock":
+        return Condition(lambda state: state.numbers["clock"] >= count, True, False)
     place = address_of(words[1], saved)
     if saved.word_at(place) is None:
         raise sessions.Bad(f"{words[1]} is not a physical address in the guest's RAM")
-    return lambda state: (state.word_at(place) or 0) >= count, False
+    return Condition(lambda state: isinstance(state, saves.Saved) and (state.word_at(place) or 0) >= count,
+                     False, False)
 
 
 def show_first(session: Session, words: list[str]) -> int:
     """Finds the first state in which something holds, by halves."""
     runs = session.runs
-    holds, stays = condition_of(words, runs.start)
+    holds, stays, is_told = condition_of(words, runs.start)
+    shown = runs.told_at if is_told else runs.at
     if holds(runs.start):
         step = runs.first
     elif not holds(runs.at(runs.last)):
@@ -195,7 +207,7 @@ def show_first(session: Session, words: list[str]) -> int:
         session.print({"step": None}, [what if stays else what + "; whether it did before is not known"])
         return NOTHING
     else:
-        step = searches.first_step(lambda step: holds(runs.at(step)), runs.first, session.end(), session.tell)
+        step = searches.first_step(lambda step: holds(shown(step)), runs.first, session.end(), session.tell)
     before = runs.at(step - 1) if step > runs.first else None
     lines = [f"step {step}"] + ([f"made by {session.line(before)}"] if before else [])
     if before and not stays:
@@ -473,6 +485,7 @@ def main() -> int:
             names = faults.image_names(faults.parsed(faults.text_of(given.path))[0])
             image_configurations.refuse_elf_images(os.path.dirname(given.path), names)
             session = sessions.Session(options, program, given.path, guest)
+            session.runs.goes_back = command not in OF_ONE_STATE
             return COMMANDS[command](session, words)
     except (sessions.Bad, guest_runs.Unusable, programs.Unusable, image_configurations.Wrong) as why:
         say(str(why))
