@@ -1,21 +1,13 @@
 """Single steps of a guest's run by the stub nesthv-gdb, which shows the registers behind each. What a saved
 guest has beside them is foretold, and the last state of each part is compared with the program's own.
 """
-from collections.abc import Iterator
-from typing import Protocol
+from collections.abc import Callable, Iterator
 
 from nesthv_tools import forecasts, saves, stubs
 
 MOST = 1 << 10  # states that are foretold before the last one is compared
 MOST_WRONG = 3  # parts of a run that may be foretold wrong
 STEPPED = b"T05"
-
-
-class Run(Protocol):
-    """The run as the program saves it."""
-
-    def at(self, step: int) -> saves.Saved:
-        """The state at this step."""
 
 
 def is_same(one: saves.Saved, other: saves.Saved) -> bool:
@@ -26,10 +18,11 @@ def is_same(one: saves.Saved, other: saves.Saved) -> bool:
 
 
 class Steps:
-    """The steps of a run behind a state, with a stub that shows that state at its position 0."""
+    """The steps of a run behind a state, which a stub shows at its position 0. `saved_at` gives the
+    program's own state at a step."""
 
-    def __init__(self, stub: stubs.Stub, run: Run, state: saves.Saved) -> None:
-        self.stub, self.run, self.state = stub, run, state
+    def __init__(self, stub: stubs.Stub, saved_at: Callable[[int], saves.Saved], state: saves.Saved) -> None:
+        self.stub, self.saved_at, self.state = stub, saved_at, state
         self.first = self.step = state.numbers["steps"]
         self.most, self.wrong = MOST, 0
 
@@ -44,7 +37,7 @@ class Steps:
                 continue
             self.most = min(2 * self.most, MOST)
             if is_cut:
-                yield self.gone_to(self.run.at(self.step + 1))
+                yield self.gone_to(self.saved_at(self.step + 1))
 
     def foretold(self, count: int) -> tuple[list[saves.Saved], bool]:
         """The next states, at most so many, and whether one step more is made, which cannot be foretold."""
@@ -62,10 +55,10 @@ class Steps:
         """Those of these states that are right, as far as the program's own behind them says, which is then
         the last."""
         count = len(found)
-        own = self.run.at(self.step + count)
+        own = self.saved_at(self.step + count)
         while count > 1 and not is_same(found[count - 1], own):
             count //= 2
-            own = self.run.at(self.step + count)
+            own = self.saved_at(self.step + count)
         return [*found[:count - 1], self.gone_to(own)]
 
     def gone_to(self, state: saves.Saved) -> saves.Saved:

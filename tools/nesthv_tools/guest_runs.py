@@ -252,7 +252,8 @@ class Runs:
         """The states behind a step, up to a second one, by the stub."""
         state = self.at(start)
         with Line(self, start, state) as line, line.stub(end) as stub:
-            yield from foretold_steps.Steps(stub, line, state).until(end)
+            yield from foretold_steps.Steps(stub, lambda step: self.known.get(step) or line.at(step),
+                                            state).until(end)
 
 
 class Line:

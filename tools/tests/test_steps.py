@@ -1,11 +1,12 @@
-"""Tests of single steps and of arrivals at handlers by the stub nesthv-gdb, beside the program's own states."""
+"""Tests of single steps and of arrivals at handlers by the stub nesthv-gdb, beside what the program saves."""
 import os
 import unittest
 from unittest import mock
 
 from helper import PROGRAM, TOP, ToolTest
 from nesthv_tools import (
-    arrivals, forecasts, foretold_steps, guest_runs, reports, saves, searches, state_cache, state_changes, stubs)
+    arrivals, forecasts, foretold_steps, guest_runs, reports, saves, searches, state_cache, state_changes,
+    stubs)
 from saved_files import form
 
 EXAMPLES = os.path.join(TOP, "examples")
