@@ -19,11 +19,14 @@ def handlers_of(saved: saves.Saved) -> list[int]:
 def last_arrival(runs: guest_runs.Runs, end: int) -> int | None:
     """The last step up to `end` behind which pc is at a handler that is set at the end; or none, where the
     last steps have none or there is no stub."""
-    handlers = handlers_of(runs.at(end))
+    saved = runs.at(end)
+    handlers = handlers_of(saved)
+    if saved.numbers["pc"] in handlers:
+        return end
     for window in WINDOWS if runs.stub else ():
         start = max(runs.first, end - window)
         try:
-            found = arrival_between(runs, start, end, handlers)
+            found = last_between(runs, start, end, handlers)
         except stubs.Ended:
             return None
         if found is not None or start == runs.first:
@@ -31,11 +34,11 @@ def last_arrival(runs: guest_runs.Runs, end: int) -> int | None:
     return None
 
 
-def arrival_between(runs: guest_runs.Runs, start: int, end: int, handlers: list[int]) -> int | None:
-    """The last step behind one, up to a second one, behind which pc is one of these addresses; or none."""
-    found = None
+def last_between(runs: guest_runs.Runs, start: int, end: int, handlers: list[int]) -> int | None:
+    """The last step from one on, before a second one, behind which pc is one of these addresses; or none."""
     with guest_runs.Line(runs, start, runs.at(start)) as line, line.stub(end) as stub:
         stub.answers(f"Z0,{address:x},4" for address in handlers)
-        while stub.answers(["c"]) == [STOPPED]:
-            found = start + stub.monitored("step 0")
-    return found
+        if stub.monitored(f"goto {end - start}") != end - start:
+            raise stubs.Ended
+        is_found = stub.answers(["bc"]) == [STOPPED]
+        return start + stub.monitored("step 0") if is_found else None
