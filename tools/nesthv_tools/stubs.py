@@ -37,8 +37,11 @@ class Stub:
     """A stub that shows the guest 0 of a configuration of a folder, whose names are relative to it."""
 
     def __init__(self, path: str, folder: str, config: str) -> None:
-        self.process = children.start([path, config, "0"], folder)
         self.came = b""
+        try:
+            self.process = children.start([path, config, "0"], folder)
+        except OSError:
+            raise Ended from None
         resource.prlimit(self.process.pid, resource.RLIMIT_AS, (MOST_MEMORY, MOST_MEMORY))
 
     def close(self) -> None:

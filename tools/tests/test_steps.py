@@ -93,9 +93,10 @@ class StepsTest(ToolTest):
 
     def test_stub_that_ends(self):
         runs = self.runs(NESTED)
-        runs.stub = "/bin/true"
-        self.assertEqual([state.numbers["steps"] for state in runs.singles(30, 33)], [30, 31, 32, 33])
-        self.assertIsNone(arrivals.last_arrival(runs, 60))
+        for stub in ("/bin/true", self.put("not-a-program", b"\0")):
+            runs.stub = stub
+            self.assertEqual([state.numbers["steps"] for state in runs.singles(30, 33)], [30, 31, 32, 33])
+            self.assertIsNone(arrivals.last_arrival(runs, 60))
 
     def test_last_trap(self):
         runs, other = self.runs(NESTED), self.runs(NESTED, stub=False)
