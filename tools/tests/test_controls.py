@@ -27,6 +27,12 @@ impl Files<u8> {
     }
 }
 
+impl<T: Drop> From<faults::Failed<T>> for Files<T> {
+    fn from() {
+        failed
+    }
+}
+
 pub fn add() {
     a - b
 }
@@ -127,7 +133,8 @@ class ControlsTest(unittest.TestCase):
         self.put("crates/one/src/a/files.rt", METHODS)
         os.remove(self.put_edit("half"))
         for old, path in [("MOST: u64 = 7", "a::files"), ("{ self.b }", "FilesStore::read"),
-                          ("self.counted", "Files::count"), ("a - b", "a::files::add")]:
+                          ("self.counted", "Files::count"), ("        failed", "FilesFromFailed::from"),
+                          ("a - b", "a::files::add")]:
             for kind, new in ("must-fail/x.edit", "0"), ("controls/x.control", "1"):
                 self.put(f"crates/one/{kind}", f"file: src/a/files.rt\nold: {old}\nnew: {new}\n")
             self.assertEqual(self.check_said(0, "one/x: proved\n", ""), [f"check --jobs 1 --only {path}"])

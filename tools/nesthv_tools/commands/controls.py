@@ -23,7 +23,7 @@ CRATES = os.path.join(places.TOP, "crates")
 KEYS = ("file", "old", "new")
 TOLD = ("error", "open", "gave up")  # a line with one of these tells why a crate is not proved
 FUNCTION = re.compile(r"^( *)(?:pub(?:\(\w+\))? )?(?:const )?fn (\w+)", re.MULTILINE)
-IMPL = re.compile(r"^impl(?:<.*?>)? (?:(\w+)(?:<.*?>)? for )?(\w+)", re.MULTILINE)
+IMPL = re.compile(r"^impl(?:<.*?>)? (?:(?P<trait>\w+)(?:<(?:\w+::)*(?P<of>\w+).*?>)? for )?(?P<type>\w+)", re.MULTILINE)
 
 
 class Unusable(Exception):
@@ -97,14 +97,15 @@ def changed(text: str, changes: list[Change]) -> str:
 
 def path_of(file: str, text: str, place: int) -> str:
     """By what `--only` finds the function of a file that has this place: its module and name, or for a method
-    its type, trait and name. Outside functions it is the module, and at the root of a crate nothing."""
+    its type, its trait with what that is of, and its name. Outside functions it is the module, and at the root
+    of a crate nothing."""
     module = "::".join(os.path.splitext(file)[0].split("/")[1:])
     path = [] if module in ("lib", "main") else [module]
     function = next(reversed(list(FUNCTION.finditer(text, 0, place))), None)
     if function and f"\n{function[1]}}}" not in text[function.end():place]:
         if function[1]:
             impl = list(IMPL.finditer(text, 0, function.start()))[-1]
-            path = [impl[2] + (impl[1] or "")]
+            path = [impl["type"] + (impl["trait"] or "") + (impl["of"] or "")]
         path.append(function[2])
     return "::".join(path)
 
