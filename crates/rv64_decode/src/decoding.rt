@@ -54,7 +54,8 @@ pub fn decode_common(bits: u32) -> Option<Op>
     }
 }
 
-// The same of a word with the low bits 11 by its index, so that one dispatch tells opcode and funct3.
+// The same of a word with the low bits 11 by its index, so that one dispatch tells opcode and funct3. What it
+// calls is only `inline`: with `inline(always)` it would grow so large that its own is dropped.
 #[tactic(auto, using(crate::proofs::Indices::opcode_at, crate::proofs::Indices::funct3_at), unfolding(op_defs::specs::Table::op_of, crate::specs::Common::common_op_of))]
 #[inline(always)]
 fn indexed(index: u32, bits: u32) -> Option<Op>
@@ -135,7 +136,7 @@ fn indexed(index: u32, bits: u32) -> Option<Op>
     }
 }
 
-#[inline(always)]
+#[inline]
 fn load_upper(bits: u32) -> Option<Op>
     ensures { result ≡ Some (Lui (rd bits) (u_immediate bits)) }
 {
@@ -145,7 +146,7 @@ fn load_upper(bits: u32) -> Option<Op>
     })
 }
 
-#[inline(always)]
+#[inline]
 fn add_upper(bits: u32) -> Option<Op>
     ensures { result ≡ Some (Auipc (rd bits) (u_immediate bits)) }
 {
@@ -155,7 +156,7 @@ fn add_upper(bits: u32) -> Option<Op>
     })
 }
 
-#[inline(always)]
+#[inline]
 fn jump(bits: u32) -> Option<Op>
     ensures { result ≡ Some (Jal (rd bits) (j_immediate bits)) }
 {
@@ -165,7 +166,7 @@ fn jump(bits: u32) -> Option<Op>
     })
 }
 
-#[inline(always)]
+#[inline]
 fn jump_by_register(minor: u32, bits: u32) -> Option<Op>
     requires { minor ≡ funct3 bits }
     ensures { result
@@ -183,7 +184,7 @@ fn jump_by_register(minor: u32, bits: u32) -> Option<Op>
 }
 
 #[tactic(auto, unfolding(op_defs::specs::Table::branch_of))]
-#[inline(always)]
+#[inline]
 fn branch(minor: u32, bits: u32) -> Option<Op>
     requires { minor ≡ funct3 bits }
     ensures { result ≡ branch_of bits }
@@ -200,7 +201,7 @@ fn branch(minor: u32, bits: u32) -> Option<Op>
 }
 
 #[tactic(auto, unfolding(op_defs::specs::Table::test_of))]
-#[inline(always)]
+#[inline]
 fn test(funct3: u32) -> Option<Test>
     ensures { result ≡ test_of funct3 }
 {
@@ -216,7 +217,7 @@ fn test(funct3: u32) -> Option<Test>
 }
 
 #[tactic(auto, using(crate::proofs::Indices::low_bits, crate::proofs::Indices::high_bit), unfolding(op_defs::specs::Table::load_of))]
-#[inline(always)]
+#[inline]
 fn load(minor: u32, bits: u32) -> Option<Op>
     requires { minor ≡ funct3 bits }
     ensures { result ≡ load_of bits }
@@ -234,7 +235,7 @@ fn load(minor: u32, bits: u32) -> Option<Op>
 }
 
 #[tactic(auto, using(crate::proofs::Indices::low_bits, crate::proofs::Indices::high_bit), unfolding(op_defs::specs::Table::store_of))]
-#[inline(always)]
+#[inline]
 fn store(minor: u32, bits: u32) -> Option<Op>
     requires { minor ≡ funct3 bits }
     ensures { result ≡ store_of bits }
@@ -252,7 +253,7 @@ fn store(minor: u32, bits: u32) -> Option<Op>
 }
 
 #[tactic(auto, unfolding(op_defs::specs::Table::fence_of))]
-#[inline(always)]
+#[inline]
 fn fence(bits: u32) -> Option<Op>
     ensures { result ≡ fence_of bits }
 {

@@ -9,7 +9,7 @@ use op_defs::{AluOp, Op, WordOp};
 
 /// OP-IMM.
 #[tactic(auto, using(crate::proofs::Indices::low_bits), unfolding(op_defs::specs::Table::immediate_arithmetic_of))]
-#[inline(always)]
+#[inline]
 pub fn immediate(minor: u32, bits: u32) -> Option<Op>
     requires { minor ≡ funct3 bits }
     ensures { result ≡ immediate_arithmetic_of bits }
@@ -34,7 +34,7 @@ pub fn immediate(minor: u32, bits: u32) -> Option<Op>
 }
 
 #[tactic(auto, unfolding(op_defs::specs::Table::immediate_op_of))]
-#[inline(always)]
+#[inline]
 fn immediate_op(funct3: u32) -> AluOp
     ensures { result ≡ immediate_op_of funct3 }
 {
@@ -49,7 +49,7 @@ fn immediate_op(funct3: u32) -> AluOp
 }
 
 #[tactic(auto, unfolding(op_defs::specs::Table::shift_of))]
-#[inline(always)]
+#[inline]
 fn shift(funct3: u32, upper: u32) -> Option<AluOp>
     ensures { result ≡ shift_of funct3 upper }
 {
@@ -64,7 +64,7 @@ fn shift(funct3: u32, upper: u32) -> Option<AluOp>
 
 /// OP.
 #[tactic(auto, unfolding(op_defs::specs::Table::register_arithmetic_of))]
-#[inline(always)]
+#[inline]
 pub fn register(minor: u32, bits: u32) -> Option<Op>
     requires { minor ≡ funct3 bits }
     ensures { result ≡ register_arithmetic_of bits }
@@ -81,7 +81,7 @@ pub fn register(minor: u32, bits: u32) -> Option<Op>
 }
 
 #[tactic(auto, unfolding(op_defs::specs::Table::alu_op_of))]
-#[inline(always)]
+#[inline]
 fn alu_op(funct7: u32, funct3: u32) -> Option<AluOp>
     ensures { result ≡ alu_op_of funct7 funct3 }
 {
@@ -95,7 +95,7 @@ fn alu_op(funct7: u32, funct3: u32) -> Option<AluOp>
 }
 
 #[tactic(auto, unfolding(op_defs::specs::Table::base_op_of))]
-#[inline(always)]
+#[inline]
 fn base_op(funct3: u32) -> AluOp
     ensures { result ≡ base_op_of funct3 }
 {
@@ -112,7 +112,7 @@ fn base_op(funct3: u32) -> AluOp
 }
 
 #[tactic(auto, unfolding(op_defs::specs::Table::multiply_op_of))]
-#[inline(always)]
+#[inline]
 fn multiply_op(funct3: u32) -> AluOp
     ensures { result ≡ multiply_op_of funct3 }
 {
@@ -130,7 +130,7 @@ fn multiply_op(funct3: u32) -> AluOp
 
 /// OP-IMM-32.
 #[tactic(auto, unfolding(op_defs::specs::Table::word_immediate_arithmetic_of))]
-#[inline(always)]
+#[inline]
 pub fn word_immediate(minor: u32, bits: u32) -> Option<Op>
     requires { minor ≡ funct3 bits }
     ensures { result ≡ word_immediate_arithmetic_of bits }
@@ -155,7 +155,7 @@ pub fn word_immediate(minor: u32, bits: u32) -> Option<Op>
 }
 
 #[tactic(auto, unfolding(op_defs::specs::Table::word_shift_of))]
-#[inline(always)]
+#[inline]
 fn word_shift(funct3: u32, funct7: u32) -> Option<WordOp>
     ensures { result ≡ word_shift_of funct3 funct7 }
 {
@@ -169,7 +169,7 @@ fn word_shift(funct3: u32, funct7: u32) -> Option<WordOp>
 
 /// OP-32.
 #[tactic(auto, unfolding(op_defs::specs::Table::word_arithmetic_of))]
-#[inline(always)]
+#[inline]
 pub fn word(minor: u32, bits: u32) -> Option<Op>
     requires { minor ≡ funct3 bits }
     ensures { result ≡ word_arithmetic_of bits }
@@ -186,7 +186,7 @@ pub fn word(minor: u32, bits: u32) -> Option<Op>
 }
 
 #[tactic(auto, unfolding(op_defs::specs::Table::word_op_of))]
-#[inline(always)]
+#[inline]
 fn word_op(funct7: u32, funct3: u32) -> Option<WordOp>
     ensures { result ≡ word_op_of funct7 funct3 }
 {
@@ -200,7 +200,7 @@ fn word_op(funct7: u32, funct3: u32) -> Option<WordOp>
 }
 
 #[tactic(auto, unfolding(op_defs::specs::Table::base_word_op_of))]
-#[inline(always)]
+#[inline]
 fn base_word_op(funct3: u32) -> Option<WordOp>
     ensures { result ≡ base_word_op_of funct3 }
 {
@@ -213,7 +213,7 @@ fn base_word_op(funct3: u32) -> Option<WordOp>
 }
 
 #[tactic(auto, unfolding(op_defs::specs::Table::multiply_word_op_of))]
-#[inline(always)]
+#[inline]
 fn multiply_word_op(funct3: u32) -> Option<WordOp>
     ensures { result ≡ multiply_word_op_of funct3 }
 {
