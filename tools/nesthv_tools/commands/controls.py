@@ -6,7 +6,7 @@ shows nothing.
 
 The controls of a crate that change different lines are applied together, in a copy of the sources, and one
 `rt check` proves the functions that they change. Where it refuses them, each half is tried, down to single
-controls. It is no part of the gate. The status is 0 where each control is proved, 1 where one is not or an
+controls. It is not part of the gate. The status is 0 where each control is proved, 1 where one is not or an
 edit has none, 2 where nothing was tried.
 """
 import glob
